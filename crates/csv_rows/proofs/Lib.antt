@@ -1,0 +1,5 @@
+pub mod Rest
+pub mod Reading
+pub mod Fields
+pub mod Counts
+pub mod Worked
