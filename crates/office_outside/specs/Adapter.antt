@@ -1,0 +1,7 @@
+-- The adapters over readers and writers of std.
+use Rattle.std.specs.Prelude.{ℕ}
+
+-- an object of std with its count of faults
+pub record Counted (T : Type 0) : Type 0 where
+  pub inner : T
+  pub faults : ℕ

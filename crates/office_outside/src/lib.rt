@@ -1,0 +1,25 @@
+//! Traits of the outside, as sources and sinks of bytes, with their memory forms and adapters over std.
+//! It stands on std alone.
+//! It promises that each failure has its cause in the object's own count of faults.
+#![tactic(auto)]
+
+// the traits
+mod failed;
+mod sink;
+mod source;
+
+// their forms
+mod adapters;
+mod memory_sink;
+mod memory_source;
+mod plan;
+#[cfg(test)]
+mod tests;
+
+pub use adapters::{StdSink, StdSource};
+pub use failed::Failed;
+pub use memory_sink::MemorySink;
+pub use memory_source::MemorySource;
+pub use plan::Plan;
+pub use sink::{Sink, write_whole};
+pub use source::Source;
