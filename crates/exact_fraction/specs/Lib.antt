@@ -1,0 +1,9 @@
+pub mod Decimal
+pub mod DecimalCuts
+pub mod DecimalText
+pub mod Digits
+pub mod InlineName
+pub mod Label
+pub mod Op
+pub mod Ratio
+pub mod ZoneName
