@@ -1,0 +1,58 @@
+//! The three figures of an error budget (Site Reliability Workbook, 'Alerting on SLOs').
+ghost use Rattle.std.specs.Prelude.{◌≡◌, ◌<◌, ◌≤◌, ◌≤ℤ◌, pos, unsigned_abs, IfSome};
+ghost use Rattle.slo_terms.specs.Budget.{error_rate_of, burn_of, remaining_of};
+
+use exact_fraction::{Decimal, Fraction, Leaf};
+
+/// One, in billionths.
+pub const WHOLE: u64 = 1_000_000_000;
+
+/// The most events of a sum: with that many, burn rates and remaining budgets fit 128 bits.
+pub const MAX_EVENTS: u64 = 4_000_000_000_000_000;
+
+/// The part of the events that weren't good: (den - num) / den. None exactly where no event was
+/// counted.
+pub fn error_rate(sum: Leaf) -> Option<Fraction>
+    requires part { sum.num ≤ sum.den }
+    requires few { sum.den ≤ MAX_EVENTS }
+    ensures value { result ≡ error_rate_of sum }
+    ensures small { IfSome result (λ error. (unsigned_abs error.num ≤ sum.den) × (error.den ≤ sum.den)) }
+    ensures not_negative { IfSome result (λ error. pos 0 ≤ℤ error.num) }
+{
+    if sum.den == 0 {
+        return None;
+    }
+    Some(Fraction::of(
+        i128::from(sum.den) - i128::from(sum.num),
+        u128::from(sum.den),
+    ))
+}
+
+/// The error rate divided by what the target allows, 1 - target. None exactly where no event was
+/// counted.
+pub fn burn(sum: Leaf, target: Decimal) -> Option<Fraction>
+    requires part { sum.num ≤ sum.den }
+    requires few { sum.den ≤ MAX_EVENTS }
+    requires below_one { target < WHOLE }
+    ensures value { result ≡ burn_of sum target }
+    ensures not_negative { IfSome result (λ burn. pos 0 ≤ℤ burn.num) }
+{
+    let error = error_rate(sum)?;
+    let allowed = WHOLE - target.billionths();
+    Some(Fraction::of(
+        error.num() * i128::from(WHOLE),
+        error.den() * u128::from(allowed),
+    ))
+}
+
+/// What is left of the error budget: 1 - burn, below 0 where it is overspent. None exactly where no
+/// event was counted.
+pub fn remaining(sum: Leaf, target: Decimal) -> Option<Fraction>
+    requires part { sum.num ≤ sum.den }
+    requires few { sum.den ≤ MAX_EVENTS }
+    requires below_one { target < WHOLE }
+    ensures { result ≡ remaining_of sum target }
+{
+    let burn = burn(sum, target)?;
+    Some(Fraction::of(burn.den() as i128 - burn.num(), burn.den()))
+}

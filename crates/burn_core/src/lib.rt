@@ -1,0 +1,8 @@
+//! Error rate, burn rate and remaining error budget of a sum of events, as exact fractions.
+//! Stands on `exact_fraction`, and on `slo_terms` for the formulas.
+//! Promises each answer to be the formula's value, and none exactly where no event was counted.
+#![tactic(auto)]
+
+mod budget;
+
+pub use budget::{MAX_EVENTS, WHOLE, burn, error_rate, remaining};

@@ -1,0 +1,68 @@
+-- The answer on the bytes of an input, from what one pass over its records gives.
+use Rattle.std.proofs.Common.{◌≡◌, ◌<◌, ◌≤◌, ◌⊎◌, ℕ, List, [], true, false, length, ap, arith, inl, inr, leb, refl, subst, sym, ◌∙◌}
+use Rattle.std.proofs.lemmas.Bool.Decides.{leb_tells}
+use Rattle.std.specs.Prelude.{Result, Ok, Err}
+use Rattle.csv_rows.specs.Rows.{csv_rows}
+use Rattle.slo_terms.specs.Judged.{judged_from}
+use Rattle.slo_terms.proofs.JudgedLemmas.{AreKept-judged, IsFirstFault-judged, judged-AreKept, judged-IsFirstFault}
+use Rattle.slo_office.specs.Samples.{judge}
+use Rattle.slo_office.specs.BudgetText.{budget_lines}
+use Rattle.slo_office.specs.Answer.{IsAnswer}
+use Rattle.slo_office.specs.declared.order.BudgetOrder.{BudgetOrder}
+use Rattle.slo_office.specs.declared.sample.Sample.{Sample}
+use Rattle.slo_office.specs.declared.ending.RecordFault.{RecordFault}
+use Rattle.slo_office.specs.declared.ending.Refusal.{Refusal}
+use Rattle.slo_office.specs.declared.ending.Refusal.TheVariants.{BadRecord, TooLarge}
+use Rattle.slo_office.specs.declared.input.TheConstants.{INPUT_LIMIT}
+
+pub answer-lines : (order : BudgetOrder) (bytes : List ℕ) (samples : List Sample) (text : List ℕ) →
+    length bytes ≤ INPUT_LIMIT → judged_from judge [] 1 (csv_rows bytes) ≡ Ok samples → text ≡ budget_lines order samples →
+    IsAnswer order bytes (Ok text)
+answer-lines order bytes samples text few judged lines = (few, samples, AreKept-judged judge (csv_rows bytes) samples judged, lines)
+
+pub answer-broken : (order : BudgetOrder) (bytes : List ℕ) (number : ℕ) (fault : RecordFault) (refusal : Refusal) →
+    length bytes ≤ INPUT_LIMIT → judged_from judge [] 1 (csv_rows bytes) ≡ Err (number, fault) → BadRecord number fault ≡ refusal →
+    IsAnswer order bytes (Err refusal)
+answer-broken order bytes number fault refusal few judged is =
+    let P : Refusal → Type 0 = λ r. IsAnswer order bytes (Err r) in
+    subst P is (few, IsFirstFault-judged judge (csv_rows bytes) number fault judged)
+
+-- An input has one answer at most.
+pub answer-unique : (order : BudgetOrder) (bytes : List ℕ) (a b : Result (List ℕ) Refusal) → IsAnswer order bytes a → IsAnswer order bytes b → a ≡ b
+answer-unique order bytes (Ok text) (Ok other) (few, samples, kept, lines) (more, others, held, rows) =
+    let p = judged-AreKept judge (csv_rows bytes) samples kept in
+    let q = judged-AreKept judge (csv_rows bytes) others held in
+    let same : samples ≡ others = cc (p, q) in
+    ap Ok (lines ∙ ap (budget_lines order) same ∙ sym rows)
+answer-unique order bytes (Ok text) (Err TooLarge) a b = absurd (omega (arith, a.0, b))
+answer-unique order bytes (Ok text) (Err (BadRecord number fault)) (few, samples, kept, lines) (more, first) =
+    let p = judged-AreKept judge (csv_rows bytes) samples kept in
+    let q = judged-IsFirstFault judge (csv_rows bytes) number fault first in
+    absurd (cc (p, q))
+answer-unique order bytes (Err TooLarge) (Ok text) a b = absurd (omega (arith, a, b.0))
+answer-unique order bytes (Err TooLarge) (Err TooLarge) a b = refl
+answer-unique order bytes (Err TooLarge) (Err (BadRecord number fault)) a b = absurd (omega (arith, a, b.0))
+answer-unique order bytes (Err (BadRecord number fault)) (Ok text) (more, first) (few, samples, kept, lines) =
+    let p = judged-AreKept judge (csv_rows bytes) samples kept in
+    let q = judged-IsFirstFault judge (csv_rows bytes) number fault first in
+    absurd (cc (p, q))
+answer-unique order bytes (Err (BadRecord number fault)) (Err TooLarge) a b = absurd (omega (arith, a.0, b))
+answer-unique order bytes (Err (BadRecord number fault)) (Err (BadRecord other cause)) (few, first) (more, second) =
+    let p = judged-IsFirstFault judge (csv_rows bytes) number fault first in
+    let q = judged-IsFirstFault judge (csv_rows bytes) other cause second in
+    let same : (number, fault) ≡ (other, cause) = cc (p, q) in
+    ap (λ (r : ℕ × RecordFault). Err (BadRecord r.0 r.1)) same
+
+-- Each input has an answer.
+pub answer-exists : (order : BudgetOrder) (bytes : List ℕ) → (answer : Result (List ℕ) Refusal) × IsAnswer order bytes answer
+answer-exists order bytes = by_size (leb_tells (length bytes) INPUT_LIMIT)
+  where
+    by_rows : length bytes ≤ INPUT_LIMIT → (r : Result (List Sample) (ℕ × RecordFault)) → judged_from judge [] 1 (csv_rows bytes) ≡ r →
+        (answer : Result (List ℕ) Refusal) × IsAnswer order bytes answer
+    by_rows few (Ok samples) e = (Ok (budget_lines order samples), answer-lines order bytes samples (budget_lines order samples) few e refl)
+    by_rows few (Err first) e = (Err (BadRecord first.0 first.1), answer-broken order bytes first.0 first.1 (BadRecord first.0 first.1) few e refl)
+
+    by_size : ((leb (length bytes) INPUT_LIMIT ≡ true) × (length bytes ≤ INPUT_LIMIT)) ⊎ ((leb (length bytes) INPUT_LIMIT ≡ false) × (INPUT_LIMIT < length bytes)) →
+        (answer : Result (List ℕ) Refusal) × IsAnswer order bytes answer
+    by_size (inl small) = by_rows small.1 (judged_from judge [] 1 (csv_rows bytes)) refl
+    by_size (inr large) = (Err TooLarge, large.1)

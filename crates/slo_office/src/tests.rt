@@ -1,0 +1,296 @@
+//! The program over memory: what it prints, what it refuses, and how it ends.
+
+use crate::run::run;
+use office_outside::{MemorySink, MemorySource, Plan};
+use std::process::Abort;
+use std::test::Fail;
+
+/// What a run left behind.
+#[derive(Drop)]
+struct Left {
+    status: u8,
+    output: Vec<u8>,
+    faults: Vec<u8>,
+}
+
+/// How the calls of the source and of the output go.
+#[derive(Clone, Copy)]
+struct Outside<'a> {
+    /// The most bytes that each read gives; later reads give as many as fit.
+    pieces: &'a [usize],
+    /// The numbers of the reads that fail.
+    reads: &'a [u64],
+    /// The numbers of the writes and flushes of the output that fail.
+    writes: &'a [u64],
+}
+
+/// Nothing fails, and nothing is cut.
+const CALM: Outside<'static> = Outside {
+    pieces: &[],
+    reads: &[],
+    writes: &[],
+};
+
+/// Runs the program over memory. The words are parted by single spaces.
+fn run_over(
+    rt: &impl AllocGlobal,
+    words: &str,
+    input: &[u8],
+    outside: Outside,
+) -> Result<Left, Fail> {
+    let alloc = rt.alloc();
+    let mut list: Vec<String> = Vec::new(alloc);
+    for word in words.split(' ') {
+        list.push(String::from_str(alloc, word)?)?;
+    }
+    let reads = Plan::new(outside.reads.to_vec(alloc)?, outside.pieces.to_vec(alloc)?);
+    let writes = Plan::new(outside.writes.to_vec(alloc)?, Vec::new(alloc));
+    let mut source = MemorySource::new(input.to_vec(alloc)?, reads);
+    let mut output = MemorySink::new(alloc, writes);
+    let mut faults = MemorySink::new(alloc, Plan::smooth(alloc));
+    let status = run(rt, &list, &mut source, &mut output, &mut faults);
+    Ok(Left {
+        status,
+        output: output.bytes().to_vec(alloc)?,
+        faults: faults.bytes().to_vec(alloc)?,
+    })
+}
+
+/// A run of `budget 0.999 0 1000` ends so: with this status, these lines on the output, and these on
+/// the faults sink.
+fn expect(
+    rt: &(impl AllocGlobal + Abort),
+    input: &str,
+    outside: Outside,
+    status: u8,
+    output: &str,
+    faults: &str,
+) -> Result<(), Fail> {
+    let left = run_over(rt, "budget 0.999 0 1000", input.as_bytes(), outside)?;
+    assert_eq!(rt; left.status, status, "the status at {input:?}");
+    assert_eq!(rt;
+        left.output.as_slice(),
+        output.as_bytes(),
+        "the output at {input:?}"
+    );
+    assert_eq!(rt;
+        left.faults.as_slice(),
+        faults.as_bytes(),
+        "the faults at {input:?}"
+    );
+    Ok(())
+}
+
+/// One row, as it is, and in the ways in which CSV may write it.
+#[test]
+fn prints_the_budget_of_a_range(rt: HostRuntime) -> Result<(), Fail> {
+    let spent = "good 9990\ntotal 10000\nburn 1/1\nremaining 0/1\n";
+    let rows = [
+        ("web,100,1,9990,10000\n", 1, spent),
+        (
+            "web,100,1,9970,10000\n",
+            1,
+            "good 9970\ntotal 10000\nburn 3/1\nremaining -2/1\n",
+        ),
+        ("", 0, "no data\n"),
+        // the range ends before minute 1000
+        ("web,1000,1,5,10\n", 1, "no data\n"),
+        (
+            "web,999,1,10,10\n",
+            1,
+            "good 10\ntotal 10\nburn 0/1\nremaining 1/1\n",
+        ),
+        (
+            "web,0,1,10,10\n",
+            1,
+            "good 10\ntotal 10\nburn 0/1\nremaining 1/1\n",
+        ),
+        // two sources of one minute, and two minutes of one source
+        (
+            "web,100,1,0,1\napi,100,1,1,1\nweb,101,7,2,2\n",
+            3,
+            "good 3\ntotal 4\nburn 250/1\nremaining -249/1\n",
+        ),
+        // no events are no data
+        ("web,100,1,0,0\n", 1, "no data\n"),
+        // quotes, CR LF, CR alone, an empty line, a last line without line feed, a byte order mark
+        ("\"web\",\"100\",1,9990,10000\n", 1, spent),
+        ("web,100,1,9990,10000\r\n", 1, spent),
+        ("web,100,1,9990,10000\r\r\n\n", 1, spent),
+        ("\n\nweb,100,1,9990,10000", 1, spent),
+        ("\u{feff}web,100,1,9990,10000\n", 1, spent),
+        // leading zeros are read
+        ("web,0100,01,09990,010000\n", 1, spent),
+    ];
+    for (input, cells, budget) in rows {
+        let lines = format!(in rt.alloc();
+            "cells {cells}\ncorrected 0\nrepeated 0\nsuperseded 0\n{budget}"
+        )?;
+        expect(&rt, input, CALM, 0, lines.as_str(), "")?;
+    }
+    Ok(())
+}
+
+/// The first record that breaks a rule is named, and nothing is printed.
+#[test]
+fn refuses_the_first_bad_record(rt: HostRuntime) -> Result<(), Fail> {
+    let rows = [
+        ("web,100,1,9990\n", "record 1: fields"),
+        ("web,100,1,9990,10000,\n", "record 1: fields"),
+        (" \n", "record 1: fields"),
+        (
+            "web,100,1,9990,10000\nweb,100,2,9995,10000\n",
+            "record 2: again",
+        ),
+        (
+            "web,100,1,9990,10000\nweb,100,1,9990,10000\n",
+            "record 2: again",
+        ),
+        // empty lines are no records
+        ("\nweb,100,1,1,1\n\nweb,101,1,2,1\n", "record 2: row"),
+        ("web,100,1,1,1\n,100,1,1,1\nx\n", "record 2: row"),
+        ("we b,100,1,1,1\n", "record 1: row"),
+        ("web,67108863,1,1,1\nweb,67108864,1,1,1\n", "record 2: row"),
+        ("web,-1,1,1,1\n", "record 1: row"),
+        ("web,1,0,1,1\n", "record 1: row"),
+        (
+            "web,1,1000000000,1,1\nweb,2,1000000001,1,1\n",
+            "record 2: row",
+        ),
+        (
+            "web,1,1,1000000000,1000000000\nweb,2,1,1,1000000001\n",
+            "record 2: row",
+        ),
+        ("web,1,1,2,1\n", "record 1: row"),
+        ("web,1,1,+1,1\n", "record 1: row"),
+        // a bad field comes before a cell that comes again
+        ("web,1,1,1,1\nweb,1,1,2,1\n", "record 2: row"),
+    ];
+    for (input, fault) in rows {
+        let line = format!(in rt.alloc(); "slo_office: {fault}\n")?;
+        expect(&rt, input, CALM, 9, "", line.as_str())?;
+    }
+    Ok(())
+}
+
+/// However reads cut the input, the answer is the same; and each fault ends the run with its status.
+#[test]
+fn ends_with_the_fault_that_the_outside_counts(rt: HostRuntime) -> Result<(), Fail> {
+    let input = "web,100,1,9990,10000\nweb,101,1,0,0\n";
+    let lines =
+        "cells 2\ncorrected 0\nrepeated 0\nsuperseded 0\ngood 9990\ntotal 10000\nburn 1/1\nremaining 0/1\n";
+    let bytewise = [1; 40];
+    expect(&rt, input, CALM, 0, lines, "")?;
+    expect(
+        &rt,
+        input,
+        Outside {
+            pieces: &bytewise,
+            ..CALM
+        },
+        0,
+        lines,
+        "",
+    )?;
+    expect(
+        &rt,
+        input,
+        Outside {
+            reads: &[0],
+            ..CALM
+        },
+        5,
+        "",
+        "slo_office: read fault\n",
+    )?;
+    expect(
+        &rt,
+        input,
+        Outside {
+            pieces: &[5],
+            reads: &[1],
+            ..CALM
+        },
+        5,
+        "",
+        "slo_office: read fault\n",
+    )?;
+    expect(
+        &rt,
+        input,
+        Outside {
+            writes: &[0],
+            ..CALM
+        },
+        6,
+        "",
+        "slo_office: write fault\n",
+    )?;
+    expect(
+        &rt,
+        input,
+        Outside {
+            writes: &[1],
+            ..CALM
+        },
+        6,
+        lines,
+        "slo_office: write fault\n",
+    )?;
+    Ok(())
+}
+
+/// Words that are no form of a command, and forms at their edges.
+#[test]
+fn takes_the_words_of_a_budget_alone(rt: HostRuntime) -> Result<(), Fail> {
+    let rows = [
+        ("budget 0.999 0 1000", 0),
+        ("budget 0 5 5", 0),
+        ("budget 00.9 0 67108863", 0),
+        ("", 2),
+        ("budget", 2),
+        ("budget 0.999 0", 2),
+        ("budget 0.999 0 1000 1", 2),
+        ("Budget 0.999 0 1000", 2),
+        ("budget 1 0 1000", 2),
+        ("budget 1.0 0 1000", 2),
+        ("budget -0.5 0 1000", 2),
+        ("budget .5 0 1000", 2),
+        ("budget 0.9999999999 0 1000", 2),
+        ("budget 0.999 1000 999", 2),
+        ("budget 0.999 00 1000", 2),
+        ("budget 0.999 0 007", 2),
+        ("budget 0.999 0 67108864", 2),
+        ("budget 0.999 +0 1", 2),
+        ("--help", 2),
+    ];
+    for (words, status) in rows {
+        let left = run_over(&rt, words, b"", CALM)?;
+        let line = if status == 2 {
+            "slo_office: usage\n"
+        } else {
+            ""
+        };
+        assert_eq!(rt; left.status, status, "at {words:?}");
+        assert_eq!(rt; left.faults.as_slice(), line.as_bytes(), "at {words:?}");
+    }
+    Ok(())
+}
+
+/// The size of an input is tried before its records.
+#[test]
+fn refuses_an_input_that_is_too_large(rt: HostRuntime) -> Result<(), Fail> {
+    let alloc = rt.alloc();
+    let mut input = vec![in alloc; b'\n'; 1_048_576]?;
+    let left = run_over(&rt, "budget 0.9 0 1", &input, CALM)?;
+    assert_eq!(rt; left.status, 0);
+    input.push(b'x')?;
+    let left = run_over(&rt, "budget 0.9 0 1", &input, CALM)?;
+    assert_eq!(rt; left.status, 9);
+    assert_eq!(rt; left.output.len(), 0);
+    assert_eq!(rt;
+        left.faults.as_slice(),
+        b"slo_office: input too large\n".as_slice()
+    );
+    Ok(())
+}

@@ -1,0 +1,4 @@
+pub mod Sums
+pub mod Rows
+pub mod Judged
+pub mod Budget
