@@ -1,0 +1,3 @@
+pub mod Unit
+pub mod Reading
+pub mod Writing

@@ -1,0 +1,9 @@
+pub mod RuleLemmas
+pub mod TableLemmas
+pub mod AgreementLemmas
+pub mod CivilLemmas
+pub mod SameLemmas
+pub mod DateLemmas
+pub mod StartLemmas
+pub mod WindowLemmas
+pub mod OneListLemmas

@@ -1,0 +1,20 @@
+//! Civil moments, time zones, and the starts of calendar windows.
+//! Stands on `slo_duration`, and on the parts of `jiff` that read zone files and POSIX rules and add months to dates.
+//! Promises what a zone says as a function of its bytes, and exactly the starts of the definition, sorted.
+#![tactic(auto)]
+
+mod calendar;
+mod civil;
+mod civil_text;
+mod read;
+#[cfg(test)]
+mod tests;
+mod windows;
+mod zone;
+
+pub use calendar::{StartsFault, starts};
+pub use civil::Civil;
+pub use civil_text::read_civil;
+pub use read::{ZoneFault, read_zone};
+pub use windows::window_at;
+pub use zone::Zone;
