@@ -7,28 +7,28 @@ use Rattle.slo_terms.specs.Judged.{judged_from}
 use Rattle.slo_terms.proofs.JudgedLemmas.{AreKept-judged, IsFirstFault-judged, judged-AreKept, judged-IsFirstFault}
 use Rattle.slo_office.specs.Samples.{judge}
 use Rattle.slo_office.specs.BudgetText.{budget_lines}
-use Rattle.slo_office.specs.Answer.{IsAnswer}
-use Rattle.slo_office.specs.declared.order.BudgetOrder.{BudgetOrder}
+use Rattle.slo_office.specs.Answer.{IsBudgetAnswer}
+use Rattle.slo_office.specs.declared.command.BudgetOrder.{BudgetOrder}
 use Rattle.slo_office.specs.declared.sample.Sample.{Sample}
 use Rattle.slo_office.specs.declared.ending.RecordFault.{RecordFault}
 use Rattle.slo_office.specs.declared.ending.Refusal.{Refusal}
-use Rattle.slo_office.specs.declared.ending.Refusal.TheVariants.{BadRecord, TooLarge}
+use Rattle.slo_office.specs.declared.ending.Refusal.TheVariants.{BadRecord, TooLarge, Yaml}
 use Rattle.slo_office.specs.declared.input.TheConstants.{INPUT_LIMIT}
 
 pub answer-lines : (order : BudgetOrder) (bytes : List ℕ) (samples : List Sample) (text : List ℕ) →
     length bytes ≤ INPUT_LIMIT → judged_from judge [] 1 (csv_rows bytes) ≡ Ok samples → text ≡ budget_lines order samples →
-    IsAnswer order bytes (Ok text)
+    IsBudgetAnswer order bytes (Ok text)
 answer-lines order bytes samples text few judged lines = (few, samples, AreKept-judged judge (csv_rows bytes) samples judged, lines)
 
 pub answer-broken : (order : BudgetOrder) (bytes : List ℕ) (number : ℕ) (fault : RecordFault) (refusal : Refusal) →
     length bytes ≤ INPUT_LIMIT → judged_from judge [] 1 (csv_rows bytes) ≡ Err (number, fault) → BadRecord number fault ≡ refusal →
-    IsAnswer order bytes (Err refusal)
+    IsBudgetAnswer order bytes (Err refusal)
 answer-broken order bytes number fault refusal few judged is =
-    let P : Refusal → Type 0 = λ r. IsAnswer order bytes (Err r) in
+    let P : Refusal → Type 0 = λ r. IsBudgetAnswer order bytes (Err r) in
     subst P is (few, IsFirstFault-judged judge (csv_rows bytes) number fault judged)
 
 -- An input has one answer at most.
-pub answer-unique : (order : BudgetOrder) (bytes : List ℕ) (a b : Result (List ℕ) Refusal) → IsAnswer order bytes a → IsAnswer order bytes b → a ≡ b
+pub answer-unique : (order : BudgetOrder) (bytes : List ℕ) (a b : Result (List ℕ) Refusal) → IsBudgetAnswer order bytes a → IsBudgetAnswer order bytes b → a ≡ b
 answer-unique order bytes (Ok text) (Ok other) (few, samples, kept, lines) (more, others, held, rows) =
     let p = judged-AreKept judge (csv_rows bytes) samples kept in
     let q = judged-AreKept judge (csv_rows bytes) others held in
@@ -39,6 +39,10 @@ answer-unique order bytes (Ok text) (Err (BadRecord number fault)) (few, samples
     let p = judged-AreKept judge (csv_rows bytes) samples kept in
     let q = judged-IsFirstFault judge (csv_rows bytes) number fault first in
     absurd (cc (p, q))
+answer-unique order bytes (Ok text) (Err (Yaml line word)) a b = absurd b
+answer-unique order bytes (Err TooLarge) (Err (Yaml line word)) a b = absurd b
+answer-unique order bytes (Err (BadRecord number fault)) (Err (Yaml line word)) a b = absurd b
+answer-unique order bytes (Err (Yaml line word)) other a b = absurd a
 answer-unique order bytes (Err TooLarge) (Ok text) a b = absurd (omega (arith, a, b.0))
 answer-unique order bytes (Err TooLarge) (Err TooLarge) a b = refl
 answer-unique order bytes (Err TooLarge) (Err (BadRecord number fault)) a b = absurd (omega (arith, a, b.0))
@@ -54,15 +58,15 @@ answer-unique order bytes (Err (BadRecord number fault)) (Err (BadRecord other c
     ap (λ (r : ℕ × RecordFault). Err (BadRecord r.0 r.1)) same
 
 -- Each input has an answer.
-pub answer-exists : (order : BudgetOrder) (bytes : List ℕ) → (answer : Result (List ℕ) Refusal) × IsAnswer order bytes answer
+pub answer-exists : (order : BudgetOrder) (bytes : List ℕ) → (answer : Result (List ℕ) Refusal) × IsBudgetAnswer order bytes answer
 answer-exists order bytes = by_size (leb_tells (length bytes) INPUT_LIMIT)
   where
     by_rows : length bytes ≤ INPUT_LIMIT → (r : Result (List Sample) (ℕ × RecordFault)) → judged_from judge [] 1 (csv_rows bytes) ≡ r →
-        (answer : Result (List ℕ) Refusal) × IsAnswer order bytes answer
+        (answer : Result (List ℕ) Refusal) × IsBudgetAnswer order bytes answer
     by_rows few (Ok samples) e = (Ok (budget_lines order samples), answer-lines order bytes samples (budget_lines order samples) few e refl)
     by_rows few (Err first) e = (Err (BadRecord first.0 first.1), answer-broken order bytes first.0 first.1 (BadRecord first.0 first.1) few e refl)
 
     by_size : ((leb (length bytes) INPUT_LIMIT ≡ true) × (length bytes ≤ INPUT_LIMIT)) ⊎ ((leb (length bytes) INPUT_LIMIT ≡ false) × (INPUT_LIMIT < length bytes)) →
-        (answer : Result (List ℕ) Refusal) × IsAnswer order bytes answer
+        (answer : Result (List ℕ) Refusal) × IsBudgetAnswer order bytes answer
     by_size (inl small) = by_rows small.1 (judged_from judge [] 1 (csv_rows bytes)) refl
     by_size (inr large) = (Err TooLarge, large.1)

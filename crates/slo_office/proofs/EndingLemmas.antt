@@ -3,36 +3,36 @@ use Rattle.std.proofs.Common.{◌≡◌, ℕ, List, arith, refl, inl, inr}
 use Rattle.std.specs.Prelude.{Option, Some, Ok, Err}
 use Rattle.slo_office.specs.Answer.{Answers}
 use Rattle.slo_office.specs.Runs.{IsStatus, Settled, TellsRefusal}
-use Rattle.slo_office.specs.declared.order.BudgetOrder.{BudgetOrder}
+use Rattle.slo_office.specs.declared.command.Command.{Command}
 use Rattle.slo_office.specs.declared.ending.Refusal.{Refusal}
 use Rattle.slo_office.specs.declared.ending.Ending.{Ending}
 use Rattle.slo_office.specs.declared.ending.Ending.TheVariants.{Done, Usage, ReadFault, WriteFault, NoMemory, Refused}
 use Rattle.slo_office.specs.declared.ending.TheConstants.{REFUSED}
 
-pub status-settled : (order : BudgetOrder) (left : Option (List ℕ)) (read write : Type 0) (ending : Ending) (status : ℕ)
+pub status-settled : (command : Command) (left : Option (List ℕ)) (read write : Type 0) (ending : Ending) (status : ℕ)
     (old new : Option (List ℕ)) (before now : ℕ) →
-    (ending ≡ Done → (text : List ℕ) × Answers order left (Ok text)) →
-    ((refusal : Refusal) → ending ≡ Refused refusal → Answers order left (Err refusal)) →
+    (ending ≡ Done → (text : List ℕ) × Answers command left (Ok text)) →
+    ((refusal : Refusal) → ending ≡ Refused refusal → Answers command left (Err refusal)) →
     (ending ≡ ReadFault → read) → (ending ≡ WriteFault → write) → (ending ≡ Usage → ⊥) →
-    Settled ending status old new before now → IsStatus (Some order) left read write status
-status-settled order left read write Done status old new before now done refused r w u s =
+    Settled ending status old new before now → IsStatus (Some command) left read write status
+status-settled command left read write Done status old new before now done refused r w u s =
     let (text, answer) = done refl in inl (Ok text, answer, s.0)
-status-settled order left read write Usage status old new before now done refused r w u s = absurd (u refl)
-status-settled order left read write ReadFault status old new before now done refused r w u s = inr (inr (inl (s.0, r refl)))
-status-settled order left read write WriteFault status old new before now done refused r w u s = inr (inr (inr (s.0, w refl)))
-status-settled order left read write NoMemory status old new before now done refused r w u s = inr (inl s.0)
-status-settled order left read write (Refused refusal) status old new before now done refused r w u (inl s) =
+status-settled command left read write Usage status old new before now done refused r w u s = absurd (u refl)
+status-settled command left read write ReadFault status old new before now done refused r w u s = inr (inr (inl (s.0, r refl)))
+status-settled command left read write WriteFault status old new before now done refused r w u s = inr (inr (inr (s.0, w refl)))
+status-settled command left read write NoMemory status old new before now done refused r w u s = inr (inl s.0)
+status-settled command left read write (Refused refusal) status old new before now done refused r w u (inl s) =
     inl (Err refusal, refused refusal refl, s.0)
-status-settled order left read write (Refused refusal) status old new before now done refused r w u (inr s) = inr (inl s.0)
+status-settled command left read write (Refused refusal) status old new before now done refused r w u (inr s) = inr (inl s.0)
 
-pub refusal-settled : (order : BudgetOrder) (left : Option (List ℕ)) (ending : Ending) (status : ℕ) (old new : Option (List ℕ)) (before now : ℕ) →
-    ((refusal : Refusal) → ending ≡ Refused refusal → Answers order left (Err refusal)) →
-    Settled ending status old new before now → status ≡ REFUSED → TellsRefusal (Some order) left old new before now
-refusal-settled order left Done status old new before now refused s e = absurd (omega (arith, s.0, e))
-refusal-settled order left Usage status old new before now refused s e = absurd (omega (arith, s.0, e))
-refusal-settled order left ReadFault status old new before now refused s e = absurd (omega (arith, s.0, e))
-refusal-settled order left WriteFault status old new before now refused s e = absurd (omega (arith, s.0, e))
-refusal-settled order left NoMemory status old new before now refused s e = absurd (omega (arith, s.0, e))
-refusal-settled order left (Refused refusal) status old new before now refused (inl s) e =
+pub refusal-settled : (command : Command) (left : Option (List ℕ)) (ending : Ending) (status : ℕ) (old new : Option (List ℕ)) (before now : ℕ) →
+    ((refusal : Refusal) → ending ≡ Refused refusal → Answers command left (Err refusal)) →
+    Settled ending status old new before now → status ≡ REFUSED → TellsRefusal (Some command) left old new before now
+refusal-settled command left Done status old new before now refused s e = absurd (omega (arith, s.0, e))
+refusal-settled command left Usage status old new before now refused s e = absurd (omega (arith, s.0, e))
+refusal-settled command left ReadFault status old new before now refused s e = absurd (omega (arith, s.0, e))
+refusal-settled command left WriteFault status old new before now refused s e = absurd (omega (arith, s.0, e))
+refusal-settled command left NoMemory status old new before now refused s e = absurd (omega (arith, s.0, e))
+refusal-settled command left (Refused refusal) status old new before now refused (inl s) e =
     record { refusal = refusal; answer = refused refusal refl; told = s.1 }
-refusal-settled order left (Refused refusal) status old new before now refused (inr s) e = absurd (omega (arith, s.0, e))
+refusal-settled command left (Refused refusal) status old new before now refused (inr s) e = absurd (omega (arith, s.0, e))

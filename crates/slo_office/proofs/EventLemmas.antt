@@ -4,7 +4,7 @@ use Rattle.exact_fraction.specs.declared.Leaf.{Leaf}
 use Rattle.slo_terms.specs.Sums.{share_within, sum_of_slices}
 use Rattle.slo_terms.proofs.SumLemmas.{sum_of_slices-minutes}
 use Rattle.slo_office.specs.BudgetText.{budget_lines, current_samples, events_at, events_of, lines_of}
-use Rattle.slo_office.specs.declared.order.BudgetOrder.{BudgetOrder}
+use Rattle.slo_office.specs.declared.command.BudgetOrder.{BudgetOrder}
 use Rattle.slo_office.specs.declared.sample.Sample.{Sample}
 
 same_leaf : (events : Leaf) (num den : ℕ) → events.num ≡ num → events.den ≡ den → record { num = num; den = den } ≡ events

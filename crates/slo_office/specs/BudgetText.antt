@@ -7,7 +7,7 @@ use Rattle.slo_terms.specs.Rows.{current}
 use Rattle.slo_terms.specs.Sums.{amount_at, sum_of_slices}
 use Rattle.slo_terms.specs.Budget.{burn_of, remaining_of}
 use Rattle.slo_office.specs.Samples.{same_cell}
-use Rattle.slo_office.specs.declared.order.BudgetOrder.{BudgetOrder}
+use Rattle.slo_office.specs.declared.command.BudgetOrder.{BudgetOrder}
 use Rattle.slo_office.specs.declared.sample.Sample.{Sample}
 
 -- a word, a text and a line feed, and then more lines

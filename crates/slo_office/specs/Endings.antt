@@ -4,7 +4,11 @@ use Rattle.std.specs.Fmt.{decimal}
 use Rattle.slo_office.specs.declared.ending.RecordFault.{RecordFault}
 use Rattle.slo_office.specs.declared.ending.RecordFault.TheVariants.{Fields, Field, Again}
 use Rattle.slo_office.specs.declared.ending.Refusal.{Refusal}
-use Rattle.slo_office.specs.declared.ending.Refusal.TheVariants.{TooLarge, BadRecord}
+use Rattle.slo_office.specs.declared.ending.Refusal.TheVariants.{TooLarge, BadRecord, Yaml}
+use Rattle.slo_office.specs.declared.ending.YamlWord.{YamlWord}
+use Rattle.slo_office.specs.declared.ending.YamlWord.TheVariants as yaml
+use Rattle.yaml_subset.specs.declared.which.Which.{Which}
+use Rattle.yaml_subset.specs.declared.which.Which.TheVariants as row
 use Rattle.slo_office.specs.declared.ending.TheConstants.{USAGE, READ_FAULT, WRITE_FAULT, NO_MEMORY}
 
 abbrev pub fault_word_of : RecordFault → List ℕ
@@ -12,10 +16,30 @@ fault_word_of Fields = codes "fields"
 fault_word_of Field = codes "row"
 fault_word_of Again = codes "again"
 
+-- the word for a row of the table of refusals
+abbrev pub row_word_of : Which → List ℕ
+row_word_of row.Control = codes "control"
+row_word_of row.Tab = codes "tab"
+row_word_of row.LeftOut = codes "left_out"
+row_word_of row.Indent = codes "indent"
+row_word_of row.Quote = codes "quote"
+row_word_of row.Escape = codes "escape"
+row_word_of row.FlowForm = codes "flow_form"
+row_word_of row.Colon = codes "colon"
+row_word_of row.DuplicateKey = codes "duplicate_key"
+row_word_of row.TooDeep = codes "too_deep"
+
+-- the word for what is wrong with a text of documents
+abbrev pub yaml_word_of : YamlWord → List ℕ
+yaml_word_of yaml.TooLarge = codes "too_large"
+yaml_word_of yaml.NotUtf8 = codes "not_utf8"
+yaml_word_of (yaml.Form which) = row_word_of which
+
 -- the line for an input that is refused
 abbrev pub refusal_line_of : Refusal → List ℕ
 refusal_line_of TooLarge = codes "slo_office: input too large\n"
 refusal_line_of (BadRecord number fault) = codes "slo_office: record " ++ (decimal number ++ (codes ": " ++ (fault_word_of fault ++ codes "\n")))
+refusal_line_of (Yaml line word) = codes "slo_office: yaml " ++ (decimal line ++ (codes " " ++ (yaml_word_of word ++ codes "\n")))
 
 -- the line for a status without further words
 abbrev pub line_of_status : ℕ → List ℕ

@@ -1,7 +1,8 @@
 pub mod Inputs
-pub mod Orders
+pub mod Commands
 pub mod Samples
 pub mod BudgetText
+pub mod CheckText
 pub mod Endings
 pub mod Answer
 pub mod Runs

@@ -6,23 +6,23 @@ use Rattle.slo_office.specs.Answer.{Answers}
 use Rattle.slo_office.specs.Endings.{line_of_status, refusal_line_of}
 use Rattle.slo_office.specs.declared.ending.Ending.{Ending}
 use Rattle.slo_office.specs.declared.ending.Ending.TheVariants.{Done, Usage, ReadFault, WriteFault, NoMemory, Refused}
-use Rattle.slo_office.specs.declared.order.BudgetOrder.{BudgetOrder}
+use Rattle.slo_office.specs.declared.command.Command.{Command}
 use Rattle.slo_office.specs.declared.ending.Refusal.{Refusal}
 use Rattle.slo_office.specs.declared.ending.TheConstants.{DONE, USAGE, READ_FAULT, WRITE_FAULT, NO_MEMORY, REFUSED}
 
--- The words ask for a budget, and this is the answer on the bytes that are left.
-abbrev pub AsksFor : Option BudgetOrder → Option (List ℕ) → Result (List ℕ) Refusal → Type 0
+-- The words ask for a command, and this is its answer on the bytes that are left.
+abbrev pub AsksFor : Option Command → Option (List ℕ) → Result (List ℕ) Refusal → Type 0
 AsksFor None left answer = ⊥
-AsksFor (Some order) left answer = Answers order left answer
+AsksFor (Some command) left answer = Answers command left answer
 
 -- The output gained the answer's lines.
-pub record Prints (asked : Option BudgetOrder) (left old new : Option (List ℕ)) : Type 0 where
+pub record Prints (asked : Option Command) (left old new : Option (List ℕ)) : Type 0 where
   pub text : List ℕ
   pub answer : AsksFor asked left (Ok text)
   pub gained : Gained text old new
 
 -- The output gained a prefix of the answer's lines.
-pub record PrintsPart (asked : Option BudgetOrder) (left old new : Option (List ℕ)) : Type 0 where
+pub record PrintsPart (asked : Option Command) (left old new : Option (List ℕ)) : Type 0 where
   pub text : List ℕ
   pub answer : AsksFor asked left (Ok text)
   pub gained : GainedPrefix text old new
@@ -32,7 +32,7 @@ abbrev pub Tells : List ℕ → Option (List ℕ) → Option (List ℕ) → ℕ 
 Tells line old new before now = Gained line old new ⊎ Rose before now
 
 -- The answer is a refusal, and the faults sink tells it.
-pub record TellsRefusal (asked : Option BudgetOrder) (left old new : Option (List ℕ)) (before now : ℕ) : Type 0 where
+pub record TellsRefusal (asked : Option Command) (left old new : Option (List ℕ)) (before now : ℕ) : Type 0 where
   pub refusal : Refusal
   pub answer : AsksFor asked left (Err refusal)
   pub told : Tells (refusal_line_of refusal) old new before now
@@ -44,10 +44,10 @@ status_of (Err refusal) = REFUSED
 
 -- The status is that of the answer; or memory ran out, or the source or the sink counted a fault in this
 -- run. Without words of a command it is USAGE.
-abbrev pub IsStatus : Option BudgetOrder → Option (List ℕ) → Type 0 → Type 0 → ℕ → Type 0
+abbrev pub IsStatus : Option Command → Option (List ℕ) → Type 0 → Type 0 → ℕ → Type 0
 IsStatus None left read write status = status ≡ USAGE
-IsStatus (Some order) left read write status =
-    ((answer : Result (List ℕ) Refusal) × Answers order left answer × (status ≡ status_of answer))
+IsStatus (Some command) left read write status =
+    ((answer : Result (List ℕ) Refusal) × Answers command left answer × (status ≡ status_of answer))
     ⊎ ((status ≡ NO_MEMORY) ⊎ (((status ≡ READ_FAULT) × read) ⊎ ((status ≡ WRITE_FAULT) × write)))
 
 -- An ending has its status, and the faults sink tells its line; where the line can't be made for want of

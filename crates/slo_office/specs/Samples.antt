@@ -6,8 +6,8 @@ use Rattle.csv_rows.specs.Rows.{Record}
 use Rattle.csv_rows.specs.Columns.{five_fields}
 use Rattle.exact_fraction.specs.Digits.{number_within}
 use Rattle.exact_fraction.specs.Label.{label_of}
-use Rattle.slo_office.specs.Orders.{◌>>=◌}
-use Rattle.slo_office.specs.declared.order.TheConstants.{MAX_MINUTE}
+use Rattle.slo_office.specs.Commands.{◌>>=◌}
+use Rattle.slo_office.specs.declared.command.TheConstants.{MAX_MINUTE}
 use Rattle.slo_office.specs.declared.sample.Sample.{Sample}
 use Rattle.slo_office.specs.declared.sample.TheConstants.{MAX_REVISION, MAX_EVENTS}
 use Rattle.slo_office.specs.declared.ending.RecordFault.{RecordFault}

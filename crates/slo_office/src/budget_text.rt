@@ -4,8 +4,8 @@ ghost use Rattle.slo_terms.specs.Sums.{share_within};
 ghost use Rattle.slo_office.specs.Samples.{IsCounted};
 ghost use Rattle.slo_office.specs.BudgetText.{budget_lines, current_samples, lines_of, sum_lines};
 
+use crate::command::BudgetOrder;
 use crate::input::INPUT_LIMIT;
-use crate::order::BudgetOrder;
 use crate::sample::Sample;
 use burn_core::{MAX_EVENTS, WHOLE, burn, remaining};
 use exact_fraction::{Decimal, Leaf};

@@ -1,8 +1,9 @@
 //! How a run ends: its status, and the line that says why.
 ghost use Rattle.std.specs.Prelude.{◌≡◌, IfOk, string_bytes};
-ghost use Rattle.slo_office.specs.Endings.{fault_word_of, line_of_status, refusal_line_of};
+ghost use Rattle.slo_office.specs.Endings.{fault_word_of, line_of_status, refusal_line_of, row_word_of, yaml_word_of};
 
 use std::alloc::{AllocError, Global};
+use yaml_subset::Which;
 
 /// The statuses that the program ends with.
 pub const DONE: u8 = 0;
@@ -35,6 +36,27 @@ pub enum Refusal {
     TooLarge,
     /// The record of this number, counted from 1, is the first that breaks a rule.
     BadRecord { number: u64, fault: RecordFault },
+    /// It is no text of documents. The line is counted from 1, and is 0 for a fault of the whole.
+    Yaml { line: usize, word: YamlWord },
+}
+
+/// What is wrong with a text of documents.
+#[derive(Clone, Copy, Debug, PartialEq, Eq)]
+pub enum YamlWord {
+    /// It has more bytes than a text may have.
+    TooLarge,
+    /// It isn't UTF-8.
+    NotUtf8,
+    /// A line has no place after the lines before it, and meets this row.
+    Form(Which),
+}
+
+/// Why there are no lines to print.
+#[derive(Clone, Copy, Debug, PartialEq, Eq)]
+pub enum Stop {
+    Refused(Refusal),
+    ReadFault,
+    NoMemory,
 }
 
 /// How a run ends.
@@ -59,6 +81,35 @@ fn fault_word(fault: RecordFault) -> &'static str
     }
 }
 
+/// The word for what is wrong with a text of documents.
+fn yaml_word(word: YamlWord) -> &'static str
+    ensures { result.now ≡ yaml_word_of word }
+{
+    match word {
+        YamlWord::TooLarge => "too_large",
+        YamlWord::NotUtf8 => "not_utf8",
+        YamlWord::Form(which) => row_word(which),
+    }
+}
+
+/// The word for a row of the table of refusals.
+fn row_word(which: Which) -> &'static str
+    ensures { result.now ≡ row_word_of which }
+{
+    match which {
+        Which::Control => "control",
+        Which::Tab => "tab",
+        Which::LeftOut => "left_out",
+        Which::Indent => "indent",
+        Which::Quote => "quote",
+        Which::Escape => "escape",
+        Which::FlowForm => "flow_form",
+        Which::Colon => "colon",
+        Which::DuplicateKey => "duplicate_key",
+        Which::TooDeep => "too_deep",
+    }
+}
+
 /// The line for an input that is refused.
 pub fn refusal_line(alloc: Global, refusal: Refusal) -> Result<String, AllocError>
     ensures { IfOk result (λ line. string_bytes line ≡ refusal_line_of refusal) }
@@ -68,6 +119,10 @@ pub fn refusal_line(alloc: Global, refusal: Refusal) -> Result<String, AllocErro
         Refusal::BadRecord { number, fault } => {
             let word = fault_word(fault);
             format!(in alloc; "slo_office: record {number}: {word}\n")
+        }
+        Refusal::Yaml { line, word } => {
+            let word = yaml_word(word);
+            format!(in alloc; "slo_office: yaml {line} {word}\n")
         }
     }
 }

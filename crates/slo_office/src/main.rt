@@ -1,14 +1,16 @@
-//! The error budget office: the program, and the command `budget`.
-//! Stands on `burn_core`, `csv_rows`, `exact_fraction`, `office_outside` and the words of `slo_terms`.
+//! The error budget office: the program, with the commands `budget` and `check`.
+//! Stands on `burn_core`, `csv_rows`, `yaml_subset`, `exact_fraction`, `office_outside` and the words of `slo_terms`.
 //! Promises by `run`: what is printed is the definition's answer on the bytes of the input.
 #![tactic(auto)]
 
+mod answer;
 mod budget;
 mod budget_text;
+mod check;
+mod command;
 mod ending;
 mod input;
 mod laws;
-mod order;
 mod run;
 mod sample;
 mod table;

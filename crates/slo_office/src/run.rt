@@ -4,15 +4,15 @@ ghost use Rattle.office_outside.specs.Faults.{Rose};
 ghost use Rattle.office_outside.specs.Told.{HasNothingLeft};
 ghost use Rattle.slo_office.specs.Endings.{line_of_status};
 ghost use Rattle.slo_office.specs.Inputs.{TakesAtMost};
-ghost use Rattle.slo_office.specs.Orders.{order_of};
+ghost use Rattle.slo_office.specs.Commands.{command_of};
 ghost use Rattle.slo_office.specs.Runs.{IsStatus, Prints, PrintsPart, Settled, Tells, TellsRefusal};
 
-use crate::budget::print_budget;
+use crate::answer::print_answer;
+use crate::command::read_command;
 use crate::ending::{
     DONE, Ending, NO_MEMORY, READ_FAULT, REFUSED, USAGE, WRITE_FAULT, refusal_line, status_line,
 };
 use crate::input::INPUT_LIMIT;
-use crate::order::read_order;
 use office_outside::{Sink, Source, write_whole};
 use std::alloc::Global;
 
@@ -55,8 +55,9 @@ fn settle<E: Sink>(alloc: Global, ending: Ending, faults: &mut E) -> u8
 /// Runs the program on these words, and answers the status that it ends with.
 ///
 /// `budget TARGET FROM TO` reads CSV records `source,minute,revision,good,total` and prints the
-/// error budget of the minutes in [FROM, TO). Where the source tells its bytes, what is printed and
-/// what is refused is the definition's answer on these bytes, however reads cut them.
+/// error budget of the minutes in [FROM, TO). `check` reads OpenSLO documents and prints how many
+/// there are. Where the source tells its bytes, what is printed and what is refused is the
+/// definition's answer on these bytes, however reads cut them.
 pub fn run<R: AllocGlobal, S: Source, K: Sink, E: Sink>(
     rt: &R,
     words: &[String],
@@ -64,19 +65,19 @@ pub fn run<R: AllocGlobal, S: Source, K: Sink, E: Sink>(
     output: &mut K,
     faults: &mut E,
 ) -> u8
-    ensures status { IsStatus (order_of (map string_bytes words.now)) (S.left input.old)
+    ensures status { IsStatus (command_of (map string_bytes words.now)) (S.left input.old)
         (Rose (S.faults input.old) (S.faults input.new)) (Rose (K.faults output.old) (K.faults output.new)) result }
 
     // DONE: the output gained just the answer's lines, and the input was read to its end.
-    ensures done { result ≡ DONE → Prints (order_of (map string_bytes words.now)) (S.left input.old) (K.held output.old) (K.held output.new) }
+    ensures done { result ≡ DONE → Prints (command_of (map string_bytes words.now)) (S.left input.old) (K.held output.old) (K.held output.new) }
     ensures end { result ≡ DONE → HasNothingLeft (S.left input.new) }
     ensures silent { result ≡ DONE → E.held faults.new ≡ E.held faults.old }
 
     // USAGE: exactly where the words are no form of a command.
-    ensures usage { (result ≡ USAGE) ↔ (order_of (map string_bytes words.now) ≡ None) }
+    ensures usage { (result ≡ USAGE) ↔ (command_of (map string_bytes words.now) ≡ None) }
 
     // REFUSED: the answer is a refusal, and its line says which.
-    ensures refused { result ≡ REFUSED → TellsRefusal (order_of (map string_bytes words.now)) (S.left input.old)
+    ensures refused { result ≡ REFUSED → TellsRefusal (command_of (map string_bytes words.now)) (S.left input.old)
         (E.held faults.old) (E.held faults.new) (E.faults faults.old) (E.faults faults.new) }
 
     // Each other status has its line, and a fault's status has that object's count as its cause.
@@ -86,15 +87,15 @@ pub fn run<R: AllocGlobal, S: Source, K: Sink, E: Sink>(
     ensures write { result ≡ WRITE_FAULT → Rose (K.faults output.old) (K.faults output.new) }
 
     // The output keeps what it held, but for a prefix of the lines where a write failed.
-    ensures part { result ≡ WRITE_FAULT → PrintsPart (order_of (map string_bytes words.now)) (S.left input.old) (K.held output.old) (K.held output.new) }
+    ensures part { result ≡ WRITE_FAULT → PrintsPart (command_of (map string_bytes words.now)) (S.left input.old) (K.held output.old) (K.held output.new) }
     ensures quiet { result ≢ DONE → result ≢ WRITE_FAULT → K.held output.new ≡ K.held output.old }
     ensures takes { TakesAtMost (INPUT_LIMIT + 1) (S.left input.old) (S.left input.new) }
 {
     let alloc = rt.alloc();
-    match read_order(words) {
+    match read_command(words) {
         None => settle(alloc, Ending::Usage, faults),
-        Some(order) => {
-            let ending = print_budget(alloc, order, input, output);
+        Some(command) => {
+            let ending = print_answer(alloc, command, input, output);
             settle(alloc, ending, faults)
         }
     }

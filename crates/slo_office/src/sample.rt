@@ -3,7 +3,7 @@ ghost use Rattle.std.specs.Prelude.{◌≡◌, IfSome};
 ghost use Rattle.std.specs.List.{list_any};
 ghost use Rattle.slo_office.specs.Samples.{IsCounted, same_cell, sample_of};
 
-use crate::order::MAX_MINUTE;
+use crate::command::MAX_MINUTE;
 use exact_fraction::{Label, read_label, read_number};
 
 /// The greatest revision of a sample. Revisions count from 1.

@@ -294,3 +294,70 @@ fn refuses_an_input_that_is_too_large(rt: HostRuntime) -> Result<(), Fail> {
     );
     Ok(())
 }
+
+/// Documents are counted, and the first line that has no place is named by its row.
+#[test]
+fn checks_documents(rt: HostRuntime) -> Result<(), Fail> {
+    let texts = [
+        ("", 0, "documents 0\n"),
+        ("a: 1\n---\n- b\n", 0, "documents 2\n"),
+        ("---\n---\n# nothing\n", 0, "documents 0\n"),
+        ("\u{feff}a: 'it''s'\n", 0, "documents 1\n"),
+        (
+            "a: >-\n  one\n  two\n\n  three\nb: |+\n  x\n\n",
+            0,
+            "documents 1\n",
+        ),
+        ("a: 1\na: 2\n", 9, "slo_office: yaml 2 duplicate_key\n"),
+        ("a: 1\n\tb: 2\n", 9, "slo_office: yaml 2 tab\n"),
+        ("a:\n    b: 1\n  c: 2\n", 9, "slo_office: yaml 3 indent\n"),
+        ("a: b: c\n", 9, "slo_office: yaml 1 colon\n"),
+        ("a: [b, [c]]\n", 9, "slo_office: yaml 1 left_out\n"),
+        ("a: [b c\n", 9, "slo_office: yaml 1 flow_form\n"),
+        ("a: 'b\n", 9, "slo_office: yaml 1 quote\n"),
+        ("a: \"\\q\"\n", 9, "slo_office: yaml 1 escape\n"),
+        ("a: \u{7f}\n", 9, "slo_office: yaml 1 control\n"),
+    ];
+    for (text, status, line) in texts {
+        let left = run_over(&rt, "check", text.as_bytes(), CALM)?;
+        let told = if status == 0 {
+            left.output.as_slice()
+        } else {
+            left.faults.as_slice()
+        };
+        assert_eq!(rt; left.status, status, "at {text:?}");
+        assert_eq!(rt; told, line.as_bytes(), "at {text:?}");
+    }
+    let left = run_over(&rt, "check", b"a: \xff\n", CALM)?;
+    assert_eq!(rt;
+        left.faults.as_slice(),
+        b"slo_office: yaml 0 not_utf8\n".as_slice()
+    );
+    Ok(())
+}
+
+/// Depth and size are counted.
+#[test]
+fn checks_depth_and_size(rt: HostRuntime) -> Result<(), Fail> {
+    let alloc = rt.alloc();
+    let mut dashes: Vec<u8> = Vec::new(alloc);
+    for _ in 0..32 {
+        dashes.extend_from_slice(b"- ")?;
+    }
+    let left = run_over(&rt, "check", &dashes, CALM)?;
+    assert_eq!(rt; left.output.as_slice(), b"documents 1\n".as_slice());
+    dashes.extend_from_slice(b"- ")?;
+    let left = run_over(&rt, "check", &dashes, CALM)?;
+    assert_eq!(rt;
+        left.faults.as_slice(),
+        b"slo_office: yaml 1 too_deep\n".as_slice()
+    );
+    let long = vec![in alloc; b'#'; 1_048_577]?;
+    let left = run_over(&rt, "check", &long, CALM)?;
+    assert_eq!(rt; left.status, 9);
+    assert_eq!(rt;
+        left.faults.as_slice(),
+        b"slo_office: yaml 0 too_large\n".as_slice()
+    );
+    Ok(())
+}

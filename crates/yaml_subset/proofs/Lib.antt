@@ -1,0 +1,10 @@
+pub mod BlockLemmas
+pub mod OpenLemmas
+pub mod TextLemmas
+pub mod NodeLemmas
+pub mod ScanLemmas
+pub mod LineLemmas
+pub mod FrameLemmas
+pub mod OpenViewLemmas
+pub mod ReaderLemmas
+pub mod ReadLemmas

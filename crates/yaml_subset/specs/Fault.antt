@@ -1,0 +1,69 @@
+-- The fault of lines that are no text of the profile: the least number of them that are none, and the first row that the last of these meets.
+use Rattle.std.specs.Prelude.{◌≡◌, ℕ, ◌+◌, ◌==◌, ◌||◌, Bool, false, List, [], ◌∷◌, ◌++◌, Option, Some, None, cond, length}
+use Rattle.std.specs.Option.{option_map_or}
+use Rattle.yaml_subset.specs.Tree.{Tree}
+use Rattle.yaml_subset.specs.Mark.{Mark, dash, key, value, header}
+use Rattle.yaml_subset.specs.Rows.{earlier}
+use Rattle.yaml_subset.specs.Profile.{has_room, is_next, with_child, is_repeated}
+use Rattle.yaml_subset.specs.Text.{Marked, line_at, marked, nodes_of}
+use Rattle.yaml_subset.specs.OpenNodes.{Open, nothing, within, closed, add, open_nodes}
+use Rattle.yaml_subset.specs.declared.scalar.Scalar.{Scalar}
+use Rattle.yaml_subset.specs.declared.which.Which.{Which}
+use Rattle.yaml_subset.specs.declared.which.Which.TheVariants.{Indent, Colon, DuplicateKey, TooDeep}
+
+-- the mark is the next key of an open map that has it already
+abbrev pub repeats : Mark → Open → Bool
+repeats m (within h done i) = cond (is_next h m) (is_repeated m (with_child done h (closed i))) (repeats m i)
+repeats m _ = false
+
+-- nothing stands yet behind the last mark, and a node that begins with this mark has room there
+abbrev pub begins : Mark → Open → Bool
+begins m (within h done nothing) = has_room h m
+begins m (within h done i) = begins m i
+begins m _ = false
+
+-- two marks stand at one column
+abbrev pub column : Mark → Option ℕ
+column (dash n) = Some n
+column (key n _) = Some n
+column (value n _) = Some n
+column (header n _) = Some n
+column _ = None
+
+abbrev pub same_column : Option ℕ → Option ℕ → Bool
+same_column (Some n) (Some m) = n == m
+same_column _ _ = false
+
+-- the mark stands at the column of an open map or list
+abbrev pub is_at_open : Mark → Open → Bool
+is_at_open m (within h done i) = same_column (column h) (column m) || is_at_open m i
+is_at_open m _ = false
+
+-- the row of a mark that has no place: its map has that key, it begins a node too deep, an entry or item must stand there, or nothing can
+abbrev pub row_of_mark : Mark → Open → Which
+row_of_mark m o = cond (repeats m o) DuplicateKey (cond (begins m o) TooDeep (cond (is_at_open m o) Colon Indent))
+
+-- the row of the first mark that has no place among the open nodes
+abbrev pub misfit : List Mark → Open → Option Which
+misfit [] o = None
+misfit (m ∷ ms) o = option_map_or (misfit ms) (add m o) (Some (row_of_mark m o))
+
+-- the first row that a line meets: by itself, or among the open nodes
+abbrev pub row_of : Option Scalar → Open → List ℕ → Option Which
+row_of s o line = let l = line_at s line in earlier l.fault (misfit l.marks o)
+
+-- Lines whose first k are no text of the profile, though fewer are one, and the row of line k.
+pub record IsFault (ls : List (List ℕ)) (k : ℕ) (row : Which) : Type 0 where
+  pub before : List (List ℕ)
+  pub line : List ℕ
+  pub after : List (List ℕ)
+  pub is_lines : ls ≡ before ++ (line ∷ after)
+  pub number : k ≡ length before + 1
+  pub nodes : List Tree
+  pub is_text : nodes_of before ≡ Some nodes
+  pub is_none : nodes_of (before ++ (line ∷ [])) ≡ None
+  pub marks : Marked
+  pub are_marks : marked before ≡ Some marks
+  pub nodes_open : Open
+  pub are_open : open_nodes marks.marks ≡ Some nodes_open
+  pub meets : row_of marks.scalar nodes_open line ≡ Some row

@@ -1,0 +1,39 @@
+-- The reading of a text, line by line: what the reader keeps after some lines, and that it is theirs.
+use Rattle.std.specs.Prelude.{◌≡◌, ℕ, Bool, List, [], ◌∷◌, Option, Some, None, option_map, option_and_then}
+use Rattle.yaml_subset.specs.Mark.{Mark, header}
+use Rattle.yaml_subset.specs.Text.{marked, line_at, parent_after, scalar_after}
+use Rattle.yaml_subset.specs.declared.scalar.Scalar.{Scalar}
+use Rattle.yaml_subset.specs.OpenNodes.{Open, open_nodes, add}
+
+-- the open nodes after more marks, none where one has no place
+abbrev pub add_all : List Mark → Open → Option Open
+add_all [] o = Some o
+add_all (m ∷ ms) o = option_and_then (add_all ms) (add m o)
+
+-- what the reader keeps: the open nodes, the column of the last mark where it is a key or dash, the block scalar that may go on
+pub record Reading : Type 0 where
+  pub nodes : Open
+  pub parent : Option ℕ
+  pub scalar : Option Scalar
+
+-- after these lines, which are a text of the profile, the reader keeps what is theirs
+pub record IsRead (ls : List (List ℕ)) (r : Reading) : Type 0 where
+  pub marks : List Mark
+  pub are_marks : marked ls ≡ Some (record { marks = marks; parent = r.parent; scalar = r.scalar })
+  pub are_open : open_nodes marks ≡ Some r.nodes
+
+-- One more line, which meets no row: what the reader keeps then.
+pub record Follows (r : Reading) (line : List ℕ) (next : Reading) : Type 0 where
+  pub no_fault : (line_at r.scalar line).fault ≡ None
+  pub nodes : add_all (line_at r.scalar line).marks r.nodes ≡ Some next.nodes
+  pub parent : next.parent ≡ parent_after r.parent (line_at r.scalar line).marks
+  pub scalar : next.scalar ≡ scalar_after r.scalar r.parent line
+
+-- whether a header folds its lines; none for another mark
+abbrev pub header_folds : Mark → Option Bool
+header_folds (header n s) = Some s.folded
+header_folds _ = None
+
+-- the scalar behind a header, if there is one
+abbrev pub scalar_behind : Option ℕ → Option Bool → Option Scalar
+scalar_behind parent folds = option_map (λ folded. record { parent = parent; indent = None; folded = folded }) folds

@@ -1,0 +1,311 @@
+//! Open maps and lists.
+
+ghost use Rattle.std.specs.Prelude.{◌≡◌, ℕ, ◌||◌, true, Option, Some, None, IfOk, ◌<◌, map, vec_len, option_map};
+ghost use Rattle.yaml_subset.specs.Tree.{Tree};
+ghost use Rattle.std.specs.List.{list_any};
+ghost use Rattle.std.specs.Str.{bytes_eq};
+ghost use Rattle.yaml_subset.specs.Mark as marks;
+ghost use Rattle.yaml_subset.specs.Fault.{column, same_column};
+ghost use Rattle.yaml_subset.specs.Profile.{is_next, has_room as has_room_lem, with_child, is_repeated as is_repeated_lem, collection, is_deeper as is_deeper_lem, is_shallow as is_shallow_lem, no_text as no_text_lem, or_no_text as or_no_text_lem};
+ghost use Rattle.yaml_subset.specs.OpenNodes.{closed};
+ghost use Rattle.yaml_subset.specs.NodeView.{node_view};
+ghost use Rattle.yaml_subset.specs.LineView.{mark_view};
+ghost use Rattle.yaml_subset.specs.OpenView.{head_of, done_of, last_view, child, entry_child};
+
+use crate::block::Block;
+use crate::mark::Mark;
+use crate::node::{Node, Nodes, Pairs};
+use crate::text::Text;
+use std::alloc::{AllocError, Global};
+
+/// An open map or list at its column, with its finished children; a map also with the key whose value is open.
+#[derive(Debug, Drop)]
+pub(crate) enum Frame {
+    Map(usize, Pairs, Text),
+    List(usize, Nodes),
+}
+
+/// What stands within the innermost frame.
+#[derive(Debug, Drop)]
+pub(crate) enum Last {
+    Nothing,
+    Inline(Node),
+    Block(Block),
+}
+
+/// The node that is left out.
+fn no_text(alloc: Global) -> Node
+    ensures { node_view result ≡ no_text_lem }
+{
+    Node::Scalar {
+        text: Text::of(Vec::new(alloc)),
+        plain: true,
+    }
+}
+
+fn or_no_text(alloc: Global, value: Option<Node>) -> Node
+    ensures { node_view result ≡ or_no_text_lem (option_map node_view value) }
+{
+    match value {
+        Some(node) => node,
+        None => no_text(alloc),
+    }
+}
+
+impl Last {
+    /// The node that it is, if nothing follows.
+    pub(crate) fn closed(self, alloc: Global) -> Result<Option<Node>, AllocError>
+        ensures { IfOk result (λ v. option_map node_view v ≡ closed (last_view self)) }
+    {
+        match self {
+            Last::Nothing => Ok(None),
+            Last::Inline(node) => Ok(Some(node)),
+            Last::Block(block) => {
+                let text = block.ended(alloc)?;
+                Ok(Some(Node::Scalar {
+                    text: Text::of(text),
+                    plain: false,
+                }))
+            }
+        }
+    }
+}
+
+/// Whether two texts have the same bytes.
+fn same_bytes(one: &[u8], other: &[u8]) -> bool
+    ensures { result ≡ bytes_eq one.now other.now }
+{
+    one == other
+}
+
+/// Whether one of these entries has a key.
+fn has_key(entries: &[(Text, Node)], key: &[u8]) -> bool
+    ensures { result ≡ list_any (λ p. bytes_eq key.now p.0) entries.now }
+{
+    entries
+        .iter()
+        .any(|entry| same_bytes(key, entry.0.as_bytes()))
+}
+
+/// Whether a map at a column has a key among its entries, or open.
+fn is_known(column: usize, entries: &[(Text, Node)], key: &[u8], next: &[u8]) -> bool
+    ensures { result ≡ is_repeated_lem (marks.key column next.now) (with_child (map (entry_child column) entries.now) (marks.key column key.now) None) }
+{
+    let finished = has_key(entries, next);
+    let open = same_bytes(next, key);
+    either(finished, open)
+}
+
+fn either(one: bool, other: bool) -> bool
+    ensures { result ≡ (one || other) }
+{
+    one || other
+}
+
+impl Mark {
+    /// Whether it begins a document.
+    pub(crate) fn is_start(&self) -> bool
+        ensures { result ≡ is_next marks.start (mark_view self.now) }
+    {
+        match self {
+            Mark::Start => true,
+            _ => false,
+        }
+    }
+
+    /// The column at which it stands.
+    pub(crate) fn column(&self) -> Option<usize>
+        ensures { result ≡ column (mark_view self.now) }
+    {
+        match self {
+            Mark::Start => None,
+            Mark::Dash(column) => Some(*column),
+            Mark::Key(column, _) => Some(*column),
+            Mark::Value(column, _) => Some(*column),
+            Mark::Header(column, _) => Some(*column),
+        }
+    }
+}
+
+impl Frame {
+    /// Whether a mark begins its next entry, item or document.
+    pub(crate) fn is_followed_by(&self, mark: &Mark) -> bool
+        ensures { result ≡ is_next (head_of self.now) (mark_view mark.now) }
+    {
+        match self {
+            Frame::Map(column, _, _) => match mark {
+                Mark::Key(at, _) => *column == *at,
+                _ => false,
+            },
+            Frame::List(column, _) => match mark {
+                Mark::Dash(at) => *column == *at,
+                _ => false,
+            },
+        }
+    }
+
+    /// Whether a node that isn't a list may begin at a column behind its last mark.
+    fn is_deeper(&self, at: usize) -> bool
+        ensures { result ≡ is_deeper_lem (head_of self.now) at }
+    {
+        match self {
+            Frame::Map(column, _, _) => *column < at,
+            Frame::List(column, _) => *column < at,
+        }
+    }
+
+    fn has_room_for_list(&self, at: usize) -> bool
+        ensures { result ≡ has_room_lem (head_of self.now) (marks.dash at) }
+    {
+        match self {
+            Frame::Map(column, _, _) => *column <= at,
+            Frame::List(column, _) => *column < at,
+        }
+    }
+
+    /// Whether a node that begins with a mark has room behind its last mark.
+    pub(crate) fn has_room(&self, mark: &Mark) -> bool
+        ensures { result ≡ has_room_lem (head_of self.now) (mark_view mark.now) }
+    {
+        match mark {
+            Mark::Start => false,
+            Mark::Dash(at) => self.has_room_for_list(*at),
+            Mark::Key(at, _) => self.is_deeper(*at),
+            Mark::Value(at, _) => self.is_deeper(*at),
+            Mark::Header(at, _) => self.is_deeper(*at),
+        }
+    }
+
+    /// Whether its own marks stand at this column, if it is one.
+    pub(crate) fn stands_at(&self, at: Option<usize>) -> bool
+        ensures { result ≡ same_column (column (head_of self.now)) at }
+    {
+        match at {
+            None => false,
+            Some(at) => match self {
+                Frame::Map(column, _, _) => *column == at,
+                Frame::List(column, _) => *column == at,
+            },
+        }
+    }
+
+    /// Whether a mark is a key that it has already, finished or open.
+    pub(crate) fn is_repeated_by(&self, mark: &Mark) -> bool
+        requires { is_next (head_of self.now) (mark_view mark.now) ≡ true }
+        ensures { result ≡ is_repeated_lem (mark_view mark.now) (with_child (done_of self.now) (head_of self.now) None) }
+    {
+        match self {
+            Frame::List(_, _) => false,
+            Frame::Map(column, entries, key) => match mark {
+                Mark::Key(_, next) => {
+                    is_known(*column, entries, key.as_bytes(), next.as_bytes())
+                }
+                _ => false,
+            },
+        }
+    }
+
+    /// The same map or list at its next mark, with a value behind the last one.
+    pub(crate) fn next(
+        self,
+        alloc: Global,
+        value: Option<Node>,
+        mark: Mark,
+    ) -> Result<Frame, AllocError>
+        requires { is_next (head_of self) (mark_view mark) ≡ true }
+        ensures head { IfOk result (λ f. head_of f ≡ mark_view mark) }
+        ensures done { IfOk result (λ f. done_of f ≡ with_child (done_of self) (head_of self) (option_map node_view value)) }
+    {
+        match self {
+            Frame::Map(column, entries, key) => match mark {
+                Mark::Key(_, next) => {
+                    let entries = more_entries(alloc, column, entries, key, value)?;
+                    Ok(Frame::Map(column, entries, next))
+                }
+                _ => unreachable!(),
+            },
+            Frame::List(column, items) => {
+                let items = more_items(alloc, column, items, value)?;
+                Ok(Frame::List(column, items))
+            }
+        }
+    }
+
+    /// The map or list that it is, with a value behind its last mark.
+    pub(crate) fn closed(self, alloc: Global, value: Option<Node>) -> Result<Node, AllocError>
+        ensures { IfOk result (λ x. node_view x ≡ collection (with_child (done_of self) (head_of self) (option_map node_view value))) }
+    {
+        match self {
+            Frame::Map(column, entries, key) => {
+                let entries = more_entries(alloc, column, entries, key, value)?;
+                Ok(node_of_entries(column, entries))
+            }
+            Frame::List(column, items) => {
+                let items = more_items(alloc, column, items, value)?;
+                Ok(node_of_items(column, items))
+            }
+        }
+    }
+}
+
+/// The documents with one more, where it has a node.
+#[tactic(auto, using(std::proofs::lemmas::List::map_push))]
+pub(crate) fn more_documents(nodes: Nodes, value: Option<Node>) -> Result<Nodes, AllocError>
+    ensures { IfOk result (λ v. map (child marks.start) v.items ≡ with_child (map (child marks.start) nodes.items) marks.start (option_map node_view value)) }
+{
+    match value {
+        None => Ok(nodes),
+        Some(node) => {
+            let mut nodes = nodes;
+            nodes.push(node)?;
+            Ok(nodes)
+        }
+    }
+}
+
+/// The entries with one more, of a map at a column.
+#[tactic(auto, using(std::proofs::lemmas::List::map_push))]
+pub(crate) fn more_entries(
+    alloc: Global,
+    column: usize,
+    entries: Pairs,
+    key: Text,
+    value: Option<Node>,
+) -> Result<Pairs, AllocError>
+    ensures more { IfOk result (λ v. map (entry_child column) v.items ≡ with_child (map (entry_child column) entries.items) (marks.key column key) (option_map node_view value)) }
+    ensures filled { IfOk result (λ v. 0 < vec_len v) }
+{
+    let node = or_no_text(alloc, value);
+    let mut entries = entries;
+    entries.push((key, node))?;
+    Ok(entries)
+}
+
+/// The items with one more, of a list at a column.
+#[tactic(auto, using(std::proofs::lemmas::List::map_push))]
+pub(crate) fn more_items(
+    alloc: Global,
+    column: usize,
+    items: Nodes,
+    value: Option<Node>,
+) -> Result<Nodes, AllocError>
+    ensures { IfOk result (λ v. map (child (marks.dash column)) v.items ≡ with_child (map (child (marks.dash column)) items.items) (marks.dash column) (option_map node_view value)) }
+{
+    let node = or_no_text(alloc, value);
+    let mut items = items;
+    items.push(node)?;
+    Ok(items)
+}
+
+fn node_of_entries(column: usize, entries: Pairs) -> Node
+    requires { 0 < vec_len entries }
+    ensures { node_view result ≡ collection (map (entry_child column) entries.items) }
+{
+    Node::Map(entries)
+}
+
+fn node_of_items(column: usize, items: Nodes) -> Node
+    ensures { node_view result ≡ collection (map (child (marks.dash column)) items.items) }
+{
+    Node::List(items)
+}

@@ -1,0 +1,177 @@
+//! The reader: what is kept after some lines, and one more line.
+
+ghost use Rattle.std.specs.Prelude.{◌≡◌, IfOk, IfErr, None, Some, map, true, false};
+ghost use Rattle.yaml_subset.specs.Text.{parent_at as parent_at_lem, parent_after as parent_after_lem, header_scalar as header_scalar_lem, takes as takes_lem};
+ghost use Rattle.yaml_subset.specs.Fault.{misfit, row_of};
+ghost use Rattle.yaml_subset.specs.Reader.{add_all as add_all_lem, header_folds, scalar_behind as scalar_behind_lem, Follows};
+ghost use Rattle.yaml_subset.specs.LineView.{mark_view};
+ghost use Rattle.yaml_subset.specs.Rows.{earlier as earlier_lem};
+ghost use Rattle.yaml_subset.specs.ReaderView.{reading};
+ghost use Rattle.yaml_subset.specs.StopView.{nodes_open, Refuses};
+
+use crate::line::line_of;
+use crate::mark::{Line, Mark};
+use crate::open::{OpenNodes, Stop};
+use crate::scalar::{Scalar, raw_fault, scalar_with, takes};
+use crate::which::Which;
+use std::alloc::Global;
+
+fn parent_at(mark: &Mark) -> Option<usize>
+    ensures { result ≡ parent_at_lem (mark_view mark.now) }
+{
+    match mark {
+        Mark::Key(column, _) => Some(*column),
+        Mark::Dash(column) => Some(*column),
+        _ => None,
+    }
+}
+
+/// The column of the last of these marks, where it is a key or dash.
+#[tactic(auto, using(crate::proofs::ReaderLemmas::parent_after_more))]
+fn parent_after(parent: Option<usize>, marks: &[Mark]) -> Option<usize>
+    ensures { result ≡ parent_after_lem parent (map mark_view marks.now) }
+{
+    let mut last = parent;
+    for at in 0..marks.len() {
+        let mark = &marks[at];
+        last = parent_at(mark);
+    }
+    last
+}
+
+/// Whether a header folds its lines; none for another mark.
+fn header_style(mark: &Mark) -> Option<bool>
+    ensures { result ≡ header_folds (mark_view mark.now) }
+{
+    match mark {
+        Mark::Header(_, style) => Some(style.folded),
+        _ => None,
+    }
+}
+
+/// The scalar behind a header, if there is one.
+fn scalar_behind(parent: Option<usize>, folds: Option<bool>) -> Option<Scalar>
+    ensures { result ≡ scalar_behind_lem parent folds }
+{
+    match folds {
+        None => None,
+        Some(folded) => Some(Scalar {
+            parent,
+            indent: None,
+            folded,
+        }),
+    }
+}
+
+/// The block scalar whose header ends the line with these marks.
+fn header_scalar(parent: Option<usize>, marks: &[Mark]) -> Option<Scalar>
+    ensures { result ≡ header_scalar_lem parent (map mark_view marks.now) }
+{
+    if marks.is_empty() {
+        return None;
+    }
+    let last = marks.len() - 1;
+    let folds = header_style(&marks[last]);
+    let column = parent_after(parent, &marks[..last]);
+    scalar_behind(column, folds)
+}
+
+/// The open nodes after the marks of a line, or the row of the first that has no place.
+fn add_all(alloc: Global, nodes: OpenNodes, marks: Vec<Mark>) -> Result<OpenNodes, Stop>
+    ensures ok { IfOk result (λ o. (add_all_lem (map mark_view marks.items) (nodes_open nodes) ≡ Some (nodes_open o)) × (misfit (map mark_view marks.items) (nodes_open nodes) ≡ None)) }
+    ensures refused { IfErr result (λ s. Refuses s (λ w. misfit (map mark_view marks.items) (nodes_open nodes) ≡ Some w)) }
+{
+    let mut nodes = nodes;
+    for mark in marks {
+        nodes = nodes.add(alloc, mark)?;
+    }
+    Ok(nodes)
+}
+
+/// What is kept after some lines.
+#[derive(Debug, Drop)]
+pub(crate) struct Reader {
+    pub(crate) nodes: OpenNodes,
+    /// The column of the last mark, where it is a key or dash.
+    pub(crate) parent: Option<usize>,
+    /// The block scalar that may take the next line.
+    pub(crate) scalar: Option<Scalar>,
+}
+
+/// A line that a block scalar takes.
+fn read_raw(reader: Reader, scalar: Scalar, line: &[u8]) -> Result<Reader, Stop>
+    requires taken { takes_lem reader.scalar line.now ≡ true }
+    requires it { reader.scalar ≡ Some scalar }
+    ensures ok { IfOk result (λ r. Follows (reading reader) line.now (reading r)) }
+    ensures refused { IfErr result (λ s. Refuses s (λ w. row_of reader.scalar (nodes_open reader.nodes) line.now ≡ Some w)) }
+{
+    let fault = raw_fault(scalar, line);
+    match reader.nodes.add_raw(line) {
+        Ok(nodes) => match fault {
+            None => Ok(Reader {
+                nodes,
+                parent: None,
+                scalar: Some(scalar_with(line, scalar)),
+            }),
+            Some(which) => Err(Stop::Row(which)),
+        },
+        Err(Stop::NoMemory) => Err(Stop::NoMemory),
+        Err(Stop::Row(which)) => Err(Stop::Row(first_of(fault, which))),
+    }
+}
+
+/// A line by itself.
+fn read_own(alloc: Global, reader: Reader, line: &[u8]) -> Result<Reader, Stop>
+    requires { takes_lem reader.scalar line.now ≡ false }
+    ensures ok { IfOk result (λ r. Follows (reading reader) line.now (reading r)) }
+    ensures refused { IfErr result (λ s. Refuses s (λ w. row_of reader.scalar (nodes_open reader.nodes) line.now ≡ Some w)) }
+{
+    let Line { marks, fault } = line_of(alloc, line)?;
+    let parent = parent_after(reader.parent, &marks);
+    let scalar = header_scalar(reader.parent, &marks);
+    match add_all(alloc, reader.nodes, marks) {
+        Ok(nodes) => match fault {
+            None => Ok(Reader {
+                nodes,
+                parent,
+                scalar,
+            }),
+            Some(which) => Err(Stop::Row(which)),
+        },
+        Err(Stop::NoMemory) => Err(Stop::NoMemory),
+        Err(Stop::Row(which)) => Err(Stop::Row(first_of(fault, which))),
+    }
+}
+
+/// The earlier of a line's own row and another.
+fn first_of(fault: Option<Which>, which: Which) -> Which
+    ensures { earlier_lem fault (Some which) ≡ Some result }
+{
+    match fault {
+        None => which,
+        Some(own) => {
+            if own.place() <= which.place() {
+                own
+            } else {
+                which
+            }
+        }
+    }
+}
+
+/// One more line.
+pub(crate) fn read_line(alloc: Global, reader: Reader, line: &[u8]) -> Result<Reader, Stop>
+    ensures ok { IfOk result (λ r. Follows (reading reader) line.now (reading r)) }
+    ensures refused { IfErr result (λ s. Refuses s (λ w. row_of reader.scalar (nodes_open reader.nodes) line.now ≡ Some w)) }
+{
+    match reader.scalar {
+        None => read_own(alloc, reader, line),
+        Some(scalar) => {
+            if takes(reader.scalar, line) {
+                read_raw(reader, scalar, line)
+            } else {
+                read_own(alloc, reader, line)
+            }
+        }
+    }
+}

@@ -1,0 +1,102 @@
+//! A block scalar that may take the next line.
+
+ghost use Rattle.std.specs.Prelude.{◌≡◌, Some};
+ghost use Rattle.yaml_subset.specs.Text.{is_content as is_content_lem, takes as takes_lem, indent_of as indent_of_lem, behind_indent as behind_indent_lem, is_more_indented as is_more_indented_lem, has_early_tab as has_early_tab_lem, raw_fault as raw_fault_lem, scalar_with as scalar_with_lem};
+
+use crate::bytes::{blanks, from, has_control, is_blank, spaces};
+use crate::line::is_marker;
+use crate::which::Which;
+
+/// A block scalar: the column of the key or dash behind which it stands, none at the root,
+/// and the indentation of its content once a line has set it.
+#[derive(Clone, Copy, Debug, PartialEq, Eq, Drop)]
+pub(crate) struct Scalar {
+    pub(crate) parent: Option<usize>,
+    pub(crate) indent: Option<usize>,
+    pub(crate) folded: bool,
+}
+
+/// Whether content may stand at an indentation.
+fn is_content(scalar: Scalar, at: usize) -> bool
+    ensures { result ≡ is_content_lem scalar at }
+{
+    match scalar.indent {
+        Some(indent) => indent <= at,
+        None => match scalar.parent {
+            Some(column) => column < at,
+            None => true,
+        },
+    }
+}
+
+/// Whether a line belongs to the scalar.
+fn takes_line(scalar: Scalar, line: &[u8]) -> bool
+    ensures { result ≡ takes_lem (Some scalar) line.now }
+{
+    !is_marker(line) && (is_blank(line) || is_content(scalar, spaces(line)))
+}
+
+pub(crate) fn takes(scalar: Option<Scalar>, line: &[u8]) -> bool
+    ensures { result ≡ takes_lem scalar line.now }
+{
+    match scalar {
+        None => false,
+        Some(scalar) => takes_line(scalar, line),
+    }
+}
+
+fn indent_of(indent: Option<usize>, line: &[u8]) -> usize
+    ensures { result ≡ indent_of_lem indent line.now }
+{
+    match indent {
+        Some(indent) => indent,
+        None => spaces(line),
+    }
+}
+
+/// Whether a line goes further in than the content, where lines are folded.
+fn is_more_indented(scalar: Scalar, line: &[u8]) -> bool
+    ensures { result ≡ is_more_indented_lem scalar line.now }
+{
+    let behind = from(line, indent_of(scalar.indent, line));
+    scalar.folded && !is_blank(line) && 1 <= blanks(behind)
+}
+
+/// Whether a tab stands before the first character that is no blank.
+fn has_early_tab(line: &[u8]) -> bool
+    ensures { result ≡ has_early_tab_lem line.now }
+{
+    !(blanks(line) == spaces(line))
+}
+
+/// The row of a line that the scalar takes.
+pub(crate) fn raw_fault(scalar: Scalar, line: &[u8]) -> Option<Which>
+    ensures { result ≡ raw_fault_lem scalar line.now }
+{
+    if has_control(line) {
+        Some(Which::Control)
+    } else if is_more_indented(scalar, line) {
+        if has_early_tab(line) {
+            Some(Which::Tab)
+        } else {
+            Some(Which::LeftOut)
+        }
+    } else {
+        None
+    }
+}
+
+/// The scalar with one more line.
+pub(crate) fn scalar_with(line: &[u8], scalar: Scalar) -> Scalar
+    ensures { result ≡ scalar_with_lem line.now scalar }
+{
+    if is_blank(line) {
+        scalar
+    } else {
+        Scalar {
+            parent: scalar.parent,
+            indent: Some(indent_of(scalar.indent, line)),
+            folded: scalar.folded,
+        }
+    }
+}

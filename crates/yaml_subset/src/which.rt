@@ -1,0 +1,71 @@
+//! The rows of the refusal table.
+
+ghost use Rattle.std.specs.Prelude.{◌≡◌};
+ghost use Rattle.yaml_subset.specs.Rows.{earlier as earlier_lem};
+
+/// Why a line has no place after the lines before it. A line that meets several rows is named by the first.
+#[derive(Clone, Copy, Debug, PartialEq, Eq, Drop)]
+pub enum Which {
+    /// A character below U+0020 other than a tab, or U+007F; a CR is one unless an LF follows it.
+    Control,
+    /// A tab before the first character that is no blank, or after a dash.
+    Tab,
+    /// A construct of YAML that this profile leaves out.
+    LeftOut,
+    /// An indentation at which nothing open can go on and nothing can begin.
+    Indent,
+    /// A quoted scalar without its end, or something other than a comment after it.
+    Quote,
+    /// An escape other than the four.
+    Escape,
+    /// A one-line list of another form, or a beginning with a comma or a closing bracket.
+    FlowForm,
+    /// No entry or item where one must stand, a colon before a blank in a value, or no form at all.
+    Colon,
+    /// A key that its map has already.
+    DuplicateKey,
+    /// A map or list at a depth above the limit.
+    TooDeep,
+}
+
+impl Which {
+    ghost use Rattle.std.specs.Prelude.{◌≡◌};
+    ghost use Rattle.yaml_subset.specs.Rows.{place};
+
+    /// The row's place in the table.
+    pub(crate) fn place(self) -> u8
+        ensures { result ≡ place self }
+    {
+        match self {
+            Which::Control => 0,
+            Which::Tab => 1,
+            Which::LeftOut => 2,
+            Which::Indent => 3,
+            Which::Quote => 4,
+            Which::Escape => 5,
+            Which::FlowForm => 6,
+            Which::Colon => 7,
+            Which::DuplicateKey => 8,
+            Which::TooDeep => 9,
+        }
+    }
+}
+
+/// The earlier of two rows, each perhaps not met.
+pub(crate) fn earlier(one: Option<Which>, other: Option<Which>) -> Option<Which>
+    ensures { result ≡ earlier_lem one other }
+{
+    match one {
+        None => other,
+        Some(row) => match other {
+            None => Some(row),
+            Some(next) => {
+                if row.place() <= next.place() {
+                    Some(row)
+                } else {
+                    Some(next)
+                }
+            }
+        },
+    }
+}
