@@ -1,8 +1,8 @@
 //! The three figures of an error budget (Site Reliability Workbook, 'Alerting on SLOs').
-ghost use Rattle.std.specs.Prelude.{◌≡◌, ◌<◌, ◌≤◌, ◌≤ℤ◌, pos, unsigned_abs, IfSome};
-ghost use Rattle.slo_terms.specs.Budget.{error_rate_of, burn_of, remaining_of};
+ghost use Rattle.std.specs.Prelude.{◌≡◌, ◌<◌, ◌≤◌, ◌^◌, ◌≤ℤ◌, pos, unsigned_abs, IfSome};
+ghost use Rattle.slo_terms.specs.Budget.{error_rate_of, burn_of, remaining_of, above_of};
 
-use exact_fraction::{Decimal, Fraction, Leaf};
+use exact_fraction::{Decimal, Fraction, Leaf, Op, compare, holds};
 
 /// One, in billionths.
 pub const WHOLE: u64 = 1_000_000_000;
@@ -55,4 +55,19 @@ pub fn remaining(sum: Leaf, target: Decimal) -> Option<Fraction>
 {
     let burn = burn(sum, target)?;
     Some(Fraction::of(burn.den() as i128 - burn.num(), burn.den()))
+}
+
+/// Whether the burn rate stands in `op` to the threshold, which is at most 10,000. False where no
+/// event was counted, since there is no burn rate then.
+pub fn above(sum: Leaf, target: Decimal, op: Op, threshold: Decimal) -> bool
+    requires part { sum.num ≤ sum.den }
+    requires few { sum.den ≤ MAX_EVENTS }
+    requires below_one { target < WHOLE }
+    requires threshold { threshold ≤ 10 ^ 13 }
+    ensures { result ≡ above_of sum target op threshold }
+{
+    match burn(sum, target) {
+        Some(burn) => holds(op, compare(&burn, threshold)),
+        None => false,
+    }
 }

@@ -5,4 +5,7 @@
 
 mod budget;
 
-pub use budget::{MAX_EVENTS, WHOLE, burn, error_rate, remaining};
+pub use budget::{MAX_EVENTS, WHOLE, above, burn, error_rate, remaining};
+
+#[cfg(test)]
+mod tests;

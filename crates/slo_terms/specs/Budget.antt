@@ -1,7 +1,9 @@
 -- Error rate, burn rate and remaining error budget (Site Reliability Workbook, 'Alerting on SLOs').
-use Rattle.std.specs.Prelude.{ℕ, pos, ◌-◌, ◌*◌, ◌==◌, ◌-ℤ◌, ◌*ℤ◌, Option, Some, None, if◌then◌else◌, option_map}
+use Rattle.std.specs.Prelude.{ℕ, Bool, false, pos, ◌-◌, ◌*◌, ◌==◌, ◌-ℤ◌, ◌*ℤ◌, Option, Some, None, if◌then◌else◌, option_map}
 use Rattle.exact_fraction.specs.declared.Leaf.{Leaf}
 use Rattle.exact_fraction.specs.Ratio.{Ratio, lowest}
+use Rattle.exact_fraction.specs.declared.op.Op.{Op}
+use Rattle.exact_fraction.specs.Op.{holds_of, order_with}
 
 -- A target is a number of billionths, so this is 1.
 abbrev pub WHOLE : ℕ
@@ -18,3 +20,13 @@ burn_of sum target = option_map (λ error. lowest (error.num *ℤ pos WHOLE) (er
 -- the remaining error budget: 1 - burn
 abbrev pub remaining_of : Leaf → ℕ → Option Ratio
 remaining_of sum target = option_map (λ burn. lowest (pos burn.den -ℤ burn.num) burn.den) (burn_of sum target)
+
+-- a burn rate that is there stands in `op` to so many billionths
+abbrev pub is_above : Op → ℕ → Option Ratio → Bool
+is_above op threshold None = false
+is_above op threshold (Some burn) = holds_of op (order_with burn threshold)
+
+-- The condition of an alert (OpenSLO v1, `condition` of kind `burnrate`): an event was counted,
+-- and the burn rate stands in `op` to the threshold.
+abbrev pub above_of : Leaf → ℕ → Op → ℕ → Bool
+above_of sum target op threshold = is_above op threshold (burn_of sum target)

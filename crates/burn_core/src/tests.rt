@@ -1,0 +1,25 @@
+// A burn rate against a threshold, in billionths, by each of the four comparisons.
+use super::*;
+use exact_fraction::{Decimal, Leaf, Op};
+
+#[test]
+fn burn_rates_against_a_threshold(rt: HostRuntime) {
+    let rows = [
+        // 72/5 against 14.4: lte and gte hold, lt and gt don't.
+        (98_560, 100_000, 14_400_000_000, [true, true, false, false]),
+        // 1441/100 against 14.4
+        (98_559, 100_000, 14_400_000_000, [false, true, false, true]),
+        // 24/5 against 6
+        (99_520, 100_000, 6_000_000_000, [true, false, true, false]),
+        // no burn rate
+        (0, 0, 0, [false, false, false, false]),
+    ];
+    let target = Decimal::of_billionths(999_000_000);
+    for (num, den, threshold, want) in rows {
+        let sum = Leaf { num, den };
+        assert!(rt; sum.num <= sum.den && sum.den <= MAX_EVENTS && threshold <= 10_000_000_000_000);
+        let threshold = Decimal::of_billionths(threshold);
+        let got = [Op::Lte, Op::Gte, Op::Lt, Op::Gt].map(|op| above(sum, target, op, threshold));
+        assert_eq!(rt; got, want);
+    }
+}

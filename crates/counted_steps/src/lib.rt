@@ -1,0 +1,8 @@
+//! A count of steps that takes no bytes at run time.
+//! Stands on nothing but std.
+//! Promises that each tick adds one and that nothing else changes the count, so that a call can bound its work.
+#![tactic(auto)]
+
+mod steps;
+
+pub use steps::Steps;

@@ -1,0 +1,85 @@
+use Rattle.std.proofs.Common.{◌≡◌, ◌≢◌, ◌∙◌, ◌++◌, ◌∷◌, [], ℕ, suc, ap, sym, subst, arith, length, drop, take, set, Some, false, List, add-one}
+use Rattle.std.specs.List.{position, list_any}
+use Rattle.std.proofs.lemmas.List.{length-set, length-append}
+use Rattle.sample_book.specs.declared.row.Cell.{Cell}
+use Rattle.sample_book.specs.declared.row.RowVerdict.TheVariants.{New}
+use Rattle.sample_book.specs.declared.current_rows.Stored.{Stored}
+use Rattle.sample_book.specs.Rows.{MayPutAs, cell_eq, cell_of, current_rows, verdict_of}
+use Rattle.sample_book.specs.Standing.{Standing, rows_stored}
+use Rattle.sample_book.proofs.StandingLemmas.{PutInPlace, put_in_place, PutBehind, put_behind, put_apart}
+use Rattle.sample_book.proofs.current_rows.CurrentRows.put.Goals as goal
+
+in_place : (c : goal.After-self-1) → PutInPlace c.self.inside.cells c.self.inside.stored.items c.args.row.now c.in-Some.place
+in_place c =
+    let cells = c.self.inside.cells in
+    let row = c.args.row.now in
+    put_in_place cells c.self.inside.stored.items row c.args.self.now.room c.in-Some.place c.self.invariant.within c.self.invariant.apart
+    (subst (λ (cell : Cell). position (cell_eq cell) cells ≡ Some c.in-Some.place) c.cell.ensures c.in-Some.ensures.there)
+    (omega (arith, c.in-Some.ensures.within, c.len.ensures, c.self.inside.stored.ok.0))
+    (subst (λ (s : Standing). MayPutAs (verdict_of s.rows row) c.args.self.now.room (cell_of row)) (sym c.self.view_is) c.requires)
+
+behind : (c : goal.After-extend_from_slice) → PutBehind c.self.inside.cells c.self.inside.stored.items c.args.row.now
+behind c =
+    let cells = c.self.inside.cells in
+    let row = c.args.row.now in
+    put_behind cells c.self.inside.stored.items row c.self.invariant.apart
+    (subst (λ n. list_any (cell_eq (cell_of row)) (take n cells) ≡ false) (c.len.ensures ∙ c.self.inside.stored.ok.0)
+    (subst (λ (cell : Cell). list_any (cell_eq cell) (take c.len.result cells) ≡ false) c.cell.ensures c.in-None.ensures.absent))
+    (subst (λ (s : Standing). MayPutAs (verdict_of s.rows row) s.room (cell_of row)) (sym c.self.view_is) c.requires)
+
+pub invariant_of-self : goal.invariant_of-self
+invariant_of-self c =
+    let stored = c.self.inside.stored.items in
+    record {
+      within = omega (arith, c.self.invariant.within, length-set {A = Stored});
+      ready = c.self.invariant.ready;
+      apart = put_apart (rows_stored c.self.inside.cells stored) _ c.args.row.now (in_place c).rows;
+    }
+
+pub returns-in-Some-clause-rows : goal.returns-in-Some-clause-rows
+returns-in-Some-clause-rows c = (in_place c).rows ∙ ap (λ (s : Standing). current_rows (s.rows ++ c.args.row.now ∷ [])) c.self.view_is
+
+pub returns-in-Some-clause-new : goal.returns-in-Some-clause-new
+returns-in-Some-clause-new c = λ new. absurd ((in_place c).newer (ap (λ (s : Standing). verdict_of s.rows c.args.row.now) c.self.view_is ∙ new))
+
+pub unwrap-requires : goal.unwrap-requires
+unwrap-requires c =
+    c.extend_from_slice.ensures.succeeds (let within = (behind c).within in omega (arith, within, c.self.invariant.ready, c.self.inside.stored.ok.0))
+
+put : (c : goal.After-unwrap) → PutBehind c.self.inside.cells c.self.inside.stored.items c.args.row.now
+put c =
+    let cells = c.self.inside.cells in
+    let row = c.args.row.now in
+    put_behind cells c.self.inside.stored.items row c.self.invariant.apart
+    (subst (λ n. list_any (cell_eq (cell_of row)) (take n cells) ≡ false) (c.len.ensures ∙ c.self.inside.stored.ok.0)
+    (subst (λ (cell : Cell). list_any (cell_eq cell) (take c.len.result cells) ≡ false) c.cell.ensures c.in-None.ensures.absent))
+    (subst (λ (s : Standing). MayPutAs (verdict_of s.rows row) s.room (cell_of row)) (sym c.self.view_is) c.requires)
+
+-- what is stored grew by the row
+grown : (c : goal.After-unwrap) → c.extend_from_slice.new.self.items ≡ c.self.inside.stored.items ++ record { revision = c.args.row.now.revision; amount = c.args.row.now.amount } ∷ []
+grown c = rw c.unwrap.ensures at c.extend_from_slice.ensures.items
+
+longer : (c : goal.After-unwrap) → length c.extend_from_slice.new.self.items ≡ suc (length c.self.inside.stored.items)
+longer c = ap length (grown c) ∙ length-append c.self.inside.stored.items (record { revision = c.args.row.now.revision; amount = c.args.row.now.amount } ∷ []) ∙ add-one (length c.self.inside.stored.items)
+
+pub invariant_of-self-in-None : goal.invariant_of-self-in-None
+invariant_of-self-in-None c =
+    let within = (put c).within in
+    record {
+      within = omega (arith, within, longer c);
+      ready = omega (arith, c.self.invariant.ready, c.extend_from_slice.ensures.capacity);
+      apart = put_apart (rows_stored c.self.inside.cells c.self.inside.stored.items) _ c.args.row.now (ap (rows_stored c.self.inside.cells) (grown c) ∙ (put c).rows);
+    }
+
+pub returns-in-None-clause-rows : goal.returns-in-None-clause-rows
+returns-in-None-clause-rows c =
+    ap (rows_stored c.self.inside.cells) (grown c) ∙ (put c).rows ∙ ap (λ (s : Standing). current_rows (s.rows ++ c.args.row.now ∷ [])) c.self.view_is
+
+pub returns-in-None-clause-new : goal.returns-in-None-clause-new
+returns-in-None-clause-new c = λ _.
+    sym (ap (λ (s : Standing). s.room) c.self.view_is)
+    ∙ (put c).room
+    ∙ ap (λ n. cell_of c.args.row.now ∷ drop n c.self.inside.cells) (sym (longer c))
+
+pub returns-in-None-clause-newer : goal.returns-in-None-clause-newer
+returns-in-None-clause-newer c = λ other. absurd (other (sym (ap (λ (s : Standing). verdict_of s.rows c.args.row.now) c.self.view_is) ∙ (put c).new))

@@ -1,0 +1,31 @@
+-- What the current rows of an indicator count for, minute by minute.
+use Rattle.std.specs.Prelude.{◌≡◌, ℕ, Bool, true, List, filter, Option}
+use Rattle.std.specs.List.{find, All}
+use Rattle.std.specs.Str.{bytes_eq}
+use Rattle.exact_fraction.specs.declared.Op.{Op}
+use Rattle.slice_method.specs.declared.Counts.{Counts}
+use Rattle.slice_method.specs.declared.Reading.{Reading}
+use Rattle.slice_method.specs.Readings.{HasForm, counts}
+use Rattle.slo_terms.specs.Sums.{amount_at}
+use Rattle.sample_book.specs.declared.row.Row.{Row}
+
+-- whether a row is of this indicator
+abbrev pub is_of : List ℕ → Row → Bool
+is_of sli row = bytes_eq row.sli sli
+
+-- the first current row of an indicator
+abbrev pub first_of : List Row → List ℕ → Option Row
+first_of rows sli = find (is_of sli) rows
+
+-- the sums of good and total over the current rows of an indicator at a minute
+abbrev pub counts_of_minute : Reading → Op → ℕ → List Row → List ℕ → ℕ → Counts
+counts_of_minute reading op value rows sli minute =
+    let own = filter (is_of sli) rows in
+    record {
+      good = amount_at (λ row. row.minute) (λ row. (counts reading op value row.amount).good) own minute;
+      total = amount_at (λ row. row.minute) (λ row. (counts reading op value row.amount).total) own minute;
+    }
+
+-- the current rows of an indicator at a minute have amounts of the reading's form
+abbrev pub HaveForm : Reading → List Row → List ℕ → ℕ → Type 0
+HaveForm reading rows sli minute = All (λ (row : Row). is_of sli row ≡ true → row.minute ≡ minute → HasForm reading row.amount) rows

@@ -1,0 +1,36 @@
+-- Cells by the numbers of their names.
+use Rattle.std.specs.Prelude.{◌≡◌, ◌<◌, ℕ, Bool, ◌&&◌, nat_eq, List, [], ◌∷◌, length, map, Some, None, ◌⊎◌}
+use Rattle.std.specs.List.{IsDistinct, position}
+use Rattle.std.specs.Str.{bytes_eq}
+use Rattle.sample_book.specs.declared.cells.Key.{Key}
+use Rattle.sample_book.specs.declared.row.Cell.{Cell}
+use Rattle.sample_book.specs.Names.{named}
+
+-- whether two keys are one
+abbrev pub key_eq : Key → Key → Bool
+key_eq a b = nat_eq a.sli b.sli && (nat_eq a.source b.source && nat_eq a.minute b.minute)
+
+-- the cell of a key, by the names of its numbers
+abbrev pub cell_named : List (List ℕ) → List (List ℕ) → Key → Cell
+cell_named slis sources key = record { sli = named slis key.sli; source = named sources key.source; minute = key.minute }
+
+-- the numbers of a key have names
+pub record IsNamed (slis sources : List (List ℕ)) (key : Key) : Type 0 where
+  pub sli : key.sli < length slis
+  pub source : key.source < length sources
+
+abbrev pub AreNamed : List (List ℕ) → List (List ℕ) → List Key → Type 0
+AreNamed slis sources [] = Unit {0}
+AreNamed slis sources (key ∷ keys) = IsNamed slis sources key × AreNamed slis sources keys
+
+-- the key has the numbers of the cell's names, each of which stands once
+pub record IsKeyOf (slis sources : List (List ℕ)) (cell : Cell) (key : Key) : Type 0 where
+  pub sli : position (bytes_eq cell.sli) slis ≡ Some key.sli
+  pub source : position (bytes_eq cell.source) sources ≡ Some key.source
+  pub minute : key.minute ≡ cell.minute
+  pub slis_apart : IsDistinct bytes_eq slis
+  pub sources_apart : IsDistinct bytes_eq sources
+
+-- one of the cell's names has no number
+abbrev pub HasNoKey : List (List ℕ) → List (List ℕ) → Cell → Type 0
+HasNoKey slis sources cell = (position (bytes_eq cell.sli) slis ≡ None) ⊎ (position (bytes_eq cell.source) sources ≡ None)

@@ -1,0 +1,28 @@
+-- Current rows, and the cells that have room for a row.
+use Rattle.std.specs.Prelude.{ℕ, ◌≤◌, List, length, map, drop, zip}
+use Rattle.std.specs.List.{IsDistinct}
+use Rattle.sample_book.specs.declared.row.Cell.{Cell}
+use Rattle.sample_book.specs.declared.row.Row.{Row}
+use Rattle.sample_book.specs.declared.current_rows.Stored.{Stored}
+use Rattle.sample_book.specs.Rows.{same_cell}
+
+pub record Standing : Type 0 where
+  pub rows : List Row
+  pub room : List Cell
+
+-- the row of a cell, with what is stored for it
+abbrev pub row_stored : Cell → Stored → Row
+row_stored cell stored = record { sli = cell.sli; source = cell.source; minute = cell.minute; revision = stored.revision; amount = stored.amount }
+
+abbrev pub rows_stored : List Cell → List Stored → List Row
+rows_stored cells stored = map (λ place. row_stored place.0 place.1) (zip cells stored)
+
+-- The first cells have rows, the cells behind them have room.
+abbrev pub standing_of : List Cell → List Stored → Standing
+standing_of cells stored = record { rows = rows_stored cells stored; room = drop (length stored) cells }
+
+-- each cell that has room can get its row without memory, and no cell has two rows
+pub record IsInStep (cells : List Cell) (stored : List Stored) (capacity : ℕ) : Type 0 where
+  pub within : length stored ≤ length cells
+  pub ready : length cells ≤ capacity
+  pub apart : IsDistinct same_cell (rows_stored cells stored)

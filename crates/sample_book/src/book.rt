@@ -1,0 +1,160 @@
+// The book of samples and exclusions.
+ghost use Rattle.std.specs.Prelude.{◌≡◌, ◌≢◌, ◌+◌, ◌*◌, ◌^◌, ◌<◌, ◌≤◌, ◌++◌, ◌∷◌, [], true, Some, None, OnOk, OnErr, IfOk, length, slice_get};
+ghost use Rattle.sample_book.specs.Book.{Book};
+ghost use Rattle.sample_book.specs.Counting.{HaveForm, counts_of_minute, first_of};
+ghost use Rattle.sample_book.specs.Exclusions.{IsLive, exclusion_of, is_excluded, lifted};
+ghost use Rattle.sample_book.specs.Rows.{MayPutAs, cell_of, current_rows, room_for, verdict_of};
+
+use crate::current_rows::CurrentRows;
+use crate::exclusions::{Exclusion, Exclusions};
+use crate::row::{Row, RowVerdict};
+use crate::tally::{counts_at, first_of};
+use exact_fraction::{Decimal, Label, Op};
+use slice_method::{Counts, Reading};
+use std::alloc::{AllocError, Global};
+use std::marker::Model;
+
+/// The current row of each cell, and the exclusions that were made.
+#[derive(Drop)]
+pub struct SampleBook {
+    rows: CurrentRows,
+    exclusions: Exclusions,
+}
+
+impl Model for SampleBook {
+    ghost use Rattle.sample_book.specs.Book.{Book};
+
+    ghost Value = { Book };
+
+    ghost view = { λ a. record { rows = a.rows.rows; exclusions = a.exclusions.made; room = a.rows.room; spare = a.exclusions.spare } };
+}
+
+impl SampleBook {
+    /// A book without rows and exclusions.
+    pub fn new(alloc: Global) -> Result<SampleBook, AllocError>
+        ensures rows { IfOk result (λ book. book.rows ≡ []) }
+        ensures exclusions { IfOk result (λ book. book.exclusions ≡ []) }
+        ensures room { IfOk result (λ book. book.room ≡ []) }
+    {
+        Ok(SampleBook {
+            rows: CurrentRows::new(alloc),
+            exclusions: Exclusions::new(alloc),
+        })
+    }
+
+    /// What becomes of an arriving row.
+    pub fn check(&self, row: &Row) -> RowVerdict
+        ensures { result ≡ verdict_of self.now.rows row.now }
+    {
+        self.rows.check(row)
+    }
+
+    /// Gives room to the cells of these rows that have no current row, each once, in the order of the rows.
+    /// No other cell has room afterwards, and none after a refusal.
+    pub fn make_room(&mut self, rows: &[Row]) -> Result<(), AllocError>
+        ensures room { OnOk result (self.new.room ≡ room_for self.old.rows rows.now) }
+        ensures none { OnErr result (self.new.room ≡ []) }
+        ensures rows { self.new.rows ≡ self.old.rows }
+        ensures exclusions { self.new.exclusions ≡ self.old.exclusions }
+        ensures spare { self.new.spare ≡ self.old.spare }
+    {
+        self.rows.make_room(rows)
+    }
+
+    /// Puts a row that is newer than its cell's, or the first row of the first cell with room.
+    pub fn put(&mut self, row: &Row)
+        requires { MayPutAs (verdict_of self.old.rows row.now) self.old.room (cell_of row.now) }
+        // The rows are the current ones of the old rows and this one.
+        ensures rows { self.new.rows ≡ current_rows (self.old.rows ++ row.now ∷ []) }
+        ensures new { verdict_of self.old.rows row.now ≡ RowVerdict.New → self.old.room ≡ cell_of row.now ∷ self.new.room }
+        ensures newer { verdict_of self.old.rows row.now ≢ RowVerdict.New → self.new.room ≡ self.old.room }
+        ensures exclusions { self.new.exclusions ≡ self.old.exclusions }
+        ensures spare { self.new.spare ≡ self.old.spare }
+    {
+        self.rows.put(row);
+    }
+
+    /// The current row at a place of the list, from 0.
+    pub fn row_at(&self, place: u32) -> Option<Row>
+        ensures { result ≡ slice_get self.now.rows place }
+    {
+        self.rows.at(place as usize)
+    }
+
+    /// Makes room for so many exclusions.
+    pub fn reserve(&mut self, places: u32) -> Result<(), AllocError>
+        ensures spare { OnOk result (places ≤ self.new.spare) }
+        ensures rows { self.new.rows ≡ self.old.rows }
+        ensures exclusions { self.new.exclusions ≡ self.old.exclusions }
+        ensures room { self.new.room ≡ self.old.room }
+    {
+        self.exclusions.reserve(places as usize)
+    }
+
+    /// Adds an exclusion behind the others. It is live.
+    pub fn exclude(&mut self, value: Exclusion)
+        requires spare { 0 < self.old.spare }
+        requires unused { exclusion_of self.old.exclusions value.id ≡ None }
+        ensures exclusions { self.new.exclusions ≡ self.old.exclusions ++ (value, true) ∷ [] }
+        ensures spare { self.old.spare ≤ self.new.spare + 1 }
+        ensures rows { self.new.rows ≡ self.old.rows }
+        ensures room { self.new.room ≡ self.old.room }
+    {
+        self.exclusions.exclude(value);
+    }
+
+    /// Lifts the exclusion of an id.
+    pub fn lift(&mut self, id: Label)
+        requires { IsLive self.old.exclusions id }
+        ensures exclusions { self.new.exclusions ≡ lifted self.old.exclusions id }
+        ensures spare { self.new.spare ≡ self.old.spare }
+        ensures rows { self.new.rows ≡ self.old.rows }
+        ensures room { self.new.room ≡ self.old.room }
+    {
+        self.exclusions.lift(id);
+    }
+
+    /// The exclusion of an id, and whether it is live.
+    pub fn exclusion(&self, id: Label) -> Option<(Exclusion, bool)>
+        ensures { result ≡ exclusion_of self.now.exclusions id }
+    {
+        self.exclusions.find(id)
+    }
+
+    /// The exclusion at a place of the list, from 0, and whether it is live.
+    pub fn exclusion_at(&self, place: u32) -> Option<(Exclusion, bool)>
+        ensures { result ≡ slice_get self.now.exclusions place }
+    {
+        self.exclusions.at(place as usize)
+    }
+
+    /// Whether a live exclusion of the objective has the minute.
+    pub fn is_excluded(&self, slo: Label, minute: u32) -> bool
+        ensures { result ≡ is_excluded self.now.exclusions slo minute }
+    {
+        self.exclusions.is_excluded(slo, minute)
+    }
+
+    /// The first current row of an indicator.
+    pub fn cell_of(&self, sli: Label) -> Option<Row>
+        ensures { result ≡ first_of self.now.rows sli }
+    {
+        first_of(&self.rows, sli)
+    }
+
+    /// The sums of good and total over the current rows of an indicator at a minute, before exclusion.
+    pub fn counts_at(
+        &self,
+        sli: Label,
+        reading: Reading,
+        op: Op,
+        value: Decimal,
+        minute: u32,
+    ) -> Counts
+        requires form { HaveForm reading self.now.rows sli minute }
+        requires few { length self.now.rows ≤ 4 * 10 ^ 6 }
+        ensures { result ≡ counts_of_minute reading op value self.now.rows sli minute }
+    {
+        counts_at(&self.rows, sli, reading, op, value, minute)
+    }
+}

@@ -1,0 +1,20 @@
+//! Samples that arrive late, repeated and corrected, and the exclusions that are made afterwards.
+//! Stands on `exact_fraction`, `indexmap`, `slice_method` and `slo_terms`.
+//! Promises of each cell the row of the greatest revision, and which minutes are excluded, over all that ever came.
+#![tactic(auto)]
+
+mod book;
+mod cells;
+mod current_rows;
+mod exclusions;
+mod names;
+mod row;
+mod tally;
+
+pub use book::SampleBook;
+pub use exclusions::Exclusion;
+pub use row::{Cell, Row, RowVerdict};
+pub use slice_method::Amount;
+
+#[cfg(test)]
+mod tests;

@@ -1,0 +1,46 @@
+-- What is kept of the counts of each slice.
+use Rattle.std.proofs.Common.{◌≡◌, ◌≢◌, ◌⊎◌, ℕ, ◌≤◌, nat_eq, true, false, inl, inr, sym, ap, subst, refl}
+use Rattle.std.proofs.lemmas.Cmp.{nat_eq_equiv}
+use Rattle.std.proofs.lemmas.Bool.Decides.{eqb_tells}
+use Rattle.slice_method.specs.declared.amount.Counts.{Counts}
+use Rattle.slice_method.specs.declared.method.Method.{Method}
+use Rattle.slice_method.specs.Leaves.{leaf}
+use Rattle.window_sums.specs.Slices.{AreFew, AreSound, CountedDays, counts_after, counts_of, exchanged, slice_of}
+use Rattle.window_sums.proofs.SumFacts.{sum_over-one, sum_over-same}
+
+-- one place has no more than all of them
+pub few-one : (f : ℕ → ℕ) → AreFew f → (k : ℕ) → f k ≤ 4000000000000000
+few-one f few k = subst (λ n. n ≤ 4000000000000000) (sum_over-one f k) (few k 1)
+
+few-same : (f g : ℕ → ℕ) → ((k : ℕ) → f k ≡ g k) → AreFew f → AreFew g
+few-same f g same few first count = subst (λ n. n ≤ 4000000000000000) (sum_over-same f g same first count) (few first count)
+
+-- the same counts are as sound
+pub sound-same : (method : Method) (f g : ℕ → Counts) → ((k : ℕ) → f k ≡ g k) → AreSound method f → AreSound method g
+sound-same method f g same sound = record {
+  parts = λ k. subst (λ (c : Counts). c.good ≤ c.total) (same k) (sound.parts k);
+  events = few-same (λ k. (f k).total) (λ k. (g k).total) (λ k. ap (λ (c : Counts). c.total) (same k)) sound.events;
+  leaves = few-same (λ k. (leaf method (f k)).den) (λ k. (leaf method (g k)).den) (λ k. ap (λ (c : Counts). (leaf method c).den) (same k)) sound.leaves;
+}
+
+-- the counts of the slice that was changed
+pub after-here : (sums : CountedDays) (minute : ℕ) (before after : Counts) →
+    counts_after sums minute before after (slice_of sums.method minute) ≡ exchanged (counts_of sums (slice_of sums.method minute)) before after
+after-here sums minute before after = rw (nat_eq_equiv.refl (slice_of sums.method minute)) refl
+
+-- a change leaves sound counts where it leaves a sound slice and few events
+pub sound-after : (sums : CountedDays) (minute : ℕ) (before after : Counts) → AreSound sums.method (counts_of sums) →
+    (counts_after sums minute before after (slice_of sums.method minute)).good ≤ (counts_after sums minute before after (slice_of sums.method minute)).total →
+    AreFew (λ k. (counts_after sums minute before after k).total) →
+    AreFew (λ k. (leaf sums.method (counts_after sums minute before after k)).den) →
+    AreSound sums.method (counts_after sums minute before after)
+sound-after sums minute before after sound here events leaves = record {
+  parts = λ k. by k (eqb_tells k (slice_of sums.method minute));
+  events = events;
+  leaves = leaves;
+}
+  where
+    by : (k : ℕ) → ((nat_eq k (slice_of sums.method minute) ≡ true) × (k ≡ slice_of sums.method minute)) ⊎ ((nat_eq k (slice_of sums.method minute) ≡ false) × (k ≢ slice_of sums.method minute)) →
+        (counts_after sums minute before after k).good ≤ (counts_after sums minute before after k).total
+    by k (inl same) = subst (λ j. (counts_after sums minute before after j).good ≤ (counts_after sums minute before after j).total) (sym same.1) here
+    by k (inr other) = rw other.0 (sound.parts k)

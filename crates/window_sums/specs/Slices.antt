@@ -1,0 +1,91 @@
+-- The counts of each slice of time, kept day by day.
+use Rattle.std.specs.Prelude.{ℕ, Bool, ◌+◌, ◌-◌, ◌*◌, ◌/◌, ◌%◌, ◌^◌, ◌≤◌, ◌≡◌, ◌==◌, nat_eq, is_some, List, [], All, length, unwrap_or, slice_index_or, slice_set, if◌then◌else◌}
+use Rattle.std.specs.Int.{◌∣◌}
+use Rattle.std.specs.Map.{lookup, values_of}
+use Rattle.slice_method.specs.declared.amount.Counts.{Counts}
+use Rattle.slice_method.specs.declared.method.Method.{Method}
+use Rattle.slice_method.specs.declared.method.Method.TheVariants.{Occurrences, Timeslices, RatioTimeslices}
+use Rattle.slice_method.specs.Leaves.{leaf}
+use Rattle.slo_terms.specs.Sums.{sum_over}
+
+-- how many minutes a slice has (OpenSLO v1, `timeSliceWindow`); events are counted minute by minute
+abbrev pub width_of : Method → ℕ
+width_of Occurrences = 1
+width_of (Timeslices width target) = width
+width_of (RatioTimeslices width) = width
+
+-- how many slices a day has
+abbrev pub slices_a_day : Method → ℕ
+slices_a_day method = 24 * (60 / width_of method)
+
+-- the day that a minute lies in
+abbrev pub day_of : ℕ → ℕ
+day_of minute = minute / 1440
+
+-- the slice that a minute lies in
+abbrev pub slice_of : Method → ℕ → ℕ
+slice_of method minute = minute / width_of method
+
+-- The method, and of each day that is there the counts of its slices, in the order in which the days came.
+pub record CountedDays : Type 0 where
+  pub method : Method
+  pub days : List (ℕ × List Counts)
+
+abbrev pub no_counts : Counts
+no_counts = record { good = 0; total = 0 }
+
+-- the counts of the slices of a day; none where the day isn't there
+abbrev pub slices_of : List (ℕ × List Counts) → ℕ → List Counts
+slices_of days day = unwrap_or (lookup (nat_eq day) days) []
+
+-- the counts of a slice
+abbrev pub counts_of : CountedDays → ℕ → Counts
+counts_of sums slice =
+    slice_index_or (slices_of sums.days (slice / slices_a_day sums.method)) (slice % slices_a_day sums.method) no_counts
+
+-- whether a day is there
+abbrev pub has_day : CountedDays → ℕ → Bool
+has_day sums day = is_some (lookup (nat_eq day) sums.days)
+
+-- counts that lose `before` and gain `after`
+abbrev pub exchanged : Counts → Counts → Counts → Counts
+exchanged counts before after =
+    record { good = counts.good - before.good + after.good; total = counts.total - before.total + after.total }
+
+-- the slices of a day, of which the counts at one place lose `before` and gain `after`
+abbrev pub exchanged_at : List Counts → ℕ → Counts → Counts → List Counts
+exchanged_at slices place before after = slice_set slices place (exchanged (slice_index_or slices place no_counts) before after)
+
+-- the counts of each slice once the slice of a minute has lost `before` and gained `after`
+abbrev pub counts_after : CountedDays → ℕ → Counts → Counts → ℕ → Counts
+counts_after sums minute before after slice =
+    if slice == slice_of sums.method minute then exchanged (counts_of sums slice) before after else counts_of sums slice
+
+-- the good events are a part of all
+abbrev pub IsPart : Counts → Type 0
+IsPart counts = counts.good ≤ counts.total
+
+-- the most events of all slices together: with that many, burn rates fit 128 bits
+abbrev pub most_events : ℕ
+most_events = 4 * 10 ^ 15
+
+-- What f gives for all slices together is at most that: so it is over any slices, however many.
+abbrev pub AreFew : (ℕ → ℕ) → Type 0
+AreFew f = (first count : ℕ) → sum_over f first count ≤ most_events
+
+-- what is kept of the counts of each slice
+pub record AreSound (method : Method) (counts : ℕ → Counts) : Type 0 where
+  pub parts : (slice : ℕ) → IsPart (counts slice)
+  pub events : AreFew (λ slice. (counts slice).total)
+  pub leaves : AreFew (λ slice. (leaf method (counts slice)).den)
+
+-- all slices together have so many events at most, and so does the den of their leaves
+pub record HasAtMost (method : Method) (counts : ℕ → Counts) (most : ℕ) : Type 0 where
+  pub events : (first count : ℕ) → sum_over (λ slice. (counts slice).total) first count ≤ most
+  pub leaves : (first count : ℕ) → sum_over (λ slice. (leaf method (counts slice)).den) first count ≤ most
+
+-- what is kept of the sums
+pub record IsKept (sums : CountedDays) : Type 0 where
+  pub divides : width_of sums.method ∣ 60
+  pub whole : All (λ slices. length slices ≡ slices_a_day sums.method) (values_of sums.days)
+  pub sound : AreSound sums.method (counts_of sums)

@@ -1,0 +1,56 @@
+// The counts of the slices of one day.
+ghost use Rattle.std.specs.Prelude.{◌≡◌, ◌+◌, ◌-◌, ◌<◌, ◌≤◌, ◌^◌, IfOk, length, replicate, slice_index_or};
+ghost use Rattle.window_sums.specs.Slices.{exchanged, exchanged_at, no_counts};
+
+use slice_method::Counts;
+use std::alloc::{AllocError, Global};
+use std::marker::Model;
+
+const NOTHING: Counts = Counts { good: 0, total: 0 };
+
+#[derive(Drop)]
+pub(crate) struct Day {
+    slices: Vec<Counts>,
+}
+
+impl Model for Day {
+    ghost use Rattle.std.specs.Prelude.{List};
+    ghost use Rattle.slice_method.specs.declared.amount.Counts.{Counts};
+
+    ghost Value = { List Counts };
+
+    ghost view = { λ a. a.slices.items };
+}
+
+impl Day {
+    // A day in which nothing was counted.
+    pub(crate) fn empty(alloc: Global, slices: usize) -> Result<Day, AllocError>
+        ensures { IfOk result (λ day. day ≡ replicate slices NOTHING) }
+    {
+        let slices = vec![in alloc; NOTHING; slices]?;
+        Ok(Day { slices })
+    }
+
+    pub(crate) fn at(&self, place: usize) -> Counts
+        requires { place < length self.now }
+        ensures { result ≡ slice_index_or self.now place no_counts }
+    {
+        self.slices[place]
+    }
+
+    // Takes `before` from the counts at a place and adds `after`.
+    pub(crate) fn exchange(&mut self, place: usize, before: Counts, after: Counts)
+        requires within { place < length self.old }
+        requires good { before.good ≤ (slice_index_or self.old place no_counts).good }
+        requires total { before.total ≤ (slice_index_or self.old place no_counts).total }
+        requires good_fits { (exchanged (slice_index_or self.old place no_counts) before after).good < 2 ^ 64 }
+        requires total_fits { (exchanged (slice_index_or self.old place no_counts) before after).total < 2 ^ 64 }
+        ensures { self.new ≡ exchanged_at self.old place before after }
+    {
+        let counts = self.at(place);
+        self.slices[place] = Counts {
+            good: counts.good - before.good + after.good,
+            total: counts.total - before.total + after.total,
+        };
+    }
+}

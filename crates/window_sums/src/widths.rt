@@ -1,0 +1,40 @@
+// How a method cuts time into slices.
+ghost use Rattle.std.specs.Prelude.{◌≡◌, ◌<◌, ◌≤◌, ◌%◌};
+ghost use Rattle.std.specs.Int.{◌∣◌};
+ghost use Rattle.window_sums.specs.Slices.{slice_of, slices_a_day, width_of};
+
+use slice_method::Method;
+
+const MINUTES_AN_HOUR: u32 = 60;
+
+const HOURS_A_DAY: u32 = 24;
+
+// How many minutes a slice has.
+pub(crate) fn width_of(method: &Method) -> u32
+    requires { width_of method.now ∣ 60 }
+    ensures value { result ≡ width_of method.now }
+    ensures some { 0 < result }
+    ensures few { result ≤ 60 }
+{
+    match *method {
+        Method::Occurrences => 1,
+        Method::Timeslices { width, .. } | Method::RatioTimeslices { width } => width,
+    }
+}
+
+// How many slices a day has.
+pub(crate) fn slices_a_day(method: &Method) -> u32
+    requires { width_of method.now ∣ 60 }
+    ensures value { result ≡ slices_a_day method.now }
+    ensures some { 0 < result }
+{
+    HOURS_A_DAY * (MINUTES_AN_HOUR / width_of(method))
+}
+
+// The place of a minute's slice in its day.
+pub(crate) fn place_of(method: &Method, minute: u32) -> u32
+    requires { width_of method.now ∣ 60 }
+    ensures { result ≡ slice_of method.now minute % slices_a_day method.now }
+{
+    minute / width_of(method) % slices_a_day(method)
+}

@@ -1,0 +1,149 @@
+// Sums over slices by the counts of each.
+ghost use Rattle.std.specs.Prelude.{◌≡◌, ℕ, ◌+◌, ◌-◌, ◌<◌, ◌≤◌, ◌^◌, ◌==◌, ◌||◌, nat_eq, is_some, length, slice_index_or, IsTrue, [], OnOk, OnErr};
+ghost use Rattle.std.specs.Int.{◌∣◌};
+ghost use Rattle.std.specs.Map.{lookup, set_value};
+ghost use Rattle.slice_method.specs.Leaves.{leaf};
+ghost use Rattle.slo_terms.specs.Sums.{slice_from, slices_until, sum_of_slices, sum_over};
+ghost use Rattle.window_sums.specs.Slices.{AreFew, IsPart, counts_after, counts_of, day_of, exchanged, exchanged_at, has_day, most_events, no_counts, slice_of, slices_a_day, slices_of, width_of};
+
+use crate::day::Day;
+use crate::widths::{place_of, slices_a_day, width_of};
+use counted_steps::Steps;
+use exact_fraction::Leaf;
+use indexmap::IndexMap;
+use slice_method::{Counts, Method, leaf_of};
+use std::alloc::{AllocError, Global};
+use std::marker::Model;
+use std::sync::ledger::Ledger;
+
+const MINUTES_A_DAY: u32 = 1_440;
+
+const NOTHING: Counts = Counts { good: 0, total: 0 };
+
+/// The counts of each slice of time, from which sums over ranges are made. A slice of a day that
+/// isn't there has the counts (0, 0).
+#[derive(Drop)]
+pub struct WindowSums {
+    method: Method,
+    days: IndexMap<u32, Day>,
+}
+
+impl Model for WindowSums {
+    ghost use Rattle.window_sums.specs.Slices.{CountedDays, IsKept};
+
+    ghost Value = { CountedDays };
+
+    ghost view = { λ a. record { method = a.method; days = a.days.entries } };
+
+    ghost invariant = { λ a. IsKept (record { method = a.method; days = a.days.entries }) };
+}
+
+impl WindowSums {
+    /// Sums of a method, with no day. The width of the slices divides an hour. Takes no memory.
+    pub fn new(alloc: Global, method: Method) -> WindowSums
+        requires width { width_of method ∣ 60 }
+        ensures method { result.method ≡ method }
+        ensures days { result.days ≡ [] }
+    {
+        WindowSums {
+            method,
+            days: IndexMap::new(alloc),
+        }
+    }
+
+    /// Makes the day of a minute be there. After an error all is as before.
+    pub fn reserve(&mut self, minute: u32) -> Result<(), AllocError>
+        ensures method { self.new.method ≡ self.old.method }
+        ensures counts { (slice : ℕ) → counts_of self.new slice ≡ counts_of self.old slice }
+        ensures days { OnOk result ((day : ℕ) → has_day self.new day ≡ (has_day self.old day || day == day_of minute)) }
+        ensures unchanged { OnErr result (self.new ≡ self.old) }
+    {
+        let day = minute / MINUTES_A_DAY;
+        if self.days.contains_key(&day) {
+            return Ok(());
+        }
+        let alloc = *self.days.allocator();
+        let slices = Day::empty(alloc, slices_a_day(&self.method) as usize)?;
+        self.days.insert(day, slices)?;
+        Ok(())
+    }
+
+    /// Takes `before` from the counts of the slice of a minute, whose day is there, and adds
+    /// `after`. All else stays, and no memory is taken. All slices together then have at most
+    /// 4 * 10^15 events, and their leaves add up to no greater den.
+    pub fn change(&mut self, minute: u32, before: Counts, after: Counts)
+        requires day { IsTrue (has_day self.old (day_of minute)) }
+        requires good { before.good ≤ (counts_of self.old (slice_of self.old.method minute)).good }
+        requires total { before.total ≤ (counts_of self.old (slice_of self.old.method minute)).total }
+        requires part { IsPart (counts_after self.old minute before after (slice_of self.old.method minute)) }
+        requires events { AreFew (λ slice. (counts_after self.old minute before after slice).total) }
+        requires leaves { AreFew (λ slice. (leaf self.old.method (counts_after self.old minute before after slice)).den) }
+        ensures method { self.new.method ≡ self.old.method }
+        ensures counts { (slice : ℕ) → counts_of self.new slice ≡ counts_after self.old minute before after slice }
+        ensures days { (day : ℕ) → has_day self.new day ≡ has_day self.old day }
+    {
+        let day = minute / MINUTES_A_DAY;
+        let place = place_of(&self.method, minute) as usize;
+        exchange_in(&mut self.days, day, place, before, after);
+    }
+
+    /// The leaves of all slices that lie wholly in [from, to), added up, in at most one step for
+    /// each of them.
+    pub fn sum<L: Ledger>(&self, from: u32, to: u32, steps: &mut Steps<L>) -> Leaf
+        requires range { from ≤ to }
+        ensures value { result ≡ sum_of_slices (width_of self.now.method) (λ slice. leaf self.now.method (counts_of self.now slice)) from to }
+        ensures part { result.num ≤ result.den }
+        ensures few { result.den ≤ most_events }
+        ensures short { steps.new ≤ steps.old + (slices_until (width_of self.now.method) to - slice_from (width_of self.now.method) from) }
+    {
+        // Leaves are computed from counts here, and none is read that was kept: no step is taken.
+        let _untaken = steps;
+        let width = width_of(&self.method);
+        self.sum_from(from.div_ceil(width), to / width)
+    }
+
+    // The leaves of the slices from `first` up to `end`, added up.
+    fn sum_from(&self, first: u32, end: u32) -> Leaf
+        ensures num { result.num ≡ sum_over (λ slice. (leaf self.now.method (counts_of self.now slice)).num) first (end - first) }
+        ensures den { result.den ≡ sum_over (λ slice. (leaf self.now.method (counts_of self.now slice)).den) first (end - first) }
+        ensures part { result.num ≤ result.den }
+        ensures few { result.den ≤ most_events }
+    {
+        let method = &self.method;
+        let mut sum = Leaf { num: 0, den: 0 };
+        for slice in first..end {
+            let leaf = leaf_of(*method, self.counts(slice));
+            sum.num += leaf.num;
+            sum.den += leaf.den;
+        }
+        sum
+    }
+
+    // The counts of a slice.
+    fn counts(&self, slice: u32) -> Counts
+        ensures value { result ≡ counts_of self.now slice }
+        ensures part { result.good ≤ result.total }
+        ensures few { result.total ≤ most_events }
+    {
+        let slices = slices_a_day(&self.method);
+        match self.days.get(&(slice / slices)) {
+            Some(day) => day.at((slice % slices) as usize),
+            None => NOTHING,
+        }
+    }
+}
+
+// Takes `before` from the counts at a place of a day that is there, and adds `after`.
+fn exchange_in(days: &mut IndexMap<u32, Day>, day: u32, place: usize, before: Counts, after: Counts)
+    requires there { IsTrue (is_some (lookup (nat_eq day) days.old.entries)) }
+    requires within { place < length (slices_of days.old.entries day) }
+    requires good { before.good ≤ (slice_index_or (slices_of days.old.entries day) place no_counts).good }
+    requires total { before.total ≤ (slice_index_or (slices_of days.old.entries day) place no_counts).total }
+    requires good_fits { (exchanged (slice_index_or (slices_of days.old.entries day) place no_counts) before after).good < 2 ^ 64 }
+    requires total_fits { (exchanged (slice_index_or (slices_of days.old.entries day) place no_counts) before after).total < 2 ^ 64 }
+    ensures { days.new.entries ≡ set_value (nat_eq day) days.old.entries (exchanged_at (slices_of days.old.entries day) place before after) }
+{
+    let index = days.get_index_of(&day).unwrap();
+    let slices = &mut days[index];
+    slices.exchange(place, before, after);
+}
