@@ -320,13 +320,10 @@ fn checks_documents(rt: HostRuntime) -> Result<(), Fail> {
     ];
     for (text, status, line) in texts {
         let left = run_over(&rt, "check", text.as_bytes(), CALM)?;
-        let told = if status == 0 {
-            left.output.as_slice()
-        } else {
-            left.faults.as_slice()
-        };
+        let (output, faults) = if status == 0 { (line, "") } else { ("", line) };
         assert_eq!(rt; left.status, status, "at {text:?}");
-        assert_eq!(rt; told, line.as_bytes(), "at {text:?}");
+        assert_eq!(rt; left.output.as_slice(), output.as_bytes(), "at {text:?}");
+        assert_eq!(rt; left.faults.as_slice(), faults.as_bytes(), "at {text:?}");
     }
     let left = run_over(&rt, "check", b"a: \xff\n", CALM)?;
     assert_eq!(rt;
