@@ -5,20 +5,22 @@ use Rattle.std.specs.Prelude.{Result, Ok, Err}
 use Rattle.csv_rows.specs.Rows.{csv_rows}
 use Rattle.slo_terms.specs.Judged.{judged_from}
 use Rattle.slo_terms.proofs.JudgedLemmas.{AreKept-judged, IsFirstFault-judged, judged-AreKept, judged-IsFirstFault}
-use Rattle.slo_office.specs.Samples.{judge}
+use Rattle.sample_book.specs.declared.Row.{Row}
+use Rattle.slo_office.specs.Rows.{judge}
 use Rattle.slo_office.specs.BudgetText.{budget_lines}
 use Rattle.slo_office.specs.Answer.{IsBudgetAnswer}
 use Rattle.slo_office.specs.declared.command.BudgetOrder.{BudgetOrder}
-use Rattle.slo_office.specs.declared.sample.Sample.{Sample}
 use Rattle.slo_office.specs.declared.ending.RecordFault.{RecordFault}
 use Rattle.slo_office.specs.declared.ending.Refusal.{Refusal}
 use Rattle.slo_office.specs.declared.ending.Refusal.TheVariants.{BadRecord, TooLarge, Yaml}
+use Rattle.slo_office.specs.declared.ending.Stop.{Stop}
+use Rattle.slo_office.specs.declared.ending.Stop.TheVariants.{Refused}
 use Rattle.slo_office.specs.declared.input.TheConstants.{INPUT_LIMIT}
 
-pub answer-lines : (order : BudgetOrder) (bytes : List ℕ) (samples : List Sample) (text : List ℕ) →
-    length bytes ≤ INPUT_LIMIT → judged_from judge [] 1 (csv_rows bytes) ≡ Ok samples → text ≡ budget_lines order samples →
+pub answer-lines : (order : BudgetOrder) (bytes : List ℕ) (came : List Row) (text : List ℕ) →
+    length bytes ≤ INPUT_LIMIT → judged_from judge [] 1 (csv_rows bytes) ≡ Ok came → text ≡ budget_lines order came →
     IsBudgetAnswer order bytes (Ok text)
-answer-lines order bytes samples text few judged lines = (few, samples, AreKept-judged judge (csv_rows bytes) samples judged, lines)
+answer-lines order bytes came text few judged lines = (few, came, AreKept-judged judge (csv_rows bytes) came judged, lines)
 
 pub answer-broken : (order : BudgetOrder) (bytes : List ℕ) (number : ℕ) (fault : RecordFault) (refusal : Refusal) →
     length bytes ≤ INPUT_LIMIT → judged_from judge [] 1 (csv_rows bytes) ≡ Err (number, fault) → BadRecord number fault ≡ refusal →
@@ -27,16 +29,21 @@ answer-broken order bytes number fault refusal few judged is =
     let P : Refusal → Type 0 = λ r. IsBudgetAnswer order bytes (Err r) in
     subst P is (few, IsFirstFault-judged judge (csv_rows bytes) number fault judged)
 
+-- the refusal of a record that breaks a rule
+pub same_refusal : {T : Type 0} (number place : ℕ) (fault what : RecordFault) (refusal : Refusal) →
+    ◌≡◌ {A = Result T Stop} (Err (Refused (BadRecord number fault))) (Err (Refused refusal)) → number ≡ place → fault ≡ what → BadRecord place what ≡ refusal
+same_refusal number place fault what refusal e n f = cc (e, n, f)
+
 -- An input has one answer at most.
 pub answer-unique : (order : BudgetOrder) (bytes : List ℕ) (a b : Result (List ℕ) Refusal) → IsBudgetAnswer order bytes a → IsBudgetAnswer order bytes b → a ≡ b
-answer-unique order bytes (Ok text) (Ok other) (few, samples, kept, lines) (more, others, held, rows) =
-    let p = judged-AreKept judge (csv_rows bytes) samples kept in
-    let q = judged-AreKept judge (csv_rows bytes) others held in
-    let same : samples ≡ others = cc (p, q) in
+answer-unique order bytes (Ok text) (Ok other) (few, came, kept, lines) (more, more_came, held, rows) =
+    let p = judged-AreKept judge (csv_rows bytes) came kept in
+    let q = judged-AreKept judge (csv_rows bytes) more_came held in
+    let same : came ≡ more_came = cc (p, q) in
     ap Ok (lines ∙ ap (budget_lines order) same ∙ sym rows)
 answer-unique order bytes (Ok text) (Err TooLarge) a b = absurd (omega (arith, a.0, b))
-answer-unique order bytes (Ok text) (Err (BadRecord number fault)) (few, samples, kept, lines) (more, first) =
-    let p = judged-AreKept judge (csv_rows bytes) samples kept in
+answer-unique order bytes (Ok text) (Err (BadRecord number fault)) (few, came, kept, lines) (more, first) =
+    let p = judged-AreKept judge (csv_rows bytes) came kept in
     let q = judged-IsFirstFault judge (csv_rows bytes) number fault first in
     absurd (cc (p, q))
 answer-unique order bytes (Ok text) (Err (Yaml line word)) a b = absurd b
@@ -46,8 +53,8 @@ answer-unique order bytes (Err (Yaml line word)) other a b = absurd a
 answer-unique order bytes (Err TooLarge) (Ok text) a b = absurd (omega (arith, a, b.0))
 answer-unique order bytes (Err TooLarge) (Err TooLarge) a b = refl
 answer-unique order bytes (Err TooLarge) (Err (BadRecord number fault)) a b = absurd (omega (arith, a, b.0))
-answer-unique order bytes (Err (BadRecord number fault)) (Ok text) (more, first) (few, samples, kept, lines) =
-    let p = judged-AreKept judge (csv_rows bytes) samples kept in
+answer-unique order bytes (Err (BadRecord number fault)) (Ok text) (more, first) (few, came, kept, lines) =
+    let p = judged-AreKept judge (csv_rows bytes) came kept in
     let q = judged-IsFirstFault judge (csv_rows bytes) number fault first in
     absurd (cc (p, q))
 answer-unique order bytes (Err (BadRecord number fault)) (Err TooLarge) a b = absurd (omega (arith, a.0, b))
@@ -61,9 +68,9 @@ answer-unique order bytes (Err (BadRecord number fault)) (Err (BadRecord other c
 pub answer-exists : (order : BudgetOrder) (bytes : List ℕ) → (answer : Result (List ℕ) Refusal) × IsBudgetAnswer order bytes answer
 answer-exists order bytes = by_size (leb_tells (length bytes) INPUT_LIMIT)
   where
-    by_rows : length bytes ≤ INPUT_LIMIT → (r : Result (List Sample) (ℕ × RecordFault)) → judged_from judge [] 1 (csv_rows bytes) ≡ r →
+    by_rows : length bytes ≤ INPUT_LIMIT → (r : Result (List Row) (ℕ × RecordFault)) → judged_from judge [] 1 (csv_rows bytes) ≡ r →
         (answer : Result (List ℕ) Refusal) × IsBudgetAnswer order bytes answer
-    by_rows few (Ok samples) e = (Ok (budget_lines order samples), answer-lines order bytes samples (budget_lines order samples) few e refl)
+    by_rows few (Ok came) e = (Ok (budget_lines order came), answer-lines order bytes came (budget_lines order came) few e refl)
     by_rows few (Err first) e = (Err (BadRecord first.0 first.1), answer-broken order bytes first.0 first.1 (BadRecord first.0 first.1) few e refl)
 
     by_size : ((leb (length bytes) INPUT_LIMIT ≡ true) × (length bytes ≤ INPUT_LIMIT)) ⊎ ((leb (length bytes) INPUT_LIMIT ≡ false) × (INPUT_LIMIT < length bytes)) →

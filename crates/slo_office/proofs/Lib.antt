@@ -1,6 +1,7 @@
 pub mod InputLemmas
-pub mod EventLemmas
-pub mod TableLemmas
-pub mod AnswerLemmas
 pub mod EndingLemmas
 pub mod CheckLemmas
+pub mod CurrentLemmas
+pub mod TableLemmas
+pub mod EventLemmas
+pub mod AnswerLemmas

@@ -2,7 +2,7 @@
 use Rattle.std.specs.Prelude.{◌≡◌, ℕ, ◌<◌, ◌≤◌, List, length, Option, Some, None, Result, Ok, Err, ⊤}
 use Rattle.csv_rows.specs.Rows.{csv_rows}
 use Rattle.slo_terms.specs.Judged.{AreKept, IsFirstFault}
-use Rattle.slo_office.specs.Samples.{judge}
+use Rattle.slo_office.specs.Rows.{judge}
 use Rattle.slo_office.specs.BudgetText.{budget_lines}
 use Rattle.slo_office.specs.CheckText.{check_lines}
 use Rattle.std.specs.Str.{IsUtf8}
@@ -13,18 +13,18 @@ use Rattle.yaml_subset.specs.Fault.{IsFault}
 use Rattle.slo_office.specs.declared.command.BudgetOrder.{BudgetOrder}
 use Rattle.slo_office.specs.declared.command.Command.{Command}
 use Rattle.slo_office.specs.declared.command.Command.TheVariants.{Budget, Check}
-use Rattle.slo_office.specs.declared.sample.Sample.{Sample}
+use Rattle.sample_book.specs.declared.Row.{Row}
 use Rattle.slo_office.specs.declared.ending.Refusal.{Refusal}
 use Rattle.slo_office.specs.declared.ending.Refusal.TheVariants.{TooLarge, BadRecord, Yaml}
 use Rattle.slo_office.specs.declared.ending.YamlWord.{YamlWord}
 use Rattle.slo_office.specs.declared.ending.YamlWord.TheVariants as yaml
 use Rattle.slo_office.specs.declared.input.TheConstants.{INPUT_LIMIT}
 
--- The lines for the samples of its records, or why the input is refused: its size is tried first, and
+-- The lines for the rows of its records, or why the input is refused: its size is tried first, and
 -- then the records in their order.
 abbrev pub IsBudgetAnswer : BudgetOrder → List ℕ → Result (List ℕ) Refusal → Type 0
 IsBudgetAnswer order bytes (Ok text) =
-    (length bytes ≤ INPUT_LIMIT) × (samples : List Sample) × AreKept judge (csv_rows bytes) samples × (text ≡ budget_lines order samples)
+    (length bytes ≤ INPUT_LIMIT) × (rows : List Row) × AreKept judge (csv_rows bytes) rows × (text ≡ budget_lines order rows)
 IsBudgetAnswer order bytes (Err TooLarge) = INPUT_LIMIT < length bytes
 IsBudgetAnswer order bytes (Err (BadRecord number fault)) = (length bytes ≤ INPUT_LIMIT) × IsFirstFault judge (csv_rows bytes) number fault
 IsBudgetAnswer order bytes (Err (Yaml line word)) = ⊥

@@ -1,30 +1,26 @@
 -- The lines that `budget` prints.
-use Rattle.std.specs.Prelude.{ℕ, [], ◌∷◌, ◌++◌, List, length, codes, Option, Some}
+use Rattle.std.specs.Prelude.{ℕ, [], ◌∷◌, ◌++◌, List, length, codes, count_by, Option, Some}
 use Rattle.std.specs.Fmt.{decimal}
 use Rattle.exact_fraction.specs.declared.Leaf.{Leaf}
 use Rattle.exact_fraction.specs.Ratio.{Ratio, fraction_text}
-use Rattle.slo_terms.specs.Rows.{current}
+use Rattle.sample_book.specs.declared.Row.{Row}
+use Rattle.sample_book.specs.Rows.{current_rows}
 use Rattle.slo_terms.specs.Sums.{amount_at, sum_of_slices}
 use Rattle.slo_terms.specs.Budget.{burn_of, remaining_of}
-use Rattle.slo_office.specs.Samples.{same_cell}
+use Rattle.slo_office.specs.Rows.{good_of, is_newer, is_repeated, is_superseded, total_of, verdicts}
 use Rattle.slo_office.specs.declared.command.BudgetOrder.{BudgetOrder}
-use Rattle.slo_office.specs.declared.sample.Sample.{Sample}
 
 -- a word, a text and a line feed, and then more lines
 abbrev pub line : List ℕ → List ℕ → List ℕ → List ℕ
 line word text more = word ++ (text ++ 10 ∷ more)
 
--- the current samples: of each cell the one of the greatest revision
-abbrev pub current_samples : List Sample → List Sample
-current_samples samples = current same_cell (λ s. s.revision) samples
+-- the events of a minute: those of its rows, of all sources
+abbrev pub events_at : List Row → ℕ → Leaf
+events_at rows minute = record { num = amount_at (λ r. r.minute) good_of rows minute; den = amount_at (λ r. r.minute) total_of rows minute }
 
--- the events of a minute: those of its samples, of all sources
-abbrev pub events_at : List Sample → ℕ → Leaf
-events_at samples minute = record { num = amount_at (λ s. s.minute) (λ s. s.good) samples minute; den = amount_at (λ s. s.minute) (λ s. s.total) samples minute }
-
--- the good and total events of the minutes in the order's range
-abbrev pub events_of : BudgetOrder → List Sample → Leaf
-events_of order samples = sum_of_slices 1 (events_at (current_samples samples)) order.from order.to
+-- the good and total events of the minutes in the order's range, by the current rows
+abbrev pub events_in : BudgetOrder → List Row → Leaf
+events_in order rows = sum_of_slices 1 (events_at (current_rows rows)) order.from order.to
 
 -- the budget of a sum of events, or that there is none
 abbrev pub lines_with : Leaf → Option Ratio → Option Ratio → List ℕ
@@ -36,13 +32,28 @@ lines_with sum _ _ = codes "no data\n"
 unfoldable pub sum_lines : ℕ → Leaf → List ℕ
 sum_lines target sum = lines_with sum (burn_of sum target) (remaining_of sum target)
 
--- all lines. No sample corrects, repeats or is superseded by another, since a cell that comes again is refused.
-abbrev pub lines_of : ℕ → ℕ → Leaf → List ℕ
-lines_of cells target sum =
-    line (codes "cells ") (decimal cells)
-    (line (codes "corrected ") (codes "0") (line (codes "repeated ") (codes "0") (line (codes "superseded ") (codes "0")
+-- how many cells there are, and how many rows corrected, repeated or were superseded by another
+pub record Tallies : Type 0 where
+  pub cells : ℕ
+  pub corrected : ℕ
+  pub repeated : ℕ
+  pub superseded : ℕ
+
+abbrev pub tallies_of : List Row → Tallies
+tallies_of rows = record {
+  cells = length (current_rows rows);
+  corrected = count_by is_newer (verdicts rows);
+  repeated = count_by is_repeated (verdicts rows);
+  superseded = count_by is_superseded (verdicts rows);
+}
+
+-- all lines
+abbrev pub lines_of : Tallies → ℕ → Leaf → List ℕ
+lines_of tallies target sum =
+    line (codes "cells ") (decimal tallies.cells) (line (codes "corrected ") (decimal tallies.corrected)
+    (line (codes "repeated ") (decimal tallies.repeated) (line (codes "superseded ") (decimal tallies.superseded)
     (sum_lines target sum))))
 
--- What `budget` prints for these samples.
-abbrev pub budget_lines : BudgetOrder → List Sample → List ℕ
-budget_lines order samples = lines_of (length (current_samples samples)) order.target (events_of order samples)
+-- What `budget` prints for these rows.
+abbrev pub budget_lines : BudgetOrder → List Row → List ℕ
+budget_lines order rows = lines_of (tallies_of rows) order.target (events_in order rows)

@@ -2,7 +2,10 @@
 use Rattle.std.specs.Prelude.{ℕ, List, [], ◌++◌, codes, ◌==◌, if◌then◌else◌}
 use Rattle.std.specs.Fmt.{decimal}
 use Rattle.slo_office.specs.declared.ending.RecordFault.{RecordFault}
-use Rattle.slo_office.specs.declared.ending.RecordFault.TheVariants.{Fields, Field, Again}
+use Rattle.slo_office.specs.declared.ending.RecordFault.TheVariants.{Fields, Field, Conflict}
+use Rattle.exact_fraction.specs.DecimalText.{decimal_text}
+use Rattle.slice_method.specs.declared.Amount.{Amount}
+use Rattle.slice_method.specs.declared.Amount.TheVariants.{Counts, Value}
 use Rattle.slo_office.specs.declared.ending.Refusal.{Refusal}
 use Rattle.slo_office.specs.declared.ending.Refusal.TheVariants.{TooLarge, BadRecord, Yaml}
 use Rattle.slo_office.specs.declared.ending.YamlWord.{YamlWord}
@@ -11,10 +14,16 @@ use Rattle.yaml_subset.specs.declared.which.Which.{Which}
 use Rattle.yaml_subset.specs.declared.which.Which.TheVariants as row
 use Rattle.slo_office.specs.declared.ending.TheConstants.{USAGE, READ_FAULT, WRITE_FAULT, NO_MEMORY}
 
-abbrev pub fault_word_of : RecordFault → List ℕ
-fault_word_of Fields = codes "fields"
-fault_word_of Field = codes "row"
-fault_word_of Again = codes "again"
+-- the words for a conflict with a kept amount
+abbrev pub conflict_text_of : Amount → List ℕ
+conflict_text_of (Counts part total) = codes "conflict " ++ (decimal part ++ (codes "," ++ decimal total))
+conflict_text_of (Value value) = codes "conflict " ++ decimal_text value
+
+-- the words for a fault of a record
+abbrev pub fault_text_of : RecordFault → List ℕ
+fault_text_of Fields = codes "fields"
+fault_text_of Field = codes "row"
+fault_text_of (Conflict kept) = conflict_text_of kept
 
 -- the word for a row of the table of refusals
 abbrev pub row_word_of : Which → List ℕ
@@ -38,7 +47,7 @@ yaml_word_of (yaml.Form which) = row_word_of which
 -- the line for an input that is refused
 abbrev pub refusal_line_of : Refusal → List ℕ
 refusal_line_of TooLarge = codes "slo_office: input too large\n"
-refusal_line_of (BadRecord number fault) = codes "slo_office: record " ++ (decimal number ++ (codes ": " ++ (fault_word_of fault ++ codes "\n")))
+refusal_line_of (BadRecord number fault) = codes "slo_office: record " ++ (decimal number ++ (codes ": " ++ (fault_text_of fault ++ codes "\n")))
 refusal_line_of (Yaml line word) = codes "slo_office: yaml " ++ (decimal line ++ (codes " " ++ (yaml_word_of word ++ codes "\n")))
 
 -- the line for a status without further words

@@ -1,8 +1,9 @@
 pub mod Inputs
 pub mod Commands
-pub mod Samples
+pub mod Rows
 pub mod BudgetText
 pub mod CheckText
 pub mod Endings
 pub mod Answer
 pub mod Runs
+pub mod Tables

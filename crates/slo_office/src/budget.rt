@@ -2,11 +2,11 @@
 ghost use Rattle.std.specs.Prelude.{◌≡◌, ◌≢◌, ◌≤◌, ◌<◌, Ok, Err, IfOk, length, string_bytes};
 ghost use Rattle.slo_office.specs.Answer.{IsBudgetAnswer};
 
-use crate::budget_text::budget_text;
+use crate::budget_text::{budget_text, events_within};
 use crate::command::BudgetOrder;
 use crate::ending::{Refusal, Stop};
 use crate::input::INPUT_LIMIT;
-use crate::table::{TableFault, read_samples};
+use crate::table::{TableFault, read_rows};
 use burn_core::WHOLE;
 use std::alloc::Global;
 
@@ -19,14 +19,16 @@ pub fn answer_budget(alloc: Global, order: BudgetOrder, bytes: &[u8]) -> Result<
     ensures refused { (refusal : Refusal) → result ≡ Err (Stop.Refused refusal) → IsBudgetAnswer order bytes.now (Err refusal) }
     ensures unread { result ≢ Err Stop.ReadFault }
 {
-    let samples = match read_samples(alloc, bytes) {
-        Ok(samples) => samples,
+    let table = match read_rows(alloc, bytes) {
+        Ok(table) => table,
         Err(TableFault::Broken { number, fault }) => {
             return Err(Stop::Refused(Refusal::BadRecord { number, fault }));
         }
         Err(TableFault::NoMemory) => return Err(Stop::NoMemory),
     };
-    match budget_text(alloc, order, &samples) {
+    let events = events_within(&table.book, order.from, order.to);
+    let tallies = (table.corrected, table.repeated, table.superseded);
+    match budget_text(alloc, events.cells, tallies, order.target, events.sum) {
         Ok(text) => Ok(text),
         Err(_) => Err(Stop::NoMemory),
     }

@@ -1,7 +1,8 @@
 //! How a run ends: its status, and the line that says why.
 ghost use Rattle.std.specs.Prelude.{◌≡◌, IfOk, string_bytes};
-ghost use Rattle.slo_office.specs.Endings.{fault_word_of, line_of_status, refusal_line_of, row_word_of, yaml_word_of};
+ghost use Rattle.slo_office.specs.Endings.{conflict_text_of, fault_text_of, line_of_status, refusal_line_of, row_word_of, yaml_word_of};
 
+use sample_book::Amount;
 use std::alloc::{AllocError, Global};
 use yaml_subset::Which;
 
@@ -25,8 +26,8 @@ pub enum RecordFault {
     Fields,
     /// A field breaks its rule.
     Field,
-    /// An earlier record has its source and minute.
-    Again,
+    /// The current row of its cell has its revision and this other amount.
+    Conflict(Amount),
 }
 
 /// Why an input is refused.
@@ -70,14 +71,24 @@ pub enum Ending {
     Refused(Refusal),
 }
 
-/// The word for a fault.
-fn fault_word(fault: RecordFault) -> &'static str
-    ensures { result.now ≡ fault_word_of fault }
+/// The words for a conflict with a kept amount.
+fn conflict_text(alloc: Global, kept: Amount) -> Result<String, AllocError>
+    ensures { IfOk result (λ text. string_bytes text ≡ conflict_text_of kept) }
+{
+    match kept {
+        Amount::Counts { part, total } => format!(in alloc; "conflict {part},{total}"),
+        Amount::Value(value) => format!(in alloc; "conflict {value}"),
+    }
+}
+
+/// The words for a fault.
+fn fault_text(alloc: Global, fault: RecordFault) -> Result<String, AllocError>
+    ensures { IfOk result (λ text. string_bytes text ≡ fault_text_of fault) }
 {
     match fault {
-        RecordFault::Fields => "fields",
-        RecordFault::Field => "row",
-        RecordFault::Again => "again",
+        RecordFault::Fields => String::from_str(alloc, "fields"),
+        RecordFault::Field => String::from_str(alloc, "row"),
+        RecordFault::Conflict(kept) => conflict_text(alloc, kept),
     }
 }
 
@@ -117,7 +128,7 @@ pub fn refusal_line(alloc: Global, refusal: Refusal) -> Result<String, AllocErro
     match refusal {
         Refusal::TooLarge => String::from_str(alloc, "slo_office: input too large\n"),
         Refusal::BadRecord { number, fault } => {
-            let word = fault_word(fault);
+            let word = fault_text(alloc, fault)?;
             format!(in alloc; "slo_office: record {number}: {word}\n")
         }
         Refusal::Yaml { line, word } => {

@@ -11,8 +11,8 @@ mod command;
 mod ending;
 mod input;
 mod laws;
+mod row;
 mod run;
-mod sample;
 mod table;
 #[cfg(test)]
 mod tests;

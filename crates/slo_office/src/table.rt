@@ -1,17 +1,18 @@
-//! The samples of a CSV text, judged record by record.
-ghost use Rattle.std.specs.Prelude.{◌≡◌, ◌≤◌, ℕ, [], Ok, Err, IfOk, All, false, length};
-ghost use Rattle.std.specs.List.{list_any};
+//! The rows of a CSV text, judged record by record and kept in a book.
+ghost use Rattle.std.specs.Prelude.{◌≡◌, ◌≤◌, ℕ, [], All, Err, IfOk, OnOk, length};
 ghost use Rattle.csv_rows.specs.Rows.{csv_rows};
 ghost use Rattle.slo_terms.specs.Judged.{judged_from};
-ghost use Rattle.slo_office.specs.Samples.{IsCounted, judge, same_cell};
-ghost use Rattle.slo_office.specs.BudgetText.{current_samples};
+ghost use Rattle.sample_book.specs.Rows.{verdict_of};
+ghost use Rattle.slo_office.specs.Rows.{IsCounted, is_newer as is_newer_lem, is_repeated as is_repeated_lem, is_superseded as is_superseded_lem, judge as judge_lem};
+ghost use Rattle.slo_office.specs.Tables.{AreAll, IsJudged, rows_after};
 
 use crate::ending::RecordFault;
-use crate::sample::{Sample, is_taken, read_sample};
-use csv_rows::{Row, RowReader};
-use std::alloc::Global;
+use crate::row::read_row;
+use csv_rows::{Row as Record, RowReader};
+use sample_book::{Row, RowVerdict, SampleBook};
+use std::alloc::{AllocError, Global};
 
-/// Why a table of samples isn't made.
+/// Why a table isn't made.
 #[derive(Clone, Copy, Debug, PartialEq, Eq)]
 pub enum TableFault {
     /// The record of this number, counted from 1, is the first that breaks a rule.
@@ -19,49 +20,129 @@ pub enum TableFault {
     NoMemory,
 }
 
-/// What a record comes to behind the samples of those before it.
-fn judge(samples: &[Sample], row: &Row) -> Result<Sample, RecordFault>
-    ensures judged { result ≡ judge samples.now row.now }
-    ensures counted { IfOk result IsCounted }
-    ensures new_cell { IfOk result (λ sample. list_any (λ kept. same_cell kept sample) samples.now ≡ false) }
-{
-    let Some(fields) = row.five() else {
-        return Err(RecordFault::Fields);
-    };
-    let Some(sample) = read_sample(fields) else {
-        return Err(RecordFault::Field);
-    };
-    if is_taken(samples, &sample) {
-        return Err(RecordFault::Again);
-    }
-    Ok(sample)
+/// The current rows of all that came, and what became of those that came.
+#[derive(Drop)]
+pub struct Table {
+    pub book: SampleBook,
+    pub corrected: u64,
+    pub repeated: u64,
+    pub superseded: u64,
 }
 
-/// The samples of all records, or the first record that breaks a rule.
-pub fn read_samples(alloc: Global, text: &[u8]) -> Result<Vec<Sample>, TableFault>
-    ensures ok { IfOk result (λ samples. judged_from judge [] 1 (csv_rows text.now) ≡ Ok samples.items) }
-    ensures broken { (number : ℕ) (fault : RecordFault) → result ≡ Err (TableFault.Broken number fault) → judged_from judge [] 1 (csv_rows text.now) ≡ Err (number, fault) }
-    ensures few { IfOk result (λ samples. length samples.items ≤ length text.now) }
-    ensures counted { IfOk result (λ samples. All IsCounted samples.items) }
-    ensures current { IfOk result (λ samples. current_samples samples.items ≡ samples.items) }
+/// What a record comes to over the current rows.
+fn judge(book: &SampleBook, record_fields: &Record) -> Result<(Row, RowVerdict), RecordFault>
+    ensures { IsJudged book.now.rows record_fields.now result }
+{
+    let Some(fields) = record_fields.five() else {
+        return Err(RecordFault::Fields);
+    };
+    let Some(row) = read_row(fields) else {
+        return Err(RecordFault::Field);
+    };
+    let verdict = book.check(&row);
+    match verdict {
+        RowVerdict::Conflict(kept) => Err(RecordFault::Conflict(kept.amount)),
+        RowVerdict::New => Ok((row, verdict)),
+        RowVerdict::Newer(_) => Ok((row, verdict)),
+        RowVerdict::Repeated => Ok((row, verdict)),
+        RowVerdict::Superseded(_) => Ok((row, verdict)),
+    }
+}
+
+fn is_newer(verdict: &RowVerdict) -> bool
+    ensures { result ≡ is_newer_lem verdict.now }
+{
+    match verdict {
+        RowVerdict::Newer(_) => true,
+        _ => false,
+    }
+}
+
+fn is_repeated(verdict: &RowVerdict) -> bool
+    ensures { result ≡ is_repeated_lem verdict.now }
+{
+    match verdict {
+        RowVerdict::Repeated => true,
+        _ => false,
+    }
+}
+
+fn is_superseded(verdict: &RowVerdict) -> bool
+    ensures { result ≡ is_superseded_lem verdict.now }
+{
+    match verdict {
+        RowVerdict::Superseded(_) => true,
+        _ => false,
+    }
+}
+
+/// Puts a row whose cell is new.
+fn put_new(book: &mut SampleBook, row: &Row) -> Result<(), AllocError>
+    requires { verdict_of book.old.rows row.now ≡ RowVerdict.New }
+    ensures { OnOk result (book.new.rows ≡ rows_after book.old.rows row.now) }
+{
+    let rows = [*row];
+    book.make_room(&rows)?;
+    book.put(row);
+    Ok(())
+}
+
+/// Takes a row with its verdict into the book.
+fn take_row(book: &mut SampleBook, row: &Row, verdict: &RowVerdict) -> Result<(), AllocError>
+    requires { verdict.now ≡ verdict_of book.old.rows row.now }
+    ensures { OnOk result (book.new.rows ≡ rows_after book.old.rows row.now) }
+{
+    match verdict {
+        RowVerdict::New => put_new(book, row),
+        RowVerdict::Newer(_) => {
+            book.put(row);
+            Ok(())
+        }
+        RowVerdict::Repeated => Ok(()),
+        RowVerdict::Superseded(_) => Ok(()),
+        RowVerdict::Conflict(_) => Ok(()),
+    }
+}
+
+/// The rows of all records, or the first record that breaks a rule.
+pub fn read_rows(alloc: Global, text: &[u8]) -> Result<Table, TableFault>
+    ensures ok { IfOk result (λ table. AreAll (csv_rows text.now) table.book.rows table.corrected table.repeated table.superseded) }
+    ensures counted { IfOk result (λ table. All IsCounted table.book.rows) }
+    ensures few { IfOk result (λ table. length table.book.rows ≤ length text.now) }
+    ensures broken { (number : ℕ) (fault : RecordFault) → result ≡ Err (TableFault.Broken number fault) → judged_from judge_lem [] 1 (csv_rows text.now) ≡ Err (number, fault) }
 {
     let mut reader = RowReader::new(alloc, text);
-    let mut row = Row::new(alloc);
-    let mut samples = Vec::new(alloc);
+    let mut record = Record::new(alloc);
+    let Ok(mut book) = SampleBook::new(alloc) else {
+        return Err(TableFault::NoMemory);
+    };
     let mut number: u64 = 1;
+    let mut corrected: u64 = 0;
+    let mut repeated: u64 = 0;
+    let mut superseded: u64 = 0;
     'records: loop {
-        match reader.read(&mut row) {
+        match reader.read(&mut record) {
             Ok(true) => {}
-            Ok(false) => return Ok(samples),
+            Ok(false) => {
+                return Ok(Table {
+                    book,
+                    corrected,
+                    repeated,
+                    superseded,
+                });
+            }
             Err(_) => return Err(TableFault::NoMemory),
         }
-        let sample = match judge(&samples, &row) {
-            Ok(sample) => sample,
+        let (row, verdict) = match judge(&book, &record) {
+            Ok(judged) => judged,
             Err(fault) => return Err(TableFault::Broken { number, fault }),
         };
-        let Ok(()) = samples.push(sample) else {
+        let Ok(()) = take_row(&mut book, &row, &verdict) else {
             return Err(TableFault::NoMemory);
         };
+        corrected += u64::from(is_newer(&verdict));
+        repeated += u64::from(is_repeated(&verdict));
+        superseded += u64::from(is_superseded(&verdict));
         number += 1;
     }
 }

@@ -131,6 +131,55 @@ fn prints_the_budget_of_a_range(rt: HostRuntime) -> Result<(), Fail> {
     Ok(())
 }
 
+/// Of a cell the greatest revision counts, in whatever order its rows come.
+#[test]
+fn counts_the_greatest_revision(rt: HostRuntime) -> Result<(), Fail> {
+    let spent = "good 9990\ntotal 10000\nburn 1/1\nremaining 0/1\n";
+    let half = "good 9995\ntotal 10000\nburn 1/2\nremaining 1/2\n";
+    let rows = [
+        (
+            "web,100,1,9990,10000\nweb,100,2,9995,10000\n",
+            (1, 1, 0, 0),
+            half,
+        ),
+        (
+            "web,100,2,9995,10000\nweb,100,1,9990,10000\n",
+            (1, 0, 0, 1),
+            half,
+        ),
+        (
+            "web,100,1,9990,10000\nweb,100,1,9990,10000\n",
+            (1, 0, 1, 0),
+            spent,
+        ),
+        // a correction back to the first amount is a correction
+        (
+            "web,100,1,9990,10000\nweb,100,2,9995,10000\nweb,100,3,9990,10000\n",
+            (1, 2, 0, 0),
+            spent,
+        ),
+        // an old revision may say something else than it said
+        (
+            "web,100,5,9990,10000\nweb,100,3,1,1\nweb,100,3,2,2\nweb,100,5,9990,10000\n",
+            (1, 0, 1, 2),
+            spent,
+        ),
+        // other sources and minutes are other cells
+        (
+            "web,100,2,9990,10000\napi,100,1,0,0\nweb,101,1,0,0\napi,100,1,0,0\n",
+            (3, 0, 1, 0),
+            spent,
+        ),
+    ];
+    for (input, (cells, corrected, repeated, superseded), budget) in rows {
+        let lines = format!(in rt.alloc();
+            "cells {cells}\ncorrected {corrected}\nrepeated {repeated}\nsuperseded {superseded}\n{budget}"
+        )?;
+        expect(&rt, input, CALM, 0, lines.as_str(), "")?;
+    }
+    Ok(())
+}
+
 /// The first record that breaks a rule is named, and nothing is printed.
 #[test]
 fn refuses_the_first_bad_record(rt: HostRuntime) -> Result<(), Fail> {
@@ -138,13 +187,14 @@ fn refuses_the_first_bad_record(rt: HostRuntime) -> Result<(), Fail> {
         ("web,100,1,9990\n", "record 1: fields"),
         ("web,100,1,9990,10000,\n", "record 1: fields"),
         (" \n", "record 1: fields"),
+        // a revision of a cell says one thing
         (
-            "web,100,1,9990,10000\nweb,100,2,9995,10000\n",
-            "record 2: again",
+            "web,100,1,9990,10000\nweb,100,1,9991,10000\n",
+            "record 2: conflict 9990,10000",
         ),
         (
-            "web,100,1,9990,10000\nweb,100,1,9990,10000\n",
-            "record 2: again",
+            "web,100,1,1,2\nweb,100,3,5,7\nweb,100,2,5,7\nweb,100,3,5,8\n",
+            "record 4: conflict 5,7",
         ),
         // empty lines are no records
         ("\nweb,100,1,1,1\n\nweb,101,1,2,1\n", "record 2: row"),
@@ -163,7 +213,7 @@ fn refuses_the_first_bad_record(rt: HostRuntime) -> Result<(), Fail> {
         ),
         ("web,1,1,2,1\n", "record 1: row"),
         ("web,1,1,+1,1\n", "record 1: row"),
-        // a bad field comes before a cell that comes again
+        // a bad field comes before a conflict
         ("web,1,1,1,1\nweb,1,1,2,1\n", "record 2: row"),
     ];
     for (input, fault) in rows {

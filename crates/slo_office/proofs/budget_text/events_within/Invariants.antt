@@ -1,13 +1,18 @@
-use Rattle.std.proofs.Common.{◌≡◌, ◌≤◌, ◌*◌, sum_by, take}
+use Rattle.std.proofs.Common.{◌≡◌, ◌≤◌, ◌*◌, ◌-◌, length, sum_by, take}
 use Rattle.slo_terms.specs.Sums.{share_within}
-use Rattle.slo_office.specs.declared.sample.TheConstants.{MAX_EVENTS}
+use Rattle.slo_office.specs.Rows.{good_of, total_of}
+use Rattle.slo_office.specs.declared.row.TheConstants.{MAX_EVENTS}
 use Rattle.slo_office.proofs.budget_text.events_within.Given as goal
 
--- the events of the samples so far
-abbrev pub invariant-loop-sample : goal.invariant-loop-sample
-invariant-loop-sample l = record {
-  good : l.good ≡ sum_by (share_within (λ s. s.minute) (λ s. s.good) l.from l.to) (take l.sample-index l.samples);
-  total : l.total ≡ sum_by (share_within (λ s. s.minute) (λ s. s.total) l.from l.to) (take l.sample-index l.samples);
+-- the events of the rows so far
+abbrev pub invariant-rows : goal.invariant-rows
+invariant-rows l = record {
+  place : l.place ≤ length l.book.rows;
+  good : l.good ≡ sum_by (share_within (λ r. r.minute) good_of l.from l.to) (take l.place l.book.rows);
+  total : l.total ≡ sum_by (share_within (λ r. r.minute) total_of l.from l.to) (take l.place l.book.rows);
   part : l.good ≤ l.total;
-  bound : l.total ≤ l.sample-index * MAX_EVENTS;
+  bound : l.total ≤ l.place * MAX_EVENTS;
 }
+
+abbrev pub decreases-rows : goal.decreases-rows
+decreases-rows l = length l.book.rows - l.place
