@@ -1,14 +1,13 @@
 -- What a caller of the book cites.
-use Rattle.std.proofs.Common.{◌≡◌, List, [], ◌∷◌, Bool, true, false, cond, not, ◌||◌, refl, ap, sym, ◌∙◌, Option, Some, None, map, filter}
+use Rattle.std.proofs.Common.{◌≡◌, List, [], ◌∷◌, Bool, true, false, cond, not, ◌||◌, refl, ap, Option, Some, None, map}
 use Rattle.std.specs.List.{find, list_any}
-use Rattle.std.proofs.lemmas.Bool.{or_from}
 use Rattle.slo_terms.specs.Rows.{first_of_each}
 use Rattle.sample_book.specs.declared.row.Row.{Row}
 use Rattle.sample_book.specs.declared.row.RowVerdict.TheVariants.{New}
 use Rattle.sample_book.specs.Rows.{cell_of, cell_eq, same_cell, kept_of, verdict_where, verdict_of, room_for}
 use Rattle.sample_book.proofs.StandingLemmas.{newer_verdict}
 
-no_cell : (row : Row) (rows : List Row) → find (same_cell row) rows ≡ None → list_any (cell_eq (cell_of row)) (map cell_of rows) ≡ false
+pub no_cell : (row : Row) (rows : List Row) → find (same_cell row) rows ≡ None → list_any (cell_eq (cell_of row)) (map cell_of rows) ≡ false
 no_cell row [] h = refl
 no_cell row (r ∷ rs) h = by (same_cell row r) h (no_cell row rs)
   where

@@ -2,19 +2,11 @@
 use Rattle.std.proofs.Common.{◌≡◌, List, [], ◌∷◌, ◌++◌, Bool, true, false, refl, ap, sym, ◌∙◌, fold, nat_lt, if◌then◌else◌, Option, Some, None, append_assoc}
 use Rattle.std.proofs.lemmas.List.{append-nil}
 use Rattle.sample_book.specs.declared.row.Row.{Row}
-use Rattle.sample_book.specs.declared.row.RowVerdict.{RowVerdict}
-use Rattle.sample_book.specs.declared.row.RowVerdict.TheVariants.{New, Newer, Repeated, Superseded, Conflict}
+use Rattle.sample_book.specs.declared.row.RowVerdict.TheVariants.{Newer, Repeated, Superseded, Conflict}
 use Rattle.sample_book.specs.Rows.{same_cell, current_rows, kept_of, same_amount, verdict_on, verdict_where, verdict_of}
-use Rattle.sample_book.proofs.CurrentLemmas.{settle, settle-kept, current-push, current-current, current-step}
+use Rattle.sample_book.specs.History.{is_put}
+use Rattle.sample_book.proofs.CurrentLemmas.{settle, settle-kept, current-push, current-step}
 use Rattle.sample_book.proofs.StandingLemmas.{cell_laws}
-
--- whether a row of this verdict is put
-abbrev pub is_put : RowVerdict → Bool
-is_put New = true
-is_put (Newer kept) = true
-is_put Repeated = false
-is_put (Superseded revision) = false
-is_put (Conflict kept) = false
 
 -- the rows of a book after a row came: a row is put where it is new or newer
 abbrev pub rows_after : List Row → Row → List Row

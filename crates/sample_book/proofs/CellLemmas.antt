@@ -1,5 +1,5 @@
 -- Cells by number are the cells that they name.
-use Rattle.std.proofs.Common.{◌≡◌, ℕ, zero, suc, ◌+◌, ◌<◌, List, [], ◌∷◌, ◌++◌, length, Bool, true, false, cond, ◌&&◌, ◌||◌, nat_eq, Option, Some, None, refl, ap, sym, ◌∙◌, arith, map, take, get_or, subst, length-append, slice_get, ◌⊎◌, inl, inr}
+use Rattle.std.proofs.Common.{◌≡◌, ℕ, zero, suc, ◌<◌, List, [], ◌∷◌, ◌++◌, length, Bool, true, false, cond, ◌&&◌, nat_eq, Option, Some, None, refl, ap, sym, ◌∙◌, arith, map, take, subst, length-append, slice_get, inl, inr}
 use Rattle.std.specs.List.{position, list_any, IsDistinct, AllByRecursion}
 use Rattle.std.specs.Option.{option_map}
 use Rattle.std.specs.Str.{bytes_eq}

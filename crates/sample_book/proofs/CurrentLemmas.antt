@@ -1,8 +1,7 @@
 -- Current rows, one more row at a time: each row that comes settles over those that are kept.
-use Rattle.std.proofs.Common.{◌≡◌, ℕ, List, [], ◌∷◌, ◌++◌, Bool, true, false, cond, if◌then◌else◌, not, nat_lt, ◌||◌, refl, ap, sym, ◌∙◌, arith, map, fold, filter, subst, append_assoc, Option, Some, None}
-use Rattle.std.proofs.lemmas.List.{append-nil, map-append}
+use Rattle.std.proofs.Common.{◌≡◌, ℕ, List, [], ◌∷◌, ◌++◌, Bool, true, false, cond, if◌then◌else◌, not, nat_lt, ◌||◌, refl, ap, sym, ◌∙◌, map, fold, filter, subst, append_assoc, Some}
+use Rattle.std.proofs.lemmas.List.{append-nil}
 use Rattle.std.proofs.lemmas.List.Elements.{filter-append}
-use Rattle.std.proofs.lemmas.Bool.Decides.{nat_tests}
 use Rattle.std.proofs.lemmas.Bool.{or_parts, or_from}
 use Rattle.std.specs.Cmp.{IsEquivalence}
 use Rattle.std.specs.List.{list_any, find, IsDistinct, AllByRecursion}

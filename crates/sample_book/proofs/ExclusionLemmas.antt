@@ -1,6 +1,6 @@
 -- What is excluded, by the list of all exclusions and liftings.
-use Rattle.std.proofs.Common.{◌≡◌, ℕ, List, [], ◌∷◌, ◌++◌, Bool, true, false, not, ◌&&◌, ◌||◌, refl, ap, sym, ◌∙◌, map, Option, Some, None, cond, subst}
-use Rattle.std.specs.Prelude.{IfSome, IsSome, nat_le, nat_lt}
+use Rattle.std.proofs.Common.{◌≡◌, ℕ, List, [], ◌∷◌, ◌++◌, Bool, true, false, not, ◌&&◌, ◌||◌, refl, ap, sym, ◌∙◌, map, Some, None, cond, subst}
+use Rattle.std.specs.Prelude.{IsSome}
 use Rattle.std.specs.List.{find, list_any}
 use Rattle.std.specs.Str.{bytes_eq}
 use Rattle.std.proofs.lemmas.Slice.Eq.{bytes_eq-Decides}
@@ -81,11 +81,11 @@ find_none ids id (v ∷ values) h =
     let parts = or_parts (bytes_eq v.id id) (list_any (λ (value : Exclusion). bytes_eq value.id id) values) h in
     rw parts.0 (find_none ids id values parts.1)
 
-record Shape (changes : List Change) (made : List (Exclusion × Bool)) : Type 0 where
-  flags : made ≡ flagged (lifted_in changes) (excluded_in changes)
-  among : (id : List ℕ) → list_any (λ (value : Exclusion). bytes_eq value.id id) (excluded_in changes) ≡ false → list_any (bytes_eq id) (lifted_in changes) ≡ false
+pub record Shape (changes : List Change) (made : List (Exclusion × Bool)) : Type 0 where
+  pub flags : made ≡ flagged (lifted_in changes) (excluded_in changes)
+  pub among : (id : List ℕ) → list_any (λ (value : Exclusion). bytes_eq value.id id) (excluded_in changes) ≡ false → list_any (bytes_eq id) (lifted_in changes) ≡ false
 
-shape : (changes : List Change) (made : List (Exclusion × Bool)) → Made changes made → Shape changes made
+pub shape : (changes : List Change) (made : List (Exclusion × Bool)) → Made changes made → Shape changes made
 shape _ _ none = record { flags = refl; among = λ id h. refl }
 shape _ _ (excluded {changes = changes} {made = made} value before unused) =
     let s = shape changes made before in

@@ -6,3 +6,5 @@ pub mod TallyLemmas
 pub mod CameLemmas
 pub mod ExclusionLemmas
 pub mod CallerLemmas
+pub mod HistoryLemmas
+pub mod RoomLemmas

@@ -1,5 +1,5 @@
 -- The rows of the first cells, and the room of those behind.
-use Rattle.std.proofs.Common.{◌≡◌, ◌≢◌, ℕ, zero, suc, ◌+◌, ◌<◌, ◌≤◌, List, [], ◌∷◌, ◌++◌, length, Bool, true, false, cond, if◌then◌else◌, ◌&&◌, ◌||◌, not, nat_lt, nat_eq, refl, ap, sym, ◌∙◌, arith, map, zip, take, drop, set, filter, subst, append_assoc, slice_get, Option, Some, None}
+use Rattle.std.proofs.Common.{◌≡◌, ◌≢◌, ℕ, zero, suc, ◌+◌, ◌<◌, ◌≤◌, List, [], ◌∷◌, ◌++◌, length, Bool, true, false, cond, if◌then◌else◌, ◌&&◌, ◌||◌, not, nat_lt, nat_eq, refl, ap, sym, ◌∙◌, arith, map, take, drop, set, filter, subst, append_assoc, slice_get, Option, Some, None}
 use Rattle.std.specs.Option.{option_map}
 use Rattle.std.specs.Prelude.{Result, Ok, Err, OnOk}
 use Rattle.std.specs.Str.{bytes_eq}
@@ -11,13 +11,12 @@ use Rattle.std.proofs.lemmas.Bool.Decides.{nat_tests}
 use Rattle.std.proofs.lemmas.List.{append-nil}
 use Rattle.std.proofs.lemmas.List.Elements.{filter-append}
 use Rattle.std.proofs.lemmas.Slice.Eq.{bytes_eq-Decides}
-use Rattle.slo_terms.specs.Rows.{newer, current, first_of_each}
+use Rattle.slo_terms.specs.Rows.{newer, first_of_each}
 use Rattle.sample_book.specs.declared.row.Cell.{Cell}
 use Rattle.sample_book.specs.declared.row.Row.{Row}
-use Rattle.sample_book.specs.declared.row.RowVerdict.{RowVerdict}
 use Rattle.sample_book.specs.declared.row.RowVerdict.TheVariants.{New, Newer, Repeated, Superseded, Conflict}
 use Rattle.sample_book.specs.declared.current_rows.Stored.{Stored}
-use Rattle.sample_book.specs.Rows.{cell_of, cell_eq, same_cell, current_rows, same_amount, verdict_on, verdict_where, MayPutAs, new_cells, room_for, with_cell}
+use Rattle.sample_book.specs.Rows.{cell_of, cell_eq, same_cell, current_rows, same_amount, verdict_on, verdict_where, MayPutAs, new_cells, with_cell}
 use Rattle.std.specs.List.{position}
 use Rattle.std.proofs.lemmas.List.{length-map}
 use Rattle.sample_book.specs.Standing.{row_stored, rows_stored, IsInStep}

@@ -1,5 +1,5 @@
 -- What the current rows of an indicator count for, minute by minute.
-use Rattle.std.specs.Prelude.{◌≡◌, ℕ, Bool, true, List, filter, Option}
+use Rattle.std.specs.Prelude.{◌≡◌, ℕ, Bool, true, List, filter, Option, if◌then◌else◌}
 use Rattle.std.specs.List.{find, All}
 use Rattle.std.specs.Str.{bytes_eq}
 use Rattle.exact_fraction.specs.declared.Op.{Op}
@@ -7,7 +7,9 @@ use Rattle.slice_method.specs.declared.Counts.{Counts}
 use Rattle.slice_method.specs.declared.Reading.{Reading}
 use Rattle.slice_method.specs.Readings.{HasForm, counts}
 use Rattle.slo_terms.specs.Sums.{amount_at}
+use Rattle.sample_book.specs.declared.exclusions.Exclusion.{Exclusion}
 use Rattle.sample_book.specs.declared.row.Row.{Row}
+use Rattle.sample_book.specs.Exclusions.{is_excluded}
 
 -- whether a row is of this indicator
 abbrev pub is_of : List ℕ → Row → Bool
@@ -25,6 +27,11 @@ counts_of_minute reading op value rows sli minute =
       good = amount_at (λ row. row.minute) (λ row. (counts reading op value row.amount).good) own minute;
       total = amount_at (λ row. row.minute) (λ row. (counts reading op value row.amount).total) own minute;
     }
+
+-- What a minute counts for in an objective: nothing where it is excluded for it, else the sums over its indicator's rows.
+abbrev pub counted_in_minute : Reading → Op → ℕ → List (Exclusion × Bool) → List Row → List ℕ → List ℕ → ℕ → Counts
+counted_in_minute reading op value made rows slo sli minute =
+    if is_excluded made slo minute then record { good = 0; total = 0 } else counts_of_minute reading op value rows sli minute
 
 -- the current rows of an indicator at a minute have amounts of the reading's form
 abbrev pub HaveForm : Reading → List Row → List ℕ → ℕ → Type 0

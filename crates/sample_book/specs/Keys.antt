@@ -1,5 +1,5 @@
 -- Cells by the numbers of their names.
-use Rattle.std.specs.Prelude.{◌≡◌, ◌<◌, ℕ, Bool, ◌&&◌, nat_eq, List, [], ◌∷◌, length, map, Some, None, ◌⊎◌}
+use Rattle.std.specs.Prelude.{◌≡◌, ◌<◌, ℕ, Bool, ◌&&◌, nat_eq, List, [], ◌∷◌, length, Some, None, ◌⊎◌}
 use Rattle.std.specs.List.{IsDistinct, position}
 use Rattle.std.specs.Str.{bytes_eq}
 use Rattle.sample_book.specs.declared.cells.Key.{Key}

@@ -5,3 +5,4 @@ pub mod Standing
 pub mod Exclusions
 pub mod Book
 pub mod Counting
+pub mod History

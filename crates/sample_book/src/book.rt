@@ -1,8 +1,9 @@
 // The book of samples and exclusions.
-ghost use Rattle.std.specs.Prelude.{◌≡◌, ◌≢◌, ◌+◌, ◌*◌, ◌^◌, ◌<◌, ◌≤◌, ◌++◌, ◌∷◌, [], true, Some, None, OnOk, OnErr, IfOk, length, slice_get};
+ghost use Rattle.std.specs.Prelude.{◌≡◌, ◌≢◌, ◌+◌, ◌*◌, ◌^◌, ◌<◌, ◌≤◌, ◌++◌, ◌∷◌, [], true, false, Some, None, OnOk, OnErr, IfOk, length, slice_get};
 ghost use Rattle.sample_book.specs.Book.{Book};
-ghost use Rattle.sample_book.specs.Counting.{HaveForm, counts_of_minute, first_of};
-ghost use Rattle.sample_book.specs.Exclusions.{IsLive, exclusion_of, is_excluded, lifted};
+ghost use Rattle.sample_book.specs.Counting.{HaveForm, counted_in_minute, counts_of_minute, first_of};
+ghost use Rattle.sample_book.specs.Exclusions.{Excluded, IsLive, Lifted, exclusion_of, is_excluded, lifted};
+ghost use Rattle.sample_book.specs.History.{Came, Changed, Gains, Holds, is_put};
 ghost use Rattle.sample_book.specs.Rows.{MayPutAs, cell_of, current_rows, room_for, verdict_of};
 
 use crate::current_rows::CurrentRows;
@@ -35,6 +36,7 @@ impl SampleBook {
         ensures rows { IfOk result (λ book. book.rows ≡ []) }
         ensures exclusions { IfOk result (λ book. book.exclusions ≡ []) }
         ensures room { IfOk result (λ book. book.room ≡ []) }
+        ensures history { IfOk result (λ book. Holds [] book.rows book.exclusions) }
     {
         Ok(SampleBook {
             rows: CurrentRows::new(alloc),
@@ -44,7 +46,9 @@ impl SampleBook {
 
     /// What becomes of an arriving row.
     pub fn check(&self, row: &Row) -> RowVerdict
-        ensures { result ≡ verdict_of self.now.rows row.now }
+        ensures verdict { result ≡ verdict_of self.now.rows row.now }
+        // A row that is neither new nor newer came and changes nothing.
+        ensures history { is_put result ≡ false → Gains self.now (Came row.now) self.now }
     {
         self.rows.check(row)
     }
@@ -70,6 +74,7 @@ impl SampleBook {
         ensures newer { verdict_of self.old.rows row.now ≢ RowVerdict.New → self.new.room ≡ self.old.room }
         ensures exclusions { self.new.exclusions ≡ self.old.exclusions }
         ensures spare { self.new.spare ≡ self.old.spare }
+        ensures history { Gains self.old (Came row.now) self.new }
     {
         self.rows.put(row);
     }
@@ -99,6 +104,7 @@ impl SampleBook {
         ensures spare { self.old.spare ≤ self.new.spare + 1 }
         ensures rows { self.new.rows ≡ self.old.rows }
         ensures room { self.new.room ≡ self.old.room }
+        ensures history { Gains self.old (Changed (Excluded value)) self.new }
     {
         self.exclusions.exclude(value);
     }
@@ -110,6 +116,7 @@ impl SampleBook {
         ensures spare { self.new.spare ≡ self.old.spare }
         ensures rows { self.new.rows ≡ self.old.rows }
         ensures room { self.new.room ≡ self.old.room }
+        ensures history { Gains self.old (Changed (Lifted id)) self.new }
     {
         self.exclusions.lift(id);
     }
@@ -156,5 +163,28 @@ impl SampleBook {
         ensures { result ≡ counts_of_minute reading op value self.now.rows sli minute }
     {
         counts_at(&self.rows, sli, reading, op, value, minute)
+    }
+
+    /// What a minute counts for in an objective: nothing where the minute is excluded for it, else the
+    /// sums over the current rows of its indicator.
+    pub fn counted_at(
+        &self,
+        slo: Label,
+        sli: Label,
+        reading: Reading,
+        op: Op,
+        value: Decimal,
+        minute: u32,
+    ) -> Counts
+        requires form { HaveForm reading self.now.rows sli minute }
+        requires few { length self.now.rows ≤ 4 * 10 ^ 6 }
+        ensures { result ≡ counted_in_minute reading op value self.now.exclusions self.now.rows slo sli minute }
+    {
+        let counts = self.counts_at(sli, reading, op, value, minute);
+        if self.is_excluded(slo, minute) {
+            Counts { good: 0, total: 0 }
+        } else {
+            counts
+        }
     }
 }

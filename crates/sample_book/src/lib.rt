@@ -7,12 +7,14 @@ mod book;
 mod cells;
 mod current_rows;
 mod exclusions;
+mod laws;
 mod names;
 mod row;
 mod tally;
 
 pub use book::SampleBook;
 pub use exclusions::Exclusion;
+pub use laws::{a_book_is_what_came, room_is_enough};
 pub use row::{Cell, Row, RowVerdict};
 pub use slice_method::Amount;
 

@@ -1,5 +1,5 @@
 // What no clause says: that each call succeeds, on worked rows from outside.
-use crate::{Amount, Row, RowVerdict, SampleBook};
+use crate::{Amount, Exclusion, Row, RowVerdict, SampleBook};
 use exact_fraction::{Label, read_label};
 use std::alloc::{AllocError, Global};
 use std::slice;
@@ -59,5 +59,82 @@ fn the_greatest_revision_counts(rt: HostRuntime) {
             assert_eq!(rt; word(take(&mut book, &row(web, revision, part))), want);
         }
         assert!(rt; book.row_at(0) == Some(row(web, 3, 1)));
+    }
+}
+
+// Makes an exclusion as a caller does, where its id is unused.
+fn exclude(book: &mut SampleBook, id: Label, slo: Label, from: u32, to: u32) -> bool {
+    if book.exclusion(id).is_none() && book.reserve(1).is_ok() {
+        book.exclude(Exclusion { id, slo, from, to });
+        true
+    } else {
+        false
+    }
+}
+
+// Lifts an exclusion as a caller does, where it is live.
+fn lift(book: &mut SampleBook, id: Label) -> bool {
+    match book.exclusion(id) {
+        Some((_, true)) => {
+            book.lift(id);
+            true
+        }
+        _ => false,
+    }
+}
+
+// Whether exactly those of these minutes are excluded whose flag says so.
+fn agrees(book: &SampleBook, slo: Label, minutes: &[(u32, bool)]) -> bool {
+    minutes
+        .iter()
+        .all(|minute| book.is_excluded(slo, minute.0) == minute.1)
+}
+
+const BOTH: [(u32, bool); 6] = [
+    (99, false),
+    (100, true),
+    (107, true),
+    (110, true),
+    (114, true),
+    (115, false),
+];
+
+const LATER: [(u32, bool); 5] = [
+    (100, false),
+    (104, false),
+    (105, true),
+    (114, true),
+    (115, false),
+];
+
+const NEITHER: [(u32, bool); 3] = [(100, false), (107, false), (114, false)];
+
+// [100, 110) under the objective's own name, and [105, 115) under another one.
+fn exclude_both(book: &mut SampleBook, slo: Label, other: Label) -> bool {
+    let first = exclude(book, slo, slo, 100, 110);
+    let second = exclude(book, other, slo, 105, 115);
+    first & second
+}
+
+// Whether the minutes are as they should be while both are live, after the first was lifted, and after both were.
+fn lifts_one_by_one(book: &mut SampleBook, slo: Label, other: Label) -> bool {
+    let both = agrees(book, slo, &BOTH) & agrees(book, other, &NEITHER);
+    let lifted = lift(book, slo);
+    let later = agrees(book, slo, &LATER);
+    let all = lift(book, other);
+    let neither = agrees(book, slo, &NEITHER);
+    both & lifted & later & all & neither
+}
+
+#[test]
+fn overlapping_exclusions_are_lifted_one_by_one(rt: HostRuntime) {
+    if let (Some(slo), Some(other), Ok(mut book)) = (
+        read_label(b"shop"),
+        read_label(b"bar"),
+        SampleBook::new(rt.alloc()),
+    ) {
+        let made = exclude_both(&mut book, slo, other);
+        let lifted = lifts_one_by_one(&mut book, slo, other);
+        assert!(rt; made & lifted);
     }
 }

@@ -1,8 +1,7 @@
-use Rattle.std.proofs.Common.{◌≡◌, ◌∙◌, ◌++◌, ◌∷◌, [], ap, sym, take}
+use Rattle.std.proofs.Common.{◌∙◌, ◌++◌, ◌∷◌, [], ap, sym, take}
 use Rattle.std.proofs.lemmas.List.{take_more}
-use Rattle.sample_book.specs.declared.row.Cell.{Cell}
 use Rattle.sample_book.specs.declared.row.Row.{Row}
-use Rattle.sample_book.specs.Rows.{cell_of, new_cells, with_cell}
+use Rattle.sample_book.specs.Rows.{new_cells, with_cell}
 use Rattle.sample_book.proofs.StandingLemmas.{new_cells-step}
 use Rattle.sample_book.proofs.current_rows.add_cells.Goals as goal
 

@@ -1,4 +1,4 @@
-use Rattle.std.proofs.Common.{◌≡◌, ◌∙◌, ◌++◌, ◌∷◌, [], Bool, false, ap, sym, if◌then◌else◌, is_some}
+use Rattle.std.proofs.Common.{◌∙◌, ◌++◌, ◌∷◌, [], Bool, ap, sym, if◌then◌else◌, is_some}
 use Rattle.sample_book.specs.Rows.{cell_eq}
 use Rattle.sample_book.proofs.FirstPlaces.{any-position}
 use Rattle.sample_book.proofs.StandingLemmas.{also_ok}

@@ -1,5 +1,4 @@
-use Rattle.std.proofs.Common.{◌≡◌, ◌∙◌, sym, take, false}
-use Rattle.std.specs.List.{list_any}
+use Rattle.std.proofs.Common.{◌∙◌, sym}
 use Rattle.sample_book.specs.Rows.{cell_eq}
 use Rattle.sample_book.proofs.FirstPlaces.{always_none, position-first, none-first, none-take, first-take}
 use Rattle.sample_book.proofs.current_rows.kept_place.Goals as goal

@@ -1,4 +1,4 @@
-use Rattle.std.proofs.Common.{◌≡◌, ◌∙◌, sym}
+use Rattle.std.proofs.Common.{◌∙◌, sym}
 use Rattle.sample_book.specs.Counting.{is_of}
 use Rattle.sample_book.proofs.TallyLemmas.{found_at, passed_at}
 use Rattle.sample_book.proofs.tally.first_of.Goals as goal

@@ -11,7 +11,7 @@ pub put-requires : goal.put-requires
 put-requires c =
     let row = c.args.row.now in
     let rows = c.args.book.now.rows in
-    let new : verdict_of rows row ≡ New = sym c.check-verdict.ensures ∙ c.in-New.is in
+    let new : verdict_of rows row ≡ New = sym c.check-verdict.ensures.verdict ∙ c.in-New.is in
     let still : verdict_of c.make_room.new.self.rows row ≡ New = ap (λ (rows : List Row). verdict_of rows row) c.in_ok-make_room-in-New.ensures.rows ∙ new in
     let room = c.in_ok-make_room-in-New.ensures.room ∙ ap (room_for rows) c.from_ref.ensures.value ∙ room_for-new rows row new in
     subst (λ (verdict : RowVerdict). MayPutAs verdict c.make_room.new.self.room (cell_of row)) (sym still) (ap (λ (room : List Cell). slice_get room 0) room)

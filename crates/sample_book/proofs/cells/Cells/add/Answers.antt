@@ -1,4 +1,4 @@
-use Rattle.std.proofs.Common.{◌≡◌, ◌∙◌, ◌++◌, ◌∷◌, [], ap, sym, subst, false, map}
+use Rattle.std.proofs.Common.{◌≡◌, ◌∙◌, ◌++◌, ◌∷◌, [], ap, sym, subst, map}
 use Rattle.std.specs.List.{list_any}
 use Rattle.sample_book.specs.Keys.{AreNamed, cell_named}
 use Rattle.sample_book.specs.Rows.{cell_eq}

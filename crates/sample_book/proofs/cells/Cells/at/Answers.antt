@@ -1,4 +1,4 @@
-use Rattle.std.proofs.Common.{◌≡◌, ◌∙◌, ap, sym, Some, slice_get}
+use Rattle.std.proofs.Common.{◌∙◌, ap, sym, Some, slice_get}
 use Rattle.std.specs.Option.{option_copied}
 use Rattle.sample_book.proofs.CellLemmas.{named_at, slice_get-named}
 use Rattle.sample_book.proofs.cells.Cells.at.Goals as goal

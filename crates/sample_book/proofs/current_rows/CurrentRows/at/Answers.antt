@@ -1,4 +1,4 @@
-use Rattle.std.proofs.Common.{◌≡◌, ◌∙◌, ap, sym, slice_get, length, arith}
+use Rattle.std.proofs.Common.{◌∙◌, ap, sym, slice_get, length, arith}
 use Rattle.sample_book.specs.Standing.{Standing}
 use Rattle.sample_book.proofs.StandingLemmas.{row_beyond, length-rows}
 use Rattle.sample_book.proofs.current_rows.CurrentRows.at.Goals as goal

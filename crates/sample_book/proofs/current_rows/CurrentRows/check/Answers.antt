@@ -1,4 +1,4 @@
-use Rattle.std.proofs.Common.{◌≡◌, ◌∙◌, ap, sym, subst, Some, Option, slice_get, take, length, false}
+use Rattle.std.proofs.Common.{◌≡◌, ◌∙◌, ap, sym, subst, Some, Option, take, false}
 use Rattle.std.specs.List.{position, list_any}
 use Rattle.std.proofs.lemmas.Option.{slice_get_read}
 use Rattle.sample_book.specs.declared.row.Cell.{Cell}

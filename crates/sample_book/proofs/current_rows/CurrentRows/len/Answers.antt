@@ -1,4 +1,4 @@
-use Rattle.std.proofs.Common.{◌≡◌, ◌∙◌, ap, sym, length}
+use Rattle.std.proofs.Common.{◌∙◌, ap, sym, length}
 use Rattle.sample_book.specs.Standing.{Standing}
 use Rattle.sample_book.proofs.StandingLemmas.{length-rows}
 use Rattle.sample_book.proofs.current_rows.CurrentRows.len.Goals as goal

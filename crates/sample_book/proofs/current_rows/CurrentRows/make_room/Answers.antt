@@ -1,10 +1,7 @@
-use Rattle.std.proofs.Common.{◌≡◌, ◌∙◌, ◌++◌, [], ℕ, ap, sym, subst, arith, length, drop, take, map, List}
+use Rattle.std.proofs.Common.{◌≡◌, ◌∙◌, ◌++◌, [], ap, sym, arith, length, take}
 use Rattle.std.proofs.lemmas.List.{append-nil}
-use Rattle.sample_book.specs.declared.row.Cell.{Cell}
-use Rattle.sample_book.specs.declared.row.Row.{Row}
-use Rattle.sample_book.specs.declared.current_rows.Stored.{Stored}
-use Rattle.sample_book.specs.Rows.{cell_of, new_cells, room_for}
-use Rattle.sample_book.specs.Standing.{Standing, rows_stored}
+use Rattle.sample_book.specs.Rows.{new_cells, room_for}
+use Rattle.sample_book.specs.Standing.{Standing}
 use Rattle.sample_book.proofs.StandingLemmas.{RoomMade, room_made, cells-rows, length-new_cells, length-taken}
 use Rattle.sample_book.proofs.current_rows.CurrentRows.make_room.Goals as goal
 

@@ -1,8 +1,3 @@
-use Rattle.std.proofs.Common.{◌≡◌, ◌∙◌, ap, sym, subst, arith, length, [], List}
-use Rattle.std.specs.List.{IsDistinct}
-use Rattle.sample_book.specs.declared.row.Cell.{Cell}
-use Rattle.sample_book.specs.declared.current_rows.Stored.{Stored}
-use Rattle.sample_book.specs.Standing.{IsInStep}
 use Rattle.sample_book.proofs.StandingLemmas.{in_step_empty}
 use Rattle.sample_book.proofs.current_rows.CurrentRows.new.Goals as goal
 

@@ -1,8 +1,7 @@
-use Rattle.std.proofs.Common.{◌≡◌, ◌≢◌, ◌∙◌, ◌++◌, ◌∷◌, [], ℕ, suc, ap, sym, subst, arith, length, drop, take, set, Some, false, List, add-one}
+use Rattle.std.proofs.Common.{◌≡◌, ◌∙◌, ◌++◌, ◌∷◌, [], suc, ap, sym, subst, arith, length, drop, take, Some, false, add-one}
 use Rattle.std.specs.List.{position, list_any}
 use Rattle.std.proofs.lemmas.List.{length-set, length-append}
 use Rattle.sample_book.specs.declared.row.Cell.{Cell}
-use Rattle.sample_book.specs.declared.row.RowVerdict.TheVariants.{New}
 use Rattle.sample_book.specs.declared.current_rows.Stored.{Stored}
 use Rattle.sample_book.specs.Rows.{MayPutAs, cell_eq, cell_of, current_rows, verdict_of}
 use Rattle.sample_book.specs.Standing.{Standing, rows_stored}

@@ -1,4 +1,4 @@
-use Rattle.std.proofs.Common.{◌≡◌, ◌∙◌, ap, sym, arith, Some, slice_get, length, refl}
+use Rattle.std.proofs.Common.{◌∙◌, ap, sym, arith, Some, slice_get, length, refl}
 use Rattle.std.proofs.lemmas.Option.{slice_get_read}
 use Rattle.sample_book.specs.Standing.{Standing}
 use Rattle.sample_book.proofs.StandingLemmas.{row_at, length-rows}

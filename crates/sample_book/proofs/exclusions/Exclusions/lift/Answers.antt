@@ -1,4 +1,4 @@
-use Rattle.std.proofs.Common.{◌≡◌, ◌∙◌, ◌&&◌, not, Bool, ap, sym, set, get_or}
+use Rattle.std.proofs.Common.{◌∙◌, ◌&&◌, not, Bool, ap, sym, set}
 use Rattle.std.proofs.lemmas.List.Edits.{map_over_more}
 use Rattle.sample_book.specs.declared.exclusions.Exclusion.{Exclusion}
 use Rattle.sample_book.specs.Exclusions.{has_id}

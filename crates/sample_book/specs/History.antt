@@ -1,0 +1,72 @@
+-- What a book holds after all that came: rows, exclusions and liftings, in any order.
+use Rattle.std.specs.Prelude.{◌≡◌, ℕ, Bool, true, false, not, List, [], ◌∷◌, ◌++◌, map, drop, if◌then◌else◌, None}
+use Rattle.std.specs.List.{list_any}
+use Rattle.std.specs.Str.{bytes_eq}
+use Rattle.sample_book.specs.declared.row.Cell.{Cell}
+use Rattle.sample_book.specs.declared.row.Row.{Row}
+use Rattle.sample_book.specs.declared.row.RowVerdict.{RowVerdict}
+use Rattle.sample_book.specs.declared.row.RowVerdict.TheVariants.{New, Newer}
+use Rattle.sample_book.specs.declared.exclusions.Exclusion.{Exclusion}
+use Rattle.sample_book.specs.Book.{Book}
+use Rattle.sample_book.specs.Exclusions.{Change, Excluded, Lifted, IsLive, exclusion_of, lifted, excluded_in, lifted_in}
+use Rattle.sample_book.specs.Rows.{MayPutAs, cell_of, current_rows, verdict_of}
+
+-- what happens to a book: a row comes, an exclusion is made, or the one of an id is lifted
+pub data Event : Type 0 where
+  Came : Row → Event
+  Changed : Change → Event
+
+-- the rows that came
+abbrev pub rows_in : List Event → List Row
+rows_in [] = []
+rows_in (Came row ∷ events) = row ∷ rows_in events
+rows_in (Changed change ∷ events) = rows_in events
+
+-- the exclusions and liftings among the events
+abbrev pub changes_in : List Event → List Change
+changes_in [] = []
+changes_in (Came row ∷ events) = changes_in events
+changes_in (Changed change ∷ events) = change ∷ changes_in events
+
+-- The exclusions that were made, each live unless its id was lifted.
+abbrev pub exclusions_of : List Change → List (Exclusion × Bool)
+exclusions_of changes = map (λ value. (value, not (list_any (bytes_eq value.id) (lifted_in changes)))) (excluded_in changes)
+
+-- a row is put where it is new or newer, and passed over else
+abbrev pub is_put : RowVerdict → Bool
+is_put New = true
+is_put (Newer kept) = true
+is_put _ = false
+
+-- The rows and exclusions of a book after these events, one call after another: each row that came was put or passed over,
+-- each exclusion was of an id that was unused, each lifting of one that was live.
+pub data Holds : List Event → List Row → List (Exclusion × Bool) → Type 0 where
+  empty : Holds [] [] []
+  put : {events : List Event} {rows : List Row} {made : List (Exclusion × Bool)} (row : Row) → Holds events rows made →
+      is_put (verdict_of rows row) ≡ true → Holds (events ++ Came row ∷ []) (current_rows (rows ++ row ∷ [])) made
+  passed : {events : List Event} {rows : List Row} {made : List (Exclusion × Bool)} (row : Row) → Holds events rows made →
+      is_put (verdict_of rows row) ≡ false → Holds (events ++ Came row ∷ []) rows made
+  excluded : {events : List Event} {rows : List Row} {made : List (Exclusion × Bool)} (value : Exclusion) → Holds events rows made →
+      exclusion_of made value.id ≡ None → Holds (events ++ Changed (Excluded value) ∷ []) rows (made ++ (value, true) ∷ [])
+  lifted_one : {events : List Event} {rows : List Row} {made : List (Exclusion × Bool)} (id : List ℕ) → Holds events rows made →
+      IsLive made id → Holds (events ++ Changed (Lifted id) ∷ []) rows (lifted made id)
+
+-- a book of some events becomes the book of these and one more
+abbrev pub Gains : Book → Event → Book → Type 0
+Gains before event after = (events : List Event) → Holds events before.rows before.exclusions → Holds (events ++ event ∷ []) after.rows after.exclusions
+
+-- a row takes the first place with room where it is new
+abbrev pub room_after : RowVerdict → List Cell → List Cell
+room_after New room = drop 1 room
+room_after _ room = room
+
+-- a row that comes may be put, or is none to put
+abbrev pub MayComeAs : RowVerdict → List Cell → Cell → Type 0
+MayComeAs verdict room cell = is_put verdict ≡ true → MayPutAs verdict room cell
+
+-- Rows may come one after another, with this room, and each that is new or newer may be put.
+abbrev pub MayComeAll : List Row → List Cell → List Row → Type 0
+MayComeAll rows room [] = Unit {0}
+MayComeAll rows room (row ∷ came) =
+    MayComeAs (verdict_of rows row) room (cell_of row)
+    × MayComeAll (if is_put (verdict_of rows row) then current_rows (rows ++ row ∷ []) else rows) (room_after (verdict_of rows row) room) came
