@@ -1,5 +1,5 @@
 -- One more row behind those that came.
-use Rattle.std.proofs.Common.{◌≡◌, ◌≤◌, ◌+◌, ◌∙◌, ℕ, List, [], ◌∷◌, ◌++◌, Bool, true, false, Ok, ap, append_assoc, arith, cond, length-append, refl, sym, if◌then◌else◌}
+use Rattle.std.proofs.Common.{◌≡◌, ◌≤◌, ◌+◌, ◌∙◌, ℕ, List, [], ◌∷◌, ◌++◌, Bool, true, false, Ok, ap, append_assoc, arith, cond, length-append, refl, sym}
 use mir.Val.{bool_byte}
 use Rattle.std.specs.List.{count_by}
 use Rattle.std.proofs.lemmas.List.{append-nil}
@@ -11,26 +11,16 @@ use Rattle.sample_book.specs.declared.RowVerdict.{RowVerdict}
 use Rattle.sample_book.specs.declared.RowVerdict.TheVariants.{New, Newer, Repeated, Superseded, Conflict}
 use Rattle.sample_book.specs.Rows.{current_rows, verdict_of}
 use Rattle.sample_book.proofs.CameLemmas.{after-current}
-use Rattle.sample_book.proofs.CameLemmas as came
 use Rattle.slo_office.specs.Rows.{is_newer, is_repeated, is_superseded, judge, judge_over, verdicts, verdicts_from}
-use Rattle.slo_office.specs.Tables.{IsSoFar, is_put, rows_after}
+use Rattle.slo_office.specs.Tables.{IsSoFar, rows_after}
 
 -- a pass over records goes on behind one that keeps the rules
 judged_from-one : (came : List Row) (number : ℕ) (fields : Record) (rest : List Record) (row : Row) → judge came fields ≡ Ok row →
     judged_from judge came number (fields ∷ rest) ≡ judged_from judge (came ++ row ∷ []) (number + 1) rest
 judged_from-one came number fields rest row e = ap (judged_next (λ more. judged_from judge more (number + 1) rest) came number) e
 
-put_same : (verdict : RowVerdict) → is_put verdict ≡ came.is_put verdict
-put_same New = refl
-put_same (Newer old) = refl
-put_same Repeated = refl
-put_same (Superseded revision) = refl
-put_same (Conflict kept) = refl
-
 after-came : (came : List Row) (row : Row) → rows_after (current_rows came) row ≡ current_rows (came ++ row ∷ [])
-after-came came row =
-    ap (λ b. if b then current_rows (current_rows came ++ row ∷ []) else current_rows came) (put_same (verdict_of (current_rows came) row))
-    ∙ after-current came row
+after-came came row = after-current came row
 
 verdicts-push : (before rows : List Row) (row : Row) →
     verdicts_from before (rows ++ row ∷ []) ≡ verdicts_from before rows ++ verdict_of (current_rows (before ++ rows)) row ∷ []

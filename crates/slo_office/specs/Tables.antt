@@ -1,10 +1,10 @@
 -- What is kept of the rows that came, while the records of a text are judged one after another.
-use Rattle.std.specs.Prelude.{◌≡◌, ◌+◌, ◌≤◌, ℕ, Bool, true, false, List, [], ◌∷◌, ◌++◌, Result, Ok, Err, count_by, length, if◌then◌else◌}
+use Rattle.std.specs.Prelude.{◌≡◌, ◌+◌, ◌≤◌, ℕ, List, [], ◌∷◌, ◌++◌, Result, Ok, Err, count_by, length, if◌then◌else◌}
 use Rattle.csv_rows.specs.Rows.{Record}
 use Rattle.slo_terms.specs.Judged.{judged_from}
 use Rattle.sample_book.specs.declared.Row.{Row}
 use Rattle.sample_book.specs.declared.RowVerdict.{RowVerdict}
-use Rattle.sample_book.specs.declared.RowVerdict.TheVariants.{New, Newer}
+use Rattle.sample_book.specs.History.{is_put}
 use Rattle.sample_book.specs.Rows.{current_rows, verdict_of}
 use Rattle.slo_office.specs.Rows.{IsCounted, is_newer, is_repeated, is_superseded, judge, judge_over, verdicts}
 use Rattle.slo_office.specs.declared.ending.RecordFault.{RecordFault}
@@ -13,12 +13,6 @@ use Rattle.slo_office.specs.declared.ending.RecordFault.{RecordFault}
 abbrev pub IsJudged : List Row → Record → Result (Row × RowVerdict) RecordFault → Type 0
 IsJudged current fields (Ok judged) = (judge_over current fields ≡ Ok judged.0) × (judged.1 ≡ verdict_of current judged.0) × IsCounted judged.0
 IsJudged current fields (Err fault) = judge_over current fields ≡ Err fault
-
--- whether a row of this verdict is put into the book
-abbrev pub is_put : RowVerdict → Bool
-is_put New = true
-is_put (Newer old) = true
-is_put _ = false
 
 -- the current rows after a row came
 abbrev pub rows_after : List Row → Row → List Row
