@@ -10,6 +10,8 @@ pub mod Text
 pub mod OpenNodes
 pub mod Fault
 pub mod Reader
+pub mod Spelling
+pub mod Fits
 pub mod NodeView
 pub mod Scan
 pub mod ScanView
