@@ -5,6 +5,7 @@
 
 mod block;
 mod bytes;
+mod entries;
 mod flow;
 mod frame;
 mod inline;
