@@ -27,4 +27,6 @@ pub use text::Text;
 pub use which::Which;
 
 #[cfg(test)]
+mod profile_tests;
+#[cfg(test)]
 mod tests;
