@@ -142,7 +142,7 @@ repeated_any (dash n) f v = refl
 repeated_any (value n x) f v = refl
 repeated_any (header n s) f v = refl
 repeated_any (raw l) f v = refl
-repeated_any (key n k) (frames.Map j es i) v = list_any-append (λ (c : Child). is_key k c.mark) (map (entry_child j) es.items) _ ∙ sym (list_any-append (λ (c : Child). is_key k c.mark) (map (entry_child j) es.items) _)
+repeated_any (key n k) (frames.Map j es i) v = list_any-append (λ (c : Child). is_key k c.mark) (map (entry_child j) es) _ ∙ sym (list_any-append (λ (c : Child). is_key k c.mark) (map (entry_child j) es) _)
 repeated_any (key n k) (frames.List j xs) v = list_any-append (λ (c : Child). is_key k c.mark) (map (child (dash j)) xs.items) _ ∙ sym (list_any-append (λ (c : Child). is_key k c.mark) (map (child (dash j)) xs.items) _)
 
 -- the frames before, the one that goes on, and those behind it

@@ -10,7 +10,10 @@ pub mod Text
 pub mod OpenNodes
 pub mod Fault
 pub mod Reader
+pub mod Spelling
+pub mod Fits
 pub mod NodeView
+pub mod KeysView
 pub mod Scan
 pub mod ScanView
 pub mod FlowView

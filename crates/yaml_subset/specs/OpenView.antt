@@ -36,7 +36,7 @@ head_of (frames.List n items) = dash n
 
 -- its finished children
 abbrev pub done_of : Frame → List Child
-done_of (frames.Map n entries k) = map (entry_child n) entries.items
+done_of (frames.Map n entries k) = map (entry_child n) entries
 done_of (frames.List n items) = map (child (dash n)) items.items
 
 -- frames, and what stands within the innermost

@@ -1,6 +1,6 @@
 //! Open maps and lists.
 
-ghost use Rattle.std.specs.Prelude.{◌≡◌, ℕ, ◌||◌, true, Option, Some, None, IfOk, ◌<◌, map, vec_len, option_map};
+ghost use Rattle.std.specs.Prelude.{◌≡◌, ℕ, ◌||◌, true, Option, Some, None, IfOk, ◌<◌, map, length, option_map};
 ghost use Rattle.yaml_subset.specs.Tree.{Tree};
 ghost use Rattle.std.specs.List.{list_any};
 ghost use Rattle.std.specs.Str.{bytes_eq};
@@ -13,15 +13,16 @@ ghost use Rattle.yaml_subset.specs.LineView.{mark_view};
 ghost use Rattle.yaml_subset.specs.OpenView.{head_of, done_of, last_view, child, entry_child};
 
 use crate::block::Block;
+use crate::entries::OpenEntries;
 use crate::mark::Mark;
-use crate::node::{Node, Nodes, Pairs};
+use crate::node::{Node, Nodes};
 use crate::text::Text;
 use std::alloc::{AllocError, Global};
 
 /// An open map or list at its column, with its finished children; a map also with the key whose value is open.
-#[derive(Debug, Drop)]
+#[derive(Drop)]
 pub(crate) enum Frame {
-    Map(usize, Pairs, Text),
+    Map(usize, OpenEntries, Text),
     List(usize, Nodes),
 }
 
@@ -78,20 +79,11 @@ fn same_bytes(one: &[u8], other: &[u8]) -> bool
     one == other
 }
 
-/// Whether one of these entries has a key.
-fn has_key(entries: &[(Text, Node)], key: &[u8]) -> bool
-    ensures { result ≡ list_any (λ p. bytes_eq key.now p.0) entries.now }
-{
-    entries
-        .iter()
-        .any(|entry| same_bytes(key, entry.0.as_bytes()))
-}
-
 /// Whether a map at a column has a key among its entries, or open.
-fn is_known(column: usize, entries: &[(Text, Node)], key: &[u8], next: &[u8]) -> bool
+fn is_known(column: usize, entries: &OpenEntries, key: &[u8], next: &[u8]) -> bool
     ensures { result ≡ is_repeated_lem (marks.key column next.now) (with_child (map (entry_child column) entries.now) (marks.key column key.now) None) }
 {
-    let finished = has_key(entries, next);
+    let finished = entries.has_key(next);
     let open = same_bytes(next, key);
     either(finished, open)
 }
@@ -265,25 +257,24 @@ pub(crate) fn more_documents(nodes: Nodes, value: Option<Node>) -> Result<Nodes,
 
 /// The entries with one more, of a map at a column.
 #[tactic(auto, using(std::proofs::lemmas::List::map_push))]
-pub(crate) fn more_entries(
+fn more_entries(
     alloc: Global,
     column: usize,
-    entries: Pairs,
+    entries: OpenEntries,
     key: Text,
     value: Option<Node>,
-) -> Result<Pairs, AllocError>
-    ensures more { IfOk result (λ v. map (entry_child column) v.items ≡ with_child (map (entry_child column) entries.items) (marks.key column key) (option_map node_view value)) }
-    ensures filled { IfOk result (λ v. 0 < vec_len v) }
+) -> Result<OpenEntries, AllocError>
+    ensures more { IfOk result (λ e. map (entry_child column) e ≡ with_child (map (entry_child column) entries) (marks.key column key) (option_map node_view value)) }
+    ensures filled { IfOk result (λ e. 0 < length e) }
 {
     let node = or_no_text(alloc, value);
-    let mut entries = entries;
-    entries.push((key, node))?;
+    let entries = entries.with(alloc, key, node)?;
     Ok(entries)
 }
 
 /// The items with one more, of a list at a column.
 #[tactic(auto, using(std::proofs::lemmas::List::map_push))]
-pub(crate) fn more_items(
+fn more_items(
     alloc: Global,
     column: usize,
     items: Nodes,
@@ -297,11 +288,11 @@ pub(crate) fn more_items(
     Ok(items)
 }
 
-fn node_of_entries(column: usize, entries: Pairs) -> Node
-    requires { 0 < vec_len entries }
-    ensures { node_view result ≡ collection (map (entry_child column) entries.items) }
+fn node_of_entries(column: usize, entries: OpenEntries) -> Node
+    requires { 0 < length entries }
+    ensures { node_view result ≡ collection (map (entry_child column) entries) }
 {
-    Node::Map(entries)
+    Node::Map(entries.ended())
 }
 
 fn node_of_items(column: usize, items: Nodes) -> Node

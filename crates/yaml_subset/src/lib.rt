@@ -5,6 +5,7 @@
 
 mod block;
 mod bytes;
+mod entries;
 mod flow;
 mod frame;
 mod inline;
@@ -25,5 +26,7 @@ pub use read::{MAX_BYTES, YamlFault, read_documents};
 pub use text::Text;
 pub use which::Which;
 
+#[cfg(test)]
+mod profile_tests;
 #[cfg(test)]
 mod tests;

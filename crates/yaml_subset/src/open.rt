@@ -11,6 +11,7 @@ ghost use Rattle.yaml_subset.specs.OpenView.{head_of, done_of, open_of, last_vie
 ghost use Rattle.yaml_subset.specs.StopView.{Refuses, nodes_open};
 
 use crate::block::Block;
+use crate::entries::OpenEntries;
 use crate::frame::{Frame, Last, more_documents};
 use crate::mark::Mark;
 use crate::node::{Node, Nodes, is_scalar};
@@ -50,7 +51,7 @@ impl<T: Drop> From<AllocFailed<T>> for Stop {
 }
 
 /// The finished documents, the open maps and lists, the outermost first, and what stands in the innermost.
-#[derive(Debug, Drop)]
+#[derive(Drop)]
 pub(crate) struct OpenNodes {
     pub(crate) documents: Nodes,
     pub(crate) frames: Vec<Frame>,
@@ -58,7 +59,7 @@ pub(crate) struct OpenNodes {
 }
 
 /// The frames that are left, and the value that the others are.
-#[derive(Debug, Drop)]
+#[derive(Drop)]
 struct Closed {
     frames: Vec<Frame>,
     value: Option<Node>,
@@ -216,7 +217,11 @@ fn begin(alloc: Global, documents: Nodes, frames: Vec<Frame>, mark: Mark) -> Res
             if is_full {
                 return Err(Stop::Row(Which::TooDeep));
             }
-            let nodes = with_frame(documents, frames, Frame::Map(column, Vec::new(alloc), key))?;
+            let nodes = with_frame(
+                documents,
+                frames,
+                Frame::Map(column, OpenEntries::new(alloc), key),
+            )?;
             Ok(nodes)
         }
         Mark::Value(_, node) => {

@@ -89,7 +89,7 @@ fn add_all(alloc: Global, nodes: OpenNodes, marks: Vec<Mark>) -> Result<OpenNode
 }
 
 /// What is kept after some lines.
-#[derive(Debug, Drop)]
+#[derive(Drop)]
 pub(crate) struct Reader {
     pub(crate) nodes: OpenNodes,
     /// The column of the last mark, where it is a key or dash.

@@ -61,7 +61,7 @@ fn show_documents(out: &mut String, nodes: &Nodes) -> Result<(), AllocError> {
     Ok(())
 }
 
-fn answer(alloc: Global, text: &str) -> Result<String, AllocError> {
+pub(crate) fn answer(alloc: Global, text: &str) -> Result<String, AllocError> {
     match read_documents(alloc, text.as_bytes()) {
         Ok(nodes) => {
             let mut out = String::new(alloc);
@@ -198,7 +198,7 @@ const REFUSED: [(&str, &str); 50] = [
     ),
 ];
 
-fn check(rt: &HostRuntime, cases: &[(&str, &str)]) -> Result<bool, Fail> {
+pub(crate) fn check(rt: &HostRuntime, cases: &[(&str, &str)]) -> Result<bool, Fail> {
     let mut all = true;
     for case in cases {
         let got = answer(rt.alloc(), case.0)?;

@@ -1,7 +1,13 @@
-use Rattle.std.proofs.Common.{sym, ◌∙◌, arith}
+use Rattle.std.proofs.Common.{List, map, sym, ap, ◌∙◌}
+use Rattle.yaml_subset.specs.Tree.{mapping}
+use Rattle.yaml_subset.specs.NodeView.{node_view, entries_of}
+use Rattle.yaml_subset.specs.declared.text.Text.{Text}
+use Rattle.yaml_subset.specs.declared.node.Node.{Node}
 use Rattle.yaml_subset.proofs.FrameLemmas.{collection-map}
 use Rattle.yaml_subset.proofs.NodeLemmas.{view-Map}
 use Rattle.yaml_subset.proofs.frame.node_of_entries.Goals as goal
 
 pub returns : goal.returns
-returns c = view-Map c.args.entries ∙ sym (collection-map c.args.column c.args.entries.items (omega (arith, c.args.entries.ok.0)))
+returns c = view-Map c.ended.result
+    ∙ ap (λ (es : List (Text × Node)). mapping (entries_of (map (λ p. (p.0, node_view p.1)) es))) c.ended.ensures
+    ∙ sym (collection-map c.args.column c.args.entries c.requires)
