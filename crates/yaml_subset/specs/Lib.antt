@@ -10,6 +10,7 @@ pub mod Text
 pub mod OpenNodes
 pub mod Fault
 pub mod Reader
+pub mod BadPlace
 pub mod Spelling
 pub mod Fits
 pub mod NodeView

@@ -27,3 +27,5 @@ pub use which::Which;
 
 #[cfg(test)]
 mod tests;
+#[cfg(test)]
+mod utf8_tests;
