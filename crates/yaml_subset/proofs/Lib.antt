@@ -9,3 +9,7 @@ pub mod OpenViewLemmas
 pub mod ReaderLemmas
 pub mod ReadLemmas
 pub mod PlaceLemmas
+pub mod StandingBytes
+pub mod StandingQuoted
+pub mod StandingPlain
+pub mod StandingFlow
