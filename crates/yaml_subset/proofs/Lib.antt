@@ -13,3 +13,4 @@ pub mod StandingBytes
 pub mod StandingQuoted
 pub mod StandingPlain
 pub mod StandingFlow
+pub mod StandingLine

@@ -146,7 +146,7 @@ At parts.Over t cs = ⊤
 abbrev pub IsSound : Flow → List ℕ → Type 0
 IsSound s cs = s.fault ≡ None → AllByRecursion IsItem s.items × At s.part s.text cs
 
-no_fault_left : (a b : Option Which) → earlier a b ≡ None → a ≡ None
+pub no_fault_left : (a b : Option Which) → earlier a b ≡ None → a ≡ None
 no_fault_left None b e = refl
 no_fault_left (Some a) None e = e
 no_fault_left (Some a) (Some b) e = by (nat_le (place a) (place b)) e
@@ -155,7 +155,7 @@ no_fault_left (Some a) (Some b) e = by (nat_le (place a) (place b)) e
     by true e = cc
     by false e = cc
 
-no_fault_right : (a b : Option Which) → earlier a b ≡ None → b ≡ None
+pub no_fault_right : (a b : Option Which) → earlier a b ≡ None → b ≡ None
 no_fault_right None b e = e
 no_fault_right (Some a) None e = refl
 no_fault_right (Some a) (Some b) e = by (nat_le (place a) (place b)) e
@@ -174,7 +174,7 @@ items_more : (xs : List Tree) (x : Tree) → AllByRecursion IsItem xs → IsItem
 items_more [] x h k = (k, tt)
 items_more (y ∷ ys) x h k = (h.0, items_more ys x h.1 k)
 
-pure_behind : (c : ℕ) (cs : List ℕ) → c < 128 → IsPure (c ∷ cs) → IsPure cs
+pub pure_behind : (c : ℕ) (cs : List ℕ) → c < 128 → IsPure (c ∷ cs) → IsPure cs
 pure_behind c cs h p = (back [] c cs h p.0, (or_parts (is_control c) (has_control cs) p.1).1)
 
 quote_begins : (c : ℕ) (cs : List ℕ) → c < 128 → IsPure (c ∷ cs) → IsUtf8 ([] ++ cs) × (is_quotable [] ≡ true) × (has_control cs ≡ false)
