@@ -8,9 +8,11 @@ pub mod FrameLemmas
 pub mod OpenViewLemmas
 pub mod ReaderLemmas
 pub mod ReadLemmas
-pub mod PlaceLemmas
 pub mod StandingBytes
+pub mod PlaceLemmas
 pub mod StandingQuoted
 pub mod StandingPlain
 pub mod StandingFlow
 pub mod StandingLine
+pub mod StandingOpen
+pub mod StandingText

@@ -3,8 +3,8 @@ use Rattle.std.proofs.Common.{◌≡◌, ℕ, suc, ◌+◌, ◌-◌, ◌*◌, �
 use Rattle.std.specs.List.{starts_with}
 use Rattle.std.proofs.lemmas.Bool.{and_parts, cases_lt, lt-ltb, le-ltb, le-leb}
 use Rattle.std.proofs.lemmas.Bool.Decides.{nat_tests}
-use Rattle.std.proofs.lemmas.Str.{IsUtf8-append, IsUtf8-nil, IsUtf8-encode, encode_ascii, IsUtf8-drop, IsCharBoundary-from_take}
-use Rattle.std.proofs.Math.Seq.{take-append_seam, drop-append_seam, take-append-add, drop-cons}
+use Rattle.std.proofs.lemmas.Str.{IsUtf8-append, IsUtf8-nil, IsUtf8-encode, encode_ascii}
+use Rattle.std.proofs.Math.Seq.{take-append-add, drop-cons}
 use Rattle.std.specs.Int.{is_in_range}
 use Rattle.std.specs.Str.{IsValidUpTo}
 use Rattle.std.specs.Str.Lossy.{second_byte_min, second_byte_max, error_len_after_two, error_len_after_one, error_len_of_some, utf8_error_len}
@@ -12,12 +12,7 @@ use lib.Pointwise.{bytes_decides}
 use lib.Utf8.{scalar, scalars, encode, encodes, next, scalar_cases, low_scalar}
 use Rattle.yaml_subset.specs.BadPlace.{CanGoOn, IsBadPlace}
 use Rattle.yaml_subset.specs.Text.{without_mark}
-
--- what stands behind a text that is UTF-8 is UTF-8 where both are
-pub seam : (p q : List ℕ) → IsUtf8 p → IsUtf8 (p ++ q) → IsUtf8 q
-seam p q u v =
-    let within : length p ≤ length (p ++ q) = omega (arith, length-append p q) in
-    subst IsUtf8 (drop-append_seam p q) (IsUtf8-drop (p ++ q) (length p) v (IsCharBoundary-from_take (p ++ q) (length p) v within (subst IsUtf8 (sym (take-append_seam p q)) u)))
+use Rattle.yaml_subset.proofs.StandingBytes.{pick, seam}
 
 -- a byte that may follow the second one of a character
 abbrev pub Follows : ℕ → Type 0
@@ -234,10 +229,6 @@ of_max x y s = grind (arith, nat_tests)
 
 second_false : (x y : ℕ) → is_in_range (second_byte_min x) (second_byte_max x) y ≡ false → ¬ (Second x y)
 second_false x y e s = range_false (second_byte_min x) (second_byte_max x) y e (of_min x y s) (of_max x y s)
-
-pick : {A : Type 0} (P : A → Type 0) (b : Bool) (x y : A) → (b ≡ true → P x) → (b ≡ false → P y) → P (cond b x y)
-pick P true x y p q = p refl
-pick P false x y p q = q refl
 
 no_lead : (x : ℕ) (more : List ℕ) → NoFront (x ∷ more) → ¬ (IsLead x) → IsBadPlace (x ∷ more) 0
 no_lead x more none out = record { within = omega arith; before = ([], IsUtf8-nil); with_it = λ h g. by (lead x g.0 g.1) }

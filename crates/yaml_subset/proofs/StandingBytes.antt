@@ -1,18 +1,17 @@
 -- Parts of UTF-8 bytes that are cut at ASCII bytes are UTF-8, so the lines of a text are.
-use Rattle.std.proofs.Common.{◌≡◌, ℕ, suc, ◌+◌, ◌-◌, ◌<◌, ◌≤◌, Bool, true, false, cond, not, ◌&&◌, ◌||◌, ◌==◌, List, [], ◌∷◌, ◌++◌, length, take, drop, get_or, slice_index, replicate, IsUtf8, refl, sym, ap, ◌∙◌, subst, arith, append_assoc, append-nil, length-append, take-append-drop}
-use Rattle.std.specs.Prelude.{⊤, zero}
-use Rattle.std.specs.List.{AllByRecursion, list_all, list_any, slice_split, onto_first}
+use Rattle.std.proofs.Common.{◌≡◌, ℕ, suc, ◌+◌, ◌-◌, ◌<◌, ◌≤◌, Bool, true, false, cond, not, ◌||◌, ◌==◌, List, [], ◌∷◌, ◌++◌, length, take, drop, get_or, slice_index, replicate, IsUtf8, refl, sym, ap, ◌∙◌, subst, arith, append_assoc, append-nil, length-append, take-append-drop}
+use Rattle.std.specs.Prelude.{zero}
+use Rattle.std.specs.List.{AllByRecursion, list_all, slice_split, onto_first}
 use Rattle.std.specs.Str.Lines.{lines, lines_of_parts, strip_carriage_return}
 use Rattle.std.proofs.lemmas.Bool.{and_parts, and_from, or_parts, eqb-true}
 use Rattle.std.proofs.lemmas.Bool.Decides.{nat_tests}
 use Rattle.std.proofs.lemmas.List.Folds.{list_all-append, list_any-append}
-use Rattle.std.proofs.lemmas.Str.{IsUtf8-append, IsUtf8-nil, IsUtf8-encode, encode_ascii, IsUtf8-take, IsCharBoundary-before_ascii}
-use Rattle.std.proofs.Math.Seq.{take-append_seam, get_or-append_seam}
+use Rattle.std.proofs.lemmas.Str.{IsUtf8-append, IsUtf8-nil, IsUtf8-encode, encode_ascii, IsUtf8-take, IsUtf8-drop, IsCharBoundary-before_ascii, IsCharBoundary-from_take}
+use Rattle.std.proofs.Math.Seq.{take-append_seam, drop-append_seam, get_or-append_seam}
 use lib.Utf8.{low_scalar}
-use Rattle.yaml_subset.specs.Block.{is_space, is_blank_byte}
+use Rattle.yaml_subset.specs.Block.{is_blank_byte}
 use Rattle.yaml_subset.specs.Line.{is_control, has_control}
 use Rattle.yaml_subset.specs.Fits.{is_quotable}
-use Rattle.yaml_subset.proofs.PlaceLemmas.{seam}
 
 -- what holds of both of two, each where it is picked, holds of the one that is picked
 pub pick : {A : Type 0} (P : A → Type 0) (b : Bool) (x y : A) → (b ≡ true → P x) → (b ≡ false → P y) → P (cond b x y)
@@ -20,6 +19,12 @@ pick P true x y p q = p refl
 pick P false x y p q = q refl
 
 -- CUTS
+
+-- what stands behind a text that is UTF-8 is UTF-8 where both are
+pub seam : (p q : List ℕ) → IsUtf8 p → IsUtf8 (p ++ q) → IsUtf8 q
+seam p q u v =
+    let within : length p ≤ length (p ++ q) = omega (arith, length-append p q) in
+    subst IsUtf8 (drop-append_seam p q) (IsUtf8-drop (p ++ q) (length p) v (IsCharBoundary-from_take (p ++ q) (length p) v within (subst IsUtf8 (sym (take-append_seam p q)) u)))
 
 pub one_ascii : (c : ℕ) → c < 128 → IsUtf8 (c ∷ [])
 one_ascii c h = subst IsUtf8 (encode_ascii c h) (IsUtf8-encode c (low_scalar c (omega arith)))

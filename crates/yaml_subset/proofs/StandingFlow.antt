@@ -1,14 +1,14 @@
 -- The items of a one-line list: quoted texts and texts of the plain form.
-use Rattle.std.proofs.Common.{◌≡◌, ℕ, zero, suc, ◌+◌, ◌-◌, ◌<◌, ◌≤◌, Bool, true, false, cond, not, ◌&&◌, ◌||◌, ◌==◌, List, [], ◌∷◌, ◌++◌, Option, Some, None, length, take, drop, slice_index, IsUtf8, refl, sym, ap, ◌∙◌, subst, arith, append_assoc, append-nil, take-append-drop, ◌⊎◌, inl, inr, eqb}
+use Rattle.std.proofs.Common.{◌≡◌, ℕ, suc, ◌-◌, ◌<◌, Bool, true, false, cond, not, ◌&&◌, ◌||◌, ◌==◌, List, [], ◌∷◌, ◌++◌, Option, Some, None, length, drop, slice_index, IsUtf8, refl, sym, ap, ◌∙◌, subst, arith, append_assoc, take-append-drop}
 use Rattle.std.specs.Prelude.{⊤, nat_le}
-use Rattle.std.specs.List.{AllByRecursion, list_all, list_any}
-use Rattle.std.proofs.lemmas.Bool.{and_parts, and_from, or_parts, or_from, or_cases, eqb-true, true≢false, false≢true}
+use Rattle.std.specs.List.{AllByRecursion}
+use Rattle.std.proofs.lemmas.Bool.{and_parts, and_from, or_parts, or_from, eqb-true, true≢false}
 use Rattle.std.proofs.lemmas.List.Folds.{list_any-append}
 use Rattle.yaml_subset.specs.Tree.{Tree, scalar}
 use Rattle.yaml_subset.specs.Rows.{place, earlier}
 use Rattle.yaml_subset.specs.Block.{is_blank_byte, trimmed}
 use Rattle.yaml_subset.specs.Quoted.{escaped}
-use Rattle.yaml_subset.specs.Flow.{Flow, flow, flow_start, flow_step, flow_at, flow_fault, flow_part, flow_item, flow_more, flow_quoted, flow_plain, colon_end, flow_row, in_closed, in_want, in_plain, in_single, in_double, in_escape, in_after, in_broken, begins_comment, is_flow_indicator, is_indicator, is_soft_indicator, ends_soft, is_flow_start}
+use Rattle.yaml_subset.specs.Flow.{Flow, flow, flow_step, flow_at, flow_fault, flow_part, flow_item, flow_more, flow_quoted, flow_plain, flow_row, in_closed, in_want, in_plain, in_single, in_double, in_escape, in_after, in_broken, begins_comment, is_flow_indicator, is_indicator, is_soft_indicator, ends_soft, is_flow_start}
 use Rattle.yaml_subset.specs.Line.{is_control, has_control, ends_word, is_plain_start, stops_plain, plain_len}
 use Rattle.yaml_subset.specs.Spelling.{spelled}
 use Rattle.yaml_subset.specs.Fits.{is_plain, is_quotable, Fits}
@@ -16,7 +16,7 @@ use Rattle.yaml_subset.specs.declared.which.Which.{Which}
 use Rattle.yaml_subset.specs.declared.which.Which.TheVariants.{Quote, Escape, FlowForm}
 use Rattle.yaml_subset.specs.declared.flow.Part.{Part}
 use Rattle.yaml_subset.specs.declared.flow.Part.TheVariants as parts
-use Rattle.yaml_subset.proofs.StandingBytes.{pick, front, back, onward, without, in_place, ascii_of, blank_ascii, free_take, may_stand, list_all-both, IsPure, IsClean, quotable}
+use Rattle.yaml_subset.proofs.StandingBytes.{pick, front, back, onward, without, in_place, ascii_of, blank_ascii, free_take, may_stand, list_all-both, IsPure}
 use Rattle.yaml_subset.proofs.StandingQuoted.{IsEscape, escape_fine}
 use Rattle.yaml_subset.proofs.StandingPlain.{Last, trimmed_last, trimmed_utf8, trimmed_first, is_plain_of}
 
@@ -59,6 +59,7 @@ plain_of_runs (c ∷ []) r l = let e : stops_plain c [] ≡ false = or_from (c =
     alone : (b : Bool) → b ≡ false → (b && true) ≡ false
     alone true e = e
     alone false e = refl
+
     never : (b : Bool) → (b && false) ≡ false
     never true = refl
     never false = refl
@@ -84,14 +85,14 @@ pub record IsBegun (t : List ℕ) (next : ℕ) : Type 0 where
 
 begun_more : (t : List ℕ) (c next : ℕ) → IsBegun t c → halts c next ≡ false → IsBegun (t ++ (c ∷ [])) next
 begun_more t c next b h = record {
-    first = b.first;
-    rest = b.rest ++ (c ∷ []);
-    text = ap (λ l. l ++ (c ∷ [])) b.text;
-    nonblank = b.nonblank;
-    starts = b.starts;
-    soft = λ e. subst (λ n. ends_soft n ≡ false) (same b.rest) (b.soft e);
-    runs_on = runs_more t c next b.runs_on h;
-  }
+  first = b.first;
+  rest = b.rest ++ (c ∷ []);
+  text = ap (λ l. l ++ (c ∷ [])) b.text;
+  nonblank = b.nonblank;
+  starts = b.starts;
+  soft = λ e. subst (λ n. ends_soft n ≡ false) (same b.rest) (b.soft e);
+  runs_on = runs_more t c next b.runs_on h;
+}
   where
     same : (u : List ℕ) → slice_index (u ++ (c ∷ [])) 0 ≡ slice_index ((u ++ (c ∷ [])) ++ (next ∷ [])) 0
     same [] = refl
@@ -188,20 +189,26 @@ module _ (t : List ℕ) (xs : List Tree) (f : Option Which) (c : ℕ) (cs : List
   unfolding next
   want_sound h =
       let s = made parts.Want t xs f in
-      pick (λ s. IsSound s cs) (is_blank_byte c) s _ (λ e g. ((h g).0, pure_behind c cs (blank_ascii c e) (h g).1))
-      (λ blank. pick (λ s. IsSound s cs) (c == 93) (flow_part s parts.Closed) _ (λ e g. ((h g).0, tt))
-      (λ _. pick (λ s. IsSound s cs) (c == 44) (flow_fault s parts.Want FlowForm) _ (λ e. faulted s parts.Want FlowForm cs)
-      (λ _. pick (λ s. IsSound s cs) (c == 39) (flow_item s parts.Single []) _ (λ e g. ((h g).0, quote_begins c cs (ascii_of c 39 e (omega arith)) (h g).1))
-      (λ _. pick (λ s. IsSound s cs) (c == 34) (flow_item s parts.Double []) _ (λ e g. ((h g).0, quote_begins c cs (ascii_of c 34 e (omega arith)) (h g).1))
+      let plain = cond (is_flow_start c next) (flow_item s parts.Plain (c ∷ [])) (flow_fault s parts.Broken (flow_row c next)) in
+      let double = cond (c == 34) (flow_item s parts.Double []) plain in
+      let single = cond (c == 39) (flow_item s parts.Single []) double in
+      let comma = cond (c == 44) (flow_fault s parts.Want FlowForm) single in
+      pick (λ s. IsSound s cs) (is_blank_byte c) s (cond (c == 93) (flow_part s parts.Closed) comma) (λ e g. ((h g).0, pure_behind c cs (blank_ascii c e) (h g).1))
+      (λ blank. pick (λ s. IsSound s cs) (c == 93) (flow_part s parts.Closed) comma (λ e g. ((h g).0, tt))
+      (λ _. pick (λ s. IsSound s cs) (c == 44) (flow_fault s parts.Want FlowForm) single (λ e. faulted s parts.Want FlowForm cs)
+      (λ _. pick (λ s. IsSound s cs) (c == 39) (flow_item s parts.Single []) double (λ e g. ((h g).0, quote_begins c cs (ascii_of c 39 e (omega arith)) (h g).1))
+      (λ _. pick (λ s. IsSound s cs) (c == 34) (flow_item s parts.Double []) plain (λ e g. ((h g).0, quote_begins c cs (ascii_of c 34 e (omega arith)) (h g).1))
       (λ _. pick (λ s. IsSound s cs) (is_flow_start c next) (flow_item s parts.Plain (c ∷ [])) (flow_fault s parts.Broken (flow_row c next)) (λ e g. ((h g).0, (begins blank e, (h g).1)))
       (λ _. faulted s parts.Broken (flow_row c next) cs))))))
     where
       not_both : (b : Bool) → not b ≡ true → b ≡ false
       not_both true e = sym e
       not_both false e = refl
+
       softly : (s e : Bool) → (not s || not e) ≡ true → s ≡ true → e ≡ false
       softly true e h k = not_both e h
       softly false e h k = absurd (true≢false (sym k))
+
       begins : is_blank_byte c ≡ false → is_flow_start c next ≡ true → IsBegun (c ∷ []) next
       begins blank e =
           let p = and_parts (not (is_indicator c)) (not (is_soft_indicator c) || not (ends_soft next)) e in
@@ -254,8 +261,8 @@ module _ (t : List ℕ) (xs : List Tree) (f : Option Which) (c : ℕ) (cs : List
       let s = made parts.Single t xs f in
       pick (λ s. IsSound s cs) (c == 39) (cond (next == 39) (flow_more s parts.Doubled 39) (flow_quoted s)) (flow_more s parts.Single c)
       (λ e. pick (λ s. IsSound s cs) (next == 39) (flow_more s parts.Doubled 39) (flow_quoted s)
-          (λ k g. ((h g).0, doubled (eqb-true c 39 e) k (quote_more (h g).1)))
-          (λ _ g. quote_ends (ascii_of c 39 e (omega arith)) (h g)))
+      (λ k g. ((h g).0, doubled (eqb-true c 39 e) k (quote_more (h g).1)))
+      (λ _ g. quote_ends (ascii_of c 39 e (omega arith)) (h g)))
       (λ _ g. ((h g).0, quote_more (h g).1))
     where
       doubled : c ≡ 39 → (next == 39) ≡ true → IsUtf8 ((t ++ (c ∷ [])) ++ cs) × (is_quotable (t ++ (c ∷ [])) ≡ true) × (has_control cs ≡ false) → IsUtf8 ((t ++ (39 ∷ [])) ++ cs) × (is_quotable (t ++ (39 ∷ [])) ≡ true) × (has_control cs ≡ false) × ((next == 39) ≡ true)
@@ -270,8 +277,8 @@ module _ (t : List ℕ) (xs : List Tree) (f : Option Which) (c : ℕ) (cs : List
       pick (λ s. IsSound s cs) (c == 34) (flow_quoted s) (cond (c == 92) (flow_part s parts.Escape) (flow_more s parts.Double c))
       (λ e g. quote_ends (ascii_of c 34 e (omega arith)) (h g))
       (λ _. pick (λ s. IsSound s cs) (c == 92) (flow_part s parts.Escape) (flow_more s parts.Double c)
-          (λ e g. let k = h g in (k.0, (without t c cs (ascii_of c 92 e (omega arith)) k.1.0, k.1.1, (or_parts (is_control c) (has_control cs) k.1.2).1)))
-          (λ _ g. ((h g).0, quote_more (h g).1)))
+      (λ e g. let k = h g in (k.0, (without t c cs (ascii_of c 92 e (omega arith)) k.1.0, k.1.1, (or_parts (is_control c) (has_control cs) k.1.2).1)))
+      (λ _ g. ((h g).0, quote_more (h g).1)))
 
   escape_sound : (f ≡ None → AllByRecursion IsItem xs × (IsUtf8 (t ++ (c ∷ cs)) × (is_quotable t ≡ true) × (has_control (c ∷ cs) ≡ false))) → IsSound (in_escape (made parts.Escape t xs f) (escaped c)) cs
   escape_sound h = by (escaped c) (escape_fine c)

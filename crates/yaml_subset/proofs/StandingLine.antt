@@ -1,8 +1,8 @@
 -- What stands on a line with no fault: its keys and values can be written.
-use Rattle.std.proofs.Common.{◌≡◌, ℕ, zero, suc, ◌+◌, ◌-◌, ◌<◌, ◌≤◌, Bool, true, false, cond, not, ◌&&◌, ◌||◌, ◌==◌, List, [], ◌∷◌, ◌++◌, Option, Some, None, length, take, drop, get_or, slice_index, IsUtf8, refl, sym, ap, ◌∙◌, subst, arith, append-nil, take-append-drop, drop-drop, drop-cons}
-use Rattle.std.specs.Prelude.{⊤, nat_lt}
+use Rattle.std.proofs.Common.{◌≡◌, ℕ, zero, suc, ◌+◌, ◌<◌, Bool, true, false, cond, ◌&&◌, ◌||◌, ◌==◌, List, [], ◌∷◌, ◌++◌, Option, Some, None, length, take, drop, slice_index, IsUtf8, refl, sym, ap, ◌∙◌, subst, arith, take-append-drop, drop-drop, drop-cons}
+use Rattle.std.specs.Prelude.{⊤}
 use Rattle.std.specs.List.{AllByRecursion, prefix_len}
-use Rattle.std.proofs.lemmas.Bool.{and_parts, eqb-true, true≢false, or_cases}
+use Rattle.std.proofs.lemmas.Bool.{and_parts, eqb-true, true≢false}
 use Rattle.std.proofs.lemmas.Bool.Decides.{nat_tests}
 use Rattle.yaml_subset.specs.Tree.{Tree, mapping, sequence, scalar, no_entries, trees}
 use Rattle.yaml_subset.specs.Mark.{Mark, start, dash, key, value, header, raw}
@@ -15,21 +15,21 @@ use Rattle.yaml_subset.specs.Profile.{is_shallow}
 use Rattle.yaml_subset.specs.Spelling.{spelled, items_spelled}
 use Rattle.yaml_subset.specs.Fits.{Fits, FitItems}
 use Rattle.yaml_subset.specs.declared.which.Which.{Which}
-use Rattle.yaml_subset.specs.declared.which.Which.TheVariants.{Control, Tab, LeftOut, Quote, Escape, FlowForm, Colon}
+use Rattle.yaml_subset.specs.declared.which.Which.TheVariants.{Control, Tab, LeftOut, Quote, Colon}
 use Rattle.yaml_subset.specs.declared.style.Style.{Style}
 use Rattle.yaml_subset.proofs.StandingBytes.{pick, back, ascii_of, blank_ascii, free_drop, IsPure, IsClean, clean-from_pure, quotable}
 use Rattle.yaml_subset.proofs.StandingQuoted.{IsFine, quoted_fine}
 use Rattle.yaml_subset.proofs.StandingPlain.{body, body_utf8, plain_form, key_pure}
 use Rattle.yaml_subset.proofs.StandingFlow.{IsItem, IsSound, flow_sound, no_fault_left, no_fault_right, pure_behind}
 
--- a mark whose texts can be written
+-- a mark that a line has by itself, whose texts can be written
 abbrev pub IsGood : Mark → Type 0
 IsGood start = ⊤
 IsGood (dash n) = ⊤
 IsGood (key n k) = IsClean k
 IsGood (value n x) = (d : ℕ) → is_shallow d x ≡ true → Fits d (spelled x)
 IsGood (header n s) = ⊤
-IsGood (raw l) = IsPure l
+IsGood (raw l) = ⊥
 
 abbrev pub IsGoodLine : Line → Type 0
 IsGoodLine l = l.fault ≡ None → AllByRecursion IsGood l.marks
@@ -135,13 +135,14 @@ quoted_key_good : (c : ℕ) (cs : List ℕ) (o : Option Quoted) → IsFine [] cs
 quoted_key_good c cs None f free = tt
 quoted_key_good c cs (Some q) f free = pick (IsGoodKey (c ∷ cs)) (slice_index (drop q.length cs) (indentation (drop q.length cs)) == 58 && ends_word (drop (indentation (drop q.length cs) + 1) (drop q.length cs))) (Some (record { text = q.text; length = q.length + indentation (drop q.length cs) + 2; fault = escape_row q.bad })) None
     (λ e g. let r = f (sound q.bad g) in
-        let colon = (and_parts (slice_index (drop q.length cs) (indentation (drop q.length cs)) == 58) _ e).0 in
-        ((r.0, r.1), rw (length_is (indentation (drop q.length cs))) (subst IsPure (drop-drop (suc (indentation (drop q.length cs))) q.length cs) (behind_byte (drop q.length cs) (indentation (drop q.length cs)) (r.2, free_drop q.length cs free) colon))))
+    let colon = (and_parts (slice_index (drop q.length cs) (indentation (drop q.length cs)) == 58) _ e).0 in
+    ((r.0, r.1), rw (length_is (indentation (drop q.length cs))) (subst IsPure (drop-drop (suc (indentation (drop q.length cs))) q.length cs) (behind_byte (drop q.length cs) (indentation (drop q.length cs)) (r.2, free_drop q.length cs free) colon))))
     (λ _. tt)
   where
     sound : (b : Bool) → escape_row b ≡ None → b ≡ false
     sound true g = cc
     sound false g = refl
+
     length_is : (n : ℕ) → q.length + n + 2 ≡ suc (q.length + suc n)
     length_is n = omega arith
 

@@ -1,9 +1,8 @@
 -- The text of a plain scalar is of the plain form.
-use Rattle.std.proofs.Common.{◌≡◌, ℕ, zero, suc, ◌+◌, ◌-◌, ◌<◌, ◌≤◌, Bool, true, false, cond, not, ◌&&◌, ◌||◌, ◌==◌, List, [], ◌∷◌, ◌++◌, length, take, drop, reverse, slice_index, IsUtf8, refl, sym, ap, ◌∙◌, subst, arith, append_assoc, append-nil, length-append, ◌⊎◌, inl, inr, eqb}
+use Rattle.std.proofs.Common.{◌≡◌, ℕ, suc, ◌+◌, ◌-◌, ◌<◌, ◌≤◌, Bool, true, false, cond, not, ◌&&◌, ◌||◌, ◌==◌, List, [], ◌∷◌, ◌++◌, length, take, reverse, slice_index, IsUtf8, refl, sym, ap, ◌∙◌, subst, arith, ◌⊎◌, inl, inr, eqb}
 use Rattle.std.specs.Prelude.{⊤}
 use Rattle.std.specs.List.{prefix_len}
-use Rattle.std.proofs.lemmas.Bool.{and_parts, and_from, or_parts, or_cases, eqb-true, eqb-false, true≢false, false≢true, eq-eqb, ne_eqb, cases_eq}
-use Rattle.std.proofs.lemmas.Bool.Decides.{nat_tests}
+use Rattle.std.proofs.lemmas.Bool.{and_parts, and_from, or_parts, or_cases, eqb-true, eqb-false, true≢false, false≢true, eq-eqb}
 use Rattle.std.proofs.lemmas.List.{reverse-append, length-reverse}
 use Rattle.std.proofs.lemmas.List.Folds.{prefix_len-append}
 use Rattle.std.proofs.lemmas.List.Sums.{prefix_len-le-length}
@@ -44,10 +43,12 @@ module _ (test : ℕ → Bool) where
       by_test : (b : Bool) (n : ℕ) → n ≡ length xs → take (suc (length xs) - (n + cond b (1 + 0) 0)) (x ∷ xs) ≡ cond b [] (x ∷ [])
       by_test true n e = let f : suc (length xs) - (n + 1) ≡ 0 = omega arith in rw f refl
       by_test false n e = let f : suc (length xs) - (n + 0) ≡ 1 = omega arith in rw f refl
+
       whole : last_len xs ≡ length xs → take (suc (length xs) - (length xs + cond (test x) (1 + 0) 0)) (x ∷ xs) ≡ onto test x (trimmed test xs)
       whole e =
           let none : length xs - last_len xs ≡ 0 = omega arith in
           by_test (test x) (length xs) refl ∙ sym (ap (λ n. onto test x (take n xs)) none)
+
       part : (ys : List ℕ) (n : ℕ) → n ≤ length ys → ¬ (n ≡ length ys) → take (suc (length ys) - n) (x ∷ ys) ≡ onto test x (take (length ys - n) ys)
       part [] n h k = absurd (k (omega arith))
       part (y ∷ ys) n h k =
@@ -122,6 +123,7 @@ goes_on c cs e h = by (stops_plain c cs) refl h
   where
     stops : (c == 58) ≡ false → stops_plain c cs ≡ false
     stops f = rw (f, e) refl
+
     by : (b : Bool) → stops_plain c cs ≡ b → (slice_index (c ∷ cs) (cond b 0 (suc (plain_len cs))) == 58) ≡ false → b ≡ false
     by true s f = absurd (true≢false (sym s ∙ stops f))
     by false s f = refl
@@ -135,6 +137,7 @@ body_head d ds y ys e = by (stops_plain d ds) (body ds) (sym (body-cons d ds) �
     alone : (b : Bool) → cond b [] (d ∷ []) ≡ y ∷ ys → d ≡ y
     alone true f = cc
     alone false f = ap (λ l. slice_index l 0) f
+
     by : (b : Bool) (u : List ℕ) → cond b [] (onto is_blank_byte d u) ≡ y ∷ ys → d ≡ y
     by true u f = cc
     by false [] f = alone (is_blank_byte d) f

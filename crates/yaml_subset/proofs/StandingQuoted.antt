@@ -1,11 +1,11 @@
 -- The text of a quoted scalar on a line, and what stands behind it.
-use Rattle.std.proofs.Common.{◌≡◌, ℕ, suc, ◌+◌, ◌<◌, Bool, true, false, cond, ◌==◌, List, [], ◌∷◌, ◌++◌, Option, Some, None, drop, option_map, IsUtf8, refl, sym, ap, ◌∙◌, subst, arith, append_assoc, append-nil}
+use Rattle.std.proofs.Common.{◌≡◌, ℕ, suc, ◌+◌, ◌<◌, true, false, cond, ◌==◌, List, [], ◌∷◌, ◌++◌, Option, Some, None, drop, option_map, IsUtf8, refl, arith}
 use Rattle.std.specs.Prelude.{⊤}
 use Rattle.std.specs.List.{list_all}
 use Rattle.std.proofs.lemmas.Bool.{and_parts, and_from, true≢false}
 use Rattle.yaml_subset.specs.Quoted.{Quoted, quote_end, with_byte, with_escape, escaped, single, double, quoted}
 use Rattle.yaml_subset.specs.Fits.{is_quotable}
-use Rattle.yaml_subset.proofs.StandingBytes.{pick, front, back, before_end, in_place, onward, backward, ascii_of, may_stand}
+use Rattle.yaml_subset.proofs.StandingBytes.{pick, back, before_end, without, in_place, onward, backward, ascii_of, may_stand}
 
 -- A quoted scalar among these bytes, with no false escape: with the bytes before, its text is UTF-8 and can stand in double quotes,
 -- and what stands behind it is UTF-8.
@@ -38,12 +38,12 @@ single_fine p (c ∷ d ∷ cs) u g =
     let t = and_parts (may_stand d) (list_all may_stand cs) s.1 in
     pick (IsFine p (c ∷ d ∷ cs)) (c == 39) (cond (d == 39) (option_map (with_byte 39 2) (single cs)) (Some quote_end)) (option_map (with_byte c 1) (single (d ∷ cs)))
     (λ e. let h = ascii_of c 39 e (omega arith) in pick (IsFine p (c ∷ d ∷ cs)) (d == 39) (option_map (with_byte 39 2) (single cs)) (Some quote_end)
-        (λ f. two_more p c d 39 cs (single cs) refl (single_fine (p ++ (39 ∷ [])) cs (in_place p d 39 cs (ascii_of d 39 f (omega arith)) (omega arith) (without_first h)) t.1))
-        (λ f. ends p c (d ∷ cs) h u))
+    (λ f. two_more p c d 39 cs (single cs) refl (single_fine (p ++ (39 ∷ [])) cs (in_place p d 39 cs (ascii_of d 39 f (omega arith)) (omega arith) (without_first h)) t.1))
+    (λ f. ends p c (d ∷ cs) h u))
     (λ e. one_more p c (d ∷ cs) (single (d ∷ cs)) s.0 (single_fine (p ++ (c ∷ [])) (d ∷ cs) (onward p c (d ∷ cs) u) s.1))
   where
     without_first : c < 128 → IsUtf8 (p ++ (d ∷ cs))
-    without_first h = Rattle.yaml_subset.proofs.StandingBytes.without p c (d ∷ cs) h u
+    without_first h = without p c (d ∷ cs) h u
 
 -- an escape stands for a byte that may stand in double quotes
 abbrev pub IsEscape : ℕ → Option ℕ → Type 0
@@ -69,11 +69,12 @@ double_fine p (c ∷ d ∷ cs) u g =
     pick (IsFine p (c ∷ d ∷ cs)) (c == 34) (Some quote_end) (cond (c == 92) (option_map (with_escape (escaped d)) (double cs)) (option_map (with_byte c 1) (double (d ∷ cs))))
     (λ e. ends p c (d ∷ cs) (ascii_of c 34 e (omega arith)) u)
     (λ _. pick (IsFine p (c ∷ d ∷ cs)) (c == 92) (option_map (with_escape (escaped d)) (double cs)) (option_map (with_byte c 1) (double (d ∷ cs)))
-        (λ e. by_escape (escaped d) (escape_fine d) (λ k v. double_fine (p ++ (k ∷ [])) cs v t.1) (without_first (ascii_of c 92 e (omega arith))))
-        (λ e. one_more p c (d ∷ cs) (double (d ∷ cs)) s.0 (double_fine (p ++ (c ∷ [])) (d ∷ cs) (onward p c (d ∷ cs) u) s.1)))
+    (λ e. by_escape (escaped d) (escape_fine d) (λ k v. double_fine (p ++ (k ∷ [])) cs v t.1) (without_first (ascii_of c 92 e (omega arith))))
+    (λ e. one_more p c (d ∷ cs) (double (d ∷ cs)) s.0 (double_fine (p ++ (c ∷ [])) (d ∷ cs) (onward p c (d ∷ cs) u) s.1)))
   where
     without_first : c < 128 → IsUtf8 (p ++ (d ∷ cs))
-    without_first h = Rattle.yaml_subset.proofs.StandingBytes.without p c (d ∷ cs) h u
+    without_first h = without p c (d ∷ cs) h u
+
     by_escape : (o : Option ℕ) → IsEscape d o → ((k : ℕ) → IsUtf8 ((p ++ (k ∷ [])) ++ cs) → IsFine (p ++ (k ∷ [])) cs (double cs)) → IsUtf8 (p ++ (d ∷ cs)) → IsFine p (c ∷ d ∷ cs) (option_map (with_escape o) (double cs))
     by_escape None h ih v = bad_escape p (c ∷ d ∷ cs) (double cs)
     by_escape (Some e) h ih v = two_more p c d e cs (double cs) h.2 (ih e (in_place p d e cs h.0 h.1 v))

@@ -13,6 +13,7 @@ pub mod Reader
 pub mod BadPlace
 pub mod Spelling
 pub mod Fits
+pub mod Standing
 pub mod NodeView
 pub mod Scan
 pub mod ScanView

@@ -8,6 +8,7 @@ mod bytes;
 mod flow;
 mod frame;
 mod inline;
+mod laws;
 mod line;
 mod mark;
 mod node;
@@ -20,6 +21,7 @@ mod style;
 mod text;
 mod which;
 
+pub use laws::standing_nodes_are_writable;
 pub use node::{Node, Nodes, Pairs};
 pub use read::{MAX_BYTES, YamlFault, read_documents};
 pub use text::Text;
