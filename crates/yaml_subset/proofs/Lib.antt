@@ -9,3 +9,11 @@ pub mod OpenViewLemmas
 pub mod ReaderLemmas
 pub mod ReadLemmas
 pub mod KeyLemmas
+pub mod StandingBytes
+pub mod PlaceLemmas
+pub mod StandingQuoted
+pub mod StandingPlain
+pub mod StandingFlow
+pub mod StandingLine
+pub mod StandingOpen
+pub mod StandingText

@@ -22,15 +22,15 @@ use Rattle.yaml_subset.proofs.TextLemmas.{open_nodes-append}
 pub one_list : (text : List ℕ) (xs ys : List Tree) → StandsFor text xs → StandsFor text ys → xs ≡ ys
 one_list text xs ys a b = let e : Some xs ≡ Some ys = sym a.nodes ∙ b.nodes in cc
 
-abbrev step : Option Marked → List ℕ → Option Marked
+abbrev pub step : Option Marked → List ℕ → Option Marked
 step o line = option_and_then (λ s. next_line s line) o
 
-none_stays : (ls : List (List ℕ)) → fold step None ls ≡ None
+pub none_stays : (ls : List (List ℕ)) → fold step None ls ≡ None
 none_stays [] = refl
 none_stays (l ∷ ls) = none_stays ls
 
 -- marks of no text stay so, whatever follows
-never_text : (ls : List (List ℕ)) (s : Marked) → open_nodes s.marks ≡ None → option_and_then (λ (t : Marked). documents t.marks) (fold step (Some s) ls) ≡ None
+pub never_text : (ls : List (List ℕ)) (s : Marked) → open_nodes s.marks ≡ None → option_and_then (λ (t : Marked). documents t.marks) (fold step (Some s) ls) ≡ None
 never_text [] s e = documents_closed s.marks ∙ ap (option_map finished) e
 never_text (l ∷ ls) s e = by_fault (is_none (line_at s.scalar l).fault)
     (λ t u. never_text ls t u) (open_nodes-append s.marks (line_at s.scalar l).marks ∙ ap (option_and_then (add_all (line_at s.scalar l).marks)) e)

@@ -10,8 +10,10 @@ pub mod Text
 pub mod OpenNodes
 pub mod Fault
 pub mod Reader
+pub mod BadPlace
 pub mod Spelling
 pub mod Fits
+pub mod Standing
 pub mod NodeView
 pub mod KeysView
 pub mod Scan

@@ -3,6 +3,7 @@ use Rattle.std.specs.Prelude.{ℕ, ◌<◌, ◌≤◌, List, [], length, ⊤}
 use Rattle.std.specs.Str.{IsUtf8}
 use Rattle.std.specs.Str.Lines.{lines}
 use Rattle.yaml_subset.specs.Text.{max_bytes, without_mark}
+use Rattle.yaml_subset.specs.BadPlace.{IsBadPlace}
 use Rattle.yaml_subset.specs.Fault.{IsFault}
 use Rattle.yaml_subset.specs.Reader.{IsRead}
 use Rattle.yaml_subset.specs.ReaderView.{reading}
@@ -20,10 +21,10 @@ NamesLine ls (Form line which) = IsFault ls line which
 NamesLine ls NoMemory = ⊤
 NamesLine ls _ = ⊥
 
--- The fault of a text: it has too many bytes, else isn't UTF-8, else has a line that is no text of the profile with those before it.
+-- The fault of a text: it has too many bytes, else isn't UTF-8, which its first bad byte shows, else has a line that is no text of the profile with those before it.
 -- Want of memory says nothing.
 abbrev pub NamesFault : List ℕ → YamlFault → Type 0
 NamesFault text TooLarge = max_bytes < length text
-NamesFault text (NotUtf8 at) = (length text ≤ max_bytes) × ¬ (IsUtf8 (without_mark text))
+NamesFault text (NotUtf8 at) = (length text ≤ max_bytes) × ¬ (IsUtf8 (without_mark text)) × IsBadPlace text at
 NamesFault text (Form line which) = (length text ≤ max_bytes) × IsUtf8 (without_mark text) × IsFault (lines (without_mark text)) line which
 NamesFault text NoMemory = ⊤

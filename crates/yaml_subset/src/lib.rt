@@ -9,6 +9,7 @@ mod entries;
 mod flow;
 mod frame;
 mod inline;
+mod laws;
 mod line;
 mod mark;
 mod node;
@@ -21,6 +22,7 @@ mod style;
 mod text;
 mod which;
 
+pub use laws::standing_nodes_are_writable;
 pub use node::{Node, Nodes, Pairs};
 pub use read::{MAX_BYTES, YamlFault, read_documents};
 pub use text::Text;
@@ -30,3 +32,5 @@ pub use which::Which;
 mod profile_tests;
 #[cfg(test)]
 mod tests;
+#[cfg(test)]
+mod utf8_tests;

@@ -2,9 +2,12 @@
 
 ghost use Rattle.std.specs.Prelude.{◌≡◌, List, ◌+◌, ◌≤◌, ◌<◌, IfOk, IfErr, map, length, drop, nat_eq, [], None};
 ghost use Rattle.std.specs.List.{starts_with};
+ghost use Rattle.std.specs.Str.{IsValidUpTo, IsErrorLen};
+ghost use Rattle.std.specs.Str.Lossy.{utf8_error_len};
 ghost use Rattle.std.specs.Str.Lines.{lines as lines_lem};
 ghost use Rattle.yaml_subset.specs.Tree.{Tree};
 ghost use Rattle.yaml_subset.specs.Text.{StandsFor, nodes_of, without_mark as without_mark_lem};
+ghost use Rattle.yaml_subset.specs.BadPlace.{IsBadPlace};
 ghost use Rattle.yaml_subset.specs.NodeView.{nodes_view};
 ghost use Rattle.yaml_subset.specs.ReadView.{NamesLine, NamesFault, IsStart};
 
@@ -23,7 +26,8 @@ pub const MAX_BYTES: usize = 1_048_576;
 pub enum YamlFault {
     /// It has more than `MAX_BYTES` bytes.
     TooLarge,
-    /// It isn't UTF-8, from this byte on.
+    /// It isn't UTF-8: the place of the first byte that no UTF-8 text can have there, the first byte's being 0.
+    /// The text's length where it ends inside a character.
     NotUtf8(usize),
     /// Its first lines up to this one, the first being 1, are no text of the profile, and that line meets this row.
     Form { line: usize, which: Which },
@@ -95,19 +99,19 @@ fn read_text(alloc: Global, text: &str) -> Result<Nodes, YamlFault>
     }
 }
 
-/// Where the bytes stop being UTF-8.
-fn bad_place(bytes: &[u8], valid: usize, bad: Option<usize>) -> usize {
+/// The place of the first byte that no UTF-8 text can have there, behind a longest front that is UTF-8.
+fn bad_place(bytes: &[u8], valid: usize, bad: Option<usize>) -> usize
+    requires front { IsValidUpTo bytes.now valid }
+    requires fault { bad ≡ utf8_error_len (drop valid bytes.now) }
+    requires within { IsErrorLen bytes.now valid bad }
+    ensures { IsBadPlace bytes.now result }
+{
+    let first = crate::bytes::byte_at(bytes, valid);
+    if first < 0xC2 || 0xF4 < first {
+        return valid;
+    }
     match bad {
         None => bytes.len(),
-        Some(1) => {
-            let first = crate::bytes::byte_at(bytes, valid);
-            let begins = 0xC2 <= first && first <= 0xF4;
-            if begins {
-                valid.saturating_add(1)
-            } else {
-                valid
-            }
-        }
         Some(length) => valid.saturating_add(length),
     }
 }

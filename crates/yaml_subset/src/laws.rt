@@ -1,0 +1,17 @@
+//! Laws of texts and nodes.
+
+ghost use Rattle.std.specs.Prelude.{List, ℕ};
+ghost use Rattle.std.specs.List.{AllByRecursion};
+ghost use Rattle.yaml_subset.specs.Tree.{Tree};
+ghost use Rattle.yaml_subset.specs.Text.{StandsFor};
+ghost use Rattle.yaml_subset.specs.Fits.{IsWritable};
+ghost use Rattle.yaml_subset.specs.Standing.{IsIn, StandsIn};
+
+/// Every node that stands in a text, at any depth, can be written. So its texts are UTF-8, its plain scalars are
+/// of the plain form, its other texts have no control characters but tabs and line feeds, none of its maps has a
+/// key twice, and its maps and lists nest at most 32 deep.
+pub fn standing_nodes_are_writable()
+    ensures documents { (text : List ℕ) (xs : List Tree) → StandsFor text xs → AllByRecursion IsWritable xs }
+    ensures inside { (x y : Tree) → IsIn x y → IsWritable y → IsWritable x }
+    ensures at_any_depth { (text : List ℕ) (x : Tree) → StandsIn text x → IsWritable x }
+{}
