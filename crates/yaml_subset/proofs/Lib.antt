@@ -8,3 +8,4 @@ pub mod FrameLemmas
 pub mod OpenViewLemmas
 pub mod ReaderLemmas
 pub mod ReadLemmas
+mod WritingMarks
