@@ -9,3 +9,4 @@ pub mod OpenViewLemmas
 pub mod ReaderLemmas
 pub mod ReadLemmas
 mod WritingMarks
+mod WritingBytes
