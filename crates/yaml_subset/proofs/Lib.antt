@@ -10,3 +10,4 @@ pub mod ReaderLemmas
 pub mod ReadLemmas
 mod WritingMarks
 mod WritingBytes
+mod WritingLines

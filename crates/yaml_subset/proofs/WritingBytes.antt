@@ -84,7 +84,7 @@ trimmed_whole test c cs e =
     ap (λ (n : ℕ). take (length (c ∷ cs) - n) (c ∷ cs)) none ∙ take_all (length (c ∷ cs) - 0) (c ∷ cs) (omega arith)
 
 -- a byte that fails a test is not one that passes it
-differs : (test : ℕ → Bool) (c d : ℕ) → test c ≡ false → test d ≡ true → (c == d) ≡ false
+pub differs : (test : ℕ → Bool) (c d : ℕ) → test c ≡ false → test d ≡ true → (c == d) ≡ false
 differs test c d e f = by_test (c == d) refl
   where
     by_test : (b : Bool) → (c == d) ≡ b → b ≡ false
@@ -290,7 +290,7 @@ abbrev pub begins_well : List ℕ → Bool
 begins_well [] = false
 begins_well (c ∷ cs) = not (is_blank_byte c) && not (c == 35)
 
-well_parts : (c : ℕ) (cs : List ℕ) → begins_well (c ∷ cs) ≡ true → (is_blank_byte c ≡ false) × ((c == 35) ≡ false)
+pub well_parts : (c : ℕ) (cs : List ℕ) → begins_well (c ∷ cs) ≡ true → (is_blank_byte c ≡ false) × ((c == 35) ≡ false)
 well_parts c cs e = let p : _ = and_parts (not (is_blank_byte c)) (not (c == 35)) e in (not-true (is_blank_byte c) p.0, not-true (c == 35) p.1)
 
 two_bytes : (n : ℕ) → (1 == suc (suc n)) ≡ false
