@@ -11,3 +11,4 @@ pub mod ReadLemmas
 mod WritingMarks
 mod WritingBytes
 mod WritingLines
+mod Writing

@@ -206,3 +206,138 @@ module _ (lead : List ℕ) (n : ℕ) (ps : List Mark) (b : Begins lead n ps) whe
       key_line q k (32 ∷ xs) e refl i.control
       ∙ ap (λ (l : Line). behind_marks ps (with_mark (key n k) l)) (behind_space (n + (length (key_text q k) + 1)) xs i.begins ∙ i.values (n + (length (key_text q k) + 1) + 1))
       ∙ ap (λ (m : ℕ). record { marks = ps ++ (key n k ∷ value m x ∷ []); fault = None }) column
+
+-- THE LINES OF A VALUE
+
+same_lines : (a b : List ℕ) (ms ns : List Mark) → AreLines a ms → a ≡ b → ms ≡ ns → AreLines b ns
+same_lines a b ms ns h e f = subst₂ AreLines e f h
+
+lead_first : (lead : List ℕ) (n : ℕ) (s : Spelling) → written lead n s ≡ lead ++ written [] n s
+lead_first lead n (word text) = refl
+lead_first lead n (quoted text) = refl
+lead_first lead n (fields no_fields) = refl
+lead_first lead n (fields (field q k s fs)) = refl
+lead_first lead n (items no_items) = refl
+lead_first lead n (items (one_item s is)) = refl
+
+-- A value behind these bytes, and the lines behind it. The text of no length has no line of its own.
+abbrev ReadsOn : List ℕ → ℕ → List Mark → Spelling → List ℕ → List Mark → Type 0
+ReadsOn lead n ps (word []) rest ms = ⊤
+ReadsOn lead n ps s rest ms = AreLines (written lead n s ++ rest) (ps ++ (marks_at n s ++ ms))
+
+-- a plain text stands behind a key or dash
+abbrev MayStand : ℕ → Spelling → Type 0
+MayStand n (word text) = 0 < n
+MayStand n _ = ⊤
+
+deeper_stands : (n : ℕ) (s : Spelling) → MayStand (n + step) s
+deeper_stands n (word text) = omega arith
+deeper_stands n (quoted text) = tt
+deeper_stands n (fields fs) = tt
+deeper_stands n (items is) = tt
+
+module _ (lead : List ℕ) (n : ℕ) (ps : List Mark) (b : Begins lead n ps) where
+  inline_line : (xs : List ℕ) (x : Tree) (rest : List ℕ) (ms : List Mark) → IsInline xs x → is_marker (lead ++ xs) ≡ false → AreLines rest ms
+      → AreLines ((lead ++ (xs ++ (10 ∷ []))) ++ rest) (ps ++ (value n x ∷ ms))
+  inline_line xs x rest ms i m h = same_lines ((lead ++ xs) ++ (10 ∷ rest)) ((lead ++ (xs ++ (10 ∷ []))) ++ rest) ((ps ++ (value n x ∷ [])) ++ ms) (ps ++ (value n x ∷ ms))
+      (a_line (lead ++ xs) (ps ++ (value n x ∷ [])) rest ms (value_line lead n ps b xs x i m) h) (simp append_assoc) (append_assoc ps (value n x ∷ []) ms)
+
+  module _ (w rest : List ℕ) (f ms : List Mark) where
+    -- an item of no text
+    item_alone : AreLines (w ++ rest) (f ++ ms) → AreLines ((lead ++ (45 ∷ (10 ∷ w))) ++ rest) (ps ++ (dash n ∷ (f ++ ms)))
+    item_alone h = same_lines ((lead ++ (45 ∷ [])) ++ (10 ∷ (w ++ rest))) ((lead ++ (45 ∷ (10 ∷ w))) ++ rest) ((ps ++ (dash n ∷ [])) ++ (f ++ ms)) (ps ++ (dash n ∷ (f ++ ms)))
+        (a_line (lead ++ (45 ∷ [])) (ps ++ (dash n ∷ [])) (w ++ rest) (f ++ ms) (dash_alone lead n ps b) h) (simp append_assoc) (append_assoc ps (dash n ∷ []) (f ++ ms))
+
+    -- an item that goes on behind its dash
+    item_other : (s : Spelling) → AreLines (written (lead ++ (45 ∷ 32 ∷ [])) (n + step) s ++ (w ++ rest)) ((ps ++ (dash n ∷ [])) ++ (marks_at (n + step) s ++ (f ++ ms)))
+        → AreLines ((lead ++ (45 ∷ (written (32 ∷ []) (n + step) s ++ w))) ++ rest) (ps ++ ((dash n ∷ (marks_at (n + step) s ++ f)) ++ ms))
+    item_other s h = same_lines _ _ _ _ h
+        (rw (lead_first (lead ++ (45 ∷ 32 ∷ [])) (n + step) s, lead_first (32 ∷ []) (n + step) s) (simp append_assoc))
+        (simp append_assoc)
+
+    item_step : (s : Spelling) → ReadsOn (lead ++ (45 ∷ 32 ∷ [])) (n + step) (ps ++ (dash n ∷ [])) s (w ++ rest) (f ++ ms) → AreLines (w ++ rest) (f ++ ms)
+        → AreLines ((lead ++ (45 ∷ (written (gap_at_dash s) (n + step) s ++ w))) ++ rest) (ps ++ ((dash n ∷ (marks_at (n + step) s ++ f)) ++ ms))
+    item_step (word []) i h = item_alone h
+    item_step (word (c ∷ cs)) i h = item_other (word (c ∷ cs)) i
+    item_step (quoted text) i h = item_other (quoted text) i
+    item_step (fields no_fields) i h = item_other (fields no_fields) i
+    item_step (fields (field q k s fs)) i h = item_other (fields (field q k s fs)) i
+    item_step (items no_items) i h = item_other (items no_items) i
+    item_step (items (one_item s is)) i h = item_other (items (one_item s is)) i
+
+    module _ (q : Bool) (k : List ℕ) (e : is_key_text q k ≡ true) where
+      -- a key with nothing behind it
+      entry_alone : AreLines (w ++ rest) (f ++ ms) → AreLines ((lead ++ (key_text q k ++ (58 ∷ (10 ∷ w)))) ++ rest) (ps ++ (key n k ∷ (f ++ ms)))
+      entry_alone h = same_lines ((lead ++ (key_text q k ++ (58 ∷ []))) ++ (10 ∷ (w ++ rest))) ((lead ++ (key_text q k ++ (58 ∷ (10 ∷ w)))) ++ rest) ((ps ++ (key n k ∷ [])) ++ (f ++ ms)) (ps ++ (key n k ∷ (f ++ ms)))
+          (a_line (lead ++ (key_text q k ++ (58 ∷ []))) (ps ++ (key n k ∷ [])) (w ++ rest) (f ++ ms) (key_alone lead n ps b q k e) h) (simp append_assoc) (append_assoc ps (key n k ∷ []) (f ++ ms))
+
+      -- a key and its value on one line
+      entry_inline : (xs : List ℕ) (x : Tree) → IsInline xs x → AreLines (w ++ rest) (f ++ ms)
+          → AreLines ((lead ++ (key_text q k ++ (58 ∷ (32 ∷ ((xs ++ (10 ∷ [])) ++ w))))) ++ rest) (ps ++ (key n k ∷ (value (n + (length (key_text q k) + 2)) x ∷ (f ++ ms))))
+      entry_inline xs x i h = same_lines ((lead ++ (key_text q k ++ (58 ∷ 32 ∷ xs))) ++ (10 ∷ (w ++ rest))) _ ((ps ++ (key n k ∷ value (n + (length (key_text q k) + 2)) x ∷ [])) ++ (f ++ ms)) _
+          (a_line (lead ++ (key_text q k ++ (58 ∷ 32 ∷ xs))) (ps ++ (key n k ∷ value (n + (length (key_text q k) + 2)) x ∷ [])) (w ++ rest) (f ++ ms) (key_value lead n ps b q k xs x e i) h)
+          (simp append_assoc) (append_assoc ps (key n k ∷ value (n + (length (key_text q k) + 2)) x ∷ []) (f ++ ms))
+
+      -- a key, and its value on the lines below
+      entry_below : (s : Spelling) → AreLines (written (spaces (n + step)) (n + step) s ++ (w ++ rest)) (marks_at (n + step) s ++ (f ++ ms))
+          → AreLines ((lead ++ (key_text q k ++ (58 ∷ (written (10 ∷ spaces (n + step)) (n + step) s ++ w)))) ++ rest) (ps ++ ((key n k ∷ (marks_at (n + step) s ++ f)) ++ ms))
+      entry_below s h = same_lines ((lead ++ (key_text q k ++ (58 ∷ []))) ++ (10 ∷ (written (spaces (n + step)) (n + step) s ++ (w ++ rest)))) _ ((ps ++ (key n k ∷ [])) ++ (marks_at (n + step) s ++ (f ++ ms))) _
+          (a_line (lead ++ (key_text q k ++ (58 ∷ []))) (ps ++ (key n k ∷ [])) _ _ (key_alone lead n ps b q k e) h)
+          (rw (lead_first (10 ∷ spaces (n + step)) (n + step) s, lead_first (spaces (n + step)) (n + step) s) (simp append_assoc)) (simp append_assoc)
+
+      entry_step : (d : ℕ) (s : Spelling) → Fits d s → ReadsOn (spaces (n + step)) (n + step) [] s (w ++ rest) (f ++ ms) → AreLines (w ++ rest) (f ++ ms)
+          → AreLines ((lead ++ (key_text q k ++ (58 ∷ (written (gap_at_colon n s) (n + step) s ++ w)))) ++ rest) (ps ++ ((key n k ∷ (marks_at (behind_key n q k s) s ++ f)) ++ ms))
+      entry_step d (word []) fit i h = entry_alone h
+      entry_step zero (word (c ∷ cs)) fit i h = entry_inline (c ∷ cs) (scalar (c ∷ cs) true) (inline_word c cs fit.1) h
+      entry_step (suc d) (word (c ∷ cs)) fit i h = entry_inline (c ∷ cs) (scalar (c ∷ cs) true) (inline_word c cs fit.1) h
+      entry_step zero (quoted text) fit i h = entry_inline (in_quotes text) (scalar text false) (inline_quotes text fit.1) h
+      entry_step (suc d) (quoted text) fit i h = entry_inline (in_quotes text) (scalar text false) (inline_quotes text fit.1) h
+      entry_step d (fields no_fields) fit i h = entry_inline (123 ∷ 125 ∷ []) (mapping no_entries) inline_map h
+      entry_step d (fields (field r j s fs)) fit i h = entry_below (fields (field r j s fs)) i
+      entry_step d (items no_items) fit i h = entry_inline (91 ∷ 93 ∷ []) (sequence no_trees) inline_list h
+      entry_step d (items (one_item s is)) fit i h = entry_below (items (one_item s is)) i
+
+mutual
+  -- the lines of a value that can be written, behind bytes that begin a line
+  value_lines : (d : ℕ) (s : Spelling) (lead : List ℕ) (n : ℕ) (ps : List Mark) → Begins lead n ps → Fits d s → MayStand n s → (rest : List ℕ) (ms : List Mark) → AreLines rest ms → ReadsOn lead n ps s rest ms
+  value_lines d (word []) lead n ps b fit p rest ms h = tt
+  value_lines zero (word (c ∷ cs)) lead n ps b fit p rest ms h = inline_line lead n ps b (c ∷ cs) (scalar (c ∷ cs) true) rest ms (inline_word c cs fit.1) (marker_inside lead n ps b (c ∷ cs) p) h
+  value_lines (suc d) (word (c ∷ cs)) lead n ps b fit p rest ms h = inline_line lead n ps b (c ∷ cs) (scalar (c ∷ cs) true) rest ms (inline_word c cs fit.1) (marker_inside lead n ps b (c ∷ cs) p) h
+  value_lines zero (quoted text) lead n ps b fit p rest ms h = inline_line lead n ps b (in_quotes text) (scalar text false) rest ms (inline_quotes text fit.1) (marker_at lead n ps b (in_quotes text) refl) h
+  value_lines (suc d) (quoted text) lead n ps b fit p rest ms h = inline_line lead n ps b (in_quotes text) (scalar text false) rest ms (inline_quotes text fit.1) (marker_at lead n ps b (in_quotes text) refl) h
+  value_lines d (fields no_fields) lead n ps b fit p rest ms h = inline_line lead n ps b (123 ∷ 125 ∷ []) (mapping no_entries) rest ms inline_map (marker_at lead n ps b (123 ∷ 125 ∷ []) refl) h
+  value_lines zero (fields (field q k s fs)) lead n ps b fit p rest ms h = absurd fit
+  value_lines (suc d) (fields (field q k s fs)) lead n ps b fit p rest ms h =
+      let more : AreLines (written_fields (spaces n) n fs ++ rest) (marks_of_fields n fs ++ ms) = fields_lines d fs n fit.3 rest ms h in
+      entry_step lead n ps b (written_fields (spaces n) n fs) rest (marks_of_fields n fs) ms q k fit.0.1 d s fit.2
+      (value_lines d s (spaces (n + step)) (n + step) [] (at_spaces (n + step)) fit.2 (deeper_stands n s) (written_fields (spaces n) n fs ++ rest) (marks_of_fields n fs ++ ms) more) more
+  value_lines d (items no_items) lead n ps b fit p rest ms h = inline_line lead n ps b (91 ∷ 93 ∷ []) (sequence no_trees) rest ms inline_list (marker_at lead n ps b (91 ∷ 93 ∷ []) refl) h
+  value_lines zero (items (one_item s is)) lead n ps b fit p rest ms h = absurd fit
+  value_lines (suc d) (items (one_item s is)) lead n ps b fit p rest ms h =
+      let more : AreLines (written_items (spaces n) n is ++ rest) (marks_of_items n is ++ ms) = items_lines d is n fit.1 rest ms h in
+      item_step lead n ps b (written_items (spaces n) n is) rest (marks_of_items n is) ms s
+      (value_lines d s (lead ++ (45 ∷ 32 ∷ [])) (n + step) (ps ++ (dash n ∷ [])) (behind_dash lead n ps b) fit.0 (deeper_stands n s) (written_items (spaces n) n is ++ rest) (marks_of_items n is ++ ms) more) more
+
+  fields_lines : (d : ℕ) (fs : Fields) (n : ℕ) → FitFields d fs → (rest : List ℕ) (ms : List Mark) → AreLines rest ms → AreLines (written_fields (spaces n) n fs ++ rest) (marks_of_fields n fs ++ ms)
+  fields_lines d no_fields n fit rest ms h = h
+  fields_lines d (field q k s fs) n fit rest ms h =
+      let more : AreLines (written_fields (spaces n) n fs ++ rest) (marks_of_fields n fs ++ ms) = fields_lines d fs n fit.3 rest ms h in
+      entry_step (spaces n) n [] (at_spaces n) (written_fields (spaces n) n fs) rest (marks_of_fields n fs) ms q k fit.0.1 d s fit.2
+      (value_lines d s (spaces (n + step)) (n + step) [] (at_spaces (n + step)) fit.2 (deeper_stands n s) (written_fields (spaces n) n fs ++ rest) (marks_of_fields n fs ++ ms) more) more
+
+  items_lines : (d : ℕ) (is : Items) (n : ℕ) → FitItems d is → (rest : List ℕ) (ms : List Mark) → AreLines rest ms → AreLines (written_items (spaces n) n is ++ rest) (marks_of_items n is ++ ms)
+  items_lines d no_items n fit rest ms h = h
+  items_lines d (one_item s is) n fit rest ms h =
+      let more : AreLines (written_items (spaces n) n is ++ rest) (marks_of_items n is ++ ms) = items_lines d is n fit.1 rest ms h in
+      item_step (spaces n) n [] (at_spaces n) (written_items (spaces n) n is) rest (marks_of_items n is) ms s
+      (value_lines d s (spaces n ++ (45 ∷ 32 ∷ [])) (n + step) (dash n ∷ []) (behind_dash (spaces n) n [] (at_spaces n)) fit.0 (deeper_stands n s) (written_items (spaces n) n is ++ rest) (marks_of_items n is ++ ms) more) more
+
+whole : (s : Spelling) → AreLines (written [] 0 s ++ []) (marks_at 0 s ++ []) → AreLines (writing 0 s) (marks_at 0 s)
+whole s h = same_lines _ _ _ _ h (append-nil (written [] 0 s)) (append-nil (marks_at 0 s))
+
+-- the whole text of a value that isn't plain
+pub text_lines : (d : ℕ) (s : Spelling) → Fits d s → is_word s ≡ false → AreLines (writing 0 s) (marks_at 0 s)
+text_lines d (word text) fit e = absurd (false≢true (sym e))
+text_lines d (quoted text) fit e = whole (quoted text) (value_lines d (quoted text) [] 0 [] (at_spaces 0) fit tt [] [] no_more)
+text_lines d (fields fs) fit e = whole (fields fs) (value_lines d (fields fs) [] 0 [] (at_spaces 0) fit tt [] [] no_more)
+text_lines d (items is) fit e = whole (items is) (value_lines d (items is) [] 0 [] (at_spaces 0) fit tt [] [] no_more)
