@@ -12,3 +12,5 @@ mod WritingMarks
 mod WritingBytes
 mod WritingLines
 mod Writing
+mod SpellingLemmas
+mod WriteLemmas

@@ -154,12 +154,12 @@ kept_whole (items is) e = refl
 -- what is written reads back
 pub reads_back : (s : Spelling) → Fits max_depth s → is_word s ≡ false → length (writing 0 s) ≤ max_bytes → StandsFor (writing 0 s) (meant s ∷ [])
 reads_back s fit e small = record {
-    small = small;
-    utf8 = subst IsUtf8 (sym (no_mark s fit e)) (value_utf8 max_depth s [] 0 IsUtf8-nil fit);
-    nodes = ap (λ (text : List ℕ). nodes_of (lines text)) (no_mark s fit e)
-        ∙ lines_nodes (writing 0 s) (marks_at 0 s) (text_lines max_depth s fit e) (marks_own 0 s)
-        ∙ document_read s fit (kept_whole s e);
-  }
+  small = small;
+  utf8 = subst IsUtf8 (sym (no_mark s fit e)) (value_utf8 max_depth s [] 0 IsUtf8-nil fit);
+  nodes = ap (λ (text : List ℕ). nodes_of (lines text)) (no_mark s fit e)
+      ∙ lines_nodes (writing 0 s) (marks_at 0 s) (text_lines max_depth s fit e) (marks_own 0 s)
+      ∙ document_read s fit (kept_whole s e);
+}
 
 some_same : (xs ys : List Tree) → ◌≡◌ {A = Option (List Tree)} (Some xs) (Some ys) → xs ≡ ys
 some_same xs ys e = cc

@@ -67,7 +67,7 @@ no_key cs q e = rw e refl
 pub quotes_content : (n : ℕ) (t : List ℕ) → content n (in_quotes t) ≡ one_mark (value n (scalar t false)) None
 quotes_content n t =
     ap (entry_or_value n (in_quotes t)) (ap (quoted_key (flat_map escape_of t ++ (34 ∷ []))) (double_read t [])
-        ∙ no_key (flat_map escape_of t ++ (34 ∷ [])) (record { text = t; length = length (flat_map escape_of t) + 1; bad = false }) (drop_past (flat_map escape_of t) 34 []))
+    ∙ no_key (flat_map escape_of t ++ (34 ∷ [])) (record { text = t; length = length (flat_map escape_of t) + 1; bad = false }) (drop_past (flat_map escape_of t) 34 []))
     ∙ quotes_value n t
 
 -- PLAIN TEXTS
@@ -252,9 +252,9 @@ quotes_key : (k rest : List ℕ) → ends_word rest ≡ true → key_of (in_quot
 quotes_key k rest f =
     let n : ℕ = length (flat_map escape_of k) + 1 in
     let a : quoted_key ((flat_map escape_of k ++ (34 ∷ [])) ++ (58 ∷ rest)) (double ((flat_map escape_of k ++ (34 ∷ [])) ++ (58 ∷ rest))) ≡ quoted_key (flat_map escape_of k ++ (34 ∷ (58 ∷ rest))) (double (flat_map escape_of k ++ (34 ∷ (58 ∷ rest))))
-        = ap (λ (xs : List ℕ). quoted_key xs (double xs)) (append_assoc (flat_map escape_of k) (34 ∷ []) (58 ∷ rest)) in
+    = ap (λ (xs : List ℕ). quoted_key xs (double xs)) (append_assoc (flat_map escape_of k) (34 ∷ []) (58 ∷ rest)) in
     let b : quoted_key (flat_map escape_of k ++ (34 ∷ (58 ∷ rest))) (double (flat_map escape_of k ++ (34 ∷ (58 ∷ rest)))) ≡ quoted_key (flat_map escape_of k ++ (34 ∷ (58 ∷ rest))) (quoted_with k n)
-        = ap (quoted_key (flat_map escape_of k ++ (34 ∷ (58 ∷ rest)))) (double_read k (58 ∷ rest)) in
+    = ap (quoted_key (flat_map escape_of k ++ (34 ∷ (58 ∷ rest)))) (double_read k (58 ∷ rest)) in
     let m : n + 0 + 2 ≡ length (in_quotes k) + 1 = omega (arith, length-append (flat_map escape_of k) (34 ∷ [])) in
     a ∙ b ∙ quoted_key_at (flat_map escape_of k ++ (34 ∷ (58 ∷ rest))) n (drop_past (flat_map escape_of k) 34 (58 ∷ rest)) ∙ ap (λ (x : ℕ). Some (record { text = k; length = x; fault = None })) m
   where
@@ -368,11 +368,11 @@ pub record IsInline (xs : List ℕ) (x : Tree) : Type 0 where
 
 pub inline_word : (c : ℕ) (cs : List ℕ) → is_plain (c ∷ cs) ≡ true → IsInline (c ∷ cs) (scalar (c ∷ cs) true)
 inline_word c cs e = let w : IsWord c cs = word_is c cs e in record {
-    begins = rw (w.blank, differs is_indicator c 35 w.indicator refl) refl;
-    control = w.control;
-    contents = λ n. word_content n c cs w;
-    values = λ n. word_value n c cs w;
-  }
+  begins = rw (w.blank, differs is_indicator c 35 w.indicator refl) refl;
+  control = w.control;
+  contents = λ n. word_content n c cs w;
+  values = λ n. word_value n c cs w;
+}
 
 pub inline_quotes : (t : List ℕ) → is_quotable t ≡ true → IsInline (in_quotes t) (scalar t false)
 inline_quotes t e = record { begins = refl; control = quotes_control t e; contents = λ n. quotes_content n t; values = λ n. quotes_value n t }

@@ -17,7 +17,7 @@ use Rattle.yaml_subset.specs.Spelling.{Spelling, word, quoted, fields, items, Fi
 use Rattle.yaml_subset.specs.Fits.{Fits, FitFields, FitItems, is_key_text}
 use Rattle.yaml_subset.specs.declared.scalar.Scalar.{Scalar}
 use Rattle.yaml_subset.specs.declared.which.Which.TheVariants.{Control, Tab}
-use Rattle.yaml_subset.proofs.WritingMarks.{has_lines, behind_key, marks_at, marks_of_fields, marks_of_items, is_own}
+use Rattle.yaml_subset.proofs.WritingMarks.{behind_key, marks_at, marks_of_fields, marks_of_items, is_own}
 use Rattle.yaml_subset.proofs.WritingBytes.{differs, begins_well, well_parts, behind_space, key_content, key_control, key_begins, key_no_marker, IsInline, inline_word, inline_quotes, inline_map, inline_list}
 
 -- LINES
@@ -90,10 +90,11 @@ lines_read : (text : List ℕ) (ms : List Mark) → AreLines text ms → list_al
 lines_read [] [] no_more own before parent = (at_mark before parent, refl, sym (append-nil before))
 lines_read _ _ (a_line l ms text ns e h) own before parent =
     let o : _ = own_parts ms ns own in
-    let more : _ = lines_read text ns h o.1 (before ++ ms) (parent_after parent ms) in
-    (more.0,
-    ap (fold after (Some (at_mark before parent))) (line_first l text (no_control l ms e)) ∙ ap (λ (s : Option Marked). fold after s (lines text)) (next_is l ms before parent e o.0) ∙ more.1,
-    more.2 ∙ append_assoc before ms ns)
+    let more : _ = lines_read text ns h o.1 (before ++ ms) (parent_after parent ms) in (
+      more.0,
+      ap (fold after (Some (at_mark before parent))) (line_first l text (no_control l ms e)) ∙ ap (λ (s : Option Marked). fold after s (lines text)) (next_is l ms before parent e o.0) ∙ more.1,
+      more.2 ∙ append_assoc before ms ns,
+    )
 
 -- what such lines stand for
 pub lines_nodes : (text : List ℕ) (ms : List Mark) → AreLines text ms → list_all is_own ms ≡ true → nodes_of (lines text) ≡ documents ms
@@ -212,7 +213,7 @@ module _ (lead : List ℕ) (n : ℕ) (ps : List Mark) (b : Begins lead n ps) whe
 same_lines : (a b : List ℕ) (ms ns : List Mark) → AreLines a ms → a ≡ b → ms ≡ ns → AreLines b ns
 same_lines a b ms ns h e f = subst₂ AreLines e f h
 
-lead_first : (lead : List ℕ) (n : ℕ) (s : Spelling) → written lead n s ≡ lead ++ written [] n s
+pub lead_first : (lead : List ℕ) (n : ℕ) (s : Spelling) → written lead n s ≡ lead ++ written [] n s
 lead_first lead n (word text) = refl
 lead_first lead n (quoted text) = refl
 lead_first lead n (fields no_fields) = refl

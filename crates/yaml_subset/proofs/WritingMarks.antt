@@ -12,12 +12,7 @@ use Rattle.yaml_subset.specs.Mark.{Mark, start, dash, key, value, header, raw, C
 use Rattle.yaml_subset.specs.Profile.{max_depth, is_deeper, has_room, Pieces, last_piece, piece, is_next, with_first, pieces, no_text, or_no_text, with_child, is_key, is_repeated, children, entries, collection, behind, is_shallow, leaf, node, documents}
 use Rattle.yaml_subset.specs.Spelling.{Spelling, word, quoted, fields, items, Fields, no_fields, field, Items, no_items, one_item, meant, entries_meant, items_meant, key_text, step}
 use Rattle.yaml_subset.specs.Fits.{Fits, FitFields, FitItems, has_field}
-
--- a map or list that has lines of its own behind a key
-abbrev pub has_lines : Spelling → Bool
-has_lines (fields (field q k s fs)) = true
-has_lines (items (one_item s is)) = true
-has_lines _ = false
+use Rattle.yaml_subset.specs.SpellingView.{has_lines}
 
 -- the column of a value behind a key
 abbrev pub behind_key : ℕ → Bool → List ℕ → Spelling → ℕ
@@ -205,9 +200,10 @@ or_second false b e = e
 
 new_more : (fs : Fields) (done : List Child) (n : ℕ) (k : List ℕ) (x : Tree) → AreNew fs done → has_field k fs ≡ false → AreNew fs (done ++ (record { mark = key n k; tree = x } ∷ []))
 new_more no_fields done n k x h e = tt
-new_more (field q j s fs) done n k x h e =
-    (list_any-append (λ c. is_key j c.mark) done (record { mark = key n k; tree = x } ∷ []) ∙ rw (h.0, bytes_eq_sym k j (or_first (bytes_eq k j) (has_field k fs) e)) refl,
-    new_more fs done n k x h.1 (or_second (bytes_eq k j) (has_field k fs) e))
+new_more (field q j s fs) done n k x h e = (
+  list_any-append (λ c. is_key j c.mark) done (record { mark = key n k; tree = x } ∷ []) ∙ rw (h.0, bytes_eq_sym k j (or_first (bytes_eq k j) (has_field k fs) e)) refl,
+  new_more fs done n k x h.1 (or_second (bytes_eq k j) (has_field k fs) e),
+)
 
 new_at_start : (fs : Fields) → AreNew fs []
 new_at_start no_fields = tt

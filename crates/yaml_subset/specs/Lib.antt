@@ -13,6 +13,7 @@ pub mod Reader
 pub mod Spelling
 pub mod Fits
 pub mod NodeView
+pub mod SpellingView
 pub mod Scan
 pub mod ScanView
 pub mod FlowView
