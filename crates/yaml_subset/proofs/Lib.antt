@@ -17,3 +17,9 @@ pub mod StandingFlow
 pub mod StandingLine
 pub mod StandingOpen
 pub mod StandingText
+mod WritingMarks
+mod WritingBytes
+mod WritingLines
+mod Writing
+mod SpellingLemmas
+mod WriteLemmas

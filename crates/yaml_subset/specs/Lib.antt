@@ -16,6 +16,7 @@ pub mod Fits
 pub mod Standing
 pub mod NodeView
 pub mod KeysView
+pub mod SpellingView
 pub mod Scan
 pub mod ScanView
 pub mod FlowView

@@ -104,3 +104,9 @@ abbrev mutual
 -- the text of a value whose lines are all indented so far
 abbrev pub writing : ℕ → Spelling → List ℕ
 writing n s = written (spaces n) n s
+
+-- A scalar that is written plain: it reads back behind a key or a dash, and not as a text of its own,
+-- since the text of no length is no document there, and a plain text may be a line that ends a document.
+abbrev pub is_word : Spelling → Bool
+is_word (word text) = true
+is_word _ = false

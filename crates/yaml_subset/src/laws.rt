@@ -1,10 +1,12 @@
 //! Laws of texts and nodes.
 
-ghost use Rattle.std.specs.Prelude.{List, ℕ};
+ghost use Rattle.std.specs.Prelude.{◌≡◌, ◌≤◌, ℕ, false, List, [], ◌∷◌, length};
 ghost use Rattle.std.specs.List.{AllByRecursion};
 ghost use Rattle.yaml_subset.specs.Tree.{Tree};
-ghost use Rattle.yaml_subset.specs.Text.{StandsFor};
-ghost use Rattle.yaml_subset.specs.Fits.{IsWritable};
+ghost use Rattle.yaml_subset.specs.Profile.{max_depth};
+ghost use Rattle.yaml_subset.specs.Text.{StandsFor, max_bytes};
+ghost use Rattle.yaml_subset.specs.Spelling.{Spelling, meant, writing, is_word};
+ghost use Rattle.yaml_subset.specs.Fits.{Fits, IsWritable};
 ghost use Rattle.yaml_subset.specs.Standing.{IsIn, StandsIn};
 
 /// Every node that stands in a text, at any depth, can be written. So its texts are UTF-8, its plain scalars are
@@ -14,4 +16,12 @@ pub fn standing_nodes_are_writable()
     ensures documents { (text : List ℕ) (xs : List Tree) → StandsFor text xs → AllByRecursion IsWritable xs }
     ensures inside { (x y : Tree) → IsIn x y → IsWritable y → IsWritable x }
     ensures at_any_depth { (text : List ℕ) (x : Tree) → StandsIn text x → IsWritable x }
+{}
+
+/// What is written reads back: the text of a value that can be written stands for its node, where
+/// it isn't a plain scalar alone and has at most `MAX_BYTES` bytes. And a text stands for one list
+/// of nodes at most.
+pub fn written_text_reads_back()
+    ensures stands { (s : Spelling) → Fits max_depth s → is_word s ≡ false → length (writing 0 s) ≤ max_bytes → StandsFor (writing 0 s) (meant s ∷ []) }
+    ensures alone { (text : List ℕ) (xs ys : List Tree) → StandsFor text xs → StandsFor text ys → xs ≡ ys }
 {}

@@ -18,15 +18,19 @@ mod quoted;
 mod read;
 mod reader;
 mod scalar;
+mod spelling;
 mod style;
 mod text;
 mod which;
+mod write;
 
-pub use laws::standing_nodes_are_writable;
+pub use laws::{standing_nodes_are_writable, written_text_reads_back};
 pub use node::{Node, Nodes, Pairs};
 pub use read::{MAX_BYTES, YamlFault, read_documents};
+pub use spelling::{FieldKey, Spelling, spelled};
 pub use text::Text;
 pub use which::Which;
+pub use write::{write_node, write_spelling};
 
 #[cfg(test)]
 mod profile_tests;

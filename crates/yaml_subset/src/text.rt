@@ -20,7 +20,7 @@ impl Text {
     ghost use Rattle.std.specs.Prelude.{◌≡◌};
 
     /// The text of these bytes.
-    pub(crate) fn of(bytes: Vec<u8>) -> Text
+    pub fn of(bytes: Vec<u8>) -> Text
         ensures { result ≡ bytes.items }
     {
         Text { bytes }

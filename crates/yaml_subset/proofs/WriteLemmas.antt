@@ -1,0 +1,90 @@
+-- What the writer writes, step by step.
+use Rattle.std.proofs.Common.{◌≡◌, ℕ, zero, suc, ◌+◌, ◌-◌, ◌<◌, ◌≤◌, Bool, true, false, List, [], ◌∷◌, ◌++◌, length, cond, map, Result, Ok, Err, OnOk, subst, drop, Vec, Global, refl, sym, ap, ◌∙◌, append_assoc, append-nil, arith}
+use Rattle.std.specs.Prelude.{◌==◌, not}
+use Rattle.std.proofs.lemmas.Bool.Decides.{nat_tests}
+use Rattle.yaml_subset.specs.Spelling.{Spelling, word, quoted, fields, items, Fields, no_fields, field, Items, no_items, one_item, key_text, spaces, step, gap_at_colon, gap_at_dash, written, written_fields, written_items, writing, is_word, meant, spelled}
+use Rattle.yaml_subset.specs.Tree.{Tree}
+use Rattle.yaml_subset.specs.Profile.{max_depth}
+use Rattle.yaml_subset.specs.Text.{StandsFor, max_bytes}
+use Rattle.yaml_subset.specs.Fits.{Fits, FitFields, FitItems, IsWritable}
+use Rattle.yaml_subset.specs.SpellingView.{is_quoted, text_of, fields_of, items_of, is_no_text, has_lines, spelling_view, fields_view, items_view}
+use Rattle.yaml_subset.specs.declared.spelling.FieldKey.{FieldKey}
+use Rattle.yaml_subset.specs.declared.spelling.Spelling.{Spelling as Written}
+use Rattle.yaml_subset.proofs.WritingLines.{lead_first}
+use Rattle.yaml_subset.proofs.Writing.{reads_back}
+use Rattle.yaml_subset.proofs.SpellingLemmas.{spelled_meant}
+
+pub lines-fields : (ps : List (FieldKey × Written)) → has_lines (fields (fields_view ps)) ≡ not (length ps == 0)
+lines-fields [] = refl
+lines-fields (p ∷ ps) = let e : (length (p ∷ ps) == 0) ≡ false = grind (arith, nat_tests) in rw e refl
+
+pub lines-items : (ss : List Written) → has_lines (items (items_view ss)) ≡ not (length ss == 0)
+lines-items [] = refl
+lines-items (s ∷ ss) = let e : (length (s ∷ ss) == 0) ≡ false = grind (arith, nat_tests) in rw e refl
+
+pub gap-colon : (n : ℕ) (s : Spelling) → gap_at_colon n s ≡ cond (is_no_text s) [] (cond (has_lines s) (10 ∷ spaces (n + step)) (32 ∷ []))
+gap-colon n (word []) = refl
+gap-colon n (word (c ∷ cs)) = refl
+gap-colon n (quoted text) = refl
+gap-colon n (fields no_fields) = refl
+gap-colon n (fields (field q k s fs)) = refl
+gap-colon n (items no_items) = refl
+gap-colon n (items (one_item s is)) = refl
+
+pub gap-dash : (s : Spelling) → gap_at_dash s ≡ cond (is_no_text s) [] (32 ∷ [])
+gap-dash (word []) = refl
+gap-dash (word (c ∷ cs)) = refl
+gap-dash (quoted text) = refl
+gap-dash (fields fs) = refl
+gap-dash (items is) = refl
+
+-- maps and lists that fit have a level more
+pub fits-fields : (d : ℕ) (ps : List (FieldKey × Written)) → Fits d (fields (fields_view ps)) → (0 < d) × FitFields (d - 1) (fields_view ps)
+fits-fields zero ps f = absurd f
+fits-fields (suc d) ps f = let e : suc d - 1 ≡ d = omega arith in (omega arith, rw e f)
+
+pub fits-items : (d : ℕ) (ss : List Written) → Fits d (items (items_view ss)) → (0 < d) × FitItems (d - 1) (items_view ss)
+fits-items zero ss f = absurd f
+fits-items (suc d) ss f = let e : suc d - 1 ≡ d = omega arith in (omega arith, rw e f)
+
+-- a map's text, where it has fields and where it has none
+pub text-fields : (n : ℕ) (ps : List (FieldKey × Written)) → 0 < length ps → written [] n (fields (fields_view ps)) ≡ written_fields [] n (fields_view ps)
+text-fields n [] h = absurd (omega arith)
+text-fields n (p ∷ ps) h = refl
+
+pub text-no_fields : (n : ℕ) (ps : List (FieldKey × Written)) → length ps ≡ 0 → written [] n (fields (fields_view ps)) ≡ 123 ∷ 125 ∷ 10 ∷ []
+text-no_fields n [] h = refl
+text-no_fields n (p ∷ ps) h = absurd (omega arith)
+
+pub text-items : (n : ℕ) (ss : List Written) → 0 < length ss → written [] n (items (items_view ss)) ≡ written_items [] n (items_view ss)
+text-items n [] h = absurd (omega arith)
+text-items n (s ∷ ss) h = refl
+
+pub text-no_items : (n : ℕ) (ss : List Written) → length ss ≡ 0 → written [] n (items (items_view ss)) ≡ 91 ∷ 93 ∷ 10 ∷ []
+text-no_items n [] h = refl
+text-no_items n (s ∷ ss) h = absurd (omega arith)
+
+-- one field more: what was written of it, and the fields behind it
+pub field_more : (out : List ℕ) (lead n : ℕ) (q : Bool) (k : List ℕ) (s : Spelling) (fs : Fields)
+    → (((((out ++ spaces lead) ++ key_text q k) ++ (58 ∷ [])) ++ gap_at_colon n s) ++ written [] (n + step) s) ++ written_fields (spaces n) n fs
+    ≡ out ++ written_fields (spaces lead) n (field q k s fs)
+field_more out lead n q k s fs = rw (lead_first (gap_at_colon n s) (n + step) s) (simp append_assoc)
+
+pub item_more : (out : List ℕ) (lead n : ℕ) (s : Spelling) (is : Items)
+    → ((((out ++ spaces lead) ++ (45 ∷ [])) ++ gap_at_dash s) ++ written [] (n + step) s) ++ written_items (spaces n) n is
+    ≡ out ++ written_items (spaces lead) n (one_item s is)
+item_more out lead n s is = rw (lead_first (gap_at_dash s) (n + step) s) (simp append_assoc)
+
+pub some_there : (n : ℕ) → (n == 0) ≡ false → 0 < n
+some_there n e = grind (arith, nat_tests)
+
+-- what a call ensures where it succeeds
+pub where_ok : {T E : Type 0} (r : Result T E) (P : Type 0) → P → OnOk r P
+where_ok (Ok x) P h = h
+where_ok (Err x) P h = tt
+
+pub stands_alone : (n : ℕ) (s : Spelling) → Fits max_depth s → n ≡ 0 → is_word s ≡ false → length (writing n s) ≤ max_bytes → StandsFor (writing n s) (meant s ∷ [])
+stands_alone n s f z e small = rw z (reads_back s f e (rw z at small))
+
+pub node_stands : (n : ℕ) (x : Tree) → IsWritable x → n ≡ 0 → is_word (spelled x) ≡ false → length (writing n (spelled x)) ≤ max_bytes → StandsFor (writing n (spelled x)) (x ∷ [])
+node_stands n x f z e small = subst (λ (y : Tree). StandsFor (writing n (spelled x)) (y ∷ [])) (spelled_meant x) (stands_alone n (spelled x) f z e small)

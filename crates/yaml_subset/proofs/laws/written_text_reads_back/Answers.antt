@@ -1,0 +1,8 @@
+use Rattle.yaml_subset.proofs.Writing.{reads_back, stands_alone}
+use Rattle.yaml_subset.proofs.laws.written_text_reads_back.Goals as goal
+
+pub returns-clause-stands : goal.returns-clause-stands
+returns-clause-stands c = reads_back
+
+pub returns-clause-alone : goal.returns-clause-alone
+returns-clause-alone c = stands_alone

@@ -1,0 +1,38 @@
+use Rattle.std.proofs.Common.{◌≡◌, List, [], ◌∷◌, map, take, refl, sym, ap, ◌∙◌}
+use Rattle.std.proofs.lemmas.List.{take_all}
+use Rattle.yaml_subset.specs.Tree.{trees}
+use Rattle.yaml_subset.specs.Spelling.{fields_spelled, items_spelled}
+use Rattle.yaml_subset.specs.NodeView.{node_view}
+use Rattle.yaml_subset.specs.SpellingView.{fields_view, items_view, entries_view}
+use Rattle.yaml_subset.specs.declared.text.Text.{Text}
+use Rattle.yaml_subset.specs.declared.node.Node.{Node}
+use Rattle.yaml_subset.specs.declared.spelling.FieldKey.{FieldKey}
+use Rattle.yaml_subset.specs.declared.spelling.FieldKey.TheVariants.{Quoted as InQuotes}
+use Rattle.yaml_subset.specs.declared.spelling.Spelling.{Spelling as Written}
+use Rattle.yaml_subset.proofs.SpellingLemmas.{take_one, fields_more, items_more}
+use Rattle.yaml_subset.proofs.spelling.+spelled.Goals as goal
+
+pub spelled_fields-returns : goal.spelled_fields-returns
+spelled_fields-returns t c = c.loop-entry.invariant
+    ∙ ap (λ (es : List (Text × Node)). fields_spelled (entries_view es)) (take_all c.loop-entry.entry-index c.deref-entry-items.result.now c.loop-entry-test.false ∙ c.deref-entry-items.ensures.value)
+
+pub spelled_items-returns : goal.spelled_items-returns
+spelled_items-returns t c = c.loop-node.invariant
+    ∙ ap (λ (xs : List Node). items_spelled (trees (map node_view xs))) (take_all c.loop-node.node-index c.deref-node-items.result.now c.loop-node-test.false ∙ c.deref-node-items.ensures.value)
+
+pub spelled_fields-loop-entry-preserved : goal.spelled_fields-loop-entry-preserved
+spelled_fields-loop-entry-preserved t c =
+    let l = c.loop-entry in
+    let xs = c.deref-entry-items.result.now in
+    let e : Text × Node = c.entry-item.result in
+    let p : FieldKey × Written = (InQuotes c.in_ok-copied.field-0, c.in_ok-value.value) in
+    let same : fields_view (p ∷ []) ≡ fields_spelled (entries_view (e ∷ [])) = rw (c.in_ok-copied.ensures, c.in_ok-value.ensures) refl in
+    ap fields_view c.in_ok-push.ensures.items ∙ fields_more l.fields.items (take l.entry-index xs) p e l.invariant same
+    ∙ ap (λ (es : List (Text × Node)). fields_spelled (entries_view es)) (sym (take_one xs l.entry-index e c.loop-entry-test.true c.entry-item.is))
+
+pub spelled_items-loop-node-preserved : goal.spelled_items-loop-node-preserved
+spelled_items-loop-node-preserved t c =
+    let l = c.loop-node in
+    let xs = c.deref-node-items.result.now in
+    ap items_view c.in_ok-push.ensures.items ∙ items_more l.items.items (take l.node-index xs) c.in_ok-item.item c.node-item.result l.invariant c.in_ok-item.ensures
+    ∙ ap (λ (ns : List Node). items_spelled (trees (map node_view ns))) (sym (take_one xs l.node-index c.node-item.result c.loop-node-test.true c.node-item.is))

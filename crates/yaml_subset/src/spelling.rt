@@ -1,0 +1,92 @@
+//! Values as they are written: which scalars are plain, and which keys stand in quotes.
+
+ghost use Rattle.std.specs.Prelude.{◌≡◌, IfOk, map};
+ghost use Rattle.yaml_subset.specs.Tree.{trees};
+ghost use Rattle.yaml_subset.specs.Spelling.{spelled as spelled_lem, fields_spelled, items_spelled};
+ghost use Rattle.yaml_subset.specs.NodeView.{node_view};
+ghost use Rattle.yaml_subset.specs.SpellingView.{spelling_view, fields_view, items_view, entries_view};
+
+use crate::node::{Node, Nodes, Pairs};
+use crate::text::Text;
+use std::alloc::{AllocError, Global};
+
+/// The key of a field as it is written.
+#[derive(Debug, Drop)]
+pub enum FieldKey {
+    /// A word of letters that stands plain.
+    Plain(Text),
+    /// A text in double quotes.
+    Quoted(Text),
+}
+
+/// A value as it is written.
+#[derive(Debug, Drop)]
+pub enum Spelling {
+    /// A scalar that is written plain.
+    Word(Text),
+    /// A scalar in double quotes.
+    Quoted(Text),
+    /// A map, by its fields in order.
+    Fields(Vec<(FieldKey, Spelling)>),
+    /// A list, by its items.
+    Items(Vec<Spelling>),
+}
+
+/// A text once more.
+fn copied(alloc: Global, text: &Text) -> Result<Text, AllocError>
+    ensures { IfOk result (λ t. t ≡ text.now) }
+{
+    let bytes = Vec::from_slice(alloc, text.as_bytes())?;
+    Ok(Text::of(bytes))
+}
+
+/// A node as it is written: its keys in quotes, plain scalars plain, other scalars in quotes.
+#[cycle(spelled)]
+pub fn spelled(alloc: Global, node: &Node) -> Result<Spelling, AllocError>
+    ensures { IfOk result (λ s. spelling_view s ≡ spelled_lem (node_view node.now)) }
+{
+    match node {
+        Node::Map(entries) => Ok(Spelling::Fields(spelled_fields(alloc, entries)?)),
+        Node::List(items) => Ok(Spelling::Items(spelled_items(alloc, items)?)),
+        Node::Scalar { text, plain } => spelled_scalar(alloc, text, *plain),
+    }
+}
+
+/// The fields of a map, in the order of its entries.
+#[cycle(spelled)]
+fn spelled_fields(alloc: Global, entries: &Pairs) -> Result<Vec<(FieldKey, Spelling)>, AllocError>
+    ensures { IfOk result (λ v. fields_view v.items ≡ fields_spelled (entries_view entries.now.items)) }
+{
+    let mut fields = Vec::new(alloc);
+    for entry in entries {
+        let key = FieldKey::Quoted(copied(alloc, &entry.0)?);
+        let value = spelled(alloc, &entry.1)?;
+        fields.push((key, value))?;
+    }
+    Ok(fields)
+}
+
+/// The items of a list.
+#[cycle(spelled)]
+fn spelled_items(alloc: Global, nodes: &Nodes) -> Result<Vec<Spelling>, AllocError>
+    ensures { IfOk result (λ v. items_view v.items ≡ items_spelled (trees (map node_view nodes.now.items))) }
+{
+    let mut items = Vec::new(alloc);
+    for node in nodes {
+        let item = spelled(alloc, node)?;
+        items.push(item)?;
+    }
+    Ok(items)
+}
+
+/// A scalar, plain where it was written plain.
+fn spelled_scalar(alloc: Global, text: &Text, plain: bool) -> Result<Spelling, AllocError>
+    ensures { IfOk result (λ s. spelling_view s ≡ spelled_lem (node_view (Node.Scalar text.now plain))) }
+{
+    let text = copied(alloc, text)?;
+    if plain {
+        Ok(Spelling::Word(text))
+    } else {
+        Ok(Spelling::Quoted(text))
+    }
+}
