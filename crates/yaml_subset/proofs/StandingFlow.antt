@@ -120,7 +120,7 @@ begun_form t c e b free l =
     let last : Last is_blank_byte (b.first ∷ trimmed is_blank_byte b.rest) = subst (Last is_blank_byte) begins (trimmed_last is_blank_byte t) in
     let pure : has_control (b.first ∷ trimmed is_blank_byte b.rest) ≡ false = subst (λ l. has_control l ≡ false) begins (free_take _ t free) in
     let start : is_plain_start b.first (trimmed is_blank_byte b.rest) ≡ true = and_from (not (is_indicator b.first)) _ (ap not b.starts) (soft_ok b.rest (is_soft_indicator b.first) b.soft) in
-    subst (λ l. is_plain l ≡ true) (sym begins) (is_plain_of b.first (trimmed is_blank_byte b.rest) start whole last pure)
+    subst (λ l. is_plain l ≡ true) (sym begins) (is_plain_of b.first (trimmed is_blank_byte b.rest) b.nonblank start whole last pure)
   where
     soft_ok : (u : List ℕ) (s : Bool) → (s ≡ true → ends_soft (slice_index (u ++ (c ∷ [])) 0) ≡ false) → (not s || not (ends_word (trimmed is_blank_byte u))) ≡ true
     soft_ok u false h = refl

@@ -184,9 +184,10 @@ soft_start (d ∷ ds) true h v = subst (λ l. not (ends_word l) ≡ true) (sym (
     was_not false e = refl
 
 -- what the plain form asks
-pub is_plain_of : (c : ℕ) (u : List ℕ) → is_plain_start c u ≡ true → plain_len (c ∷ u) ≡ length (c ∷ u) → Last is_blank_byte (c ∷ u) → has_control (c ∷ u) ≡ false → is_plain (c ∷ u) ≡ true
+pub is_plain_of : (c : ℕ) (u : List ℕ) → is_blank_byte c ≡ false → is_plain_start c u ≡ true → plain_len (c ∷ u) ≡ length (c ∷ u) → Last is_blank_byte (c ∷ u) → has_control (c ∷ u) ≡ false → is_plain (c ∷ u) ≡ true
 unfolding Last
-is_plain_of c u start whole last free = and_from (is_plain_start c u) _ start (and_from (plain_len (c ∷ u) == length (c ∷ u)) _ (eq-eqb (plain_len (c ∷ u)) (length (c ∷ u)) whole) (rw (last, free) refl))
+is_plain_of c u nonblank start whole last free = and_from (not (is_blank_byte c)) _ (ap not nonblank)
+    (and_from (is_plain_start c u) _ start (and_from (plain_len (c ∷ u) == length (c ∷ u)) _ (eq-eqb (plain_len (c ∷ u)) (length (c ∷ u)) whole) (rw (last, free) refl)))
 
 -- a plain scalar that no colon ends has a text of the plain form
 pub plain_form : (c : ℕ) (cs : List ℕ) → is_plain_start c cs ≡ true → is_blank_byte c ≡ false → has_control (c ∷ cs) ≡ false → EndsWell (c ∷ cs) → is_plain (body (c ∷ cs)) ≡ true
@@ -195,7 +196,7 @@ plain_form c cs start nonblank free w =
     let whole : plain_len (c ∷ body cs) ≡ length (c ∷ body cs) = subst (λ l. plain_len l ≡ length l) begins (all_plain (c ∷ cs) w) in
     let last : Last is_blank_byte (c ∷ body cs) = subst (Last is_blank_byte) begins (trimmed_last is_blank_byte (take (plain_len (c ∷ cs)) (c ∷ cs))) in
     let pure : has_control (c ∷ body cs) ≡ false = subst (λ l. has_control l ≡ false) begins (free_take _ (take (plain_len (c ∷ cs)) (c ∷ cs)) (free_take (plain_len (c ∷ cs)) (c ∷ cs) free)) in
-    subst (λ l. is_plain l ≡ true) (sym begins) (is_plain_of c (body cs) (starts cs (and_parts (not (is_indicator c)) (not (is_soft_indicator c) || not (ends_word cs)) start) w) whole last pure)
+    subst (λ l. is_plain l ≡ true) (sym begins) (is_plain_of c (body cs) nonblank (starts cs (and_parts (not (is_indicator c)) (not (is_soft_indicator c) || not (ends_word cs)) start) w) whole last pure)
   where
     starts : (ds : List ℕ) → (not (is_indicator c) ≡ true) × ((not (is_soft_indicator c) || not (ends_word ds)) ≡ true) → EndsWell (c ∷ ds) → is_plain_start c (body ds) ≡ true
     starts ds h v = and_from (not (is_indicator c)) _ h.0 (soft_start ds (is_soft_indicator c) h.1 (ends_well_behind c ds (goes_on c ds nonblank v) v))
