@@ -9,3 +9,7 @@ pub mod OpenViewLemmas
 pub mod ReaderLemmas
 pub mod ReadLemmas
 pub mod KeyLemmas
+pub mod TrimLemmas
+pub mod FlowLemmas
+pub mod FlowItemLemmas
+pub mod FlowListLemmas

@@ -7,6 +7,7 @@ mod block;
 mod bytes;
 mod entries;
 mod flow;
+mod flow_laws;
 mod frame;
 mod inline;
 mod line;
@@ -21,6 +22,7 @@ mod style;
 mod text;
 mod which;
 
+pub use flow_laws::one_line_lists;
 pub use node::{Node, Nodes, Pairs};
 pub use read::{MAX_BYTES, YamlFault, read_documents};
 pub use text::Text;
