@@ -23,3 +23,7 @@ mod WritingLines
 mod Writing
 mod SpellingLemmas
 mod WriteLemmas
+pub mod TrimLemmas
+pub mod FlowLemmas
+pub mod FlowItemLemmas
+pub mod FlowListLemmas

@@ -5,6 +5,7 @@ pub mod Block
 pub mod Quoted
 pub mod Flow
 pub mod Line
+pub mod FlowList
 pub mod Profile
 pub mod Text
 pub mod OpenNodes

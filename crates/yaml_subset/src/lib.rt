@@ -7,6 +7,7 @@ mod block;
 mod bytes;
 mod entries;
 mod flow;
+mod flow_laws;
 mod frame;
 mod inline;
 mod laws;
@@ -25,6 +26,7 @@ mod which;
 mod write;
 
 pub use laws::{standing_nodes_are_writable, written_text_reads_back};
+pub use flow_laws::one_line_lists;
 pub use node::{Node, Nodes, Pairs};
 pub use read::{MAX_BYTES, YamlFault, read_documents};
 pub use spelling::{FieldKey, Spelling, spelled};
