@@ -3,7 +3,7 @@ use Rattle.std.proofs.Common.{◌≡◌, ℕ, suc, ◌+◌, ◌-◌, ◌<◌, �
 use Rattle.std.specs.Prelude.{zero}
 use Rattle.std.specs.List.{AllByRecursion, list_all, slice_split, onto_first}
 use Rattle.std.specs.Str.Lines.{lines, lines_of_parts, strip_carriage_return}
-use Rattle.std.proofs.lemmas.Bool.{and_parts, and_from, or_parts, eqb-true}
+use Rattle.std.proofs.lemmas.Bool.{and_from, or_parts, eqb-true}
 use Rattle.std.proofs.lemmas.Bool.Decides.{nat_tests}
 use Rattle.std.proofs.lemmas.List.Folds.{list_all-append, list_any-append}
 use Rattle.std.proofs.lemmas.Str.{IsUtf8-append, IsUtf8-nil, IsUtf8-encode, encode_ascii, IsUtf8-take, IsUtf8-drop, IsCharBoundary-before_ascii, IsCharBoundary-from_take}
@@ -64,23 +64,10 @@ ascii_of c d e h = let s : c ≡ d = eqb-true c d e in omega arith
 pub blank_ascii : (c : ℕ) → is_blank_byte c ≡ true → c < 128
 blank_ascii c e = grind (arith, nat_tests)
 
-pub replicate_utf8 : (n : ℕ) (c : ℕ) → c < 128 → IsUtf8 (replicate n c)
-replicate_utf8 zero c h = IsUtf8-nil
-replicate_utf8 (suc n) c h = IsUtf8-append (c ∷ []) (replicate n c) (one_ascii c h) (replicate_utf8 n c h)
-
 -- BYTES THAT PASS A TEST
-
-pub list_all-parts : (t : ℕ → Bool) (xs ys : List ℕ) → list_all t (xs ++ ys) ≡ true → (list_all t xs ≡ true) × (list_all t ys ≡ true)
-list_all-parts t xs ys e = and_parts (list_all t xs) (list_all t ys) (sym (list_all-append t xs ys) ∙ e)
 
 pub list_all-both : (t : ℕ → Bool) (xs ys : List ℕ) → list_all t xs ≡ true → list_all t ys ≡ true → list_all t (xs ++ ys) ≡ true
 list_all-both t xs ys e f = list_all-append t xs ys ∙ and_from (list_all t xs) (list_all t ys) e f
-
-pub list_all-take : (t : ℕ → Bool) (n : ℕ) (xs : List ℕ) → list_all t xs ≡ true → list_all t (take n xs) ≡ true
-list_all-take t n xs e = (list_all-parts t (take n xs) (drop n xs) (ap (list_all t) (take-append-drop n xs) ∙ e)).0
-
-pub list_all-drop : (t : ℕ → Bool) (n : ℕ) (xs : List ℕ) → list_all t xs ≡ true → list_all t (drop n xs) ≡ true
-list_all-drop t n xs e = (list_all-parts t (take n xs) (drop n xs) (ap (list_all t) (take-append-drop n xs) ∙ e)).1
 
 pub free_take : (n : ℕ) (xs : List ℕ) → has_control xs ≡ false → has_control (take n xs) ≡ false
 free_take n xs e = (or_parts (has_control (take n xs)) (has_control (drop n xs)) (sym (list_any-append is_control (take n xs) (drop n xs)) ∙ ap has_control (take-append-drop n xs) ∙ e)).0
