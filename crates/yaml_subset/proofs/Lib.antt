@@ -14,3 +14,4 @@ mod WritingLines
 mod Writing
 mod SpellingLemmas
 mod WriteLemmas
+mod FitsLemmas

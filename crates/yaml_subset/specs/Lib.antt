@@ -14,6 +14,7 @@ pub mod Spelling
 pub mod Fits
 pub mod NodeView
 pub mod SpellingView
+pub mod FitsView
 pub mod Scan
 pub mod ScanView
 pub mod FlowView

@@ -5,6 +5,7 @@
 
 mod block;
 mod bytes;
+mod fits;
 mod flow;
 mod frame;
 mod inline;
@@ -23,6 +24,7 @@ mod text;
 mod which;
 mod write;
 
+pub use fits::can_be_written;
 pub use laws::written_text_reads_back;
 pub use node::{Node, Nodes, Pairs};
 pub use read::{MAX_BYTES, YamlFault, read_documents};
