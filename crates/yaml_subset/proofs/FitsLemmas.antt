@@ -6,13 +6,13 @@ use Rattle.std.proofs.lemmas.List.{drop_more, take_all}
 use Rattle.yaml_subset.specs.Block.{is_blank_byte}
 use Rattle.yaml_subset.specs.Line.{is_plain_start, plain_len, has_control}
 use Rattle.std.specs.Str.{is_utf8}
-use Rattle.std.proofs.lemmas.Bool.{not-true, not_from_false, and_parts, false≢true}
+use Rattle.std.proofs.lemmas.Bool.{not-true, not_from_false, false≢true}
 use Rattle.std.proofs.lemmas.Bool.Decides.{Decides-and}
 use Rattle.std.proofs.lemmas.Str.{IsUtf8-from_is_utf8, is_utf8-from_IsUtf8}
 use Rattle.yaml_subset.specs.Spelling.{Spelling, word, quoted, fields, items, Fields, no_fields, field, Items, no_items, one_item}
 use Rattle.yaml_subset.specs.Fits.{Fits, FitFields, FitItems, is_plain, is_quotable, is_letter, is_plain_key, is_key_text, has_field}
 use Rattle.yaml_subset.specs.FitsView.{key_test, fits_test, fields_test, items_test}
-use Rattle.yaml_subset.specs.SpellingView.{is_quoted, text_of, spelling_view, fields_view, items_view}
+use Rattle.yaml_subset.specs.SpellingView.{is_quoted, text_of, spelling_view, fields_view}
 use Rattle.yaml_subset.specs.declared.spelling.FieldKey.{FieldKey}
 use Rattle.yaml_subset.specs.declared.spelling.Spelling.{Spelling as Written}
 
@@ -40,10 +40,10 @@ mutual
   fields_decide d no_fields = (λ e. tt, λ f. refl)
   fields_decide d (field q k s fs) =
       let all : Decides ((key_test q k && (not (has_field k fs) && fits_test d s)) && fields_test d fs) (((IsUtf8 k × (is_key_text q k ≡ true)) × ((has_field k fs ≡ false) × Fits d s)) × FitFields d fs)
-          = Decides-and (key_test q k && (not (has_field k fs) && fits_test d s)) (fields_test d fs)
-          (Decides-and (key_test q k) (not (has_field k fs) && fits_test d s) (Decides-and (is_utf8 k) (is_key_text q k) (utf8_decides k) (itself (is_key_text q k)))
-          (Decides-and (not (has_field k fs)) (fits_test d s) (refused (has_field k fs)) (fits_decides d s)))
-          (fields_decide d fs) in
+      = Decides-and (key_test q k && (not (has_field k fs) && fits_test d s)) (fields_test d fs)
+      (Decides-and (key_test q k) (not (has_field k fs) && fits_test d s) (Decides-and (is_utf8 k) (is_key_text q k) (utf8_decides k) (itself (is_key_text q k)))
+      (Decides-and (not (has_field k fs)) (fits_test d s) (refused (has_field k fs)) (fits_decides d s)))
+      (fields_decide d fs) in
       (λ e. let p : _ = all.0 e in (p.0.0, p.0.1.0, p.0.1.1, p.1), λ f. all.1 ((f.0, (f.1, f.2)), f.3))
 
   items_decide : (d : ℕ) (is : Items) → Decides (items_test d is) (FitItems d is)

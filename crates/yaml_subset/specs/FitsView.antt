@@ -1,5 +1,5 @@
 -- The test of what can be written.
-use Rattle.std.specs.Prelude.{ℕ, zero, suc, ◌&&◌, Bool, true, false, not, List, [], ◌∷◌}
+use Rattle.std.specs.Prelude.{ℕ, zero, suc, ◌&&◌, Bool, true, false, not, List}
 use Rattle.std.specs.Str.{is_utf8}
 use Rattle.yaml_subset.specs.Spelling.{Spelling, word, quoted, fields, items, Fields, no_fields, field, Items, no_items, one_item}
 use Rattle.yaml_subset.specs.Fits.{is_plain, is_quotable, is_key_text, has_field}

@@ -35,3 +35,5 @@ pub use write::{write_node, write_spelling};
 
 #[cfg(test)]
 mod tests;
+#[cfg(test)]
+mod write_tests;

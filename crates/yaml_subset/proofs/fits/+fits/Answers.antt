@@ -15,8 +15,8 @@ fields_fit-returns-then-not-all_hold t c =
     let p : FieldKey × Spelling = c.index-field.result.now in
     let inside : i < length xs = omega (arith, c.loop-at-test.true, c.len-at-end.ensures, c.args.fields.now.ok.0) in
     let repeated : c.has_field-repeated.result ≡ list_any (λ x. bytes_eq (text_of p.0) (text_of x.0)) (drop (i + 1) xs) = c.has_field-repeated.ensures
-        ∙ ap (λ (k : List ℕ). list_any (λ x. bytes_eq k (text_of x.0)) (take (length c.deref.result.now - (i + 1)) (drop (i + 1) c.deref.result.now))) c.bytes_of.ensures
-        ∙ ap (list_any (λ x. bytes_eq (text_of p.0) (text_of x.0))) (left_all c.deref.result.now (i + 1) ∙ ap (λ (l : List (FieldKey × Spelling)). drop (i + 1) l) c.deref.ensures.value) in
+    ∙ ap (λ (k : List ℕ). list_any (λ x. bytes_eq k (text_of x.0)) (take (length c.deref.result.now - (i + 1)) (drop (i + 1) c.deref.result.now))) c.bytes_of.ensures
+    ∙ ap (list_any (λ x. bytes_eq (text_of p.0) (text_of x.0))) (left_all c.deref.result.now (i + 1) ∙ ap (λ (l : List (FieldKey × Spelling)). drop (i + 1) l) c.deref.ensures.value) in
     let tried = field_tried c.args.levels xs i p c.all_hold.result c.is_key-key.result c.has_field-repeated.result c.fits-value.result inside c.index-field.ensures c.all_hold.ensures c.is_key-key.ensures repeated c.fits-value.ensures in
     ap (λ (b : Bool). b && fields_test c.args.levels (fields_view (drop (i + 1) xs))) (sym c.if-not-all_hold.true) ∙ tried ∙ c.loop-at.invariant
 
@@ -27,7 +27,7 @@ fields_fit-loop-at-preserved t c =
     let p : FieldKey × Spelling = c.index-field.result.now in
     let inside : i < length xs = omega (arith, c.loop-at-test.true, c.len-at-end.ensures, c.args.fields.now.ok.0) in
     let repeated : c.has_field-repeated.result ≡ list_any (λ x. bytes_eq (text_of p.0) (text_of x.0)) (drop (i + 1) xs) = c.has_field-repeated.ensures
-        ∙ ap (λ (k : List ℕ). list_any (λ x. bytes_eq k (text_of x.0)) (take (length c.deref.result.now - (i + 1)) (drop (i + 1) c.deref.result.now))) c.bytes_of.ensures
-        ∙ ap (list_any (λ x. bytes_eq (text_of p.0) (text_of x.0))) (left_all c.deref.result.now (i + 1) ∙ ap (λ (l : List (FieldKey × Spelling)). drop (i + 1) l) c.deref.ensures.value) in
+    ∙ ap (λ (k : List ℕ). list_any (λ x. bytes_eq k (text_of x.0)) (take (length c.deref.result.now - (i + 1)) (drop (i + 1) c.deref.result.now))) c.bytes_of.ensures
+    ∙ ap (list_any (λ x. bytes_eq (text_of p.0) (text_of x.0))) (left_all c.deref.result.now (i + 1) ∙ ap (λ (l : List (FieldKey × Spelling)). drop (i + 1) l) c.deref.ensures.value) in
     let tried = field_tried c.args.levels xs i p c.all_hold.result c.is_key-key.result c.has_field-repeated.result c.fits-value.result inside c.index-field.ensures c.all_hold.ensures c.is_key-key.ensures repeated c.fits-value.ensures in
     ap (λ (b : Bool). b && fields_test c.args.levels (fields_view (drop (i + 1) xs))) (sym c.if-not-all_hold.false) ∙ tried ∙ c.loop-at.invariant
