@@ -27,3 +27,4 @@ pub mod TrimLemmas
 pub mod FlowLemmas
 pub mod FlowItemLemmas
 pub mod FlowListLemmas
+mod FitsLemmas

@@ -1,10 +1,10 @@
 -- Values as they are written, level by level.
-use Rattle.std.proofs.Common.{◌≡◌, ℕ, ◌+◌, ◌<◌, length, take, get_or, add-one, take-suc, Bool, true, false, List, [], ◌∷◌, ◌++◌, map, Vec, Global, refl, sym, ap, ◌∙◌, rules}
+use Rattle.std.proofs.Common.{◌≡◌, ℕ, ◌+◌, ◌<◌, length, take, get_or, add-one, take-suc, true, false, List, [], ◌∷◌, ◌++◌, map, Vec, Global, refl, sym, ap, ◌∙◌, rules}
 use Rattle.yaml_subset.specs.Tree.{Tree, scalar, trees}
 use Rattle.yaml_subset.specs.Spelling.{Spelling, word, quoted, fields, items, Fields, no_fields, field, Items as Listed, no_items, one_item, meant, entries_meant, items_meant, spelled, fields_spelled, items_spelled}
 use Rattle.yaml_subset.specs.Tree.{mapping, sequence, Entries, no_entries, entry, Trees, no_trees, item}
 use Rattle.yaml_subset.specs.NodeView.{node_view}
-use Rattle.yaml_subset.specs.SpellingView.{is_quoted, text_of, fields_of, items_of, spelling_view, fields_view, items_view, entries_view}
+use Rattle.yaml_subset.specs.SpellingView.{is_quoted, text_of, spelling_view, fields_view, items_view, entries_view}
 use Rattle.yaml_subset.specs.declared.text.Text.{Text}
 use Rattle.yaml_subset.specs.declared.node.Node.{Node}
 use Rattle.yaml_subset.specs.declared.spelling.FieldKey.{FieldKey}

@@ -1,5 +1,5 @@
 -- What the writer writes, step by step.
-use Rattle.std.proofs.Common.{◌≡◌, ℕ, zero, suc, ◌+◌, ◌-◌, ◌<◌, ◌≤◌, Bool, true, false, List, [], ◌∷◌, ◌++◌, length, cond, map, Result, Ok, Err, OnOk, subst, drop, Vec, Global, refl, sym, ap, ◌∙◌, append_assoc, append-nil, arith}
+use Rattle.std.proofs.Common.{◌≡◌, ℕ, zero, suc, ◌+◌, ◌-◌, ◌<◌, ◌≤◌, Bool, false, List, [], ◌∷◌, ◌++◌, length, cond, Result, Ok, Err, OnOk, subst, refl, append_assoc, arith}
 use Rattle.std.specs.Prelude.{◌==◌, not}
 use Rattle.std.proofs.lemmas.Bool.Decides.{nat_tests}
 use Rattle.yaml_subset.specs.Spelling.{Spelling, word, quoted, fields, items, Fields, no_fields, field, Items, no_items, one_item, key_text, spaces, step, gap_at_colon, gap_at_dash, written, written_fields, written_items, writing, is_word, meant, spelled}
@@ -7,7 +7,7 @@ use Rattle.yaml_subset.specs.Tree.{Tree}
 use Rattle.yaml_subset.specs.Profile.{max_depth}
 use Rattle.yaml_subset.specs.Text.{StandsFor, max_bytes}
 use Rattle.yaml_subset.specs.Fits.{Fits, FitFields, FitItems, IsWritable}
-use Rattle.yaml_subset.specs.SpellingView.{is_quoted, text_of, fields_of, items_of, is_no_text, has_lines, spelling_view, fields_view, items_view}
+use Rattle.yaml_subset.specs.SpellingView.{is_no_text, has_lines, fields_view, items_view}
 use Rattle.yaml_subset.specs.declared.spelling.FieldKey.{FieldKey}
 use Rattle.yaml_subset.specs.declared.spelling.Spelling.{Spelling as Written}
 use Rattle.yaml_subset.proofs.WritingLines.{lead_first}

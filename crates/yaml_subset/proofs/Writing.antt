@@ -1,6 +1,6 @@
 -- A value that is written stands for its node: its text is UTF-8 without a byte order mark, and its lines have the node's marks.
-use Rattle.std.proofs.Common.{◌≡◌, ℕ, zero, suc, ◌+◌, ◌<◌, ◌≤◌, Bool, true, false, List, [], ◌∷◌, ◌++◌, Option, Some, None, cond, length, get_or, replicate, refl, sym, ap, ap₂, ◌∙◌, subst, append_assoc, append-nil, arith, IsUtf8, inl, inr}
-use Rattle.std.specs.Prelude.{◌==◌, ◌&&◌, nat_lt, nat_eq}
+use Rattle.std.proofs.Common.{◌≡◌, ℕ, zero, suc, ◌+◌, ◌<◌, ◌≤◌, Bool, true, false, List, [], ◌∷◌, ◌++◌, Option, Some, length, get_or, refl, sym, ap, ap₂, ◌∙◌, subst, append_assoc, append-nil, arith, IsUtf8, inl, inr}
+use Rattle.std.specs.Prelude.{◌&&◌, nat_lt, nat_eq}
 use Rattle.std.specs.List.{list_all, flat_map, starts_with}
 use Rattle.std.specs.Str.Lines.{lines}
 use Rattle.std.proofs.lemmas.Bool.{false≢true, and_parts, cases_lt, cases_eq, ltb-true, ne_eqb}
@@ -10,7 +10,7 @@ use Rattle.yaml_subset.specs.Tree.{Tree}
 use Rattle.yaml_subset.specs.Profile.{max_depth}
 use Rattle.yaml_subset.specs.Text.{nodes_of, without_mark, max_bytes, StandsFor}
 use Rattle.yaml_subset.specs.Spelling.{Spelling, word, quoted, fields, items, Fields, no_fields, field, Items, no_items, one_item, meant, escape_of, in_quotes, key_text, spaces, step, gap_at_colon, gap_at_dash, written, written_fields, written_items, writing, is_word}
-use Rattle.yaml_subset.specs.Fits.{Fits, FitFields, FitItems, is_letter, is_key_text}
+use Rattle.yaml_subset.specs.Fits.{Fits, FitFields, FitItems, is_letter}
 use Rattle.yaml_subset.proofs.WritingMarks.{marks_at, marks_own, kept, document_read}
 use Rattle.yaml_subset.proofs.WritingBytes.{IsLetter, letter_is}
 use Rattle.yaml_subset.proofs.WritingLines.{text_lines, lines_nodes}

@@ -1,22 +1,21 @@
 -- What stands on a line reads back what was written there: texts in double quotes, plain texts, and keys.
-use Rattle.std.proofs.Common.{◌≡◌, ℕ, zero, suc, ◌+◌, ◌-◌, ◌<◌, ◌≤◌, Bool, true, false, List, [], ◌∷◌, ◌++◌, Option, Some, None, cond, length, take, drop, get_or, reverse, option_map, refl, sym, ap, ◌∙◌, append_assoc, append-nil, arith, length-append, inl, inr}
-use Rattle.std.specs.Prelude.{◌==◌, ◌&&◌, ◌||◌, nat_le, nat_lt, nat_eq, not, slice_index}
-use Rattle.std.specs.List.{list_all, list_any, prefix_len, flat_map}
-use Rattle.std.proofs.lemmas.Bool.{false≢true, and_parts, or_parts, or_from, not-true, cases_Bool, agree_below, agree_below_at, eqb-true}
+use Rattle.std.proofs.Common.{◌≡◌, ℕ, suc, ◌+◌, ◌-◌, ◌<◌, Bool, true, false, List, [], ◌∷◌, ◌++◌, Option, Some, None, cond, length, take, drop, get_or, reverse, option_map, refl, sym, ap, ◌∙◌, append_assoc, arith, length-append}
+use Rattle.std.specs.Prelude.{◌==◌, ◌&&◌, ◌||◌, nat_lt, nat_eq, not, slice_index}
+use Rattle.std.specs.List.{list_all, prefix_len, flat_map}
+use Rattle.std.proofs.lemmas.Bool.{false≢true, and_parts, or_parts, or_from, not-true, agree_below, agree_below_at, eqb-true}
 use Rattle.std.proofs.lemmas.Bool.Decides.{nat_tests}
-use Rattle.std.proofs.lemmas.List.{take_all, get_or-reverse, length-reverse}
+use Rattle.std.proofs.lemmas.List.{take_all, get_or-reverse}
 use Rattle.std.proofs.lemmas.List.Sums.{AllPass-from_list_all}
-use Rattle.std.proofs.lemmas.List.Folds.{list_any-append}
 use Rattle.std.proofs.Math.Seq.{take-append_seam}
 use Rattle.yaml_subset.specs.Tree.{Tree, mapping, sequence, scalar, no_entries, no_trees}
-use Rattle.yaml_subset.specs.Mark.{Mark, key, value, dash}
-use Rattle.yaml_subset.specs.Block.{is_space, is_blank_byte, indentation, trimmed}
+use Rattle.yaml_subset.specs.Mark.{key, value, dash}
+use Rattle.yaml_subset.specs.Block.{is_space, is_blank_byte, trimmed}
 use Rattle.yaml_subset.specs.Quoted.{Quoted, with_byte, double}
 use Rattle.yaml_subset.specs.Flow.{is_indicator, is_soft_indicator}
 use Rattle.yaml_subset.specs.declared.which.Which.TheVariants.{Colon}
-use Rattle.yaml_subset.specs.Line.{tab_row, is_marker, Line, one_mark, no_marks, with_mark, with_fault, Key, is_control, has_control, ends_word, is_tail, is_plain_start, stops_plain, plain_len, plain_value, is_quote, quoted_value, inline_value, quoted_key, plain_key, plain_key_fault, key_of, behind_colon, entry_or_value, content}
+use Rattle.yaml_subset.specs.Line.{tab_row, is_marker, Line, one_mark, no_marks, with_mark, with_fault, Key, is_control, has_control, ends_word, is_tail, is_plain_start, stops_plain, plain_len, plain_value, is_quote, inline_value, quoted_key, plain_key, plain_key_fault, key_of, behind_colon, entry_or_value, content}
 use Rattle.yaml_subset.specs.Spelling.{escape_of, in_quotes, key_text}
-use Rattle.yaml_subset.specs.Fits.{is_quotable, is_plain, is_letter, is_plain_key, is_key_text}
+use Rattle.yaml_subset.specs.Fits.{is_quotable, is_plain, is_letter, is_key_text}
 
 -- DOUBLE QUOTES
 

@@ -1,22 +1,22 @@
 -- The lines of a written value have its marks, and so its text stands for its node.
-use Rattle.std.proofs.Common.{◌≡◌, ℕ, zero, suc, ◌+◌, ◌-◌, ◌<◌, ◌≤◌, ◌⊎◌, Bool, true, false, List, [], ◌∷◌, ◌++◌, Option, Some, None, cond, length, take, drop, get_or, replicate, fold, refl, sym, ap, ◌∙◌, subst₂, append_assoc, append-nil, arith, All, inl, inr, zero-le}
-use Rattle.std.specs.Prelude.{◌==◌, ◌&&◌, ◌||◌, nat_lt, nat_eq, not, slice_index, ⊤, is_none}
+use Rattle.std.proofs.Common.{◌≡◌, ℕ, zero, suc, ◌+◌, ◌-◌, ◌<◌, ◌⊎◌, Bool, true, false, List, [], ◌∷◌, ◌++◌, Option, Some, None, cond, length, drop, get_or, fold, refl, sym, ap, ◌∙◌, subst₂, append_assoc, append-nil, arith, inl, inr}
+use Rattle.std.specs.Prelude.{◌==◌, slice_index, ⊤, is_none}
 use Rattle.std.specs.Option.{option_and_then}
-use Rattle.std.specs.List.{list_all, list_any, prefix_len, flat_map, slice_split}
+use Rattle.std.specs.List.{list_all, slice_split}
 use Rattle.std.specs.Str.Lines.{lines, lines_of_parts, strip_carriage_return}
-use Rattle.std.proofs.lemmas.Bool.{false≢true, and_parts, or_parts, or_from, not-true}
+use Rattle.std.proofs.lemmas.Bool.{false≢true, and_parts, or_parts}
 use Rattle.std.proofs.lemmas.List.Folds.{list_all-append}
 use Rattle.std.proofs.lemmas.List.Splits.{slice_split_at, length-slice_split}
 use Rattle.yaml_subset.specs.Tree.{Tree, mapping, sequence, scalar, no_entries, no_trees}
 use Rattle.yaml_subset.specs.Mark.{Mark, start, dash, key, value, header, raw}
-use Rattle.yaml_subset.specs.Block.{is_space, is_blank_byte, is_blank, indentation}
-use Rattle.yaml_subset.specs.Line.{Line, one_mark, no_marks, faulty, with_mark, is_control, has_control, ends_word, is_marker, marker_line, behind_colon, content, filled_line, line_of}
+use Rattle.yaml_subset.specs.Block.{is_blank_byte, is_blank, indentation}
+use Rattle.yaml_subset.specs.Line.{Line, no_marks, faulty, with_mark, is_control, has_control, ends_word, is_marker, behind_colon, content, filled_line, line_of}
 use Rattle.yaml_subset.specs.Profile.{documents}
-use Rattle.yaml_subset.specs.Text.{Marked, next_line, no_line, marked, nodes_of, parent_after, header_scalar}
-use Rattle.yaml_subset.specs.Spelling.{Spelling, word, quoted, fields, items, Fields, no_fields, field, Items, no_items, one_item, meant, in_quotes, key_text, spaces, step, gap_at_colon, gap_at_dash, written, written_fields, written_items, writing, is_word}
+use Rattle.yaml_subset.specs.Text.{Marked, next_line, nodes_of, parent_after, header_scalar}
+use Rattle.yaml_subset.specs.Spelling.{Spelling, word, quoted, fields, items, Fields, no_fields, field, Items, no_items, one_item, in_quotes, key_text, spaces, step, gap_at_colon, gap_at_dash, written, written_fields, written_items, writing, is_word}
 use Rattle.yaml_subset.specs.Fits.{Fits, FitFields, FitItems, is_key_text}
 use Rattle.yaml_subset.specs.declared.scalar.Scalar.{Scalar}
-use Rattle.yaml_subset.specs.declared.which.Which.TheVariants.{Control, Tab}
+use Rattle.yaml_subset.specs.declared.which.Which.TheVariants.{Control}
 use Rattle.yaml_subset.proofs.WritingMarks.{behind_key, marks_at, marks_of_fields, marks_of_items, is_own}
 use Rattle.yaml_subset.proofs.WritingBytes.{differs, begins_well, well_parts, behind_space, key_content, key_control, key_begins, key_no_marker, IsInline, inline_word, inline_quotes, inline_map, inline_list}
 

@@ -1,15 +1,14 @@
 -- The marks of a value as it is written, and that they are the node which it stands for.
-use Rattle.std.proofs.Common.{◌≡◌, ℕ, zero, suc, ◌+◌, ◌<◌, ◌≤◌, Bool, true, false, List, [], ◌∷◌, ◌++◌, Option, Some, None, cond, map, length, option_map, refl, sym, ap, ◌∙◌, append_assoc, append-nil, arith, bytes_eq}
-use Rattle.std.specs.Prelude.{nat_lt, nat_le, ◌==◌, ◌&&◌, ◌||◌, not, ⊤}
+use Rattle.std.proofs.Common.{◌≡◌, ℕ, zero, suc, ◌+◌, ◌<◌, Bool, true, false, List, [], ◌∷◌, ◌++◌, Option, Some, None, cond, map, length, option_map, refl, sym, ap, ◌∙◌, append_assoc, append-nil, arith, bytes_eq}
+use Rattle.std.specs.Prelude.{nat_lt, ◌==◌, ◌&&◌, ◌||◌, ⊤}
 use Rattle.std.proofs.lemmas.Bool.{false≢true}
-use Rattle.std.specs.Option.{option_and_then}
 use Rattle.std.specs.List.{list_all, list_any}
 use Rattle.std.proofs.lemmas.Bool.Decides.{nat_tests}
 use Rattle.std.proofs.lemmas.List.Folds.{list_all-append, list_any-append}
 use Rattle.std.proofs.lemmas.Slice.Eq.{bytes_eq-Decides}
 use Rattle.yaml_subset.specs.Tree.{Tree, mapping, sequence, scalar, Entries, no_entries, entry, Trees, no_trees, item, trees}
 use Rattle.yaml_subset.specs.Mark.{Mark, start, dash, key, value, header, raw, Child}
-use Rattle.yaml_subset.specs.Profile.{max_depth, is_deeper, has_room, Pieces, last_piece, piece, is_next, with_first, pieces, no_text, or_no_text, with_child, is_key, is_repeated, children, entries, collection, behind, is_shallow, leaf, node, documents}
+use Rattle.yaml_subset.specs.Profile.{max_depth, is_deeper, has_room, Pieces, last_piece, piece, is_next, with_first, pieces, or_no_text, with_child, is_key, children, entries, behind, node, documents}
 use Rattle.yaml_subset.specs.Spelling.{Spelling, word, quoted, fields, items, Fields, no_fields, field, Items, no_items, one_item, meant, entries_meant, items_meant, key_text, step}
 use Rattle.yaml_subset.specs.Fits.{Fits, FitFields, FitItems, has_field}
 use Rattle.yaml_subset.specs.SpellingView.{has_lines}

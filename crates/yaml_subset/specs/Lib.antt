@@ -18,6 +18,7 @@ pub mod Standing
 pub mod NodeView
 pub mod KeysView
 pub mod SpellingView
+pub mod FitsView
 pub mod Scan
 pub mod ScanView
 pub mod FlowView

@@ -27,7 +27,7 @@ pub(crate) struct Key {
     pub(crate) fault: Option<Which>,
 }
 
-fn is_plain_start(byte: u8, rest: &[u8]) -> bool
+pub(crate) fn is_plain_start(byte: u8, rest: &[u8]) -> bool
     ensures { result ≡ is_plain_start_lem byte rest.now }
 {
     !is_indicator(byte) && (!is_soft_indicator(byte) || !ends_word(rest))
@@ -42,7 +42,7 @@ fn stops_plain(byte: u8, rest: &[u8]) -> bool
 
 /// How many bytes a plain scalar takes.
 #[tactic(auto, using(crate::proofs::LineLemmas::plain_len_more))]
-fn plain_len(bytes: &[u8]) -> usize
+pub(crate) fn plain_len(bytes: &[u8]) -> usize
     ensures value { result ≡ plain_len_lem bytes.now }
     ensures within { result ≤ length bytes.now }
 {

@@ -6,6 +6,7 @@
 mod block;
 mod bytes;
 mod entries;
+mod fits;
 mod flow;
 mod flow_laws;
 mod frame;
@@ -27,6 +28,8 @@ mod write;
 
 pub use laws::{standing_nodes_are_writable, written_text_reads_back};
 pub use flow_laws::one_line_lists;
+pub use fits::can_be_written;
+pub use laws::written_text_reads_back;
 pub use node::{Node, Nodes, Pairs};
 pub use read::{MAX_BYTES, YamlFault, read_documents};
 pub use spelling::{FieldKey, Spelling, spelled};
@@ -40,3 +43,4 @@ mod profile_tests;
 mod tests;
 #[cfg(test)]
 mod utf8_tests;
+mod write_tests;

@@ -1,12 +1,11 @@
-use Rattle.std.proofs.Common.{◌≡◌, ℕ, ◌<◌, Bool, true, false, List, [], ◌++◌, length, vec_len, refl, sym, ap, ◌∙◌, arith}
+use Rattle.std.proofs.Common.{◌≡◌, ℕ, ◌<◌, List, [], ◌++◌, length, vec_len, sym, ap, ◌∙◌, arith}
 use Rattle.std.specs.Prelude.{◌==◌}
 use Rattle.std.proofs.lemmas.Bool.{eqb-true}
-use Rattle.std.proofs.lemmas.Bool.Decides.{nat_tests}
 use Rattle.std.proofs.lemmas.Result.{on_ok_weaker}
 use Rattle.yaml_subset.specs.Spelling.{written}
 use Rattle.yaml_subset.specs.SpellingView.{spelling_view}
 use Rattle.yaml_subset.proofs.SpellingLemmas.{view-Fields, view-Items}
-use Rattle.yaml_subset.proofs.WriteLemmas.{text-fields, text-no_fields, text-items, text-no_items, some_there}
+use Rattle.yaml_subset.proofs.WriteLemmas.{text-fields, text-items, text-no_items, some_there}
 use Rattle.yaml_subset.proofs.write.+write.Goals as goal
 
 pub write_value-returns-else-is_empty : goal.write_value-returns-else-is_empty
