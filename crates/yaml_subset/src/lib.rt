@@ -1,6 +1,6 @@
-//! The YAML profile of OpenSLO documents: block text read as a list of nodes.
+//! The YAML profile of OpenSLO documents: block text read as a list of nodes, and nodes written canonically.
 //! Stands on the standard library alone.
-//! Promises that a text is read exactly where the profile takes it, and that a refusal names the first line and row.
+//! Promises that a text is read exactly where the profile takes it, that a refusal names the first line and row, and that what is written reads back.
 #![tactic(auto)]
 
 mod block;
@@ -26,10 +26,9 @@ mod text;
 mod which;
 mod write;
 
-pub use laws::{standing_nodes_are_writable, written_text_reads_back};
-pub use flow_laws::one_line_lists;
 pub use fits::can_be_written;
-pub use laws::written_text_reads_back;
+pub use flow_laws::one_line_lists;
+pub use laws::{standing_nodes_are_writable, written_text_reads_back};
 pub use node::{Node, Nodes, Pairs};
 pub use read::{MAX_BYTES, YamlFault, read_documents};
 pub use spelling::{FieldKey, Spelling, spelled};
@@ -43,4 +42,5 @@ mod profile_tests;
 mod tests;
 #[cfg(test)]
 mod utf8_tests;
+#[cfg(test)]
 mod write_tests;
