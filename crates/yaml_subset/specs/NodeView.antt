@@ -1,5 +1,5 @@
 -- What contracts see of a node.
-use Rattle.std.specs.Prelude.{List, [], ◌∷◌, map}
+use Rattle.std.specs.Prelude.{ℕ, List, [], ◌∷◌, map}
 use Rattle.yaml_subset.specs.Tree.{Tree, mapping, sequence, scalar, Entries, no_entries, entry, trees}
 use Rattle.yaml_subset.specs.declared.text.Text.{Text}
 use Rattle.yaml_subset.specs.declared.node.Node.{Node, fold-Node}
@@ -20,3 +20,7 @@ node_view = fold-Node Tree node_step
 
 abbrev pub nodes_view : List Node → List Tree
 nodes_view xs = map node_view xs
+
+-- the entries of a map, with each value as it is seen
+abbrev pub fields_view : List (Text × Node) → List (Text × Tree)
+fields_view ps = map (λ p. (p.0, node_view p.1)) ps

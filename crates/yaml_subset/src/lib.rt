@@ -5,6 +5,7 @@
 
 mod block;
 mod bytes;
+mod copy;
 mod entries;
 mod fits;
 mod flow;
@@ -26,6 +27,7 @@ mod text;
 mod which;
 mod write;
 
+pub use copy::copy_node;
 pub use fits::can_be_written;
 pub use flow_laws::one_line_lists;
 pub use laws::{standing_nodes_are_writable, written_text_reads_back};

@@ -6,6 +6,7 @@ ghost use Rattle.yaml_subset.specs.Spelling.{spelled as spelled_lem, fields_spel
 ghost use Rattle.yaml_subset.specs.NodeView.{node_view};
 ghost use Rattle.yaml_subset.specs.SpellingView.{spelling_view, fields_view, items_view, entries_view};
 
+use crate::copy::copy_text;
 use crate::node::{Node, Nodes, Pairs};
 use crate::text::Text;
 use std::alloc::{AllocError, Global};
@@ -32,14 +33,6 @@ pub enum Spelling {
     Items(Vec<Spelling>),
 }
 
-/// A text once more.
-fn copied(alloc: Global, text: &Text) -> Result<Text, AllocError>
-    ensures { IfOk result (λ t. t ≡ text.now) }
-{
-    let bytes = Vec::from_slice(alloc, text.as_bytes())?;
-    Ok(Text::of(bytes))
-}
-
 /// A node as it is written: its keys in quotes, plain scalars plain, other scalars in quotes.
 #[cycle(spelled)]
 pub fn spelled(alloc: Global, node: &Node) -> Result<Spelling, AllocError>
@@ -59,7 +52,7 @@ fn spelled_fields(alloc: Global, entries: &Pairs) -> Result<Vec<(FieldKey, Spell
 {
     let mut fields = Vec::new(alloc);
     for entry in entries {
-        let key = FieldKey::Quoted(copied(alloc, &entry.0)?);
+        let key = FieldKey::Quoted(copy_text(alloc, &entry.0)?);
         let value = spelled(alloc, &entry.1)?;
         fields.push((key, value))?;
     }
@@ -83,7 +76,7 @@ fn spelled_items(alloc: Global, nodes: &Nodes) -> Result<Vec<Spelling>, AllocErr
 fn spelled_scalar(alloc: Global, text: &Text, plain: bool) -> Result<Spelling, AllocError>
     ensures { IfOk result (λ s. spelling_view s ≡ spelled_lem (node_view (Node.Scalar text.now plain))) }
 {
-    let text = copied(alloc, text)?;
+    let text = copy_text(alloc, text)?;
     if plain {
         Ok(Spelling::Word(text))
     } else {

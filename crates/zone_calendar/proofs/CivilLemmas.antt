@@ -7,24 +7,10 @@ use Rattle.std.proofs.lemmas.Slice.Eq.{text_from_reads}
 use Rattle.jiff_core.proofs.SignedLemmas.{signed_arith, back_small}
 use Rattle.jiff_core.specs.Calendar.{days_in_month}
 use Rattle.jiff_core.proofs.CalendarLemmas.{days_in_month_bounds}
+use Rattle.zone_calendar.specs.CivilRead.{InRange, in_range}
 use Rattle.zone_calendar.specs.CivilText.{parts_of, parts_text, civil_text, is_moment, has_form, two_at, parts_by, numbers_in, parts_in}
 use Rattle.zone_calendar.specs.declared.civil.Civil.{Civil}
 use Rattle.zone_calendar.specs.declared.civil_text.Parts.{Parts}
-
--- the numbers of a moment are in range
-pub record InRange (parts : Parts) : Type 0 where
-  pub year_low : 1971 ≤ parts.year
-  pub year_high : parts.year ≤ 2097
-  pub month_low : 1 ≤ parts.month
-  pub month_high : parts.month ≤ 12
-  pub day_low : 1 ≤ parts.day
-  pub day_high : parts.day ≤ days_in_month (pos parts.year) parts.month
-  pub hour : parts.hour < 24
-  pub minute : parts.minute < 60
-  pub second : parts.second < 60
-
-pub in_range : (parts : Parts) → is_moment parts ≡ true → InRange parts
-in_range parts test = grind (arith, nat_tests)
 
 -- a year of that range is as a signed number of 16 bits what it is without a sign
 pub small_cast : (n : ℕ) → n ≤ 2097 → to_z w16 n ≡ pos n

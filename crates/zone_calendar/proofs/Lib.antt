@@ -7,3 +7,4 @@ pub mod DateLemmas
 pub mod StartLemmas
 pub mod WindowLemmas
 pub mod OneListLemmas
+pub mod CivilReadLemmas

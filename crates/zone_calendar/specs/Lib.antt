@@ -5,3 +5,4 @@ pub mod CivilText
 pub mod Starts
 pub mod Moments
 pub mod Window
+pub mod CivilRead

@@ -25,8 +25,8 @@ spelled_fields-loop-entry-preserved t c =
     let l = c.loop-entry in
     let xs = c.deref-entry-items.result.now in
     let e : Text × Node = c.entry-item.result in
-    let p : FieldKey × Written = (InQuotes c.in_ok-copied.field-0, c.in_ok-value.value) in
-    let same : fields_view (p ∷ []) ≡ fields_spelled (entries_view (e ∷ [])) = rw (c.in_ok-copied.ensures, c.in_ok-value.ensures) refl in
+    let p : FieldKey × Written = (InQuotes c.in_ok-copy_text.field-0, c.in_ok-value.value) in
+    let same : fields_view (p ∷ []) ≡ fields_spelled (entries_view (e ∷ [])) = rw (c.in_ok-copy_text.ensures, c.in_ok-value.ensures) refl in
     ap fields_view c.in_ok-push.ensures.items ∙ fields_more l.fields.items (take l.entry-index xs) p e l.invariant same
     ∙ ap (λ (es : List (Text × Node)). fields_spelled (entries_view es)) (sym (take_one xs l.entry-index e c.loop-entry-test.true c.entry-item.is))
 

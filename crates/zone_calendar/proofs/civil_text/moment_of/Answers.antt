@@ -1,6 +1,7 @@
 use Rattle.std.proofs.Common.{sym, arith}
 use Rattle.jiff_core.proofs.SignedLemmas.{signed_arith}
-use Rattle.zone_calendar.proofs.CivilLemmas.{in_range, small_cast}
+use Rattle.zone_calendar.proofs.CivilLemmas.{small_cast}
+use Rattle.zone_calendar.specs.CivilRead.{in_range}
 use Rattle.zone_calendar.proofs.civil_text.moment_of.Goals as goal
 
 pub invariant_of-result-clause-year_in : goal.invariant_of-result-clause-year_in
