@@ -1,9 +1,10 @@
 //! Laws of texts and nodes.
 
-ghost use Rattle.std.specs.Prelude.{List, ℕ};
+ghost use Rattle.std.specs.Prelude.{◌≡◌, List, ℕ};
 ghost use Rattle.std.specs.List.{AllByRecursion};
 ghost use Rattle.yaml_subset.specs.Tree.{Tree};
 ghost use Rattle.yaml_subset.specs.Text.{StandsFor};
+ghost use Rattle.yaml_subset.specs.BadPlace.{IsBadPlace};
 ghost use Rattle.yaml_subset.specs.Fits.{IsWritable};
 ghost use Rattle.yaml_subset.specs.Standing.{IsIn, StandsIn};
 
@@ -14,4 +15,9 @@ pub fn standing_nodes_are_writable()
     ensures documents { (text : List ℕ) (xs : List Tree) → StandsFor text xs → AllByRecursion IsWritable xs }
     ensures inside { (x y : Tree) → IsIn x y → IsWritable y → IsWritable x }
     ensures at_any_depth { (text : List ℕ) (x : Tree) → StandsIn text x → IsWritable x }
+{}
+
+/// Bytes have one place at most that no UTF-8 text can have: so `YamlFault::NotUtf8` names the only one.
+pub fn one_bad_place()
+    ensures { (bytes : List ℕ) (a b : ℕ) → IsBadPlace bytes a → IsBadPlace bytes b → a ≡ b }
 {}

@@ -21,7 +21,7 @@ mod style;
 mod text;
 mod which;
 
-pub use laws::standing_nodes_are_writable;
+pub use laws::{one_bad_place, standing_nodes_are_writable};
 pub use node::{Node, Nodes, Pairs};
 pub use read::{MAX_BYTES, YamlFault, read_documents};
 pub use text::Text;
