@@ -382,3 +382,22 @@ place_in_text text at = by (starts_with nat_eq text (239 ∷ 187 ∷ 191 ∷ [])
         let long : length text ≡ 3 + length (drop 3 text) = sym (ap length whole) ∙ plus_three (length (drop 3 text)) in
         let f : 3 + at ≡ length text - length (drop 3 text) + at = omega arith in
         subst₂ IsBadPlace whole f (behind (239 ∷ 187 ∷ 191 ∷ []) (drop 3 text) at mark_utf8 h)
+
+-- what begins bytes that can go on can go on
+front_goes_on : (bs : List ℕ) (n m : ℕ) → n ≤ m → CanGoOn (take m bs) → CanGoOn (take n bs)
+front_goes_on bs n m h g =
+    let e : n + (m - n) ≡ m = omega arith in
+    let parts : take m bs ≡ take n bs ++ take (m - n) (drop n bs) = ap (λ k. take k bs) (sym e) ∙ take-add n (m - n) bs in
+    (take (m - n) (drop n bs) ++ g.0, subst IsUtf8 (ap (λ l. l ++ g.0) parts ∙ append_assoc (take n bs) (take (m - n) (drop n bs)) g.0) g.1)
+
+no_later : (bs : List ℕ) (a b : ℕ) → IsBadPlace bs a → IsBadPlace bs b → a < b → ⊥
+no_later bs a b p q h = let w = q.within in p.with_it (omega arith) (front_goes_on bs (a + 1) b (omega arith) q.before)
+
+-- bytes have one such place at most
+pub one_place : (bs : List ℕ) (a b : ℕ) → IsBadPlace bs a → IsBadPlace bs b → a ≡ b
+one_place bs a b p q = by (cases_lt a b) (cases_lt b a)
+  where
+    by : (a < b) ⊎ (b ≤ a) → (b < a) ⊎ (a ≤ b) → a ≡ b
+    by (inl h) _ = absurd (no_later bs a b p q h)
+    by (inr h) (inl k) = absurd (no_later bs b a q p k)
+    by (inr h) (inr k) = omega arith

@@ -6,6 +6,7 @@ ghost use Rattle.yaml_subset.specs.Tree.{Tree};
 ghost use Rattle.yaml_subset.specs.Profile.{max_depth};
 ghost use Rattle.yaml_subset.specs.Text.{StandsFor, max_bytes};
 ghost use Rattle.yaml_subset.specs.Spelling.{Spelling, meant, writing, is_word};
+ghost use Rattle.yaml_subset.specs.BadPlace.{IsBadPlace};
 ghost use Rattle.yaml_subset.specs.Fits.{Fits, IsWritable};
 ghost use Rattle.yaml_subset.specs.Standing.{IsIn, StandsIn};
 
@@ -24,4 +25,9 @@ pub fn standing_nodes_are_writable()
 pub fn written_text_reads_back()
     ensures stands { (s : Spelling) → Fits max_depth s → is_word s ≡ false → length (writing 0 s) ≤ max_bytes → StandsFor (writing 0 s) (meant s ∷ []) }
     ensures alone { (text : List ℕ) (xs ys : List Tree) → StandsFor text xs → StandsFor text ys → xs ≡ ys }
+{}
+
+/// Bytes have one place at most that no UTF-8 text can have: so `YamlFault::NotUtf8` names the only one.
+pub fn one_bad_place()
+    ensures { (bytes : List ℕ) (a b : ℕ) → IsBadPlace bytes a → IsBadPlace bytes b → a ≡ b }
 {}

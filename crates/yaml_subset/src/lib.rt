@@ -30,7 +30,7 @@ mod write;
 pub use copy::copy_node;
 pub use fits::can_be_written;
 pub use flow_laws::one_line_lists;
-pub use laws::{standing_nodes_are_writable, written_text_reads_back};
+pub use laws::{one_bad_place, standing_nodes_are_writable, written_text_reads_back};
 pub use node::{Node, Nodes, Pairs};
 pub use read::{MAX_BYTES, YamlFault, read_documents};
 pub use spelling::{FieldKey, Spelling, spelled};
