@@ -1,5 +1,5 @@
 -- What contracts see of a node.
-use Rattle.std.specs.Prelude.{ℕ, List, [], ◌∷◌, map}
+use Rattle.std.specs.Prelude.{List, [], ◌∷◌, map}
 use Rattle.yaml_subset.specs.Tree.{Tree, mapping, sequence, scalar, Entries, no_entries, entry, trees}
 use Rattle.yaml_subset.specs.declared.text.Text.{Text}
 use Rattle.yaml_subset.specs.declared.node.Node.{Node, fold-Node}

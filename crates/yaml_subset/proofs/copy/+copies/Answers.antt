@@ -1,4 +1,4 @@
-use Rattle.std.proofs.Common.{◌≡◌, ◌∙◌, ap, rules}
+use Rattle.std.proofs.Common.{◌∙◌, ap}
 use Rattle.yaml_subset.specs.NodeView.{fields_view}
 use Rattle.yaml_subset.proofs.NodeLemmas.{same_map}
 use Rattle.yaml_subset.proofs.copy.+copies.Goals as goal
