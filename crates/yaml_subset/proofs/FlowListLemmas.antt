@@ -10,7 +10,7 @@ use Rattle.yaml_subset.specs.Block.{is_blank_byte, is_blank}
 use Rattle.yaml_subset.specs.Quoted.{Quoted, single, double, quoted}
 use Rattle.yaml_subset.specs.Line.{is_quote, stops_plain, inline_value, one_mark}
 use Rattle.yaml_subset.specs.Flow.{Flow, flow, flow_start, flow_fault, flow_row, end_row, is_flow_indicator, is_indicator, is_flow_start, ends_soft}
-use Rattle.yaml_subset.specs.FlowList.{begins_item, goes_on, IsPlainItem, IsQuotedItem, IsItem, HasBlanks, Closes, GoesOn, IsFlowList, EndsWell}
+use Rattle.yaml_subset.specs.FlowList.{begins_item, goes_on, IsPlainItem, IsQuotedItem, IsItem, HasBlanks, Closes, EndsOrGoesOn, IsFlowList, EndsWell}
 use Rattle.yaml_subset.specs.declared.which.Which.{Which}
 use Rattle.yaml_subset.specs.declared.which.Which.TheVariants.{FlowForm}
 use Rattle.yaml_subset.specs.declared.flow.Part.TheVariants.{Want, Plain, Single, Double, After, Broken, Closed, Over}
@@ -134,7 +134,7 @@ list_writes (x ∷ xs) line t ys h =
     subst (λ (l : List ℕ). Good (at Want t ys) l (ys ++ (x ∷ xs))) (sym h.1.cut)
     (want_blanks t ys h.1.blanks from (ys ++ (x ∷ xs)) h.1.blank (item_free from h.2 x h.3) (item_writes t from h.2 h.4 x ys (ys ++ (x ∷ xs)) h.3 h.5 end))
   where
-    ends : (rest : List ℕ) → GoesOn (λ l. IsFlowList l xs) rest xs → ((more : List ℕ) → IsFlowList more xs → Good (at Want [] (ys ++ (x ∷ []))) more ((ys ++ (x ∷ [])) ++ xs)) → ItemEnd (ys ++ (x ∷ [])) rest (ys ++ (x ∷ xs))
+    ends : (rest : List ℕ) → EndsOrGoesOn (λ l. IsFlowList l xs) rest xs → ((more : List ℕ) → IsFlowList more xs → Good (at Want [] (ys ++ (x ∷ []))) more ((ys ++ (x ∷ [])) ++ xs)) → ItemEnd (ys ++ (x ∷ [])) rest (ys ++ (x ∷ xs))
     ends rest (inl g) more = inl (g.0.behind, g.0.cut, subst (λ (l : List Tree). Good (at Closed [] (ys ++ (x ∷ []))) g.0.behind (ys ++ (x ∷ l))) (sym g.1) (closed_writes [] (ys ++ (x ∷ [])) g.0.behind g.0.tail))
     ends rest (inr g) more = inr (g.0, g.1, subst (λ (zs : List Tree). Good (at Want [] (ys ++ (x ∷ []))) g.0 zs) (append_assoc ys (x ∷ []) xs) (more g.0 g.2))
 
@@ -161,11 +161,11 @@ Shorter n = (t : List ℕ) (ys : List Tree) (cs : List ℕ) (zs : List Tree) →
 -- an item and what stands behind it, or the end
 abbrev FromHere : List Tree → List ℕ → List Tree → Type 0
 FromHere ys from zs = (Closes from × (ys ≡ zs))
-    ⊎ ((x : Tree) × (behind : List ℕ) × IsItem from x behind × (rest : List ℕ) × HasBlanks behind rest × (xs : List Tree) × (zs ≡ ys ++ (x ∷ xs)) × GoesOn (λ l. IsFlowList l xs) rest xs)
+    ⊎ ((x : Tree) × (behind : List ℕ) × IsItem from x behind × (rest : List ℕ) × HasBlanks behind rest × (xs : List Tree) × (zs ≡ ys ++ (x ∷ xs)) × EndsOrGoesOn (λ l. IsFlowList l xs) rest xs)
 
 -- a comma, and a shorter list
 comma_reads : (n : ℕ) (ys : List Tree) (x : Tree) (behind rest more : List ℕ) (zs : List Tree) → Shorter n → length behind ≤ n → HasBlanks behind rest → rest ≡ 44 ∷ more → Good (at Want [] (ys ++ (x ∷ []))) more zs
-    → (xs : List Tree) × (zs ≡ ys ++ (x ∷ xs)) × GoesOn (λ l. IsFlowList l xs) rest xs
+    → (xs : List Tree) × (zs ≡ ys ++ (x ∷ xs)) × EndsOrGoesOn (λ l. IsFlowList l xs) rest xs
 comma_reads n ys x behind rest more zs shorter few hb cut g =
     let all = ap length hb.cut ∙ length-append hb.blanks rest in
     let one : length rest ≡ suc (length more) = ap length cut in
@@ -174,11 +174,11 @@ comma_reads n ys x behind rest more zs shorter few hb cut g =
 
 -- behind a quoted item
 behind_reads : (n : ℕ) (ys : List Tree) (x : Tree) (behind : List ℕ) (zs : List Tree) → Shorter n → length behind ≤ n → Good (at After [] (ys ++ (x ∷ []))) behind zs
-    → (rest : List ℕ) × HasBlanks behind rest × (xs : List Tree) × (zs ≡ ys ++ (x ∷ xs)) × GoesOn (λ l. IsFlowList l xs) rest xs
+    → (rest : List ℕ) × HasBlanks behind rest × (xs : List Tree) × (zs ≡ ys ++ (x ∷ xs)) × EndsOrGoesOn (λ l. IsFlowList l xs) rest xs
 behind_reads n ys x behind zs shorter few g = let r = after_reads [] (ys ++ (x ∷ [])) behind zs g in by r.0 r.1 r.2
   where
     by : (rest : List ℕ) → HasBlanks behind rest → ((Closes rest × ((ys ++ (x ∷ [])) ≡ zs)) ⊎ ((more : List ℕ) × (rest ≡ 44 ∷ more) × Good (at Want [] (ys ++ (x ∷ []))) more zs))
-        → (rest : List ℕ) × HasBlanks behind rest × (xs : List Tree) × (zs ≡ ys ++ (x ∷ xs)) × GoesOn (λ l. IsFlowList l xs) rest xs
+        → (rest : List ℕ) × HasBlanks behind rest × (xs : List Tree) × (zs ≡ ys ++ (x ∷ xs)) × EndsOrGoesOn (λ l. IsFlowList l xs) rest xs
     by rest hb (inl h) = (rest, hb, [], sym h.1, inl (h.0, refl))
     by rest hb (inr h) = let r = comma_reads n ys x behind rest h.0 zs shorter few hb h.1 h.2 in (rest, hb, r.0, r.1, r.2)
 

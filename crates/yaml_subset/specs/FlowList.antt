@@ -52,13 +52,13 @@ pub record Closes (line : List ℕ) : Type 0 where
   pub tail : is_tail behind ≡ true
 
 -- behind an item: the end of the list, or a comma and what may follow it
-abbrev pub GoesOn : (List ℕ → Type 0) → List ℕ → List Tree → Type 0
-GoesOn follows line items = (Closes line × (items ≡ [])) ⊎ ((rest : List ℕ) × (line ≡ 44 ∷ rest) × follows rest)
+abbrev pub EndsOrGoesOn : (List ℕ → Type 0) → List ℕ → List Tree → Type 0
+EndsOrGoesOn follows line items = (Closes line × (items ≡ [])) ⊎ ((rest : List ℕ) × (line ≡ 44 ∷ rest) × follows rest)
 
 -- The text behind a list's opening bracket, to its line's end: items with commas between them, perhaps a comma behind the last.
 abbrev pub IsFlowList : List ℕ → List Tree → Type 0
 IsFlowList line [] = (rest : List ℕ) × HasBlanks line rest × Closes rest
-IsFlowList line (x ∷ xs) = (from : List ℕ) × HasBlanks line from × (behind : List ℕ) × IsItem from x behind × (rest : List ℕ) × HasBlanks behind rest × GoesOn (λ l. IsFlowList l xs) rest xs
+IsFlowList line (x ∷ xs) = (from : List ℕ) × HasBlanks line from × (behind : List ℕ) × IsItem from x behind × (rest : List ℕ) × HasBlanks behind rest × EndsOrGoesOn (λ l. IsFlowList l xs) rest xs
 
 -- a list that was read has ended, without a fault, and has these items
 pub record EndsWell (s : Flow) (items : List Tree) : Type 0 where
