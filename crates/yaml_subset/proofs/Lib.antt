@@ -8,10 +8,10 @@ pub mod FrameLemmas
 pub mod OpenViewLemmas
 pub mod ReaderLemmas
 pub mod ReadLemmas
-mod WritingMarks
-mod WritingBytes
-mod WritingLines
-mod Writing
-mod SpellingLemmas
-mod WriteLemmas
-mod FitsLemmas
+pub mod WritingMarks
+pub mod WritingBytes
+pub mod WritingLines
+pub mod Writing
+pub mod SpellingLemmas
+pub mod WriteLemmas
+pub mod FitsLemmas
