@@ -96,6 +96,8 @@ field_tried d ps i p all key repeated value h e a k r v = ap (λ (b : Bool). b &
     all_same : (k r v l s w : Bool) → k ≡ l → r ≡ s → v ≡ w → (k && (not r && v)) ≡ (l && (not s && w))
     all_same k r v l s w e f g = rw (e, f, g) refl
 
--- what is left of a list from a place on
-pub left_all : {A : Type 0} (xs : List A) (i : ℕ) → take (length xs - i) (drop i xs) ≡ drop i xs
-left_all xs i = take_all (length xs - i) (drop i xs) (omega (arith, length-drop i xs))
+-- whether a key comes again in what is left of the fields, as the code asks it
+pub repeated_is : (repeated : Bool) (k key : List ℕ) (xs ps : List (FieldKey × Written)) (n : ℕ) → repeated ≡ list_any (λ x. bytes_eq k (text_of x.0)) (take (length xs - n) (drop n xs)) → k ≡ key → xs ≡ ps
+    → repeated ≡ list_any (λ x. bytes_eq key (text_of x.0)) (drop n ps)
+repeated_is repeated k key xs ps n r e f = r ∙ ap (λ (j : List ℕ). list_any (λ x. bytes_eq j (text_of x.0)) (take (length xs - n) (drop n xs))) e
+    ∙ ap (list_any (λ x. bytes_eq key (text_of x.0))) (take_all (length xs - n) (drop n xs) (omega (arith, length-drop n xs)) ∙ ap (λ (l : List (FieldKey × Written)). drop n l) f)

@@ -17,14 +17,14 @@ pub mod StandingFlow
 pub mod StandingLine
 pub mod StandingOpen
 pub mod StandingText
-mod WritingMarks
-mod WritingBytes
-mod WritingLines
-mod Writing
-mod SpellingLemmas
-mod WriteLemmas
+pub mod WritingMarks
+pub mod WritingBytes
+pub mod WritingLines
+pub mod Writing
+pub mod SpellingLemmas
+pub mod WriteLemmas
 pub mod TrimLemmas
 pub mod FlowLemmas
 pub mod FlowItemLemmas
 pub mod FlowListLemmas
-mod FitsLemmas
+pub mod FitsLemmas

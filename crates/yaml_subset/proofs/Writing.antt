@@ -167,3 +167,12 @@ some_same xs ys e = cc
 -- a text stands for one list of nodes at most
 pub stands_alone : (text : List ℕ) (xs ys : List Tree) → StandsFor text xs → StandsFor text ys → xs ≡ ys
 stands_alone text xs ys h i = some_same xs ys (sym h.nodes ∙ i.nodes)
+
+first_same : (x y : Tree) → ◌≡◌ {A = List Tree} (x ∷ []) (y ∷ []) → x ≡ y
+first_same x y e = cc
+
+-- values with one text are one node
+pub told_apart : (s t : Spelling) → Fits max_depth s → Fits max_depth t → is_word s ≡ false → is_word t ≡ false → length (writing 0 s) ≤ max_bytes → writing 0 s ≡ writing 0 t → meant s ≡ meant t
+told_apart s t f g d e small same =
+    let other : length (writing 0 t) ≤ max_bytes = subst (λ (text : List ℕ). length text ≤ max_bytes) same small in
+    first_same (meant s) (meant t) (stands_alone (writing 0 s) (meant s ∷ []) (meant t ∷ []) (reads_back s f d small) (subst (λ (text : List ℕ). StandsFor text (meant t ∷ [])) (sym same) (reads_back t g e other)))

@@ -182,7 +182,7 @@ fn items_fit(items: &Vec<Spelling>, levels: usize) -> bool
 
 /// Whether a value can be written: its texts are UTF-8, have no control characters but tabs and
 /// line feeds, and are read as they stand where they are plain; no key comes twice in a map, and
-/// maps and lists nest at most 32 deep.
+/// maps and lists nest at most 32 deep. The keys of a map are compared with one another.
 pub fn can_be_written(value: &Spelling) -> bool
     ensures { Decides result (Fits max_depth (spelling_view value.now)) }
 {

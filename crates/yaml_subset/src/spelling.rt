@@ -33,7 +33,8 @@ pub enum Spelling {
     Items(Vec<Spelling>),
 }
 
-/// A node as it is written: its keys in quotes, plain scalars plain, other scalars in quotes.
+/// A node as it is written: its keys in quotes, plain scalars plain, other scalars in quotes. The
+/// error is want of memory.
 #[cycle(spelled)]
 pub fn spelled(alloc: Global, node: &Node) -> Result<Spelling, AllocError>
     ensures { IfOk result (λ s. spelling_view s ≡ spelled_lem (node_view node.now)) }

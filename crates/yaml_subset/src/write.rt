@@ -208,11 +208,11 @@ fn write_items(
     Ok(())
 }
 
-/// Writes a value as it is spelled, with so many spaces before each line; each line ends with a
-/// line feed.
+/// Appends the text of a value, as it is spelled, with so many spaces before each line; each line
+/// ends with a line feed. The value is one that `can_be_written`.
 ///
-/// With no spaces, a value that isn't a plain scalar alone has a text that stands for its node.
-/// Where memory runs out nothing is written.
+/// With no spaces, the text of a value that isn't a plain scalar stands for its node alone, where
+/// it has at most `MAX_BYTES` bytes. The error is want of memory, and leaves all as it was.
 pub fn write_spelling(out: &mut Vec<u8>, value: &Spelling, indent: u32) -> Result<(), AllocError>
     requires { Fits max_depth (spelling_view value.now) }
     ensures exact { OnOk result (out.new.items ≡ out.old.items ++ writing indent (spelling_view value.now)) }
@@ -228,11 +228,13 @@ pub fn write_spelling(out: &mut Vec<u8>, value: &Spelling, indent: u32) -> Resul
     out.extend_from_slice(text.as_slice())
 }
 
-/// Writes a node canonically, with so many spaces before each line: its keys in double quotes, its
-/// plain scalars plain, other scalars in double quotes. Each line ends with a line feed.
+/// Appends the canonical writing of a node, with so many spaces before each line: keys in double
+/// quotes, plain scalars plain, other scalars in double quotes, and maps and lists two columns
+/// deeper than their key or dash. Each line ends with a line feed. A node that stands in a text can
+/// be written.
 ///
-/// With no spaces, a node that isn't a plain scalar has a text that stands for it alone. Where
-/// memory runs out nothing is written.
+/// With no spaces, the text of a node that isn't a plain scalar stands for it alone, where it has
+/// at most `MAX_BYTES` bytes. The error is want of memory, and leaves all as it was.
 pub fn write_node(out: &mut Vec<u8>, node: &Node, indent: u32) -> Result<(), AllocError>
     requires { IsWritable (node_view node.now) }
     ensures exact { OnOk result (out.new.items ≡ out.old.items ++ writing indent (spelled_lem (node_view node.now))) }

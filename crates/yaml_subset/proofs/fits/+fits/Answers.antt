@@ -1,22 +1,17 @@
-use Rattle.std.proofs.Common.{◌≡◌, ℕ, ◌+◌, ◌-◌, ◌<◌, Bool, List, length, take, drop, bytes_eq, sym, ap, ◌∙◌, arith}
+use Rattle.std.proofs.Common.{◌+◌, ◌<◌, Bool, length, drop, sym, ap, ◌∙◌, arith}
 use Rattle.std.specs.Prelude.{◌&&◌}
-use Rattle.std.specs.List.{list_any}
 use Rattle.yaml_subset.specs.FitsView.{fields_test}
 use Rattle.yaml_subset.specs.SpellingView.{text_of, fields_view}
-use Rattle.yaml_subset.specs.declared.spelling.FieldKey.{FieldKey}
-use Rattle.yaml_subset.specs.declared.spelling.Spelling.{Spelling}
-use Rattle.yaml_subset.proofs.FitsLemmas.{field_tried, left_all}
+use Rattle.yaml_subset.proofs.FitsLemmas.{field_tried, repeated_is}
 use Rattle.yaml_subset.proofs.fits.+fits.Goals as goal
 
 pub fields_fit-returns-then-not-all_hold : goal.fields_fit-returns-then-not-all_hold
 fields_fit-returns-then-not-all_hold t c =
     let xs = c.args.fields.now.items in
     let i = c.loop-at.at in
-    let p : FieldKey × Spelling = c.index-field.result.now in
+    let p = c.index-field.result.now in
     let inside : i < length xs = omega (arith, c.loop-at-test.true, c.len-at-end.ensures, c.args.fields.now.ok.0) in
-    let repeated : c.has_field-repeated.result ≡ list_any (λ x. bytes_eq (text_of p.0) (text_of x.0)) (drop (i + 1) xs) = c.has_field-repeated.ensures
-    ∙ ap (λ (k : List ℕ). list_any (λ x. bytes_eq k (text_of x.0)) (take (length c.deref.result.now - (i + 1)) (drop (i + 1) c.deref.result.now))) c.bytes_of.ensures
-    ∙ ap (list_any (λ x. bytes_eq (text_of p.0) (text_of x.0))) (left_all c.deref.result.now (i + 1) ∙ ap (λ (l : List (FieldKey × Spelling)). drop (i + 1) l) c.deref.ensures.value) in
+    let repeated = repeated_is c.has_field-repeated.result c.bytes_of.result.now (text_of p.0) c.deref.result.now xs (i + 1) c.has_field-repeated.ensures c.bytes_of.ensures c.deref.ensures.value in
     let tried = field_tried c.args.levels xs i p c.all_hold.result c.is_key-key.result c.has_field-repeated.result c.fits-value.result inside c.index-field.ensures c.all_hold.ensures c.is_key-key.ensures repeated c.fits-value.ensures in
     ap (λ (b : Bool). b && fields_test c.args.levels (fields_view (drop (i + 1) xs))) (sym c.if-not-all_hold.true) ∙ tried ∙ c.loop-at.invariant
 
@@ -24,10 +19,8 @@ pub fields_fit-loop-at-preserved : goal.fields_fit-loop-at-preserved
 fields_fit-loop-at-preserved t c =
     let xs = c.args.fields.now.items in
     let i = c.loop-at.at in
-    let p : FieldKey × Spelling = c.index-field.result.now in
+    let p = c.index-field.result.now in
     let inside : i < length xs = omega (arith, c.loop-at-test.true, c.len-at-end.ensures, c.args.fields.now.ok.0) in
-    let repeated : c.has_field-repeated.result ≡ list_any (λ x. bytes_eq (text_of p.0) (text_of x.0)) (drop (i + 1) xs) = c.has_field-repeated.ensures
-    ∙ ap (λ (k : List ℕ). list_any (λ x. bytes_eq k (text_of x.0)) (take (length c.deref.result.now - (i + 1)) (drop (i + 1) c.deref.result.now))) c.bytes_of.ensures
-    ∙ ap (list_any (λ x. bytes_eq (text_of p.0) (text_of x.0))) (left_all c.deref.result.now (i + 1) ∙ ap (λ (l : List (FieldKey × Spelling)). drop (i + 1) l) c.deref.ensures.value) in
+    let repeated = repeated_is c.has_field-repeated.result c.bytes_of.result.now (text_of p.0) c.deref.result.now xs (i + 1) c.has_field-repeated.ensures c.bytes_of.ensures c.deref.ensures.value in
     let tried = field_tried c.args.levels xs i p c.all_hold.result c.is_key-key.result c.has_field-repeated.result c.fits-value.result inside c.index-field.ensures c.all_hold.ensures c.is_key-key.ensures repeated c.fits-value.ensures in
     ap (λ (b : Bool). b && fields_test c.args.levels (fields_view (drop (i + 1) xs))) (sym c.if-not-all_hold.false) ∙ tried ∙ c.loop-at.invariant
