@@ -138,3 +138,76 @@ fn overlapping_exclusions_are_lifted_one_by_one(rt: HostRuntime) {
         assert!(rt; made & lifted);
     }
 }
+
+// What further rows are where revision 2 with 9995 of 10000 is kept.
+const AFTER: [(u32, u32, &str); 4] = [
+    (2, 9995, "repeated"),
+    (1, 9995, "superseded"),
+    (2, 1, "conflict"),
+    (3, 1, "newer"),
+];
+
+// Whether each of these rows is judged so over the book.
+fn are_judged(book: &SampleBook, web: Label, rows: &[(u32, u32, &str)]) -> bool {
+    rows.iter().all(|want| word(Ok(book.check(&row(web, want.0, want.1)))) == want.2)
+}
+
+// Whether the refusals show what is kept.
+fn show_the_kept_row(book: &SampleBook, web: Label) -> bool {
+    let old = book.check(&row(web, 1, 1)) == RowVerdict::Superseded(2);
+    let other = book.check(&row(web, 2, 1)) == RowVerdict::Conflict(row(web, 2, 9995));
+    old & other
+}
+
+#[test]
+fn rows_are_judged_by_the_kept_one(rt: HostRuntime) {
+    if let (Some(web), Ok(mut book)) = (read_label(b"web"), SampleBook::new(rt.alloc())) {
+        assert_eq!(rt; word(take(&mut book, &row(web, 2, 9995))), "new");
+        let judged = are_judged(&book, web, &AFTER);
+        let shown = show_the_kept_row(&book, web);
+        assert!(rt; judged & shown);
+    }
+}
+
+// Room for a further cell is no row.
+#[test]
+fn room_is_no_row(rt: HostRuntime) {
+    if let (Some(web), Some(bar), Ok(mut book)) = (
+        read_label(b"web"),
+        read_label(b"bar"),
+        SampleBook::new(rt.alloc()),
+    ) {
+        assert_eq!(rt; word(take(&mut book, &row(web, 2, 9995))), "new");
+        let alone = book.row_at(1).is_none();
+        let roomy = book.make_room(slice::from_ref(&row(bar, 1, 1))).is_ok();
+        let first = book.row_at(0) == Some(row(web, 2, 9995));
+        assert!(rt; alone & roomy & first & book.row_at(1).is_none());
+    }
+}
+
+// Whether an exclusion is kept, and not live.
+fn is_lifted(book: &SampleBook, id: Label) -> bool {
+    match book.exclusion(id) {
+        Some((_, live)) => !live,
+        None => false,
+    }
+}
+
+const ONE_MINUTE: [(u32, bool); 3] = [(99, false), (100, true), (101, false)];
+
+// [100, 101) has one minute, and none once it is lifted.
+fn excludes_one_minute(book: &mut SampleBook, slo: Label) -> bool {
+    let made = exclude(book, slo, slo, 100, 101);
+    let live = agrees(book, slo, &ONE_MINUTE);
+    let lifted = lift(book, slo);
+    let after = agrees(book, slo, &NEITHER);
+    made & live & lifted & after & is_lifted(book, slo)
+}
+
+#[test]
+fn an_exclusion_ends_before_its_last_minute(rt: HostRuntime) {
+    if let (Some(slo), Ok(mut book)) = (read_label(b"shop"), SampleBook::new(rt.alloc())) {
+        let holds = excludes_one_minute(&mut book, slo);
+        assert!(rt; holds);
+    }
+}
