@@ -1,6 +1,6 @@
 // A burn rate against a threshold, in billionths, by each of the four comparisons.
 use super::*;
-use exact_fraction::{Decimal, Leaf, Op};
+use exact_fraction::{Decimal, Fraction, Leaf, Op};
 
 #[test]
 fn burn_rates_against_a_threshold(rt: HostRuntime) {
@@ -22,4 +22,17 @@ fn burn_rates_against_a_threshold(rt: HostRuntime) {
         let got = [Op::Lte, Op::Gte, Op::Lt, Op::Gt].map(|op| above(sum, target, op, threshold));
         assert_eq!(rt; got, want);
     }
+}
+
+// Two slices whose ratios of 1/3 and 2/3 were rounded down to billionths, against a target of 0.9.
+#[test]
+fn budgets_of_rounded_ratios(rt: HostRuntime) {
+    let sum = Leaf {
+        num: 999_999_999,
+        den: 2_000_000_000,
+    };
+    let target = Decimal::of_billionths(900_000_000);
+    assert!(rt; error_rate(sum) == Some(Fraction::of(1_000_000_001, 2_000_000_000)));
+    assert!(rt; burn(sum, target) == Some(Fraction::of(1_000_000_001, 200_000_000)));
+    assert!(rt; remaining(sum, target) == Some(Fraction::of(-800_000_001, 200_000_000)));
 }
