@@ -151,14 +151,18 @@ kept_whole (items is) e = refl
 
 -- THE LAW
 
+-- the nodes of what is written, whatever its size
+pub written_nodes : (s : Spelling) → Fits max_depth s → is_word s ≡ false → nodes_of (lines (without_mark (writing 0 s))) ≡ Some (meant s ∷ [])
+written_nodes s fit e = ap (λ (text : List ℕ). nodes_of (lines text)) (no_mark s fit e)
+    ∙ lines_nodes (writing 0 s) (marks_at 0 s) (text_lines max_depth s fit e) (marks_own 0 s)
+    ∙ document_read s fit (kept_whole s e)
+
 -- what is written reads back
 pub reads_back : (s : Spelling) → Fits max_depth s → is_word s ≡ false → length (writing 0 s) ≤ max_bytes → StandsFor (writing 0 s) (meant s ∷ [])
 reads_back s fit e small = record {
   small = small;
   utf8 = subst IsUtf8 (sym (no_mark s fit e)) (value_utf8 max_depth s [] 0 IsUtf8-nil fit);
-  nodes = ap (λ (text : List ℕ). nodes_of (lines text)) (no_mark s fit e)
-      ∙ lines_nodes (writing 0 s) (marks_at 0 s) (text_lines max_depth s fit e) (marks_own 0 s)
-      ∙ document_read s fit (kept_whole s e);
+  nodes = written_nodes s fit e;
 }
 
 some_same : (xs ys : List Tree) → ◌≡◌ {A = Option (List Tree)} (Some xs) (Some ys) → xs ≡ ys
@@ -171,8 +175,7 @@ stands_alone text xs ys h i = some_same xs ys (sym h.nodes ∙ i.nodes)
 first_same : (x y : Tree) → ◌≡◌ {A = List Tree} (x ∷ []) (y ∷ []) → x ≡ y
 first_same x y e = cc
 
--- values with one text are one node
-pub told_apart : (s t : Spelling) → Fits max_depth s → Fits max_depth t → is_word s ≡ false → is_word t ≡ false → length (writing 0 s) ≤ max_bytes → writing 0 s ≡ writing 0 t → meant s ≡ meant t
-told_apart s t f g d e small same =
-    let other : length (writing 0 t) ≤ max_bytes = subst (λ (text : List ℕ). length text ≤ max_bytes) same small in
-    first_same (meant s) (meant t) (stands_alone (writing 0 s) (meant s ∷ []) (meant t ∷ []) (reads_back s f d small) (subst (λ (text : List ℕ). StandsFor text (meant t ∷ [])) (sym same) (reads_back t g e other)))
+-- values with one text are one node, whatever its size
+pub told_apart : (s t : Spelling) → Fits max_depth s → Fits max_depth t → is_word s ≡ false → is_word t ≡ false → writing 0 s ≡ writing 0 t → meant s ≡ meant t
+told_apart s t f g d e same = first_same (meant s) (meant t) (some_same (meant s ∷ []) (meant t ∷ [])
+    (sym (written_nodes s f d) ∙ ap (λ (text : List ℕ). nodes_of (lines (without_mark text))) same ∙ written_nodes t g e))

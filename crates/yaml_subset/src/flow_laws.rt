@@ -1,6 +1,6 @@
 //! What the reading of one-line lists comes to.
 
-ghost use Rattle.std.specs.Prelude.{◌≡◌, List, [], ◌∷◌, ℕ, None, ◌↔◌};
+ghost use Rattle.std.specs.Prelude.{◌≡◌, List, ◌∷◌, ℕ, None, ◌↔◌};
 ghost use Rattle.yaml_subset.specs.Tree.{Tree, sequence, trees};
 ghost use Rattle.yaml_subset.specs.Mark.{value};
 ghost use Rattle.yaml_subset.specs.Flow.{flow, flow_start};

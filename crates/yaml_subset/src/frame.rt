@@ -2,11 +2,10 @@
 
 ghost use Rattle.std.specs.Prelude.{◌≡◌, ℕ, ◌||◌, true, Option, Some, None, IfOk, ◌<◌, map, length, option_map};
 ghost use Rattle.yaml_subset.specs.Tree.{Tree};
-ghost use Rattle.std.specs.List.{list_any};
 ghost use Rattle.std.specs.Str.{bytes_eq};
 ghost use Rattle.yaml_subset.specs.Mark as marks;
 ghost use Rattle.yaml_subset.specs.Fault.{column, same_column};
-ghost use Rattle.yaml_subset.specs.Profile.{is_next, has_room as has_room_lem, with_child, is_repeated as is_repeated_lem, collection, is_deeper as is_deeper_lem, is_shallow as is_shallow_lem, no_text as no_text_lem, or_no_text as or_no_text_lem};
+ghost use Rattle.yaml_subset.specs.Profile.{is_next, has_room as has_room_lem, with_child, is_repeated as is_repeated_lem, collection, is_deeper as is_deeper_lem, no_text as no_text_lem, or_no_text as or_no_text_lem};
 ghost use Rattle.yaml_subset.specs.OpenNodes.{closed};
 ghost use Rattle.yaml_subset.specs.NodeView.{node_view};
 ghost use Rattle.yaml_subset.specs.LineView.{mark_view};

@@ -21,11 +21,11 @@ pub fn standing_nodes_are_writable()
 
 /// What is written reads back: the text of a value that can be written stands for its node, where
 /// it isn't a plain scalar alone and has at most `MAX_BYTES` bytes. A text stands for one list of
-/// nodes at most, so that values with one text are one node.
+/// nodes at most; and values with one text are one node, whatever its size.
 pub fn written_text_reads_back()
     ensures stands { (s : Spelling) → Fits max_depth s → is_word s ≡ false → length (writing 0 s) ≤ max_bytes → StandsFor (writing 0 s) (meant s ∷ []) }
     ensures alone { (text : List ℕ) (xs ys : List Tree) → StandsFor text xs → StandsFor text ys → xs ≡ ys }
-    ensures told_apart { (s t : Spelling) → Fits max_depth s → Fits max_depth t → is_word s ≡ false → is_word t ≡ false → length (writing 0 s) ≤ max_bytes → writing 0 s ≡ writing 0 t → meant s ≡ meant t }
+    ensures told_apart { (s t : Spelling) → Fits max_depth s → Fits max_depth t → is_word s ≡ false → is_word t ≡ false → writing 0 s ≡ writing 0 t → meant s ≡ meant t }
 {}
 
 /// Bytes have one place at most that no UTF-8 text can have: so `YamlFault::NotUtf8` names the only one.

@@ -1,10 +1,10 @@
 //! The nodes that are open after some marks.
 
-ghost use Rattle.std.specs.Prelude.{◌≡◌, ℕ, cond, [], suc, true, false, ◌+◌, ◌-◌, ◌==◌, ◌<◌, ◌≤◌, Option, Some, None, IfOk, IfErr, length, take, drop, vec_len, option_map, map};
+ghost use Rattle.std.specs.Prelude.{◌≡◌, ℕ, cond, [], true, false, ◌+◌, ◌-◌, ◌==◌, ◌<◌, ◌≤◌, Option, Some, None, IfOk, IfErr, length, take, drop, vec_len, option_map, map};
 ghost use Rattle.yaml_subset.specs.Mark as marks;
-ghost use Rattle.yaml_subset.specs.Profile.{max_depth, is_next, has_room as has_room_lem, is_shallow as is_shallow_lem};
-ghost use Rattle.yaml_subset.specs.OpenNodes.{closed, add as add_lem, begun, finished as finished_lem, nothing, within, with_raw};
-ghost use Rattle.yaml_subset.specs.Fault.{row_of_mark, column as column_lem, is_at_open as is_at_open_lem};
+ghost use Rattle.yaml_subset.specs.Profile.{max_depth, is_next, has_room as has_room_lem};
+ghost use Rattle.yaml_subset.specs.OpenNodes.{closed, add as add_lem, begun, finished as finished_lem, nothing, within};
+ghost use Rattle.yaml_subset.specs.Fault.{row_of_mark, column as column_lem};
 ghost use Rattle.yaml_subset.specs.NodeView.{node_view, nodes_view};
 ghost use Rattle.yaml_subset.specs.LineView.{mark_view};
 ghost use Rattle.yaml_subset.specs.OpenView.{head_of, done_of, open_of, last_view, stream_of, next_place as next_place_lem, last_head, any_at as any_at_lem, is_nothing as is_nothing_lem, ClosesOne, BeginsAs};

@@ -401,11 +401,17 @@ fn size_is_judged_first(rt: HostRuntime) -> Result<(), Fail> {
     Ok(())
 }
 
-/// A map of some keys, and one more line.
-fn large_map(alloc: Global, keys: u32, last: &str) -> Result<String, AllocError> {
+/// How many keys a large map has, and the step from one to the next. Both are primes, so the keys are all different,
+/// and come in no order.
+const KEYS: u32 = 10_007;
+
+const STEP: u32 = 7_919;
+
+/// A large map, and one more line.
+fn large_map(alloc: Global, last: &str) -> Result<String, AllocError> {
     let mut text = String::new(alloc);
-    for number in 0..keys {
-        let key = number.wrapping_mul(7919) % 10_007;
+    for number in 0..KEYS {
+        let key = number.wrapping_mul(STEP) % KEYS;
         let line = format!(in alloc; "k{key}: 1\n")?;
         text.push_str(&line)?;
     }
@@ -413,15 +419,21 @@ fn large_map(alloc: Global, keys: u32, last: &str) -> Result<String, AllocError>
     Ok(text)
 }
 
-/// A key is found again wherever in a large map it stands.
+/// A key is found again wherever in a large map it stands: first, second, in the middle, or last and still open.
 #[test]
 fn keys_of_a_large_map(rt: HostRuntime) -> Result<(), Fail> {
-    for last in ["k0: 2\n", "k7919: 2\n", "k1: 2\n", "'k10006': 2\n"] {
-        let text = large_map(rt.alloc(), 10_007, last)?;
+    for last in [
+        "k0: 2\n",
+        "k7919: 2\n",
+        "k1: 2\n",
+        "'k10006': 2\n",
+        "k2088: 2\n",
+    ] {
+        let text = large_map(rt.alloc(), last)?;
         let got = answer(rt.alloc(), &text)?;
         assert!(rt; got.as_str() == "10008 DuplicateKey");
     }
-    let text = large_map(rt.alloc(), 10_007, "k10007: 2\n")?;
+    let text = large_map(rt.alloc(), "k10007: 2\n")?;
     assert!(rt; read_documents(rt.alloc(), text.as_bytes()).is_ok());
     Ok(())
 }
