@@ -9,7 +9,7 @@ ghost use Rattle.zone_calendar.specs.Moments.{IsMomentOf};
 use crate::{Civil, Zone};
 use jiff_core::civil::{Date, DateTime, Time};
 use jiff_span::date::add_months;
-use slo_duration::{Duration, Unit};
+use slo_duration::{Duration, Unit, rolling_minutes};
 use std::alloc::Global;
 
 /// The most starts of one list, so that a catalog's calendars fit its memory.
@@ -17,6 +17,9 @@ const MOST_STARTS: u32 = 40_000;
 
 /// The minutes past the horizon up to which civil moments count: 26 hours, further than any zone is from UTC.
 const MARGIN_MINUTES: u32 = 1_560;
+
+/// The most rolling minutes from one start to the next: 366 days, so that a leap year fits.
+const MOST_MINUTES: u32 = 527_040;
 
 /// Why there is no list of starts.
 #[derive(Clone, Copy, Debug, PartialEq, Eq)]
@@ -51,6 +54,28 @@ pub fn starts(
         return Err(StartsFault::TooManyStarts);
     }
     starts_from(alloc, zone, first, step, horizon, count)
+}
+
+/// Whether calendar windows may follow each other by a duration: by days, weeks, months, quarters or years, not zero,
+/// and by at most 366 days where a month counts 30, a quarter 90 and a year 365.
+pub fn is_calendar_step(step: Duration) -> bool
+    ensures { IsTrue result ↔ IsCalendarStep step }
+{
+    match step.unit {
+        Unit::Minute | Unit::Hour => false,
+        Unit::Day | Unit::Week | Unit::Month | Unit::Quarter | Unit::Year => {
+            step.count > 0 && rolling_minutes(step) <= MOST_MINUTES
+        }
+    }
+}
+
+/// Whether more than 40,000 starts count, so that there is no list of them. It takes no memory.
+pub fn has_too_many_starts(first: &Civil, step: Duration, horizon: u32) -> bool
+    requires step { IsCalendarStep step }
+    requires horizon { horizon < 2 ^ 27 }
+    ensures { IsTrue result ↔ AreTooMany first.now step horizon }
+{
+    count_starts(first, step, horizon) > MOST_STARTS
 }
 
 /// How many starts count, or 40,001 where there are more.

@@ -1,10 +1,11 @@
 //! Reading a civil moment.
-ghost use Rattle.std.specs.Prelude.{◌≡◌, ◌<◌, ◌+◌, length, true, false, IfSome, IfNone, Some};
-ghost use Rattle.zone_calendar.specs.CivilText.{civil_text, parts_of, two_at, has_form, parts_in, is_moment};
+ghost use Rattle.std.specs.Prelude.{◌≡◌, ◌<◌, ◌+◌, ◌++◌, length, true, false, IfSome, IfNone, Some, OnOk, OnErr};
+ghost use Rattle.zone_calendar.specs.CivilText.{civil_text, two_digits as two_digits_lem, parts_of, two_at, has_form, parts_in, is_moment};
 ghost use Rattle.zone_calendar.specs.declared.civil.Civil.{Civil};
 
 use crate::Civil;
 use jiff_core::civil::days_in_month;
+use std::alloc::AllocError;
 
 /// The numbers of a text that has the form of a moment.
 #[derive(Clone, Copy)]
@@ -26,6 +27,41 @@ pub fn read_civil(text: &[u8]) -> Option<Civil>
     ensures all { (moment : Civil) → text.now ≡ civil_text moment → result ≡ Some moment }
 {
     moment_of(read_parts(text)?)
+}
+
+/// Appends a moment as `2020-01-21 12:30:00`: the one text that is read as it.
+///
+/// # Errors
+///
+/// Memory ran out; `out` is as before.
+pub fn write_civil(out: &mut Vec<u8>, moment: Civil) -> Result<(), AllocError>
+    ensures written { OnOk result (out.new.items ≡ out.old.items ++ civil_text moment) }
+    ensures kept { OnErr result (out.new.items ≡ out.old.items) }
+{
+    let year = moment.year.unsigned_abs();
+    let mut text = Vec::new(*out.allocator());
+    write_two(&mut text, (year / 100) as u8)?;
+    write_two(&mut text, (year % 100) as u8)?;
+    text.push(b'-')?;
+    write_two(&mut text, moment.month)?;
+    text.push(b'-')?;
+    write_two(&mut text, moment.day)?;
+    text.push(b' ')?;
+    write_two(&mut text, moment.hour)?;
+    text.push(b':')?;
+    write_two(&mut text, moment.minute)?;
+    text.push(b':')?;
+    write_two(&mut text, moment.second)?;
+    out.extend_from_slice(text.as_slice())
+}
+
+/// Appends a number in two digits.
+fn write_two(out: &mut Vec<u8>, number: u8) -> Result<(), AllocError>
+    requires { number < 100 }
+    ensures { OnOk result (out.new.items ≡ out.old.items ++ two_digits_lem number) }
+{
+    out.push(b'0' + number / 10)?;
+    Ok(out.push(b'0' + number % 10)?)
 }
 
 fn read_parts(text: &[u8]) -> Option<Parts>

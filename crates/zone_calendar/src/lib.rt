@@ -12,9 +12,9 @@ mod tests;
 mod windows;
 mod zone;
 
-pub use calendar::{StartsFault, starts};
+pub use calendar::{StartsFault, has_too_many_starts, is_calendar_step, starts};
 pub use civil::Civil;
-pub use civil_text::read_civil;
+pub use civil_text::{read_civil, write_civil};
 pub use read::{ZoneFault, read_zone};
 pub use windows::window_at;
 pub use zone::Zone;

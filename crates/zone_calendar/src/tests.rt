@@ -1,11 +1,14 @@
 //! Outside values: worked rows, real zone files, an independent program's starts.
 mod zone_files;
 
-ghost use Rattle.std.specs.Prelude.{◌≡◌, true, None};
-ghost use Rattle.zone_calendar.specs.Starts.{IsCalendarStep, IsCalendarUnit};
+ghost use Rattle.std.specs.Prelude.{◌≡◌, None};
+ghost use Rattle.zone_calendar.specs.Starts.{IsCalendarUnit};
 
-use crate::{Civil, StartsFault, Zone, ZoneFault, read_civil, read_zone, starts, window_at};
-use slo_duration::{Duration, Unit, read_duration, rolling_minutes};
+use crate::{
+    Civil, StartsFault, Zone, ZoneFault, has_too_many_starts, is_calendar_step, read_civil,
+    read_zone, starts, window_at,
+};
+use slo_duration::{Duration, Unit, read_duration};
 use std::alloc::Global;
 use std::process::Abort;
 use std::test::Fail;
@@ -218,17 +221,6 @@ const WINDOWS: [(u32, Option<(u32, Option<u32>)>); 6] = [
     (4_294_967_295, Some((35, None))),
 ];
 
-fn is_calendar_step(step: Duration) -> bool
-    ensures { result ≡ true → IsCalendarStep step }
-{
-    match step.unit {
-        Unit::Minute | Unit::Hour => false,
-        Unit::Day | Unit::Week | Unit::Month | Unit::Quarter | Unit::Year => {
-            step.count > 0 && rolling_minutes(step) <= 527_040
-        }
-    }
-}
-
 /// Each case has its starts in the zone of the bytes.
 fn expect_starts(rt: &impl Abort, alloc: Global, bytes: &[u8], cases: &[Case]) -> Result<(), Fail> {
     let zone = read_zone(alloc, bytes)?;
@@ -310,6 +302,8 @@ fn more_than_forty_thousand_starts_are_too_many(rt: HostRuntime) -> Result<(), F
     assert_eq!(rt; list.len(), 39_220);
     let fault = starts(rt.alloc(), &Zone::utc(), &first, day, 60_000_000).err();
     assert_eq!(rt; fault, Some(StartsFault::TooManyStarts));
+    assert!(rt; has_too_many_starts(&first, day, 60_000_000));
+    assert!(rt; !has_too_many_starts(&first, day, 57_000_000));
     Ok(())
 }
 
