@@ -1,0 +1,252 @@
+-- What is written of a node that can be written can be written: the tables of the kinds, line by line.
+use Rattle.std.proofs.Common.{ℕ, Bool, true, false, [], ◌∷◌, Option, Some, None, cond, refl, arith}
+use Rattle.std.specs.Prelude.{codes}
+use Rattle.yaml_subset.specs.Spelling.{word, quoted}
+use Rattle.yaml_subset.specs.Fits.{Fits}
+use Rattle.exact_fraction.specs.DecimalText.{decimal_text}
+use Rattle.exact_fraction.specs.declared.op.Op.TheVariants.{Lte, Gte, Lt, Gt}
+use Rattle.slo_duration.specs.Writing.{duration_text}
+use Rattle.exact_fraction.specs.declared.op.Op.{Op}
+use Rattle.slo_objects.specs.declared.alert_condition.ConditionKind.{ConditionKind}
+use Rattle.slo_objects.specs.declared.sli.RawType.{RawType}
+use Rattle.slo_objects.specs.declared.object.Object.{Object}
+use Rattle.slo_objects.specs.declared.object.Body.TheVariants as bodies
+use Rattle.slo_objects.specs.declared.fault.Rule.TheVariants as rules
+use Rattle.slo_objects.specs.declared.alert_condition.ConditionKind.TheVariants.{Burnrate}
+use Rattle.slo_objects.specs.declared.kind.Kind.{Kind}
+use Rattle.slo_objects.specs.declared.kind.Kind.TheVariants as kinds
+use Rattle.slo_objects.specs.declared.sli.MetricSource.{MetricSource}
+use Rattle.slo_objects.specs.declared.sli.Metric.TheVariants as metrics
+use Rattle.slo_objects.specs.declared.sli.RawType.TheVariants.{Success, Failure}
+use Rattle.slo_objects.specs.declared.sli.Events.TheVariants.{Good, Bad}
+use Rattle.slo_objects.specs.Form.{Rows, map_with, variant, written_where, free, free_map}
+use Rattle.slo_objects.specs.Scalars.{description, description_value, text, text_value, name, name_value, boolean, boolean_value, op, op_value, op_word, number, number_value, version, version_value, version_text, kind, kind_value, kind_word, only_kind, only_kind_value, zone_name, zone_value}
+use Rattle.slo_objects.specs.Durations.{duration, duration_value, month}
+use Rattle.slo_objects.specs.Metadata.{metadata}
+use Rattle.slo_objects.specs.Service.{service, service_in, service_body}
+use Rattle.slo_objects.specs.DataSource.{data_source, data_source_in, data_source_body}
+use Rattle.slo_objects.specs.AlertNotificationTarget.{alert_notification_target, target_in, target_body}
+use Rattle.slo_objects.specs.AlertCondition.{condition_kind, condition_kind_value, condition_word, ten_thousand, condition, alert_condition, condition_in, condition_body}
+use Rattle.slo_objects.specs.Sli.{metric_source, source_map, source, raw_type, raw_type_value, raw_type_word, is_good, events_written, rest_of_ratio, raw_ratio, counted_ratio, ratio_metric, is_threshold, metric_written, sli, sli_in, sli_body}
+use Rattle.slo_objects.proofs.LawScalars.{text_same, description_same, name_same, zone_same}
+use Rattle.slo_objects.proofs.LawNumbers.{number_ok}
+use Rattle.slo_objects.proofs.LawPlain.{decimal_written, duration_written}
+use Rattle.slo_objects.proofs.LawRows.{RowsLaw}
+use Rattle.slo_objects.proofs.LawTables.{metadata_law, service_law, data_source_law, notification_target_law, condition_law, alert_condition_law, metric_source_law, source_map_law, ratio_metric_law, sli_law}
+use Rattle.slo_objects.proofs.LawFits.{FormFit, RowsFit, Within, map_fit, optional_fit, required_fit, alone_fit, one_of_fit}
+use Rattle.slo_objects.proofs.LawFitForms.{variant_fit, chosen_fit, free_fit, free_map_fit, scalar_fit, quoted_fit, word_fit}
+
+abbrev Any : Object → Type 0
+Any o = Unit {0}
+
+pub no_room : Within 0 0
+no_room d h = omega arith
+
+-- a map that needs no room of its own
+pub plain_map_fit : {A : Type 0} (Q : Object → Type 0) (rows : Rows A) → RowsLaw Any [] rows → RowsFit Q 0 rows → FormFit Q 0 (map_with rows)
+plain_map_fit Q rows law fit = map_fit Q 0 0 Any rows no_room law fit
+
+-- SCALARS
+
+pub text_fit : (Q : Object → Type 0) (room : ℕ) → FormFit Q room text
+text_fit Q room = scalar_fit Q room rules.NotText text_value quoted (quoted_fit text_value text_same)
+
+pub description_fit : (Q : Object → Type 0) (room : ℕ) → FormFit Q room description
+description_fit Q room = scalar_fit Q room rules.NotText description_value quoted (quoted_fit description_value description_same)
+
+pub name_fit : (Q : Object → Type 0) (room : ℕ) → FormFit Q room name
+name_fit Q room = scalar_fit Q room rules.BadName name_value quoted (quoted_fit name_value name_same)
+
+pub zone_fit : (Q : Object → Type 0) (room : ℕ) → FormFit Q room zone_name
+zone_fit Q room = scalar_fit Q room rules.BadName zone_value quoted (quoted_fit zone_value zone_same)
+
+pub boolean_fit : (Q : Object → Type 0) (room : ℕ) → FormFit Q room boolean
+boolean_fit Q room = scalar_fit Q room rules.NotBool boolean_value (λ b. word (cond b (codes "true") (codes "false"))) (λ t b e u q d. by b d)
+  where
+    by : (b : Bool) (d : ℕ) → Fits d (word (cond b (codes "true") (codes "false")))
+    by true d = word_fit (codes "true") d refl refl
+    by false d = word_fit (codes "false") d refl refl
+
+pub op_fit : (Q : Object → Type 0) (room : ℕ) → FormFit Q room op
+op_fit Q room = scalar_fit Q room rules.BadWord op_value (λ o. word (op_word o)) (λ t o e u q d. by o d)
+  where
+    by : (o : Op) (d : ℕ) → Fits d (word (op_word o))
+    by Lte d = word_fit (codes "lte") d refl refl
+    by Gte d = word_fit (codes "gte") d refl refl
+    by Lt d = word_fit (codes "lt") d refl refl
+    by Gt d = word_fit (codes "gt") d refl refl
+
+pub kind_fits : (k : Kind) (d : ℕ) → Fits d (word (kind_word k))
+kind_fits kinds.DataSource d = word_fit (codes "DataSource") d refl refl
+kind_fits kinds.Service d = word_fit (codes "Service") d refl refl
+kind_fits kinds.Sli d = word_fit (codes "SLI") d refl refl
+kind_fits kinds.Slo d = word_fit (codes "SLO") d refl refl
+kind_fits kinds.AlertPolicy d = word_fit (codes "AlertPolicy") d refl refl
+kind_fits kinds.AlertCondition d = word_fit (codes "AlertCondition") d refl refl
+kind_fits kinds.AlertNotificationTarget d = word_fit (codes "AlertNotificationTarget") d refl refl
+
+pub kind_fit : (Q : Object → Type 0) (room : ℕ) → FormFit Q room kind
+kind_fit Q room = scalar_fit Q room rules.BadKind kind_value (λ k. word (kind_word k)) (λ t k e u q d. kind_fits k d)
+
+pub version_fit : (Q : Object → Type 0) (room : ℕ) → FormFit Q room version
+version_fit Q room = scalar_fit Q room rules.BadVersion version_value (λ _. word version_text) (λ t k e u q d. word_fit version_text d refl refl)
+
+pub only_kind_fit : (Q : Object → Type 0) (room : ℕ) (k : Kind) → FormFit Q room (only_kind k)
+only_kind_fit Q room k = scalar_fit Q room rules.BadKind (only_kind_value k) (λ _. word (kind_word k)) (λ t a e u q d. kind_fits k d)
+
+condition_kind_fit : (Q : Object → Type 0) (room : ℕ) → FormFit Q room condition_kind
+condition_kind_fit Q room = scalar_fit Q room rules.BadWord condition_kind_value (λ k. word (condition_word k)) (λ t k e u q d. by k d)
+  where
+    by : (k : ConditionKind) (d : ℕ) → Fits d (word (condition_word k))
+    by Burnrate d = word_fit (codes "burnrate") d refl refl
+
+raw_type_fit : (Q : Object → Type 0) (room : ℕ) → FormFit Q room raw_type
+raw_type_fit Q room = scalar_fit Q room rules.BadWord raw_type_value (λ k. word (raw_type_word k)) (λ t k e u q d. by k d)
+  where
+    by : (k : RawType) (d : ℕ) → Fits d (word (raw_type_word k))
+    by Success d = word_fit (codes "success") d refl refl
+    by Failure d = word_fit (codes "failure") d refl refl
+
+pub number_fit : (Q : Object → Type 0) (room least most : ℕ) → FormFit Q room (number least most)
+number_fit Q room least most = scalar_fit Q room rules.NotNumber (number_value least most) (λ n. word (decimal_text n)) (λ t n e u q d. decimal_written n (number_ok least most t n e).bound)
+
+pub duration_fit : (Q : Object → Type 0) (room least most : ℕ) → FormFit Q room (duration least most)
+duration_fit Q room least most = scalar_fit Q room rules.NotDuration (duration_value least most) (λ d. word (duration_text d)) (λ t v e u q d. duration_written v)
+
+-- TABLES
+
+metadata_rows : (Q : Object → Type 0) → RowsFit Q 0 metadata
+unfolding metadata
+metadata_rows Q = (
+  required_fit Q 0 (codes "name") name refl (name_fit Q 0),
+  λ n. (
+    optional_fit Q 0 (codes "displayName") text refl (text_fit Q 0),
+    λ d. (
+      optional_fit Q 0 (codes "labels") free_map refl (free_map_fit Q 0),
+      λ l.
+          (optional_fit Q 0 (codes "annotations") free_map refl (free_map_fit Q 0), λ a. tt),
+    ),
+  ),
+)
+
+pub metadata_fit : (Q : Object → Type 0) → FormFit Q 0 (map_with metadata)
+metadata_fit Q = plain_map_fit Q metadata (metadata_law Any) (metadata_rows Q)
+
+service_rows : (Q : Object → Type 0) → RowsFit Q 0 service
+unfolding service
+service_rows Q = (optional_fit Q 0 (codes "description") description refl (description_fit Q 0), λ d. tt)
+
+data_source_rows : (Q : Object → Type 0) → RowsFit Q 0 data_source
+unfolding data_source
+data_source_rows Q = (
+  optional_fit Q 0 (codes "description") description refl (description_fit Q 0),
+  λ d. (
+    required_fit Q 0 (codes "type") text refl (text_fit Q 0),
+    λ t.
+        (optional_fit Q 0 (codes "connectionDetails") free refl (free_fit Q 0), λ c. tt),
+  ),
+)
+
+target_rows : (Q : Object → Type 0) → RowsFit Q 0 alert_notification_target
+unfolding alert_notification_target
+target_rows Q = (
+  optional_fit Q 0 (codes "description") description refl (description_fit Q 0),
+  λ d.
+      (required_fit Q 0 (codes "target") text refl (text_fit Q 0), λ t. tt),
+)
+
+condition_rows : (Q : Object → Type 0) → RowsFit Q 0 condition
+unfolding condition
+condition_rows Q = (
+  optional_fit Q 0 (codes "kind") condition_kind refl (condition_kind_fit Q 0),
+  λ k. (
+    optional_fit Q 0 (codes "op") op refl (op_fit Q 0),
+    λ o. (
+      required_fit Q 0 (codes "threshold") (number 0 ten_thousand) refl (number_fit Q 0 0 ten_thousand),
+      λ t. (
+        required_fit Q 0 (codes "lookbackWindow") (duration 1 month) refl (duration_fit Q 0 1 month),
+        λ l.
+            (optional_fit Q 0 (codes "alertAfter") (duration 0 month) refl (duration_fit Q 0 0 month), λ a. tt),
+      ),
+    ),
+  ),
+)
+
+alert_condition_rows : (Q : Object → Type 0) → RowsFit Q 0 alert_condition
+unfolding alert_condition
+alert_condition_rows Q = (
+  optional_fit Q 0 (codes "description") description refl (description_fit Q 0),
+  λ d. (
+    required_fit Q 0 (codes "severity") text refl (text_fit Q 0),
+    λ s.
+        (required_fit Q 0 (codes "condition") (map_with condition) refl (plain_map_fit Q condition (condition_law Any) (condition_rows Q)), λ c. tt),
+  ),
+)
+
+metric_source_rows : (Q : Object → Type 0) → RowsFit Q 0 metric_source
+unfolding metric_source
+metric_source_rows Q = (
+  optional_fit Q 0 (codes "metricSourceRef") name refl (name_fit Q 0),
+  λ m. (
+    optional_fit Q 0 (codes "type") text refl (text_fit Q 0),
+    λ t.
+        (optional_fit Q 0 (codes "spec") free refl (free_fit Q 0), λ s. tt),
+  ),
+)
+
+source_rows : (Q : Object → Type 0) → RowsFit Q 0 source_map
+unfolding source_map
+source_rows Q = (required_fit Q 0 (codes "metricSource") (map_with metric_source) refl (plain_map_fit Q metric_source (metric_source_law Any) (metric_source_rows Q)), λ m. tt)
+
+source_fit : (Q : Object → Type 0) → FormFit Q 0 source
+source_fit Q = plain_map_fit Q source_map (source_map_law Any) (source_rows Q)
+
+rest_rows : (Q : Object → Type 0) (c : Option Bool) (raw : Option MetricSource) → RowsFit Q 0 (rest_of_ratio c raw)
+unfolding raw_ratio counted_ratio
+rest_rows Q c (Some raw) = (required_fit Q 0 (codes "rawType") raw_type refl (raw_type_fit Q 0), λ t. tt)
+rest_rows Q c None = (
+  required_fit Q 0 (codes "total") source refl (source_fit Q),
+  λ t. (
+    one_of_fit Q 0 (codes "good") (variant source Good events_written) (codes "bad") (variant source Bad events_written) is_good refl refl
+        (chosen_fit Q 0 source Good (variant source Good events_written) (variant source Bad events_written) is_good (λ m. refl) (λ m. refl) (source_fit Q) events_written)
+        (chosen_fit Q 0 source Bad (variant source Good events_written) (variant source Bad events_written) is_good (λ m. refl) (λ m. refl) (source_fit Q) events_written),
+    λ e. tt,
+  ),
+)
+
+ratio_rows : (Q : Object → Type 0) → RowsFit Q 0 ratio_metric
+unfolding ratio_metric
+ratio_rows Q = (
+  optional_fit Q 0 (codes "counter") boolean refl (boolean_fit Q 0),
+  λ c.
+      (alone_fit Q 0 (codes "raw") (codes "total" ∷ codes "good" ∷ codes "bad" ∷ []) source refl (source_fit Q), λ raw. rest_rows Q c raw),
+)
+
+sli_rows : (Q : Object → Type 0) → RowsFit Q 0 sli
+unfolding sli
+sli_rows Q = (
+  optional_fit Q 0 (codes "description") description refl (description_fit Q 0),
+  λ d. (
+    one_of_fit Q 0 (codes "thresholdMetric") (variant source metrics.Threshold metric_written) (codes "ratioMetric") (variant (map_with ratio_metric) metrics.Ratio metric_written) is_threshold refl refl
+        (chosen_fit Q 0 source metrics.Threshold (variant source metrics.Threshold metric_written) (variant (map_with ratio_metric) metrics.Ratio metric_written) is_threshold (λ m. refl) (λ m. refl) (source_fit Q) metric_written)
+        (chosen_fit Q 0 (map_with ratio_metric) metrics.Ratio (variant source metrics.Threshold metric_written) (variant (map_with ratio_metric) metrics.Ratio metric_written) is_threshold (λ m. refl) (λ m. refl) (plain_map_fit Q ratio_metric (ratio_metric_law Any) (ratio_rows Q)) metric_written),
+    λ m. tt,
+  ),
+)
+
+-- BODIES
+
+pub service_body_fit : (Q : Object → Type 0) → FormFit Q 0 service_body
+service_body_fit Q = variant_fit Q 0 (map_with service) bodies.Service (written_where (map_with service) service_in) (λ a. refl) (plain_map_fit Q service (service_law Any) (service_rows Q))
+
+pub data_source_body_fit : (Q : Object → Type 0) → FormFit Q 0 data_source_body
+data_source_body_fit Q = variant_fit Q 0 (map_with data_source) bodies.DataSource (written_where (map_with data_source) data_source_in) (λ a. refl) (plain_map_fit Q data_source (data_source_law Any) (data_source_rows Q))
+
+pub target_body_fit : (Q : Object → Type 0) → FormFit Q 0 target_body
+target_body_fit Q = variant_fit Q 0 (map_with alert_notification_target) bodies.AlertNotificationTarget (written_where (map_with alert_notification_target) target_in) (λ a. refl) (plain_map_fit Q alert_notification_target (notification_target_law Any) (target_rows Q))
+
+pub condition_body_fit : (Q : Object → Type 0) → FormFit Q 0 condition_body
+condition_body_fit Q = variant_fit Q 0 (map_with alert_condition) bodies.AlertCondition (written_where (map_with alert_condition) condition_in) (λ a. refl) (plain_map_fit Q alert_condition (alert_condition_law Any) (alert_condition_rows Q))
+
+pub sli_body_fit : (Q : Object → Type 0) → FormFit Q 0 sli_body
+sli_body_fit Q = variant_fit Q 0 (map_with sli) bodies.Sli (written_where (map_with sli) sli_in) (λ a. refl) (plain_map_fit Q sli (sli_law Any) (sli_rows Q))

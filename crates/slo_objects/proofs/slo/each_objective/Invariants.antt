@@ -1,0 +1,9 @@
+use Rattle.std.proofs.Common.{◌≡◌, [], drop}
+use Rattle.slo_objects.specs.Form.{each}
+use Rattle.slo_objects.specs.Reading.{trees_view}
+use Rattle.slo_objects.specs.Slo.{objective_item}
+use Rattle.slo_objects.proofs.slo.each_objective.Given as goal
+
+-- what is read so far, and what the rest gives
+abbrev pub invariant-loop-node : goal.invariant-loop-node
+invariant-loop-node l = each (objective_item l.method l.key) [] l.objectives (trees_view (drop l.node-index l.items)) ≡ each (objective_item l.method l.key) [] [] (trees_view l.items)

@@ -1,0 +1,19 @@
+use Rattle.std.proofs.Common.{ap, ◌∙◌}
+use Rattle.yaml_subset.specs.Spelling.{fields, no_fields}
+use Rattle.slo_objects.specs.Form.{put}
+use Rattle.slo_objects.specs.Slo.{slo}
+use Rattle.slo_objects.specs.Adding.{before}
+use Rattle.slo_objects.proofs.writing.slo.slo_map.Goals as goal
+
+-- line by line, from the last to the first
+pub returns : goal.returns
+unfolding slo
+returns c = c.map_of.ensures ∙ ap fields
+    (c.in_ok-optional_policies.ensures no_fields
+    ∙ c.in_ok-required_objectives.ensures _
+    ∙ c.in_ok-required_method.ensures _
+    ∙ c.in_ok-required_window.ensures _
+    ∙ c.in_ok-required_name-2.ensures _
+    ∙ c.in_ok-required_name.ensures _
+    ∙ c.in_ok-optional_description.ensures _
+    ∙ ap (λ ps. before ps (put slo c.args.value.now)) c.new-fields.ensures.items)

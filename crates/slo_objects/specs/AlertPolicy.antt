@@ -1,0 +1,50 @@
+-- Alert policies (OpenSLO v1, AlertPolicy).
+use Rattle.std.specs.Prelude.{ℕ, List, Bool, true, nat_le, codes, Option, Some, None}
+use Rattle.yaml_subset.specs.Tree.{Tree}
+use Rattle.slo_objects.specs.declared.kind.Kind.TheVariants as kinds
+use Rattle.slo_objects.specs.declared.alert_policy.AlertPolicy.{AlertPolicy}
+use Rattle.slo_objects.specs.declared.object.Body.{Body}
+use Rattle.slo_objects.specs.declared.object.Body.TheVariants as bodies
+use Rattle.slo_objects.specs.Form.{Key, Answer, list_with, Form, Rows, done, ◌of◌, ◌>>=◌, optional, map_with, variant, written_where}
+use Rattle.slo_objects.specs.Scalars.{description, boolean}
+use Rattle.slo_objects.specs.Inline.{reference_item, reference_written}
+use Rattle.slo_objects.specs.AlertCondition.{condition_body}
+use Rattle.slo_objects.specs.AlertNotificationTarget.{target_body}
+
+abbrev pub at_most_one : ℕ → Bool
+at_most_one n = nat_le n 1
+
+abbrev pub any_number_of : ℕ → Bool
+any_number_of n = true
+
+-- the items of `conditions` and of `notificationTargets`
+abbrev pub condition_item : Key → List Key → Tree → Answer Key
+condition_item = reference_item (codes "conditionRef") kinds.AlertCondition condition_body
+
+abbrev pub target_item : Key → List Key → Tree → Answer Key
+target_item = reference_item (codes "targetRef") kinds.AlertNotificationTarget target_body
+
+abbrev pub conditions : Form (List Key)
+conditions = list_with at_most_one condition_item (reference_written (codes "conditionRef"))
+
+abbrev pub targets : Form (List Key)
+targets = list_with any_number_of target_item (reference_written (codes "targetRef"))
+
+-- `spec`: at most one condition, and any number of targets
+unfoldable pub alert_policy : Rows AlertPolicy
+alert_policy = do
+  description ← optional (codes "description") description of λ p. p.description
+  alert_when_no_data ← optional (codes "alertWhenNoData") boolean of λ p. p.alert_when_no_data
+  alert_when_resolved ← optional (codes "alertWhenResolved") boolean of λ p. p.alert_when_resolved
+  alert_when_breaching ← optional (codes "alertWhenBreaching") boolean of λ p. p.alert_when_breaching
+  conditions ← optional (codes "conditions") conditions of λ p. p.conditions
+  notification_targets ← optional (codes "notificationTargets") targets of λ p. p.notification_targets
+  done (record { description = description; alert_when_no_data = alert_when_no_data; alert_when_resolved = alert_when_resolved; alert_when_breaching = alert_when_breaching; conditions = conditions; notification_targets = notification_targets })
+
+-- the object's body
+abbrev pub policy_in : Body → Option AlertPolicy
+policy_in (bodies.AlertPolicy p) = Some p
+policy_in _ = None
+
+abbrev pub policy_body : Form Body
+policy_body = variant (map_with alert_policy) bodies.AlertPolicy (written_where (map_with alert_policy) policy_in)

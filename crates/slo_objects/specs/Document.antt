@@ -1,0 +1,63 @@
+-- Documents, and the objects that they stand for (OpenSLO v1, general schema).
+use Rattle.std.specs.Prelude.{◌≡◌, List, [], ◌∷◌, ◌++◌, Result, Ok, Err, Contains, codes}
+use Rattle.yaml_subset.specs.Tree.{Tree}
+use Rattle.yaml_subset.specs.Spelling.{Spelling}
+use Rattle.yaml_subset.specs.Fits.{IsWritable}
+use Rattle.slo_objects.specs.declared.kind.Kind.{Kind}
+use Rattle.slo_objects.specs.declared.kind.Kind.TheVariants as kinds
+use Rattle.slo_objects.specs.declared.object.Object.{Object}
+use Rattle.slo_objects.specs.declared.object.Body.{Body}
+use Rattle.slo_objects.specs.declared.fault.ObjectFault.{ObjectFault}
+use Rattle.slo_objects.specs.Form.{Answer, Form, Rows, done, ◌of◌, ◌>>=◌, required, map_with}
+use Rattle.slo_objects.specs.Metadata.{metadata, object_with, metadata_of}
+use Rattle.slo_objects.specs.Scalars.{version, kind}
+use Rattle.slo_objects.specs.DataSource.{data_source_body}
+use Rattle.slo_objects.specs.Service.{service_body}
+use Rattle.slo_objects.specs.Sli.{sli_body}
+use Rattle.slo_objects.specs.Slo.{slo_body}
+use Rattle.slo_objects.specs.AlertPolicy.{policy_body}
+use Rattle.slo_objects.specs.AlertCondition.{condition_body}
+use Rattle.slo_objects.specs.AlertNotificationTarget.{target_body}
+
+-- the form of `spec`, by the kind
+abbrev pub body_form : Kind → Form Body
+body_form kinds.DataSource = data_source_body
+body_form kinds.Service = service_body
+body_form kinds.Sli = sli_body
+body_form kinds.Slo = slo_body
+body_form kinds.AlertPolicy = policy_body
+body_form kinds.AlertCondition = condition_body
+body_form kinds.AlertNotificationTarget = target_body
+
+unfoldable pub body : Kind → Form Body
+body kind = body_form kind
+
+-- a document
+unfoldable pub document : Rows Object
+document = do
+  _ ← required (codes "apiVersion") version of λ o. tt
+  kind ← required (codes "kind") kind of λ o. o.kind
+  metadata ← required (codes "metadata") (map_with metadata) of metadata_of
+  spec ← required (codes "spec") (body kind) of λ o. o.body
+  done (object_with kind metadata spec)
+
+-- the objects that stood inline, in order, and then the document's own
+abbrev pub with_own : Answer Object → Result (List Object) ObjectFault
+with_own (Ok p) = Ok (p.0 ++ p.1 ∷ [])
+with_own (Err f) = Err f
+
+-- The objects that a node stands for, or its first fault: in the order of the tables, depth first, unknown fields of a map last.
+abbrev pub objects_of : Tree → Result (List Object) ObjectFault
+objects_of t = with_own ((map_with document).read (codes "document") t)
+
+-- what an object is written as
+abbrev pub written : Object → Spelling
+written o = (map_with document).write o
+
+-- An object that a document stands for: its own, or one that stood inline in it. Every node of a text can be written.
+pub record IsOfDocument (o : Object) : Type 0 where
+  pub node : Tree
+  pub objects : List Object
+  pub can_be_written : IsWritable node
+  pub are_read : objects_of node ≡ Ok objects
+  pub is_among : Contains objects o

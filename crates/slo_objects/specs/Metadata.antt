@@ -1,0 +1,30 @@
+-- The metadata of an object, and the object that they and a `spec` make.
+use Rattle.std.specs.Prelude.{codes}
+use Rattle.slo_objects.specs.declared.kind.Kind.{Kind}
+use Rattle.slo_objects.specs.declared.object.Object.{Object}
+use Rattle.slo_objects.specs.declared.object.Body.{Body}
+use Rattle.slo_objects.specs.declared.object.Metadata.{Metadata}
+use Rattle.slo_objects.specs.Form.{Rows, done, ◌of◌, ◌>>=◌, required, optional, free_map}
+use Rattle.slo_objects.specs.Scalars.{name, text}
+
+-- `metadata` (OpenSLO v1, general schema)
+unfoldable pub metadata : Rows Metadata
+metadata = do
+  name ← required (codes "name") name of λ m. m.name
+  display_name ← optional (codes "displayName") text of λ m. m.display_name
+  labels ← optional (codes "labels") free_map of λ m. m.labels
+  annotations ← optional (codes "annotations") free_map of λ m. m.annotations
+  done (record { name = name; display_name = display_name; labels = labels; annotations = annotations })
+
+abbrev pub object_with : Kind → Metadata → Body → Object
+object_with kind m body = record {
+  kind = kind;
+  name = m.name;
+  display_name = m.display_name;
+  labels = m.labels;
+  annotations = m.annotations;
+  body = body;
+}
+
+abbrev pub metadata_of : Object → Metadata
+metadata_of o = record { name = o.name; display_name = o.display_name; labels = o.labels; annotations = o.annotations }

@@ -1,0 +1,182 @@
+-- Objectives over time (OpenSLO v1, SLO).
+use Rattle.std.specs.Prelude.{ℕ, ◌%◌, ◌==◌, Bool, true, false, ◌&&◌, ◌||◌, cond, nat_le, List, [], ◌∷◌, Option, Some, None, Result, Ok, Err, codes, decimal}
+use Rattle.yaml_subset.specs.Tree.{Tree}
+use Rattle.yaml_subset.specs.Spelling.{word, quoted}
+use Rattle.exact_fraction.specs.Digits.{is_number, number_within}
+use Rattle.slo_duration.specs.declared.unit.Unit.{Unit as TimeUnit}
+use Rattle.slo_duration.specs.declared.unit.Unit.TheVariants as units
+use Rattle.slo_duration.specs.declared.duration.Duration.{Duration}
+use Rattle.slo_duration.specs.declared.read.DurationFault.{DurationFault}
+use Rattle.slo_duration.specs.declared.read.DurationFault.TheVariants as durations
+use Rattle.slo_objects.specs.declared.fault.Rule.{Rule}
+use Rattle.slo_objects.specs.declared.fault.Rule.TheVariants as rules
+use Rattle.slo_objects.specs.declared.kind.Kind.TheVariants as kinds
+use Rattle.slo_objects.specs.declared.object.Body.{Body}
+use Rattle.slo_objects.specs.declared.object.Body.TheVariants as bodies
+use Rattle.slo_objects.specs.declared.slo.Slo.{Slo}
+use Rattle.slo_objects.specs.declared.slo.TimeWindow.{TimeWindow}
+use Rattle.slo_objects.specs.declared.slo.Calendar.{Calendar}
+use Rattle.slo_objects.specs.declared.slo.BudgetingMethod.{BudgetingMethod}
+use Rattle.slo_objects.specs.declared.slo.BudgetingMethod.TheVariants.{Occurrences, Timeslices, RatioTimeslices}
+use Rattle.slo_objects.specs.declared.slo.Objective.{Objective}
+use Rattle.slo_objects.specs.Form.{Key, Answer, refused, on_some, Form, Rows, done, ◌of◌, ◌>>=◌, required, optional, required_where, required_unless, holding, one_of, map_with, map_read, single, list_with, variant, written_where, scalar_form, scalar_in, is_null, is_among}
+use Rattle.slo_objects.specs.Scalars.{description, text, name, zone_name, boolean, op, number, percent, found_or, of_word, one, greatest}
+use Rattle.slo_objects.specs.Durations.{duration, duration_read, minutes_of, leap_year}
+use Rattle.slo_objects.specs.Moments.{moment}
+use Rattle.slo_objects.specs.Inline.{inline_read, item_read, reference_written}
+use Rattle.slo_objects.specs.Sli.{sli_body}
+use Rattle.slo_objects.specs.AlertPolicy.{policy_body}
+
+-- `calendar`
+unfoldable pub calendar : Rows Calendar
+calendar = do
+  start_time ← required (codes "startTime") moment of λ c. c.start_time
+  time_zone ← required (codes "timeZone") zone_name of λ c. c.time_zone
+  done (record { start_time = start_time; time_zone = time_zone })
+
+-- an omitted `isRolling` is false
+abbrev pub is_rolling : Option Bool → Bool
+is_rolling None = false
+is_rolling (Some rolling) = rolling
+
+-- a calendar window lasts whole days, weeks, months, quarters or years
+abbrev pub is_calendar_unit : TimeUnit → Bool
+is_calendar_unit units.Minute = false
+is_calendar_unit units.Hour = false
+is_calendar_unit units.Day = true
+is_calendar_unit units.Week = true
+is_calendar_unit units.Month = true
+is_calendar_unit units.Quarter = true
+is_calendar_unit units.Year = true
+
+-- the one item of `timeWindow`: it lasts at least a minute and at most 366 days
+unfoldable pub time_window : Rows TimeWindow
+time_window = do
+  duration ← required (codes "duration") (duration 1 leap_year) of λ w. w.duration
+  rolling ← optional (codes "isRolling") boolean of λ w. w.is_rolling
+  _ ← holding (is_rolling rolling || is_calendar_unit duration.unit) (codes "duration") rules.OutOfRange of λ w. tt
+  calendar ← required_unless (is_rolling rolling) (codes "calendar") (map_with calendar) of λ w. w.calendar
+  done (record { duration = duration; is_rolling = rolling; calendar = calendar })
+
+-- the words of `budgetingMethod`
+abbrev pub method_word : BudgetingMethod → Key
+method_word Occurrences = codes "Occurrences"
+method_word Timeslices = codes "Timeslices"
+method_word RatioTimeslices = codes "RatioTimeslices"
+
+abbrev pub all_methods : List BudgetingMethod
+all_methods = Occurrences ∷ Timeslices ∷ RatioTimeslices ∷ []
+
+unfoldable pub method_value : Key → Result BudgetingMethod Rule
+method_value bytes = found_or rules.BadWord (of_word method_word all_methods bytes)
+
+abbrev pub method : Form BudgetingMethod
+method = scalar_form rules.BadWord method_value (λ m. word (method_word m))
+
+-- the methods that want a target, and a width, for slices
+abbrev pub has_slice_target : BudgetingMethod → Bool
+has_slice_target Occurrences = false
+has_slice_target Timeslices = true
+has_slice_target RatioTimeslices = false
+
+abbrev pub has_slices : BudgetingMethod → Bool
+has_slices Occurrences = false
+has_slices Timeslices = true
+has_slices RatioTimeslices = true
+
+-- a width in minutes divides an hour
+abbrev pub width_in : ℕ → Result ℕ Rule
+width_in n = cond (nat_le 1 n && (nat_le n 60 && (60 % n == 0))) (Ok n) (Err rules.OutOfRange)
+
+abbrev pub width_of_duration : Result Duration DurationFault → Result ℕ Rule
+width_of_duration (Ok d) = width_in (minutes_of d)
+width_of_duration (Err durations.TooLong) = Err rules.OutOfRange
+width_of_duration (Err durations.Empty) = Err rules.NotDuration
+width_of_duration (Err durations.BadNumber) = Err rules.NotDuration
+width_of_duration (Err durations.BadUnit) = Err rules.NotDuration
+
+-- digits stand for minutes; a number above an hour is out of range
+abbrev pub width_of_digits : Option ℕ → Result ℕ Rule
+width_of_digits None = Err rules.OutOfRange
+width_of_digits (Some n) = width_in n
+
+unfoldable pub width_value : List ℕ → Result ℕ Rule
+width_value bytes = cond (is_number bytes) (width_of_digits (number_within 60 bytes)) (width_of_duration (duration_read bytes))
+
+-- the width of a slice: minutes, or a duration; it is written in minutes
+abbrev pub slice_width : Form ℕ
+slice_width = scalar_form rules.NotDuration width_value (λ n. word (decimal n))
+
+-- a target is below one, a target for slices above zero and at most one
+abbrev pub target : Form ℕ
+target = number 0 999_999_999
+
+abbrev pub is_target : ℕ → Bool
+is_target n = true
+
+-- an item of `objectives`
+unfoldable pub objective : BudgetingMethod → Rows Objective
+objective method = do
+  display_name ← optional (codes "displayName") text of λ o. o.display_name
+  op ← optional (codes "op") op of λ o. o.op
+  value ← optional (codes "value") (number 0 greatest) of λ o. o.value
+  target ← one_of (codes "target") target (codes "targetPercent") percent is_target of λ o. o.target
+  time_slice_target ← required_where (has_slice_target method) (codes "timeSliceTarget") (number 1 one) of λ o. o.time_slice_target
+  time_slice_window ← required_where (has_slices method) (codes "timeSliceWindow") slice_width of λ o. o.time_slice_window
+  done (record { display_name = display_name; op = op; value = value; target = target; time_slice_target = time_slice_target; time_slice_window = time_slice_window })
+
+abbrev pub one_to_five : ℕ → Bool
+one_to_five n = nat_le 1 n && nat_le n 5
+
+abbrev pub objective_item : BudgetingMethod → Key → List Objective → Tree → Answer Objective
+objective_item method listed before t = (map_with (objective method)).read listed t
+
+abbrev pub objectives : BudgetingMethod → Form (List Objective)
+objectives method = list_with one_to_five (objective_item method) (map_with (objective method)).write
+
+-- an inline indicator, which is taken out, or the name of one; written as a reference
+abbrev pub inline_indicator : Form (List ℕ)
+inline_indicator = record { read = λ key t. map_read (inline_read kinds.Sli sli_body) key t; write = quoted }
+
+abbrev pub is_inline : List ℕ → Bool
+is_inline n = false
+
+-- an item of `alertPolicies`: a reference, an inline policy, or a name; none is named twice
+abbrev pub unrepeated : Key → List Key → Answer Key → Answer Key
+unrepeated listed before (Ok p) = cond (is_among before p.1) (refused listed rules.Repeated) (Ok p)
+unrepeated listed before (Err f) = Err f
+
+abbrev pub policy_map : Key → Tree → Answer Key
+policy_map listed t = map_read (item_read (codes "alertPolicyRef") kinds.AlertPolicy policy_body) listed t
+
+abbrev pub policy_form : Key → Tree → Answer Key
+policy_form listed t = cond (is_null t) (refused listed rules.BadName) (on_some (policy_map listed t) (λ _. name.read listed t) (scalar_in t))
+
+abbrev pub policy_item : Key → List Key → Tree → Answer Key
+policy_item listed before t = unrepeated listed before (policy_form listed t)
+
+abbrev pub at_most_ten : ℕ → Bool
+at_most_ten n = nat_le n 10
+
+abbrev pub policies : Form (List Key)
+policies = list_with at_most_ten policy_item (reference_written (codes "alertPolicyRef"))
+
+-- `spec`
+unfoldable pub slo : Rows Slo
+slo = do
+  description ← optional (codes "description") description of λ s. s.description
+  service ← required (codes "service") name of λ s. s.service
+  indicator ← one_of (codes "indicator") inline_indicator (codes "indicatorRef") name is_inline of λ s. s.indicator
+  time_window ← required (codes "timeWindow") (single (map_with time_window)) of λ s. s.time_window
+  method ← required (codes "budgetingMethod") method of λ s. s.budgeting_method
+  objectives ← required (codes "objectives") (objectives method) of λ s. s.objectives
+  alert_policies ← optional (codes "alertPolicies") policies of λ s. s.alert_policies
+  done (record { description = description; service = service; indicator = indicator; time_window = time_window; budgeting_method = method; objectives = objectives; alert_policies = alert_policies })
+
+-- the object's body
+abbrev pub slo_in : Body → Option Slo
+slo_in (bodies.Slo s) = Some s
+slo_in _ = None
+
+abbrev pub slo_body : Form Body
+slo_body = variant (map_with slo) bodies.Slo (written_where (map_with slo) slo_in)

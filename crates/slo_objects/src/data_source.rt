@@ -1,0 +1,43 @@
+//! Data sources.
+
+ghost use Rattle.yaml_subset.specs.NodeView.{node_view};
+ghost use Rattle.slo_objects.specs.Form.{map_with};
+ghost use Rattle.slo_objects.specs.Reading.{Gives, alone};
+ghost use Rattle.slo_objects.specs.DataSource.{data_source};
+
+use crate::fault::{ReadError, Rule};
+use crate::fields::{close, fault_at};
+use crate::part::Part;
+use crate::rows::{optional_description, optional_free, required_text};
+use crate::shape::map_entries;
+use exact_fraction::Text;
+use std::alloc::Global;
+use yaml_subset::Node;
+
+/// Where metrics come from.
+#[derive(Debug, Drop)]
+pub struct DataSource {
+    pub description: Option<Text>,
+    /// The field `type`.
+    pub type_text: Text,
+    pub connection_details: Option<Part>,
+}
+
+/// The `spec` of a data source.
+#[tactic(auto, unfolding(crate::specs::DataSource::data_source))]
+pub(crate) fn data_source_of(alloc: Global, key: &str, node: &Node) -> Result<DataSource, ReadError>
+    ensures { Gives alone result ((map_with data_source).read key.now (node_view node.now)) }
+{
+    let Some(fields) = map_entries(node) else {
+        return Err(ReadError::Fault(fault_at(alloc, key, Rule::NotMap)?));
+    };
+    let description = optional_description(alloc, fields, "description")?;
+    let type_text = required_text(alloc, fields, "type")?;
+    let connection_details = optional_free(alloc, fields, "connectionDetails")?;
+    close(alloc, fields, &["description", "type", "connectionDetails"])?;
+    Ok(DataSource {
+        description,
+        type_text,
+        connection_details,
+    })
+}

@@ -1,0 +1,82 @@
+//! Why a node is no object.
+ghost use Rattle.std.specs.Prelude.{◌≡◌};
+ghost use Rattle.slo_objects.specs.declared.fault.ReadError.TheVariants.{NoMemory};
+
+use exact_fraction::Text;
+use std::alloc::{AllocError, AllocFailed};
+
+/// The rules of the fields.
+#[derive(Clone, Copy, Debug, PartialEq, Eq)]
+pub enum Rule {
+    /// A field that must stand is omitted.
+    Missing,
+    /// It must be a map.
+    NotMap,
+    /// It must be a list.
+    NotList,
+    /// It must be a text.
+    NotText,
+    /// It must be a decimal number, with so many decimals at most.
+    NotNumber,
+    /// It must be `true` or `false`.
+    NotBool,
+    /// It must be a duration in OpenSLO's shorthand.
+    NotDuration,
+    /// It must be a civil moment, as `2020-01-21 12:30:00`.
+    NotMoment,
+    /// A number, a duration or a width is outside its range.
+    OutOfRange,
+    /// It must be a name.
+    BadName,
+    /// The version is another than `openslo/v1`.
+    BadVersion,
+    /// The kind is none of the seven, or another than stands there.
+    BadKind,
+    /// It is none of the words that may stand there.
+    BadWord,
+    /// Two fields stand of which one may.
+    Both,
+    /// Neither of two fields stands of which one must.
+    Neither,
+    /// The map has no field of this name.
+    UnknownField,
+    /// A list has more or fewer items than it may have.
+    ListLength,
+    /// A description has too many characters.
+    TooLong,
+    /// A policy is named twice.
+    Repeated,
+}
+
+/// The first fault of a node: the key of the field, and the rule that it breaks.
+/// For an item of the wrong form it is the key of the list, for a document that is no map `document`.
+#[derive(Debug, Drop)]
+pub struct ObjectFault {
+    pub field: Text,
+    pub rule: Rule,
+}
+
+/// Why a node was not read.
+#[derive(Debug, Drop)]
+pub enum ReadError {
+    /// The node's first fault.
+    Fault(ObjectFault),
+    /// Memory ran out.
+    NoMemory,
+}
+
+impl From<AllocError> for ReadError {
+    ghost from_gives = { λ _ e. e ≡ NoMemory };
+
+    fn from(_error: AllocError) -> ReadError {
+        ReadError::NoMemory
+    }
+}
+
+impl<T: Drop> From<AllocFailed<T>> for ReadError {
+    ghost from_gives = { λ _ e. e ≡ NoMemory };
+
+    fn from(_error: AllocFailed<T>) -> ReadError {
+        ReadError::NoMemory
+    }
+}

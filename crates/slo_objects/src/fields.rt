@@ -1,0 +1,108 @@
+//! The fields of a map.
+ghost use Rattle.std.specs.Prelude.{◌≡◌, ◌&&◌, ◌||◌, not, option_map, map, IfOk};
+ghost use Rattle.std.specs.Str.{bytes_eq};
+ghost use Rattle.yaml_subset.specs.NodeView.{node_view};
+ghost use Rattle.slo_objects.specs.Form.{closed, field_of, is_among as is_among_lem, is_null as is_null_lem, map_read, gives, shown, utf8_in, has_one_of as has_one_of_lem};
+ghost use Rattle.slo_objects.specs.Reading.{Gives, alone, entries_view};
+
+use crate::fault::{ObjectFault, ReadError, Rule};
+use crate::shape::is_null;
+use exact_fraction::Text;
+use std::alloc::{AllocError, Global};
+use std::str;
+use yaml_subset::{Node, Text as NodeText};
+
+/// The fault of a field.
+pub(crate) fn fault_at(alloc: Global, key: &str, rule: Rule) -> Result<ObjectFault, AllocError>
+    ensures { IfOk result (λ f. f ≡ record { field = key.now; rule = rule }) }
+{
+    let field = Text::from_string(String::from_str(alloc, key)?);
+    Ok(ObjectFault { field, rule })
+}
+
+/// Whether a key is one of these.
+pub(crate) fn is_among(known: &[&str], key: &[u8]) -> bool
+    ensures { result ≡ is_among_lem (map (λ k. k.now) known.now) key.now }
+{
+    for name in known {
+        if name.as_bytes() == key {
+            return true;
+        }
+    }
+    false
+}
+
+/// Whether it is the field of that key, and not omitted.
+fn is_field(name: &NodeText, value: &Node, key: &str) -> bool
+    ensures { result ≡ (bytes_eq name.now key.now && not (is_null_lem (node_view value.now))) }
+{
+    name.as_bytes() == key.as_bytes() && !is_null(value)
+}
+
+/// The value of the field of that key. A field whose value is null is as omitted.
+pub(crate) fn field<'a>(fields: &'a [(NodeText, Node)], key: &str) -> Option<&'a Node>
+    ensures { option_map (λ n. node_view n.now) result ≡ field_of key.now (entries_view fields.now) }
+{
+    for (name, value) in fields {
+        if is_field(name, value, key) {
+            return Some(value);
+        }
+    }
+    None
+}
+
+/// Whether one of these fields stands.
+pub(crate) fn has_one_of(fields: &[(NodeText, Node)], keys: &[&str]) -> bool
+    ensures { result ≡ has_one_of_lem (map (λ k. k.now) keys.now) (entries_view fields.now) }
+{
+    for key in keys {
+        if field(fields, key).is_some() {
+            return true;
+        }
+    }
+    false
+}
+
+/// Whether the field is known, or as omitted.
+fn may_stand(name: &NodeText, value: &Node, known: &[&str]) -> bool
+    ensures { result ≡ (is_among_lem (map (λ k. k.now) known.now) name.now || is_null_lem (node_view value.now)) }
+{
+    is_among(known, name.as_bytes()) || is_null(value)
+}
+
+/// The bytes as a text, if they are UTF-8.
+pub(crate) fn utf8_text(bytes: &[u8]) -> Option<&str>
+    ensures { option_map (λ text. text.now) result ≡ utf8_in bytes.now }
+{
+    match str::from_utf8(bytes) {
+        Ok(text) => Some(text),
+        Err(_) => None,
+    }
+}
+
+/// The fault of a field that no map has.
+#[tactic(auto, unfolding(crate::specs::Form::shown))]
+fn unknown_field(alloc: Global, name: &[u8]) -> Result<ObjectFault, AllocError>
+    ensures { IfOk result (λ f. f ≡ record { field = shown name.now; rule = Rule.UnknownField }) }
+{
+    match utf8_text(name) {
+        Some(name) => fault_at(alloc, name, Rule::UnknownField),
+        None => fault_at(alloc, "", Rule::UnknownField),
+    }
+}
+
+/// Refuses a map with a field beside the known ones.
+pub(crate) fn close(
+    alloc: Global,
+    fields: &[(NodeText, Node)],
+    known: &[&str],
+) -> Result<(), ReadError>
+    ensures { Gives alone result (closed (map (λ k. k.now) known.now) (entries_view fields.now)) }
+{
+    for (name, value) in fields {
+        if !may_stand(name, value, known) {
+            return Err(ReadError::Fault(unknown_field(alloc, name.as_bytes())?));
+        }
+    }
+    Ok(())
+}

@@ -1,0 +1,13 @@
+//! Objects as they are written: each map line by line, in the order of its table.
+
+mod alerts;
+mod document;
+mod fields;
+mod rows;
+mod scalars;
+mod service;
+mod sli;
+mod slo;
+mod words;
+
+pub use document::write_object;

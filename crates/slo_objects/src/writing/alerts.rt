@@ -1,0 +1,167 @@
+//! Alert conditions and policies, as they are written.
+ghost use Rattle.std.specs.Prelude.{◌≡◌, IfOk, OnOk};
+ghost use Rattle.yaml_subset.specs.Spelling.{items as items_lem};
+ghost use Rattle.yaml_subset.specs.SpellingView.{spelling_view};
+ghost use Rattle.slo_objects.specs.Form.{map_with, optional, written_items};
+ghost use Rattle.slo_objects.specs.Inline.{reference_written};
+ghost use Rattle.slo_objects.specs.AlertCondition.{condition, alert_condition, condition_body, condition_kind};
+ghost use Rattle.slo_objects.specs.AlertPolicy.{alert_policy, policy_body, conditions, targets};
+ghost use Rattle.slo_objects.specs.Durations.{duration, month};
+ghost use Rattle.slo_objects.specs.Adding.{Adds};
+
+use crate::alert_condition::{AlertCondition, Condition, ConditionKind};
+use crate::alert_policy::AlertPolicy;
+use crate::names::Names;
+use crate::object::Body;
+use crate::writing::fields::{list_of, map_of, put, put_item};
+use crate::writing::rows::{
+    optional_boolean, optional_description, optional_op, required_duration, required_name,
+    required_number, required_text, required_word,
+};
+use crate::writing::words::condition_word;
+use exact_fraction::Label;
+use slo_duration::Duration;
+use std::alloc::{AllocError, Global};
+use yaml_subset::{FieldKey, Spelling};
+
+fn optional_condition_kind(
+    fields: &mut Vec<(FieldKey, Spelling)>,
+    key: &str,
+    value: Option<ConditionKind>,
+) -> Result<(), AllocError>
+    ensures { OnOk result (Adds fields.old.items fields.new.items ((optional key.now condition_kind).write value)) }
+{
+    match value {
+        Some(value) => required_word(fields, key, condition_word(value)),
+        None => Ok(()),
+    }
+}
+
+fn optional_duration(
+    fields: &mut Vec<(FieldKey, Spelling)>,
+    key: &str,
+    value: Option<Duration>,
+) -> Result<(), AllocError>
+    ensures { OnOk result (Adds fields.old.items fields.new.items ((optional key.now (duration 0 month)).write value)) }
+{
+    match value {
+        Some(value) => required_duration(fields, key, value),
+        None => Ok(()),
+    }
+}
+
+#[tactic(auto, unfolding(crate::specs::AlertCondition::condition))]
+fn inner_condition(alloc: Global, value: &Condition) -> Result<Spelling, AllocError>
+    ensures { IfOk result (λ s. spelling_view s ≡ (map_with condition).write value.now) }
+{
+    let mut fields = Vec::new(alloc);
+    optional_condition_kind(&mut fields, "kind", value.kind)?;
+    optional_op(&mut fields, "op", value.op)?;
+    required_number(&mut fields, "threshold", value.threshold)?;
+    required_duration(&mut fields, "lookbackWindow", value.lookback_window)?;
+    optional_duration(&mut fields, "alertAfter", value.alert_after)?;
+    Ok(map_of(fields))
+}
+
+#[tactic(auto, unfolding(crate::specs::AlertCondition::alert_condition))]
+fn condition_map(alloc: Global, value: &AlertCondition) -> Result<Spelling, AllocError>
+    ensures { IfOk result (λ s. spelling_view s ≡ (map_with alert_condition).write value.now) }
+{
+    let mut fields = Vec::new(alloc);
+    optional_description(&mut fields, "description", &value.description)?;
+    required_text(&mut fields, "severity", &value.severity)?;
+    let condition = inner_condition(alloc, &value.condition)?;
+    put(&mut fields, "condition", condition)?;
+    Ok(map_of(fields))
+}
+
+/// The `spec` of a condition.
+pub(crate) fn condition_spec(alloc: Global, body: &Body) -> Result<Spelling, AllocError>
+    ensures { IfOk result (λ s. spelling_view s ≡ condition_body.write body.now) }
+{
+    match body {
+        Body::AlertCondition(condition) => condition_map(alloc, condition),
+        _ => Ok(map_of(Vec::new(alloc))),
+    }
+}
+
+/// A reference: a map of that key alone.
+fn reference(alloc: Global, key: &str, name: &Label) -> Result<Spelling, AllocError>
+    ensures { IfOk result (λ s. spelling_view s ≡ reference_written key.now name.now) }
+{
+    let mut fields = Vec::new(alloc);
+    required_name(&mut fields, key, name)?;
+    Ok(map_of(fields))
+}
+
+/// References to these objects.
+pub(crate) fn references(alloc: Global, key: &str, names: &[Label]) -> Result<Spelling, AllocError>
+    ensures { IfOk result (λ s. spelling_view s ≡ items_lem (written_items (reference_written key.now) names.now)) }
+{
+    let mut items = Vec::new(alloc);
+    for name in names {
+        let item = reference(alloc, key, name)?;
+        put_item(&mut items, item)?;
+    }
+    Ok(list_of(items))
+}
+
+fn optional_conditions(
+    fields: &mut Vec<(FieldKey, Spelling)>,
+    key: &str,
+    names: &Option<Names>,
+) -> Result<(), AllocError>
+    ensures { OnOk result (Adds fields.old.items fields.new.items ((optional key.now conditions).write names.now)) }
+{
+    let Some(names) = names else {
+        return Ok(());
+    };
+    let list = references(*fields.allocator(), "conditionRef", names.as_slice())?;
+    put(fields, key, list)
+}
+
+fn optional_targets(
+    fields: &mut Vec<(FieldKey, Spelling)>,
+    key: &str,
+    names: &Option<Names>,
+) -> Result<(), AllocError>
+    ensures { OnOk result (Adds fields.old.items fields.new.items ((optional key.now targets).write names.now)) }
+{
+    let Some(names) = names else {
+        return Ok(());
+    };
+    let list = references(*fields.allocator(), "targetRef", names.as_slice())?;
+    put(fields, key, list)
+}
+
+#[tactic(auto, unfolding(crate::specs::AlertPolicy::alert_policy))]
+fn policy_map(alloc: Global, value: &AlertPolicy) -> Result<Spelling, AllocError>
+    ensures { IfOk result (λ s. spelling_view s ≡ (map_with alert_policy).write value.now) }
+{
+    let mut fields = Vec::new(alloc);
+    optional_description(&mut fields, "description", &value.description)?;
+    optional_boolean(&mut fields, "alertWhenNoData", value.alert_when_no_data)?;
+    optional_boolean(&mut fields, "alertWhenResolved", value.alert_when_resolved)?;
+    optional_boolean(
+        &mut fields,
+        "alertWhenBreaching",
+        value.alert_when_breaching,
+    )?;
+    optional_conditions(&mut fields, "conditions", &value.conditions)?;
+    optional_targets(
+        &mut fields,
+        "notificationTargets",
+        &value.notification_targets,
+    )?;
+    Ok(map_of(fields))
+}
+
+/// The `spec` of a policy.
+pub(crate) fn policy_spec(alloc: Global, body: &Body) -> Result<Spelling, AllocError>
+    ensures { IfOk result (λ s. spelling_view s ≡ policy_body.write body.now) }
+{
+    match body {
+        Body::AlertPolicy(policy) => policy_map(alloc, policy),
+        _ => Ok(map_of(Vec::new(alloc))),
+    }
+}

@@ -1,0 +1,83 @@
+//! Objects as documents.
+ghost use Rattle.std.specs.Prelude.{◌≡◌, ◌≤◌, ◌++◌, ◌∷◌, [], Ok, IfOk, OnOk, OnErr, length};
+ghost use Rattle.yaml_subset.specs.Text.{StandsFor, max_bytes};
+ghost use Rattle.yaml_subset.specs.Spelling.{meant, writing};
+ghost use Rattle.yaml_subset.specs.SpellingView.{spelling_view};
+ghost use Rattle.slo_objects.specs.Form.{map_with};
+ghost use Rattle.slo_objects.specs.Metadata.{metadata, metadata_of};
+ghost use Rattle.slo_objects.specs.Document.{body, objects_of, written, IsOfDocument};
+
+use crate::kind::Kind;
+use crate::laws::{each_object_can_be_written, each_object_reads_back};
+use crate::object::{Body, Object};
+use crate::scalars::kind_word;
+use crate::writing::alerts::{condition_spec, policy_spec};
+use crate::writing::fields::{map_of, put};
+use crate::writing::rows::{optional_free_map, optional_text, required_name, required_word};
+use crate::writing::service::{data_source_spec, service_spec, target_spec};
+use crate::writing::sli::sli_spec;
+use crate::writing::slo::slo_spec;
+use std::alloc::{AllocError, Global};
+use yaml_subset::{Spelling, write_spelling};
+
+#[tactic(auto, unfolding(crate::specs::Metadata::metadata))]
+fn metadata_map(alloc: Global, value: &Object) -> Result<Spelling, AllocError>
+    ensures { IfOk result (λ s. spelling_view s ≡ (map_with metadata).write (metadata_of value.now)) }
+{
+    let mut fields = Vec::new(alloc);
+    required_name(&mut fields, "name", &value.name)?;
+    optional_text(&mut fields, "displayName", &value.display_name)?;
+    optional_free_map(&mut fields, "labels", &value.labels)?;
+    optional_free_map(&mut fields, "annotations", &value.annotations)?;
+    Ok(map_of(fields))
+}
+
+/// The `spec`, by the kind.
+#[tactic(auto, unfolding(crate::specs::Document::body))]
+fn spec_map(alloc: Global, kind: Kind, value: &Body) -> Result<Spelling, AllocError>
+    ensures { IfOk result (λ s. spelling_view s ≡ (body kind).write value.now) }
+{
+    match kind {
+        Kind::DataSource => data_source_spec(alloc, value),
+        Kind::Service => service_spec(alloc, value),
+        Kind::Sli => sli_spec(alloc, value),
+        Kind::Slo => slo_spec(alloc, value),
+        Kind::AlertPolicy => policy_spec(alloc, value),
+        Kind::AlertCondition => condition_spec(alloc, value),
+        Kind::AlertNotificationTarget => target_spec(alloc, value),
+    }
+}
+
+#[tactic(auto, unfolding(crate::specs::Document::document))]
+fn document_map(alloc: Global, value: &Object) -> Result<Spelling, AllocError>
+    ensures { IfOk result (λ s. spelling_view s ≡ written value.now) }
+{
+    let mut fields = Vec::new(alloc);
+    required_word(&mut fields, "apiVersion", "openslo/v1")?;
+    required_word(&mut fields, "kind", kind_word(value.kind))?;
+    let metadata = metadata_map(alloc, value)?;
+    put(&mut fields, "metadata", metadata)?;
+    let spec = spec_map(alloc, value.kind, &value.body)?;
+    put(&mut fields, "spec", spec)?;
+    Ok(map_of(fields))
+}
+
+/// Appends the canonical writing of an object: its fields in the order of the tables, omitted ones left out, fixed words,
+/// numbers, booleans and durations plain, every other text in double quotes, objects that stood inline as references.
+///
+/// The text stands for the object alone, where it has at most `MAX_BYTES` bytes. The error is want of memory, and leaves
+/// all as it was.
+pub fn write_object(out: &mut Vec<u8>, value: &Object) -> Result<(), AllocError>
+    requires { IsOfDocument value.now }
+    ensures exact { OnOk result (out.new.items ≡ out.old.items ++ writing 0 (written value.now)) }
+    ensures kept { OnErr result (out.new.items ≡ out.old.items) }
+
+    // The text stands for one node, and this node for the object alone.
+    ensures stands { length (writing 0 (written value.now)) ≤ max_bytes → StandsFor (writing 0 (written value.now)) (meant (written value.now) ∷ []) }
+    ensures alone { objects_of (meant (written value.now)) ≡ Ok (value.now ∷ []) }
+{
+    each_object_can_be_written();
+    each_object_reads_back();
+    let document = document_map(*out.allocator(), value)?;
+    write_spelling(out, &document, 0)
+}
