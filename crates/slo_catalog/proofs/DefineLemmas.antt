@@ -1,0 +1,48 @@
+-- What a definition that isn't refused makes of a catalog.
+use Rattle.std.proofs.Common.{◌≡◌, ℕ, Bool, true, false, not, ◌||◌, cond, List, [], ◌∷◌, ◌++◌, map, flat_map, find, Option, Some, None, Result, Ok, Err, IfOk, is_ok, is_some, is_none, refl, sym, ap, ◌∙◌, subst, true≢false}
+use Rattle.slo_objects.specs.declared.object.Object.{Object}
+use Rattle.slo_catalog.specs.declared.fault.CatalogFault.{CatalogFault}
+use Rattle.slo_catalog.specs.declared.fault.CatalogFault.TheVariants as faults
+use Rattle.slo_catalog.specs.declared.fault.DefineError.{DefineError}
+use Rattle.slo_catalog.specs.declared.fault.DefineError.TheVariants as errors
+use Rattle.slo_catalog.specs.Keys.{IsSorted}
+use Rattle.slo_catalog.specs.Catalog.{Event, Defined, IsCatalog, put, put_all}
+use Rattle.slo_catalog.specs.References.{first_unresolved, IsLegal}
+use Rattle.slo_catalog.specs.NeedsOp.{first_needing_op}
+use Rattle.slo_catalog.specs.Limits.{first_limit}
+use Rattle.slo_catalog.specs.Define.{unless, reserved, duplicate, unresolved, needs_op, first_reserved, first_duplicate, admitted, defined, Defines}
+use Rattle.slo_catalog.proofs.LegalLemmas.{legal_defined}
+use Rattle.slo_catalog.proofs.HistoryLemmas.{all_defined}
+
+-- nothing was found where the tests behind it gave members
+not_refused : {A : Type 0} (fault : A → CatalogFault) (found : Option A) (rest : Result (List Object) CatalogFault) (members : List Object) → unless fault found rest ≡ Ok members → (found ≡ None) × (rest ≡ Ok members)
+not_refused fault None rest members h = (refl, h)
+not_refused fault (Some x) rest members h = absurd (true≢false (sym (ap is_ok h)))
+
+abbrev ok_of : List Object → Result (List Object) CatalogFault → List Object
+ok_of other (Ok members) = members
+ok_of other (Err fault) = other
+
+pub record Admitted (old objects members : List Object) : Type 0 where
+  pub resolved : first_unresolved (put_all objects old) objects ≡ None
+  pub put : members ≡ put_all objects old
+
+pub admitted_of : (old objects members : List Object) → defined old objects ≡ Ok members → Admitted old objects members
+admitted_of old objects members h =
+    let all : List Object = put_all objects old in
+    let a = not_refused reserved (first_reserved objects) _ members h in
+    let b = not_refused duplicate (first_duplicate objects) (admitted all objects) members a.1 in
+    let c = not_refused unresolved (first_unresolved all objects) _ members b.1 in
+    let d = not_refused needs_op (first_needing_op all objects) _ members c.1 in
+    let e = not_refused faults.Limit (first_limit all) (Ok all) members d.1 in
+    record { resolved = c.0; put = sym (ap (ok_of members) e.1) }
+
+pub history_of : (old objects : List Object) (r : Result (List Object) DefineError) → Defines r (defined old objects) → (events : List Event) → IsCatalog events old → IfOk r (λ members. IsCatalog (events ++ map Defined objects) members)
+history_of old objects (Ok members) h events c = subst (λ ms. IsCatalog (events ++ map Defined objects) ms) (sym (admitted_of old objects members h).put) (all_defined objects old events c)
+history_of old objects (Err e) h events c = tt
+
+pub legal_of : (old objects : List Object) (r : Result (List Object) DefineError) → Defines r (defined old objects) → IsSorted old → IsLegal old → IfOk r (λ members. IsLegal members)
+legal_of old objects (Err e) h s legal = tt
+legal_of old objects (Ok members) h s legal =
+    let a = admitted_of old objects members h in
+    subst IsLegal (sym a.put) (legal_defined objects old s legal a.resolved)

@@ -1,0 +1,14 @@
+mod KeyLemmas
+mod AmongLemmas
+mod OneCatalog
+mod PutLemmas
+mod HistoryLemmas
+mod MembersLemmas
+mod FindLemmas
+mod SearchLemmas
+mod DefineLemmas
+mod LegalLemmas
+mod RemoveLemmas
+mod SearchSorted
+mod DuplicateLemmas
+mod TestLemmas

@@ -1,0 +1,17 @@
+use Rattle.std.proofs.Common.{◌≡◌, ◌≤◌, ◌+◌, ◌<◌, ℕ, Bool, true, nat_lt, arith, ap, sym, ◌∙◌, rules, get_or, length}
+use Rattle.std.proofs.lemmas.Bool.Decides.{nat_tests}
+use Rattle.std.proofs.lemmas.List.Sums.{sum_by_more_le}
+use Rattle.slo_catalog.specs.Limits.{written_bytes, catalog_bytes}
+use Rattle.slo_catalog.proofs.limits.is_above_bytes.Goals as goal
+
+above : (total bytes taken read all most : ℕ) → total ≡ taken → bytes ≡ read → taken + read ≤ all → most < total + bytes → true ≡ nat_lt most all
+above total bytes taken read all most t b within h = grind (arith, nat_tests, t, b, within, h)
+
+-- the bytes of one more object are within those of all
+pub returns-then-total-gt-MAX_CATALOG_BYTES : goal.returns-then-total-gt-MAX_CATALOG_BYTES
+returns-then-total-gt-MAX_CATALOG_BYTES c =
+    let place : c.loop-object.object-index < length c.args.objects.now = search rules in
+    let same : get_or c.args.objects.now c.loop-object.object-index c.object-item.result ≡ c.object-item.result = search rules in
+    let exact : c.in_ok-total.field-0 ≡ written_bytes c.object-item.result = search rules in
+    let more = sum_by_more_le written_bytes c.args.objects.now c.loop-object.object-index c.object-item.result place in
+    above _ _ _ _ _ _ c.loop-object.invariant.told (exact ∙ sym (ap written_bytes same)) more c.if-total-gt-MAX_CATALOG_BYTES.true

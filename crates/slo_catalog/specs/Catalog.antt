@@ -1,0 +1,50 @@
+-- The catalog of a history of definitions and removals.
+use Rattle.std.specs.Prelude.{◌≡◌, ℕ, Bool, false, not, ◌&&◌, ◌==◌, ◌↔◌, cond, List, [], ◌∷◌, ◌++◌, filter}
+use Rattle.std.specs.Str.{bytes_eq}
+use Rattle.std.specs.List.{AllByRecursion, All, Contains}
+use Rattle.std.specs.Ordering.{match_ordering}
+use Rattle.slo_objects.specs.declared.kind.Kind.{Kind}
+use Rattle.slo_objects.specs.declared.object.Object.{Object}
+use Rattle.slo_objects.specs.Document.{IsOfDocument}
+use Rattle.slo_catalog.specs.Keys.{kind_rank, is_key, object_cmp, IsSorted}
+
+-- what a catalog keeps: sorted objects, each of a document
+pub record IsKept (objects : List Object) : Type 0 where
+  pub sorted : IsSorted objects
+  pub written : All IsOfDocument objects
+
+-- what changes a catalog: an object is defined, or what has that kind and name is removed
+pub data Event : Type 0 where
+  Defined : Object → Event
+  Removed : Kind → List ℕ → Event
+
+-- whether an event is about that kind and name
+abbrev pub is_about : Kind → List ℕ → Event → Bool
+is_about kind name (Defined o) = is_key kind name o
+is_about kind name (Removed k n) = (kind_rank kind == kind_rank k) && bytes_eq name n
+
+-- An object is a member after events where one of them defines it, and no later one is about its kind and name.
+pub record IsMember (events : List Event) (o : Object) : Type 0 where
+  pub before : List Event
+  pub later : List Event
+  pub defined : events ≡ before ++ Defined o ∷ later
+  pub last : AllByRecursion (λ e. is_about o.kind o.name e ≡ false) later
+
+-- the catalog of a history: its members, sorted by kind and name
+pub record IsCatalog (events : List Event) (objects : List Object) : Type 0 where
+  pub sorted : IsSorted objects
+  pub members : (o : Object) → Contains objects o ↔ IsMember events o
+
+-- an object at its place among sorted ones, where it replaces the one of its kind and name
+abbrev pub put : Object → List Object → List Object
+put o [] = o ∷ []
+put o (p ∷ ps) = match_ordering (object_cmp o p) (o ∷ p ∷ ps) (o ∷ ps) (p ∷ put o ps)
+
+-- one object after another
+abbrev pub put_all : List Object → List Object → List Object
+put_all [] os = os
+put_all (o ∷ rest) os = put_all rest (put o os)
+
+-- the objects but for the one of that kind and name
+abbrev pub without : Kind → List ℕ → List Object → List Object
+without kind name os = filter (λ o. not (is_key kind name o)) os

@@ -1,0 +1,96 @@
+-- What a text's objects make of a catalog, or why they are refused.
+use Rattle.std.specs.Prelude.{◌≡◌, ℕ, Bool, false, not, cond, ◌&&◌, ◌==◌, List, [], ◌∷◌, ◌++◌, Option, Some, None, Result, Ok, Err, find}
+use Rattle.std.specs.List.{list_any}
+use Rattle.std.specs.Str.{bytes_eq}
+use Rattle.yaml_subset.specs.Spelling.{writing}
+use Rattle.slo_objects.specs.declared.object.Object.{Object}
+use Rattle.slo_objects.specs.Document.{written}
+use Rattle.slo_objects.specs.declared.kind.Kind.TheVariants as kinds
+use Rattle.slo_catalog.specs.declared.fault.CatalogFault.{CatalogFault}
+use Rattle.slo_catalog.specs.declared.fault.CatalogFault.TheVariants as faults
+use Rattle.slo_catalog.specs.declared.fault.DefineError.{DefineError}
+use Rattle.slo_catalog.specs.declared.fault.DefineError.TheVariants as errors
+use Rattle.slo_catalog.specs.declared.reference.Reference.{Reference}
+use Rattle.slo_catalog.specs.declared.needs_op.NeedsOp.{NeedsOp}
+use Rattle.slo_catalog.specs.Keys.{kind_rank, is_key, find_in}
+use Rattle.slo_catalog.specs.Catalog.{put, put_all}
+use Rattle.slo_catalog.specs.References.{is_built_in, first_unresolved}
+use Rattle.slo_catalog.specs.NeedsOp.{first_needing_op}
+use Rattle.slo_catalog.specs.Limits.{first_limit}
+
+-- Objects have the same content where they are written alike.
+abbrev pub is_same : Object → Object → Bool
+is_same o p = bytes_eq (writing 0 (written o)) (writing 0 (written p))
+
+-- whether an object is another than the one that was found of its kind and name
+abbrev pub is_other_than : Option Object → Object → Bool
+is_other_than None o = false
+is_other_than (Some first) o = not (is_same first o)
+
+-- the first of the objects that is another than the member of its kind and name
+abbrev pub first_other : List Object → List Object → Option Object
+first_other members objects = find (λ o. is_other_than (find_in members o.kind o.name) o) objects
+
+-- The first of the objects that is another than the first one of its kind and name.
+abbrev pub first_duplicate : List Object → Option Object
+first_duplicate objects = first_other objects objects
+
+-- whether an object is another than an earlier one of its kind and name
+abbrev pub differs : List Object → Object → Bool
+differs earlier o = list_any (λ p. is_key o.kind o.name p && not (is_same p o)) earlier
+
+-- the first such object behind the earlier ones
+abbrev pub first_differing : List Object → List Object → Option Object
+first_differing earlier [] = None
+first_differing earlier (o ∷ os) = cond (differs earlier o) (Some o) (first_differing (earlier ++ o ∷ []) os)
+
+-- the first object of each kind and name
+abbrev pub firsts : List Object → List Object
+firsts [] = []
+firsts (o ∷ os) = put o (firsts os)
+
+-- an alert policy with the name of one that is always there
+abbrev pub is_reserved : Object → Bool
+is_reserved o = (kind_rank o.kind == kind_rank kinds.AlertPolicy) && is_built_in o.name
+
+abbrev pub first_reserved : List Object → Option Object
+first_reserved objects = find is_reserved objects
+
+-- the faults that are named by what was found first
+abbrev pub reserved : Object → CatalogFault
+reserved o = faults.Reserved o.name
+
+abbrev pub duplicate : Object → CatalogFault
+duplicate o = faults.DuplicateInText o.kind o.name
+
+abbrev pub unresolved : Reference → CatalogFault
+unresolved r = faults.Unresolved r.from_kind r.from_name r.kind r.name
+
+abbrev pub needs_op : NeedsOp → CatalogFault
+needs_op n = faults.NeedsOp n.slo n.objective
+
+-- a fault where something was found, or what comes of the tests behind it
+abbrev pub unless : {A : Type 0} → (A → CatalogFault) → Option A → Result (List Object) CatalogFault → Result (List Object) CatalogFault
+unless fault None rest = rest
+unless fault (Some found) rest = Err (fault found)
+
+-- what is refused of the members that would be there, and else these members
+abbrev pub admitted : List Object → List Object → Result (List Object) CatalogFault
+admitted members objects =
+    unless unresolved (first_unresolved members objects)
+    (unless needs_op (first_needing_op members objects)
+    (unless faults.Limit (first_limit members) (Ok members)))
+
+-- The catalog with the objects of a text, each of which replaces the one of its kind and name; or the first fault, in the
+-- order of these lines, where each names the first place that breaks its rule.
+abbrev pub defined : List Object → List Object → Result (List Object) CatalogFault
+defined old objects =
+    unless reserved (first_reserved objects)
+    (unless duplicate (first_duplicate objects)
+    (admitted (put_all objects old) objects))
+
+-- what a call gives: what the definition gives, unless memory ran out
+abbrev pub Defines : Result (List Object) DefineError → Result (List Object) CatalogFault → Type 0
+Defines (Ok members) answer = answer ≡ Ok members
+Defines (Err (errors.Fault fault)) answer = answer ≡ Err fault
+Defines (Err errors.NoMemory) answer = Unit {0}

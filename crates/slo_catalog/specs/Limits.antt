@@ -1,0 +1,36 @@
+-- How much a catalog holds.
+use Rattle.std.specs.Prelude.{ℕ, nat_lt, cond, ◌==◌, List, length, Option, Some, None, sum_by, count_by}
+use Rattle.yaml_subset.specs.Spelling.{writing}
+use Rattle.slo_objects.specs.declared.kind.Kind.{Kind}
+use Rattle.slo_objects.specs.declared.kind.Kind.TheVariants as kinds
+use Rattle.slo_objects.specs.declared.object.Object.{Object}
+use Rattle.slo_objects.specs.Document.{written}
+use Rattle.slo_catalog.specs.declared.fault.CatalogLimit.{CatalogLimit}
+use Rattle.slo_catalog.specs.declared.fault.CatalogLimit.TheVariants as limits
+use Rattle.slo_catalog.specs.declared.limits.TheConstants.{MAX_OBJECTS, MAX_CATALOG_BYTES, MAX_SLIS, MAX_SLOS, MAX_BINDINGS}
+use Rattle.slo_catalog.specs.Keys.{kind_rank}
+use Rattle.slo_catalog.specs.Bindings.{bindings}
+
+-- how many bytes an object's canonical writing has, and those of all of them together
+abbrev pub written_bytes : Object → ℕ
+written_bytes o = length (writing 0 (written o))
+
+abbrev pub catalog_bytes : List Object → ℕ
+catalog_bytes members = sum_by written_bytes members
+
+-- how many members are of that kind
+abbrev pub count_of_kind : Kind → List Object → ℕ
+count_of_kind kind members = count_by (λ o. kind_rank o.kind == kind_rank kind) members
+
+-- a count above its limit, or what comes of the limits behind it
+abbrev pub else_within : ℕ → ℕ → CatalogLimit → Option CatalogLimit → Option CatalogLimit
+else_within most count limit rest = cond (nat_lt most count) (Some limit) rest
+
+-- The first limit that the members pass, in the order of this list.
+abbrev pub first_limit : List Object → Option CatalogLimit
+first_limit members =
+    else_within MAX_OBJECTS (length members) limits.Objects
+    (else_within MAX_CATALOG_BYTES (catalog_bytes members) limits.Catalog
+    (else_within MAX_SLIS (count_of_kind kinds.Sli members) limits.Slis
+    (else_within MAX_SLOS (count_of_kind kinds.Slo members) limits.Slos
+    (else_within MAX_BINDINGS (length (bindings members)) limits.Bindings None))))

@@ -1,0 +1,159 @@
+//! Bindings: the alerts that are kept.
+ghost use Rattle.std.specs.Prelude.{◌≡◌, ◌<◌, ◌^◌, ◌++◌, length, filter, Some, IfOk, OnOk};
+ghost use Rattle.std.specs.Option.{option_copied};
+ghost use Rattle.slo_objects.specs.Slo.{slo_in as slo_in_lem};
+ghost use Rattle.slo_catalog.specs.References.{names_in as names_in_lem};
+ghost use Rattle.slo_catalog.specs.Bindings.{is_empty, policy_named as policy_named_lem, lists_condition as lists_condition_lem, has_condition as has_condition_lem, bound, bound_from, bindings_in, bindings as bindings_lem};
+
+use crate::bodies::{objectives_of, policy_in, slo_in};
+use crate::catalog::Catalog;
+use crate::reference::{is_built_in, names_in};
+use exact_fraction::Label;
+use slo_objects::{AlertPolicy, Kind, Object, Objective, Slo};
+use std::alloc::{AllocError, Global};
+
+/// An alert that is kept: of an objective of an SLO, by a policy of the SLO.
+#[derive(Clone, Copy, Debug)]
+pub struct Binding {
+    pub slo: Label,
+    /// The objective's number in the SLO, from 0.
+    pub objective: u32,
+    pub policy: Label,
+}
+
+/// The alert policy of that name.
+fn policy_named(catalog: &Catalog, name: Label) -> Option<&AlertPolicy>
+    ensures { option_copied result ≡ policy_named_lem catalog.now name }
+{
+    match catalog.find(Kind::AlertPolicy, name) {
+        Some(object) => policy_in(&object.body),
+        None => None,
+    }
+}
+
+fn is_empty_list(names: &[Label]) -> bool
+    ensures { result ≡ is_empty names.now }
+{
+    match names {
+        [] => true,
+        [_, ..] => false,
+    }
+}
+
+fn lists_condition(catalog: &Catalog, name: Label) -> bool
+    ensures { result ≡ lists_condition_lem (policy_named_lem catalog.now name) }
+{
+    match policy_named(catalog, name) {
+        Some(policy) => !is_empty_list(names_in(&policy.conditions)),
+        None => false,
+    }
+}
+
+/// Whether the policy of that name has a condition.
+fn has_condition(catalog: &Catalog, name: &Label) -> bool
+    ensures { result ≡ has_condition_lem catalog.now name.now }
+{
+    is_built_in(name) || lists_condition(catalog, *name)
+}
+
+/// Those of the policies that have a condition.
+fn policies_with_condition(
+    alloc: Global,
+    catalog: &Catalog,
+    names: &[Label],
+) -> Result<Vec<Label>, AllocError>
+    ensures { IfOk result (λ kept. kept.items ≡ filter (has_condition_lem catalog.now) names.now) }
+{
+    let mut kept = Vec::new(alloc);
+    for name in names {
+        if has_condition(catalog, name) {
+            kept.push(*name)?;
+        }
+    }
+    Ok(kept)
+}
+
+/// Adds the bindings of one objective.
+fn bind(
+    bindings: &mut Vec<Binding>,
+    slo: &Label,
+    policies: &[Label],
+    objective: u32,
+) -> Result<(), AllocError>
+    ensures { OnOk result (bindings.new.items ≡ bindings.old.items ++ bound slo.now policies.now objective) }
+{
+    for policy in policies {
+        bindings.push(Binding {
+            slo: *slo,
+            objective,
+            policy: *policy,
+        })?;
+    }
+    Ok(())
+}
+
+/// Adds the bindings of all objectives.
+fn bind_each(
+    bindings: &mut Vec<Binding>,
+    slo: &Label,
+    policies: &[Label],
+    objectives: &[Objective],
+) -> Result<(), AllocError>
+    requires { length objectives.now < 2 ^ 32 }
+    ensures { OnOk result (bindings.new.items ≡ bindings.old.items ++ bound_from slo.now policies.now 0 objectives.now) }
+{
+    let mut number = 0;
+    for _objective in objectives {
+        bind(bindings, slo, policies, number)?;
+        number += 1;
+    }
+    Ok(())
+}
+
+fn bind_slo(
+    bindings: &mut Vec<Binding>,
+    alloc: Global,
+    catalog: &Catalog,
+    name: &Label,
+    slo: &Slo,
+) -> Result<(), AllocError>
+    ensures { OnOk result (bindings.new.items ≡ bindings.old.items ++ bindings_in catalog.now name.now (Some slo.now)) }
+{
+    let policies = policies_with_condition(alloc, catalog, names_in(&slo.alert_policies))?;
+    bind_each(bindings, name, &policies, objectives_of(slo)?)
+}
+
+/// Adds the bindings of an object, which has some where it is an SLO.
+fn bind_object(
+    bindings: &mut Vec<Binding>,
+    alloc: Global,
+    catalog: &Catalog,
+    object: &Object,
+) -> Result<(), AllocError>
+    ensures { OnOk result (bindings.new.items ≡ bindings.old.items ++ bindings_in catalog.now object.now.name (slo_in_lem object.now.body)) }
+{
+    match slo_in(&object.body) {
+        Some(slo) => bind_slo(bindings, alloc, catalog, &object.name, slo),
+        None => Ok(()),
+    }
+}
+
+impl Catalog {
+    ghost use Rattle.std.specs.Prelude.{◌≡◌, IfOk};
+    ghost use Rattle.slo_catalog.specs.Bindings.{bindings as bindings_lem};
+
+    /// The bindings: by SLO, by the objective's number, and by the policy's place in the SLO.
+    ///
+    /// # Errors
+    ///
+    /// Memory ran out.
+    pub fn bindings(&self, alloc: Global) -> Result<Vec<Binding>, AllocError>
+        ensures { IfOk result (λ bindings. bindings.items ≡ bindings_lem self.now) }
+    {
+        let mut bindings = Vec::new(alloc);
+        for object in self.objects() {
+            bind_object(&mut bindings, alloc, self, object)?;
+        }
+        Ok(bindings)
+    }
+}

@@ -1,0 +1,36 @@
+//! The catalog of objects: what the definitions and removals of a history leave.
+//! Stands on the objects of OpenSLO.
+//! Promises of each kind and name the last object that was defined, and that each reference names a member.
+#![tactic(auto)]
+
+mod bindings;
+mod bodies;
+mod catalog;
+mod definition;
+mod duplicate;
+mod fault;
+mod key;
+mod laws;
+mod limits;
+mod members;
+mod needs_op;
+mod reference;
+mod removal;
+
+pub use bindings::Binding;
+pub use catalog::Catalog;
+pub use definition::define;
+pub use fault::{CatalogFault, CatalogLimit, DefineError, RemoveError, RemoveFault};
+pub use laws::{
+    a_catalog_follows_its_history, a_history_has_one_catalog, the_first_copy_that_differs_is_named,
+};
+pub use limits::{MAX_BINDINGS, MAX_CATALOG_BYTES, MAX_OBJECTS, MAX_SLIS, MAX_SLOS};
+pub use reference::the_first_reference_to_nothing_is_named;
+pub use removal::remove;
+
+#[cfg(test)]
+mod history_tests;
+#[cfg(test)]
+mod rule_tests;
+#[cfg(test)]
+mod test_texts;

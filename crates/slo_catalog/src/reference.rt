@@ -1,0 +1,278 @@
+//! What objects refer to, and who refers to an object.
+ghost use Rattle.std.specs.Prelude.{◌≡◌, ◌++◌, [], ◌∷◌, not, find, flat_map, List, None, IfOk, OnOk};
+ghost use Rattle.std.specs.Option.{option_copied};
+ghost use Rattle.std.specs.List.{list_any};
+ghost use Rattle.slo_objects.specs.declared.kind.Kind.TheVariants as kinds;
+ghost use Rattle.slo_objects.specs.declared.object.Object.{Object};
+ghost use Rattle.slo_catalog.specs.References.{names_in as names_in_lem, data_sources, sources_of, sources_of_ratio, referring, references_of_slo, references_of_policy, references as references_lem, is_built_in as is_built_in_lem, is_built_in_policy as is_built_in_policy_lem, is_resolved as is_resolved_lem, unresolved_of as unresolved_of_lem, first_unresolved as first_unresolved_lem, is_to as is_to_lem, refers_to as refers_to_lem, first_referrer as first_referrer_lem, IsLegal};
+
+use crate::catalog::Catalog;
+use crate::key::kind_rank;
+use exact_fraction::Label;
+use slo_objects::{
+    AlertPolicy, Body, Events, Kind, Metric, MetricSource, Names, Object, Ratio, Sli, Slo,
+};
+use std::alloc::{AllocError, Global};
+
+/// A reference of an object to another.
+#[derive(Clone, Copy, Debug)]
+pub(crate) struct Reference {
+    pub(crate) from_kind: Kind,
+    pub(crate) from_name: Label,
+    pub(crate) kind: Kind,
+    pub(crate) name: Label,
+}
+
+/// Whether it is the name of a policy that is always there.
+pub(crate) fn is_built_in(name: &Label) -> bool
+    ensures { result ≡ is_built_in_lem name.now }
+{
+    name.as_str() == "workbook-page" || name.as_str() == "workbook-ticket"
+}
+
+/// The names of a list that may be omitted.
+pub(crate) fn names_in(names: &Option<Names>) -> &[Label]
+    ensures { result.now ≡ names_in_lem names.now }
+{
+    match names {
+        Some(names) => names.as_slice(),
+        None => &[],
+    }
+}
+
+/// Adds a reference of the object to each object of that kind and of these names.
+fn refer(
+    references: &mut Vec<Reference>,
+    object: &Object,
+    kind: Kind,
+    names: &[Label],
+) -> Result<(), AllocError>
+    ensures { OnOk result (references.new.items ≡ references.old.items ++ referring object.now kind names.now) }
+{
+    for name in names {
+        references.push(Reference {
+            from_kind: object.kind,
+            from_name: object.name,
+            kind,
+            name: *name,
+        })?;
+    }
+    Ok(())
+}
+
+/// Adds the reference to the data source of a metric's source, where it names one.
+fn refer_to_source(
+    references: &mut Vec<Reference>,
+    object: &Object,
+    source: &MetricSource,
+) -> Result<(), AllocError>
+    ensures { OnOk result (references.new.items ≡ references.old.items ++ referring object.now kinds.DataSource (data_sources (source.now ∷ []))) }
+{
+    match &source.metric_source_ref {
+        Some(name) => refer(references, object, Kind::DataSource, &[*name]),
+        None => Ok(()),
+    }
+}
+
+fn refer_to_ratio(
+    references: &mut Vec<Reference>,
+    object: &Object,
+    ratio: &Ratio,
+) -> Result<(), AllocError>
+    ensures { OnOk result (references.new.items ≡ references.old.items ++ referring object.now kinds.DataSource (data_sources (sources_of_ratio ratio.now))) }
+{
+    match ratio {
+        Ratio::Raw { raw, raw_type: _ } => refer_to_source(references, object, raw),
+        Ratio::Counts { total, events } => {
+            refer_to_source(references, object, total)?;
+            match events {
+                Events::Good(source) => refer_to_source(references, object, source),
+                Events::Bad(source) => refer_to_source(references, object, source),
+            }
+        }
+    }
+}
+
+fn refer_of_sli(
+    references: &mut Vec<Reference>,
+    object: &Object,
+    sli: &Sli,
+) -> Result<(), AllocError>
+    ensures { OnOk result (references.new.items ≡ references.old.items ++ referring object.now kinds.DataSource (data_sources (sources_of sli.now.metric))) }
+{
+    match &sli.metric {
+        Metric::Threshold(source) => refer_to_source(references, object, source),
+        Metric::Ratio(metric) => refer_to_ratio(references, object, &metric.ratio),
+    }
+}
+
+fn refer_of_slo(
+    references: &mut Vec<Reference>,
+    object: &Object,
+    slo: &Slo,
+) -> Result<(), AllocError>
+    ensures { OnOk result (references.new.items ≡ references.old.items ++ references_of_slo (referring object.now) slo.now) }
+{
+    refer(references, object, Kind::Service, &[slo.service])?;
+    refer(references, object, Kind::Sli, &[slo.indicator])?;
+    refer(
+        references,
+        object,
+        Kind::AlertPolicy,
+        names_in(&slo.alert_policies),
+    )
+}
+
+fn refer_of_policy(
+    references: &mut Vec<Reference>,
+    object: &Object,
+    policy: &AlertPolicy,
+) -> Result<(), AllocError>
+    ensures { OnOk result (references.new.items ≡ references.old.items ++ references_of_policy (referring object.now) policy.now) }
+{
+    refer(
+        references,
+        object,
+        Kind::AlertCondition,
+        names_in(&policy.conditions),
+    )?;
+    refer(
+        references,
+        object,
+        Kind::AlertNotificationTarget,
+        names_in(&policy.notification_targets),
+    )
+}
+
+/// The references of an object, in the order of its fields.
+pub(crate) fn references(alloc: Global, object: &Object) -> Result<Vec<Reference>, AllocError>
+    ensures { IfOk result (λ references. references.items ≡ references_lem object.now) }
+{
+    let mut references = Vec::new(alloc);
+    match &object.body {
+        Body::Sli(sli) => refer_of_sli(&mut references, object, sli)?,
+        Body::Slo(slo) => refer_of_slo(&mut references, object, slo)?,
+        Body::AlertPolicy(policy) => refer_of_policy(&mut references, object, policy)?,
+        Body::DataSource(_)
+        | Body::Service(_)
+        | Body::AlertCondition(_)
+        | Body::AlertNotificationTarget(_) => (),
+    }
+    Ok(references)
+}
+
+/// Whether a reference may name a policy that is always there, and does.
+fn is_built_in_policy(reference: &Reference) -> bool
+    ensures { result ≡ is_built_in_policy_lem reference.now }
+{
+    kind_rank(reference.kind) == kind_rank(Kind::AlertPolicy) && is_built_in(&reference.name)
+}
+
+/// Whether a reference names a member, or a policy that is always there.
+fn is_resolved(catalog: &Catalog, reference: &Reference) -> bool
+    ensures { result ≡ is_resolved_lem catalog.now reference.now }
+{
+    catalog.find(reference.kind, reference.name).is_some() || is_built_in_policy(reference)
+}
+
+/// The first of the references that isn't resolved.
+fn unresolved_in(catalog: &Catalog, references: &[Reference]) -> Option<Reference>
+    ensures { result ≡ find (λ r. not (is_resolved_lem catalog.now r)) references.now }
+{
+    for reference in references {
+        if !is_resolved(catalog, reference) {
+            return Some(*reference);
+        }
+    }
+    None
+}
+
+fn unresolved_of(
+    alloc: Global,
+    catalog: &Catalog,
+    object: &Object,
+) -> Result<Option<Reference>, AllocError>
+    ensures { IfOk result (λ first. first ≡ unresolved_of_lem catalog.now object.now) }
+{
+    let references = references(alloc, object)?;
+    Ok(unresolved_in(catalog, &references))
+}
+
+/// The first reference of the objects that isn't resolved in the catalog: in the order of the objects and of their fields.
+pub(crate) fn first_unresolved(
+    alloc: Global,
+    catalog: &Catalog,
+    objects: &[Object],
+) -> Result<Option<Reference>, AllocError>
+    ensures { IfOk result (λ first. first ≡ first_unresolved_lem catalog.now objects.now) }
+{
+    for object in objects {
+        if let Some(reference) = unresolved_of(alloc, catalog, object)? {
+            return Ok(Some(reference));
+        }
+    }
+    Ok(None)
+}
+
+/// Whether a reference is to that kind and name.
+fn is_to(kind: Kind, name: &Label, reference: &Reference) -> bool
+    ensures { result ≡ is_to_lem kind name.now reference.now }
+{
+    kind_rank(reference.kind) == kind_rank(kind) && reference.name.as_bytes() == name.as_bytes()
+}
+
+fn some_is_to(kind: Kind, name: &Label, references: &[Reference]) -> bool
+    ensures { result ≡ list_any (is_to_lem kind name.now) references.now }
+{
+    for reference in references {
+        if is_to(kind, name, reference) {
+            return true;
+        }
+    }
+    false
+}
+
+/// Whether an object refers to that kind and name.
+fn refers_to(alloc: Global, kind: Kind, name: &Label, object: &Object) -> Result<bool, AllocError>
+    ensures { IfOk result (λ answer. answer ≡ refers_to_lem kind name.now object.now) }
+{
+    let references = references(alloc, object)?;
+    Ok(some_is_to(kind, name, &references))
+}
+
+fn referrer_in(
+    alloc: Global,
+    objects: &[Object],
+    kind: Kind,
+    name: Label,
+) -> Result<Option<&Object>, AllocError>
+    ensures { IfOk result (λ first. option_copied first ≡ first_referrer_lem objects.now kind name) }
+{
+    for member in objects {
+        if refers_to(alloc, kind, &name, member)? {
+            return Ok(Some(member));
+        }
+    }
+    Ok(None)
+}
+
+/// The first member, in the catalog's order, that refers to that kind and name.
+pub(crate) fn first_referrer(
+    alloc: Global,
+    catalog: &Catalog,
+    kind: Kind,
+    name: Label,
+) -> Result<Option<&Object>, AllocError>
+    ensures { IfOk result (λ first. option_copied first ≡ first_referrer_lem catalog.now kind name) }
+{
+    referrer_in(alloc, catalog.objects(), kind, name)
+}
+
+/// The reference that is named as unresolved is the first such one of all that the objects have, in the order of the
+/// objects and of their fields; and a list of objects is legal exactly where none of theirs is named.
+#[tactic(auto, using(crate::proofs::SearchLemmas::found_among_all, crate::proofs::SearchLemmas::resolved_in_none, crate::proofs::LegalLemmas::all_resolved))]
+pub fn the_first_reference_to_nothing_is_named()
+    ensures first { (members objects : List Object) → first_unresolved_lem members objects ≡ find (λ r. not (is_resolved_lem members r)) (flat_map references_lem objects) }
+    ensures none { (members : List Object) → IsLegal members → first_unresolved_lem members members ≡ None }
+    ensures legal { (members : List Object) → first_unresolved_lem members members ≡ None → IsLegal members }
+{}
