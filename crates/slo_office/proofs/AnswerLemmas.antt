@@ -12,7 +12,7 @@ use Rattle.slo_office.specs.Answer.{IsBudgetAnswer}
 use Rattle.slo_office.specs.declared.command.BudgetOrder.{BudgetOrder}
 use Rattle.slo_office.specs.declared.ending.RecordFault.{RecordFault}
 use Rattle.slo_office.specs.declared.ending.Refusal.{Refusal}
-use Rattle.slo_office.specs.declared.ending.Refusal.TheVariants.{BadRecord, TooLarge, Yaml}
+use Rattle.slo_office.specs.declared.ending.Refusal.TheVariants.{BadObject, BadRecord, ManyStarts, NotDefined, TooLarge, UnknownZone, Yaml}
 use Rattle.slo_office.specs.declared.ending.Stop.{Stop}
 use Rattle.slo_office.specs.declared.ending.Stop.TheVariants.{Refused}
 use Rattle.slo_office.specs.declared.input.TheConstants.{INPUT_LIMIT}
@@ -47,6 +47,22 @@ answer-unique order bytes (Ok text) (Err (BadRecord number fault)) (few, came, k
     let q = judged-IsFirstFault judge (csv_rows bytes) number fault first in
     absurd (cc (p, q))
 answer-unique order bytes (Ok text) (Err (Yaml line word)) a b = absurd b
+answer-unique order bytes (Ok text) (Err (BadObject document field rule)) a b = absurd b
+answer-unique order bytes (Ok text) (Err (NotDefined fault)) a b = absurd b
+answer-unique order bytes (Ok text) (Err (UnknownZone name)) a b = absurd b
+answer-unique order bytes (Ok text) (Err ManyStarts) a b = absurd b
+answer-unique order bytes (Err TooLarge) (Err (BadObject document field rule)) a b = absurd b
+answer-unique order bytes (Err TooLarge) (Err (NotDefined fault)) a b = absurd b
+answer-unique order bytes (Err TooLarge) (Err (UnknownZone name)) a b = absurd b
+answer-unique order bytes (Err TooLarge) (Err ManyStarts) a b = absurd b
+answer-unique order bytes (Err (BadRecord number fault)) (Err (BadObject document field rule)) a b = absurd b
+answer-unique order bytes (Err (BadRecord number fault)) (Err (NotDefined reason)) a b = absurd b
+answer-unique order bytes (Err (BadRecord number fault)) (Err (UnknownZone name)) a b = absurd b
+answer-unique order bytes (Err (BadRecord number fault)) (Err ManyStarts) a b = absurd b
+answer-unique order bytes (Err (BadObject document field rule)) other a b = absurd a
+answer-unique order bytes (Err (NotDefined fault)) other a b = absurd a
+answer-unique order bytes (Err (UnknownZone name)) other a b = absurd a
+answer-unique order bytes (Err ManyStarts) other a b = absurd a
 answer-unique order bytes (Err TooLarge) (Err (Yaml line word)) a b = absurd b
 answer-unique order bytes (Err (BadRecord number fault)) (Err (Yaml line word)) a b = absurd b
 answer-unique order bytes (Err (Yaml line word)) other a b = absurd a

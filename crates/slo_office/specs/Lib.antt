@@ -3,6 +3,8 @@ pub mod Commands
 pub mod Rows
 pub mod BudgetText
 pub mod CheckText
+pub mod Documents
+pub mod Defining
 pub mod Endings
 pub mod Answer
 pub mod Runs

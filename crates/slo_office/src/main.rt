@@ -8,6 +8,7 @@ mod budget;
 mod budget_text;
 mod check;
 mod command;
+mod defining;
 mod ending;
 mod input;
 mod laws;

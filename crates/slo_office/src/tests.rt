@@ -2,6 +2,7 @@
 
 use crate::run::run;
 use office_outside::{MemorySink, MemorySource, Plan};
+use std::alloc::{AllocError, Global};
 use std::process::Abort;
 use std::test::Fail;
 
@@ -345,35 +346,41 @@ fn refuses_an_input_that_is_too_large(rt: HostRuntime) -> Result<(), Fail> {
     Ok(())
 }
 
-/// Documents are counted, and the first line that has no place is named by its row.
+/// A run of `check` over a text ends so: with these lines on the output, or refused with them.
+fn expect_check(
+    rt: &(impl AllocGlobal + Abort),
+    text: &str,
+    status: u8,
+    lines: &str,
+) -> Result<(), Fail> {
+    let left = run_over(rt, "check", text.as_bytes(), CALM)?;
+    let (output, faults) = if status == 0 {
+        (lines, "")
+    } else {
+        ("", lines)
+    };
+    assert_eq!(rt; left.status, status, "at {text:?}");
+    assert_eq!(rt; left.output.as_slice(), output.as_bytes(), "at {text:?}");
+    assert_eq!(rt; left.faults.as_slice(), faults.as_bytes(), "at {text:?}");
+    Ok(())
+}
+
+/// The first line that has no place is named by its row.
 #[test]
-fn checks_documents(rt: HostRuntime) -> Result<(), Fail> {
+fn names_the_line_without_a_place(rt: HostRuntime) -> Result<(), Fail> {
     let texts = [
-        ("", 0, "documents 0\n"),
-        ("a: 1\n---\n- b\n", 0, "documents 2\n"),
-        ("---\n---\n# nothing\n", 0, "documents 0\n"),
-        ("\u{feff}a: 'it''s'\n", 0, "documents 1\n"),
-        (
-            "a: >-\n  one\n  two\n\n  three\nb: |+\n  x\n\n",
-            0,
-            "documents 1\n",
-        ),
-        ("a: 1\na: 2\n", 9, "slo_office: yaml 2 duplicate_key\n"),
-        ("a: 1\n\tb: 2\n", 9, "slo_office: yaml 2 tab\n"),
-        ("a:\n    b: 1\n  c: 2\n", 9, "slo_office: yaml 3 indent\n"),
-        ("a: b: c\n", 9, "slo_office: yaml 1 colon\n"),
-        ("a: [b, [c]]\n", 9, "slo_office: yaml 1 left_out\n"),
-        ("a: [b c\n", 9, "slo_office: yaml 1 flow_form\n"),
-        ("a: 'b\n", 9, "slo_office: yaml 1 quote\n"),
-        ("a: \"\\q\"\n", 9, "slo_office: yaml 1 escape\n"),
-        ("a: \u{7f}\n", 9, "slo_office: yaml 1 control\n"),
+        ("a: 1\na: 2\n", "slo_office: yaml 2 duplicate_key\n"),
+        ("a: 1\n\tb: 2\n", "slo_office: yaml 2 tab\n"),
+        ("a:\n    b: 1\n  c: 2\n", "slo_office: yaml 3 indent\n"),
+        ("a: b: c\n", "slo_office: yaml 1 colon\n"),
+        ("a: [b, [c]]\n", "slo_office: yaml 1 left_out\n"),
+        ("a: [b c\n", "slo_office: yaml 1 flow_form\n"),
+        ("a: 'b\n", "slo_office: yaml 1 quote\n"),
+        ("a: \"\\q\"\n", "slo_office: yaml 1 escape\n"),
+        ("a: \u{7f}\n", "slo_office: yaml 1 control\n"),
     ];
-    for (text, status, line) in texts {
-        let left = run_over(&rt, "check", text.as_bytes(), CALM)?;
-        let (output, faults) = if status == 0 { (line, "") } else { ("", line) };
-        assert_eq!(rt; left.status, status, "at {text:?}");
-        assert_eq!(rt; left.output.as_slice(), output.as_bytes(), "at {text:?}");
-        assert_eq!(rt; left.faults.as_slice(), faults.as_bytes(), "at {text:?}");
+    for (text, line) in texts {
+        expect_check(&rt, text, 9, line)?;
     }
     let left = run_over(&rt, "check", b"a: \xff\n", CALM)?;
     assert_eq!(rt;
@@ -381,6 +388,270 @@ fn checks_documents(rt: HostRuntime) -> Result<(), Fail> {
         b"slo_office: yaml 0 not_utf8\n".as_slice()
     );
     Ok(())
+}
+
+/// A document of a Service.
+const SERVICE: &str = "\
+apiVersion: openslo/v1
+kind: Service
+metadata:
+  name: shop
+spec: {}
+";
+
+/// A document of a policy whose condition stands inline.
+const POLICY: &str = "\
+apiVersion: openslo/v1
+kind: AlertPolicy
+metadata:
+  name: shop-alerts
+spec:
+  conditions:
+  - metadata:
+      name: fast-burn
+    spec:
+      severity: page
+      condition:
+        threshold: 2
+        lookbackWindow: 1h
+";
+
+/// A document of an SLO.
+const SLO: &str = "\
+apiVersion: openslo/v1
+kind: SLO
+metadata:
+  name: shop-slo
+spec:
+  service: shop
+  indicatorRef: shop-good
+  timeWindow:
+  - duration: 30d
+    isRolling: true
+  budgetingMethod: Occurrences
+  objectives:
+  - displayName: Availability
+    target: 0.999
+  alertPolicies:
+  - alertPolicyRef: shop-alerts
+  - workbook-page
+";
+
+/// The targets of the shop's alerts.
+const TARGETS: &str = "\
+apiVersion: openslo/v1
+kind: AlertNotificationTarget
+metadata:
+  name: on-call
+spec:
+  target: pager
+---
+apiVersion: openslo/v1
+kind: AlertNotificationTarget
+metadata:
+  name: desk
+spec:
+  target: ticket  # the service desk
+";
+
+/// The objects that the SLO and its policy refer to, but for the targets.
+const SHOP: &str = "\
+apiVersion: openslo/v1
+kind: Service
+metadata:
+  name: shop
+  displayName: Shop front
+spec:
+  description: The public shop.
+---
+apiVersion: openslo/v1
+kind: SLI
+metadata:
+  name: shop-good
+spec:
+  ratioMetric:
+    counter: true
+    good:
+      metricSource:
+        type: Prometheus
+        spec:
+          query: |
+            sum(http_requests{code!~\"5..\"})
+    total:
+      metricSource:
+        type: Prometheus
+        spec:
+          query: sum(http_requests)
+---
+apiVersion: openslo/v1
+kind: AlertCondition
+metadata:
+  name: fast-burn
+spec:
+  severity: page
+  condition:
+    kind: burnrate
+    op: gt
+    threshold: 2
+    lookbackWindow: 1h
+    alertAfter: 5m
+---
+apiVersion: openslo/v1
+kind: AlertPolicy
+metadata:
+  name: shop-alerts
+spec:
+  alertWhenBreaching: true
+  alertWhenResolved: true
+  conditions:
+  - conditionRef: fast-burn
+  notificationTargets:
+  - targetRef: on-call
+  - targetRef: desk
+";
+
+/// Documents are counted, and the objects that they stand for, those that stand inline too.
+#[test]
+fn counts_documents_and_objects(rt: HostRuntime) -> Result<(), Fail> {
+    let alloc = rt.alloc();
+    expect_check(&rt, "", 0, "documents 0\nobjects 0\n")?;
+    expect_check(&rt, "---\n---\n# nothing\n", 0, "documents 0\nobjects 0\n")?;
+    let marked = format!(in alloc; "\u{feff}{SERVICE}")?;
+    expect_check(&rt, &marked, 0, "documents 1\nobjects 1\n")?;
+    expect_check(&rt, POLICY, 0, "documents 1\nobjects 2\n")?;
+    let both = format!(in alloc; "{SERVICE}---\n{POLICY}...\n{SERVICE}")?;
+    expect_check(&rt, &both, 0, "documents 3\nobjects 4\n")
+}
+
+/// The first document that stands for no objects is named, with the field and the rule that it breaks.
+#[test]
+fn names_the_document_and_the_field(rt: HostRuntime) -> Result<(), Fail> {
+    let alloc = rt.alloc();
+    expect_check(&rt, "- b\n", 9, "slo_office: object 1 document not_map\n")?;
+    expect_check(
+        &rt,
+        "a: 1\n",
+        9,
+        "slo_office: object 1 apiVersion missing\n",
+    )?;
+    let second = format!(in alloc; "{SERVICE}---\n{SERVICE}  x y: 1\n")?;
+    expect_check(&rt, &second, 9, "slo_office: yaml 12 indent\n")?;
+    let second = format!(in alloc; "{SERVICE}---\n{SERVICE}x y: 1\n---\n- b\n")?;
+    expect_check(&rt, &second, 9, "slo_office: object 2 x y unknown_field\n")
+}
+
+/// What an SLO with one line changed is refused for.
+#[test]
+fn names_the_fault_of_an_slo(rt: HostRuntime) -> Result<(), Fail> {
+    let alloc = rt.alloc();
+    expect_check(
+        &rt,
+        SLO,
+        9,
+        "slo_office: unresolved SLO shop-slo Service shop\n",
+    )?;
+    let changes = [
+        ("target: 0.999", "target: 1", "target out_of_range"),
+        (
+            "target: 0.999",
+            "target: 0.999\n    targetPercent: 99",
+            "target both",
+        ),
+        ("name: shop-slo", "name: Shop", "name bad_name"),
+        ("\n    isRolling: true", "", "calendar missing"),
+        ("kind: SLO", "kind: Slo", "kind bad_kind"),
+        (
+            "\n  - duration: 30d\n    isRolling: true",
+            " 30d",
+            "timeWindow not_list",
+        ),
+        (
+            "\n  - displayName: Availability\n    target: 0.999",
+            " []",
+            "objectives list_length",
+        ),
+    ];
+    for (old, new, fault) in changes {
+        let text = SLO.replace(alloc, old, new)?;
+        let line = format!(in alloc; "slo_office: object 1 {fault}\n")?;
+        expect_check(&rt, &text, 9, &line)?;
+    }
+    Ok(())
+}
+
+/// Objects are defined together: each reference names one of them, or a built-in policy.
+#[test]
+fn judges_objects_together(rt: HostRuntime) -> Result<(), Fail> {
+    let alloc = rt.alloc();
+    let whole = format!(in alloc; "{TARGETS}---\n{SHOP}---\n{SLO}")?;
+    expect_check(&rt, &whole, 0, "documents 7\nobjects 7\n")?;
+    let later = format!(in alloc; "{SLO}---\n{SHOP}---\n{TARGETS}")?;
+    expect_check(&rt, &later, 0, "documents 7\nobjects 7\n")?;
+    let alone = format!(in alloc; "{SHOP}---\n{SLO}")?;
+    let line = "slo_office: unresolved AlertPolicy shop-alerts AlertNotificationTarget on-call\n";
+    expect_check(&rt, &alone, 9, line)?;
+    let twice = format!(in alloc; "{TARGETS}---\n{TARGETS}")?;
+    expect_check(&rt, &twice, 0, "documents 4\nobjects 4\n")?;
+    let other = TARGETS.replace(alloc, "ticket", "ticket2")?;
+    let both = format!(in alloc; "{TARGETS}---\n{other}")?;
+    let line = "slo_office: duplicate AlertNotificationTarget desk\n";
+    expect_check(&rt, &both, 9, line)?;
+    let reserved = POLICY.replace(alloc, "shop-alerts", "workbook-page")?;
+    expect_check(&rt, &reserved, 9, "slo_office: reserved workbook-page\n")
+}
+
+/// The SLO over a calendar that begins at a moment in a zone, with the objects that it refers to.
+fn calendar_text(
+    alloc: Global,
+    duration: &str,
+    start: &str,
+    zone: &str,
+) -> Result<String, AllocError> {
+    let window = format!(in alloc;
+        "duration: {duration}\n    calendar:\n      startTime: {start}\n      timeZone: {zone}"
+    )?;
+    let slo = SLO.replace(alloc, "duration: 30d\n    isRolling: true", &window)?;
+    format!(in alloc; "{TARGETS}---\n{SHOP}---\n{slo}")
+}
+
+/// Windows of a calendar are in `UTC`, and begin at most 40,000 times.
+#[test]
+fn judges_calendars(rt: HostRuntime) -> Result<(), Fail> {
+    let alloc = rt.alloc();
+    let good = "documents 7\nobjects 7\n";
+    let text = calendar_text(alloc, "1M", "2020-01-21 12:30:00", "UTC")?;
+    expect_check(&rt, &text, 0, good)?;
+    let text = calendar_text(alloc, "1d", "2020-01-21 12:30:00", "UTC")?;
+    expect_check(&rt, &text, 0, good)?;
+    let text = calendar_text(alloc, "1d", "1971-01-01 00:00:00", "UTC")?;
+    expect_check(&rt, &text, 9, "slo_office: limit starts\n")?;
+    let text = calendar_text(alloc, "1d", "1971-01-01 00:00:00", "Europe/Berlin")?;
+    expect_check(&rt, &text, 9, "slo_office: unknown_zone Europe/Berlin\n")
+}
+
+/// An objective over an indicator with a threshold needs an operator and a value.
+#[test]
+fn judges_objectives_over_values(rt: HostRuntime) -> Result<(), Fail> {
+    let alloc = rt.alloc();
+    let sli = "\
+apiVersion: openslo/v1
+kind: SLI
+metadata:
+  name: shop-good
+spec:
+  thresholdMetric:
+    metricSource:
+      type: Prometheus
+";
+    let slo = SLO.replace(
+        alloc,
+        "    target: 0.999",
+        "    op: lte\n    value: 0.5\n    target: 0.999",
+    )?;
+    let whole = format!(in alloc; "{SERVICE}---\n{sli}---\n{POLICY}---\n{slo}")?;
+    expect_check(&rt, &whole, 0, "documents 4\nobjects 5\n")?;
+    let lacking = format!(in alloc; "{SERVICE}---\n{sli}---\n{POLICY}---\n{SLO}")?;
+    expect_check(&rt, &lacking, 9, "slo_office: needs_op 0 shop-slo\n")
 }
 
 /// Depth and size are counted.
@@ -392,7 +663,10 @@ fn checks_depth_and_size(rt: HostRuntime) -> Result<(), Fail> {
         dashes.extend_from_slice(b"- ")?;
     }
     let left = run_over(&rt, "check", &dashes, CALM)?;
-    assert_eq!(rt; left.output.as_slice(), b"documents 1\n".as_slice());
+    assert_eq!(rt;
+        left.faults.as_slice(),
+        b"slo_office: object 1 document not_map\n".as_slice()
+    );
     dashes.extend_from_slice(b"- ")?;
     let left = run_over(&rt, "check", &dashes, CALM)?;
     assert_eq!(rt;
