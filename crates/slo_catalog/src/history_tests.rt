@@ -1,6 +1,8 @@
 //! Catalogs under definitions and removals, one after another.
 use crate::test_texts::objects_of;
-use crate::{Catalog, CatalogFault, DefineError, RemoveError, RemoveFault, define, remove};
+use crate::{
+    Binding, Catalog, CatalogFault, DefineError, RemoveError, RemoveFault, define, remove,
+};
 use exact_fraction::{Label, read_label};
 use slo_objects::Kind;
 use std::alloc::Global;
@@ -121,6 +123,29 @@ fn shop_is_as_written(alloc: Global) -> Option<bool> {
 #[test]
 fn the_sample_texts_make_a_catalog(rt: HostRuntime) -> Result<(), Fail> {
     assert_eq!(rt; shop_is_as_written(rt.alloc()), Some(true));
+    Ok(())
+}
+
+/// Whether a binding is of the shop's objective and of this policy.
+fn binds_shop(binding: &Binding, policy: &str) -> bool {
+    binding.slo.as_str() == "shop-slo"
+        && binding.objective == 0
+        && binding.policy.as_str() == policy
+}
+
+fn shop_has_its_bindings(alloc: Global) -> Option<bool> {
+    let shop = shop(alloc)?;
+    let bindings = shop.bindings(alloc).ok()?;
+    Some(
+        bindings.len() == 2
+            && binds_shop(&bindings[0], "shop-alerts")
+            && binds_shop(&bindings[1], "workbook-page"),
+    )
+}
+
+#[test]
+fn the_sample_texts_bind_their_policies(rt: HostRuntime) -> Result<(), Fail> {
+    assert_eq!(rt; shop_has_its_bindings(rt.alloc()), Some(true));
     Ok(())
 }
 
