@@ -8,7 +8,8 @@ use Rattle.std.proofs.lemmas.List.Elements.{All-push}
 use Rattle.std.proofs.lemmas.Nat.{mod_below}
 use Rattle.slice_method.specs.declared.amount.Counts.{Counts}
 use Rattle.slice_method.specs.declared.method.Method.{Method}
-use Rattle.window_sums.specs.Slices.{AreFew, AreSound, CountedDays, IsKept, counts_after, counts_of, day_of, exchanged, exchanged_at, has_day, no_counts, slice_of, slices_a_day, slices_of, width_of}
+use Rattle.slo_terms.specs.Sums.{AreFew}
+use Rattle.window_sums.specs.Slices.{AreSoundCounts, CountedDays, IsKept, counts_after, counts_of, day_of, exchanged, exchanged_at, has_day, no_counts, slice_of, slices_a_day, slices_of, width_of}
 use Rattle.window_sums.proofs.DayFacts.{counts-added, counts-changed}
 use Rattle.window_sums.proofs.SoundFacts.{after-here, few-one, sound-same}
 use Rattle.window_sums.proofs.SumFacts.{sum_over-none}
@@ -63,7 +64,7 @@ counts_of-after sums minute before after kept there k =
     (place-within sums minute kept there) (day_of_slice (width_of sums.method) minute kept.divides) k
 
 pub IsKept-after : (sums : CountedDays) (minute : ℕ) (before after : Counts) → IsKept sums → IsTrue (has_day sums (day_of minute)) →
-    AreSound sums.method (counts_after sums minute before after) → IsKept (record { method = sums.method; days = days_after sums minute before after })
+    AreSoundCounts sums.method (counts_after sums minute before after) → IsKept (record { method = sums.method; days = days_after sums minute before after })
 IsKept-after sums minute before after kept there sound = record {
   divides = kept.divides;
   whole = All-values-set_value (nat_eq (day_of minute)) (λ slices. length slices ≡ slices_a_day sums.method) sums.days

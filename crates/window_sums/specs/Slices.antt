@@ -1,12 +1,13 @@
 -- The counts of each slice of time, kept day by day.
-use Rattle.std.specs.Prelude.{ℕ, Bool, ◌+◌, ◌-◌, ◌*◌, ◌/◌, ◌%◌, ◌^◌, ◌≤◌, ◌≡◌, ◌==◌, nat_eq, is_some, List, [], All, length, unwrap_or, slice_index_or, slice_set, if◌then◌else◌}
+use Rattle.std.specs.Prelude.{ℕ, Bool, ◌+◌, ◌-◌, ◌*◌, ◌/◌, ◌%◌, ◌≤◌, ◌≡◌, ◌==◌, nat_eq, is_some, List, [], All, length, unwrap_or, slice_index_or, slice_set, if◌then◌else◌}
 use Rattle.std.specs.Int.{◌∣◌}
 use Rattle.std.specs.Map.{lookup, values_of}
 use Rattle.slice_method.specs.declared.amount.Counts.{Counts}
 use Rattle.slice_method.specs.declared.method.Method.{Method}
 use Rattle.slice_method.specs.declared.method.Method.TheVariants.{Occurrences, Timeslices, RatioTimeslices}
 use Rattle.slice_method.specs.Leaves.{leaf}
-use Rattle.slo_terms.specs.Sums.{sum_over}
+use Rattle.exact_fraction.specs.declared.leaf.Leaf.{Leaf}
+use Rattle.slo_terms.specs.Sums.{AreFew, sum_over}
 
 -- how many minutes a slice has (OpenSLO v1, `timeSliceWindow`); events are counted minute by minute
 abbrev pub width_of : Method → ℕ
@@ -43,6 +44,10 @@ abbrev pub counts_of : CountedDays → ℕ → Counts
 counts_of sums slice =
     slice_index_or (slices_of sums.days (slice / slices_a_day sums.method)) (slice % slices_a_day sums.method) no_counts
 
+-- the leaf of a slice
+abbrev pub leaf_at : CountedDays → ℕ → Leaf
+leaf_at sums slice = leaf sums.method (counts_of sums slice)
+
 -- whether a day is there
 abbrev pub has_day : CountedDays → ℕ → Bool
 has_day sums day = is_some (lookup (nat_eq day) sums.days)
@@ -65,16 +70,8 @@ counts_after sums minute before after slice =
 abbrev pub IsPart : Counts → Type 0
 IsPart counts = counts.good ≤ counts.total
 
--- the most events of all slices together: with that many, burn rates fit 128 bits
-abbrev pub most_events : ℕ
-most_events = 4 * 10 ^ 15
-
--- What f gives for all slices together is at most that: so it is over any slices, however many.
-abbrev pub AreFew : (ℕ → ℕ) → Type 0
-AreFew f = (first count : ℕ) → sum_over f first count ≤ most_events
-
 -- what is kept of the counts of each slice
-pub record AreSound (method : Method) (counts : ℕ → Counts) : Type 0 where
+pub record AreSoundCounts (method : Method) (counts : ℕ → Counts) : Type 0 where
   pub parts : (slice : ℕ) → IsPart (counts slice)
   pub events : AreFew (λ slice. (counts slice).total)
   pub leaves : AreFew (λ slice. (leaf method (counts slice)).den)
@@ -88,4 +85,4 @@ pub record HasAtMost (method : Method) (counts : ℕ → Counts) (most : ℕ) : 
 pub record IsKept (sums : CountedDays) : Type 0 where
   pub divides : width_of sums.method ∣ 60
   pub whole : All (λ slices. length slices ≡ slices_a_day sums.method) (values_of sums.days)
-  pub sound : AreSound sums.method (counts_of sums)
+  pub sound : AreSoundCounts sums.method (counts_of sums)

@@ -1,7 +1,8 @@
 // The worked rows.
 ghost use Rattle.std.specs.Prelude.{◌≡◌, ◌≢◌, ℕ, ◌+◌, ◌<◌, ◌≤◌};
 ghost use Rattle.std.specs.Int.{◌∣◌};
-ghost use Rattle.window_sums.specs.Slices.{HasAtMost, IsPart, counts_of, exchanged, most_events, no_counts, slice_of, width_of};
+ghost use Rattle.window_sums.specs.Slices.{HasAtMost, IsPart, counts_of, exchanged, no_counts, slice_of, width_of};
+ghost use Rattle.slo_terms.specs.Sums.{most_events};
 
 use super::*;
 use counted_steps::Steps;

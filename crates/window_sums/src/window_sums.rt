@@ -3,8 +3,8 @@ ghost use Rattle.std.specs.Prelude.{◌≡◌, ℕ, ◌+◌, ◌-◌, ◌<◌, �
 ghost use Rattle.std.specs.Int.{◌∣◌};
 ghost use Rattle.std.specs.Map.{lookup, set_value};
 ghost use Rattle.slice_method.specs.Leaves.{leaf};
-ghost use Rattle.slo_terms.specs.Sums.{slice_from, slices_until, sum_of_slices, sum_over};
-ghost use Rattle.window_sums.specs.Slices.{AreFew, IsPart, counts_after, counts_of, day_of, exchanged, exchanged_at, has_day, most_events, no_counts, slice_of, slices_a_day, slices_of, width_of};
+ghost use Rattle.slo_terms.specs.Sums.{AreFew, AreSound, most_events, slice_from, slices_until, sum_of_slices, sum_over};
+ghost use Rattle.window_sums.specs.Slices.{IsPart, counts_after, counts_of, day_of, exchanged, exchanged_at, has_day, leaf_at, no_counts, slice_of, slices_a_day, slices_of, width_of};
 
 use crate::day::Day;
 use crate::widths::{place_of, slices_a_day, width_of};
@@ -51,6 +51,29 @@ impl WindowSums {
         }
     }
 
+    /// The method that was given to `new`.
+    pub fn method(&self) -> Method
+        ensures { result ≡ self.now.method }
+    {
+        self.method
+    }
+
+    /// How many minutes a slice has: a divisor of 60.
+    pub fn width(&self) -> u32
+        ensures value { result ≡ width_of self.now.method }
+        ensures some { 0 < result }
+        ensures few { result ≤ 60 }
+    {
+        width_of(&self.method)
+    }
+
+    /// No work: what holds of the leaves of all slices.
+    pub fn sound(&self)
+        ensures { AreSound (leaf_at self.now) }
+    {
+        let _method = &self.method;
+    }
+
     /// Makes the day of a minute be there. After an error all is as before.
     pub fn reserve(&mut self, minute: u32) -> Result<(), AllocError>
         ensures method { self.new.method ≡ self.old.method }
@@ -87,13 +110,24 @@ impl WindowSums {
         exchange_in(&mut self.days, day, place, before, after);
     }
 
-    /// The leaves of all slices that lie wholly in [from, to), added up, in at most one step for
-    /// each of them.
+    /// The leaf of a slice, in one step: (0, 0) where its day isn't there.
+    pub fn slice<L: Ledger>(&self, slice: u32, steps: &mut Steps<L>) -> Leaf
+        ensures value { result ≡ leaf_at self.now slice }
+        ensures cost { steps.new ≡ steps.old + 1 }
+    {
+        steps.tick();
+        leaf_of(self.method, self.counts(slice))
+    }
+
+    /// The leaves of all slices that lie wholly in [from, to), added up. A step is a leaf, an
+    /// hour's total or a day's that is read: at most one for each slice, and at most 600 where the
+    /// range has at most 400 days.
     pub fn sum<L: Ledger>(&self, from: u32, to: u32, steps: &mut Steps<L>) -> Leaf
         requires range { from ≤ to }
-        ensures value { result ≡ sum_of_slices (width_of self.now.method) (λ slice. leaf self.now.method (counts_of self.now slice)) from to }
+        ensures value { result ≡ sum_of_slices (width_of self.now.method) (leaf_at self.now) from to }
         ensures part { result.num ≤ result.den }
         ensures few { result.den ≤ most_events }
+        ensures bounded { to - from ≤ 576000 → steps.new ≤ steps.old + 600 }
         ensures short { steps.new ≤ steps.old + (slices_until (width_of self.now.method) to - slice_from (width_of self.now.method) from) }
     {
         // Leaves are computed from counts here, and none is read that was kept: no step is taken.

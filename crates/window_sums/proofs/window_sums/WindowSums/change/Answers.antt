@@ -1,7 +1,8 @@
 use Rattle.std.proofs.Common.{◌≤◌, ap, sym, subst, ◌∙◌, arith, nat_eq, is_some, IsTrue}
 use Rattle.std.specs.Map.{lookup, set_value}
 use Rattle.slice_method.specs.Leaves.{leaf}
-use Rattle.window_sums.specs.Slices.{AreFew, CountedDays, IsKept, counts_after, counts_of, day_of, exchanged_at, has_day, slice_of, slices_of}
+use Rattle.slo_terms.specs.Sums.{AreFew}
+use Rattle.window_sums.specs.Slices.{CountedDays, IsKept, counts_after, counts_of, day_of, exchanged_at, has_day, slice_of, slices_of}
 use Rattle.window_sums.proofs.DayFacts.{days-changed}
 use Rattle.window_sums.proofs.KeptFacts.{IsKept-after, counts-here, counts_of-after, good-fits, place-within, total-fits}
 use Rattle.window_sums.proofs.SoundFacts.{sound-after}

@@ -2,7 +2,7 @@ use Rattle.std.proofs.Common.{◌≡◌, ◌+◌, ◌-◌, arith, ap, sym, subst
 use Rattle.exact_fraction.specs.declared.leaf.Leaf.{Leaf}
 use Rattle.slice_method.specs.Leaves.{leaf}
 use Rattle.slo_terms.specs.Sums.{sum_over}
-use Rattle.window_sums.specs.Slices.{AreSound, CountedDays, counts_of}
+use Rattle.window_sums.specs.Slices.{AreSoundCounts, CountedDays, counts_of}
 use Rattle.window_sums.proofs.SumFacts.{sum_over-next, sum_over-start}
 use Rattle.window_sums.proofs.window_sums.WindowSums.sum_from.Goals as goal
 
@@ -17,7 +17,7 @@ loop-slice-init c = record {
 pub overflow_add-sum : goal.overflow_add-sum
 overflow_add-sum c =
     let sums = c.args.self.now in
-    let sound = subst (λ (s : CountedDays). AreSound s.method (counts_of s)) c.self.view_is c.self.invariant.sound in
+    let sound = subst (λ (s : CountedDays). AreSoundCounts s.method (counts_of s)) c.self.view_is c.self.invariant.sound in
     let leaf_is : c.leaf_of-leaf.result ≡ leaf sums.method (counts_of sums c.loop-slice.slice) =
     c.leaf_of-leaf.ensures.leaf ∙ ap (λ (s : CountedDays). leaf s.method c.counts.result) c.self.view_is ∙ ap (λ x. leaf sums.method x) c.counts.ensures.value in
     let den = sum_over-next (λ k. (leaf sums.method (counts_of sums k)).den) c.args.first c.loop-slice.slice c.loop-slice.auto.slice in
@@ -27,7 +27,7 @@ overflow_add-sum c =
 pub overflow_add-sum-in-loop-slice : goal.overflow_add-sum-in-loop-slice
 overflow_add-sum-in-loop-slice c =
     let sums = c.args.self.now in
-    let sound = subst (λ (s : CountedDays). AreSound s.method (counts_of s)) c.self.view_is c.self.invariant.sound in
+    let sound = subst (λ (s : CountedDays). AreSoundCounts s.method (counts_of s)) c.self.view_is c.self.invariant.sound in
     let leaf_is : c.leaf_of-leaf.result ≡ leaf sums.method (counts_of sums c.loop-slice.slice) =
     c.leaf_of-leaf.ensures.leaf ∙ ap (λ (s : CountedDays). leaf s.method c.counts.result) c.self.view_is ∙ ap (λ x. leaf sums.method x) c.counts.ensures.value in
     let den = sum_over-next (λ k. (leaf sums.method (counts_of sums k)).den) c.args.first c.loop-slice.slice c.loop-slice.auto.slice in
@@ -60,5 +60,5 @@ returns-clause-den c =
 
 pub returns-clause-few : goal.returns-clause-few
 returns-clause-few c =
-    let sound = subst (λ (s : CountedDays). AreSound s.method (counts_of s)) c.self.view_is c.self.invariant.sound in
+    let sound = subst (λ (s : CountedDays). AreSoundCounts s.method (counts_of s)) c.self.view_is c.self.invariant.sound in
     omega (arith, c.loop-slice.invariant.den, sound.leaves c.args.first (c.loop-slice.slice - c.args.first))
