@@ -1,0 +1,3 @@
+pub mod DayLemmas
+mod PageFacts
+mod PagesFacts

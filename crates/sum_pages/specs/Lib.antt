@@ -1,0 +1,2 @@
+pub mod DayTables
+pub mod Pages
