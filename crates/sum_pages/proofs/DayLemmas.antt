@@ -1,5 +1,5 @@
 -- Tables of days, after a value of one day was changed or a day was added.
-use Rattle.std.proofs.Common.{◌≡◌, ◌≢◌, ◌⊎◌, ℕ, ◌+◌, ◌/◌, ◌%◌, ◌*◌, ◌<◌, ◌==◌, zero, suc, Bool, true, false, cond, not, nat_eq, nat_lt, List, [], ◌∷◌, ◌++◌, All, length, replicate, refl, sym, ap, subst, ◌∙◌, arith, Option, Some, None, IfSome, IsTrue, is_some, unwrap_or, position, slice_index_or, slice_set, inl, inr, if◌then◌else◌}
+use Rattle.std.proofs.Common.{◌≡◌, ◌≢◌, ◌⊎◌, ℕ, ◌+◌, ◌/◌, ◌%◌, ◌*◌, ◌<◌, ◌==◌, ◌||◌, zero, suc, Bool, true, false, cond, not, nat_eq, nat_lt, List, [], ◌∷◌, ◌++◌, All, length, replicate, refl, sym, ap, subst, ◌∙◌, arith, Option, Some, None, IfSome, IsTrue, is_some, unwrap_or, position, slice_index_or, slice_set, inl, inr, if◌then◌else◌}
 use Rattle.std.specs.List.{position_or_len}
 use Rattle.std.specs.Map.{lookup, set_value, keys_of, values_of}
 use Rattle.indexmap.specs.IndexMap.{set_value_at}
@@ -122,3 +122,18 @@ value_at-added {X} nothing (e ∷ es) day n q k = by (nat_eq q e.0) (value_at-ad
 pub values_of-push : {X : Type 0} (es : List (ℕ × List X)) (day : ℕ) (values : List X) → values_of (es ++ (day, values) ∷ []) ≡ values_of es ++ values ∷ []
 values_of-push [] day values = refl
 values_of-push (e ∷ es) day values = ap (λ l. e.1 ∷ l) (values_of-push es day values)
+
+-- a day that was added is there, and no other comes
+pub days-added : {X : Type 0} (days : List (ℕ × List X)) (day q : ℕ) (values : List X) →
+    is_day_of (days ++ (day, values) ∷ []) q ≡ (is_day_of days q || q == day)
+days-added {X} [] day q values = by (nat_eq q day)
+  where
+    by : (b : Bool) → is_some (cond b (Some values) None) ≡ b
+    by true = refl
+    by false = refl
+days-added {X} (e ∷ es) day q values = by (nat_eq q e.0) (days-added es day q values)
+  where
+    by : (b : Bool) → is_day_of (es ++ (day, values) ∷ []) q ≡ (is_day_of es q || q == day) →
+        is_some (cond b (Some e.1) (lookup (nat_eq q) (es ++ (day, values) ∷ []))) ≡ (is_some (cond b (Some e.1) (lookup (nat_eq q) es)) || q == day)
+    by true rest = refl
+    by false rest = rest

@@ -1,6 +1,5 @@
-pub mod SumFacts
 pub mod WidthFacts
-pub mod DayFacts
+pub mod RangeFacts
 pub mod SoundFacts
 pub mod KeptFacts
 pub mod RaisedFacts

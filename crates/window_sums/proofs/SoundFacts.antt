@@ -9,8 +9,8 @@ use Rattle.slice_method.specs.declared.method.Method.TheVariants.{Occurrences, T
 use Rattle.slice_method.specs.Leaves.{is_at_least, leaf, leaf_with_data}
 use Rattle.exact_fraction.specs.declared.leaf.Leaf.{Leaf}
 use Rattle.slo_terms.specs.Sums.{AreFew, AreSound}
+use Rattle.slo_terms.proofs.RangeLemmas.{sum_over-one, sum_over-same}
 use Rattle.window_sums.specs.Slices.{AreSoundCounts, CountedDays, counts_after, counts_of, exchanged, leaf_at, slice_of}
-use Rattle.window_sums.proofs.SumFacts.{sum_over-one, sum_over-same}
 
 -- one place has no more than all of them
 pub few-one : (f : ℕ → ℕ) → AreFew f → (k : ℕ) → f k ≤ 4000000000000000

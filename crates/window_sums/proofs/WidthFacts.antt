@@ -1,7 +1,8 @@
 -- Widths that divide an hour, and the slices of a day.
-use Rattle.std.proofs.Common.{◌≡◌, ℕ, ◌+◌, ◌-◌, ◌*◌, min, ◌/◌, ◌%◌, ◌<◌, ◌≤◌, ◌⊎◌, inl, inr, zero, suc, subst, ap, sym, ◌∙◌, arith}
+use Rattle.std.proofs.Common.{◌≡◌, ℕ, ◌+◌, ◌-◌, ◌*◌, min, ◌/◌, ◌%◌, ◌<◌, ◌≤◌, ◌⊎◌, inl, inr, nat_le, true, false, zero, suc, subst, ap, sym, ◌∙◌, arith}
 use Rattle.std.specs.Int.{◌∣◌, div_ceil}
-use Rattle.std.proofs.Math.Nat.{pos_of_dvd_of_pos, mul-div_cancel', div-div-eq-div-mul, div-add-mod'}
+use Rattle.std.proofs.Math.Nat.{div-add-mod', div-div-eq-div-mul, div-mul-le_self, dvd-mul_left, le_of_mul-le-mul_right, mul-div_cancel', pos_of_dvd_of_pos}
+use Rattle.std.proofs.lemmas.Bool.Decides.{leb_tells}
 use Rattle.slice_method.specs.declared.method.Method.{Method}
 use Rattle.slice_method.specs.declared.method.Method.TheVariants.{Timeslices, RatioTimeslices}
 use Rattle.window_sums.specs.Slices.{width_of}
@@ -42,11 +43,6 @@ slices-some w divides = by (24 * (60 / w)) (day_long w divides)
 pub day_of_slice : (w minute : ℕ) → w ∣ 60 → minute / w / (24 * (60 / w)) ≡ minute / 1440
 day_of_slice w minute divides = div-div-eq-div-mul minute w (24 * (60 / w)) ∙ ap (λ n. minute / n) (day_long w divides)
 
--- a slice is told by its day and its place there
-pub same_slice : (n a b : ℕ) → a / n ≡ b / n → a % n ≡ b % n → a ≡ b
-same_slice n a b days places =
-    sym (div-add-mod' a n) ∙ ap (λ q. q * n + a % n) days ∙ ap (λ r. b / n * n + r) places ∙ div-add-mod' b n
-
 -- the first slice from a minute on, by a division that is rounded up
 pub slice_from-div_ceil : (w minute : ℕ) → 0 < w → div_ceil minute w ≡ slice_from w minute
 slice_from-div_ceil w minute some = by (minute / w) (minute % w) (sym (div-add-mod' minute w)) (mod_below minute w some)
@@ -66,3 +62,31 @@ slice_from-div_ceil w minute some = by (minute / w) (minute % w) (sym (div-add-m
     by : (q r : ℕ) → minute ≡ q * w + r → r < w → q + min 1 r ≡ (minute + (w - 1)) / w
     by q zero e less = none q ∙ sym (ap (λ n. n / w) (short q e) ∙ div-mul-add q w (w - 1) (omega arith))
     by q (suc r) e less = one q r ∙ sym (ap (λ n. n / w) (next q r e) ∙ div-mul-add (q + 1) w r (omega arith))
+
+-- the slices of an hour divide an hour
+pub hour-divides : (w : ℕ) → w ∣ 60 → 60 / w ∣ 60
+hour-divides w divides = subst (λ n. 60 / w ∣ n) (mul-div_cancel' w divides) (dvd-mul_left (60 / w) w)
+
+-- 400 days have the slices of 400 days at most
+pub slices-few : (w from to first : ℕ) → w ∣ 60 → from ≤ first * w → to - from ≤ 576000 → to / w - first ≤ 400 * (24 * (60 / w))
+slices-few w from to first divides begins few = le_of_mul-le-mul_right (by (leb_tells first (to / w))) (width-some w divides)
+  where
+    times : (a b : ℕ) → (a + b) * w ≡ a * w + b * w
+    times a b = omega arith
+
+    all : (q : ℕ) → w * (24 * q) ≡ 1440 → 400 * (24 * q) * w ≡ 576000
+    all q e = omega (arith, regroup q, e)
+      where
+        regroup : (q : ℕ) → 400 * (24 * q) * w ≡ 400 * (w * (24 * q))
+        regroup q = omega arith
+
+    none : (n : ℕ) → n ≡ 0 → n * w ≤ 576000
+    none n e = rw e (omega arith)
+
+    some : (d : ℕ) → to / w * w ≡ first * w + d * w → d * w ≤ 576000
+    some d e = omega (arith, e, begins, few, div-mul-le_self to w)
+
+    by : ((nat_le first (to / w) ≡ true) × (first ≤ to / w)) ⊎ ((nat_le first (to / w) ≡ false) × (to / w < first)) → (to / w - first) * w ≤ 400 * (24 * (60 / w)) * w
+    by (inl e) = rw (all (60 / w) (day_long w divides))
+        (some (to / w - first) (ap (λ n. n * w) (let e2 : to / w ≡ first + (to / w - first) = omega (arith, e.1) in e2) ∙ times first (to / w - first)))
+    by (inr e) = rw (all (60 / w) (day_long w divides)) (none (to / w - first) (omega (arith, e.1)))

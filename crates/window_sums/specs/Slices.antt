@@ -1,13 +1,15 @@
 -- The counts of each slice of time, kept day by day.
-use Rattle.std.specs.Prelude.{ℕ, Bool, ◌+◌, ◌-◌, ◌*◌, ◌/◌, ◌%◌, ◌≤◌, ◌≡◌, ◌==◌, nat_eq, is_some, List, [], All, length, unwrap_or, slice_index_or, slice_set, if◌then◌else◌}
+use Rattle.std.specs.Prelude.{ℕ, Bool, ◌+◌, ◌-◌, ◌*◌, ◌/◌, ◌≤◌, ◌≡◌, ◌==◌, IsTrue, List, All, length, if◌then◌else◌}
 use Rattle.std.specs.Int.{◌∣◌}
-use Rattle.std.specs.Map.{lookup, values_of}
+use Rattle.std.specs.Map.{values_of}
 use Rattle.slice_method.specs.declared.amount.Counts.{Counts}
 use Rattle.slice_method.specs.declared.method.Method.{Method}
 use Rattle.slice_method.specs.declared.method.Method.TheVariants.{Occurrences, Timeslices, RatioTimeslices}
 use Rattle.slice_method.specs.Leaves.{leaf}
 use Rattle.exact_fraction.specs.declared.leaf.Leaf.{Leaf}
-use Rattle.slo_terms.specs.Sums.{AreFew, sum_over}
+use Rattle.sum_pages.specs.DayTables.{is_day_of, value_at}
+use Rattle.sum_pages.specs.Pages as paged
+use Rattle.slo_terms.specs.Sums.{AreFew, most_events, sum_over}
 
 -- how many minutes a slice has (OpenSLO v1, `timeSliceWindow`); events are counted minute by minute
 abbrev pub width_of : Method → ℕ
@@ -35,14 +37,9 @@ pub record CountedDays : Type 0 where
 abbrev pub no_counts : Counts
 no_counts = record { good = 0; total = 0 }
 
--- the counts of the slices of a day; none where the day isn't there
-abbrev pub slices_of : List (ℕ × List Counts) → ℕ → List Counts
-slices_of days day = unwrap_or (lookup (nat_eq day) days) []
-
 -- the counts of a slice
 abbrev pub counts_of : CountedDays → ℕ → Counts
-counts_of sums slice =
-    slice_index_or (slices_of sums.days (slice / slices_a_day sums.method)) (slice % slices_a_day sums.method) no_counts
+counts_of sums slice = value_at no_counts (slices_a_day sums.method) sums.days slice
 
 -- the leaf of a slice
 abbrev pub leaf_at : CountedDays → ℕ → Leaf
@@ -50,16 +47,19 @@ leaf_at sums slice = leaf sums.method (counts_of sums slice)
 
 -- whether a day is there
 abbrev pub has_day : CountedDays → ℕ → Bool
-has_day sums day = is_some (lookup (nat_eq day) sums.days)
+has_day sums day = is_day_of sums.days day
 
 -- counts that lose `before` and gain `after`
 abbrev pub exchanged : Counts → Counts → Counts → Counts
 exchanged counts before after =
     record { good = counts.good - before.good + after.good; total = counts.total - before.total + after.total }
 
--- the slices of a day, of which the counts at one place lose `before` and gain `after`
-abbrev pub exchanged_at : List Counts → ℕ → Counts → Counts → List Counts
-exchanged_at slices place before after = slice_set slices place (exchanged (slice_index_or slices place no_counts) before after)
+-- the counts have `before`, and are a part of few events with `after`
+pub record MayExchange (counts before after : Counts) : Type 0 where
+  pub good : before.good ≤ counts.good
+  pub total : before.total ≤ counts.total
+  pub part : (exchanged counts before after).good ≤ (exchanged counts before after).total
+  pub few : (exchanged counts before after).total ≤ most_events
 
 -- the counts of each slice once the slice of a minute has lost `before` and gained `after`
 abbrev pub counts_after : CountedDays → ℕ → Counts → Counts → ℕ → Counts
@@ -81,8 +81,15 @@ pub record HasAtMost (method : Method) (counts : ℕ → Counts) (most : ℕ) : 
   pub events : (first count : ℕ) → sum_over (λ slice. (counts slice).total) first count ≤ most
   pub leaves : (first count : ℕ) → sum_over (λ slice. (leaf method (counts slice)).den) first count ≤ most
 
--- what is kept of the sums
-pub record IsKept (sums : CountedDays) : Type 0 where
+-- what is kept of the counts
+pub record AreCounted (sums : CountedDays) : Type 0 where
   pub divides : width_of sums.method ∣ 60
   pub whole : All (λ slices. length slices ≡ slices_a_day sums.method) (values_of sums.days)
   pub sound : AreSoundCounts sums.method (counts_of sums)
+
+-- what is kept of the sums: pages that have the leaf of each slice, and each day that is there
+pub record IsKept (sums : CountedDays) (pages : paged.LeafDays) : Type 0 where
+  pub counted : AreCounted sums
+  pub hour : pages.per_hour ≡ 60 / width_of sums.method
+  pub leaves : (slice : ℕ) → paged.leaf_at pages slice ≡ leaf_at sums slice
+  pub ready : (day : ℕ) → IsTrue (has_day sums day) → IsTrue (paged.has_day pages day)

@@ -1,6 +1,6 @@
 // The counts of the slices of one day.
-ghost use Rattle.std.specs.Prelude.{◌≡◌, ◌+◌, ◌-◌, ◌<◌, ◌≤◌, ◌^◌, IfOk, length, replicate, slice_index_or};
-ghost use Rattle.window_sums.specs.Slices.{exchanged, exchanged_at, no_counts};
+ghost use Rattle.std.specs.Prelude.{◌≡◌, ◌<◌, IfOk, length, replicate, slice_index_or, slice_set};
+ghost use Rattle.window_sums.specs.Slices.{MayExchange, exchanged, no_counts};
 
 use slice_method::Counts;
 use std::alloc::{AllocError, Global};
@@ -38,19 +38,19 @@ impl Day {
         self.slices[place]
     }
 
-    // Takes `before` from the counts at a place and adds `after`.
-    pub(crate) fn exchange(&mut self, place: usize, before: Counts, after: Counts)
+    // Takes `before` from the counts at a place, adds `after`, and answers what stands there then.
+    pub(crate) fn exchange(&mut self, place: usize, before: Counts, after: Counts) -> Counts
         requires within { place < length self.old }
-        requires good { before.good ≤ (slice_index_or self.old place no_counts).good }
-        requires total { before.total ≤ (slice_index_or self.old place no_counts).total }
-        requires good_fits { (exchanged (slice_index_or self.old place no_counts) before after).good < 2 ^ 64 }
-        requires total_fits { (exchanged (slice_index_or self.old place no_counts) before after).total < 2 ^ 64 }
-        ensures { self.new ≡ exchanged_at self.old place before after }
+        requires may { MayExchange (slice_index_or self.old place no_counts) before after }
+        ensures slices { self.new ≡ slice_set self.old place result }
+        ensures value { result ≡ exchanged (slice_index_or self.old place no_counts) before after }
     {
         let counts = self.at(place);
-        self.slices[place] = Counts {
+        let exchanged = Counts {
             good: counts.good - before.good + after.good,
             total: counts.total - before.total + after.total,
         };
+        self.slices[place] = exchanged;
+        exchanged
     }
 }

@@ -1,9 +1,10 @@
-//! Sums over the slices of a range of time, kept as the counts of each slice, day by day.
-//! Stands on `slice_method` for counts and leaves, on `slo_terms` for the sums, on `counted_steps` and on `indexmap`.
-//! Promises that a sum adds the leaves of the slices that lie wholly in its range, after any changes.
+//! Sums over the slices of a range of time, kept as the counts of each slice and pages of their leaves.
+//! Stands on `sum_pages` for the leaves, on `slice_method`, `slo_terms`, `counted_steps` and `indexmap`.
+//! Promises that a sum adds the leaves of the slices wholly in its range, in at most 600 reads over 400 days.
 #![tactic(auto)]
 
 mod day;
+mod range;
 mod widths;
 mod window_sums;
 

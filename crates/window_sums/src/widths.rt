@@ -1,7 +1,7 @@
 // How a method cuts time into slices.
-ghost use Rattle.std.specs.Prelude.{◌≡◌, ◌<◌, ◌≤◌, ◌%◌};
+ghost use Rattle.std.specs.Prelude.{◌≡◌, ◌/◌, ◌<◌, ◌≤◌};
 ghost use Rattle.std.specs.Int.{◌∣◌};
-ghost use Rattle.window_sums.specs.Slices.{slice_of, slices_a_day, width_of};
+ghost use Rattle.window_sums.specs.Slices.{slices_a_day, width_of};
 
 use slice_method::Method;
 
@@ -28,13 +28,15 @@ pub(crate) fn slices_a_day(method: &Method) -> u32
     ensures value { result ≡ slices_a_day method.now }
     ensures some { 0 < result }
 {
-    HOURS_A_DAY * (MINUTES_AN_HOUR / width_of(method))
+    HOURS_A_DAY * slices_an_hour(method)
 }
 
-// The place of a minute's slice in its day.
-pub(crate) fn place_of(method: &Method, minute: u32) -> u32
+// How many slices an hour has.
+pub(crate) fn slices_an_hour(method: &Method) -> u32
     requires { width_of method.now ∣ 60 }
-    ensures { result ≡ slice_of method.now minute % slices_a_day method.now }
+    ensures value { result ≡ 60 / width_of method.now }
+    ensures some { 0 < result }
+    ensures few { result ≤ 60 }
 {
-    minute / width_of(method) % slices_a_day(method)
+    MINUTES_AN_HOUR / width_of(method)
 }

@@ -1,13 +1,15 @@
 // Sums over slices by the counts of each.
-ghost use Rattle.std.specs.Prelude.{◌≡◌, ℕ, ◌+◌, ◌-◌, ◌<◌, ◌≤◌, ◌^◌, ◌==◌, ◌||◌, nat_eq, is_some, length, slice_index_or, IsTrue, [], OnOk, OnErr};
+ghost use Rattle.std.specs.Prelude.{◌≡◌, ℕ, ◌+◌, ◌-◌, ◌<◌, ◌≤◌, ◌==◌, ◌||◌, nat_eq, length, slice_index_or, slice_set, IsTrue, [], OnOk, OnErr};
 ghost use Rattle.std.specs.Int.{◌∣◌};
-ghost use Rattle.std.specs.Map.{lookup, set_value};
+ghost use Rattle.std.specs.Map.{set_value};
 ghost use Rattle.slice_method.specs.Leaves.{leaf};
-ghost use Rattle.slo_terms.specs.Sums.{AreFew, AreSound, most_events, slice_from, slices_until, sum_of_slices, sum_over};
-ghost use Rattle.window_sums.specs.Slices.{IsPart, counts_after, counts_of, day_of, exchanged, exchanged_at, has_day, leaf_at, no_counts, slice_of, slices_a_day, slices_of, width_of};
+ghost use Rattle.slo_terms.specs.Sums.{AreFew, AreSound, most_events, slice_from, slices_until, sum_of_slices};
+ghost use Rattle.sum_pages.specs.DayTables.{is_day_of, values_of_day};
+ghost use Rattle.window_sums.specs.Slices.{IsPart, MayExchange, counts_after, counts_of, day_of, exchanged, has_day, leaf_at, no_counts, slice_of, width_of};
 
 use crate::day::Day;
-use crate::widths::{place_of, slices_a_day, width_of};
+use crate::range::sum_slots;
+use crate::widths::{slices_a_day, slices_an_hour, width_of};
 use counted_steps::Steps;
 use exact_fraction::Leaf;
 use indexmap::IndexMap;
@@ -15,17 +17,17 @@ use slice_method::{Counts, Method, leaf_of};
 use std::alloc::{AllocError, Global};
 use std::marker::Model;
 use std::sync::ledger::Ledger;
+use sum_pages::SumPages;
 
 const MINUTES_A_DAY: u32 = 1_440;
 
-const NOTHING: Counts = Counts { good: 0, total: 0 };
-
-/// The counts of each slice of time, from which sums over ranges are made. A slice of a day that
-/// isn't there has the counts (0, 0).
+/// The counts of each slice of time, and pages of their leaves, from which sums over ranges are
+/// made. A slice of a day that isn't there has the counts (0, 0).
 #[derive(Drop)]
 pub struct WindowSums {
     method: Method,
     days: IndexMap<u32, Day>,
+    pages: SumPages,
 }
 
 impl Model for WindowSums {
@@ -35,7 +37,7 @@ impl Model for WindowSums {
 
     ghost view = { λ a. record { method = a.method; days = a.days.entries } };
 
-    ghost invariant = { λ a. IsKept (record { method = a.method; days = a.days.entries }) };
+    ghost invariant = { λ a. IsKept (record { method = a.method; days = a.days.entries }) a.pages };
 }
 
 impl WindowSums {
@@ -48,6 +50,7 @@ impl WindowSums {
         WindowSums {
             method,
             days: IndexMap::new(alloc),
+            pages: SumPages::new(alloc, slices_an_hour(&method)),
         }
     }
 
@@ -87,6 +90,7 @@ impl WindowSums {
         }
         let alloc = *self.days.allocator();
         let slices = Day::empty(alloc, slices_a_day(&self.method) as usize)?;
+        self.pages.reserve_day(day)?;
         self.days.insert(day, slices)?;
         Ok(())
     }
@@ -105,9 +109,11 @@ impl WindowSums {
         ensures counts { (slice : ℕ) → counts_of self.new slice ≡ counts_after self.old minute before after slice }
         ensures days { (day : ℕ) → has_day self.new day ≡ has_day self.old day }
     {
-        let day = minute / MINUTES_A_DAY;
-        let place = place_of(&self.method, minute) as usize;
-        exchange_in(&mut self.days, day, place, before, after);
+        let slice = minute / width_of(&self.method);
+        let slices = slices_a_day(&self.method);
+        let place = (slice % slices) as usize;
+        let counts = exchange_in(&mut self.days, slice / slices, place, before, after);
+        self.pages.set(slice, leaf_of(self.method, counts));
     }
 
     /// The leaf of a slice, in one step: (0, 0) where its day isn't there.
@@ -115,8 +121,7 @@ impl WindowSums {
         ensures value { result ≡ leaf_at self.now slice }
         ensures cost { steps.new ≡ steps.old + 1 }
     {
-        steps.tick();
-        leaf_of(self.method, self.counts(slice))
+        self.pages.read_leaf(slice, steps)
     }
 
     /// The leaves of all slices that lie wholly in [from, to), added up. A step is a leaf, an
@@ -130,54 +135,28 @@ impl WindowSums {
         ensures bounded { to - from ≤ 576000 → steps.new ≤ steps.old + 600 }
         ensures short { steps.new ≤ steps.old + (slices_until (width_of self.now.method) to - slice_from (width_of self.now.method) from) }
     {
-        // Leaves are computed from counts here, and none is read that was kept: no step is taken.
-        let _untaken = steps;
+        self.sound();
         let width = width_of(&self.method);
-        self.sum_from(from.div_ceil(width), to / width)
-    }
-
-    // The leaves of the slices from `first` up to `end`, added up.
-    fn sum_from(&self, first: u32, end: u32) -> Leaf
-        ensures num { result.num ≡ sum_over (λ slice. (leaf self.now.method (counts_of self.now slice)).num) first (end - first) }
-        ensures den { result.den ≡ sum_over (λ slice. (leaf self.now.method (counts_of self.now slice)).den) first (end - first) }
-        ensures part { result.num ≤ result.den }
-        ensures few { result.den ≤ most_events }
-    {
-        let method = &self.method;
-        let mut sum = Leaf { num: 0, den: 0 };
-        for slice in first..end {
-            let leaf = leaf_of(*method, self.counts(slice));
-            sum.num += leaf.num;
-            sum.den += leaf.den;
-        }
-        sum
-    }
-
-    // The counts of a slice.
-    fn counts(&self, slice: u32) -> Counts
-        ensures value { result ≡ counts_of self.now slice }
-        ensures part { result.good ≤ result.total }
-        ensures few { result.total ≤ most_events }
-    {
-        let slices = slices_a_day(&self.method);
-        match self.days.get(&(slice / slices)) {
-            Some(day) => day.at((slice % slices) as usize),
-            None => NOTHING,
-        }
+        sum_slots(&self.pages, from.div_ceil(width), to / width, steps)
     }
 }
 
-// Takes `before` from the counts at a place of a day that is there, and adds `after`.
-fn exchange_in(days: &mut IndexMap<u32, Day>, day: u32, place: usize, before: Counts, after: Counts)
-    requires there { IsTrue (is_some (lookup (nat_eq day) days.old.entries)) }
-    requires within { place < length (slices_of days.old.entries day) }
-    requires good { before.good ≤ (slice_index_or (slices_of days.old.entries day) place no_counts).good }
-    requires total { before.total ≤ (slice_index_or (slices_of days.old.entries day) place no_counts).total }
-    requires good_fits { (exchanged (slice_index_or (slices_of days.old.entries day) place no_counts) before after).good < 2 ^ 64 }
-    requires total_fits { (exchanged (slice_index_or (slices_of days.old.entries day) place no_counts) before after).total < 2 ^ 64 }
-    ensures { days.new.entries ≡ set_value (nat_eq day) days.old.entries (exchanged_at (slices_of days.old.entries day) place before after) }
+// Takes `before` from the counts at a place of a day that is there, adds `after`, and answers what
+// stands there then.
+fn exchange_in(
+    days: &mut IndexMap<u32, Day>,
+    day: u32,
+    place: usize,
+    before: Counts,
+    after: Counts,
+) -> Counts
+    requires there { IsTrue (is_day_of days.old.entries day) }
+    requires within { place < length (values_of_day days.old.entries day) }
+    requires may { MayExchange (slice_index_or (values_of_day days.old.entries day) place no_counts) before after }
+    ensures days { days.new.entries ≡ set_value (nat_eq day) days.old.entries (slice_set (values_of_day days.old.entries day) place result) }
+    ensures value { result ≡ exchanged (slice_index_or (values_of_day days.old.entries day) place no_counts) before after }
 {
     let index = days.get_index_of(&day).unwrap();
     let slices = &mut days[index];
-    slices.exchange(place, before, after);
+    slices.exchange(place, before, after)
 }
