@@ -1,3 +1,4 @@
 pub mod DayLemmas
+pub mod RaisedLemmas
 mod PageFacts
 mod PagesFacts

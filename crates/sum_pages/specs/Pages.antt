@@ -3,7 +3,7 @@ use Rattle.std.specs.Prelude.{ℕ, Bool, ◌+◌, ◌-◌, ◌*◌, ◌/◌, ◌
 use Rattle.std.specs.Int.{◌∣◌}
 use Rattle.std.specs.Map.{values_of}
 use Rattle.exact_fraction.specs.declared.leaf.Leaf.{Leaf}
-use Rattle.slo_terms.specs.Sums.{AreSound, leaves_over, most_events}
+use Rattle.slo_terms.specs.Sums.{AreSound, leaves_over, most_events, sum_over}
 use Rattle.sum_pages.specs.DayTables.{is_day_of, value_at}
 
 -- How many slots an hour has, and of each day that is there the leaves of its slots, in the order in which the days came.
@@ -29,6 +29,10 @@ has_day pages day = is_day_of pages.days day
 -- the leaf of each slot once that of one is `value`
 abbrev pub leaf_after : LeafDays → ℕ → Leaf → ℕ → Leaf
 leaf_after pages slot value other = if other == slot then value else leaf_at pages other
+
+-- all slots together have this den at most
+pub record HasAtMost (pages : LeafDays) (most : ℕ) : Type 0 where
+  pub few : (first count : ℕ) → sum_over (λ slot. (leaf_at pages slot).den) first count ≤ most
 
 -- the leaf at a place of a page, and none behind its end
 abbrev pub leaf_in : List Leaf → ℕ → Leaf

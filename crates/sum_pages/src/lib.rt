@@ -7,3 +7,6 @@ mod page;
 mod sum_pages;
 
 pub use sum_pages::SumPages;
+
+#[cfg(test)]
+mod tests;

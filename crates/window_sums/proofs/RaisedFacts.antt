@@ -1,27 +1,16 @@
 -- How far a change can raise the sums.
-use Rattle.std.proofs.Common.{◌≡◌, ◌≢◌, ◌⊎◌, ℕ, zero, suc, ◌+◌, ◌-◌, ◌≤◌, ◌<◌, nat_eq, nat_le, Bool, true, false, cond, inl, inr, refl, sym, ap, subst, arith, List, []}
-use Rattle.std.proofs.lemmas.Bool.Decides.{eqb_tells, leb_tells}
+use Rattle.std.proofs.Common.{◌≡◌, ◌≢◌, ◌⊎◌, ℕ, zero, suc, ◌+◌, ◌-◌, ◌≤◌, nat_eq, Bool, true, false, cond, inl, inr, refl, sym, ap, subst, arith, List, []}
+use Rattle.std.proofs.lemmas.Bool.Decides.{eqb_tells}
 use Rattle.exact_fraction.specs.declared.leaf.Leaf.{Leaf}
 use Rattle.slice_method.specs.declared.amount.Counts.{Counts}
 use Rattle.slice_method.specs.declared.method.Method.{Method}
 use Rattle.slice_method.specs.declared.method.Method.TheVariants.{Occurrences, Timeslices, RatioTimeslices}
 use Rattle.slice_method.specs.Leaves.{leaf, leaf_with_data}
 use Rattle.slo_terms.specs.Sums.{sum_over}
-use Rattle.slo_terms.proofs.RangeLemmas.{sum_over-apart, sum_over-changed, sum_over-none, sum_over-same}
+use Rattle.slo_terms.proofs.RangeLemmas.{sum_over-none, sum_over-same}
+use Rattle.sum_pages.proofs.RaisedLemmas.{sum_over-raised}
 use Rattle.window_sums.specs.Slices.{CountedDays, HasAtMost, counts_after, counts_of, slice_of}
 use Rattle.window_sums.proofs.SoundFacts.{after-here}
-
--- terms of which one is greater by so much give a sum that is greater by no more
-pub sum_over-raised : (f h : ℕ → ℕ) (place more : ℕ) → ((k : ℕ) → k ≢ place → h k ≡ f k) → h place ≤ f place + more → (first count : ℕ) →
-    sum_over h first count ≤ sum_over f first count + more
-sum_over-raised f h place more others here first count = by (leb_tells first place) (leb_tells (first + count) place)
-  where
-    by : ((nat_le first place ≡ true) × (first ≤ place)) ⊎ ((nat_le first place ≡ false) × (place < first)) →
-        ((nat_le (first + count) place ≡ true) × (first + count ≤ place)) ⊎ ((nat_le (first + count) place ≡ false) × (place < first + count)) →
-        sum_over h first count ≤ sum_over f first count + more
-    by (inr before) end = omega (arith, sum_over-apart f h place others first count (inl before.1))
-    by (inl start) (inl behind) = omega (arith, sum_over-apart f h place others first count (inr behind.1))
-    by (inl start) (inr end) = omega (arith, sum_over-changed f h place others first count start.1 end.1, here)
 
 -- the den of a leaf is raised by no more than the events are, and a billion
 leaf-raised : (method : Method) (old new : Counts) (more : ℕ) → new.total ≤ old.total + more → (leaf method new).den ≤ (leaf method old).den + (more + 1000000000)
