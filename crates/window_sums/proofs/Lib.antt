@@ -3,3 +3,4 @@ pub mod RangeFacts
 pub mod SoundFacts
 pub mod KeptFacts
 pub mod RaisedFacts
+pub mod ShareLemmas

@@ -9,7 +9,7 @@ use Rattle.slice_method.specs.Leaves.{leaf, leaf_with_data}
 use Rattle.slo_terms.specs.Sums.{sum_over}
 use Rattle.slo_terms.proofs.RangeLemmas.{sum_over-none, sum_over-same}
 use Rattle.sum_pages.proofs.RaisedLemmas.{sum_over-raised}
-use Rattle.window_sums.specs.Slices.{CountedDays, HasAtMost, counts_after, counts_of, slice_of}
+use Rattle.window_sums.specs.Slices.{CountedDays, HasAtMost, counts_after, counts_of, exchanged, slice_of}
 use Rattle.window_sums.proofs.SoundFacts.{after-here}
 
 -- the den of a leaf is raised by no more than the events are, and a billion
@@ -52,8 +52,10 @@ raised-here sums minute before after =
 
 -- a change raises the events by no more than it adds, and the den of the leaves by no more than that and a billion
 pub HasAtMost-after : (sums : CountedDays) (minute : ℕ) (before after : Counts) (most : ℕ) → HasAtMost sums.method (counts_of sums) most →
+    (exchanged (counts_of sums (slice_of sums.method minute)) before after).good ≤ (exchanged (counts_of sums (slice_of sums.method minute)) before after).total →
     HasAtMost sums.method (counts_after sums minute before after) (most + (after.total + 1000000000))
-HasAtMost-after sums minute before after most few = record {
+HasAtMost-after sums minute before after most few part = record {
+  parts = λ k. by k (eqb_tells k (slice_of sums.method minute));
   events = λ first count. omega (
     arith,
     few.events first count,
@@ -68,9 +70,17 @@ HasAtMost-after sums minute before after most few = record {
         (leaf-raised sums.method (counts_of sums (slice_of sums.method minute)) (counts_after sums minute before after (slice_of sums.method minute)) after.total (raised-here sums minute before after)) first count,
   );
 }
+  where
+    by : (k : ℕ) → ((nat_eq k (slice_of sums.method minute) ≡ true) × (k ≡ slice_of sums.method minute)) ⊎ ((nat_eq k (slice_of sums.method minute) ≡ false) × (k ≢ slice_of sums.method minute)) →
+        (counts_after sums minute before after k).good ≤ (counts_after sums minute before after k).total
+    by k (inl same) =
+        subst (λ j. (counts_after sums minute before after j).good ≤ (counts_after sums minute before after j).total) (sym same.1)
+        (subst (λ (c : Counts). c.good ≤ c.total) (sym (after-here sums minute before after)) part)
+    by k (inr other) = subst (λ (c : Counts). c.good ≤ c.total) (sym (after-other sums minute before after k other.1)) (few.parts k)
 
 pub HasAtMost-same : (method : Method) (f g : ℕ → Counts) (most : ℕ) → ((k : ℕ) → f k ≡ g k) → HasAtMost method f most → HasAtMost method g most
 HasAtMost-same method f g most same few = record {
+  parts = λ k. subst (λ (c : Counts). c.good ≤ c.total) (same k) (few.parts k);
   events = λ first count. subst (λ n. n ≤ most) (sum_over-same (λ k. (f k).total) (λ k. (g k).total) (λ k. ap (λ (c : Counts). c.total) (same k)) first count) (few.events first count);
   leaves = λ first count. subst (λ n. n ≤ most) (sum_over-same (λ k. (leaf method (f k)).den) (λ k. (leaf method (g k)).den) (λ k. ap (λ (c : Counts). (leaf method c).den) (same k)) first count) (few.leaves first count);
 }
@@ -85,6 +95,7 @@ HasAtMost-kept old new most methods same few =
 pub HasAtMost-none : (sums : CountedDays) → sums.days ≡ [] → HasAtMost sums.method (counts_of sums) 0
 HasAtMost-none sums none =
     subst (λ (days : List (ℕ × List Counts)). HasAtMost sums.method (counts_of (record { method = sums.method; days = days })) 0) (sym none) (record {
+      parts = λ k. omega arith;
       events = λ first count. rw (sum_over-none first count) (omega arith);
       leaves = λ first count. rw (sum_over-none first count) (omega arith);
     })

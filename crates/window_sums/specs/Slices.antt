@@ -76,8 +76,9 @@ pub record AreSoundCounts (method : Method) (counts : ℕ → Counts) : Type 0 w
   pub events : AreFew (λ slice. (counts slice).total)
   pub leaves : AreFew (λ slice. (leaf method (counts slice)).den)
 
--- all slices together have so many events at most, and so does the den of their leaves
+-- the counts are parts, all slices together have so many events at most, and so does the den of their leaves
 pub record HasAtMost (method : Method) (counts : ℕ → Counts) (most : ℕ) : Type 0 where
+  pub parts : (slice : ℕ) → IsPart (counts slice)
   pub events : (first count : ℕ) → sum_over (λ slice. (counts slice).total) first count ≤ most
   pub leaves : (first count : ℕ) → sum_over (λ slice. (leaf method (counts slice)).den) first count ≤ most
 

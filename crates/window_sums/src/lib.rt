@@ -4,10 +4,12 @@
 #![tactic(auto)]
 
 mod day;
+mod laws;
 mod range;
 mod widths;
 mod window_sums;
 
+pub use laws::counts_of_rows_are_sound;
 pub use window_sums::WindowSums;
 
 #[cfg(test)]

@@ -1,5 +1,5 @@
 // The worked rows.
-ghost use Rattle.std.specs.Prelude.{◌≡◌, ◌≢◌, ℕ, ◌+◌, ◌<◌, ◌≤◌};
+ghost use Rattle.std.specs.Prelude.{◌≡◌, ◌≢◌, ℕ, ◌+◌, ◌*◌, ◌<◌, ◌≤◌};
 ghost use Rattle.std.specs.Int.{◌∣◌};
 ghost use Rattle.window_sums.specs.Slices.{HasAtMost, IsPart, counts_of, exchanged, no_counts, slice_of, width_of};
 ghost use Rattle.slo_terms.specs.Sums.{most_events};
@@ -54,6 +54,25 @@ fn put<R: Abort>(
     sums.change(minute, before, after);
 }
 
+// Adds the events of a minute, after so many others.
+fn add<R: Abort>(rt: &R, sums: &mut WindowSums, minute: u32, good: u64, total: u64, others: u64)
+    requires part { good ≤ total }
+    requires small { total ≤ 1000000000 }
+    requires some { others < 1000000 }
+    requires few { HasAtMost sums.old.method (counts_of sums.old) (others * 2000000000) }
+    ensures method { sums.new.method ≡ sums.old.method }
+    ensures few { HasAtMost sums.new.method (counts_of sums.new) ((others + 1) * 2000000000) }
+{
+    put(
+        rt,
+        sums,
+        minute,
+        NOTHING,
+        of(good, total),
+        others * 2_000_000_000,
+    );
+}
+
 fn sum_by<L: Ledger>(sums: &WindowSums, from: u32, to: u32, blank: Blank) -> Leaf
     requires range { from ≤ to }
     requires blank { (blank.name ≡ L.name) × (blank.parts ≡ L.parts) × (0 < L.parts) }
@@ -62,11 +81,134 @@ fn sum_by<L: Ledger>(sums: &WindowSums, from: u32, to: u32, blank: Blank) -> Lea
     sums.sum(from, to, &mut steps)
 }
 
-// The sum for a caller that counts no steps.
-fn sum(sums: &WindowSums, from: u32, to: u32) -> Leaf
-    requires { from ≤ to }
+// The sum for a caller that counts no steps; (0, 0) where the range ends before it begins.
+fn sum(sums: &WindowSums, from: u32, to: u32) -> Leaf {
+    sum_by::<Brand>(sums, from, to.max(from), Blank::new(1))
+}
+
+// Ratios of slices, or slices that reach a target, or the events where the width is 0.
+fn method_of(width: u32, target: Option<u64>) -> Method
+    ensures { width_of result ∣ 60 }
 {
-    sum_by::<Brand>(sums, from, to, Blank::new(1))
+    if width == 0 || 60 % width != 0 {
+        return Method::Occurrences;
+    }
+    match target {
+        Some(billionths) => Method::Timeslices {
+            width,
+            target: Decimal::of_billionths(billionths.min(1_000_000_000)),
+        },
+        None => Method::RatioTimeslices { width },
+    }
+}
+
+// Events of ten minutes, on four days.
+fn filled<R: Abort>(rt: &R, alloc: Global, method: Method) -> WindowSums
+    requires { width_of method ∣ 60 }
+{
+    let mut sums = start(alloc, method);
+    add(rt, &mut sums, 0, 3, 4, 0);
+    add(rt, &mut sums, 4, 1, 1, 1);
+    add(rt, &mut sums, 5, 0, 2, 2);
+    add(rt, &mut sums, 59, 9, 10, 3);
+    add(rt, &mut sums, 60, 1, 3, 4);
+    add(rt, &mut sums, 61, 2, 3, 5);
+    add(rt, &mut sums, 1_439, 7, 7, 6);
+    add(rt, &mut sums, 1_440, 1, 2, 7);
+    add(rt, &mut sums, 2_879, 0, 1, 8);
+    add(rt, &mut sums, 100_000, 1, 1, 9);
+    sums
+}
+
+#[test]
+fn sums_of_every_method(rt: HostRuntime) {
+    let ranges = [
+        (0, 1),
+        (1, 61),
+        (0, 1_440),
+        (59, 2_880),
+        (61, 2_881),
+        (0, 100_001),
+    ];
+    let cases = [
+        (
+            0,
+            None,
+            [(3, 4), (11, 16), (23, 30), (20, 26), (10, 13), (25, 34)],
+        ),
+        (
+            1,
+            Some(500_000_000),
+            [(1, 1), (2, 4), (5, 7), (4, 6), (3, 4), (7, 10)],
+        ),
+        (
+            5,
+            Some(500_000_000),
+            [(0, 0), (1, 2), (4, 5), (3, 4), (2, 3), (5, 7)],
+        ),
+        (
+            60,
+            Some(900_000_000),
+            [(0, 0), (0, 0), (1, 3), (1, 4), (1, 3), (1, 5)],
+        ),
+    ];
+    for (width, target, wants) in cases {
+        let sums = filled(&rt, rt.alloc(), method_of(width, target));
+        for ((from, to), (num, den)) in ranges.into_iter().zip(wants) {
+            assert_eq!(rt; sum(&sums, from, to), Leaf { num, den });
+        }
+    }
+}
+
+#[test]
+fn ratios_of_every_width(rt: HostRuntime) {
+    let ranges = [(1, 61), (0, 1_440), (59, 2_880), (0, 100_001)];
+    let cases = [
+        (
+            1,
+            [
+                (2_233_333_333, 4),
+                (4_649_999_999, 7),
+                (3_399_999_999, 6),
+                (6_149_999_999, 10),
+            ],
+        ),
+        (
+            5,
+            [
+                (900_000_000, 2),
+                (3_200_000_000, 5),
+                (2_000_000_000, 4),
+                (3_700_000_000, 7),
+            ],
+        ),
+        (
+            60,
+            [
+                (0, 0),
+                (2_264_705_882, 3),
+                (2_000_000_000, 4),
+                (2_764_705_882, 5),
+            ],
+        ),
+    ];
+    for (width, wants) in cases {
+        let sums = filled(&rt, rt.alloc(), method_of(width, None));
+        for ((from, to), (num, slices)) in ranges.into_iter().zip(wants) {
+            let found = sum(&sums, from, to);
+            assert_eq!(rt; (found.num, found.den / 1_000_000_000), (num, slices));
+        }
+    }
+}
+
+#[test]
+fn four_hundred_days(rt: HostRuntime) {
+    let mut sums = start(rt.alloc(), Method::Occurrences);
+    for minute in 0..576_000 {
+        add(&rt, &mut sums, minute, 1, 1, u64::from(minute));
+    }
+    let all = sum(&sums, 59, 575_941);
+    assert_eq!(rt; (all.num, all.den), (575_882, 575_882));
 }
 
 #[test]

@@ -12,7 +12,7 @@ plus-requires-clause-part g c =
     let end = c.args.to / 24 in
     let cut : IsCut c.args.from c.args.to 24 first end = subst (λ n. IsCut c.args.from c.args.to 24 n end) (sym c.div_ceil-first.ensures) (is_cut c.args.from c.args.to 24 (omega arith)) in
     let parts = larger-parts leaf c.args.from c.args.to first end 24 c.args.pages.now.per_hour c.sum_units-before.result c.sum_units-days.result c.sum_units-after.result cut
-        (at_most first end c.if-end-first.false) c.sum_units-before.ensures.value c.sum_units-days.ensures.value c.sum_units-after.ensures.value in
+    (at_most first end c.if-end-first.false) c.sum_units-before.ensures.value c.sum_units-days.ensures.value c.sum_units-after.ensures.value in
     (first-few parts c.sound.ensures).0
 
 pub plus-requires-clause-few : goal.plus-requires-clause-few
@@ -22,7 +22,7 @@ plus-requires-clause-few g c =
     let end = c.args.to / 24 in
     let cut : IsCut c.args.from c.args.to 24 first end = subst (λ n. IsCut c.args.from c.args.to 24 n end) (sym c.div_ceil-first.ensures) (is_cut c.args.from c.args.to 24 (omega arith)) in
     let parts = larger-parts leaf c.args.from c.args.to first end 24 c.args.pages.now.per_hour c.sum_units-before.result c.sum_units-days.result c.sum_units-after.result cut
-        (at_most first end c.if-end-first.false) c.sum_units-before.ensures.value c.sum_units-days.ensures.value c.sum_units-after.ensures.value in
+    (at_most first end c.if-end-first.false) c.sum_units-before.ensures.value c.sum_units-days.ensures.value c.sum_units-after.ensures.value in
     (first-few parts c.sound.ensures).1
 
 pub plus-requires-2-clause-part : goal.plus-requires-2-clause-part
@@ -32,7 +32,7 @@ plus-requires-2-clause-part g c =
     let end = c.args.to / 24 in
     let cut : IsCut c.args.from c.args.to 24 first end = subst (λ n. IsCut c.args.from c.args.to 24 n end) (sym c.div_ceil-first.ensures) (is_cut c.args.from c.args.to 24 (omega arith)) in
     let parts = larger-parts leaf c.args.from c.args.to first end 24 c.args.pages.now.per_hour c.sum_units-before.result c.sum_units-days.result c.sum_units-after.result cut
-        (at_most first end c.if-end-first.false) c.sum_units-before.ensures.value c.sum_units-days.ensures.value c.sum_units-after.ensures.value in
+    (at_most first end c.if-end-first.false) c.sum_units-before.ensures.value c.sum_units-days.ensures.value c.sum_units-after.ensures.value in
     (second-few parts c.sound.ensures c.plus.result c.plus.ensures).0
 
 pub plus-requires-2-clause-few : goal.plus-requires-2-clause-few
@@ -42,7 +42,7 @@ plus-requires-2-clause-few g c =
     let end = c.args.to / 24 in
     let cut : IsCut c.args.from c.args.to 24 first end = subst (λ n. IsCut c.args.from c.args.to 24 n end) (sym c.div_ceil-first.ensures) (is_cut c.args.from c.args.to 24 (omega arith)) in
     let parts = larger-parts leaf c.args.from c.args.to first end 24 c.args.pages.now.per_hour c.sum_units-before.result c.sum_units-days.result c.sum_units-after.result cut
-        (at_most first end c.if-end-first.false) c.sum_units-before.ensures.value c.sum_units-days.ensures.value c.sum_units-after.ensures.value in
+    (at_most first end c.if-end-first.false) c.sum_units-before.ensures.value c.sum_units-days.ensures.value c.sum_units-after.ensures.value in
     (second-few parts c.sound.ensures c.plus.result c.plus.ensures).1
 
 pub returns-clause-value : goal.returns-clause-value
@@ -52,5 +52,5 @@ returns-clause-value g c =
     let end = c.args.to / 24 in
     let cut : IsCut c.args.from c.args.to 24 first end = subst (λ n. IsCut c.args.from c.args.to 24 n end) (sym c.div_ceil-first.ensures) (is_cut c.args.from c.args.to 24 (omega arith)) in
     let parts = larger-parts leaf c.args.from c.args.to first end 24 c.args.pages.now.per_hour c.sum_units-before.result c.sum_units-days.result c.sum_units-after.result cut
-        (at_most first end c.if-end-first.false) c.sum_units-before.ensures.value c.sum_units-days.ensures.value c.sum_units-after.ensures.value in
+    (at_most first end c.if-end-first.false) c.sum_units-before.ensures.value c.sum_units-days.ensures.value c.sum_units-after.ensures.value in
     c.plus-2.ensures ∙ ap (λ s. plus s c.sum_units-after.result) c.plus.ensures ∙ parts-sum parts ∙ sym (units-slots leaf c.args.from c.args.to c.args.pages.now.per_hour (omega (arith, cut.from_first, cut.end_to, at_most first end c.if-end-first.false)))

@@ -13,8 +13,8 @@ plus-requires-clause-part g c =
     let end = c.args.to / count in
     let cut : IsCut c.args.from c.args.to count first end = subst (λ n. IsCut c.args.from c.args.to count n end) (sym c.div_ceil-first.ensures) (is_cut c.args.from c.args.to count c.per_hour-per_hour.ensures.some) in
     let parts = slot-parts leaf c.args.from c.args.to first end count c.sum_units-before.result c.sum_hours-hours.result c.sum_units-after.result cut
-        (at_most first end c.if-end-first.false) c.sum_units-before.ensures.value
-        (c.sum_hours-hours.ensures.value ∙ ap (λ n. leaves_over leaf (first * n) ((end - first) * n)) (sym c.per_hour-per_hour.ensures.value)) c.sum_units-after.ensures.value in
+    (at_most first end c.if-end-first.false) c.sum_units-before.ensures.value
+    (c.sum_hours-hours.ensures.value ∙ ap (λ n. leaves_over leaf (first * n) ((end - first) * n)) (sym c.per_hour-per_hour.ensures.value)) c.sum_units-after.ensures.value in
     (first-few parts c.sound.ensures).0
 
 pub plus-requires-clause-few : goal.plus-requires-clause-few
@@ -25,8 +25,8 @@ plus-requires-clause-few g c =
     let end = c.args.to / count in
     let cut : IsCut c.args.from c.args.to count first end = subst (λ n. IsCut c.args.from c.args.to count n end) (sym c.div_ceil-first.ensures) (is_cut c.args.from c.args.to count c.per_hour-per_hour.ensures.some) in
     let parts = slot-parts leaf c.args.from c.args.to first end count c.sum_units-before.result c.sum_hours-hours.result c.sum_units-after.result cut
-        (at_most first end c.if-end-first.false) c.sum_units-before.ensures.value
-        (c.sum_hours-hours.ensures.value ∙ ap (λ n. leaves_over leaf (first * n) ((end - first) * n)) (sym c.per_hour-per_hour.ensures.value)) c.sum_units-after.ensures.value in
+    (at_most first end c.if-end-first.false) c.sum_units-before.ensures.value
+    (c.sum_hours-hours.ensures.value ∙ ap (λ n. leaves_over leaf (first * n) ((end - first) * n)) (sym c.per_hour-per_hour.ensures.value)) c.sum_units-after.ensures.value in
     (first-few parts c.sound.ensures).1
 
 pub plus-requires-2-clause-part : goal.plus-requires-2-clause-part
@@ -37,8 +37,8 @@ plus-requires-2-clause-part g c =
     let end = c.args.to / count in
     let cut : IsCut c.args.from c.args.to count first end = subst (λ n. IsCut c.args.from c.args.to count n end) (sym c.div_ceil-first.ensures) (is_cut c.args.from c.args.to count c.per_hour-per_hour.ensures.some) in
     let parts = slot-parts leaf c.args.from c.args.to first end count c.sum_units-before.result c.sum_hours-hours.result c.sum_units-after.result cut
-        (at_most first end c.if-end-first.false) c.sum_units-before.ensures.value
-        (c.sum_hours-hours.ensures.value ∙ ap (λ n. leaves_over leaf (first * n) ((end - first) * n)) (sym c.per_hour-per_hour.ensures.value)) c.sum_units-after.ensures.value in
+    (at_most first end c.if-end-first.false) c.sum_units-before.ensures.value
+    (c.sum_hours-hours.ensures.value ∙ ap (λ n. leaves_over leaf (first * n) ((end - first) * n)) (sym c.per_hour-per_hour.ensures.value)) c.sum_units-after.ensures.value in
     (second-few parts c.sound.ensures c.plus.result c.plus.ensures).0
 
 pub plus-requires-2-clause-few : goal.plus-requires-2-clause-few
@@ -49,8 +49,8 @@ plus-requires-2-clause-few g c =
     let end = c.args.to / count in
     let cut : IsCut c.args.from c.args.to count first end = subst (λ n. IsCut c.args.from c.args.to count n end) (sym c.div_ceil-first.ensures) (is_cut c.args.from c.args.to count c.per_hour-per_hour.ensures.some) in
     let parts = slot-parts leaf c.args.from c.args.to first end count c.sum_units-before.result c.sum_hours-hours.result c.sum_units-after.result cut
-        (at_most first end c.if-end-first.false) c.sum_units-before.ensures.value
-        (c.sum_hours-hours.ensures.value ∙ ap (λ n. leaves_over leaf (first * n) ((end - first) * n)) (sym c.per_hour-per_hour.ensures.value)) c.sum_units-after.ensures.value in
+    (at_most first end c.if-end-first.false) c.sum_units-before.ensures.value
+    (c.sum_hours-hours.ensures.value ∙ ap (λ n. leaves_over leaf (first * n) ((end - first) * n)) (sym c.per_hour-per_hour.ensures.value)) c.sum_units-after.ensures.value in
     (second-few parts c.sound.ensures c.plus.result c.plus.ensures).1
 
 pub returns-clause-value : goal.returns-clause-value
@@ -61,8 +61,8 @@ returns-clause-value g c =
     let end = c.args.to / count in
     let cut : IsCut c.args.from c.args.to count first end = subst (λ n. IsCut c.args.from c.args.to count n end) (sym c.div_ceil-first.ensures) (is_cut c.args.from c.args.to count c.per_hour-per_hour.ensures.some) in
     let parts = slot-parts leaf c.args.from c.args.to first end count c.sum_units-before.result c.sum_hours-hours.result c.sum_units-after.result cut
-        (at_most first end c.if-end-first.false) c.sum_units-before.ensures.value
-        (c.sum_hours-hours.ensures.value ∙ ap (λ n. leaves_over leaf (first * n) ((end - first) * n)) (sym c.per_hour-per_hour.ensures.value)) c.sum_units-after.ensures.value in
+    (at_most first end c.if-end-first.false) c.sum_units-before.ensures.value
+    (c.sum_hours-hours.ensures.value ∙ ap (λ n. leaves_over leaf (first * n) ((end - first) * n)) (sym c.per_hour-per_hour.ensures.value)) c.sum_units-after.ensures.value in
     c.plus-2.ensures ∙ ap (λ s. plus s c.sum_units-after.result) c.plus.ensures ∙ parts-sum parts
 
 pub returns-clause-short : goal.returns-clause-short
@@ -90,7 +90,7 @@ returns-clause-bounded g c = λ few.
     omega (
       arith,
       cut-days c.args.from c.args.to count first end cut (at_most first end c.if-end-first.false)
-      (subst (λ n. c.args.to - c.args.from ≤ 400 * (24 * n)) (sym c.per_hour-per_hour.ensures.value) few),
+          (subst (λ n. c.args.to - c.args.from ≤ 400 * (24 * n)) (sym c.per_hour-per_hour.ensures.value) few),
       cut.near_first,
       cut.near_end,
       c.per_hour-per_hour.ensures.few,

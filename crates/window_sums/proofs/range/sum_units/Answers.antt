@@ -28,9 +28,9 @@ loop-at-preserved g c =
     let slots = slots_of c.args.unit c.args.pages.now.per_hour in
     record {
       sum = c.plus-sum.ensures
-      ∙ ap (λ s. plus s c.read.result) c.loop-at.invariant.sum
-      ∙ ap (λ r. plus (leaves_over leaf (c.args.from * slots) ((c.loop-at.at - c.args.from) * slots)) r) c.read.ensures.value
-      ∙ sym (units-next leaf c.args.from c.loop-at.at slots c.loop-at.auto.at);
+          ∙ ap (λ s. plus s c.read.result) c.loop-at.invariant.sum
+          ∙ ap (λ r. plus (leaves_over leaf (c.args.from * slots) ((c.loop-at.at - c.args.from) * slots)) r) c.read.ensures.value
+          ∙ sym (units-next leaf c.args.from c.loop-at.at slots c.loop-at.auto.at);
       within = omega arith;
       steps = omega (arith, c.loop-at.invariant.steps, c.read.ensures.cost);
     }

@@ -15,7 +15,7 @@ exchange_in-counts-requires-clause-there c =
     let sums : CountedDays = record { method = c.self.inside.method; days = c.self.inside.days.entries } in
     let slice = slice_of sums.method c.args.minute in
     let there = subst (λ d. IsTrue (has_day sums d)) (sym (its_day sums c.args.minute c.self.invariant.counted))
-        (subst (λ s. IsTrue (has_day s (day_of c.args.minute))) (sym c.self.view_is) c.requires.day) in
+    (subst (λ s. IsTrue (has_day s (day_of c.args.minute))) (sym c.self.view_is) c.requires.day) in
     rw (c.width_of.ensures.value, c.slices_a_day-slices.ensures.value) there
 
 pub exchange_in-counts-requires-clause-within : goal.exchange_in-counts-requires-clause-within
@@ -23,7 +23,7 @@ exchange_in-counts-requires-clause-within c =
     let sums : CountedDays = record { method = c.self.inside.method; days = c.self.inside.days.entries } in
     let slice = slice_of sums.method c.args.minute in
     let there = subst (λ d. IsTrue (has_day sums d)) (sym (its_day sums c.args.minute c.self.invariant.counted))
-        (subst (λ s. IsTrue (has_day s (day_of c.args.minute))) (sym c.self.view_is) c.requires.day) in
+    (subst (λ s. IsTrue (has_day s (day_of c.args.minute))) (sym c.self.view_is) c.requires.day) in
     rw (c.width_of.ensures.value, c.slices_a_day-slices.ensures.value) (place-within sums slice c.args.after c.self.invariant.counted there)
 
 pub exchange_in-counts-requires-clause-may : goal.exchange_in-counts-requires-clause-may
@@ -54,7 +54,7 @@ set-requires-clause-day c =
     let sums : CountedDays = record { method = c.self.inside.method; days = c.self.inside.days.entries } in
     let slice = slice_of sums.method c.args.minute in
     let there = subst (λ d. IsTrue (has_day sums d)) (sym (its_day sums c.args.minute c.self.invariant.counted))
-        (subst (λ s. IsTrue (has_day s (day_of c.args.minute))) (sym c.self.view_is) c.requires.day) in
+    (subst (λ s. IsTrue (has_day s (day_of c.args.minute))) (sym c.self.view_is) c.requires.day) in
     rw c.width_of.ensures.value (page-there sums c.self.inside.pages slice c.self.invariant there)
 
 pub set-requires-clause-few : goal.set-requires-clause-few
@@ -75,7 +75,7 @@ invariant_of-self c =
     let sums : CountedDays = record { method = c.self.inside.method; days = c.self.inside.days.entries } in
     let slice = slice_of sums.method c.args.minute in
     let there = subst (λ d. IsTrue (has_day sums d)) (sym (its_day sums c.args.minute c.self.invariant.counted))
-        (subst (λ s. IsTrue (has_day s (day_of c.args.minute))) (sym c.self.view_is) c.requires.day) in
+    (subst (λ s. IsTrue (has_day s (day_of c.args.minute))) (sym c.self.view_is) c.requires.day) in
     let part = subst (λ (s : CountedDays). (counts_after s c.args.minute c.args.before c.args.after (slice_of s.method c.args.minute)).good ≤ (counts_after s c.args.minute c.args.before c.args.after (slice_of s.method c.args.minute)).total) (sym c.self.view_is) c.requires.part in
     let events = subst (λ s. AreFew (λ k. (counts_after s c.args.minute c.args.before c.args.after k).total)) (sym c.self.view_is) c.requires.events in
     let leaves = subst (λ (s : CountedDays). AreFew (λ k. (leaf s.method (counts_after s c.args.minute c.args.before c.args.after k)).den)) (sym c.self.view_is) c.requires.leaves in
@@ -99,7 +99,7 @@ returns-clause-counts c = λ k.
     let sums : CountedDays = record { method = c.self.inside.method; days = c.self.inside.days.entries } in
     let slice = slice_of sums.method c.args.minute in
     let there = subst (λ d. IsTrue (has_day sums d)) (sym (its_day sums c.args.minute c.self.invariant.counted))
-        (subst (λ s. IsTrue (has_day s (day_of c.args.minute))) (sym c.self.view_is) c.requires.day) in
+    (subst (λ s. IsTrue (has_day s (day_of c.args.minute))) (sym c.self.view_is) c.requires.day) in
     let counts = c.exchange_in-counts.ensures.value
     ∙ ap (λ w. exchanged (value_at no_counts c.slices_a_day-slices.result sums.days (c.args.minute / w)) c.args.before c.args.after) c.width_of.ensures.value
     ∙ ap (λ n. exchanged (value_at no_counts n sums.days slice) c.args.before c.args.after) c.slices_a_day-slices.ensures.value in
@@ -116,7 +116,7 @@ returns-clause-days c = λ q.
     let sums : CountedDays = record { method = c.self.inside.method; days = c.self.inside.days.entries } in
     let slice = slice_of sums.method c.args.minute in
     let there = subst (λ d. IsTrue (has_day sums d)) (sym (its_day sums c.args.minute c.self.invariant.counted))
-        (subst (λ s. IsTrue (has_day s (day_of c.args.minute))) (sym c.self.view_is) c.requires.day) in
+    (subst (λ s. IsTrue (has_day s (day_of c.args.minute))) (sym c.self.view_is) c.requires.day) in
     let counts = c.exchange_in-counts.ensures.value
     ∙ ap (λ w. exchanged (value_at no_counts c.slices_a_day-slices.result sums.days (c.args.minute / w)) c.args.before c.args.after) c.width_of.ensures.value
     ∙ ap (λ n. exchanged (value_at no_counts n sums.days slice) c.args.before c.args.after) c.slices_a_day-slices.ensures.value in
