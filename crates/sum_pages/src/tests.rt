@@ -41,7 +41,11 @@ fn read_by<L: Ledger>(pages: &SumPages, slot: u32, blank: Blank) -> [(u64, u64);
     let leaf = pages.read_leaf(slot, &mut steps);
     let hour = pages.read_hour(slot / per_hour, &mut steps);
     let day = pages.read_day(slot / per_hour / 24, &mut steps);
-    [(leaf.num, leaf.den), (hour.num, hour.den), (day.num, day.den)]
+    [
+        (leaf.num, leaf.den),
+        (hour.num, hour.den),
+        (day.num, day.den),
+    ]
 }
 
 fn read(pages: &SumPages, slot: u32) -> [(u64, u64); 3] {

@@ -17,12 +17,14 @@ set-requires-clause-few g c = λ first count.
     )
 
 pub returns : goal.returns
-returns g c = record { few = λ first count.
-    let value : Leaf = record { num = c.args.num; den = c.args.den } in
-    omega (
-      arith,
-      sum_over-same (λ k. (leaf_at c.set.new.self k).den) (λ k. (leaf_after c.reserve_day.new.self c.args.slot value k).den) (λ k. ap (λ (l : Leaf). l.den) (c.set.ensures.leaves k)) first count,
-      leaves-raised c.reserve_day.new.self c.args.slot value first count,
-      sum_over-same (λ k. (leaf_at c.reserve_day.new.self k).den) (λ k. (leaf_at c.args.pages.now k).den) (λ k. ap (λ (l : Leaf). l.den) (c.reserve_day.ensures.leaves k)) first count,
-      c.requires.few.few first count,
-    ) }
+returns g c = record {
+  few = λ first count.
+      let value : Leaf = record { num = c.args.num; den = c.args.den } in
+      omega (
+        arith,
+        sum_over-same (λ k. (leaf_at c.set.new.self k).den) (λ k. (leaf_after c.reserve_day.new.self c.args.slot value k).den) (λ k. ap (λ (l : Leaf). l.den) (c.set.ensures.leaves k)) first count,
+        leaves-raised c.reserve_day.new.self c.args.slot value first count,
+        sum_over-same (λ k. (leaf_at c.reserve_day.new.self k).den) (λ k. (leaf_at c.args.pages.now k).den) (λ k. ap (λ (l : Leaf). l.den) (c.reserve_day.ensures.leaves k)) first count,
+        c.requires.few.few first count,
+      );
+}
