@@ -3,8 +3,10 @@
 //! Promises each answer to be the formula's value, and none exactly where no event was counted.
 #![tactic(auto)]
 
+mod alert;
 mod budget;
 
+pub use alert::{AlertRule, Flags, State, WindowPair, page_pairs, ticket_pairs};
 pub use budget::{MAX_EVENTS, WHOLE, above, burn, error_rate, remaining};
 
 #[cfg(test)]
