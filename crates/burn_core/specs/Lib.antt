@@ -1,1 +1,2 @@
 pub mod Alert
+pub mod Laws

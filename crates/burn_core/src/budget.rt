@@ -1,11 +1,14 @@
 //! The three figures of an error budget (Site Reliability Workbook, 'Alerting on SLOs').
-ghost use Rattle.std.specs.Prelude.{◌≡◌, ◌<◌, ◌≤◌, ◌^◌, ◌≤ℤ◌, pos, unsigned_abs, IfSome};
+ghost use Rattle.std.specs.Prelude.{◌≡◌, ◌<◌, ◌≤◌, ◌-◌, ◌*◌, ◌^◌, ◌≤ℤ◌, pos, unsigned_abs, IfSome};
 ghost use Rattle.slo_terms.specs.Budget.{error_rate_of, burn_of, remaining_of, above_of};
 
-use exact_fraction::{Decimal, Fraction, Leaf, Op, compare, holds};
+use exact_fraction::{Decimal, Fraction, Leaf, Op, holds};
 
 /// One, in billionths.
 pub const WHOLE: u64 = 1_000_000_000;
+
+// Thresholds and targets both count billionths.
+const WHOLE_SQUARED: u128 = 1_000_000_000_000_000_000;
 
 /// The most events of a sum: with that many, burn rates and remaining budgets fit 128 bits.
 pub const MAX_EVENTS: u64 = 4_000_000_000_000_000;
@@ -66,8 +69,21 @@ pub fn above(sum: Leaf, target: Decimal, op: Op, threshold: Decimal) -> bool
     requires threshold { threshold ≤ 10 ^ 13 }
     ensures { result ≡ above_of sum target op threshold }
 {
-    match burn(sum, target) {
-        Some(burn) => holds(op, compare(&burn, threshold)),
-        None => false,
+    if sum.den == 0 {
+        return false;
     }
+    // No fraction is made: both sides are multiplied by the denominators, which takes no division.
+    let errors = u128::from(sum.den - sum.num) * WHOLE_SQUARED;
+    let limit = u128::from(threshold.billionths()) * allowed_errors(sum.den, target);
+    holds(op, errors.cmp(&limit))
+}
+
+// How many of so many events may be errors, in billionths.
+fn allowed_errors(events: u64, target: Decimal) -> u128
+    requires few { events ≤ MAX_EVENTS }
+    requires below_one { target < WHOLE }
+    ensures value { result ≡ events * (WHOLE - target) }
+    ensures few { result ≤ 4 * 10 ^ 24 }
+{
+    u128::from(events) * u128::from(WHOLE - target.billionths())
 }

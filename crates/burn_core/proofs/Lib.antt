@@ -1,0 +1,2 @@
+pub mod BurnOrder
+pub mod BudgetLaws

@@ -1,0 +1,25 @@
+-- What budgets come to, in words that no formula of the code repeats.
+use Rattle.std.specs.Prelude.{◌≡◌, ℕ, ◌-◌, ◌*◌, ◌<◌, ◌≤◌, pos, ◌+ℤ◌, ◌*ℤ◌, Some}
+use Rattle.exact_fraction.specs.declared.leaf.Leaf.{Leaf}
+use Rattle.exact_fraction.specs.Ratio.{Ratio, SameValue}
+use Rattle.slo_terms.specs.Budget.{WHOLE, burn_of, error_rate_of, remaining_of}
+
+-- a fraction times so many billionths is another fraction
+abbrev pub IsTimes : Ratio → ℕ → Ratio → Type 0
+IsTimes a billionths product = SameValue product (a.num *ℤ pos billionths) (a.den * WHOLE)
+
+-- two fractions are 1 together
+abbrev pub AreOne : Ratio → Ratio → Type 0
+AreOne a b = a.num *ℤ pos b.den +ℤ b.num *ℤ pos a.den ≡ pos (a.den * b.den)
+
+-- the error rate is the burn rate times what the target allows, 1 - target
+abbrev pub BurnTimesAllowanceIsError : Type 0
+BurnTimesAllowanceIsError =
+    (sum : Leaf) (target : ℕ) (error burn : Ratio) → sum.num ≤ sum.den → target < WHOLE →
+    error_rate_of sum ≡ Some error → burn_of sum target ≡ Some burn → IsTimes burn (WHOLE - target) error
+
+-- the remaining budget and the burn rate are the whole budget
+abbrev pub RemainingAndBurnAreOne : Type 0
+RemainingAndBurnAreOne =
+    (sum : Leaf) (target : ℕ) (burn remaining : Ratio) → sum.num ≤ sum.den → target < WHOLE →
+    burn_of sum target ≡ Some burn → remaining_of sum target ≡ Some remaining → AreOne remaining burn
