@@ -1,8 +1,8 @@
 // Decimals and percentages as people write them.
-ghost use Rattle.std.specs.Prelude.{◌≡◌, ◌+◌, ◌-◌, ◌*◌, ◌/◌, ◌%◌, ◌^◌, ◌<◌, ◌≤◌, ◌++◌, ◌==◌, IsTrue, OnErr, OnOk, length, unsigned_abs};
+ghost use Rattle.std.specs.Prelude.{◌≡◌, ◌+◌, ◌-◌, ◌*◌, ◌/◌, ◌%◌, ◌^◌, ◌<◌, ◌≤◌, ◌++◌, ◌==◌, ◌*ℤ◌, pos, IsTrue, OnErr, OnOk, length, unsigned_abs};
 ghost use Rattle.std.specs.Char.{is_ascii_digit};
 ghost use Rattle.std.specs.List.{list_all, suffix_len};
-ghost use Rattle.exact_fraction.specs.DecimalText.{decimal_text, last_digits, minus_of, percent_parts, percent_text, without_last_zeros};
+ghost use Rattle.exact_fraction.specs.DecimalText.{IsFloor, decimal_text, last_digits, minus_of, percent_parts, percent_text, without_last_zeros};
 
 use crate::decimal::Decimal;
 use crate::fraction::Fraction;
@@ -47,6 +47,7 @@ pub fn write_decimal(out: &mut Vec<u8>, value: Decimal) -> Result<(), AllocError
 /// After an error `out` is as before.
 pub fn write_percent(out: &mut Vec<u8>, value: &Fraction) -> Result<(), AllocError>
     ensures written { OnOk result (out.new.items ≡ out.old.items ++ percent_text value.now) }
+    ensures floor { IsFloor (percent_parts value.now) (value.now.num *ℤ pos (10 ^ 6)) value.now.den }
     ensures unchanged { OnErr result (out.new.items ≡ out.old.items) }
 {
     let parts = percent_parts(value);
@@ -62,7 +63,8 @@ pub fn write_percent(out: &mut Vec<u8>, value: &Fraction) -> Result<(), AllocErr
 
 // The fraction in ten-thousandths of a percent, rounded toward minus infinity.
 fn percent_parts(value: &Fraction) -> i128
-    ensures { result ≡ percent_parts value.now }
+    ensures value { result ≡ percent_parts value.now }
+    ensures floor { IsFloor (percent_parts value.now) (value.now.num *ℤ pos (10 ^ 6)) value.now.den }
 {
     (value.num() * PARTS_OF_THE_WHOLE).div_euclid(value.den() as i128)
 }
