@@ -1,2 +1,4 @@
 pub mod BurnOrder
 pub mod BudgetLaws
+pub mod ConditionLemmas
+pub mod TimelineLemmas

@@ -1,2 +1,4 @@
 pub mod Alert
+pub mod Condition
 pub mod Laws
+pub mod Timeline
