@@ -1,0 +1,5 @@
+pub mod LineLemmas
+pub mod MinuteLemmas
+pub mod RunLemmas
+pub mod SpanLemmas
+pub mod WindowLemmas

@@ -1,0 +1,405 @@
+//! A line that remembers the condition of an alert.
+ghost use Rattle.std.specs.Prelude.{◌≡◌, ℕ, Bool, true, ◌+◌, ◌-◌, ◌*◌, ◌^◌, [], IfSome, OnOk, is_none, ◌<◌, ◌≤◌, ◌==◌, ◌&&◌, nat_le, nat_lt, IfOk, IsTrue, is_some, None, Some, length, slice_index, if◌then◌else◌};
+ghost use Rattle.burn_core.specs.Alert.{IsRule, wait_of};
+ghost use Rattle.burn_core.specs.Timeline.{AreSpansOf, is_active, state_of};
+ghost use Rattle.window_sums.specs.Slices.{CountedDays, leaf_at, width_of};
+ghost use Rattle.alert_line.specs.Cursor.{IsAt, IsBehind, StandAt, rule_of};
+ghost use Rattle.alert_line.specs.Laws.{HasForgotten};
+ghost use Rattle.alert_line.specs.Learnt.{IsLearnt, IsRun, start_of, unknown_in};
+ghost use Rattle.alert_line.specs.Line.{Agrees, IsMinute, SameAlert, active_on, condition_on, den_before, known};
+
+use crate::cursor::Cursor;
+use crate::minutes::{forget_in, keep, kept_at};
+use crate::spans::{Spans, note_minute};
+use burn_core::{AlertRule, State};
+use counted_steps::Steps;
+use exact_fraction::Decimal;
+use std::alloc::{AllocError, Global};
+use std::marker::Model;
+use std::sync::ledger::Ledger;
+use window_sums::WindowSums;
+
+/// How many minutes a line is about: almost four years, as long as an office runs.
+pub const LINE_MINUTES: u32 = 2_097_152;
+
+// Over how many minutes that were known windows are moved on. Over more it is cheaper to sum anew.
+const MOST_MOVES: u32 = 32;
+
+/// What is known of the condition of an alert, for each minute from its origin on.
+#[derive(Drop)]
+pub struct AlertLine {
+    rule: AlertRule,
+    target: Decimal,
+    origin: u32,
+    bytes: Vec<u8>,
+}
+
+impl Model for AlertLine {
+    ghost use Rattle.alert_line.specs.Line.{IsLine, Line};
+
+    ghost Value = { Line };
+
+    ghost view = { λ a. record { rule = a.rule; target = a.target; origin = a.origin; bytes = a.bytes.items } };
+
+    ghost invariant = { λ a. IsLine (record { rule = a.rule; target = a.target; origin = a.origin; bytes = a.bytes.items }) };
+}
+
+impl AlertLine {
+    /// A line that knows nothing yet, of 512 KiB. The target is below 1, a threshold at most
+    /// 10,000, a lookback and a wait at most 30 days.
+    pub fn new(
+        alloc: Global,
+        origin: u32,
+        rule: AlertRule,
+        target: Decimal,
+    ) -> Result<AlertLine, AllocError>
+        requires rule { IsRule rule }
+        requires target { target < 10 ^ 9 }
+        ensures rule { IfOk result (λ line. line.rule ≡ rule) }
+        ensures target { IfOk result (λ line. line.target ≡ target) }
+        ensures origin { IfOk result (λ line. line.origin ≡ origin) }
+        ensures unknown { IfOk result (λ line. (minute : ℕ) → known line minute ≡ None) }
+        ensures agrees { IfOk result (λ line. (sums : CountedDays) → Agrees line sums) }
+    {
+        let bytes = zeros(alloc, (LINE_MINUTES / 4) as usize)?;
+        Ok(AlertLine {
+            rule,
+            target,
+            origin,
+            bytes,
+        })
+    }
+
+    /// The condition of a minute as far as it is known. None exactly where the minute is unknown
+    /// or out of the line's range.
+    pub fn known_at(&self, minute: u32) -> Option<bool>
+        ensures { result ≡ known self.now minute }
+    {
+        if minute < self.origin || minute - self.origin >= LINE_MINUTES {
+            return None;
+        }
+        kept_at(&self.bytes, (minute - self.origin) as usize)
+    }
+
+    /// Forgets the minutes of [from, to), and no other.
+    pub fn mark(&mut self, from: u32, to: u32)
+        ensures alert { SameAlert self.old self.new }
+        ensures forgotten { HasForgotten self.old self.new from to }
+        ensures agrees { (sums : CountedDays) → Agrees self.old sums → Agrees self.new sums }
+    {
+        let first = from.saturating_sub(self.origin).min(LINE_MINUTES) as usize;
+        let end = to.saturating_sub(self.origin).min(LINE_MINUTES) as usize;
+        if first < end {
+            forget_in(&mut self.bytes, first, end);
+        }
+    }
+
+    /// The condition of a minute, which is known afterwards. No step where it was known before,
+    /// else at most 2,400.
+    pub fn condition_at<L: Ledger>(
+        &mut self,
+        minute: u32,
+        sums: &WindowSums,
+        steps: &mut Steps<L>,
+    ) -> bool
+        requires minute { IsMinute self.old minute }
+        requires agrees { Agrees self.old sums.now }
+        ensures value { result ≡ condition_on self.old sums.now minute }
+        ensures alert { SameAlert self.old self.new }
+        ensures agrees { Agrees self.new sums.now }
+        ensures known { (u : ℕ) → known self.new u ≡ (if u == minute then Some result else known self.old u) }
+        ensures free { IsTrue (is_some (known self.old minute)) → steps.new ≡ steps.old }
+        ensures steps { steps.new ≤ steps.old + 2400 }
+    {
+        if let Some(holds) = self.known_at(minute) {
+            return holds;
+        }
+        let cursor = Cursor::new(self.rule, minute, sums, steps);
+        let holds = self.burns(&cursor, sums);
+        self.learn(minute, holds);
+        holds
+    }
+
+    /// When the alert is active within [from, to): the longest stretches of active minutes. Each
+    /// minute from `from` less the wait on is known afterwards. At most 2,400 steps for each of
+    /// them that was unknown, and none for the others.
+    pub fn intervals<L: Ledger>(
+        &mut self,
+        from: u32,
+        to: u32,
+        sums: &WindowSums,
+        steps: &mut Steps<L>,
+    ) -> Result<Spans, AllocError>
+        requires order { from ≤ to }
+        requires begin { self.old.origin ≤ from }
+        requires end { to ≤ self.old.origin + 2097152 }
+        requires agrees { Agrees self.old sums.now }
+        ensures value { IfOk result (λ spans. AreSpansOf (λ minute. active_on self.old sums.now minute ≡ true) from to spans.items) }
+        ensures alert { SameAlert self.old self.new }
+        ensures agrees { Agrees self.new sums.now }
+        ensures kept { (u : ℕ) (holds : Bool) → known self.old u ≡ Some holds → known self.new u ≡ Some holds }
+        ensures known { OnOk result (IsLearnt self.old self.new sums.now (start_of self.old from) to) }
+        ensures steps { steps.new ≤ steps.old + 2400 * unknown_in self.old (start_of self.old from) (to - start_of self.old from) }
+    {
+        let wait = self.wait();
+        let start = self.start(from);
+        let mut spans = self.no_spans();
+        let mut run = 0;
+        let mut cursor = None;
+        for minute in start..to {
+            let holds = self.evaluate(minute, &mut cursor, sums, steps);
+            run = next_run(run, holds);
+            let active = is_active(wait, run, from, minute);
+            note_minute(&mut spans, minute, active)?;
+        }
+        Ok(spans)
+    }
+
+    /// How the alert stands at a minute. Afterwards the minutes that decide about it are known. At
+    /// most 2,400 steps for each of them that was unknown, and 600 for the lookback.
+    pub fn state_at<L: Ledger>(
+        &mut self,
+        minute: u32,
+        sums: &WindowSums,
+        steps: &mut Steps<L>,
+    ) -> State
+        requires minute { IsMinute self.old minute }
+        requires agrees { Agrees self.old sums.now }
+        ensures value { result ≡ state_of (active_on self.old sums.now minute) (den_before self.old sums.now minute) }
+        ensures alert { SameAlert self.old self.new }
+        ensures agrees { Agrees self.new sums.now }
+        ensures kept { (u : ℕ) (holds : Bool) → known self.old u ≡ Some holds → known self.new u ≡ Some holds }
+        ensures known { IsLearnt self.old self.new sums.now (start_of self.old minute) (minute + 1) }
+        ensures steps { steps.new ≤ steps.old + 600 + 2400 * unknown_in self.old (start_of self.old minute) (minute + 1 - start_of self.old minute) }
+    {
+        let den = self.den_before(minute, sums, steps);
+        let active = self.active_at(minute, sums, steps);
+        state_of(active, den)
+    }
+
+    // Whether the alert is active at a minute.
+    fn active_at<L: Ledger>(&mut self, minute: u32, sums: &WindowSums, steps: &mut Steps<L>) -> bool
+        requires minute { IsMinute self.old minute }
+        requires agrees { Agrees self.old sums.now }
+        ensures value { result ≡ active_on self.old sums.now minute }
+        ensures alert { SameAlert self.old self.new }
+        ensures agrees { Agrees self.new sums.now }
+        ensures kept { (u : ℕ) (holds : Bool) → known self.old u ≡ Some holds → known self.new u ≡ Some holds }
+        ensures known { IsLearnt self.old self.new sums.now (start_of self.old minute) (minute + 1) }
+        ensures steps { steps.new ≤ steps.old + 2400 * unknown_in self.old (start_of self.old minute) (minute + 1 - start_of self.old minute) }
+    {
+        let wait = self.wait();
+        let mut cursor = None;
+        let run = self.run_before(minute, &mut cursor, sums, steps);
+        let holds = self.evaluate(minute, &mut cursor, sums, steps);
+        has_held(wait, run, holds)
+    }
+
+    // For how many minutes before a minute the condition has held without a break, as far as its
+    // wait asks.
+    fn run_before<L: Ledger>(
+        &mut self,
+        minute: u32,
+        cursor: &mut Option<Cursor>,
+        sums: &WindowSums,
+        steps: &mut Steps<L>,
+    ) -> u32
+        requires minute { IsMinute self.old minute }
+        requires agrees { Agrees self.old sums.now }
+        requires none { cursor.old ≡ None }
+        ensures run { IsRun (condition_on self.old sums.now) (start_of self.old minute) minute result }
+        ensures alert { SameAlert self.old self.new }
+        ensures agrees { Agrees self.new sums.now }
+        ensures known { IsLearnt self.old self.new sums.now (start_of self.old minute) minute }
+        ensures behind { IfSome cursor.new (IsBehind self.old.rule (width_of sums.now.method) (leaf_at sums.now) minute) }
+        ensures steps { steps.new ≤ steps.old + 2400 * unknown_in self.old (start_of self.old minute) (minute - start_of self.old minute) }
+    {
+        let start = self.start(minute);
+        let mut run = 0;
+        for at in start..minute {
+            let holds = self.evaluate(at, cursor, sums, steps);
+            run = next_run(run, holds);
+        }
+        run
+    }
+
+    // The den over the lookback.
+    fn den_before<L: Ledger>(&self, minute: u32, sums: &WindowSums, steps: &mut Steps<L>) -> u64
+        ensures value { result ≡ den_before self.now sums.now minute }
+        ensures steps { steps.new ≤ steps.old + 600 }
+    {
+        let from = minute.saturating_sub(self.rule.lookback());
+        sums.sum(from, minute, steps).den
+    }
+
+    // The condition of a minute, which is known afterwards. The cursor stands at an earlier minute
+    // that wasn't known, if there was one, and no step is taken where this one was known.
+    fn evaluate<L: Ledger>(
+        &mut self,
+        minute: u32,
+        cursor: &mut Option<Cursor>,
+        sums: &WindowSums,
+        steps: &mut Steps<L>,
+    ) -> bool
+        requires minute { IsMinute self.old minute }
+        requires agrees { Agrees self.old sums.now }
+        requires behind { IfSome cursor.old (IsBehind self.old.rule (width_of sums.now.method) (leaf_at sums.now) minute) }
+        ensures value { result ≡ condition_on self.old sums.now minute }
+        ensures alert { SameAlert self.old self.new }
+        ensures known { (u : ℕ) → known self.new u ≡ (if u == minute then Some result else known self.old u) }
+        ensures behind { IfSome cursor.new (IsBehind self.old.rule (width_of sums.now.method) (leaf_at sums.now) (minute + 1)) }
+        ensures steps { steps.new ≤ steps.old + 2400 * (if is_none (known self.old minute) then 1 else 0) }
+    {
+        if let Some(holds) = self.known_at(minute) {
+            return holds;
+        }
+        self.discover(minute, cursor, sums, steps)
+    }
+
+    // The condition of a minute that isn't known. Not inlined, which doubles the speed over known
+    // minutes. The cursor moves on by two reads for each window and minute, if it is near enough,
+    // and stands at this minute afterwards.
+    #[inline(never)]
+    fn discover<L: Ledger>(
+        &mut self,
+        minute: u32,
+        cursor: &mut Option<Cursor>,
+        sums: &WindowSums,
+        steps: &mut Steps<L>,
+    ) -> bool
+        requires minute { IsMinute self.old minute }
+        requires agrees { Agrees self.old sums.now }
+        requires behind { IfSome cursor.old (IsBehind self.old.rule (width_of sums.now.method) (leaf_at sums.now) minute) }
+        ensures value { result ≡ condition_on self.old sums.now minute }
+        ensures alert { SameAlert self.old self.new }
+        ensures known { (u : ℕ) → known self.new u ≡ (if u == minute then Some result else known self.old u) }
+        ensures stands { IfSome cursor.new (IsAt self.old.rule (width_of sums.now.method) (leaf_at sums.now) minute) }
+        ensures stays { IsTrue (is_some cursor.new) }
+        ensures steps { steps.new ≤ steps.old + 2400 }
+        ensures moved { IfSome cursor.old (λ last. minute - last.minute ≤ MOST_MOVES → steps.new ≤ steps.old + 8 * (minute - last.minute)) }
+    {
+        let next = self.cursor_at(minute, *cursor, sums, steps);
+        let holds = self.burns(&next, sums);
+        self.learn(minute, holds);
+        *cursor = Some(next);
+        holds
+    }
+
+    // The windows of the rule at a minute: those of an earlier one moved on, or from scratch.
+    fn cursor_at<L: Ledger>(
+        &self,
+        minute: u32,
+        last: Option<Cursor>,
+        sums: &WindowSums,
+        steps: &mut Steps<L>,
+    ) -> Cursor
+        requires behind { IfSome last (IsBehind self.now.rule (width_of sums.now.method) (leaf_at sums.now) minute) }
+        ensures value { IsAt self.now.rule (width_of sums.now.method) (leaf_at sums.now) minute result }
+        ensures steps { steps.new ≤ steps.old + 2400 }
+        ensures moved { IfSome last (λ last. minute - last.minute ≤ MOST_MOVES → steps.new ≤ steps.old + 8 * (minute - last.minute)) }
+    {
+        match last {
+            Some(cursor) => self.moved_or_new(minute, cursor, sums, steps),
+            None => Cursor::new(self.rule, minute, sums, steps),
+        }
+    }
+
+    fn moved_or_new<L: Ledger>(
+        &self,
+        minute: u32,
+        last: Cursor,
+        sums: &WindowSums,
+        steps: &mut Steps<L>,
+    ) -> Cursor
+        requires behind { IsBehind self.now.rule (width_of sums.now.method) (leaf_at sums.now) minute last }
+        ensures value { IsAt self.now.rule (width_of sums.now.method) (leaf_at sums.now) minute result }
+        ensures steps { steps.new ≤ steps.old + 2400 }
+        ensures moved { minute - last.minute ≤ MOST_MOVES → steps.new ≤ steps.old + 8 * (minute - last.minute) }
+    {
+        if minute - last.minute <= MOST_MOVES {
+            last.moved_to(minute, sums, steps)
+        } else {
+            Cursor::new(self.rule, minute, sums, steps)
+        }
+    }
+
+    // What the rule says at the minute of a cursor.
+    fn burns(&self, cursor: &Cursor, sums: &WindowSums) -> bool
+        requires minute { IsMinute self.now cursor.now.minute }
+        requires stands { IsAt self.now.rule (width_of sums.now.method) (leaf_at sums.now) cursor.now.minute cursor.now }
+        ensures { result ≡ condition_on self.now sums.now cursor.now.minute }
+    {
+        cursor.burns(self.target, sums)
+    }
+
+    // Remembers the condition of a minute.
+    fn learn(&mut self, minute: u32, holds: bool)
+        requires { IsMinute self.old minute }
+        ensures alert { SameAlert self.old self.new }
+        ensures known { (u : ℕ) → known self.new u ≡ (if u == minute then Some holds else known self.old u) }
+    {
+        let slot = (minute - self.origin) as usize;
+        keep(&mut self.bytes, slot, holds);
+    }
+
+    fn wait(&self) -> u32
+        ensures value { result ≡ wait_of self.now.rule }
+    {
+        self.rule.wait()
+    }
+
+    // Where a pass over a range begins.
+    fn start(&self, from: u32) -> u32
+        ensures value { result ≡ start_of self.now from }
+        ensures origin { self.now.origin ≤ result }
+    {
+        from.saturating_sub(self.wait()).max(self.origin)
+    }
+
+    fn no_spans(&self) -> Spans
+        ensures { result.items ≡ [] }
+    {
+        Vec::new(*self.bytes.allocator())
+    }
+}
+
+// The condition has held for long enough, at a minute of the range.
+fn is_active(wait: u32, run: u32, from: u32, minute: u32) -> bool
+    ensures { result ≡ (nat_lt wait run && nat_le from minute) }
+{
+    wait < run && from <= minute
+}
+
+// The condition holds at a minute, and held for long enough before it.
+fn has_held(wait: u32, run: u32, holds: bool) -> bool
+    ensures { result ≡ (holds && nat_le wait run) }
+{
+    holds && wait <= run
+}
+
+// For how many minutes without a break the condition has held.
+fn next_run(run: u32, holds: bool) -> u32
+    requires { run + 1 < 2 ^ 32 }
+    ensures { result ≡ (if holds then run + 1 else 0) }
+{
+    if holds { run + 1 } else { 0 }
+}
+
+fn state_of(active: bool, den: u64) -> State
+    ensures { result ≡ state_of active den }
+{
+    if active {
+        State::Breaching
+    } else if den == 0 {
+        State::NoData
+    } else {
+        State::Quiet
+    }
+}
+
+fn zeros(alloc: Global, count: usize) -> Result<Vec<u8>, AllocError>
+    ensures len { IfOk result (λ v. length v.items ≡ count) }
+    ensures zeros { IfOk result (λ v. (at : ℕ) → slice_index v.items at ≡ 0) }
+{
+    vec![in alloc; 0; count]
+}
