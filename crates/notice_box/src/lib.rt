@@ -3,6 +3,13 @@
 //! Promises a numbered list in which each notice waits until it is taken, once.
 #![tactic(auto)]
 
+mod changes;
+mod laws;
+mod links;
 mod notice;
+mod notice_box;
 
+pub use changes::plan;
+pub use laws::takings_are_few;
 pub use notice::Notice;
+pub use notice_box::{NoticeBox, UnknownNotice};
