@@ -1,0 +1,7 @@
+pub mod Gathering
+pub mod Giving
+pub mod Histories
+pub mod Ledgers
+pub mod Sharing
+pub mod Taking
+pub mod Views

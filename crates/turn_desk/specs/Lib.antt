@@ -1,0 +1,6 @@
+pub mod Histories
+pub mod Ledgers
+pub mod Passes
+pub mod Rule
+pub mod Turns
+pub mod Views

@@ -1,0 +1,16 @@
+//! A desk at which threads take turns with one value, so that its changes have one history.
+//! It stands on `atomic_table`, and on no other crate of this repository.
+//! It promises that what passes have seen are beginnings of one history, and no entry has two makers.
+#![tactic(auto)]
+
+mod bell;
+mod desk;
+mod ledgered;
+mod pass;
+mod rule;
+mod turn;
+mod view;
+
+pub use desk::{Desk, DeskFailed};
+pub use ledgered::{Call, Ledgered};
+pub use pass::Pass;

@@ -1,0 +1,87 @@
+//! The rule of the desk, and what each kind of step tells. These types are for the proofs alone.
+ghost use Rattle.turn_desk.specs.Rule.{Ruled, first_view, Took, Grew, Freed, Compared};
+
+use crate::ledgered::Ledgered;
+use crate::view::View;
+use atomic_table::{Join, Play, Split, TableRule};
+use std::marker::{Brand, PhantomData};
+use std::snapshot::Snapshot;
+
+/// The rule, over the value that the desk was made with.
+pub struct Turns;
+
+impl<T: Ledgered> TableRule<Option<T>, View, Snapshot<T>> for Turns {
+    ghost holds = { λ k. Ruled T.ledger k.value };
+
+    ghost first = { λ k. first_view T.ledger k.value };
+}
+
+/// Looks at the mark, and takes the turn if it is free.
+pub struct Take;
+
+impl<T: Ledgered> Play<Option<T>, View> for Take {
+    ghost then = { Took T.ledger };
+}
+
+/// What a turn did: whether the call added an entry of its own, and whether the count of faults
+/// rose.
+pub trait Did {
+    ghost use Rattle.std.specs.Prelude.{Bool};
+
+    ghost added: { Bool };
+
+    ghost rose: { Bool };
+}
+
+impl Did for Brand {
+    ghost use Rattle.std.specs.Prelude.{false};
+
+    ghost added = { false };
+
+    ghost rose = { false };
+}
+
+/// The holder stores the new length of the history.
+pub struct Grow<B> {
+    marker: PhantomData<B>,
+}
+
+impl<T: Ledgered, B: Did> Play<Option<T>, View> for Grow<B> {
+    ghost then = { Grew T.ledger B.added B.rose };
+}
+
+/// The holder clears the mark.
+pub struct Free;
+
+impl<T: Ledgered> Play<Option<T>, View> for Free {
+    ghost then = { Freed T.ledger };
+}
+
+/// A look at the mark that tells what the rule says of a pass.
+pub struct Compare;
+
+impl<T: Ledgered> Play<Option<T>, View> for Compare {
+    ghost then = { Compared T.ledger };
+}
+
+/// A further pass that has seen as much.
+pub struct Another;
+
+impl Split<View> for Another {
+    ghost use Rattle.turn_desk.specs.Views.{visitor};
+
+    ghost left = { λ v. v };
+
+    ghost right = { λ v. visitor v.root v.seen };
+}
+
+/// Two passes become one.
+pub struct Both;
+
+impl Join<View> for Both {
+    ghost use Rattle.turn_desk.specs.Views.{merged, spent};
+
+    ghost both = { merged };
+
+    ghost spent = { spent };
+}

@@ -1,0 +1,110 @@
+//! One turn over the table: how the value comes out, and how it goes back.
+ghost use Rattle.std.specs.Prelude.{◌≡◌, [], ◌∷◌, true, false, Some, None, ◌<◌, length};
+ghost use Rattle.atomic_table.specs.Seated.{TableId};
+ghost use Rattle.turn_desk.specs.Histories.{Extends};
+ghost use Rattle.turn_desk.specs.Views.{IsIdle, taken, grown, freed};
+ghost use Rattle.turn_desk.specs.Rule.{IsDesk};
+
+use crate::bell::Bell;
+use crate::ledgered::{Call, Ledgered};
+use crate::rule::{Did, Free, Grow, Take, Turns};
+use crate::view::View;
+use atomic_table::{Seat, Shared};
+use std::snapshot::Snapshot;
+use std::sync::Wait;
+
+/// The word that is `TAKEN` while a pass holds the turn.
+pub(crate) const MARK: usize = 0;
+
+/// The word that has the length of the history.
+pub(crate) const LENGTH: usize = 1;
+
+/// The slot in which the value lies while no pass holds the turn.
+pub(crate) const PLACE: usize = 0;
+
+const FREE: u64 = 0;
+
+const TAKEN: u64 = 1;
+
+/// The table of a desk: two words, and one slot.
+pub(crate) type Board<T> = Shared<Option<T>, View, Snapshot<T>, Turns>;
+
+/// Takes the turn, if it is free.
+fn try_turn<T: Ledgered>(board: &Board<T>, seat: &mut Seat<Option<T>, View>) -> bool
+    requires board { (seat.old.table_id ≡ board.now.table_id) × IsDesk board.now.table_id }
+    requires idle { IsIdle seat.old.me }
+    ensures seat { (seat.new.table_id ≡ seat.old.table_id) × (seat.new.id ≡ seat.old.id) }
+    ensures won { result ≡ true → (y : T) × (seat.new.me ≡ (taken seat.old.me.0 (T.ledger y).history, (0, Some y) ∷ [])) × Extends seat.old.me.0.seen (T.ledger y).history × ((T.ledger y).root ≡ seat.old.me.0.root) }
+    ensures lost { result ≡ false → seat.new.me ≡ seat.old.me }
+{
+    board.compare_exchange::<Take>(seat, MARK, FREE, TAKEN) == FREE
+}
+
+/// Waits for the turn.
+fn take_turn<R: Wait, T: Ledgered>(
+    rt: &R,
+    board: &Board<T>,
+    bell: &Bell,
+    seat: &mut Seat<Option<T>, View>,
+)
+    requires board { (seat.old.table_id ≡ board.now.table_id) × IsDesk board.now.table_id }
+    requires idle { IsIdle seat.old.me }
+    ensures seat { (seat.new.table_id ≡ seat.old.table_id) × (seat.new.id ≡ seat.old.id) }
+    ensures value { (y : T) × (seat.new.me ≡ (taken seat.old.me.0 (T.ledger y).history, (0, Some y) ∷ [])) × Extends seat.old.me.0.seen (T.ledger y).history × ((T.ledger y).root ≡ seat.old.me.0.root) }
+{
+    if try_turn(board, seat) {
+        return;
+    }
+    for _ in rt.forever() {
+        bell.ask();
+        if try_turn(board, seat) {
+            return;
+        }
+        bell.sleep(rt);
+    }
+    unreachable!()
+}
+
+/// Waits for the turn, and moves the value out.
+pub(crate) fn take_out<R: Wait, T: Ledgered>(
+    rt: &R,
+    board: &Board<T>,
+    bell: &Bell,
+    seat: &mut Seat<Option<T>, View>,
+) -> T
+    requires board { (seat.old.table_id ≡ board.now.table_id) × IsDesk board.now.table_id }
+    requires idle { IsIdle seat.old.me }
+    ensures seat { (seat.new.table_id ≡ seat.old.table_id) × (seat.new.id ≡ seat.old.id) }
+    ensures value { Extends seat.old.me.0.seen (T.ledger result).history × ((T.ledger result).root ≡ seat.old.me.0.root) }
+    ensures view { seat.new.me ≡ (taken seat.old.me.0 (T.ledger result).history, (0, None) ∷ []) }
+{
+    take_turn(rt, board, bell, seat);
+    let found = board.exchange(seat, PLACE, None);
+    let Some(value) = found else { unreachable!() };
+    value
+}
+
+/// Moves the value back, stores the length of its history, clears the mark, and wakes one that
+/// waits. Of the turn it is told what the proof needs.
+pub(crate) fn give_back<T: Ledgered, C: Call<T>, B: Did>(
+    board: &Board<T>,
+    bell: &Bell,
+    seat: &mut Seat<Option<T>, View>,
+    value: T,
+    _asked: Snapshot<C>,
+    _before: Snapshot<T>,
+    _out: &C::Out,
+)
+    requires board { (seat.old.table_id ≡ board.now.table_id) × IsDesk board.now.table_id }
+    requires holds { (seat.old.me.1 ≡ (0, None) ∷ []) × (seat.old.me.0.holds ≡ true) × (seat.old.me.0.live ≡ true) }
+    requires value { Extends seat.old.me.0.seen (T.ledger value).history × ((T.ledger value).root ≡ seat.old.me.0.root) × (B.added ≡ true → length seat.old.me.0.seen < length (T.ledger value).history) }
+    ensures seat { (seat.new.table_id ≡ seat.old.table_id) × (seat.new.id ≡ seat.old.id) }
+    ensures view { seat.new.me ≡ (freed (grown B.added B.rose seat.old.me.0 (T.ledger value).history), []) }
+{
+    let length = value.length();
+    let none = board.exchange(seat, PLACE, Some(value));
+    let None = none else { unreachable!() };
+    board.store::<Grow<B>>(seat, LENGTH, length);
+    board.store::<Free>(seat, MARK, FREE);
+    bell.ring();
+}
