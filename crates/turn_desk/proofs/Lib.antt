@@ -2,6 +2,7 @@ pub mod Gathering
 pub mod Giving
 pub mod Histories
 pub mod Ledgers
+pub mod Numbers
 pub mod Sharing
 pub mod Taking
 pub mod Views

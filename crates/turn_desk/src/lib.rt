@@ -8,6 +8,8 @@ mod desk;
 mod ledgered;
 mod pass;
 mod rule;
+#[cfg(test)]
+mod tests;
 mod turn;
 mod view;
 
