@@ -2,7 +2,7 @@ pub mod Gathering
 pub mod Giving
 pub mod Histories
 pub mod Ledgers
-pub mod Numbers
+pub mod NumberLists
 pub mod Sharing
 pub mod Taking
 pub mod Views

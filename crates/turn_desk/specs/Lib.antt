@@ -1,6 +1,6 @@
 pub mod Histories
 pub mod Ledgers
-pub mod Numbers
+pub mod NumberLists
 pub mod Passes
 pub mod Rule
 pub mod Turns

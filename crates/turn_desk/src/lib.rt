@@ -6,6 +6,7 @@
 mod bell;
 mod desk;
 mod ledgered;
+mod numbers;
 mod pass;
 mod rule;
 #[cfg(test)]
@@ -15,4 +16,5 @@ mod view;
 
 pub use desk::{Desk, DeskFailed};
 pub use ledgered::{Call, Ledgered};
+pub use numbers::{Add, Numbers, Read};
 pub use pass::Pass;

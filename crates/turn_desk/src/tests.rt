@@ -1,64 +1,12 @@
 //! Passes over a list of numbers, one after another and in threads.
-ghost use Rattle.std.specs.Prelude.{◌≡◌, [], ◌∷◌, ◌++◌, ◌≤◌, ℕ, List, All, IfSome, true, false};
-ghost use Rattle.turn_desk.specs.Numbers.{numbers};
+ghost use Rattle.std.specs.Prelude.{◌≡◌, [], ◌∷◌, ◌++◌, ◌≤◌, ℕ, List, All, IfSome};
+ghost use Rattle.turn_desk.specs.NumberLists.{numbers};
 
-use crate::{Call, Desk, Ledgered, Pass};
+use crate::{Add, Desk, Numbers, Pass, Read};
 use std::alloc::Global;
 use std::sync::Wait;
 use std::thread;
 use std::thread::Threads;
-
-/// A plain list of numbers, each an entry.
-#[derive(Drop)]
-struct Numbers {
-    items: Vec<u64>,
-}
-
-impl Ledgered for Numbers {
-    ghost ledger = { λ n. numbers n.items.items };
-
-    fn length(&self) -> u64 {
-        self.items.len() as u64
-    }
-}
-
-/// Adds a number. It answers whether there was memory.
-#[derive(Drop)]
-struct Add {
-    number: u64,
-}
-
-impl Call<Numbers> for Add {
-    type Out = bool;
-
-    ghost then = { λ add old out after new. (out ≡ true → new.items.items ≡ old.items.items ++ add.number ∷ []) × (out ≡ false → new.items.items ≡ old.items.items) };
-
-    ghost added = { λ add old out new. out };
-
-    fn act(&mut self, value: &mut Numbers) -> bool {
-        value.items.push(self.number).is_ok()
-    }
-}
-
-/// Reads the list.
-#[derive(Drop)]
-struct Read {
-    alloc: Global,
-}
-
-impl Call<Numbers> for Read {
-    type Out = Option<Vec<u64>>;
-
-    ghost then = { λ read old out after new. (new ≡ old) × IfSome out (λ list. list.items ≡ old.items.items) };
-
-    ghost added = { λ read old out new. false };
-
-    fn act(&mut self, value: &mut Numbers) -> Option<Vec<u64>> {
-        let mut list = Vec::new(self.alloc);
-        list.extend_from_slice(value.items.as_slice()).ok()?;
-        Some(list)
-    }
-}
 
 fn desk_for_two(alloc: Global) -> Option<(Desk<Numbers>, Pass<Numbers>, Pass<Numbers>)>
     ensures { IfSome result (λ made. (made.1.desk ≡ made.0) × (made.2.desk ≡ made.0)) }

@@ -1,9 +1,8 @@
--- A list of numbers goes on as a ledger does, for the tests.
+-- A list of numbers goes on as a ledger does.
 use Rattle.std.proofs.Common.{◌≡◌, ℕ, Bool, true, false, List, [], ◌∷◌, ◌++◌, refl, sym, ap, ◌∙◌}
-use Rattle.std.specs.Prelude.{map}
 use Rattle.std.proofs.lemmas.List.{append-nil, map-append}
 use Rattle.turn_desk.specs.Ledgers.{GoesOn}
-use Rattle.turn_desk.specs.Numbers.{numbers}
+use Rattle.turn_desk.specs.NumberLists.{numbers}
 
 abbrev entries : List ℕ → List (List ℕ)
 entries ns = (numbers ns).history

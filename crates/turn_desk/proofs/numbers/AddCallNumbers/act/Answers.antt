@@ -1,6 +1,6 @@
 use Rattle.std.proofs.Common.{◌≡◌, true, false, [], ◌∷◌, ◌++◌, rules}
-use Rattle.turn_desk.proofs.Numbers.{numbers_go_on}
-use Rattle.turn_desk.proofs.tests.AddCallNumbers.act.Goals as goal
+use Rattle.turn_desk.proofs.NumberLists.{numbers_go_on}
+use Rattle.turn_desk.proofs.numbers.AddCallNumbers.act.Goals as goal
 
 pub returns-clause-ledger : goal.returns-clause-ledger
 returns-clause-ledger c =
