@@ -1,0 +1,5 @@
+pub mod File
+pub mod Front
+pub mod Keeping
+pub mod Legal
+pub mod Scanning
