@@ -1,0 +1,11 @@
+pub mod Room
+pub mod PrefixLemmas
+pub mod Trims
+pub mod Lengths
+pub mod Wide
+pub mod WaitLemmas
+pub mod JudgeLemmas
+pub mod FrontLemmas
+pub mod TargetLemmas
+pub mod LawLemmas
+pub mod StreamLemmas
