@@ -7,7 +7,8 @@ use Rattle.std.proofs.lemmas.Bool.Decides.{eqb_tells, leb_tells}
 use Rattle.exact_fraction.specs.declared.leaf.Leaf.{Leaf}
 use Rattle.exact_fraction.specs.Ratio.{Ratio, gcd, lowest}
 use Rattle.exact_fraction.proofs.LowestTerms.{is_gcd, lowest-SameValue}
-use Rattle.slo_terms.specs.Budget.{WHOLE, burn_of, error_rate_of, remaining_of}
+use Rattle.slo_limits.specs.declared.TheConstants.{WHOLE}
+use Rattle.slo_terms.specs.Budget.{burn_of, error_rate_of, remaining_of}
 use Rattle.burn_core.specs.Laws.{AreOne, BurnTimesAllowanceIsError, IsTimes, RemainingAndBurnAreOne}
 use Rattle.burn_core.proofs.BurnOrder.{minus, some-product, some-quotient}
 

@@ -2,7 +2,8 @@
 use Rattle.std.specs.Prelude.{◌≡◌, ◌≢◌, ◌⊎◌, ◌↔◌, ℕ, Bool, true, ◌+◌, ◌-◌, ◌*◌, ◌<◌, ◌≤◌, pos, ◌+ℤ◌, ◌*ℤ◌, Some}
 use Rattle.exact_fraction.specs.declared.leaf.Leaf.{Leaf}
 use Rattle.exact_fraction.specs.Ratio.{Ratio, SameValue}
-use Rattle.slo_terms.specs.Budget.{WHOLE, burn_of, error_rate_of, remaining_of}
+use Rattle.slo_limits.specs.declared.TheConstants.{WHOLE}
+use Rattle.slo_terms.specs.Budget.{burn_of, error_rate_of, remaining_of}
 use Rattle.burn_core.specs.declared.alert.AlertRule.{AlertRule}
 use Rattle.burn_core.specs.Alert.{reach_of}
 use Rattle.burn_core.specs.Condition.{condition}

@@ -3,21 +3,16 @@ ghost use Rattle.std.specs.Prelude.{◌≡◌, ◌<◌, ◌≤◌, ◌-◌, ◌*
 ghost use Rattle.slo_terms.specs.Budget.{error_rate_of, burn_of, remaining_of, above_of};
 
 use exact_fraction::{Decimal, Fraction, Leaf, Op, holds};
-
-/// One, in billionths.
-pub const WHOLE: u64 = 1_000_000_000;
+use slo_limits::{MAX_SUM, WHOLE};
 
 // Thresholds and targets both count billionths.
 const WHOLE_SQUARED: u128 = 1_000_000_000_000_000_000;
-
-/// The most events of a sum: with that many, burn rates and remaining budgets fit 128 bits.
-pub const MAX_EVENTS: u64 = 4_000_000_000_000_000;
 
 /// The part of the events that weren't good: (den - num) / den. None exactly where no event was
 /// counted.
 pub fn error_rate(sum: Leaf) -> Option<Fraction>
     requires part { sum.num ≤ sum.den }
-    requires few { sum.den ≤ MAX_EVENTS }
+    requires few { sum.den ≤ MAX_SUM }
     ensures value { result ≡ error_rate_of sum }
     ensures small { IfSome result (λ error. (unsigned_abs error.num ≤ sum.den) × (error.den ≤ sum.den)) }
     ensures not_negative { IfSome result (λ error. pos 0 ≤ℤ error.num) }
@@ -35,7 +30,7 @@ pub fn error_rate(sum: Leaf) -> Option<Fraction>
 /// counted.
 pub fn burn(sum: Leaf, target: Decimal) -> Option<Fraction>
     requires part { sum.num ≤ sum.den }
-    requires few { sum.den ≤ MAX_EVENTS }
+    requires few { sum.den ≤ MAX_SUM }
     requires below_one { target < WHOLE }
     ensures value { result ≡ burn_of sum target }
     ensures not_negative { IfSome result (λ burn. pos 0 ≤ℤ burn.num) }
@@ -52,7 +47,7 @@ pub fn burn(sum: Leaf, target: Decimal) -> Option<Fraction>
 /// event was counted.
 pub fn remaining(sum: Leaf, target: Decimal) -> Option<Fraction>
     requires part { sum.num ≤ sum.den }
-    requires few { sum.den ≤ MAX_EVENTS }
+    requires few { sum.den ≤ MAX_SUM }
     requires below_one { target < WHOLE }
     ensures { result ≡ remaining_of sum target }
 {
@@ -64,7 +59,7 @@ pub fn remaining(sum: Leaf, target: Decimal) -> Option<Fraction>
 /// event was counted, since there is no burn rate then.
 pub fn above(sum: Leaf, target: Decimal, op: Op, threshold: Decimal) -> bool
     requires part { sum.num ≤ sum.den }
-    requires few { sum.den ≤ MAX_EVENTS }
+    requires few { sum.den ≤ MAX_SUM }
     requires below_one { target < WHOLE }
     requires threshold { threshold ≤ 10 ^ 13 }
     ensures { result ≡ above_of sum target op threshold }
@@ -80,7 +75,7 @@ pub fn above(sum: Leaf, target: Decimal, op: Op, threshold: Decimal) -> bool
 
 // How many of so many events may be errors, in billionths.
 fn allowed_errors(events: u64, target: Decimal) -> u128
-    requires few { events ≤ MAX_EVENTS }
+    requires few { events ≤ MAX_SUM }
     requires below_one { target < WHOLE }
     ensures value { result ≡ events * (WHOLE - target) }
     ensures few { result ≤ 4 * 10 ^ 24 }

@@ -1,6 +1,7 @@
 // A burn rate against a threshold, in billionths, by each of the four comparisons.
 use super::*;
 use exact_fraction::{Decimal, Fraction, Leaf, Op};
+use slo_limits::MAX_SUM;
 
 #[test]
 fn burn_rates_against_a_threshold(rt: HostRuntime) {
@@ -17,7 +18,7 @@ fn burn_rates_against_a_threshold(rt: HostRuntime) {
     let target = Decimal::of_billionths(999_000_000);
     for (num, den, threshold, want) in rows {
         let sum = Leaf { num, den };
-        assert!(rt; sum.num <= sum.den && sum.den <= MAX_EVENTS && threshold <= 10_000_000_000_000);
+        assert!(rt; sum.num <= sum.den && sum.den <= MAX_SUM && threshold <= 10_000_000_000_000);
         let threshold = Decimal::of_billionths(threshold);
         let got = [Op::Lte, Op::Gte, Op::Lt, Op::Gt].map(|op| above(sum, target, op, threshold));
         assert_eq!(rt; got, want);

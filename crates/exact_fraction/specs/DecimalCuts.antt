@@ -2,6 +2,7 @@ use Rattle.std.specs.Prelude.{ℕ, ◌+◌, ◌==◌, ◌||◌, nat_lt, nat_le, 
 use Rattle.std.specs.Char.{is_ascii_digit}
 use Rattle.std.specs.Result.{result_ok}
 use Rattle.std.specs.List.{prefix_len}
+use Rattle.slo_limits.specs.declared.TheConstants.{MAX_DECIMAL}
 use Rattle.exact_fraction.specs.Decimal.{billionths_of}
 use Rattle.exact_fraction.specs.declared.decimal.DecimalFault.{DecimalFault}
 use Rattle.exact_fraction.specs.declared.decimal.DecimalFault.TheVariants.{Empty, BadByte, TooManyDecimals, TooLarge}
@@ -13,7 +14,7 @@ leading_digits text = prefix_len is_ascii_digit text
 -- what digits before and after the point stand for
 abbrev pub worth_of : List ℕ → List ℕ → Result ℕ DecimalFault
 worth_of whole decimals =
-    cond (nat_lt 9 (length decimals)) (Err TooManyDecimals) (cond (nat_le (billionths_of whole decimals) 1000000000000000000) (Ok (billionths_of whole decimals)) (Err TooLarge))
+    cond (nat_lt 9 (length decimals)) (Err TooManyDecimals) (cond (nat_le (billionths_of whole decimals) MAX_DECIMAL) (Ok (billionths_of whole decimals)) (Err TooLarge))
 
 -- the digits after the point, of which so many lead
 abbrev pub after_point : ℕ → List ℕ → List ℕ → Result ℕ DecimalFault

@@ -5,14 +5,11 @@ ghost use Rattle.exact_fraction.specs.DecimalCuts.{after_point, decimal_by_cuts,
 ghost use Rattle.exact_fraction.specs.declared.decimal.DecimalFault.{DecimalFault};
 
 use crate::digits::capped_number;
+use slo_limits::{MAX_DECIMAL, WHOLE};
 use std::marker::Model;
 
 // How many decimals a decimal can have: it counts billionths.
 const MOST_DECIMALS: usize = 9;
-
-const BILLION: u128 = 1_000_000_000;
-// A thousand million whole ones, the greatest decimal.
-const MOST_BILLIONTHS: u128 = 1_000_000_000_000_000_000;
 
 /// A number of billionths, at most 10^18.
 #[derive(Clone, Copy, Debug, PartialEq, Eq, PartialOrd, Ord)]
@@ -119,8 +116,8 @@ fn worth(whole: &[u8], decimals: &[u8]) -> Result<Decimal, DecimalFault>
         return Err(DecimalFault::TooManyDecimals);
     }
     let scale = 10u128.pow((MOST_DECIMALS - decimals.len()) as u32);
-    let billionths = capped_number(whole) * BILLION + capped_number(decimals) * scale;
-    if billionths > MOST_BILLIONTHS {
+    let billionths = capped_number(whole) * WHOLE as u128 + capped_number(decimals) * scale;
+    if billionths > MAX_DECIMAL as u128 {
         return Err(DecimalFault::TooLarge);
     }
     Ok(Decimal::of_billionths(billionths as u64))

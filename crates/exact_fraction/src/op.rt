@@ -4,10 +4,8 @@ ghost use Rattle.exact_fraction.specs.Op.{holds_of, order_with};
 
 use crate::decimal::Decimal;
 use crate::fraction::Fraction;
+use slo_limits::{MAX_THRESHOLD, WHOLE};
 use std::cmp::Ordering;
-
-// A decimal counts billionths.
-const BILLION: i128 = 1_000_000_000;
 
 /// How a value is compared with a threshold, by the words of OpenSLO v1.
 #[derive(Clone, Copy, Debug, PartialEq, Eq)]
@@ -36,10 +34,10 @@ pub fn holds(op: Op, order: Ordering) -> bool
 
 /// The exact order of a fraction and a decimal of at most 10,000, so that both cross products fit 128 bits.
 pub fn compare(a: &Fraction, b: Decimal) -> Ordering
-    requires { b ≤ 10 ^ 13 }
+    requires { b ≤ MAX_THRESHOLD }
     ensures { result ≡ order_with a.now b }
 {
-    let left = a.num() * BILLION;
+    let left = a.num() * WHOLE as i128;
     let right = (u128::from(b.billionths()) * a.den()) as i128;
     left.cmp(&right)
 }

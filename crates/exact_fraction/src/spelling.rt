@@ -6,10 +6,10 @@ ghost use Rattle.exact_fraction.specs.DecimalText.{IsFloor, decimal_text, last_d
 
 use crate::decimal::Decimal;
 use crate::fraction::Fraction;
+use slo_limits::WHOLE;
 use std::alloc::AllocError;
 use std::fmt;
 
-const BILLION: u64 = 1_000_000_000;
 // A percentage is counted in ten-thousandths, and the whole is 100 percent.
 const PARTS_OF_A_PERCENT: u128 = 10_000;
 
@@ -21,8 +21,8 @@ impl fmt::Display for Decimal {
     ghost output = { λ billionths. Some (decimal_text billionths) };
 
     fn fmt<W: fmt::Write>(&self, f: &mut fmt::Formatter<W>) -> fmt::Result {
-        let whole = self.billionths() / BILLION;
-        let digits = nine_digits((self.billionths() % BILLION) as u32);
+        let whole = self.billionths() / WHOLE;
+        let digits = nine_digits((self.billionths() % WHOLE) as u32);
         let decimals = digits_text(without_last_zeros(&digits));
         if decimals.is_empty() {
             write!(f, "{whole}")

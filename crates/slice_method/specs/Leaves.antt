@@ -1,7 +1,7 @@
 -- The leaf of a slice (OpenSLO v1, `budgetingMethod`).
 use Rattle.std.specs.Prelude.{ℕ, Bool, ◌+◌, ◌*◌, ◌/◌, ◌==◌, nat_le, if◌then◌else◌}
 use Rattle.exact_fraction.specs.declared.Leaf.{Leaf}
-use Rattle.slo_terms.specs.Budget.{WHOLE}
+use Rattle.slo_limits.specs.declared.TheConstants.{WHOLE}
 use Rattle.slice_method.specs.declared.amount.Counts.{Counts}
 use Rattle.slice_method.specs.declared.method.Method.{Method}
 use Rattle.slice_method.specs.declared.method.Method.TheVariants.{Occurrences, Timeslices, RatioTimeslices}

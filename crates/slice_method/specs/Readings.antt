@@ -3,7 +3,7 @@ use Rattle.std.specs.Prelude.{ℕ, Bool, ◌-◌, ◌≤◌, if◌then◌else◌
 use Rattle.std.specs.Ordering.{nat_cmp}
 use Rattle.exact_fraction.specs.declared.Op.{Op}
 use Rattle.exact_fraction.specs.Op.{holds_of}
-use Rattle.slo_terms.specs.Budget.{WHOLE}
+use Rattle.slo_limits.specs.declared.TheConstants.{WHOLE}
 use Rattle.slice_method.specs.declared.amount.Counts.{Counts}
 use Rattle.slice_method.specs.declared.amount.Amount.{Amount}
 use Rattle.slice_method.specs.declared.amount.Amount.TheVariants as amount
@@ -22,6 +22,11 @@ HasForm Bad (amount.Value measured) = ⊥
 HasForm Threshold (amount.Counts part total) = ⊥
 HasForm RawSuccess (amount.Counts part total) = ⊥
 HasForm RawFailure (amount.Counts part total) = ⊥
+
+-- at most 10^9 events: the limit of a row
+abbrev pub IsSmall : Amount → Type 0
+IsSmall (amount.Counts part total) = total ≤ WHOLE
+IsSmall (amount.Value measured) = Unit {0}
 
 -- a part of a total, which is good or bad
 abbrev pub counts_of_events : Reading → ℕ → ℕ → Counts

@@ -4,10 +4,7 @@ use Rattle.exact_fraction.specs.declared.Leaf.{Leaf}
 use Rattle.exact_fraction.specs.Ratio.{Ratio, lowest}
 use Rattle.exact_fraction.specs.declared.op.Op.{Op}
 use Rattle.exact_fraction.specs.Op.{holds_of, order_with}
-
--- A target is a number of billionths, so this is 1.
-abbrev pub WHOLE : ℕ
-WHOLE = 1000000000
+use Rattle.slo_limits.specs.declared.TheConstants.{WHOLE}
 
 -- the error rate of a sum: the part of its events that weren't good
 abbrev pub error_rate_of : Leaf → Option Ratio
