@@ -1,0 +1,4 @@
+pub mod Records
+pub mod Left
+pub mod Columns
+pub mod Worked
