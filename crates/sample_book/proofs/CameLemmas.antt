@@ -4,13 +4,9 @@ use Rattle.std.proofs.lemmas.List.{append-nil}
 use Rattle.sample_book.specs.declared.row.Row.{Row}
 use Rattle.sample_book.specs.declared.row.RowVerdict.TheVariants.{Newer, Repeated, Superseded, Conflict}
 use Rattle.sample_book.specs.Rows.{same_cell, current_rows, kept_of, same_amount, verdict_on, verdict_where, verdict_of}
-use Rattle.sample_book.specs.History.{is_put}
+use Rattle.sample_book.specs.History.{is_put, rows_after}
 use Rattle.sample_book.proofs.CurrentLemmas.{settle, settle-kept, current-push, current-step}
 use Rattle.sample_book.proofs.StandingLemmas.{cell_laws}
-
--- the rows of a book after a row came: a row is put where it is new or newer
-abbrev pub rows_after : List Row → Row → List Row
-rows_after rows row = if is_put (verdict_of rows row) then current_rows (rows ++ row ∷ []) else rows
 
 -- A row that is put over the current rows of those before it leaves the current rows of all.
 pub put-current : (came : List Row) (row : Row) → current_rows (current_rows came ++ row ∷ []) ≡ current_rows (came ++ row ∷ [])

@@ -8,3 +8,7 @@ pub mod ExclusionLemmas
 pub mod CallerLemmas
 pub mod HistoryLemmas
 pub mod RoomLemmas
+pub mod IdLemmas
+pub mod BatchLemmas
+pub mod PutLemmas
+pub mod ChainLemmas

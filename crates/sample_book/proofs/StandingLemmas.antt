@@ -19,7 +19,7 @@ use Rattle.sample_book.specs.declared.current_rows.Stored.{Stored}
 use Rattle.sample_book.specs.Rows.{cell_of, cell_eq, same_cell, current_rows, same_amount, verdict_on, verdict_where, MayPutAs, new_cells, with_cell}
 use Rattle.std.specs.List.{position}
 use Rattle.std.proofs.lemmas.List.{length-map}
-use Rattle.sample_book.specs.Standing.{row_stored, rows_stored, IsInStep}
+use Rattle.sample_book.specs.Standing.{row_stored, rows_stored, IsInStep, MOST_CELLS}
 use Rattle.sample_book.proofs.FirstPlaces.{first, position-first}
 use Rattle.sample_book.proofs.CurrentLemmas.{settle, settle-new, adds, current-push, current-of_distinct, current-distinct, first_of_each-push}
 
@@ -33,7 +33,7 @@ cell_same a b h =
     let minute = eqb-true a.minute b.minute q.1 in
     λ i. record { sli = sli i; source = source i; minute = minute i }
 
-eq-itself : (n : ℕ) → nat_eq n n ≡ true
+pub eq-itself : (n : ℕ) → nat_eq n n ≡ true
 eq-itself n = grind (arith, nat_tests)
 
 eq-symm : (m n : ℕ) → nat_eq m n ≡ nat_eq n m
@@ -295,14 +295,15 @@ pub record RoomMade (cells : List Cell) (stored : List Stored) (cells' : List Ce
   pub room : drop (length stored') cells' ≡ more
 
 pub room_made : (cells : List Cell) (stored : List Stored) (before : ℕ) (cells' : List Cell) (stored' : List Stored) (capacity : ℕ) (more : List Cell) →
-    IsInStep cells stored before → cells' ≡ take (length stored) cells ++ more → stored' ≡ stored → length stored + length more ≤ capacity →
+    IsInStep cells stored before → cells' ≡ take (length stored) cells ++ more → stored' ≡ stored → length stored + length more ≤ capacity → length stored + length more ≤ MOST_CELLS →
     RoomMade cells stored cells' stored' capacity more
-room_made cells stored before cells' stored' capacity more step e f few =
+room_made cells stored before cells' stored' capacity more step e f ready few =
     subst (λ (s : List Stored). RoomMade cells stored cells' s capacity more) (sym f)
     (subst (λ (c : List Cell). RoomMade cells stored c stored capacity more) (sym e) (record {
       in_step = record {
         within = omega (arith, step.within, length-first cells more (length stored) step.within);
-        ready = omega (arith, few, length-first cells more (length stored) step.within);
+        ready = omega (arith, ready, length-first cells more (length stored) step.within);
+        few = omega (arith, few, length-first cells more (length stored) step.within);
         apart = subst (IsDistinct same_cell) (sym (rows-first cells more stored step.within)) step.apart;
       };
       rows = rows-first cells more stored step.within;
@@ -357,6 +358,7 @@ in_step_empty cells stored capacity e f =
     subst (λ (c : List Cell). IsInStep c stored capacity) (sym e) (subst (λ (s : List Stored). IsInStep [] s capacity) (sym f) (record {
       within = omega arith;
       ready = omega arith;
+      few = omega arith;
       apart = none;
     }))
   where

@@ -5,7 +5,7 @@ use Rattle.std.specs.Str.{bytes_eq}
 use Rattle.exact_fraction.specs.declared.Op.{Op}
 use Rattle.slice_method.specs.declared.Counts.{Counts}
 use Rattle.slice_method.specs.declared.Reading.{Reading}
-use Rattle.slice_method.specs.Readings.{HasForm, counts}
+use Rattle.slice_method.specs.Readings.{HasForm, IsSmall, counts}
 use Rattle.slo_terms.specs.Sums.{amount_at}
 use Rattle.sample_book.specs.declared.exclusions.Exclusion.{Exclusion}
 use Rattle.sample_book.specs.declared.row.Row.{Row}
@@ -36,3 +36,7 @@ counted_in_minute reading op value made rows slo sli minute =
 -- the current rows of an indicator at a minute have amounts of the reading's form
 abbrev pub HaveForm : Reading → List Row → List ℕ → ℕ → Type 0
 HaveForm reading rows sli minute = All (λ (row : Row). is_of sli row ≡ true → row.minute ≡ minute → HasForm reading row.amount) rows
+
+-- the row counts at most 10^9 events, which is the limit of a row
+abbrev pub IsSmallRow : Row → Type 0
+IsSmallRow row = IsSmall row.amount

@@ -1,5 +1,5 @@
 -- Exclusions: stretches of time that don't count for an objective.
-use Rattle.std.specs.Prelude.{◌≡◌, ℕ, Bool, true, not, IfSome, IsSome, ◌&&◌, nat_le, nat_lt, List, [], ◌∷◌, map, Option}
+use Rattle.std.specs.Prelude.{◌≡◌, ℕ, Bool, true, not, IfSome, IsSome, ◌&&◌, nat_le, nat_lt, List, [], ◌∷◌, map, length, ◌≤◌, Option, None}
 use Rattle.std.specs.List.{find, list_any}
 use Rattle.std.specs.Str.{bytes_eq}
 use Rattle.sample_book.specs.declared.exclusions.Exclusion.{Exclusion}
@@ -16,6 +16,20 @@ has_id id kept = bytes_eq kept.0.id id
 -- the exclusion of an id, and whether it is live
 abbrev pub exclusion_of : List (Exclusion × Bool) → List ℕ → Option (Exclusion × Bool)
 exclusion_of made id = find (has_id id) made
+
+-- no two exclusions have one id
+abbrev pub HaveOwnIds : List (Exclusion × Bool) → Type 0
+HaveOwnIds [] = Unit {0}
+HaveOwnIds (kept ∷ made) = (exclusion_of made kept.0.id ≡ None) × HaveOwnIds made
+
+-- A place in the list is a `u32`.
+abbrev pub MOST_EXCLUSIONS : ℕ
+MOST_EXCLUSIONS = 4294967295
+
+-- each with an id of its own, and few enough that each place is a `u32`
+pub record AreExclusions (made : List (Exclusion × Bool)) : Type 0 where
+  pub apart : HaveOwnIds made
+  pub few : length made ≤ MOST_EXCLUSIONS
 
 -- a live exclusion of this objective has the minute: from <= minute < to
 abbrev pub excludes : List ℕ → ℕ → Exclusion × Bool → Bool

@@ -55,6 +55,10 @@ pub data Holds : List Event → List Row → List (Exclusion × Bool) → Type 0
 abbrev pub Gains : Book → Event → Book → Type 0
 Gains before event after = (events : List Event) → Holds events before.rows before.exclusions → Holds (events ++ event ∷ []) after.rows after.exclusions
 
+-- the rows of a book after a row came: a row is put where it is new or newer
+abbrev pub rows_after : List Row → Row → List Row
+rows_after rows row = if is_put (verdict_of rows row) then current_rows (rows ++ row ∷ []) else rows
+
 -- a row takes the first place with room where it is new
 abbrev pub room_after : RowVerdict → List Cell → List Cell
 room_after New room = drop 1 room
@@ -69,4 +73,4 @@ abbrev pub MayComeAll : List Row → List Cell → List Row → Type 0
 MayComeAll rows room [] = Unit {0}
 MayComeAll rows room (row ∷ came) =
     MayComeAs (verdict_of rows row) room (cell_of row)
-    × MayComeAll (if is_put (verdict_of rows row) then current_rows (rows ++ row ∷ []) else rows) (room_after (verdict_of rows row) room) came
+    × MayComeAll (rows_after rows row) (room_after (verdict_of rows row) room) came

@@ -6,3 +6,5 @@ pub mod Exclusions
 pub mod Book
 pub mod Counting
 pub mod History
+pub mod Puts
+pub mod Chains

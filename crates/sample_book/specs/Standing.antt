@@ -21,8 +21,13 @@ rows_stored cells stored = map (λ place. row_stored place.0 place.1) (zip cells
 abbrev pub standing_of : List Cell → List Stored → Standing
 standing_of cells stored = record { rows = rows_stored cells stored; room = drop (length stored) cells }
 
+-- A place in the list is a `u32`.
+abbrev pub MOST_CELLS : ℕ
+MOST_CELLS = 4294967295
+
 -- each cell that has room can get its row without memory, and no cell has two rows
 pub record IsInStep (cells : List Cell) (stored : List Stored) (capacity : ℕ) : Type 0 where
   pub within : length stored ≤ length cells
   pub ready : length cells ≤ capacity
+  pub few : length cells ≤ MOST_CELLS
   pub apart : IsDistinct same_cell (rows_stored cells stored)

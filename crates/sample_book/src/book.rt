@@ -1,14 +1,19 @@
 // The book of samples and exclusions.
-ghost use Rattle.std.specs.Prelude.{◌≡◌, ◌≢◌, ◌+◌, ◌*◌, ◌^◌, ◌<◌, ◌≤◌, ◌++◌, ◌∷◌, [], true, false, Some, None, OnOk, OnErr, IfOk, length, slice_get};
+ghost use Rattle.std.specs.Prelude.{◌/◌, take, ℕ, List, ◌||◌, ◌≡◌, ◌≢◌, ◌+◌, ◌*◌, ◌^◌, ◌<◌, ◌≤◌, ◌++◌, ◌∷◌, [], true, false, Some, None, OnOk, OnErr, IfOk, length, slice_get};
 ghost use Rattle.sample_book.specs.Book.{Book};
-ghost use Rattle.sample_book.specs.Counting.{HaveForm, counted_in_minute, counts_of_minute, first_of};
-ghost use Rattle.sample_book.specs.Exclusions.{Excluded, IsLive, Lifted, exclusion_of, is_excluded, lifted};
+ghost use Rattle.std.specs.List.{AllByRecursion};
+ghost use Rattle.sample_book.specs.Chains.{below, is_on, last_place};
+ghost use Rattle.sample_book.specs.Counting.{HaveForm, IsSmallRow, is_of, counted_in_minute, counts_of_minute, first_of};
+ghost use Rattle.sample_book.specs.Exclusions.{Excluded, HaveOwnIds, IsLive, Lifted, excludes, exclusion_of, is_excluded, lifted};
 ghost use Rattle.sample_book.specs.History.{Came, Changed, Gains, Holds, is_put};
+ghost use Rattle.sample_book.specs.Puts.{IsPutInto, verdicts};
 ghost use Rattle.sample_book.specs.Rows.{MayPutAs, cell_of, current_rows, room_for, verdict_of};
 
+use crate::batch::check_batch;
 use crate::current_rows::CurrentRows;
 use crate::exclusions::{Exclusion, Exclusions};
 use crate::row::{Row, RowVerdict};
+use crate::row_index::RowIndex;
 use crate::tally::{counts_at, first_of};
 use exact_fraction::{Decimal, Label, Op};
 use slice_method::{Counts, Reading};
@@ -19,15 +24,20 @@ use std::marker::Model;
 #[derive(Drop)]
 pub struct SampleBook {
     rows: CurrentRows,
+    index: RowIndex,
     exclusions: Exclusions,
 }
 
 impl Model for SampleBook {
     ghost use Rattle.sample_book.specs.Book.{Book};
+    ghost use Rattle.sample_book.specs.Chains.{IsInOrder};
 
     ghost Value = { Book };
 
     ghost view = { λ a. record { rows = a.rows.rows; exclusions = a.exclusions.made; room = a.rows.room; spare = a.exclusions.spare } };
+
+    // The index is of the rows, and each cell with room can get its row in it without memory.
+    ghost invariant = { λ a. IsInOrder a.rows.rows a.rows.room a.index };
 }
 
 impl SampleBook {
@@ -40,8 +50,37 @@ impl SampleBook {
     {
         Ok(SampleBook {
             rows: CurrentRows::new(alloc),
+            index: RowIndex::new(alloc),
             exclusions: Exclusions::new(alloc),
         })
+    }
+
+    /// How many current rows there are, one for each cell.
+    pub fn cells(&self) -> u32
+        ensures { result ≡ length self.now.rows }
+    {
+        self.rows.len()
+    }
+
+    /// How many exclusions were made, live or lifted.
+    pub fn exclusions(&self) -> u32
+        ensures { result ≡ length self.now.exclusions }
+    {
+        self.exclusions.count()
+    }
+
+    /// The rows are the current ones of themselves: no cell has two. It does no work.
+    pub fn rows_are_current(&self)
+        ensures { current_rows self.now.rows ≡ self.now.rows }
+    {
+        self.rows.are_current();
+    }
+
+    /// No two exclusions have one id. It does no work.
+    pub fn exclusions_have_own_ids(&self)
+        ensures { HaveOwnIds self.now.exclusions }
+    {
+        self.exclusions.have_own_ids();
     }
 
     /// What becomes of an arriving row.
@@ -53,6 +92,14 @@ impl SampleBook {
         self.rows.check(row)
     }
 
+    /// What becomes of each row of a batch that arrives, each behind those before it. Nothing is put: a
+    /// batch that is refused leaves the book. It takes time in proportion to the batch.
+    pub fn check_batch(&self, alloc: Global, rows: &[Row]) -> Result<Vec<RowVerdict>, AllocError>
+        ensures { IfOk result (λ found. found.items ≡ verdicts self.now.rows rows.now) }
+    {
+        check_batch(&self.rows, alloc, rows)
+    }
+
     /// Gives room to the cells of these rows that have no current row, each once, in the order of the rows.
     /// No other cell has room afterwards, and none after a refusal.
     pub fn make_room(&mut self, rows: &[Row]) -> Result<(), AllocError>
@@ -62,6 +109,8 @@ impl SampleBook {
         ensures exclusions { self.new.exclusions ≡ self.old.exclusions }
         ensures spare { self.new.spare ≡ self.old.spare }
     {
+        self.rows.release_room();
+        self.index.reserve(rows.len())?;
         self.rows.make_room(rows)
     }
 
@@ -70,13 +119,18 @@ impl SampleBook {
         requires { MayPutAs (verdict_of self.old.rows row.now) self.old.room (cell_of row.now) }
         // The rows are the current ones of the old rows and this one.
         ensures rows { self.new.rows ≡ current_rows (self.old.rows ++ row.now ∷ []) }
+        ensures placed { IsPutInto self.old.rows row.now (verdict_of self.old.rows row.now) self.new.rows }
         ensures new { verdict_of self.old.rows row.now ≡ RowVerdict.New → self.old.room ≡ cell_of row.now ∷ self.new.room }
         ensures newer { verdict_of self.old.rows row.now ≢ RowVerdict.New → self.new.room ≡ self.old.room }
         ensures exclusions { self.new.exclusions ≡ self.old.exclusions }
         ensures spare { self.new.spare ≡ self.old.spare }
         ensures history { Gains self.old (Came row.now) self.new }
     {
+        let before = self.rows.len();
         self.rows.put(row);
+        if before < self.rows.len() {
+            self.index.push(row);
+        }
     }
 
     /// The current row at a place of the list, from 0.
@@ -101,6 +155,8 @@ impl SampleBook {
         requires spare { 0 < self.old.spare }
         requires unused { exclusion_of self.old.exclusions value.id ≡ None }
         ensures exclusions { self.new.exclusions ≡ self.old.exclusions ++ (value, true) ∷ [] }
+        // It takes its minutes, beside those that others take.
+        ensures minutes { (slo : List ℕ) (minute : ℕ) → is_excluded self.new.exclusions slo minute ≡ (is_excluded self.old.exclusions slo minute || excludes slo minute (value, true)) }
         ensures spare { self.old.spare ≤ self.new.spare + 1 }
         ensures rows { self.new.rows ≡ self.old.rows }
         ensures room { self.new.room ≡ self.old.room }
@@ -113,6 +169,8 @@ impl SampleBook {
     pub fn lift(&mut self, id: Label)
         requires { IsLive self.old.exclusions id }
         ensures exclusions { self.new.exclusions ≡ lifted self.old.exclusions id }
+        // It gives its minutes back, but for those that others take.
+        ensures minutes { (value : Exclusion) (slo : List ℕ) (minute : ℕ) → exclusion_of self.old.exclusions id ≡ Some (value, true) → is_excluded self.old.exclusions slo minute ≡ (is_excluded self.new.exclusions slo minute || excludes slo minute (value, true)) }
         ensures spare { self.new.spare ≡ self.old.spare }
         ensures rows { self.new.rows ≡ self.old.rows }
         ensures room { self.new.room ≡ self.old.room }
@@ -149,7 +207,39 @@ impl SampleBook {
         first_of(&self.rows, sli)
     }
 
+    /// The place of the last row of an indicator.
+    pub fn last_row(&self, sli: Label) -> Option<u32>
+        ensures { result ≡ last_place (is_of sli) self.now.rows }
+    {
+        below(self.index.last_of(sli))
+    }
+
+    /// The place of the row before a row of the list, of the same indicator: from `last_row` on these
+    /// lead to all rows of an indicator, from the last to the first.
+    pub fn row_before(&self, place: u32) -> Option<u32>
+        requires { place < length self.now.rows }
+        ensures { (row : Row) → slice_get self.now.rows place ≡ Some row → result ≡ last_place (is_of row.sli) (take place self.now.rows) }
+    {
+        below(self.index.before(place as usize))
+    }
+
+    /// The place of the last row of an indicator on a day: day d is the minutes from d * 1440 on.
+    pub fn last_row_on(&self, sli: Label, day: u32) -> Option<u32>
+        ensures { result ≡ last_place (is_on sli day) self.now.rows }
+    {
+        below(self.index.last_on_day(sli, day))
+    }
+
+    /// The place of the row before a row of the list, of the same indicator and day.
+    pub fn row_before_on(&self, place: u32) -> Option<u32>
+        requires { place < length self.now.rows }
+        ensures { (row : Row) → slice_get self.now.rows place ≡ Some row → result ≡ last_place (is_on row.sli (row.minute / 1440)) (take place self.now.rows) }
+    {
+        below(self.index.before_on_day(place as usize))
+    }
+
     /// The sums of good and total over the current rows of an indicator at a minute, before exclusion.
+    /// Only the rows of its day are looked at.
     pub fn counts_at(
         &self,
         sli: Label,
@@ -160,9 +250,11 @@ impl SampleBook {
     ) -> Counts
         requires form { HaveForm reading self.now.rows sli minute }
         requires few { length self.now.rows ≤ 4 * 10 ^ 6 }
-        ensures { result ≡ counts_of_minute reading op value self.now.rows sli minute }
+        ensures counts { result ≡ counts_of_minute reading op value self.now.rows sli minute }
+        ensures part { result.good ≤ result.total }
+        ensures few { AllByRecursion IsSmallRow self.now.rows → result.total ≤ 10 ^ 9 * length self.now.rows }
     {
-        counts_at(&self.rows, sli, reading, op, value, minute)
+        counts_at(&self.rows, &self.index, sli, reading, op, value, minute)
     }
 
     /// What a minute counts for in an objective: nothing where the minute is excluded for it, else the
@@ -178,13 +270,23 @@ impl SampleBook {
     ) -> Counts
         requires form { HaveForm reading self.now.rows sli minute }
         requires few { length self.now.rows ≤ 4 * 10 ^ 6 }
-        ensures { result ≡ counted_in_minute reading op value self.now.exclusions self.now.rows slo sli minute }
+        ensures counts { result ≡ counted_in_minute reading op value self.now.exclusions self.now.rows slo sli minute }
+        ensures part { result.good ≤ result.total }
+        ensures few { AllByRecursion IsSmallRow self.now.rows → result.total ≤ 10 ^ 9 * length self.now.rows }
     {
-        let counts = self.counts_at(sli, reading, op, value, minute);
         if self.is_excluded(slo, minute) {
-            Counts { good: 0, total: 0 }
-        } else {
-            counts
+            return Counts { good: 0, total: 0 };
         }
+        self.counts_at(sli, reading, op, value, minute)
+    }
+}
+
+// A place, where a link is one more than it.
+fn below(link: u32) -> Option<u32>
+    ensures { result ≡ below link }
+{
+    match link {
+        0 => None,
+        _ => Some(link - 1),
     }
 }

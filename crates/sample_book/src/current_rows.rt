@@ -1,7 +1,9 @@
 // The current rows, and room for the rows of further cells.
-ghost use Rattle.std.specs.Prelude.{◌≡◌, ◌≢◌, ◌<◌, ◌++◌, ◌∷◌, [], false, Some, IfSome, IfNone, OnOk, OnErr, length, slice_get, take};
+ghost use Rattle.std.specs.Prelude.{List, ◌+◌, ◌≤◌, vec_capacity, ◌≡◌, ◌≢◌, ◌<◌, ◌++◌, ◌∷◌, [], false, Some, IfSome, IfNone, OnOk, OnErr, length, slice_get, take};
 ghost use Rattle.std.specs.List.{list_any, position};
-ghost use Rattle.sample_book.specs.Rows.{MayPutAs, cell_eq, cell_of, current_rows, new_cells, room_for, verdict_of, with_cell};
+ghost use Rattle.sample_book.specs.History.{MayComeAs, is_put, room_after, rows_after};
+ghost use Rattle.sample_book.specs.Puts.{IsPutInto, later_of};
+ghost use Rattle.sample_book.specs.Rows.{MayPutAs, cell_eq, cell_of, current_rows, kept_of, new_cells, room_for, verdict_of, verdict_where, with_cell};
 ghost use Rattle.sample_book.specs.Standing.{row_stored};
 
 use crate::cells::Cells;
@@ -9,6 +11,9 @@ use crate::row::{Cell, Row, RowVerdict};
 use slice_method::Amount;
 use std::alloc::{AllocError, Global};
 use std::marker::Model;
+
+// A place in the list is a `u32`.
+const MOST_CELLS: usize = 4_294_967_295;
 
 // What a row says of its cell.
 #[derive(Clone, Copy, PartialEq, Eq)]
@@ -66,27 +71,51 @@ impl CurrentRows {
         row_stored(&self.cells.at(place), self.stored[place])
     }
 
+    // The row that is kept of a row's cell.
+    fn kept(&self, row: &Row) -> Option<Row>
+        ensures { result ≡ kept_of self.now.rows row.now }
+    {
+        match kept_place(&self.cells, self.stored.len(), &row.cell()) {
+            Some(place) => Some(row_stored(&self.cells.at(place), self.stored[place])),
+            None => None,
+        }
+    }
+
     // What becomes of an arriving row.
     pub(crate) fn check(&self, row: &Row) -> RowVerdict
         ensures { result ≡ verdict_of self.now.rows row.now }
     {
-        match kept_place(&self.cells, self.stored.len(), &row.cell()) {
-            Some(place) => { row_stored(&self.cells.at(place), self.stored[place]).verdict_on(row) }
-            None => RowVerdict::New,
-        }
+        verdict_where(self.kept(row), row)
+    }
+
+    // What becomes of a row that arrives behind others, of which these are the current ones.
+    pub(crate) fn check_after(&self, others: &CurrentRows, row: &Row) -> RowVerdict
+        ensures { (came : List Row) → others.now.rows ≡ current_rows came → result ≡ verdict_of (current_rows (self.now.rows ++ came)) row.now }
+    {
+        self.are_current();
+        verdict_where(later_of(self.kept(row), others.kept(row)), row)
     }
 
     // How many rows there are.
-    pub(crate) fn len(&self) -> usize
-        ensures { result ≡ length self.now.rows }
+    pub(crate) fn len(&self) -> u32
+        ensures count { result ≡ length self.now.rows }
+        ensures few { length self.now.rows ≤ MOST_CELLS }
     {
-        self.stored.len()
+        self.stored.len() as u32
+    }
+
+    // No cell has two rows.
+    pub(crate) fn are_current(&self)
+        ensures { current_rows self.now.rows ≡ self.now.rows }
+    {
+        let _count = self.stored.len();
     }
 
     // Puts a row that is new or newer, with no memory.
     pub(crate) fn put(&mut self, row: &Row)
         requires { MayPutAs (verdict_of self.old.rows row.now) self.old.room (cell_of row.now) }
         ensures rows { self.new.rows ≡ current_rows (self.old.rows ++ row.now ∷ []) }
+        ensures placed { IsPutInto self.old.rows row.now (verdict_of self.old.rows row.now) self.new.rows }
         ensures new { verdict_of self.old.rows row.now ≡ RowVerdict.New → self.old.room ≡ cell_of row.now ∷ self.new.room }
         ensures newer { verdict_of self.old.rows row.now ≢ RowVerdict.New → self.new.room ≡ self.old.room }
     {
@@ -100,6 +129,25 @@ impl CurrentRows {
         }
     }
 
+    // A row comes: it is put where it is new or newer.
+    pub(crate) fn take(&mut self, row: &Row)
+        requires { MayComeAs (verdict_of self.old.rows row.now) self.old.room (cell_of row.now) }
+        ensures rows { self.new.rows ≡ rows_after self.old.rows row.now }
+        ensures room { self.new.room ≡ room_after (verdict_of self.old.rows row.now) self.old.room }
+    {
+        if is_put(&self.check(row)) {
+            self.put(row);
+        }
+    }
+
+    // Takes the room away.
+    pub(crate) fn release_room(&mut self)
+        ensures rows { self.new.rows ≡ self.old.rows }
+        ensures room { self.new.room ≡ [] }
+    {
+        self.cells.truncate(self.stored.len());
+    }
+
     // Gives room to the cells of these rows that have no row, and to no others.
     pub(crate) fn make_room(&mut self, rows: &[Row]) -> Result<(), AllocError>
         ensures rows { self.new.rows ≡ self.old.rows }
@@ -108,7 +156,7 @@ impl CurrentRows {
     {
         let filled = self.stored.len();
         self.cells.truncate(filled);
-        self.stored.reserve(rows.len())?;
+        reserve(&mut self.stored, rows.len())?;
         match add_cells(&mut self.cells, rows) {
             Ok(()) => Ok(()),
             Err(refused) => {
@@ -117,6 +165,19 @@ impl CurrentRows {
             }
         }
     }
+}
+
+// Makes room behind what is stored, where each place is a `u32`.
+fn reserve(stored: &mut Vec<Stored>, more: usize) -> Result<(), AllocError>
+    ensures items { stored.new.items ≡ stored.old.items }
+    ensures capacity { vec_capacity stored.old ≤ vec_capacity stored.new }
+    ensures ok { OnOk result (length stored.old.items + more ≤ vec_capacity stored.new) }
+    ensures few { OnOk result (length stored.old.items + more ≤ MOST_CELLS) }
+{
+    if MOST_CELLS < stored.len() || MOST_CELLS - stored.len() < more {
+        return Err(AllocError);
+    }
+    stored.reserve(more)
 }
 
 // Where a cell stands among the first cells, which have rows.
@@ -149,6 +210,44 @@ fn add_new(cells: &mut Cells, cell: &Cell) -> Result<(), AllocError>
         return Ok(());
     }
     cells.add(cell)
+}
+
+fn verdict_where(kept: Option<Row>, row: &Row) -> RowVerdict
+    ensures { result ≡ verdict_where kept row.now }
+{
+    match kept {
+        Some(kept) => kept.verdict_on(row),
+        None => RowVerdict::New,
+    }
+}
+
+// Of a kept row and a later one of its cell the one that counts.
+fn later_of(kept: Option<Row>, later: Option<Row>) -> Option<Row>
+    ensures { result ≡ later_of kept later }
+{
+    match kept {
+        Some(kept) => Some(newer_of(kept, later)),
+        None => later,
+    }
+}
+
+fn newer_of(kept: Row, later: Option<Row>) -> Row
+    ensures { later_of (Some kept) later ≡ Some result }
+{
+    match later {
+        Some(later) if kept.revision < later.revision => later,
+        _ => kept,
+    }
+}
+
+// Whether a row of this verdict is put.
+fn is_put(verdict: &RowVerdict) -> bool
+    ensures { result ≡ is_put verdict.now }
+{
+    match verdict {
+        RowVerdict::New | RowVerdict::Newer(_) => true,
+        RowVerdict::Repeated | RowVerdict::Superseded(_) | RowVerdict::Conflict(_) => false,
+    }
 }
 
 fn row_stored(cell: &Cell, stored: Stored) -> Row

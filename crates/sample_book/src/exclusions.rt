@@ -1,10 +1,13 @@
 // Stretches of time that are excluded afterwards.
-ghost use Rattle.std.specs.Prelude.{◌≡◌, ◌+◌, ◌<◌, ◌≤◌, ◌++◌, ◌∷◌, [], true, Some, None, OnOk, slice_get};
-ghost use Rattle.sample_book.specs.Exclusions.{exclusion_of, is_excluded, lifted};
+ghost use Rattle.std.specs.Prelude.{ℕ, List, ◌||◌, ◌≡◌, ◌+◌, ◌<◌, ◌≤◌, ◌++◌, ◌∷◌, [], true, Some, None, OnOk, length, slice_get};
+ghost use Rattle.sample_book.specs.Exclusions.{HaveOwnIds, excludes, exclusion_of, is_excluded, lifted};
 
 use exact_fraction::Label;
 use std::alloc::{AllocError, Global};
 use std::marker::Model;
+
+// A place in the list is a `u32`.
+const MOST_EXCLUSIONS: usize = 4_294_967_295;
 
 /// The minutes [from, to) of an objective don't count.
 #[derive(Clone, Copy, PartialEq, Eq)]
@@ -23,11 +26,14 @@ pub(crate) struct Exclusions {
 
 impl Model for Exclusions {
     ghost use Rattle.std.specs.Prelude.{◌-◌, vec_capacity, vec_len};
-    ghost use Rattle.sample_book.specs.Exclusions.{Kept};
+    ghost use Rattle.sample_book.specs.Exclusions.{AreExclusions, Kept, MOST_EXCLUSIONS};
+    ghost use Rattle.std.specs.Prelude.{min};
 
     ghost Value = { Kept };
 
-    ghost view = { λ a. record { made = a.made.items; spare = vec_capacity a.made - vec_len a.made } };
+    ghost view = { λ a. record { made = a.made.items; spare = min (vec_capacity a.made) MOST_EXCLUSIONS - vec_len a.made } };
+
+    ghost invariant = { λ a. AreExclusions a.made.items };
 }
 
 impl Exclusions {
@@ -37,6 +43,20 @@ impl Exclusions {
         Exclusions {
             made: Vec::new(alloc),
         }
+    }
+
+    // How many exclusions were made.
+    pub(crate) fn count(&self) -> u32
+        ensures { result ≡ length self.now.made }
+    {
+        self.made.len() as u32
+    }
+
+    // No two exclusions have one id.
+    pub(crate) fn have_own_ids(&self)
+        ensures { HaveOwnIds self.now.made }
+    {
+        let _count = self.made.len();
     }
 
     // The exclusion of an id, and whether it is live.
@@ -71,12 +91,16 @@ impl Exclusions {
         ensures made { self.new.made ≡ self.old.made }
         ensures spare { OnOk result (places ≤ self.new.spare) }
     {
+        if MOST_EXCLUSIONS - self.made.len() < places {
+            return Err(AllocError);
+        }
         self.made.reserve(places)
     }
 
     // Adds an exclusion, which is live, with no memory.
     pub(crate) fn exclude(&mut self, value: Exclusion)
-        requires { 0 < self.old.spare }
+        requires spare { 0 < self.old.spare }
+        requires unused { exclusion_of self.old.made value.id ≡ None }
         ensures made { self.new.made ≡ self.old.made ++ (value, true) ∷ [] }
         ensures spare { self.old.spare ≤ self.new.spare + 1 }
     {
@@ -86,6 +110,7 @@ impl Exclusions {
     // Lifts the exclusion of an id, with no memory.
     pub(crate) fn lift(&mut self, id: Label)
         ensures made { self.new.made ≡ lifted self.old.made id }
+        ensures minutes { (value : Exclusion) (slo : List ℕ) (minute : ℕ) → exclusion_of self.old.made id ≡ Some (value, true) → is_excluded self.old.made slo minute ≡ (is_excluded self.new.made slo minute || excludes slo minute (value, true)) }
         ensures spare { self.new.spare ≡ self.old.spare }
     {
         for kept in self.made.iter_mut() {

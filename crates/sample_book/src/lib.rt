@@ -3,18 +3,24 @@
 //! Promises of each cell the row of the greatest revision, and which minutes are excluded, over all that ever came.
 #![tactic(auto)]
 
+mod batch;
 mod book;
 mod cells;
+mod chains;
 mod current_rows;
 mod exclusions;
 mod laws;
 mod names;
 mod row;
+mod row_index;
 mod tally;
 
 pub use book::SampleBook;
 pub use exclusions::Exclusion;
-pub use laws::{a_book_is_what_came, room_is_enough};
+pub use laws::{
+    a_batch_is_judged_row_by_row, a_book_is_what_came, a_row_acts_once,
+    a_row_changes_its_own_minute, no_row_is_passed_over, only_current_rows_count, room_is_enough,
+};
 pub use row::{Cell, Row, RowVerdict};
 pub use slice_method::Amount;
 

@@ -1,10 +1,12 @@
 // What the current rows of an indicator count for.
 ghost use Rattle.std.specs.Prelude.{◌≡◌, ◌^◌, ◌*◌, ◌<◌, ◌≤◌, [], ◌∷◌, true, length};
 ghost use Rattle.slice_method.specs.Readings.{HasForm};
+ghost use Rattle.sample_book.specs.Chains.{IsIndexed};
 ghost use Rattle.sample_book.specs.Counting.{HaveForm, counts_of_minute, first_of, is_of};
 
 use crate::current_rows::CurrentRows;
 use crate::row::Row;
+use crate::row_index::{DAY_MINUTES, RowIndex};
 use exact_fraction::{Decimal, Label, Op};
 use slice_method::{Counts, Reading, counts_of};
 
@@ -13,7 +15,7 @@ pub(crate) fn first_of(rows: &CurrentRows, sli: Label) -> Option<Row>
     ensures { result ≡ first_of rows.now.rows sli }
 {
     for place in 0..rows.len() {
-        let row = rows.row(place);
+        let row = rows.row(place as usize);
         if row.sli == sli {
             return Some(row);
         }
@@ -21,25 +23,30 @@ pub(crate) fn first_of(rows: &CurrentRows, sli: Label) -> Option<Row>
     None
 }
 
-// The sums over the rows of an indicator at a minute.
+// The sums over the rows of an indicator at a minute: only the rows of its day are looked at.
 pub(crate) fn counts_at(
     rows: &CurrentRows,
+    index: &RowIndex,
     sli: Label,
     reading: Reading,
     op: Op,
     value: Decimal,
     minute: u32,
 ) -> Counts
+    requires indexed { IsIndexed rows.now.rows index.now }
     requires form { HaveForm reading rows.now.rows sli minute }
     requires few { length rows.now.rows ≤ 4 * 10 ^ 6 }
-    ensures { result ≡ counts_of_minute reading op value rows.now.rows sli minute }
+    ensures counts { result ≡ counts_of_minute reading op value rows.now.rows sli minute }
+    ensures part { result.good ≤ result.total }
 {
     let mut sum = Counts { good: 0, total: 0 };
-    for place in 0..rows.len() {
-        let row = rows.row(place);
-        let counts = share_of(row, sli, reading, op, value, minute);
+    let mut next = index.last_on_day(sli, minute / DAY_MINUTES);
+    while 0 < next {
+        let place = next as usize - 1;
+        let counts = share_of(rows.row(place), sli, reading, op, value, minute);
         sum.good += counts.good;
         sum.total += counts.total;
+        next = index.before_on_day(place);
     }
     sum
 }

@@ -2,8 +2,16 @@
 use crate::{Amount, Exclusion, Row, RowVerdict, SampleBook};
 use exact_fraction::{Label, read_label};
 use std::alloc::{AllocError, Global};
+use std::process::Abort;
 use std::slice;
-use std::test::Fail;
+
+fn label(rt: &impl Abort, text: &[u8]) -> Label {
+    read_label(text).expect(rt, "a label")
+}
+
+fn empty_book(rt: &impl Abort, alloc: Global) -> SampleBook {
+    SampleBook::new(alloc).expect(rt, "memory")
+}
 
 fn row(web: Label, revision: u32, part: u32) -> Row {
     Row {
@@ -54,12 +62,76 @@ const BATCH: [(u32, u32, &str); 5] = [
 
 #[test]
 fn the_greatest_revision_counts(rt: HostRuntime) {
-    if let (Some(web), Ok(mut book)) = (read_label(b"web"), SampleBook::new(rt.alloc())) {
-        for (revision, part, want) in BATCH {
-            assert_eq!(rt; word(take(&mut book, &row(web, revision, part))), want);
-        }
-        assert!(rt; book.row_at(0) == Some(row(web, 3, 1)));
+    let web = label(&rt, b"web");
+    let mut book = empty_book(&rt, rt.alloc());
+    for (revision, part, want) in BATCH {
+        assert_eq!(rt; word(take(&mut book, &row(web, revision, part))), want);
     }
+    assert!(rt; book.row_at(0) == Some(row(web, 3, 1)) && book.cells() == 1);
+}
+
+// The same batch as a whole, over a book that stays empty.
+fn words_of_batch(
+    alloc: Global,
+    book: &SampleBook,
+    web: Label,
+) -> Result<Vec<&'static str>, AllocError> {
+    let mut rows = Vec::new(alloc);
+    for (revision, part, _) in BATCH {
+        rows.push(row(web, revision, part))?;
+    }
+    let mut words = Vec::new(alloc);
+    for verdict in &book.check_batch(alloc, &rows)? {
+        words.push(word(Ok(*verdict)))?;
+    }
+    Ok(words)
+}
+
+#[test]
+fn a_batch_is_judged_and_not_put(rt: HostRuntime) {
+    let book = empty_book(&rt, rt.alloc());
+    let words = words_of_batch(rt.alloc(), &book, label(&rt, b"web")).expect(&rt, "memory");
+    let wanted = ["new", "newer", "superseded", "repeated", "conflict"];
+    assert_eq!(rt; words.as_slice(), wanted.as_slice());
+    assert!(rt; book.cells() == 0);
+}
+
+// Two sources, three minutes on two days, sent in two batches: minute 1439 is of day 0, minute 1440 of day 1.
+fn sent(source: Label, minute: u32) -> Row {
+    Row {
+        sli: source,
+        source,
+        minute,
+        revision: 1,
+        amount: Amount::Counts { part: 1, total: 2 },
+    }
+}
+
+// Gives a batch room, and takes its rows.
+fn take_batch(book: &mut SampleBook, rows: &[Row]) -> Result<(), AllocError> {
+    book.make_room(rows)?;
+    for row in rows {
+        take(book, row)?;
+    }
+    Ok(())
+}
+
+#[test]
+fn rows_of_a_day_are_found(rt: HostRuntime) {
+    let web = label(&rt, b"web");
+    let shop = label(&rt, b"shop");
+    let mut book = empty_book(&rt, rt.alloc());
+    let first = [sent(web, 1439), sent(shop, 1440), sent(web, 1440)];
+    take_batch(&mut book, &first).expect(&rt, "memory");
+    take_batch(&mut book, &[sent(web, 3), sent(web, 1441)]).expect(&rt, "memory");
+    let lasts = [
+        book.last_row_on(web, 0),
+        book.last_row_on(web, 1),
+        book.last_row_on(shop, 0),
+    ];
+    assert!(rt; lasts == [Some(3), Some(4), None]);
+    assert!(rt; book.last_row(web) == Some(4) && book.last_row(shop) == Some(1));
+    assert!(rt; book.cell_of(shop) == Some(sent(shop, 1440)));
 }
 
 // Makes an exclusion as a caller does, where its id is unused.
@@ -128,15 +200,14 @@ fn lifts_one_by_one(book: &mut SampleBook, slo: Label, other: Label) -> bool {
 
 #[test]
 fn overlapping_exclusions_are_lifted_one_by_one(rt: HostRuntime) {
-    if let (Some(slo), Some(other), Ok(mut book)) = (
-        read_label(b"shop"),
-        read_label(b"bar"),
-        SampleBook::new(rt.alloc()),
-    ) {
-        let made = exclude_both(&mut book, slo, other);
-        let lifted = lifts_one_by_one(&mut book, slo, other);
-        assert!(rt; made & lifted);
-    }
+    let slo = label(&rt, b"shop");
+    let other = label(&rt, b"bar");
+    let mut book = empty_book(&rt, rt.alloc());
+    assert!(rt; exclude_both(&mut book, slo, other));
+    assert!(rt; lifts_one_by_one(&mut book, slo, other));
+    assert!(rt;
+        book.exclusions() == 2 && book.exclusion_at(0).is_some() && book.exclusion_at(2).is_none()
+    );
 }
 
 // What further rows are where revision 2 with 9995 of 10000 is kept.
@@ -161,28 +232,23 @@ fn show_the_kept_row(book: &SampleBook, web: Label) -> bool {
 
 #[test]
 fn rows_are_judged_by_the_kept_one(rt: HostRuntime) {
-    if let (Some(web), Ok(mut book)) = (read_label(b"web"), SampleBook::new(rt.alloc())) {
-        assert_eq!(rt; word(take(&mut book, &row(web, 2, 9995))), "new");
-        let judged = are_judged(&book, web, &AFTER);
-        let shown = show_the_kept_row(&book, web);
-        assert!(rt; judged & shown);
-    }
+    let web = label(&rt, b"web");
+    let mut book = empty_book(&rt, rt.alloc());
+    assert_eq!(rt; word(take(&mut book, &row(web, 2, 9995))), "new");
+    assert!(rt; are_judged(&book, web, &AFTER) & show_the_kept_row(&book, web));
 }
 
 // Room for a further cell is no row.
 #[test]
 fn room_is_no_row(rt: HostRuntime) {
-    if let (Some(web), Some(bar), Ok(mut book)) = (
-        read_label(b"web"),
-        read_label(b"bar"),
-        SampleBook::new(rt.alloc()),
-    ) {
-        assert_eq!(rt; word(take(&mut book, &row(web, 2, 9995))), "new");
-        let alone = book.row_at(1).is_none();
-        let roomy = book.make_room(slice::from_ref(&row(bar, 1, 1))).is_ok();
-        let first = book.row_at(0) == Some(row(web, 2, 9995));
-        assert!(rt; alone & roomy & first & book.row_at(1).is_none());
-    }
+    let web = label(&rt, b"web");
+    let bar = label(&rt, b"bar");
+    let mut book = empty_book(&rt, rt.alloc());
+    assert_eq!(rt; word(take(&mut book, &row(web, 2, 9995))), "new");
+    let alone = book.row_at(1).is_none();
+    let roomy = book.make_room(slice::from_ref(&row(bar, 1, 1))).is_ok();
+    let first = book.row_at(0) == Some(row(web, 2, 9995));
+    assert!(rt; alone & roomy & first & book.row_at(1).is_none());
 }
 
 // Whether an exclusion is kept, and not live.
@@ -206,8 +272,7 @@ fn excludes_one_minute(book: &mut SampleBook, slo: Label) -> bool {
 
 #[test]
 fn an_exclusion_ends_before_its_last_minute(rt: HostRuntime) {
-    if let (Some(slo), Ok(mut book)) = (read_label(b"shop"), SampleBook::new(rt.alloc())) {
-        let holds = excludes_one_minute(&mut book, slo);
-        assert!(rt; holds);
-    }
+    let slo = label(&rt, b"shop");
+    let mut book = empty_book(&rt, rt.alloc());
+    assert!(rt; excludes_one_minute(&mut book, slo));
 }

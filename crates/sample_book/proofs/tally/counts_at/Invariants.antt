@@ -1,11 +1,9 @@
-use Rattle.std.proofs.Common.{◌≡◌, ◌≤◌, ◌*◌, ◌^◌, take}
-use Rattle.sample_book.specs.Counting.{counts_of_minute}
+use Rattle.sample_book.proofs.TallyLemmas.{IsCounting}
 use Rattle.sample_book.proofs.tally.counts_at.Given as goal
 
--- the sums over the rows so far
-abbrev pub invariant-loop-place : goal.invariant-loop-place
-invariant-loop-place l = record {
-  so_far : l.sum ≡ counts_of_minute l.reading l.op l.value (take l.place l.rows.rows) l.sli l.minute;
-  part : l.sum.good ≤ l.sum.total;
-  few : l.sum.total ≤ l.place * 2 ^ 32;
-}
+-- the sums over the rows of the day that were passed
+abbrev pub invariant-loop-next : goal.invariant-loop-next
+invariant-loop-next l = IsCounting l.reading l.op l.value l.rows.rows l.sli l.minute l.next l.sum
+
+abbrev pub decreases-loop-next : goal.decreases-loop-next
+decreases-loop-next l = l.next

@@ -1,10 +1,13 @@
-use Rattle.std.proofs.Common.{◌≡◌, ◌∙◌, ◌++◌, ◌∷◌, [], suc, ap, sym, subst, arith, length, drop, take, Some, false, add-one}
-use Rattle.std.specs.List.{position, list_any}
+use Rattle.std.proofs.Common.{List, ◌≡◌, ◌∙◌, ◌++◌, ◌∷◌, [], suc, ap, sym, subst, arith, length, drop, take, Some, false, add-one}
+use Rattle.std.specs.List.{IsDistinct, position, list_any}
 use Rattle.std.proofs.lemmas.List.{length-set, length-append}
 use Rattle.sample_book.specs.declared.row.Cell.{Cell}
 use Rattle.sample_book.specs.declared.current_rows.Stored.{Stored}
-use Rattle.sample_book.specs.Rows.{MayPutAs, cell_eq, cell_of, current_rows, verdict_of}
-use Rattle.sample_book.specs.Standing.{Standing, rows_stored}
+use Rattle.sample_book.specs.Rows.{MayPutAs, cell_eq, cell_of, current_rows, same_cell, verdict_of}
+use Rattle.sample_book.specs.Standing.{Standing, rows_stored, standing_of}
+use Rattle.sample_book.specs.declared.row.Row.{Row}
+use Rattle.sample_book.specs.Puts.{IsPutInto}
+use Rattle.sample_book.proofs.PutLemmas.{put_placed}
 use Rattle.sample_book.proofs.StandingLemmas.{PutInPlace, put_in_place, PutBehind, put_behind, put_apart}
 use Rattle.sample_book.proofs.current_rows.CurrentRows.put.Goals as goal
 
@@ -32,6 +35,7 @@ invariant_of-self c =
     record {
       within = omega (arith, c.self.invariant.within, length-set {A = Stored});
       ready = c.self.invariant.ready;
+      few = c.self.invariant.few;
       apart = put_apart (rows_stored c.self.inside.cells stored) _ c.args.row.now (in_place c).rows;
     }
 
@@ -67,6 +71,7 @@ invariant_of-self-in-None c =
     record {
       within = omega (arith, within, longer c);
       ready = omega (arith, c.self.invariant.ready, c.extend_from_slice.ensures.capacity);
+      few = c.self.invariant.few;
       apart = put_apart (rows_stored c.self.inside.cells c.self.inside.stored.items) _ c.args.row.now (ap (rows_stored c.self.inside.cells) (grown c) ∙ (put c).rows);
     }
 
@@ -82,3 +87,18 @@ returns-in-None-clause-new c = λ _.
 
 pub returns-in-None-clause-newer : goal.returns-in-None-clause-newer
 returns-in-None-clause-newer c = λ other. absurd (other (sym (ap (λ (s : Standing). verdict_of s.rows c.args.row.now) c.self.view_is) ∙ (put c).new))
+
+placed : (cells : List Cell) (stored : List Stored) (s : Standing) (row : Row) (rows : List Row) → IsDistinct same_cell (rows_stored cells stored) → standing_of cells stored ≡ s →
+    MayPutAs (verdict_of s.rows row) s.room (cell_of row) → rows ≡ current_rows (rows_stored cells stored ++ row ∷ []) → IsPutInto s.rows row (verdict_of s.rows row) rows
+placed cells stored s row rows apart view may is =
+    subst (λ (s : Standing). IsPutInto s.rows row (verdict_of s.rows row) rows) view
+    (put_placed (rows_stored cells stored) rows row s.room apart (subst (λ (t : Standing). MayPutAs (verdict_of t.rows row) s.room (cell_of row)) (sym view) may) is)
+
+pub returns-in-Some-clause-placed : goal.returns-in-Some-clause-placed
+returns-in-Some-clause-placed c =
+    placed c.self.inside.cells c.self.inside.stored.items c.args.self.now c.args.row.now _ c.self.invariant.apart c.self.view_is c.requires (in_place c).rows
+
+pub returns-in-None-clause-placed : goal.returns-in-None-clause-placed
+returns-in-None-clause-placed c =
+    placed c.self.inside.cells c.self.inside.stored.items c.args.self.now c.args.row.now _ c.self.invariant.apart c.self.view_is c.requires
+    (ap (rows_stored c.self.inside.cells) (grown c) ∙ (put c).rows)

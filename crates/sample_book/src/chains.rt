@@ -1,0 +1,82 @@
+// Items in groups, each linked to the one before it of its group.
+ghost use Rattle.std.specs.Prelude.{◌≡◌, ◌<◌, ◌≤◌, ◌+◌, ◌++◌, ◌∷◌, [], ℕ, List, Some, OnOk, length, slice_get, take};
+ghost use Rattle.sample_book.specs.Chains.{AreLinked, HasRoomFor, group_eq, last, link_of};
+
+use exact_fraction::Label;
+use indexmap::IndexMap;
+use std::alloc::{AllocError, Global};
+
+// A place and one more is a `u32`.
+const MOST_ITEMS: usize = 4_294_967_295;
+
+// What links items: an indicator, and a day where it counts.
+#[derive(Clone, Copy, PartialEq, Eq, Hash)]
+pub(crate) struct Group {
+    pub(crate) sli: Label,
+    pub(crate) day: u32,
+}
+
+#[derive(Drop)]
+pub(crate) struct Chains {
+    // One more than the place of the last item of each group.
+    pub(crate) lasts: IndexMap<Group, u32>,
+    // Of each item one more than the place of the one before it of its group, or 0.
+    pub(crate) links: Vec<u32>,
+}
+
+impl Chains {
+    pub(crate) fn new(alloc: Global) -> Chains
+        ensures linked { AreLinked [] result }
+        ensures room { HasRoomFor 0 result }
+    {
+        Chains {
+            lasts: IndexMap::new(alloc),
+            links: Vec::new(alloc),
+        }
+    }
+
+    // One more than the place of the last item of a group, or 0.
+    pub(crate) fn last(&self, group: Group) -> u32
+        ensures { (groups : List Group) → AreLinked groups self.now → result ≡ last (group_eq group) groups }
+    {
+        match self.lasts.get(&group) {
+            Some(last) => *last,
+            None => 0,
+        }
+    }
+
+    // The same of the items before a place, for the group of the item there.
+    pub(crate) fn before(&self, place: usize) -> u32
+        requires { place < length self.now.links.items }
+        ensures { (groups : List Group) (group : Group) → AreLinked groups self.now → slice_get groups place ≡ Some group → result ≡ last (group_eq group) (take place groups) }
+    {
+        self.links[place]
+    }
+
+    pub(crate) fn reserve(&mut self, count: usize) -> Result<(), AllocError>
+        ensures linked { (groups : List Group) → AreLinked groups self.old → AreLinked groups self.new }
+        ensures room { OnOk result (HasRoomFor count self.new) }
+        ensures stays { (fewer : ℕ) → HasRoomFor fewer self.old → HasRoomFor fewer self.new }
+    {
+        self.lasts.reserve(count)?;
+        self.links.reserve(count)
+    }
+
+    // Adds an item behind the others, with no memory.
+    pub(crate) fn push(&mut self, group: Group)
+        requires room { HasRoomFor 1 self.old }
+        requires few { length self.old.links.items < MOST_ITEMS }
+        ensures linked { (groups : List Group) → AreLinked groups self.old → AreLinked (groups ++ group ∷ []) self.new }
+        ensures room { (count : ℕ) → HasRoomFor (count + 1) self.old → HasRoomFor count self.new }
+    {
+        let place = self.links.len() as u32;
+        let before = self.lasts.insert(group, place + 1).unwrap();
+        self.links.extend_from_slice(&[link_of(before)]).unwrap();
+    }
+}
+
+fn link_of(last: Option<u32>) -> u32
+    ensures { result ≡ link_of last }
+{
+    last.unwrap_or(0)
+}
