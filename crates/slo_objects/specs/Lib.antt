@@ -2,6 +2,7 @@ pub mod TreeCode
 pub mod Form
 pub mod Reading
 pub mod Adding
+pub mod Rules
 pub mod Scalars
 pub mod Durations
 pub mod Metadata

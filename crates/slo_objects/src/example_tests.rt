@@ -1,15 +1,13 @@
-//! The texts of `examples/openslo`, and what their documents stand for. The texts are those of the files.
+//! The texts of `examples/openslo`, and what their documents stand for.
 
-use crate::{Objects, ReadError, read_object};
+use crate::tables::unless_read;
 use std::alloc::{AllocError, Global};
 use std::test::Fail;
-use yaml_subset::read_documents;
 
-/// `datasource.yaml`
-const DATA_SOURCE: &str =
-    "# After the specification's example of a DataSource; it is taken. The connection details are kept as they stand, and
-# nothing is ever connected. Without `type` it is refused: `object 1 type missing`.
-apiVersion: openslo/v1
+/// The texts of the examples without their comments, each with a line for each object or fault, and
+/// behind `-- ` changes: a part, what is put in its place, and the lines then.
+fn examples() -> &'static str {
+    r#"apiVersion: openslo/v1
 kind: DataSource
 metadata:
   name: my-datasource
@@ -19,12 +17,11 @@ spec:
   connectionDetails:
     accessKeyID: accessKey
     secretAccessKey: secretAccessKey
-";
-
-/// `service.yaml`
-const SERVICE: &str =
-    "# After the specification's example of a Service; it is taken. A description of more than 1,050 characters is
-# refused: `object 1 description too_long`.
+=> DataSource my-datasource
+--   type: CloudWatch
+-> 
+=> type Missing
+====
 apiVersion: openslo/v1
 kind: Service
 metadata:
@@ -32,13 +29,8 @@ metadata:
   displayName: My Rad Service
 spec:
   description: This is a great description of an even better service.
-";
-
-/// `sli.yaml`
-const SLI: &str =
-    "# After the specification's forms of an SLI: a ratio of counts, a ratio that is stored itself, and a threshold metric.
-# All three are taken. Queries are kept and never run. `raw` beside `good`, `bad` or `total` is refused
-# (`object 2 raw both`), a reference that is no name in small letters too (`object 1 metricSourceRef bad_name`).
+=> Service my-rad-service
+====
 apiVersion: openslo/v1
 kind: SLI
 metadata:
@@ -86,12 +78,21 @@ spec:
         clusterId: metrics-cluster
         databaseName: metrics-db
         query: SELECT value, timestamp FROM metrics WHERE timestamp BETWEEN :date_from AND :date_to
-";
-
-/// `slo.yaml`
-const SLO: &str =
-    "# After the specification's example of an SLO, with its names. Names are 1 to 63 of small letters, digits and `-` here, so
-# `check` refuses it: `object 1 name bad_name`; with a name of that form, `object 1 service bad_name`.
+=> Sli ok-requests
+Sli stored-ratio
+Sli delay
+-- rawType: success
+-> rawType: success
+    good: {}
+=> Sli ok-requests
+raw Both
+Sli delay
+-- metricSourceRef: datadog-datasource
+-> metricSourceRef: Datadog
+=> metricSourceRef BadName
+Sli stored-ratio
+Sli delay
+====
 apiVersion: openslo/v1
 kind: SLO
 metadata:
@@ -113,13 +114,11 @@ spec:
       target: 0.98
       timeSliceTarget: 0.95
       timeSliceWindow: 1m
-";
-
-/// `slo-windows.yaml`
-const WINDOWS: &str =
-    "# The specification's two time windows, rolling and on the calendar, with names in small letters; both are taken.
-# A calendar beside `isRolling: true` is refused (`object 1 calendar both`), so is a calendar window in hours or minutes
-# (`object 2 duration out_of_range`) and a slice that divides no hour (`object 2 timeSliceWindow out_of_range`).
+=> name BadName
+-- TestSLO
+-> test-slo
+=> service BadName
+====
 apiVersion: openslo/v1
 kind: SLO
 metadata:
@@ -156,13 +155,22 @@ spec:
       target: 0.99
       timeSliceTarget: 0.95
       timeSliceWindow: 5m
-";
-
-/// `slo-composite.yaml`
-const COMPOSITE: &str =
-    "# After the specification's composite SLO, whose objectives have indicators and weights of their own. This profile leaves
-# them out: an SLO has one indicator, so `check` refuses it (`object 1 indicator neither`). With an `indicatorRef` in
-# `spec` it is refused at the objective's own: `object 1 indicatorRef unknown_field`.
+=> Slo rolling
+Slo monthly
+-- isRolling: true
+-> isRolling: true
+      calendar: {}
+=> calendar Both
+Slo monthly
+-- duration: 1M
+-> duration: 24h
+=> Slo rolling
+duration OutOfRange
+-- timeSliceWindow: 5m
+-> timeSliceWindow: 7m
+=> Slo rolling
+timeSliceWindow OutOfRange
+====
 apiVersion: openslo/v1
 kind: SLO
 metadata:
@@ -182,13 +190,12 @@ spec:
       indicatorRef: search
       target: 0.99
       compositeWeight: 2
-";
-
-/// `alert-policy.yaml`
-const ALERT_POLICY: &str =
-    "# After the specification's example of an AlertPolicy, with its names. They have capitals, so `check` refuses it:
-# `object 1 name bad_name`; with a name in small letters, `object 1 targetRef bad_name`. More than one condition is
-# refused here as there: `object 1 conditions list_length`.
+=> indicator Neither
+--   timeWindow:
+->   indicatorRef: checkout
+  timeWindow:
+=> indicatorRef UnknownField
+====
 apiVersion: openslo/v1
 kind: AlertPolicy
 metadata:
@@ -202,13 +209,23 @@ spec:
     - conditionRef: cpu-usage-breach
   notificationTargets:
     - targetRef: OnCallDevopsMailNotification
-";
-
-/// `alert-condition.yaml`
-const ALERT_CONDITION: &str =
-    "# After the specification's example of an AlertCondition; it is taken. The kind `burnrate` is the only one, and `op`
-# and `alertAfter` may be omitted. A threshold above 10,000 is refused (`object 1 threshold out_of_range`), a lookback of
-# nothing or of more than 30 days too (`object 1 lookbackWindow out_of_range`).
+=> name BadName
+-- name: AlertPolicy
+-> name: cpu-alerts
+=> targetRef BadName
+-- name: AlertPolicy
+  displayName: Alert Policy
+spec:
+  description: Alert policy for cpu usage breaches, notifies on-call devops via email
+  alertWhenBreaching: true
+  alertWhenResolved: false
+  conditions:
+-> name: cpu-alerts
+spec:
+  conditions:
+    - conditionRef: other
+=> conditions ListLength
+====
 apiVersion: openslo/v1
 kind: AlertCondition
 metadata:
@@ -223,12 +240,17 @@ spec:
     threshold: 2
     lookbackWindow: 1h
     alertAfter: 5m
-";
-
-/// `alert-notification-target.yaml`
-const ALERT_NOTIFICATION_TARGET: &str =
-    "# After the specification's example of an AlertNotificationTarget, with its name. It has capitals, so `check` refuses it:
-# `object 1 name bad_name`. `examples/targets.yaml` has two targets that are taken.
+=> AlertCondition cpu-usage-breach
+-- threshold: 2
+-> threshold: 10000.5
+=> threshold OutOfRange
+-- lookbackWindow: 1h
+-> lookbackWindow: 0h
+=> lookbackWindow OutOfRange
+-- lookbackWindow: 1h
+-> lookbackWindow: 31d
+=> lookbackWindow OutOfRange
+====
 apiVersion: openslo/v1
 kind: AlertNotificationTarget
 metadata:
@@ -236,14 +258,8 @@ metadata:
 spec:
   description: Notifies by a mail message to the on-call devops mailing group
   target: email
-";
-
-/// `inline.yaml`
-const INLINE: &str =
-    r#"# The specification's inline forms, with names in small letters: an indicator and a policy in an SLO, a condition and a
-# target in the policy. It is taken, as five objects: SLI `good`, AlertCondition `cpu-usage-breach`,
-# AlertNotificationTarget `on-call-mail`, AlertPolicy `cpu-alerts` and SLO `inline`. An object of another kind in the place
-# of the condition is refused: `object 1 kind bad_kind`.
+=> name BadName
+====
 apiVersion: openslo/v1
 kind: SLO
 metadata:
@@ -304,149 +320,40 @@ spec:
             spec:
               description: Notifies by a mail message to the on-call devops mailing group
               target: email
-"#;
-
-/// Adds a line with the kind and name of each object of a document, or one with its fault.
-fn add_lines(
-    alloc: Global,
-    out: &mut String,
-    read: &Result<Objects, ReadError>,
-) -> Result<(), AllocError> {
-    match read {
-        Ok(objects) => {
-            for object in objects.as_slice() {
-                let (kind, name) = (object.kind, object.name);
-                out.push_str(&format!(in alloc; "{kind:?} {name}\n")?)?;
-            }
-        }
-        Err(ReadError::Fault(fault)) => {
-            let (field, rule) = (fault.field.as_str(), fault.rule);
-            out.push_str(&format!(in alloc; "{field} {rule:?}\n")?)?;
-        }
-        Err(ReadError::NoMemory) => out.push_str("no memory\n")?,
-    }
-    Ok(())
+=> Sli good
+AlertCondition cpu-usage-breach
+AlertNotificationTarget on-call-mail
+AlertPolicy cpu-alerts
+Slo inline
+-- kind: AlertCondition
+-> kind: AlertPolicy
+=> kind BadKind"#
 }
 
-/// These lines for the documents of a text.
-fn lines(alloc: Global, text: &str) -> Result<String, AllocError> {
-    let mut out = String::new(alloc);
-    if let Ok(nodes) = read_documents(alloc, text.as_bytes()) {
-        for node in &nodes {
-            add_lines(alloc, &mut out, &read_object(alloc, node))?;
-        }
-    }
-    Ok(out)
+/// Empty where a changed text is read as the change says.
+fn wrong_change(alloc: Global, text: &str, change: &str) -> Result<String, AllocError> {
+    let (part, rest) = change.split_once("\n-> ").unwrap_or((change, ""));
+    let (changed, wanted) = rest.split_once("\n=> ").unwrap_or((rest, "no change"));
+    unless_read(alloc, &text.replace(alloc, part, changed)?, wanted)
 }
 
-/// Texts, and a line for each object or fault of their documents.
-const EXAMPLES: [(&str, &str); 10] = [
-    (DATA_SOURCE, "DataSource my-datasource\n"),
-    (SERVICE, "Service my-rad-service\n"),
-    (SLI, "Sli ok-requests\nSli stored-ratio\nSli delay\n"),
-    (SLO, "name BadName\n"),
-    (WINDOWS, "Slo rolling\nSlo monthly\n"),
-    (COMPOSITE, "indicator Neither\n"),
-    (ALERT_POLICY, "name BadName\n"),
-    (ALERT_CONDITION, "AlertCondition cpu-usage-breach\n"),
-    (ALERT_NOTIFICATION_TARGET, "name BadName\n"),
-    (
-        INLINE,
-        "Sli good\nAlertCondition cpu-usage-breach\nAlertNotificationTarget on-call-mail\nAlertPolicy cpu-alerts\nSlo inline\n",
-    ),
-];
+/// The first wrong reading of an example and of its changes; empty if there is none.
+fn wrong_example(alloc: Global, example: &str) -> Result<String, AllocError> {
+    let (text, rest) = example.split_once("\n=> ").unwrap_or((example, ""));
+    let (wanted, changes) = rest.split_once("\n-- ").unwrap_or((rest, ""));
+    for change in changes.split_terminator("\n-- ") {
+        let wrong = wrong_change(alloc, text, change)?;
+        if !wrong.is_empty() {
+            return Ok(wrong);
+        }
+    }
+    unless_read(alloc, text, wanted)
+}
 
 #[test]
 fn the_examples_are_read_as_they_say(rt: HostRuntime) -> Result<(), Fail> {
-    for (text, expected) in EXAMPLES {
-        assert_eq!(rt; lines(rt.alloc(), text)?.as_str(), expected);
-    }
-    Ok(())
-}
-
-/// Texts, a part of each, what is put in its place, and the lines then.
-const CHANGES: [(&str, &str, &str, &str); 14] = [
-    (DATA_SOURCE, "  type: CloudWatch\n", "", "type Missing\n"),
-    (
-        SLI,
-        "rawType: success",
-        "rawType: success\n    good: {}",
-        "Sli ok-requests\nraw Both\nSli delay\n",
-    ),
-    (
-        SLI,
-        "metricSourceRef: datadog-datasource",
-        "metricSourceRef: Datadog",
-        "metricSourceRef BadName\nSli stored-ratio\nSli delay\n",
-    ),
-    (SLO, "TestSLO", "test-slo", "service BadName\n"),
-    (
-        WINDOWS,
-        "isRolling: true\n",
-        "isRolling: true\n      calendar: {}\n",
-        "calendar Both\nSlo monthly\n",
-    ),
-    (
-        WINDOWS,
-        "duration: 1M",
-        "duration: 24h",
-        "Slo rolling\nduration OutOfRange\n",
-    ),
-    (
-        WINDOWS,
-        "timeSliceWindow: 5m",
-        "timeSliceWindow: 7m",
-        "Slo rolling\ntimeSliceWindow OutOfRange\n",
-    ),
-    (
-        COMPOSITE,
-        "  timeWindow:",
-        "  indicatorRef: checkout\n  timeWindow:",
-        "indicatorRef UnknownField\n",
-    ),
-    (
-        ALERT_POLICY,
-        "name: AlertPolicy",
-        "name: cpu-alerts",
-        "targetRef BadName\n",
-    ),
-    (
-        ALERT_POLICY,
-        "name: AlertPolicy\n  displayName: Alert Policy\nspec:\n  description: Alert policy for cpu usage breaches, notifies on-call devops via email\n  alertWhenBreaching: true\n  alertWhenResolved: false\n  conditions:\n",
-        "name: cpu-alerts\nspec:\n  conditions:\n    - conditionRef: other\n",
-        "conditions ListLength\n",
-    ),
-    (
-        ALERT_CONDITION,
-        "threshold: 2",
-        "threshold: 10000.5",
-        "threshold OutOfRange\n",
-    ),
-    (
-        ALERT_CONDITION,
-        "lookbackWindow: 1h",
-        "lookbackWindow: 0h",
-        "lookbackWindow OutOfRange\n",
-    ),
-    (
-        ALERT_CONDITION,
-        "lookbackWindow: 1h",
-        "lookbackWindow: 31d",
-        "lookbackWindow OutOfRange\n",
-    ),
-    (
-        INLINE,
-        "kind: AlertCondition",
-        "kind: AlertPolicy",
-        "kind BadKind\n",
-    ),
-];
-
-#[test]
-fn a_changed_example_is_refused_as_it_says(rt: HostRuntime) -> Result<(), Fail> {
-    for (text, part, changed, expected) in CHANGES {
-        let text = text.replace(rt.alloc(), part, changed)?;
-        assert_eq!(rt; lines(rt.alloc(), &text)?.as_str(), expected);
+    for example in examples().split("\n====\n") {
+        assert_eq!(rt; wrong_example(rt.alloc(), example)?.as_str(), "");
     }
     Ok(())
 }

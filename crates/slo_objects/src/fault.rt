@@ -48,6 +48,38 @@ pub enum Rule {
     Repeated,
 }
 
+impl Rule {
+    ghost use Rattle.std.specs.Prelude.{◌≡◌};
+    ghost use Rattle.slo_objects.specs.Rules.{rule_word};
+
+    /// Its word, by which a refusal names it.
+    pub fn word(self) -> &'static str
+        ensures { result.now ≡ rule_word self }
+    {
+        match self {
+            Rule::Missing => "missing",
+            Rule::NotMap => "not_map",
+            Rule::NotList => "not_list",
+            Rule::NotText => "not_text",
+            Rule::NotNumber => "not_number",
+            Rule::NotBool => "not_bool",
+            Rule::NotDuration => "not_duration",
+            Rule::NotMoment => "not_moment",
+            Rule::OutOfRange => "out_of_range",
+            Rule::BadName => "bad_name",
+            Rule::BadVersion => "bad_version",
+            Rule::BadKind => "bad_kind",
+            Rule::BadWord => "bad_word",
+            Rule::Both => "both",
+            Rule::Neither => "neither",
+            Rule::UnknownField => "unknown_field",
+            Rule::ListLength => "list_length",
+            Rule::TooLong => "too_long",
+            Rule::Repeated => "repeated",
+        }
+    }
+}
+
 /// The first fault of a node: the key of the field, and the rule that it breaks.
 /// For an item of the wrong form it is the key of the list, for a document that is no map `document`.
 #[derive(Debug, Drop)]

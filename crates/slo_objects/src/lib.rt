@@ -41,7 +41,6 @@ pub use laws::{each_object_can_be_written, each_object_reads_back, objects_with_
 pub use names::Names;
 pub use object::{Body, Object, Objects};
 pub use part::Part;
-pub use scalars::kind_word;
 pub use service::Service;
 pub use sli::{Events, Metric, MetricSource, Ratio, RatioMetric, RawType, Sli};
 pub use slo::{BudgetingMethod, Calendar, Objective, Objectives, Slo, TimeWindow};
@@ -53,6 +52,8 @@ mod example_tests;
 mod field_tests;
 #[cfg(test)]
 mod slo_tests;
+#[cfg(test)]
+mod tables;
 #[cfg(test)]
 mod tests;
 #[cfg(test)]

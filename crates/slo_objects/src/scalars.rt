@@ -4,7 +4,7 @@ ghost use Rattle.std.specs.List.{list_all};
 ghost use Rattle.std.specs.Str.{bytes_eq, chars};
 ghost use Rattle.yaml_subset.specs.NodeView.{node_view};
 ghost use Rattle.slo_objects.specs.Reading.{Gives, alone};
-ghost use Rattle.slo_objects.specs.Scalars.{text, text_value, description, description_value, name, name_value, zone_name, zone_value, version, version_value, kind, kind_value, kind_word as kind_word_lem, only_kind, only_kind_value, op, op_value, boolean, boolean_value, is_name_byte as is_name_byte_lem, is_object_name as is_object_name_lem};
+ghost use Rattle.slo_objects.specs.Scalars.{text, text_value, description, description_value, name, name_value, zone_name, zone_value, version, version_value, kind, kind_value, only_kind, only_kind_value, op, op_value, boolean, boolean_value, is_name_byte as is_name_byte_lem, is_object_name as is_object_name_lem};
 
 use crate::fault::{ReadError, Rule};
 use crate::fields::{fault_at, is_among, utf8_text};
@@ -182,22 +182,9 @@ pub(crate) fn version_of(alloc: Global, key: &str, node: &Node) -> Result<(), Re
 fn read_kind(text: &[u8]) -> Result<Kind, Rule>
     ensures { result ≡ kind_value text.now }
 {
-    if is_word(text, "DataSource") {
-        Ok(Kind::DataSource)
-    } else if is_word(text, "Service") {
-        Ok(Kind::Service)
-    } else if is_word(text, "SLI") {
-        Ok(Kind::Sli)
-    } else if is_word(text, "SLO") {
-        Ok(Kind::Slo)
-    } else if is_word(text, "AlertPolicy") {
-        Ok(Kind::AlertPolicy)
-    } else if is_word(text, "AlertCondition") {
-        Ok(Kind::AlertCondition)
-    } else if is_word(text, "AlertNotificationTarget") {
-        Ok(Kind::AlertNotificationTarget)
-    } else {
-        Err(Rule::BadKind)
+    match Kind::of_word(text) {
+        Some(kind) => Ok(kind),
+        None => Err(Rule::BadKind),
     }
 }
 
@@ -214,26 +201,11 @@ pub(crate) fn kind_of(alloc: Global, key: &str, node: &Node) -> Result<Kind, Rea
     }
 }
 
-/// The word of a kind, as a document's `kind` has it.
-pub fn kind_word(kind: Kind) -> &'static str
-    ensures { result.now ≡ kind_word_lem kind }
-{
-    match kind {
-        Kind::DataSource => "DataSource",
-        Kind::Service => "Service",
-        Kind::Sli => "SLI",
-        Kind::Slo => "SLO",
-        Kind::AlertPolicy => "AlertPolicy",
-        Kind::AlertCondition => "AlertCondition",
-        Kind::AlertNotificationTarget => "AlertNotificationTarget",
-    }
-}
-
 #[tactic(auto, unfolding(crate::specs::Scalars::only_kind_value))]
 fn read_only_kind(text: &[u8], word: Kind) -> Result<(), Rule>
     ensures { result ≡ only_kind_value word text.now }
 {
-    if is_word(text, kind_word(word)) {
+    if is_word(text, word.word()) {
         Ok(())
     } else {
         Err(Rule::BadKind)

@@ -1,534 +1,591 @@
 //! Documents at fault, each with the field and the rule that OpenSLO's words name first.
 
-use crate::{Objects, ReadError, Rule, read_object};
-use std::alloc::{AllocError, Global};
+use crate::tables::{unless_read, wrong_in};
 use std::test::Fail;
-use yaml_subset::read_documents;
 
-/// The objects of the first document of a text, or its fault.
-pub(crate) fn objects_in(alloc: Global, text: &str) -> Option<Result<Objects, ReadError>> {
-    let nodes = read_documents(alloc, text.as_bytes()).ok()?;
-    let node = nodes.first()?;
-    Some(read_object(alloc, node))
+/// Fields that are missing, or of another form.
+fn forms() -> &'static str {
+    "apiVersion: openslo/v1
+metadata:
+  name: shop
+####
+kind: DataSource
+spec:
+  description: x
+=> type Missing
+====
+kind: AlertNotificationTarget
+spec:
+  target: ~
+=> target Missing
+====
+kind: AlertCondition
+spec:
+  severity: page
+=> condition Missing
+====
+kind: AlertCondition
+spec:
+  severity: page
+  condition:
+    op: gt
+    lookbackWindow: 1h
+=> threshold Missing
+====
+kind: AlertCondition
+spec:
+  severity: page
+  condition:
+    threshold: 2
+    alertAfter: 5m
+=> lookbackWindow Missing
+====
+kind: SLI
+spec:
+  thresholdMetric: {}
+=> metricSource Missing
+====
+kind: SLI
+spec:
+  ratioMetric:
+    raw:
+      metricSource: {}
+=> rawType Missing
+====
+kind: SLI
+spec:
+  ratioMetric:
+    rawType: success
+=> total Missing
+====
+kind: AlertPolicy
+spec:
+  conditions:
+  - metadata: {}
+=> name Missing
+====
+kind: AlertPolicy
+spec:
+  conditions:
+  - metadata:
+      name: a
+=> spec Missing
+====
+kind: Service
+spec:
+  - a
+=> spec NotMap
+====
+kind: SLI
+spec:
+  thresholdMetric: 5
+=> thresholdMetric NotMap
+====
+kind: AlertPolicy
+spec:
+  conditions: [fast]
+=> conditions NotMap
+====
+kind: AlertPolicy
+spec:
+  notificationTargets: [null]
+=> notificationTargets NotMap
+====
+kind: AlertPolicy
+spec:
+  conditions: 5
+=> conditions NotList
+====
+kind: AlertPolicy
+spec:
+  notificationTargets: {}
+=> notificationTargets NotList
+====
+kind: Service
+spec:
+  description: [a]
+=> description NotText
+====
+kind: DataSource
+spec:
+  type: []
+=> type NotText
+====
+kind: AlertCondition
+spec:
+  severity: {}
+=> severity NotText
+====
+kind: AlertCondition
+spec:
+  severity: a
+  condition:
+    threshold: -1
+=> threshold NotNumber
+====
+kind: AlertCondition
+spec:
+  severity: a
+  condition:
+    threshold: 0.0000000001
+=> threshold NotNumber
+====
+kind: AlertPolicy
+spec:
+  alertWhenNoData: yes
+=> alertWhenNoData NotBool
+====
+kind: SLI
+spec:
+  ratioMetric:
+    counter: 1
+=> counter NotBool
+====
+kind: AlertCondition
+spec:
+  severity: a
+  condition:
+    threshold: 1
+    lookbackWindow: 5
+=> lookbackWindow NotDuration
+====
+kind: AlertCondition
+spec:
+  severity: a
+  condition:
+    threshold: 1
+    lookbackWindow: 1h
+    alertAfter: [5m]
+=> alertAfter NotDuration"
 }
-
-/// Whether a text's first document has this first fault.
-pub(crate) fn has_fault(alloc: Global, text: &str, field: &str, rule: Rule) -> bool {
-    match objects_in(alloc, text) {
-        Some(Err(ReadError::Fault(fault))) => fault.field.as_str() == field && fault.rule == rule,
-        _ => false,
-    }
-}
-
-/// The objects of a text's first document with all their fields, or its fault.
-pub(crate) fn answer(alloc: Global, text: &str) -> Result<String, AllocError> {
-    match objects_in(alloc, text) {
-        Some(Ok(objects)) => format!(in alloc; "{objects:?}"),
-        Some(Err(fault)) => format!(in alloc; "{fault:?}"),
-        None => String::from_str(alloc, "no document"),
-    }
-}
-
-/// A document of that kind, named `shop`.
-pub(crate) fn document(alloc: Global, kind: &str, spec: &str) -> Result<String, AllocError> {
-    format!(in alloc;
-        "apiVersion: openslo/v1\nkind: {kind}\nmetadata:\n  name: shop\nspec:\n{spec}"
-    )
-}
-
-/// Kinds, what stands in `spec`, and its first fault: a field that is missing, or of another form.
-const FORMS: [(&str, &str, &str, Rule); 25] = [
-    ("DataSource", "  description: x\n", "type", Rule::Missing),
-    (
-        "AlertNotificationTarget",
-        "  target: ~\n",
-        "target",
-        Rule::Missing,
-    ),
-    (
-        "AlertCondition",
-        "  severity: page\n",
-        "condition",
-        Rule::Missing,
-    ),
-    (
-        "AlertCondition",
-        "  severity: page\n  condition:\n    op: gt\n    lookbackWindow: 1h\n",
-        "threshold",
-        Rule::Missing,
-    ),
-    (
-        "AlertCondition",
-        "  severity: page\n  condition:\n    threshold: 2\n    alertAfter: 5m\n",
-        "lookbackWindow",
-        Rule::Missing,
-    ),
-    (
-        "SLI",
-        "  thresholdMetric: {}\n",
-        "metricSource",
-        Rule::Missing,
-    ),
-    (
-        "SLI",
-        "  ratioMetric:\n    raw:\n      metricSource: {}\n",
-        "rawType",
-        Rule::Missing,
-    ),
-    (
-        "SLI",
-        "  ratioMetric:\n    rawType: success\n",
-        "total",
-        Rule::Missing,
-    ),
-    (
-        "AlertPolicy",
-        "  conditions:\n  - metadata: {}\n",
-        "name",
-        Rule::Missing,
-    ),
-    (
-        "AlertPolicy",
-        "  conditions:\n  - metadata:\n      name: a\n",
-        "spec",
-        Rule::Missing,
-    ),
-    ("Service", "  - a\n", "spec", Rule::NotMap),
-    (
-        "SLI",
-        "  thresholdMetric: 5\n",
-        "thresholdMetric",
-        Rule::NotMap,
-    ),
-    (
-        "AlertPolicy",
-        "  conditions: [fast]\n",
-        "conditions",
-        Rule::NotMap,
-    ),
-    (
-        "AlertPolicy",
-        "  notificationTargets: [null]\n",
-        "notificationTargets",
-        Rule::NotMap,
-    ),
-    (
-        "AlertPolicy",
-        "  conditions: 5\n",
-        "conditions",
-        Rule::NotList,
-    ),
-    (
-        "AlertPolicy",
-        "  notificationTargets: {}\n",
-        "notificationTargets",
-        Rule::NotList,
-    ),
-    (
-        "Service",
-        "  description: [a]\n",
-        "description",
-        Rule::NotText,
-    ),
-    ("DataSource", "  type: []\n", "type", Rule::NotText),
-    (
-        "AlertCondition",
-        "  severity: {}\n",
-        "severity",
-        Rule::NotText,
-    ),
-    (
-        "AlertCondition",
-        "  severity: a\n  condition:\n    threshold: -1\n",
-        "threshold",
-        Rule::NotNumber,
-    ),
-    (
-        "AlertCondition",
-        "  severity: a\n  condition:\n    threshold: 0.0000000001\n",
-        "threshold",
-        Rule::NotNumber,
-    ),
-    (
-        "AlertPolicy",
-        "  alertWhenNoData: yes\n",
-        "alertWhenNoData",
-        Rule::NotBool,
-    ),
-    (
-        "SLI",
-        "  ratioMetric:\n    counter: 1\n",
-        "counter",
-        Rule::NotBool,
-    ),
-    (
-        "AlertCondition",
-        "  severity: a\n  condition:\n    threshold: 1\n    lookbackWindow: 5\n",
-        "lookbackWindow",
-        Rule::NotDuration,
-    ),
-    (
-        "AlertCondition",
-        "  severity: a\n  condition:\n    threshold: 1\n    lookbackWindow: 1h\n    alertAfter: [5m]\n",
-        "alertAfter",
-        Rule::NotDuration,
-    ),
-];
 
 #[test]
 fn a_field_of_another_form_is_named(rt: HostRuntime) -> Result<(), Fail> {
-    for (kind, spec, field, rule) in FORMS {
-        let text = document(rt.alloc(), kind, spec)?;
-        assert!(rt; has_fault(rt.alloc(), &text, field, rule), "{spec}");
-    }
+    assert_eq!(rt; wrong_in(rt.alloc(), forms())?.as_str(), "");
     Ok(())
 }
 
-/// The same of values that may not stand, and of fields and items that are too many or too few.
-const VALUES: [(&str, &str, &str, Rule); 21] = [
-    (
-        "AlertCondition",
-        "  severity: a\n  condition:\n    threshold: 1\n    lookbackWindow: 0m\n",
-        "lookbackWindow",
-        Rule::OutOfRange,
-    ),
-    (
-        "AlertCondition",
-        "  severity: a\n  condition:\n    threshold: 1\n    lookbackWindow: 31d\n",
-        "lookbackWindow",
-        Rule::OutOfRange,
-    ),
-    (
-        "AlertCondition",
-        "  severity: a\n  condition:\n    threshold: 1\n    lookbackWindow: 30d\n    alertAfter: 43201m\n",
-        "alertAfter",
-        Rule::OutOfRange,
-    ),
-    (
-        "AlertCondition",
-        "  severity: a\n  condition:\n    threshold: 10000.1\n",
-        "threshold",
-        Rule::OutOfRange,
-    ),
-    (
-        "SLI",
-        "  thresholdMetric:\n    metricSource:\n      metricSourceRef: Prometheus\n",
-        "metricSourceRef",
-        Rule::BadName,
-    ),
-    (
-        "AlertPolicy",
-        "  conditions:\n  - conditionRef: -fast\n",
-        "conditionRef",
-        Rule::BadName,
-    ),
-    (
-        "AlertPolicy",
-        "  notificationTargets:\n  - apiVersion: openslo/v2\n",
-        "apiVersion",
-        Rule::BadVersion,
-    ),
-    (
-        "AlertPolicy",
-        "  notificationTargets:\n  - kind: AlertCondition\n",
-        "kind",
-        Rule::BadKind,
-    ),
-    (
-        "AlertPolicy",
-        "  conditions:\n  - kind: AlertPolicy\n",
-        "kind",
-        Rule::BadKind,
-    ),
-    (
-        "AlertCondition",
-        "  severity: a\n  condition:\n    kind: burn\n",
-        "kind",
-        Rule::BadWord,
-    ),
-    (
-        "AlertCondition",
-        "  severity: a\n  condition:\n    op: GT\n",
-        "op",
-        Rule::BadWord,
-    ),
-    (
-        "SLI",
-        "  ratioMetric:\n    raw:\n      metricSource: {}\n    rawType: Success\n",
-        "rawType",
-        Rule::BadWord,
-    ),
-    (
-        "SLI",
-        "  thresholdMetric: {}\n  ratioMetric: {}\n",
-        "thresholdMetric",
-        Rule::Both,
-    ),
-    (
-        "SLI",
-        "  ratioMetric:\n    raw:\n      metricSource: {}\n    bad: {}\n",
-        "raw",
-        Rule::Both,
-    ),
-    (
-        "SLI",
-        "  ratioMetric:\n    total:\n      metricSource: {}\n    good: 1\n    bad: 1\n",
-        "good",
-        Rule::Both,
-    ),
-    (
-        "SLI",
-        "  description: x\n",
-        "thresholdMetric",
-        Rule::Neither,
-    ),
-    (
-        "SLI",
-        "  ratioMetric:\n    total:\n      metricSource: {}\n",
-        "good",
-        Rule::Neither,
-    ),
-    ("Service", "  team: a\n", "team", Rule::UnknownField),
-    (
-        "AlertPolicy",
-        "  conditions:\n  - conditionRef: a\n    more: b\n",
-        "more",
-        Rule::UnknownField,
-    ),
-    (
-        "SLI",
-        "  ratioMetric:\n    rawType: success\n    total:\n      metricSource: {}\n    bad:\n      metricSource: {}\n",
-        "rawType",
-        Rule::UnknownField,
-    ),
-    (
-        "AlertPolicy",
-        "  conditions: [a, b]\n",
-        "conditions",
-        Rule::ListLength,
-    ),
-];
+/// Values that may not stand, and fields and items that are too many or too few.
+fn values() -> &'static str {
+    "apiVersion: openslo/v1
+metadata:
+  name: shop
+####
+kind: AlertCondition
+spec:
+  severity: a
+  condition:
+    threshold: 1
+    lookbackWindow: 0m
+=> lookbackWindow OutOfRange
+====
+kind: AlertCondition
+spec:
+  severity: a
+  condition:
+    threshold: 1
+    lookbackWindow: 31d
+=> lookbackWindow OutOfRange
+====
+kind: AlertCondition
+spec:
+  severity: a
+  condition:
+    threshold: 1
+    lookbackWindow: 30d
+    alertAfter: 43201m
+=> alertAfter OutOfRange
+====
+kind: AlertCondition
+spec:
+  severity: a
+  condition:
+    threshold: 10000.1
+=> threshold OutOfRange
+====
+kind: SLI
+spec:
+  thresholdMetric:
+    metricSource:
+      metricSourceRef: Prometheus
+=> metricSourceRef BadName
+====
+kind: AlertPolicy
+spec:
+  conditions:
+  - conditionRef: -fast
+=> conditionRef BadName
+====
+kind: AlertPolicy
+spec:
+  notificationTargets:
+  - apiVersion: openslo/v2
+=> apiVersion BadVersion
+====
+kind: AlertPolicy
+spec:
+  notificationTargets:
+  - kind: AlertCondition
+=> kind BadKind
+====
+kind: AlertPolicy
+spec:
+  conditions:
+  - kind: AlertPolicy
+=> kind BadKind
+====
+kind: AlertCondition
+spec:
+  severity: a
+  condition:
+    kind: burn
+=> kind BadWord
+====
+kind: AlertCondition
+spec:
+  severity: a
+  condition:
+    op: GT
+=> op BadWord
+====
+kind: SLI
+spec:
+  ratioMetric:
+    raw:
+      metricSource: {}
+    rawType: Success
+=> rawType BadWord
+====
+kind: SLI
+spec:
+  thresholdMetric: {}
+  ratioMetric: {}
+=> thresholdMetric Both
+====
+kind: SLI
+spec:
+  ratioMetric:
+    raw:
+      metricSource: {}
+    bad: {}
+=> raw Both
+====
+kind: SLI
+spec:
+  ratioMetric:
+    total:
+      metricSource: {}
+    good: 1
+    bad: 1
+=> good Both
+====
+kind: SLI
+spec:
+  description: x
+=> thresholdMetric Neither
+====
+kind: SLI
+spec:
+  ratioMetric:
+    total:
+      metricSource: {}
+=> good Neither
+====
+kind: Service
+spec:
+  team: a
+=> team UnknownField
+====
+kind: AlertPolicy
+spec:
+  conditions:
+  - conditionRef: a
+    more: b
+=> more UnknownField
+====
+kind: SLI
+spec:
+  ratioMetric:
+    rawType: success
+    total:
+      metricSource: {}
+    bad:
+      metricSource: {}
+=> rawType UnknownField
+====
+kind: AlertPolicy
+spec:
+  conditions: [a, b]
+=> conditions ListLength"
+}
 
 #[test]
 fn a_value_that_may_not_stand_is_named(rt: HostRuntime) -> Result<(), Fail> {
-    for (kind, spec, field, rule) in VALUES {
-        let text = document(rt.alloc(), kind, spec)?;
-        assert!(rt; has_fault(rt.alloc(), &text, field, rule), "{spec}");
-    }
+    assert_eq!(rt; wrong_in(rt.alloc(), values())?.as_str(), "");
     Ok(())
 }
 
-/// Of several faults the first in the order of the fields is named, depth first, and unknown fields of a map last.
-const SEVERAL: [(&str, &str, &str, Rule); 12] = [
-    (
-        "DataSource",
-        "  team: a\n  type: x\n",
-        "team",
-        Rule::UnknownField,
-    ),
-    ("DataSource", "  team: a\n", "type", Rule::Missing),
-    (
-        "DataSource",
-        "  type: []\n  description: []\n",
-        "description",
-        Rule::NotText,
-    ),
-    (
-        "AlertCondition",
-        "  condition: 5\n  description: x\n",
-        "severity",
-        Rule::Missing,
-    ),
-    (
-        "AlertCondition",
-        "  team: a\n  severity: page\n  condition:\n    hour: 1\n    threshold: 2\n    lookbackWindow: 1h\n",
-        "hour",
-        Rule::UnknownField,
-    ),
-    (
-        "AlertCondition",
-        "  severity: page\n  condition:\n    op: above\n    kind: burn\n",
-        "kind",
-        Rule::BadWord,
-    ),
-    (
-        "AlertPolicy",
-        "  notificationTargets: 5\n  conditions: [a, b]\n  alertWhenBreaching: 0\n",
-        "alertWhenBreaching",
-        Rule::NotBool,
-    ),
-    (
-        "AlertPolicy",
-        "  notificationTargets:\n  - targetRef: desk\n  - targetRef: Desk\n  - 5\n",
-        "targetRef",
-        Rule::BadName,
-    ),
-    (
-        "AlertPolicy",
-        "  notificationTargets:\n  - kind: SLO\n    apiVersion: v1\n",
-        "apiVersion",
-        Rule::BadVersion,
-    ),
-    (
-        "SLI",
-        "  ratioMetric:\n    raw: 5\n    counter: 5\n",
-        "counter",
-        Rule::NotBool,
-    ),
-    (
-        "SLI",
-        "  ratioMetric:\n    bad: 5\n    total: 5\n    rawType: 5\n",
-        "total",
-        Rule::NotMap,
-    ),
-    (
-        "SLI",
-        "  thresholdMetric:\n    metricSource:\n      type: []\n      metricSourceRef: []\n",
-        "metricSourceRef",
-        Rule::BadName,
-    ),
-];
+/// Several faults: the first in the order of the fields is named, depth first, and unknown
+/// fields of a map last.
+fn several() -> &'static str {
+    "apiVersion: openslo/v1
+metadata:
+  name: shop
+####
+kind: DataSource
+spec:
+  team: a
+  type: x
+=> team UnknownField
+====
+kind: DataSource
+spec:
+  team: a
+=> type Missing
+====
+kind: DataSource
+spec:
+  type: []
+  description: []
+=> description NotText
+====
+kind: AlertCondition
+spec:
+  condition: 5
+  description: x
+=> severity Missing
+====
+kind: AlertCondition
+spec:
+  team: a
+  severity: page
+  condition:
+    hour: 1
+    threshold: 2
+    lookbackWindow: 1h
+=> hour UnknownField
+====
+kind: AlertCondition
+spec:
+  severity: page
+  condition:
+    op: above
+    kind: burn
+=> kind BadWord
+====
+kind: AlertPolicy
+spec:
+  notificationTargets: 5
+  conditions: [a, b]
+  alertWhenBreaching: 0
+=> alertWhenBreaching NotBool
+====
+kind: AlertPolicy
+spec:
+  notificationTargets:
+  - targetRef: desk
+  - targetRef: Desk
+  - 5
+=> targetRef BadName
+====
+kind: AlertPolicy
+spec:
+  notificationTargets:
+  - kind: SLO
+    apiVersion: v1
+=> apiVersion BadVersion
+====
+kind: SLI
+spec:
+  ratioMetric:
+    raw: 5
+    counter: 5
+=> counter NotBool
+====
+kind: SLI
+spec:
+  ratioMetric:
+    bad: 5
+    total: 5
+    rawType: 5
+=> total NotMap
+====
+kind: SLI
+spec:
+  thresholdMetric:
+    metricSource:
+      type: []
+      metricSourceRef: []
+=> metricSourceRef BadName"
+}
 
 #[test]
 fn the_first_of_several_faults_is_named(rt: HostRuntime) -> Result<(), Fail> {
-    for (kind, spec, field, rule) in SEVERAL {
-        let text = document(rt.alloc(), kind, spec)?;
-        assert!(rt; has_fault(rt.alloc(), &text, field, rule), "{spec}");
-    }
+    assert_eq!(rt; wrong_in(rt.alloc(), several())?.as_str(), "");
     Ok(())
 }
 
-/// Documents that aren't whole, or whose head is at fault.
-const HEADS: [(&str, &str, Rule); 24] = [
-    ("[]\n", "document", Rule::NotMap),
-    ("a text\n", "document", Rule::NotMap),
-    ("kind: Service\n", "apiVersion", Rule::Missing),
-    ("apiVersion: ~\n", "apiVersion", Rule::Missing),
-    ("apiVersion: openslo/v2\n", "apiVersion", Rule::BadVersion),
-    ("apiVersion: []\n", "apiVersion", Rule::BadVersion),
-    (
-        "kind: Slo\napiVersion: openslo/v1alpha\n",
-        "apiVersion",
-        Rule::BadVersion,
-    ),
-    ("apiVersion: openslo/v1\n", "kind", Rule::Missing),
-    ("apiVersion: openslo/v1\nkind: Slo\n", "kind", Rule::BadKind),
-    ("apiVersion: openslo/v1\nkind: {}\n", "kind", Rule::BadKind),
-    (
-        "apiVersion: openslo/v1\nkind: Service\nspec: {}\n",
-        "metadata",
-        Rule::Missing,
-    ),
-    (
-        "apiVersion: openslo/v1\nkind: Service\nmetadata: x\n",
-        "metadata",
-        Rule::NotMap,
-    ),
-    (
-        "apiVersion: openslo/v1\nkind: Service\nmetadata: {}\nspec: 5\n",
-        "name",
-        Rule::Missing,
-    ),
-    (
-        "apiVersion: openslo/v1\nkind: Service\nmetadata:\n  name: Shop\n",
-        "name",
-        Rule::BadName,
-    ),
-    (
-        "apiVersion: openslo/v1\nkind: Service\nmetadata:\n  name: ''\n",
-        "name",
-        Rule::BadName,
-    ),
-    (
-        "apiVersion: openslo/v1\nkind: Service\nmetadata:\n  name: shop-\n",
-        "name",
-        Rule::BadName,
-    ),
-    (
-        "apiVersion: openslo/v1\nkind: Service\nmetadata:\n  name: [a]\n",
-        "name",
-        Rule::BadName,
-    ),
-    (
-        "apiVersion: openslo/v1\nkind: Service\nmetadata:\n  name: a\n  displayName: [x]\n  labels: x\n",
-        "displayName",
-        Rule::NotText,
-    ),
-    (
-        "apiVersion: openslo/v1\nkind: Service\nmetadata:\n  name: a\n  labels: x\n",
-        "labels",
-        Rule::NotMap,
-    ),
-    (
-        "apiVersion: openslo/v1\nkind: Service\nmetadata:\n  name: a\n  annotations: []\n",
-        "annotations",
-        Rule::NotMap,
-    ),
-    (
-        "apiVersion: openslo/v1\nkind: Service\nmetadata:\n  name: a\n  owner: x\n",
-        "owner",
-        Rule::UnknownField,
-    ),
-    (
-        "apiVersion: openslo/v1\nkind: Service\nmetadata:\n  name: a\nmore: x\n",
-        "spec",
-        Rule::Missing,
-    ),
-    (
-        "apiVersion: openslo/v1\nkind: Service\nmetadata:\n  name: a\nspec: ~\n",
-        "spec",
-        Rule::Missing,
-    ),
-    (
-        "more: x\napiVersion: openslo/v1\nkind: Service\nmetadata:\n  name: a\nspec: {}\n",
-        "more",
-        Rule::UnknownField,
-    ),
-];
-
-#[test]
-fn the_first_fault_of_a_head_is_named(rt: HostRuntime) {
-    for (text, field, rule) in HEADS {
-        assert!(rt; has_fault(rt.alloc(), text, field, rule), "{text}");
-    }
+/// Documents that aren't whole, or whose head is at fault. A name has at most 63 characters.
+fn heads() -> &'static str {
+    "[]
+=> document NotMap
+====
+a text
+=> document NotMap
+====
+kind: Service
+=> apiVersion Missing
+====
+apiVersion: ~
+=> apiVersion Missing
+====
+apiVersion: openslo/v2
+=> apiVersion BadVersion
+====
+apiVersion: []
+=> apiVersion BadVersion
+====
+kind: Slo
+apiVersion: openslo/v1alpha
+=> apiVersion BadVersion
+====
+apiVersion: openslo/v1
+=> kind Missing
+====
+apiVersion: openslo/v1
+kind: Slo
+=> kind BadKind
+====
+apiVersion: openslo/v1
+kind: {}
+=> kind BadKind
+====
+apiVersion: openslo/v1
+kind: Service
+spec: {}
+=> metadata Missing
+====
+apiVersion: openslo/v1
+kind: Service
+metadata: x
+=> metadata NotMap
+====
+apiVersion: openslo/v1
+kind: Service
+metadata: {}
+spec: 5
+=> name Missing
+====
+apiVersion: openslo/v1
+kind: Service
+metadata:
+  name: Shop
+=> name BadName
+====
+apiVersion: openslo/v1
+kind: Service
+metadata:
+  name: ''
+=> name BadName
+====
+apiVersion: openslo/v1
+kind: Service
+metadata:
+  name: shop-
+=> name BadName
+====
+apiVersion: openslo/v1
+kind: Service
+metadata:
+  name: [a]
+=> name BadName
+====
+apiVersion: openslo/v1
+kind: Service
+metadata:
+  name: a
+  displayName: [x]
+  labels: x
+=> displayName NotText
+====
+apiVersion: openslo/v1
+kind: Service
+metadata:
+  name: a
+  labels: x
+=> labels NotMap
+====
+apiVersion: openslo/v1
+kind: Service
+metadata:
+  name: a
+  annotations: []
+=> annotations NotMap
+====
+apiVersion: openslo/v1
+kind: Service
+metadata:
+  name: a
+  owner: x
+=> owner UnknownField
+====
+apiVersion: openslo/v1
+kind: Service
+metadata:
+  name: a
+more: x
+=> spec Missing
+====
+apiVersion: openslo/v1
+kind: Service
+metadata:
+  name: a
+spec: ~
+=> spec Missing
+====
+more: x
+apiVersion: openslo/v1
+kind: Service
+metadata:
+  name: a
+spec: {}
+=> more UnknownField
+====
+apiVersion: openslo/v1
+kind: Service
+metadata:
+  name: aaaaaaaaaaaaaaaaaaaaaaaaaaaaaaaaaaaaaaaaaaaaaaaaaaaaaaaaaaaaaaa
+spec: {}
+=> Service aaaaaaaaaaaaaaaaaaaaaaaaaaaaaaaaaaaaaaaaaaaaaaaaaaaaaaaaaaaaaaa
+====
+apiVersion: openslo/v1
+kind: Service
+metadata:
+  name: aaaaaaaaaaaaaaaaaaaaaaaaaaaaaaaaaaaaaaaaaaaaaaaaaaaaaaaaaaaaaaaa
+spec: {}
+=> name BadName"
 }
 
 #[test]
-fn a_name_has_at_most_63_characters(rt: HostRuntime) -> Result<(), Fail> {
-    for (count, fits) in [(1, true), (63, true), (64, false)] {
-        let name = "a".repeat(rt.alloc(), count)?;
-        let text = format!(in rt.alloc();
-            "apiVersion: openslo/v1\nkind: Service\nmetadata:\n  name: {name}\nspec: {{}}\n"
-        )?;
-        assert_eq!(rt; has_fault(rt.alloc(), &text, "name", Rule::BadName), !fits);
-        assert_eq!(rt; answer(rt.alloc(), &text)?.contains("kind: Service"), fits);
-    }
+fn the_first_fault_of_a_head_is_named(rt: HostRuntime) -> Result<(), Fail> {
+    assert_eq!(rt; wrong_in(rt.alloc(), heads())?.as_str(), "");
     Ok(())
 }
-
-/// Kinds, and what follows in `spec` on a description.
-const DESCRIBED: [(&str, &str); 3] = [
-    ("Service", ""),
-    ("DataSource", "  type: x\n"),
-    ("AlertNotificationTarget", "  target: x\n"),
-];
 
 #[test]
 fn a_description_has_at_most_1050_characters(rt: HostRuntime) -> Result<(), Fail> {
     let longest = "é".repeat(rt.alloc(), 1_050)?;
-    for (kind, rest) in DESCRIBED {
-        let fits = format!(in rt.alloc(); "  description: {longest}\n{rest}")?;
-        let text = document(rt.alloc(), kind, &fits)?;
-        assert!(rt;
-            answer(rt.alloc(), &text)?.contains("description: Some"),
-            "{kind}"
-        );
-        let is_long = format!(in rt.alloc(); "  description: {longest}x\n{rest}")?;
-        let text = document(rt.alloc(), kind, &is_long)?;
-        assert!(rt;
-            has_fault(rt.alloc(), &text, "description", Rule::TooLong),
-            "{kind}"
-        );
+    for (more, wanted) in [("", "Service shop"), ("x", "description TooLong")] {
+        let text = format!(in rt.alloc();
+            "apiVersion: openslo/v1
+kind: Service
+metadata:
+  name: shop
+spec:
+  description: {longest}{more}
+"
+        )?;
+        assert_eq!(rt; unless_read(rt.alloc(), &text, wanted)?.as_str(), "");
     }
     Ok(())
 }

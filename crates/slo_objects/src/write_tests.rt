@@ -6,7 +6,7 @@ ghost use Rattle.slo_objects.specs.Document.{IsOfDocument};
 use crate::{Object, read_object, write_object};
 use std::alloc::{AllocError, Global};
 use std::test::Fail;
-use yaml_subset::{can_be_written, read_documents, spelled};
+use yaml_subset::{Node, can_be_written, read_documents, spelled};
 
 /// Appends the texts of objects, as documents of one text.
 fn write_all(out: &mut Vec<u8>, objects: &[Object]) -> Result<(), AllocError>
@@ -19,109 +19,493 @@ fn write_all(out: &mut Vec<u8>, objects: &[Object]) -> Result<(), AllocError>
     Ok(())
 }
 
+/// Appends the texts of a document's objects.
+fn write_document(alloc: Global, out: &mut Vec<u8>, node: &Node) -> Option<()> {
+    if !can_be_written(&spelled(alloc, node).ok()?) {
+        return None;
+    }
+    let objects = read_object(alloc, node).ok()?;
+    write_all(out, objects.as_slice()).ok()
+}
+
 /// The objects of a text's documents, as they are written.
 fn written(alloc: Global, text: &str) -> Option<Vec<u8>> {
     let nodes = read_documents(alloc, text.as_bytes()).ok()?;
     let mut out = Vec::new(alloc);
     for node in &nodes {
-        let spelling = spelled(alloc, node).ok()?;
-        if !can_be_written(&spelling) {
-            return None;
-        }
-        let objects = read_object(alloc, node).ok()?;
-        write_all(&mut out, objects.as_slice()).ok()?;
+        write_document(alloc, &mut out, node)?;
     }
     Some(out)
 }
 
-/// Whether a text is written so, and what is written is written so again.
-fn is_written_as(alloc: Global, text: &str, want: &str) -> bool {
-    let first = written(alloc, text);
-    let again = written(alloc, want);
-    first.as_deref() == Some(want.as_bytes()) && again.as_deref() == Some(want.as_bytes())
-}
-
-const SERVICE: &str =
-    "apiVersion: openslo/v1\nkind: Service\nmetadata:\n  name: shop\n  displayName: Shop front\nspec:\n  description: The public shop.\n";
-
-const SERVICE_WRITTEN: &str =
-    "---\napiVersion: openslo/v1\nkind: Service\nmetadata:\n  name: \"shop\"\n  displayName: \"Shop front\"\nspec:\n  description: \"The public shop.\"\n";
-
 /// Documents, and what their objects are written as.
-const WRITTEN: [(&str, &str); 3] = [
-    (SERVICE, SERVICE_WRITTEN),
-    // An empty `spec`, and fields in another order, with a null among them.
-    (
-        "spec: {}\nmetadata:\n  displayName: ~\n  name: shop\nkind: Service\napiVersion: \"openslo/v1\"\n",
-        "---\napiVersion: openslo/v1\nkind: Service\nmetadata:\n  name: \"shop\"\nspec: {}\n",
-    ),
-    // Free parts: keys in quotes, plain scalars plain, others in quotes.
-    (
-        "apiVersion: openslo/v1\nkind: DataSource\nmetadata:\n  name: metrics\n  labels:\n    team: 'shop'\n    tiers: [1, '2']\n  annotations: {}\nspec:\n  type: Prometheus\n  connectionDetails:\n    url: |\n      http://metrics/\n    retries: 3\n    none: ~\n",
-        "---\napiVersion: openslo/v1\nkind: DataSource\nmetadata:\n  name: \"metrics\"\n  labels:\n    \"team\": \"shop\"\n    \"tiers\":\n      - 1\n      - \"2\"\n  annotations: {}\nspec:\n  type: \"Prometheus\"\n  connectionDetails:\n    \"url\": \"http://metrics/\\n\"\n    \"retries\": 3\n    \"none\": ~\n",
-    ),
-];
-
-#[test]
-fn objects_are_written_in_one_form(rt: HostRuntime) {
-    for (text, want) in WRITTEN {
-        assert!(rt; is_written_as(rt.alloc(), text, want));
-    }
+fn written_cases() -> &'static str {
+    r#"apiVersion: openslo/v1
+kind: Service
+metadata:
+  name: shop
+  displayName: Shop front
+spec:
+  description: The public shop.
+=> ---
+apiVersion: openslo/v1
+kind: Service
+metadata:
+  name: "shop"
+  displayName: "Shop front"
+spec:
+  description: "The public shop."
+====
+spec: {}
+metadata:
+  displayName: ~
+  name: shop
+kind: Service
+apiVersion: "openslo/v1"
+=> ---
+apiVersion: openslo/v1
+kind: Service
+metadata:
+  name: "shop"
+spec: {}
+====
+apiVersion: openslo/v1
+kind: DataSource
+metadata:
+  name: metrics
+  labels:
+    team: 'shop'
+    tiers: [1, '2']
+    lead:
+      name: ~
+  annotations:
+    'a key': "5"
+    list:
+    - - 1
+    - {}
+    text: |
+      two
+      lines
+spec:
+  type: Prometheus
+  connectionDetails:
+    url: |
+      http://metrics/
+    retries: 3
+    none: ~
+    hosts: []
+=> ---
+apiVersion: openslo/v1
+kind: DataSource
+metadata:
+  name: "metrics"
+  labels:
+    "team": "shop"
+    "tiers":
+      - 1
+      - "2"
+    "lead":
+      "name": ~
+  annotations:
+    "a key": "5"
+    "list":
+      - - 1
+      - {}
+    "text": "two\nlines\n"
+spec:
+  type: "Prometheus"
+  connectionDetails:
+    "url": "http://metrics/\n"
+    "retries": 3
+    "none": ~
+    "hosts": []
+====
+apiVersion: openslo/v1
+kind: SLO
+metadata:
+  name: shop-slo
+spec:
+  service: shop
+  indicatorRef: shop-good
+  timeWindow:
+  - duration: 4w
+    isRolling: true
+  budgetingMethod: Timeslices
+  objectives:
+  - target: 0.999
+    timeSliceTarget: 0.95
+    timeSliceWindow: 5
+=> ---
+apiVersion: openslo/v1
+kind: SLO
+metadata:
+  name: "shop-slo"
+spec:
+  service: "shop"
+  indicatorRef: "shop-good"
+  timeWindow:
+    - duration: 4w
+      isRolling: true
+  budgetingMethod: Timeslices
+  objectives:
+    - target: 0.999
+      timeSliceTarget: 0.95
+      timeSliceWindow: 5
+====
+apiVersion: openslo/v1
+kind: SLO
+metadata:
+  name: shop-slo
+spec:
+  service: shop
+  indicatorRef: shop-good
+  timeWindow:
+  - duration: 4w
+    isRolling: true
+  budgetingMethod: Timeslices
+  objectives:
+  - timeSliceWindow: "05m"
+    timeSliceTarget: "0.95"
+    targetPercent: "99.90"
+=> ---
+apiVersion: openslo/v1
+kind: SLO
+metadata:
+  name: "shop-slo"
+spec:
+  service: "shop"
+  indicatorRef: "shop-good"
+  timeWindow:
+    - duration: 4w
+      isRolling: true
+  budgetingMethod: Timeslices
+  objectives:
+    - target: 0.999
+      timeSliceTarget: 0.95
+      timeSliceWindow: 5
+====
+apiVersion: openslo/v1
+kind: SLO
+metadata:
+  name: shop-slo
+spec:
+  service: shop
+  indicator:
+    metadata:
+      name: shop-good
+    spec:
+      ratioMetric:
+        raw:
+          metricSource:
+            metricSourceRef: metrics
+        rawType: failure
+  timeWindow:
+  - duration: 1M
+    calendar:
+      startTime: 2020-01-21 12:30:00
+      timeZone: America/New_York
+  budgetingMethod: RatioTimeslices
+  objectives:
+  - op: lt
+    value: 0.250
+    target: 0.9
+    timeSliceWindow: 60
+  alertPolicies:
+  - workbook-page
+  - kind: AlertPolicy
+    metadata:
+      name: shop-alerts
+    spec:
+      alertWhenNoData: FALSE
+      notificationTargets:
+      - targetRef: desk
+      - apiVersion: openslo/v1
+        metadata:
+          name: on-call
+        spec:
+          target: pager
+      - metadata:
+          name: chat
+        spec:
+          target: chat
+      conditions:
+      - metadata:
+          name: fast
+        spec:
+          description: Fast
+          severity: page
+          condition:
+            threshold: 14.40
+            lookbackWindow: 1h
+  - metadata:
+      name: slow-alerts
+    spec:
+      conditions:
+      - conditionRef: slow
+=> ---
+apiVersion: openslo/v1
+kind: SLI
+metadata:
+  name: "shop-good"
+spec:
+  ratioMetric:
+    raw:
+      metricSource:
+        metricSourceRef: "metrics"
+    rawType: failure
+---
+apiVersion: openslo/v1
+kind: AlertCondition
+metadata:
+  name: "fast"
+spec:
+  description: "Fast"
+  severity: "page"
+  condition:
+    threshold: 14.4
+    lookbackWindow: 1h
+---
+apiVersion: openslo/v1
+kind: AlertNotificationTarget
+metadata:
+  name: "on-call"
+spec:
+  target: "pager"
+---
+apiVersion: openslo/v1
+kind: AlertNotificationTarget
+metadata:
+  name: "chat"
+spec:
+  target: "chat"
+---
+apiVersion: openslo/v1
+kind: AlertPolicy
+metadata:
+  name: "shop-alerts"
+spec:
+  alertWhenNoData: false
+  conditions:
+    - conditionRef: "fast"
+  notificationTargets:
+    - targetRef: "desk"
+    - targetRef: "on-call"
+    - targetRef: "chat"
+---
+apiVersion: openslo/v1
+kind: AlertPolicy
+metadata:
+  name: "slow-alerts"
+spec:
+  conditions:
+    - conditionRef: "slow"
+---
+apiVersion: openslo/v1
+kind: SLO
+metadata:
+  name: "shop-slo"
+spec:
+  service: "shop"
+  indicatorRef: "shop-good"
+  timeWindow:
+    - duration: 1M
+      calendar:
+        startTime: "2020-01-21 12:30:00"
+        timeZone: "America/New_York"
+  budgetingMethod: RatioTimeslices
+  objectives:
+    - op: lt
+      value: 0.25
+      target: 0.9
+      timeSliceWindow: 60
+  alertPolicies:
+    - alertPolicyRef: "workbook-page"
+    - alertPolicyRef: "shop-alerts"
+    - alertPolicyRef: "slow-alerts"
+====
+apiVersion: openslo/v1
+kind: AlertNotificationTarget
+metadata:
+  name: on-call
+spec:
+  target: pager
+---
+apiVersion: openslo/v1
+kind: AlertNotificationTarget
+metadata:
+  name: desk
+spec:
+  target: ticket  # the service desk
+=> ---
+apiVersion: openslo/v1
+kind: AlertNotificationTarget
+metadata:
+  name: "on-call"
+spec:
+  target: "pager"
+---
+apiVersion: openslo/v1
+kind: AlertNotificationTarget
+metadata:
+  name: "desk"
+spec:
+  target: "ticket"
+====
+apiVersion: openslo/v1
+kind: Service
+metadata:
+  name: shop
+  displayName: Shop front
+spec:
+  description: The public shop.
+---
+apiVersion: openslo/v1
+kind: SLI
+metadata:
+  name: shop-good
+spec:
+  ratioMetric:
+    counter: true
+    good:
+      metricSource:
+        type: Prometheus
+        spec:
+          query: |
+            sum(http_requests{code!~"5.."})
+    total:
+      metricSource:
+        type: Prometheus
+        spec:
+          query: sum(http_requests)
+---
+apiVersion: openslo/v1
+kind: AlertCondition
+metadata:
+  name: fast-burn
+spec:
+  severity: page
+  condition:
+    kind: burnrate
+    op: gt
+    threshold: 2
+    lookbackWindow: 1h
+    alertAfter: 5m
+---
+apiVersion: openslo/v1
+kind: AlertPolicy
+metadata:
+  name: shop-alerts
+spec:
+  alertWhenBreaching: true
+  alertWhenResolved: true
+  conditions:
+  - conditionRef: fast-burn
+  notificationTargets:
+  - targetRef: on-call
+  - targetRef: desk
+---
+apiVersion: openslo/v1
+kind: SLO
+metadata:
+  name: shop-slo
+spec:
+  service: shop
+  indicatorRef: shop-good
+  timeWindow:
+  - duration: 30d
+    isRolling: true
+  budgetingMethod: Occurrences
+  objectives:
+  - displayName: Availability
+    target: 0.999
+  alertPolicies:
+  - alertPolicyRef: shop-alerts
+  - workbook-page
+=> ---
+apiVersion: openslo/v1
+kind: Service
+metadata:
+  name: "shop"
+  displayName: "Shop front"
+spec:
+  description: "The public shop."
+---
+apiVersion: openslo/v1
+kind: SLI
+metadata:
+  name: "shop-good"
+spec:
+  ratioMetric:
+    counter: true
+    total:
+      metricSource:
+        type: "Prometheus"
+        spec:
+          "query": sum(http_requests)
+    good:
+      metricSource:
+        type: "Prometheus"
+        spec:
+          "query": "sum(http_requests{code!~\"5..\"})\n"
+---
+apiVersion: openslo/v1
+kind: AlertCondition
+metadata:
+  name: "fast-burn"
+spec:
+  severity: "page"
+  condition:
+    kind: burnrate
+    op: gt
+    threshold: 2
+    lookbackWindow: 1h
+    alertAfter: 5m
+---
+apiVersion: openslo/v1
+kind: AlertPolicy
+metadata:
+  name: "shop-alerts"
+spec:
+  alertWhenResolved: true
+  alertWhenBreaching: true
+  conditions:
+    - conditionRef: "fast-burn"
+  notificationTargets:
+    - targetRef: "on-call"
+    - targetRef: "desk"
+---
+apiVersion: openslo/v1
+kind: SLO
+metadata:
+  name: "shop-slo"
+spec:
+  service: "shop"
+  indicatorRef: "shop-good"
+  timeWindow:
+    - duration: 30d
+      isRolling: true
+  budgetingMethod: Occurrences
+  objectives:
+    - displayName: "Availability"
+      target: 0.999
+  alertPolicies:
+    - alertPolicyRef: "shop-alerts"
+    - alertPolicyRef: "workbook-page""#
 }
 
-/// An SLO with sliced objectives: the target, the width, and the target of a slice.
-const SLICED: &str =
-    "apiVersion: openslo/v1\nkind: SLO\nmetadata:\n  name: shop-slo\nspec:\n  service: shop\n  indicatorRef: shop-good\n  timeWindow:\n  - duration: 4w\n    isRolling: true\n  budgetingMethod: Timeslices\n  objectives:\n";
-
-const SLICED_WRITTEN: &str =
-    "---\napiVersion: openslo/v1\nkind: SLO\nmetadata:\n  name: \"shop-slo\"\nspec:\n  service: \"shop\"\n  indicatorRef: \"shop-good\"\n  timeWindow:\n    - duration: 4w\n      isRolling: true\n  budgetingMethod: Timeslices\n  objectives:\n    - target: 0.999\n      timeSliceTarget: 0.95\n      timeSliceWindow: 5\n";
-
-/// Objectives that say the same.
-const ALIKE: [&str; 4] = [
-    "  - target: 0.999\n    timeSliceTarget: 0.95\n    timeSliceWindow: 5\n",
-    "  - targetPercent: 99.9\n    timeSliceTarget: 0.95\n    timeSliceWindow: 5\n",
-    "  - target: 0.999000000\n    timeSliceTarget: 0.9500\n    timeSliceWindow: 5m\n",
-    "  - timeSliceWindow: \"05m\"\n    timeSliceTarget: \"0.95\"\n    targetPercent: \"99.90\"\n",
-];
+/// Whether a text is written as its case says, and what is written is written so again.
+fn is_written(alloc: Global, case: &str) -> Result<bool, AllocError> {
+    let (text, wanted) = case.split_once("\n=> ").unwrap_or((case, ""));
+    let wanted = format!(in alloc; "{wanted}\n")?;
+    let first = written(alloc, &format!(in alloc; "{text}\n")?);
+    let again = written(alloc, &wanted);
+    Ok(first.as_deref() == Some(wanted.as_bytes()) && again.as_deref() == Some(wanted.as_bytes()))
+}
 
 #[test]
-fn objectives_that_say_the_same_are_written_alike(rt: HostRuntime) -> Result<(), Fail> {
-    for objective in ALIKE {
-        let text = format!(in rt.alloc(); "{SLICED}{objective}")?;
-        assert!(rt; is_written_as(rt.alloc(), &text, SLICED_WRITTEN));
+fn objects_are_written_in_one_form(rt: HostRuntime) -> Result<(), Fail> {
+    for case in written_cases().split("\n====\n") {
+        assert!(rt; is_written(rt.alloc(), case)?, "{case}");
     }
     Ok(())
-}
-
-/// An SLO with an indicator, a policy, its condition and its target inline, and a calendar window.
-const INLINE: &str =
-    "apiVersion: openslo/v1\nkind: SLO\nmetadata:\n  name: shop-slo\nspec:\n  service: shop\n  indicator:\n    metadata:\n      name: shop-good\n    spec:\n      ratioMetric:\n        raw:\n          metricSource:\n            metricSourceRef: metrics\n        rawType: failure\n  timeWindow:\n  - duration: 1M\n    calendar:\n      startTime: 2020-01-21 12:30:00\n      timeZone: America/New_York\n  budgetingMethod: RatioTimeslices\n  objectives:\n  - op: lt\n    value: 0.250\n    target: 0.9\n    timeSliceWindow: 60\n  alertPolicies:\n  - workbook-page\n  - kind: AlertPolicy\n    metadata:\n      name: shop-alerts\n    spec:\n      alertWhenNoData: FALSE\n      conditions:\n      - metadata:\n          name: fast\n        spec:\n          description: Fast\n          severity: page\n          condition:\n            threshold: 14.40\n            lookbackWindow: 1h\n      notificationTargets:\n      - targetRef: desk\n      - apiVersion: openslo/v1\n        metadata:\n          name: on-call\n        spec:\n          target: pager\n";
-
-/// Its objects: those that stood inline, and then its own with references.
-const INLINE_WRITTEN: &str =
-    "---\napiVersion: openslo/v1\nkind: SLI\nmetadata:\n  name: \"shop-good\"\nspec:\n  ratioMetric:\n    raw:\n      metricSource:\n        metricSourceRef: \"metrics\"\n    rawType: failure\n---\napiVersion: openslo/v1\nkind: AlertCondition\nmetadata:\n  name: \"fast\"\nspec:\n  description: \"Fast\"\n  severity: \"page\"\n  condition:\n    threshold: 14.4\n    lookbackWindow: 1h\n---\napiVersion: openslo/v1\nkind: AlertNotificationTarget\nmetadata:\n  name: \"on-call\"\nspec:\n  target: \"pager\"\n---\napiVersion: openslo/v1\nkind: AlertPolicy\nmetadata:\n  name: \"shop-alerts\"\nspec:\n  alertWhenNoData: false\n  conditions:\n    - conditionRef: \"fast\"\n  notificationTargets:\n    - targetRef: \"desk\"\n    - targetRef: \"on-call\"\n---\napiVersion: openslo/v1\nkind: SLO\nmetadata:\n  name: \"shop-slo\"\nspec:\n  service: \"shop\"\n  indicatorRef: \"shop-good\"\n  timeWindow:\n    - duration: 1M\n      calendar:\n        startTime: \"2020-01-21 12:30:00\"\n        timeZone: \"America/New_York\"\n  budgetingMethod: RatioTimeslices\n  objectives:\n    - op: lt\n      value: 0.25\n      target: 0.9\n      timeSliceWindow: 60\n  alertPolicies:\n    - alertPolicyRef: \"workbook-page\"\n    - alertPolicyRef: \"shop-alerts\"\n";
-
-#[test]
-fn what_stood_inline_is_written_as_a_reference(rt: HostRuntime) {
-    assert!(rt; is_written_as(rt.alloc(), INLINE, INLINE_WRITTEN));
-}
-
-/// The targets of notifications of the office's sample.
-const TARGETS: &str =
-    "apiVersion: openslo/v1\nkind: AlertNotificationTarget\nmetadata:\n  name: on-call\nspec:\n  target: pager\n---\napiVersion: openslo/v1\nkind: AlertNotificationTarget\nmetadata:\n  name: desk\nspec:\n  target: ticket  # the service desk\n";
-
-const TARGETS_WRITTEN: &str =
-    "---\napiVersion: openslo/v1\nkind: AlertNotificationTarget\nmetadata:\n  name: \"on-call\"\nspec:\n  target: \"pager\"\n---\napiVersion: openslo/v1\nkind: AlertNotificationTarget\nmetadata:\n  name: \"desk\"\nspec:\n  target: \"ticket\"\n";
-
-/// The shop of the office's sample: a service, its indicator, condition and policy, and its objective.
-const SHOP: &str =
-    "apiVersion: openslo/v1\nkind: Service\nmetadata:\n  name: shop\n  displayName: Shop front\nspec:\n  description: The public shop.\n---\napiVersion: openslo/v1\nkind: SLI\nmetadata:\n  name: shop-good\nspec:\n  ratioMetric:\n    counter: true\n    good:\n      metricSource:\n        type: Prometheus\n        spec:\n          query: |\n            sum(http_requests{code!~\"5..\"})\n    total:\n      metricSource:\n        type: Prometheus\n        spec:\n          query: sum(http_requests)\n---\napiVersion: openslo/v1\nkind: AlertCondition\nmetadata:\n  name: fast-burn\nspec:\n  severity: page\n  condition:\n    kind: burnrate\n    op: gt\n    threshold: 2\n    lookbackWindow: 1h\n    alertAfter: 5m\n---\napiVersion: openslo/v1\nkind: AlertPolicy\nmetadata:\n  name: shop-alerts\nspec:\n  alertWhenBreaching: true\n  alertWhenResolved: true\n  conditions:\n  - conditionRef: fast-burn\n  notificationTargets:\n  - targetRef: on-call\n  - targetRef: desk\n---\napiVersion: openslo/v1\nkind: SLO\nmetadata:\n  name: shop-slo\nspec:\n  service: shop\n  indicatorRef: shop-good\n  timeWindow:\n  - duration: 30d\n    isRolling: true\n  budgetingMethod: Occurrences\n  objectives:\n  - displayName: Availability\n    target: 0.999\n  alertPolicies:\n  - alertPolicyRef: shop-alerts\n  - workbook-page\n";
-
-const SHOP_WRITTEN: &str =
-    "---\napiVersion: openslo/v1\nkind: Service\nmetadata:\n  name: \"shop\"\n  displayName: \"Shop front\"\nspec:\n  description: \"The public shop.\"\n---\napiVersion: openslo/v1\nkind: SLI\nmetadata:\n  name: \"shop-good\"\nspec:\n  ratioMetric:\n    counter: true\n    total:\n      metricSource:\n        type: \"Prometheus\"\n        spec:\n          \"query\": sum(http_requests)\n    good:\n      metricSource:\n        type: \"Prometheus\"\n        spec:\n          \"query\": \"sum(http_requests{code!~\\\"5..\\\"})\\n\"\n---\napiVersion: openslo/v1\nkind: AlertCondition\nmetadata:\n  name: \"fast-burn\"\nspec:\n  severity: \"page\"\n  condition:\n    kind: burnrate\n    op: gt\n    threshold: 2\n    lookbackWindow: 1h\n    alertAfter: 5m\n---\napiVersion: openslo/v1\nkind: AlertPolicy\nmetadata:\n  name: \"shop-alerts\"\nspec:\n  alertWhenResolved: true\n  alertWhenBreaching: true\n  conditions:\n    - conditionRef: \"fast-burn\"\n  notificationTargets:\n    - targetRef: \"on-call\"\n    - targetRef: \"desk\"\n---\napiVersion: openslo/v1\nkind: SLO\nmetadata:\n  name: \"shop-slo\"\nspec:\n  service: \"shop\"\n  indicatorRef: \"shop-good\"\n  timeWindow:\n    - duration: 30d\n      isRolling: true\n  budgetingMethod: Occurrences\n  objectives:\n    - displayName: \"Availability\"\n      target: 0.999\n  alertPolicies:\n    - alertPolicyRef: \"shop-alerts\"\n    - alertPolicyRef: \"workbook-page\"\n";
-
-#[test]
-fn the_sample_documents_are_written_and_read_again(rt: HostRuntime) {
-    assert!(rt; is_written_as(rt.alloc(), TARGETS, TARGETS_WRITTEN));
-    assert!(rt; is_written_as(rt.alloc(), SHOP, SHOP_WRITTEN));
 }

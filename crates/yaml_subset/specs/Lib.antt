@@ -1,6 +1,7 @@
 pub mod Tree
 pub mod Mark
 pub mod Rows
+pub mod Words
 pub mod Block
 pub mod Quoted
 pub mod Flow

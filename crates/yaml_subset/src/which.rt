@@ -31,6 +31,25 @@ pub enum Which {
 impl Which {
     ghost use Rattle.std.specs.Prelude.{◌≡◌};
     ghost use Rattle.yaml_subset.specs.Rows.{place};
+    ghost use Rattle.yaml_subset.specs.Words.{word};
+
+    /// Its word, by which a refusal names it.
+    pub fn word(self) -> &'static str
+        ensures { result.now ≡ word self }
+    {
+        match self {
+            Which::Control => "control",
+            Which::Tab => "tab",
+            Which::LeftOut => "left_out",
+            Which::Indent => "indent",
+            Which::Quote => "quote",
+            Which::Escape => "escape",
+            Which::FlowForm => "flow_form",
+            Which::Colon => "colon",
+            Which::DuplicateKey => "duplicate_key",
+            Which::TooDeep => "too_deep",
+        }
+    }
 
     /// The row's place in the table.
     pub(crate) fn place(self) -> u8

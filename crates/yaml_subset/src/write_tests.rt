@@ -60,66 +60,44 @@ fn is_written_as(alloc: Global, source: &str, indent: u32, want: &str) -> Result
     }
 }
 
-const WRITTEN: [(&str, u32, &str); 14] = [
-    ("a: b\nc: 'd'\n", 0, "\"a\": b\n\"c\": \"d\"\n"),
-    ("a: {}\nb: [ ]\n", 0, "\"a\": {}\n\"b\": []\n"),
-    (
-        "a:\n    b:\n          c: d\n    e: f\ng: h\n",
-        0,
-        "\"a\":\n  \"b\":\n    \"c\": d\n  \"e\": f\n\"g\": h\n",
-    ),
-    (
-        "a:\n- b: c\n  d: e\n-\n  f: g\n",
-        0,
-        "\"a\":\n  - \"b\": c\n    \"d\": e\n  - \"f\": g\n",
-    ),
-    (
-        "- [a, 'b']\n- - - c\n    - d\n  - {}\n- []\n",
-        0,
-        "- - a\n  - \"b\"\n- - - c\n    - d\n  - {}\n- []\n",
-    ),
-    (
-        "- a:\n   b: c\n   d:\n   - e\n- f\n",
-        0,
-        "- \"a\":\n    \"b\": c\n    \"d\":\n      - e\n- f\n",
-    ),
-    (
-        "a: \"x\\n\\t\\\\\\\"y\"\n",
-        0,
-        "\"a\": \"x\\n\\t\\\\\\\"y\"\n",
-    ),
-    ("|\nx\n  y\n", 0, "\"x\\n  y\\n\"\n"),
-    ("'it''s \"x\"\\': 1\n", 0, "\"it's \\\"x\\\"\\\\\": 1\n"),
-    (
-        "a: ~ # none\nb:\nc: ''\n",
-        0,
-        "\"a\": ~\n\"b\":\n\"c\": \"\"\n",
-    ),
-    ("a:\n-\n- \n- ''\n", 0, "\"a\":\n  -\n  -\n  - \"\"\n"),
-    (
-        "a: b\tc\nd: -e\nf: g:h\n",
-        0,
-        "\"a\": b\tc\n\"d\": -e\n\"f\": g:h\n",
-    ),
-    (
-        "a:\n - b:\n   - c\n   d: e\nf:\n  g:\n",
-        3,
-        "   \"a\":\n     - \"b\":\n         - c\n       \"d\": e\n   \"f\":\n     \"g\":\n",
-    ),
-    ("- é: 'ü'\n", 0, "- \"é\": \"ü\"\n"),
-];
+/// Texts, and what their documents are written as: a line for each case, in which `¶` stands for a
+/// line feed.
+fn written() -> &'static str {
+    "a: b¶c: 'd'¶ => \"a\": b¶\"c\": \"d\"¶
+a: {}¶b: [ ]¶ => \"a\": {}¶\"b\": []¶
+a:¶    b:¶          c: d¶    e: f¶g: h¶ => \"a\":¶  \"b\":¶    \"c\": d¶  \"e\": f¶\"g\": h¶
+a:¶- b: c¶  d: e¶-¶  f: g¶ => \"a\":¶  - \"b\": c¶    \"d\": e¶  - \"f\": g¶
+- [a, 'b']¶- - - c¶    - d¶  - {}¶- []¶ => - - a¶  - \"b\"¶- - - c¶    - d¶  - {}¶- []¶
+- a:¶   b: c¶   d:¶   - e¶- f¶ => - \"a\":¶    \"b\": c¶    \"d\":¶      - e¶- f¶
+a: \"x\\n\\t\\\\\\\"y\"¶ => \"a\": \"x\\n\\t\\\\\\\"y\"¶
+|¶x¶  y¶ => \"x\\n  y\\n\"¶
+'it''s \"x\"\\': 1¶ => \"it's \\\"x\\\"\\\\\": 1¶
+a: ~ # none¶b:¶c: ''¶ => \"a\": ~¶\"b\":¶\"c\": \"\"¶
+a:¶-¶- ¶- ''¶ => \"a\":¶  -¶  -¶  - \"\"¶
+a: b\tc¶d: -e¶f: g:h¶ => \"a\": b\tc¶\"d\": -e¶\"f\": g:h¶
+- é: 'ü'¶ => - \"é\": \"ü\"¶"
+}
+
+/// The first case that is written otherwise behind so many spaces; empty if there is none.
+fn wrong_in(alloc: Global, indent: u32, table: &str) -> Result<String, AllocError> {
+    for case in table.split("\n") {
+        let (text, wanted) = case.split_once(" => ").unwrap_or((case, "no case"));
+        let text = text.replace(alloc, "¶", "\n")?;
+        let wanted = wanted.replace(alloc, "¶", "\n")?;
+        if !is_written_as(alloc, &text, indent, &wanted)? {
+            return String::from_str(alloc, case);
+        }
+    }
+    Ok(String::new(alloc))
+}
 
 #[test]
 fn nodes_are_written_canonically(rt: HostRuntime) -> Result<(), Fail> {
-    let mut all = true;
-    for case in &WRITTEN {
-        if !is_written_as(rt.alloc(), case.0, case.1, case.2)? {
-            let text = case.0;
-            println!(rt; "{text:?} is written otherwise")?;
-            all = false;
-        }
-    }
-    assert!(rt; all);
+    assert_eq!(rt; wrong_in(rt.alloc(), 0, written())?.as_str(), "");
+    let deep =
+        "a:¶ - b:¶   - c¶   d: e¶f:¶  g:¶ =>    \"a\":¶     - \"b\":¶         - c¶       \"d\": e¶   \"f\"\
+:¶     \"g\":¶";
+    assert_eq!(rt; wrong_in(rt.alloc(), 3, deep)?.as_str(), "");
     Ok(())
 }
 
@@ -176,14 +154,11 @@ fn fits(alloc: Global, key: &str, value: &str) -> Result<bool, AllocError> {
 fn what_would_read_otherwise_is_not_written(rt: HostRuntime) -> Result<(), Fail> {
     let alloc = rt.alloc();
     assert!(rt; fits(alloc, "op", "lte")?);
-    assert!(rt; !fits(alloc, "o p", "lte")?);
-    assert!(rt; !fits(alloc, "", "lte")?);
-    assert!(rt; !fits(alloc, "op", " lte")?);
-    assert!(rt; !fits(alloc, "op", "lte ")?);
-    assert!(rt; !fits(alloc, "op", "a: b")?);
-    assert!(rt; !fits(alloc, "op", "a #b")?);
-    assert!(rt; !fits(alloc, "op", "[]")?);
-    assert!(rt; !fits(alloc, "op", "a\u{7}")?);
+    let cases = "o p=lte|=lte|op= lte|op=lte |op=a: b|op=a #b|op=[]|op=a\u{7}";
+    for case in cases.split("|") {
+        let (key, value) = case.split_once("=").ok_or("a case")?;
+        assert!(rt; !fits(alloc, key, value)?, "{case}");
+    }
     let twice = map_of_two(alloc, "op", word(alloc, "a")?, "op", word(alloc, "b")?)?;
     assert!(rt; !can_be_written(&twice));
     Ok(())

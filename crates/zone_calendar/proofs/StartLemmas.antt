@@ -1,5 +1,5 @@
 -- The starts that count are those of the first numbers, and their minutes fit 32 bits.
-use Rattle.std.proofs.Common.{◌≡◌, ◌↔◌, ◌⊎◌, inl, inr, ℕ, ◌+◌, ◌*◌, ◌<◌, ◌≤◌, ◌^◌, ℤ, pos, negsuc, unsigned_abs, ◌+ℤ◌, ◌-ℤ◌, ◌*ℤ◌, ◌<ℤ◌, ◌≤ℤ◌, int_lt, true, false, true≢false, Option, Some, None, Result, Ok, Err, List, length, map, IsPermutation, refl, sym, subst, ◌∙◌, arith}
+use Rattle.std.proofs.Common.{◌≡◌, ◌↔◌, ◌⊎◌, inl, inr, ℕ, ◌+◌, ◌*◌, ◌<◌, ◌≤◌, ◌^◌, ℤ, pos, negsuc, unsigned_abs, ◌+ℤ◌, ◌-ℤ◌, ◌*ℤ◌, ◌<ℤ◌, ◌≤ℤ◌, int_lt, Bool, true, false, true≢false, Option, Some, None, Result, Ok, Err, List, length, map, IsPermutation, refl, sym, subst, ◌∙◌, arith}
 use Rattle.std.specs.Prelude.{IfNone, IsOk, IsTrue}
 use Rattle.std.specs.Result.{result_ok}
 use Rattle.std.specs.Int.{int_div_euclid, int_max, int_min}
@@ -78,6 +78,25 @@ stops first step horizon calendar below k more le over =
           (date_after-later first step.unit calendar.unit (k * step.count) (more * step.count) (grows k more step.count calendar.some lt))
           (omega (arith, signed_arith)) over
     ]
+
+either : (b : Bool) → (b ≡ true) ⊎ (b ≡ false)
+either true = inl refl
+either false = inr refl
+
+-- where a start counts, each earlier one does
+pub counted_up_to : (first : Civil) (step : Duration) (horizon : ℕ) → IsCalendarStep step → horizon < 2 ^ 27 → (k more : ℕ) → k ≤ more → is_counted first step horizon more ≡ true → is_counted first step horizon k ≡ true
+counted_up_to first step horizon calendar below k more le counted =
+    elim (either (is_counted first step horizon k)) [
+      | inl there ↦ there
+      | inr other ↦ absurd (true≢false (sym counted ∙ stops first step horizon calendar below k more le other))
+    ]
+
+-- all starts up to a number count where that of the number does
+pub all_counted : (first : Civil) (step : Duration) (horizon most : ℕ) → IsCalendarStep step → horizon < 2 ^ 27 → IsTrue (is_counted first step horizon most) ↔ ((k : ℕ) → k ≤ most → IsTrue (is_counted first step horizon k))
+all_counted first step horizon most calendar below = (
+  λ counted k le. counted_up_to first step horizon calendar below k most le counted,
+  λ all. all most (omega arith),
+)
 
 -- the starts that count are those below the first that doesn't
 pub counted_below : (first : Civil) (step : Duration) (horizon : ℕ) → IsCalendarStep step → horizon < 2 ^ 27 → (count : ℕ) → ((k : ℕ) → k < count → is_counted first step horizon k ≡ true) → is_counted first step horizon count ≡ false → (k : ℕ) → IsTrue (is_counted first step horizon k) ↔ (k < count)

@@ -49,10 +49,10 @@ pub fn starts(
     ensures few { IfOk result (λ list. vec_len list ≤ 40_000) }
     ensures many { (result ≡ Err StartsFault.TooManyStarts) ↔ AreTooMany first.now step horizon }
 {
-    let count = count_starts(first, step, horizon);
-    if count > MOST_STARTS {
+    if has_too_many_starts(first, step, horizon) {
         return Err(StartsFault::TooManyStarts);
     }
+    let count = count_starts(first, step, horizon);
     starts_from(alloc, zone, first, step, horizon, count)
 }
 
@@ -69,29 +69,39 @@ pub fn is_calendar_step(step: Duration) -> bool
     }
 }
 
-/// Whether more than 40,000 starts count, so that there is no list of them. It takes no memory.
+/// Whether more than 40,000 starts count, so that there is no list of them. It takes no memory, and
+/// looks at one start: dates rise with the number of the start.
+#[tactic(auto, using(crate::proofs::StartLemmas::all_counted))]
 pub fn has_too_many_starts(first: &Civil, step: Duration, horizon: u32) -> bool
     requires step { IsCalendarStep step }
     requires horizon { horizon < 2 ^ 27 }
-    ensures { IsTrue result ↔ AreTooMany first.now step horizon }
+    ensures all { IsTrue result ↔ AreTooMany first.now step horizon }
+    ensures last { result ≡ is_counted first.now step horizon 40_000 }
 {
-    count_starts(first, step, horizon) > MOST_STARTS
+    counts(first, step, horizon, MOST_STARTS)
 }
 
-/// How many starts count, or 40,001 where there are more.
+/// How many starts count, by halves.
+#[tactic(auto, using(crate::proofs::StartLemmas::counted_up_to))]
 fn count_starts(first: &Civil, step: Duration, horizon: u32) -> u32
     requires step { IsCalendarStep step }
     requires horizon { horizon < 2 ^ 27 }
-    ensures within { result ≤ 40_001 }
+    requires few { is_counted first.now step horizon 40_000 ≡ false }
+    ensures within { result ≤ 40_000 }
     ensures below { (k : ℕ) → k < result → is_counted first.now step horizon k ≡ true }
-    ensures end { result ≤ 40_000 → is_counted first.now step horizon result ≡ false }
+    ensures end { is_counted first.now step horizon result ≡ false }
 {
-    for k in 0..=MOST_STARTS {
-        if !counts(first, step, horizon, k) {
-            return k;
+    let mut low = 0;
+    let mut high = MOST_STARTS;
+    while low < high {
+        let middle = low + (high - low) / 2;
+        if counts(first, step, horizon, middle) {
+            low = middle + 1;
+        } else {
+            high = middle;
         }
     }
-    MOST_STARTS + 1
+    low
 }
 
 fn starts_from(

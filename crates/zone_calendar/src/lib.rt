@@ -6,6 +6,7 @@
 mod calendar;
 mod civil;
 mod civil_text;
+mod laws;
 mod read;
 #[cfg(test)]
 mod tests;
@@ -15,6 +16,7 @@ mod zone;
 pub use calendar::{StartsFault, has_too_many_starts, is_calendar_step, starts};
 pub use civil::Civil;
 pub use civil_text::{read_civil, write_civil};
+pub use laws::starts_are_one_list;
 pub use read::{ZoneFault, read_zone};
 pub use windows::window_at;
 pub use zone::Zone;

@@ -10,7 +10,6 @@ ghost use Rattle.slo_objects.specs.Document.{body, objects_of, written, IsOfDocu
 use crate::kind::Kind;
 use crate::laws::{each_object_can_be_written, each_object_reads_back};
 use crate::object::{Body, Object};
-use crate::scalars::kind_word;
 use crate::writing::alerts::{condition_spec, policy_spec};
 use crate::writing::fields::{map_of, put};
 use crate::writing::rows::{optional_free_map, optional_text, required_name, required_word};
@@ -54,7 +53,7 @@ fn document_map(alloc: Global, value: &Object) -> Result<Spelling, AllocError>
 {
     let mut fields = Vec::new(alloc);
     required_word(&mut fields, "apiVersion", "openslo/v1")?;
-    required_word(&mut fields, "kind", kind_word(value.kind))?;
+    required_word(&mut fields, "kind", value.kind.word())?;
     let metadata = metadata_map(alloc, value)?;
     put(&mut fields, "metadata", metadata)?;
     let spec = spec_map(alloc, value.kind, &value.body)?;
