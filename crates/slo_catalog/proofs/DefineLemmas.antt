@@ -10,7 +10,7 @@ use Rattle.slo_catalog.specs.Catalog.{Event, Defined, IsCatalog, put, put_all}
 use Rattle.slo_catalog.specs.References.{first_unresolved, IsLegal}
 use Rattle.slo_catalog.specs.NeedsOp.{first_needing_op}
 use Rattle.slo_catalog.specs.Limits.{first_limit}
-use Rattle.slo_catalog.specs.Define.{unless, reserved, duplicate, unresolved, needs_op, first_reserved, first_duplicate, admitted, defined, Defines}
+use Rattle.slo_catalog.specs.Define.{unless, reserved, duplicate, unresolved, needs_op, first_reserved, first_duplicate, judged, proposed, then_within, defined, Defines}
 use Rattle.slo_catalog.proofs.LegalLemmas.{legal_defined}
 use Rattle.slo_catalog.proofs.HistoryLemmas.{all_defined}
 
@@ -23,26 +23,34 @@ abbrev ok_of : List Object → Result (List Object) CatalogFault → List Object
 ok_of other (Ok members) = members
 ok_of other (Err fault) = other
 
-pub record Admitted (old objects members : List Object) : Type 0 where
+pub record IsProposed (old objects members : List Object) : Type 0 where
   pub resolved : first_unresolved (put_all objects old) objects ≡ None
   pub put : members ≡ put_all objects old
 
-pub admitted_of : (old objects members : List Object) → defined old objects ≡ Ok members → Admitted old objects members
-admitted_of old objects members h =
+pub proposed_of : (old objects members : List Object) → proposed old objects ≡ Ok members → IsProposed old objects members
+proposed_of old objects members h =
     let all : List Object = put_all objects old in
     let a = not_refused reserved (first_reserved objects) _ members h in
-    let b = not_refused duplicate (first_duplicate objects) (admitted all objects) members a.1 in
+    let b = not_refused duplicate (first_duplicate objects) (judged all objects) members a.1 in
     let c = not_refused unresolved (first_unresolved all objects) _ members b.1 in
-    let d = not_refused needs_op (first_needing_op all objects) _ members c.1 in
-    let e = not_refused faults.Limit (first_limit all) (Ok all) members d.1 in
-    record { resolved = c.0; put = sym (ap (ok_of members) e.1) }
+    let d = not_refused needs_op (first_needing_op all objects) (Ok all) members c.1 in
+    record { resolved = c.0; put = sym (ap (ok_of members) d.1) }
+
+-- what is within the limits was proposed
+proposed_by : (r : Result (List Object) CatalogFault) (members : List Object) → then_within r ≡ Ok members → r ≡ Ok members
+proposed_by (Err fault) members h = absurd (true≢false (sym (ap is_ok h)))
+proposed_by (Ok all) members h = (not_refused faults.Limit (first_limit all) (Ok all) members h).1
 
 pub history_of : (old objects : List Object) (r : Result (List Object) DefineError) → Defines r (defined old objects) → (events : List Event) → IsCatalog events old → IfOk r (λ members. IsCatalog (events ++ map Defined objects) members)
-history_of old objects (Ok members) h events c = subst (λ ms. IsCatalog (events ++ map Defined objects) ms) (sym (admitted_of old objects members h).put) (all_defined objects old events c)
+history_of old objects (Ok members) h events c =
+    subst (λ ms. IsCatalog (events ++ map Defined objects) ms) (sym (proposed_of old objects members (proposed_by (proposed old objects) members h)).put) (all_defined objects old events c)
 history_of old objects (Err e) h events c = tt
 
-pub legal_of : (old objects : List Object) (r : Result (List Object) DefineError) → Defines r (defined old objects) → IsSorted old → IsLegal old → IfOk r (λ members. IsLegal members)
-legal_of old objects (Err e) h s legal = tt
-legal_of old objects (Ok members) h s legal =
-    let a = admitted_of old objects members h in
+pub legal_of : (old objects members : List Object) → proposed old objects ≡ Ok members → IsSorted old → IsLegal old → IsLegal members
+legal_of old objects members h s legal =
+    let a = proposed_of old objects members h in
     subst IsLegal (sym a.put) (legal_defined objects old s legal a.resolved)
+
+-- the same of what a call gave
+pub legal_by : (old objects members : List Object) (r : Result (List Object) DefineError) → Defines r (proposed old objects) → r ≡ Ok members → IsSorted old → IsLegal old → IsLegal members
+legal_by old objects members r h e s legal = legal_of old objects members (subst (λ x. Defines x (proposed old objects)) e h) s legal

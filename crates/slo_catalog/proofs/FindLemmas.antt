@@ -1,5 +1,5 @@
 -- Looking for an object among those that were put in their places.
-use Rattle.std.proofs.Common.{◌≡◌, ℕ, Bool, true, false, ◌&&◌, ◌==◌, cond, List, [], ◌∷◌, Option, Some, None, IfSome, All, refl, sym, ap, ap₂, ◌∙◌, true≢false, subst, find, Ordering, Less, Equal, Greater, is_eq, bytes_eq, nat_cmp}
+use Rattle.std.proofs.Common.{length, ◌≡◌, ℕ, Bool, true, false, ◌&&◌, ◌==◌, cond, List, [], ◌∷◌, Option, Some, None, IfSome, All, refl, sym, ap, ap₂, ◌∙◌, true≢false, subst, find, Ordering, Less, Equal, Greater, is_eq, bytes_eq, nat_cmp}
 use Rattle.std.specs.Ordering.{match_ordering}
 use Rattle.std.specs.Cmp.Lexicographic.{slice_cmp}
 use Rattle.std.proofs.lemmas.List.Elements.{recursion_from_All}
@@ -14,7 +14,11 @@ use Rattle.slo_objects.specs.declared.kind.Kind.{Kind}
 use Rattle.slo_objects.specs.declared.object.Object.{Object}
 use Rattle.slo_catalog.specs.Keys.{kind_rank, is_key, object_cmp, find_in}
 use Rattle.slo_catalog.specs.Catalog.{put}
-use Rattle.slo_catalog.specs.Define.{firsts, is_other_than, first_other, first_duplicate}
+use Rattle.std.proofs.lemmas.Slice.Eq.{bytes_eq-Decides}
+use Rattle.yaml_subset.specs.Spelling.{writing}
+use Rattle.slo_objects.specs.Document.{written}
+use Rattle.slo_catalog.specs.Limits.{written_bytes}
+use Rattle.slo_catalog.specs.Define.{is_same, firsts, is_other_than, first_other, first_duplicate}
 
 -- objects of one kind and name answer each question about kind and name alike
 alike : (o p : Object) (kind : Kind) (name : List ℕ) → object_cmp o p ≡ Equal → is_key kind name o ≡ is_key kind name p
@@ -101,3 +105,14 @@ pub other_than_firsts : (objects : List Object) → first_other (firsts objects)
 other_than_firsts objects =
     same_found (λ o. is_other_than (find_in (firsts objects) o.kind o.name) o) (λ o. is_other_than (find_in objects o.kind o.name) o)
     (λ o. ap (λ r. is_other_than r o) (find_firsts objects o.kind o.name)) objects
+
+apart : (xs ys : List ℕ) → (length xs ≡ length ys → ⊥) → bytes_eq xs ys ≡ false
+apart xs ys h = by (bytes_eq xs ys) refl
+  where
+    by : (b : Bool) → bytes_eq xs ys ≡ b → b ≡ false
+    by false e = refl
+    by true e = absurd (h (ap length ((bytes_eq-Decides xs ys).0 e)))
+
+-- objects whose writings have other lengths are written differently
+pub other_length : (o p : Object) → (written_bytes o ≡ written_bytes p → ⊥) → is_same o p ≡ false
+other_length o p h = apart (writing 0 (written o)) (writing 0 (written p)) h

@@ -3,12 +3,12 @@ mod AmongLemmas
 mod OneCatalog
 mod PutLemmas
 mod HistoryLemmas
-mod MembersLemmas
+mod PlaceLemmas
 mod FindLemmas
 mod SearchLemmas
 mod DefineLemmas
 mod LegalLemmas
 mod RemoveLemmas
-mod SearchSorted
 mod DuplicateLemmas
 mod TestLemmas
+mod SameLemmas

@@ -1,16 +1,12 @@
 -- What stands in a list after an object is put in its place, and after one is taken out.
-use Rattle.std.proofs.Common.{◌≡◌, ℕ, Bool, true, false, not, cond, ◌⊎◌, inl, inr, List, [], ◌∷◌, filter, refl, sym, ap, ◌∙◌, subst, true≢false, append_assoc, append-nil, ◌++◌, Ordering, Less, Equal, Greater}
+use Rattle.std.proofs.Common.{◌≡◌, ℕ, Bool, true, false, not, cond, ◌⊎◌, inl, inr, List, [], ◌∷◌, filter, refl, sym, ap, ◌∙◌, subst, true≢false, Ordering, Less, Equal, Greater}
 use Rattle.std.specs.List.{AllByRecursion}
 use Rattle.std.specs.Ordering.{match_ordering}
 use Rattle.slo_objects.specs.declared.kind.Kind.{Kind}
 use Rattle.slo_objects.specs.declared.object.Object.{Object}
 use Rattle.slo_catalog.specs.Keys.{is_key, object_cmp, ComesBefore, IsSorted}
-use Rattle.std.proofs.Common.{All}
-use Rattle.std.proofs.lemmas.List.Elements.{All-from_recursion, recursion_from_All}
-use Rattle.slo_objects.specs.Document.{IsOfDocument}
-use Rattle.slo_catalog.specs.Catalog.{put, put_all, without, IsKept}
-use Rattle.slo_catalog.specs.Define.{firsts}
-use Rattle.slo_catalog.proofs.KeyLemmas.{object_order, same_key, less_apart, greater_apart, equal_same, after, before}
+use Rattle.slo_catalog.specs.Catalog.{put, without}
+use Rattle.slo_catalog.proofs.KeyLemmas.{object_order, same_key, less_apart, greater_apart, equal_same, after}
 use Rattle.slo_catalog.proofs.AmongLemmas.{Among, all_weaker, all_among}
 
 put_before : (p o : Object) (os : List Object) → ComesBefore p o → AllByRecursion (ComesBefore p) os → AllByRecursion (ComesBefore p) (put o os)
@@ -121,70 +117,3 @@ in_without kind name = in_filter (λ o. not (is_key kind name o))
 
 pub without_keeps : (kind : Kind) (name : List ℕ) (q : Object) (os : List Object) → Among os q → not (is_key kind name q) ≡ true → Among (without kind name os) q
 without_keeps kind name = filter_keeps (λ o. not (is_key kind name o))
-
-last_put : (o : Object) (front : List Object) → AllByRecursion (λ p. ComesBefore p o) front → put o front ≡ front ++ o ∷ []
-last_put o [] h = refl
-last_put o (p ∷ ps) h = ap (λ r. match_ordering r (o ∷ p ∷ ps) (o ∷ ps) (p ∷ put o ps)) (before o p h.0) ∙ ap (λ qs. p ∷ qs) (last_put o ps h.1)
-
-all_middle : (P : Object → Type 0) (front rest : List Object) (o : Object) → AllByRecursion P (front ++ o ∷ rest) → P o
-all_middle P [] rest o h = h.0
-all_middle P (p ∷ ps) rest o h = all_middle P ps rest o h.1
-
-sorted_middle : (front rest : List Object) (o : Object) → IsSorted (front ++ o ∷ rest) → AllByRecursion (λ p. ComesBefore p o) front
-sorted_middle [] rest o s = tt
-sorted_middle (p ∷ ps) rest o s = (all_middle (ComesBefore p) ps rest o s.0, sorted_middle ps rest o s.1)
-
-put_behind : (os front : List Object) → IsSorted (front ++ os) → put_all os front ≡ front ++ os
-put_behind [] front s = sym (append-nil front)
-put_behind (o ∷ os) front s =
-    ap (put_all os) (last_put o front (sorted_middle front os o s))
-    ∙ (put_behind os (front ++ o ∷ []) (subst IsSorted (sym (append_assoc front (o ∷ []) os)) s) ∙ append_assoc front (o ∷ []) os)
-
--- sorted objects stay as they are where they are put one after another
-pub sorted_again : (os : List Object) → IsSorted os → put_all os [] ≡ os
-sorted_again os s = put_behind os [] s
-
--- what is true of all of them
-put_all_true : (P : Object → Type 0) (o : Object) (os : List Object) → P o → AllByRecursion P os → AllByRecursion P (put o os)
-put_all_true P o [] h all = (h, tt)
-put_all_true P o (p ∷ ps) h all = by (object_cmp o p) (put_all_true P o ps h all.1)
-  where
-    by : (r : Ordering) → AllByRecursion P (put o ps) → AllByRecursion P (match_ordering r (o ∷ p ∷ ps) (o ∷ ps) (p ∷ put o ps))
-    by Less more = (h, all)
-    by Equal more = (h, all.1)
-    by Greater more = (all.0, more)
-
-pub each_put_true : (P : Object → Type 0) (objects os : List Object) → AllByRecursion P objects → AllByRecursion P os → AllByRecursion P (put_all objects os)
-each_put_true P [] os h all = all
-each_put_true P (o ∷ rest) os h all = each_put_true P rest (put o os) h.1 (put_all_true P o os h.0 all)
-
-firsts_true : (P : Object → Type 0) (objects : List Object) → AllByRecursion P objects → AllByRecursion P (firsts objects)
-firsts_true P [] h = tt
-firsts_true P (o ∷ rest) h = put_all_true P o (firsts rest) h.0 (firsts_true P rest h.1)
-
-each_put_sorted : (objects os : List Object) → IsSorted os → IsSorted (put_all objects os)
-each_put_sorted [] os s = s
-each_put_sorted (o ∷ rest) os s = each_put_sorted rest (put o os) (put_sorted o os s)
-
-firsts_sorted : (objects : List Object) → IsSorted (firsts objects)
-firsts_sorted [] = tt
-firsts_sorted (o ∷ rest) = put_sorted o (firsts rest) (firsts_sorted rest)
-
--- what a catalog keeps is kept by what is put into it, and by what is taken out
-pub put_all_kept : (objects os : List Object) → All IsOfDocument objects → IsSorted os → All IsOfDocument os → IsKept (put_all objects os)
-put_all_kept objects os h s all = record {
-  sorted = each_put_sorted objects os s;
-  written = All-from_recursion IsOfDocument (put_all objects os) (each_put_true IsOfDocument objects os (recursion_from_All IsOfDocument objects h) (recursion_from_All IsOfDocument os all));
-}
-
-pub firsts_kept : (objects : List Object) → All IsOfDocument objects → IsKept (firsts objects)
-firsts_kept objects h = record {
-  sorted = firsts_sorted objects;
-  written = All-from_recursion IsOfDocument (firsts objects) (firsts_true IsOfDocument objects (recursion_from_All IsOfDocument objects h));
-}
-
-pub without_kept : (kind : Kind) (name : List ℕ) (os : List Object) → IsSorted os → All IsOfDocument os → IsKept (without kind name os)
-without_kept kind name os s all = record {
-  sorted = without_sorted kind name os s;
-  written = All-from_recursion IsOfDocument (without kind name os) (filter_all (λ o. not (is_key kind name o)) IsOfDocument os (recursion_from_All IsOfDocument os all));
-}

@@ -32,6 +32,9 @@ pub history_of : (old : List Object) (kind : Kind) (name : List ℕ) (r : Result
 history_of old kind name (Err e) h events c = tt
 history_of old kind name (Ok members) h events c = subst (λ ms. IsCatalog (events ++ Removed kind name ∷ []) ms) (sym (left_by old members kind name h).1) (removed_kept events old kind name c)
 
-pub legal_of : (old : List Object) (kind : Kind) (name : List ℕ) (r : Result (List Object) RemoveError) → Removes r (removed old kind name) → IsLegal old → IfOk r (λ members. IsLegal members)
-legal_of old kind name (Err e) h legal = tt
-legal_of old kind name (Ok members) h legal = let l = left_by old members kind name h in subst IsLegal (sym l.1) (legal_removed kind name old legal l.0)
+pub legal_of : (old members : List Object) (kind : Kind) (name : List ℕ) → removed old kind name ≡ Ok members → IsLegal old → IsLegal members
+legal_of old members kind name h legal = let l = left_by old members kind name h in subst IsLegal (sym l.1) (legal_removed kind name old legal l.0)
+
+-- the same of what a call gave
+pub legal_by : (old members : List Object) (kind : Kind) (name : List ℕ) (r : Result (List Object) RemoveError) → Removes r (removed old kind name) → r ≡ Ok members → IsLegal old → IsLegal members
+legal_by old members kind name r h e legal = legal_of old members kind name (subst (λ x. Removes x (removed old kind name)) e h) legal

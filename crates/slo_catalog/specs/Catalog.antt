@@ -1,17 +1,11 @@
 -- The catalog of a history of definitions and removals.
 use Rattle.std.specs.Prelude.{◌≡◌, ℕ, Bool, false, not, ◌&&◌, ◌==◌, ◌↔◌, cond, List, [], ◌∷◌, ◌++◌, filter}
 use Rattle.std.specs.Str.{bytes_eq}
-use Rattle.std.specs.List.{AllByRecursion, All, Contains}
+use Rattle.std.specs.List.{AllByRecursion, Contains}
 use Rattle.std.specs.Ordering.{match_ordering}
 use Rattle.slo_objects.specs.declared.kind.Kind.{Kind}
 use Rattle.slo_objects.specs.declared.object.Object.{Object}
-use Rattle.slo_objects.specs.Document.{IsOfDocument}
 use Rattle.slo_catalog.specs.Keys.{kind_rank, is_key, object_cmp, IsSorted}
-
--- what a catalog keeps: sorted objects, each of a document
-pub record IsKept (objects : List Object) : Type 0 where
-  pub sorted : IsSorted objects
-  pub written : All IsOfDocument objects
 
 -- what changes a catalog: an object is defined, or what has that kind and name is removed
 pub data Event : Type 0 where

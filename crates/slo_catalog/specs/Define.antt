@@ -1,6 +1,6 @@
 -- What a text's objects make of a catalog, or why they are refused.
 use Rattle.std.specs.Prelude.{◌≡◌, ℕ, Bool, false, not, cond, ◌&&◌, ◌==◌, List, [], ◌∷◌, ◌++◌, Option, Some, None, Result, Ok, Err, find}
-use Rattle.std.specs.List.{list_any}
+use Rattle.std.specs.List.{list_all, list_any}
 use Rattle.std.specs.Str.{bytes_eq}
 use Rattle.yaml_subset.specs.Spelling.{writing}
 use Rattle.slo_objects.specs.declared.object.Object.{Object}
@@ -74,23 +74,49 @@ abbrev pub unless : {A : Type 0} → (A → CatalogFault) → Option A → Resul
 unless fault None rest = rest
 unless fault (Some found) rest = Err (fault found)
 
--- what is refused of the members that would be there, and else these members
-abbrev pub admitted : List Object → List Object → Result (List Object) CatalogFault
-admitted members objects =
+-- the members that would be there, unless a reference of the objects names none of them, or an objective lacks `op` or `value`
+abbrev pub judged : List Object → List Object → Result (List Object) CatalogFault
+judged members objects =
     unless unresolved (first_unresolved members objects)
-    (unless needs_op (first_needing_op members objects)
-    (unless faults.Limit (first_limit members) (Ok members)))
+    (unless needs_op (first_needing_op members objects) (Ok members))
 
--- The catalog with the objects of a text, each of which replaces the one of its kind and name; or the first fault, in the
--- order of these lines, where each names the first place that breaks its rule.
-abbrev pub defined : List Object → List Object → Result (List Object) CatalogFault
-defined old objects =
+-- The members that are there with the objects of a text, each of which replaces the one of its kind and name; or the first
+-- fault, in the order of these lines, where each names the first place that breaks its rule.
+abbrev pub proposed : List Object → List Object → Result (List Object) CatalogFault
+proposed old objects =
     unless reserved (first_reserved objects)
     (unless duplicate (first_duplicate objects)
-    (admitted (put_all objects old) objects))
+    (judged (put_all objects old) objects))
+
+-- members within the limits, or the first limit that they pass
+abbrev pub within_limits : List Object → Result (List Object) CatalogFault
+within_limits members = unless faults.Limit (first_limit members) (Ok members)
+
+abbrev pub then_within : Result (List Object) CatalogFault → Result (List Object) CatalogFault
+then_within (Ok members) = within_limits members
+then_within (Err fault) = Err fault
+
+-- The catalog with the objects of a text: what is proposed, where it is within the limits.
+abbrev pub defined : List Object → List Object → Result (List Object) CatalogFault
+defined old objects = then_within (proposed old objects)
+
+-- whether an object is written as the member that was found of its kind and name
+abbrev pub is_alike : Option Object → Object → Bool
+is_alike None o = false
+is_alike (Some p) o = is_same p o
+
+-- A definition leaves a catalog as it is where each of its objects is written as the member of its kind and name.
+abbrev pub is_unchanged : List Object → List Object → Bool
+is_unchanged old objects = list_all (λ o. is_alike (find_in old o.kind o.name) o) objects
 
 -- what a call gives: what the definition gives, unless memory ran out
 abbrev pub Defines : Result (List Object) DefineError → Result (List Object) CatalogFault → Type 0
 Defines (Ok members) answer = answer ≡ Ok members
 Defines (Err (errors.Fault fault)) answer = answer ≡ Err fault
 Defines (Err errors.NoMemory) answer = Unit {0}
+
+-- the same of a proposal: its members, and whether they are those that were there
+abbrev pub Proposes : Result (List Object × Bool) DefineError → Result (List Object) CatalogFault → Type 0
+Proposes (Ok proposal) answer = answer ≡ Ok proposal.0
+Proposes (Err (errors.Fault fault)) answer = answer ≡ Err fault
+Proposes (Err errors.NoMemory) answer = Unit {0}

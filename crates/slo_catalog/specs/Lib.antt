@@ -1,9 +1,10 @@
 pub mod Keys
 pub mod Catalog
-pub mod Members
+pub mod Places
 pub mod References
 pub mod NeedsOp
 pub mod Bindings
 pub mod Limits
+pub mod Members
 pub mod Define
 pub mod Remove

@@ -7,7 +7,7 @@ use Rattle.slo_objects.specs.declared.object.Object.{Object}
 use Rattle.slo_objects.specs.Document.{written}
 use Rattle.slo_catalog.specs.declared.fault.CatalogLimit.{CatalogLimit}
 use Rattle.slo_catalog.specs.declared.fault.CatalogLimit.TheVariants as limits
-use Rattle.slo_catalog.specs.declared.limits.TheConstants.{MAX_OBJECTS, MAX_CATALOG_BYTES, MAX_SLIS, MAX_SLOS, MAX_BINDINGS}
+use Rattle.slo_limits.specs.declared.TheConstants.{MAX_OBJECTS, MAX_CATALOG_BYTES, MAX_SLIS, MAX_SLOS, MAX_BINDINGS}
 use Rattle.slo_catalog.specs.Keys.{kind_rank}
 use Rattle.slo_catalog.specs.Bindings.{bindings}
 

@@ -1,12 +1,11 @@
--- Objects by their keys, as an ordered map holds them.
-use Rattle.std.specs.Prelude.{List}
+-- What is kept of an object of a catalog.
+use Rattle.std.specs.Prelude.{◌≡◌, ◌<◌, ◌^◌, ℕ}
 use Rattle.slo_objects.specs.declared.object.Object.{Object}
-use Rattle.slo_catalog.specs.declared.key.Key.{Key}
-use Rattle.slo_catalog.specs.Keys.{kind_rank}
+use Rattle.slo_objects.specs.Document.{IsOfDocument}
+use Rattle.slo_catalog.specs.Limits.{written_bytes}
 
-abbrev pub key_of : Object → Key
-key_of o = record { rank = kind_rank o.kind; name = o.name }
-
--- an object under its key
-abbrev pub entry_of : Object → Key × Object
-entry_of o = (key_of o, o)
+-- an object of a document, and the count of bytes of its canonical writing
+pub record IsWeighed (o : Object) (bytes : ℕ) : Type 0 where
+  pub written : IsOfDocument o
+  pub exact : bytes ≡ written_bytes o
+  pub within : bytes < 2 ^ 63

@@ -7,6 +7,7 @@ ghost use Rattle.slo_catalog.specs.Bindings.{is_empty, policy_named as policy_na
 
 use crate::bodies::{objectives_of, policy_in, slo_in};
 use crate::catalog::Catalog;
+use crate::members::Members;
 use crate::reference::{is_built_in, names_in};
 use exact_fraction::Label;
 use slo_objects::{AlertPolicy, Kind, Object, Objective, Slo};
@@ -22,11 +23,11 @@ pub struct Binding {
 }
 
 /// The alert policy of that name.
-fn policy_named(catalog: &Catalog, name: Label) -> Option<&AlertPolicy>
-    ensures { option_copied result ≡ policy_named_lem catalog.now name }
+fn policy_named(members: &Members, name: Label) -> Option<&AlertPolicy>
+    ensures { option_copied result ≡ policy_named_lem members.now name }
 {
-    match catalog.find(Kind::AlertPolicy, name) {
-        Some(object) => policy_in(&object.body),
+    match members.find(Kind::AlertPolicy, name) {
+        Some(member) => policy_in(&member.object().body),
         None => None,
     }
 }
@@ -40,33 +41,33 @@ fn is_empty_list(names: &[Label]) -> bool
     }
 }
 
-fn lists_condition(catalog: &Catalog, name: Label) -> bool
-    ensures { result ≡ lists_condition_lem (policy_named_lem catalog.now name) }
+fn lists_condition(members: &Members, name: Label) -> bool
+    ensures { result ≡ lists_condition_lem (policy_named_lem members.now name) }
 {
-    match policy_named(catalog, name) {
+    match policy_named(members, name) {
         Some(policy) => !is_empty_list(names_in(&policy.conditions)),
         None => false,
     }
 }
 
 /// Whether the policy of that name has a condition.
-fn has_condition(catalog: &Catalog, name: &Label) -> bool
-    ensures { result ≡ has_condition_lem catalog.now name.now }
+fn has_condition(members: &Members, name: &Label) -> bool
+    ensures { result ≡ has_condition_lem members.now name.now }
 {
-    is_built_in(name) || lists_condition(catalog, *name)
+    is_built_in(name) || lists_condition(members, *name)
 }
 
 /// Those of the policies that have a condition.
 fn policies_with_condition(
     alloc: Global,
-    catalog: &Catalog,
+    members: &Members,
     names: &[Label],
 ) -> Result<Vec<Label>, AllocError>
-    ensures { IfOk result (λ kept. kept.items ≡ filter (has_condition_lem catalog.now) names.now) }
+    ensures { IfOk result (λ kept. kept.items ≡ filter (has_condition_lem members.now) names.now) }
 {
     let mut kept = Vec::new(alloc);
     for name in names {
-        if has_condition(catalog, name) {
+        if has_condition(members, name) {
             kept.push(*name)?;
         }
     }
@@ -113,13 +114,13 @@ fn bind_each(
 fn bind_slo(
     bindings: &mut Vec<Binding>,
     alloc: Global,
-    catalog: &Catalog,
+    members: &Members,
     name: &Label,
     slo: &Slo,
 ) -> Result<(), AllocError>
-    ensures { OnOk result (bindings.new.items ≡ bindings.old.items ++ bindings_in catalog.now name.now (Some slo.now)) }
+    ensures { OnOk result (bindings.new.items ≡ bindings.old.items ++ bindings_in members.now name.now (Some slo.now)) }
 {
-    let policies = policies_with_condition(alloc, catalog, names_in(&slo.alert_policies))?;
+    let policies = policies_with_condition(alloc, members, names_in(&slo.alert_policies))?;
     bind_each(bindings, name, &policies, objectives_of(slo)?)
 }
 
@@ -127,15 +128,26 @@ fn bind_slo(
 fn bind_object(
     bindings: &mut Vec<Binding>,
     alloc: Global,
-    catalog: &Catalog,
+    members: &Members,
     object: &Object,
 ) -> Result<(), AllocError>
-    ensures { OnOk result (bindings.new.items ≡ bindings.old.items ++ bindings_in catalog.now object.now.name (slo_in_lem object.now.body)) }
+    ensures { OnOk result (bindings.new.items ≡ bindings.old.items ++ bindings_in members.now object.now.name (slo_in_lem object.now.body)) }
 {
     match slo_in(&object.body) {
-        Some(slo) => bind_slo(bindings, alloc, catalog, &object.name, slo),
+        Some(slo) => bind_slo(bindings, alloc, members, &object.name, slo),
         None => Ok(()),
     }
+}
+
+/// The bindings of members.
+pub(crate) fn bindings_of(alloc: Global, members: &Members) -> Result<Vec<Binding>, AllocError>
+    ensures { IfOk result (λ bindings. bindings.items ≡ bindings_lem members.now) }
+{
+    let mut bindings = Vec::new(alloc);
+    for member in members.as_slice() {
+        bind_object(&mut bindings, alloc, members, member.object())?;
+    }
+    Ok(bindings)
 }
 
 impl Catalog {
@@ -150,10 +162,6 @@ impl Catalog {
     pub fn bindings(&self, alloc: Global) -> Result<Vec<Binding>, AllocError>
         ensures { IfOk result (λ bindings. bindings.items ≡ bindings_lem self.now) }
     {
-        let mut bindings = Vec::new(alloc);
-        for object in self.objects() {
-            bind_object(&mut bindings, alloc, self, object)?;
-        }
-        Ok(bindings)
+        bindings_of(alloc, self.sorted())
     }
 }

@@ -2,22 +2,22 @@
 ghost use Rattle.std.specs.Prelude.{◌≡◌, [], IfSome};
 ghost use Rattle.std.specs.List.{slice_get};
 ghost use Rattle.std.specs.Option.{option_copied};
-ghost use Rattle.std.specs.List.{All};
 ghost use Rattle.slo_objects.specs.Document.{IsOfDocument};
-ghost use Rattle.slo_catalog.specs.Keys.{IsSorted, find_in, key_cmp};
-ghost use Rattle.slo_catalog.specs.Catalog.{IsKept};
+ghost use Rattle.slo_catalog.specs.Keys.{IsSorted, find_in};
+ghost use Rattle.slo_catalog.specs.References.{IsLegal};
 
-use crate::key::kind_rank;
+use crate::member::Member;
+use crate::members::Members;
 use exact_fraction::Label;
 use slo_objects::{Kind, Object};
 use std::alloc::Global;
-use std::cmp::Ordering;
 use std::marker::Model;
 
-/// Objects by kind and name, each kind and name once.
-#[derive(Debug, Drop)]
+/// Objects by kind and name, each kind and name once. Each reference of each of them names one of
+/// them, or a policy that is always there.
+#[derive(Drop)]
 pub struct Catalog {
-    members: Vec<Object>,
+    members: Members,
 }
 
 impl Model for Catalog {
@@ -25,15 +25,15 @@ impl Model for Catalog {
     ghost use Rattle.std.specs.Coded.{coded_list};
     ghost use Rattle.slo_objects.specs.declared.object.Object.{Object};
     ghost use Rattle.slo_objects.specs.contracts.object.Object.{the_row};
-    ghost use Rattle.slo_catalog.specs.Catalog.{IsKept};
+    ghost use Rattle.slo_catalog.specs.References.{IsLegal};
 
     ghost Value = { List Object };
 
     ghost coded = { coded_list the_row.coded };
 
-    ghost view = { λ c. c.members.items };
+    ghost view = { λ c. c.members };
 
-    ghost invariant = { λ c. IsKept c.members.items };
+    ghost invariant = { λ c. IsLegal c.members };
 }
 
 impl Catalog {
@@ -42,32 +42,48 @@ impl Catalog {
         ensures { result ≡ [] }
     {
         Catalog {
-            members: Vec::new(alloc),
+            members: Members::new(alloc),
         }
     }
 
-    /// The catalog of these objects, which are sorted.
-    pub(crate) fn of(members: Vec<Object>) -> Catalog
-        requires { IsKept members.items }
-        ensures { result ≡ members.items }
+    /// The catalog of these members, whose references are resolved.
+    pub(crate) fn of(members: Members) -> Catalog
+        requires { IsLegal members }
+        ensures { result ≡ members }
     {
         Catalog { members }
     }
 
-    /// The objects, by kind and then by the bytes of the name.
-    pub fn objects(&self) -> &[Object]
+    /// The members, with what is known of all of them.
+    pub(crate) fn sorted(&self) -> &Members
         ensures all { result.now ≡ self.now }
         ensures sorted { IsSorted self.now }
-        ensures written { All IsOfDocument self.now }
+        ensures legal { IsLegal self.now }
     {
-        self.members.as_slice()
+        // Members are known to be sorted by the list that they give.
+        let _ = self.members.as_slice();
+        &self.members
     }
 
-    /// The object at that place of the list, from 0: none exactly where the place isn't below the count.
-    pub fn object_at(&self, place: u32) -> Option<&Object>
-        ensures { option_copied result ≡ slice_get self.now place }
+    /// The members, by kind and then by the bytes of the name.
+    pub fn members(&self) -> &[Member]
+        ensures all { result.now ≡ self.now }
+        ensures sorted { IsSorted self.now }
+        ensures legal { IsLegal self.now }
     {
-        self.members.get(place as usize)
+        self.sorted().as_slice()
+    }
+
+    /// The object at that place of the list, from 0: none exactly where the place isn't below the
+    /// count.
+    pub fn object_at(&self, place: u32) -> Option<&Object>
+        ensures there { option_copied result ≡ slice_get self.now place }
+        ensures written { IfSome result (λ object. IsOfDocument object.now) }
+    {
+        match self.members().get(place as usize) {
+            Some(member) => Some(member.object()),
+            None => None,
+        }
     }
 
     /// The object of that kind and name: none exactly where there is no such member.
@@ -75,32 +91,9 @@ impl Catalog {
         ensures there { option_copied result ≡ find_in self.now kind name }
         ensures written { IfSome result (λ object. IsOfDocument object.now) }
     {
-        find_object(self.objects(), kind, name)
-    }
-}
-
-/// How an object stands to a kind and a name in the order of a catalog.
-fn compare(object: &Object, kind: Kind, name: Label) -> Ordering
-    ensures { result ≡ key_cmp object.now.kind object.now.name kind name }
-{
-    kind_rank(object.kind)
-        .cmp(&kind_rank(kind))
-        .then(object.name.cmp(&name))
-}
-
-/// The object of that kind and name among sorted ones, by halves.
-fn find_object(objects: &[Object], kind: Kind, name: Label) -> Option<&Object>
-    requires { IsSorted objects.now }
-    ensures { option_copied result ≡ find_in objects.now kind name }
-{
-    let mut rest = objects;
-    while !rest.is_empty() {
-        let middle = rest.len() / 2;
-        match compare(&rest[middle], kind, name) {
-            Ordering::Less => rest = &rest[middle + 1..],
-            Ordering::Equal => return Some(&rest[middle]),
-            Ordering::Greater => rest = &rest[..middle],
+        match self.sorted().find(kind, name) {
+            Some(member) => Some(member.object()),
+            None => None,
         }
     }
-    None
 }

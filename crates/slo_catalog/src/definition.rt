@@ -3,20 +3,21 @@ ghost use Rattle.std.specs.Prelude.{◌≡◌, ◌++◌, List, map, IfOk};
 ghost use Rattle.std.specs.List.{All};
 ghost use Rattle.std.specs.Option.{option_copied};
 ghost use Rattle.slo_objects.specs.Document.{IsOfDocument};
-ghost use Rattle.slo_catalog.specs.Catalog.{Event, Defined, IsCatalog, put_all};
-ghost use Rattle.slo_catalog.specs.References.{IsLegal};
-ghost use Rattle.slo_catalog.specs.Define.{Defines, defined, admitted as admitted_lem, is_reserved as is_reserved_lem, first_reserved as first_reserved_lem};
+ghost use Rattle.slo_catalog.specs.Catalog.{Event, Defined, IsCatalog};
+ghost use Rattle.slo_catalog.specs.Define.{Defines, Proposes, judged as judged_lem, proposed, defined, is_unchanged, is_reserved as is_reserved_lem, first_reserved as first_reserved_lem};
 
 use crate::catalog::Catalog;
 use crate::duplicate::first_duplicate;
 use crate::fault::{CatalogFault, DefineError};
 use crate::key::kind_rank;
-use crate::limits::first_limit;
-use crate::members::combined;
+use crate::member::{Member, members_of};
+use crate::members::Members;
 use crate::needs_op::first_needing_op;
+use crate::proposal::Proposal;
 use crate::reference::{first_unresolved, is_built_in};
+use crate::same::are_alike;
 use slo_objects::{Kind, Object};
-use std::alloc::{AllocError, Global};
+use std::alloc::Global;
 
 /// Whether an object is an alert policy with the name of one that is always there.
 fn is_reserved(object: &Object) -> bool
@@ -25,22 +26,22 @@ fn is_reserved(object: &Object) -> bool
     kind_rank(object.kind) == kind_rank(Kind::AlertPolicy) && is_built_in(&object.name)
 }
 
-fn first_reserved(objects: &[Object]) -> Option<&Object>
+fn first_reserved(objects: &[Member]) -> Option<&Object>
     ensures { option_copied result ≡ first_reserved_lem objects.now }
 {
-    for object in objects {
-        if is_reserved(object) {
-            return Some(object);
+    for member in objects {
+        if is_reserved(member.object()) {
+            return Some(member.object());
         }
     }
     None
 }
 
-/// A catalog with these objects among its members, unless it has a fault.
-fn admitted(alloc: Global, catalog: Catalog, objects: &[Object]) -> Result<Catalog, DefineError>
-    ensures { Defines result (admitted_lem catalog objects.now) }
+/// The members, unless one of the objects, which are among them, has a fault.
+fn judged(alloc: Global, members: Members, objects: &[Member]) -> Result<Members, DefineError>
+    ensures { Defines result (judged_lem members objects.now) }
 {
-    if let Some(reference) = first_unresolved(alloc, &catalog, objects)? {
+    if let Some(reference) = first_unresolved(alloc, &members, objects)? {
         return Err(DefineError::Fault(CatalogFault::Unresolved {
             from_kind: reference.from_kind,
             from_name: reference.from_name,
@@ -48,56 +49,77 @@ fn admitted(alloc: Global, catalog: Catalog, objects: &[Object]) -> Result<Catal
             name: reference.name,
         }));
     }
-    if let Some(needs) = first_needing_op(&catalog, objects)? {
+    if let Some(needs) = first_needing_op(&members, objects)? {
         return Err(DefineError::Fault(CatalogFault::NeedsOp {
             slo: needs.slo,
             objective: needs.objective,
         }));
     }
-    if let Some(limit) = first_limit(alloc, &catalog)? {
-        return Err(DefineError::Fault(CatalogFault::Limit(limit)));
-    }
-    Ok(catalog)
+    Ok(members)
 }
 
-/// The catalog of copies of the old objects and of others, each of which replaces the one of its kind and name.
-fn replaced(alloc: Global, old: &Catalog, objects: &[Object]) -> Result<Catalog, AllocError>
-    requires { All IsOfDocument objects.now }
-    ensures { IfOk result (λ catalog. catalog ≡ put_all objects.now old.now) }
-{
-    let members = combined(alloc, old.objects(), objects)?;
-    Ok(Catalog::of(members))
-}
-
-fn define_all(alloc: Global, old: &Catalog, objects: &[Object]) -> Result<Catalog, DefineError>
-    requires { All IsOfDocument objects.now }
-    ensures { Defines result (defined old.now objects.now) }
+/// The old members and others at their places, unless one of these has a fault.
+fn joined(alloc: Global, old: &Members, objects: &[Member]) -> Result<Members, DefineError>
+    ensures { Defines result (proposed old.now objects.now) }
 {
     if let Some(object) = first_reserved(objects) {
         return Err(DefineError::Fault(CatalogFault::Reserved { name: object.name }));
     }
-    if let Some(object) = first_duplicate(alloc, objects)? {
+    if let Some(member) = first_duplicate(alloc, objects)? {
+        let object = member.object();
         return Err(DefineError::Fault(CatalogFault::DuplicateInText {
             kind: object.kind,
             name: object.name,
         }));
     }
-    admitted(alloc, replaced(alloc, old, objects)?, objects)
+    judged(alloc, old.share(alloc)?.put_all(objects)?, objects)
+}
+
+/// What is there with the objects of a text, each of which replaces the member of its kind and
+/// name, before the limits are tried. Each object is copied once, and the members that stay are
+/// shared.
+///
+/// # Errors
+///
+/// The first fault, in the order of [`CatalogFault`] and but for the limits: each names the first
+/// place that breaks its rule. Or memory ran out.
+pub fn propose(alloc: Global, old: &Catalog, objects: &[Object]) -> Result<Proposal, DefineError>
+    requires { All IsOfDocument objects.now }
+    ensures exact { Proposes result (proposed old.now objects.now) }
+    ensures same { IfOk result (λ proposal. proposal.1 ≡ is_unchanged old.now objects.now) }
+{
+    let objects = members_of(alloc, objects)?;
+    let objects = objects.as_slice();
+    match joined(alloc, old.sorted(), objects) {
+        Ok(members) => {
+            let same = are_alike(alloc, old.sorted(), objects)?;
+            Ok(Proposal::of(members, same))
+        }
+        Err(fault) => Err(fault),
+    }
+}
+
+/// What is proposed, where it is within the limits.
+fn defined_by(alloc: Global, old: &Catalog, objects: &[Object]) -> Result<Catalog, DefineError>
+    requires { All IsOfDocument objects.now }
+    ensures { Defines result (defined old.now objects.now) }
+{
+    match propose(alloc, old, objects) {
+        Ok(proposal) => proposal.admitted(alloc),
+        Err(fault) => Err(fault),
+    }
 }
 
 /// The catalog with the objects of a text, each of which replaces the one of its kind and name.
 ///
 /// # Errors
 ///
-/// The first fault, in the order of [`CatalogFault`]: each names the first place that breaks its rule. Or memory ran
-/// out.
+/// The first fault, in the order of [`CatalogFault`]: each names the first place that breaks its
+/// rule. Or memory ran out.
 pub fn define(alloc: Global, old: &Catalog, objects: &[Object]) -> Result<Catalog, DefineError>
     requires { All IsOfDocument objects.now }
     ensures exact { Defines result (defined old.now objects.now) }
     ensures history { (events : List Event) → IsCatalog events old.now → IfOk result (λ catalog. IsCatalog (events ++ map Defined objects.now) catalog) }
-    ensures legal { IsLegal old.now → IfOk result (λ catalog. IsLegal catalog) }
 {
-    // What is proved of the result rests on the order of the old members, which a catalog keeps.
-    let _ = old.objects();
-    define_all(alloc, old, objects)
+    defined_by(alloc, old, objects)
 }

@@ -1,15 +1,14 @@
 //! Kinds and names that a text defines twice with different content.
 ghost use Rattle.std.specs.Prelude.{◌≡◌, IfOk};
-ghost use Rattle.std.specs.List.{All};
 ghost use Rattle.std.specs.Option.{option_copied};
 ghost use Rattle.slo_objects.specs.Document.{IsOfDocument, written};
 ghost use Rattle.yaml_subset.specs.Spelling.{writing};
 ghost use Rattle.slo_catalog.specs.Keys.{find_in};
 ghost use Rattle.slo_catalog.specs.Define.{is_same as is_same_lem, is_other_than as is_other_than_lem, firsts, first_other as first_other_lem, first_duplicate as first_duplicate_lem};
 
-use crate::catalog::Catalog;
+use crate::member::Member;
 use crate::members::Members;
-use slo_objects::{Object, copy_object, write_object};
+use slo_objects::{Object, write_object};
 use std::alloc::{AllocError, Global};
 
 /// The canonical writing of an object.
@@ -22,46 +21,40 @@ fn text_of(alloc: Global, object: &Object) -> Result<Vec<u8>, AllocError>
     Ok(text)
 }
 
-/// Whether two objects have the same content.
-fn is_same(alloc: Global, object: &Object, other: &Object) -> Result<bool, AllocError>
-    requires one { IsOfDocument object.now }
-    requires another { IsOfDocument other.now }
-    ensures { IfOk result (λ same. same ≡ is_same_lem object.now other.now) }
+/// Whether two objects have the same content. They are written only where their writings have one
+/// length.
+#[tactic(auto, using(crate::proofs::FindLemmas::other_length))]
+pub(crate) fn is_same(alloc: Global, one: &Member, other: &Member) -> Result<bool, AllocError>
+    ensures { IfOk result (λ same. same ≡ is_same_lem one.now other.now) }
 {
-    let text = text_of(alloc, object)?;
-    let other = text_of(alloc, other)?;
+    if one.bytes() != other.bytes() {
+        return Ok(false);
+    }
+    let text = text_of(alloc, one.object())?;
+    let other = text_of(alloc, other.object())?;
     Ok(text == other)
 }
 
-/// The first object of each kind and name.
-fn first_members(alloc: Global, objects: &[Object]) -> Result<Members, AllocError>
+/// The first member of each kind and name.
+fn first_ones(alloc: Global, objects: &[Member]) -> Result<Members, AllocError>
     ensures { IfOk result (λ members. members ≡ firsts objects.now) }
 {
     let mut members = Members::new(alloc);
     let mut left = objects.len();
     while 0 < left {
         left -= 1;
-        members.put(copy_object(alloc, &objects[left])?)?;
+        members = members.put(objects[left].share()?)?;
     }
     Ok(members)
 }
 
-/// The first object of each kind and name, as a catalog.
-fn first_ones(alloc: Global, objects: &[Object]) -> Result<Catalog, AllocError>
-    requires { All IsOfDocument objects.now }
-    ensures { IfOk result (λ catalog. catalog ≡ firsts objects.now) }
-{
-    let members = first_members(alloc, objects)?.into_objects(alloc)?;
-    Ok(Catalog::of(members))
-}
-
 /// Whether an object is another than the first one of its kind and name.
-fn is_other(alloc: Global, first_ones: &Catalog, object: &Object) -> Result<bool, AllocError>
-    requires { IsOfDocument object.now }
-    ensures { IfOk result (λ other. other ≡ is_other_than_lem (find_in first_ones.now object.now.kind object.now.name) object.now) }
+fn is_other(alloc: Global, first_ones: &Members, member: &Member) -> Result<bool, AllocError>
+    ensures { IfOk result (λ other. other ≡ is_other_than_lem (find_in first_ones.now member.now.kind member.now.name) member.now) }
 {
+    let object = member.object();
     match first_ones.find(object.kind, object.name) {
-        Some(first) => Ok(!is_same(alloc, first, object)?),
+        Some(first) => Ok(!is_same(alloc, first, member)?),
         None => Ok(false),
     }
 }
@@ -69,15 +62,14 @@ fn is_other(alloc: Global, first_ones: &Catalog, object: &Object) -> Result<bool
 /// The first of the objects that is another than the one of its kind and name among the first ones.
 fn first_other<'a>(
     alloc: Global,
-    first_ones: &Catalog,
-    objects: &'a [Object],
-) -> Result<Option<&'a Object>, AllocError>
-    requires { All IsOfDocument objects.now }
+    first_ones: &Members,
+    objects: &'a [Member],
+) -> Result<Option<&'a Member>, AllocError>
     ensures { IfOk result (λ first. option_copied first ≡ first_other_lem first_ones.now objects.now) }
 {
-    for object in objects {
-        if is_other(alloc, first_ones, object)? {
-            return Ok(Some(object));
+    for member in objects {
+        if is_other(alloc, first_ones, member)? {
+            return Ok(Some(member));
         }
     }
     Ok(None)
@@ -87,9 +79,8 @@ fn first_other<'a>(
 #[tactic(auto, using(crate::proofs::FindLemmas::other_than_firsts))]
 pub(crate) fn first_duplicate(
     alloc: Global,
-    objects: &[Object],
-) -> Result<Option<&Object>, AllocError>
-    requires { All IsOfDocument objects.now }
+    objects: &[Member],
+) -> Result<Option<&Member>, AllocError>
     ensures { IfOk result (λ first. option_copied first ≡ first_duplicate_lem objects.now) }
 {
     let first_ones = first_ones(alloc, objects)?;

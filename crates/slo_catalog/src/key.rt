@@ -1,27 +1,9 @@
 //! Keys: a kind and a name.
 ghost use Rattle.std.specs.Prelude.{◌≡◌};
 ghost use Rattle.slo_catalog.specs.Keys.{is_key, kind_rank};
-ghost use Rattle.slo_catalog.specs.Members.{key_of};
 
 use exact_fraction::Label;
 use slo_objects::{Kind, Object};
-
-/// A kind, by its place among the kinds, and a name.
-#[derive(Clone, Copy, PartialEq, Eq, PartialOrd, Ord)]
-pub(crate) struct Key {
-    pub(crate) rank: u8,
-    pub(crate) name: Label,
-}
-
-/// The kind and the name of an object.
-pub(crate) fn key_of(object: &Object) -> Key
-    ensures { result ≡ key_of object.now }
-{
-    Key {
-        rank: kind_rank(object.kind),
-        name: object.name,
-    }
-}
 
 /// The place of a kind among the kinds.
 pub(crate) fn kind_rank(kind: Kind) -> u8

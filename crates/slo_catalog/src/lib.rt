@@ -12,21 +12,26 @@ mod fault;
 mod key;
 mod laws;
 mod limits;
+mod member;
 mod members;
 mod needs_op;
+mod proposal;
 mod reference;
 mod removal;
+mod same;
 
 pub use bindings::Binding;
 pub use catalog::Catalog;
-pub use definition::define;
+pub use definition::{define, propose};
 pub use fault::{CatalogFault, CatalogLimit, DefineError, RemoveError, RemoveFault};
 pub use laws::{
     a_catalog_follows_its_history, a_history_has_one_catalog, the_first_copy_that_differs_is_named,
 };
-pub use limits::{MAX_BINDINGS, MAX_CATALOG_BYTES, MAX_OBJECTS, MAX_SLIS, MAX_SLOS};
+pub use member::Member;
+pub use proposal::Proposal;
 pub use reference::the_first_reference_to_nothing_is_named;
 pub use removal::remove;
+pub use same::an_unchanged_definition_leaves_the_members;
 
 #[cfg(test)]
 mod history_tests;

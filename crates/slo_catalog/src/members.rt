@@ -1,106 +1,198 @@
-//! Objects by kind and name, while a catalog is made.
-ghost use Rattle.std.specs.Prelude.{◌≡◌, [], IfOk, OnOk};
-ghost use Rattle.slo_objects.specs.declared.object.Object.{Object};
+//! Sorted members.
+ghost use Rattle.std.specs.Prelude.{◌≡◌, ◌<◌, ◌≤◌, ◌++◌, ◌∷◌, [], length, take, drop, slice_set, IfOk, MatchResult};
+ghost use Rattle.std.specs.Option.{option_copied};
 ghost use Rattle.slo_catalog.specs.Catalog.{put, put_all, without};
-ghost use Rattle.slo_catalog.specs.Keys.{IsSorted};
+ghost use Rattle.slo_catalog.specs.Keys.{IsSorted, find_in, key_cmp};
+ghost use Rattle.slo_catalog.specs.Places.{StandsAt, BelongsAt};
 
-use crate::key::{Key, is_key, key_of};
+use crate::key::{is_key, kind_rank};
+use crate::member::Member;
 use exact_fraction::Label;
-use slo_objects::{Kind, Object, copy_object};
+use slo_objects::{Kind, Object};
 use std::alloc::{AllocError, Global};
-use std::collections::BTreeMap;
+use std::cmp::Ordering;
 use std::marker::Model;
 
-/// Objects by kind and name. Each is put at its place in little more than constant time.
+/// Members by kind and then by the bytes of the name, each kind and name once.
 #[derive(Drop)]
 pub(crate) struct Members {
-    by_key: BTreeMap<Key, Object>,
+    list: Vec<Member>,
 }
 
 impl Model for Members {
-    ghost use Rattle.std.specs.Prelude.{◌≡◌, List, map};
-    ghost use Rattle.std.specs.BTreeMap.{values};
+    ghost use Rattle.std.specs.Prelude.{List};
     ghost use Rattle.std.specs.Coded.{coded_list};
     ghost use Rattle.slo_objects.specs.declared.object.Object.{Object};
     ghost use Rattle.slo_objects.specs.contracts.object.Object.{the_row};
-    ghost use Rattle.slo_catalog.specs.Members.{entry_of};
+    ghost use Rattle.slo_catalog.specs.Keys.{IsSorted};
 
     ghost Value = { List Object };
 
     ghost coded = { coded_list the_row.coded };
 
-    ghost view = { λ m. values m.by_key };
+    ghost view = { λ m. m.list.items };
 
-    ghost invariant = { λ m. m.by_key.entries ≡ map entry_of (values m.by_key) };
+    ghost invariant = { λ m. IsSorted m.list.items };
+}
+
+/// How an object stands to a kind and a name in the order of a catalog.
+fn compare(object: &Object, kind: Kind, name: Label) -> Ordering
+    ensures { result ≡ key_cmp object.now.kind object.now.name kind name }
+{
+    kind_rank(object.kind)
+        .cmp(&kind_rank(kind))
+        .then(object.name.cmp(&name))
+}
+
+/// Where among sorted members the one of that kind and name stands, or else where it belongs.
+fn place_of(members: &[Member], kind: Kind, name: Label) -> Result<usize, usize>
+    requires { IsSorted members.now }
+    ensures { MatchResult result (StandsAt kind name members.now) (BelongsAt kind name members.now) }
+{
+    let mut low = 0;
+    let mut high = members.len();
+    while low < high {
+        let middle = low + (high - low) / 2;
+        match compare(members[middle].object(), kind, name) {
+            Ordering::Less => low = middle + 1,
+            Ordering::Equal => return Ok(middle),
+            Ordering::Greater => high = middle,
+        }
+    }
+    Err(low)
+}
+
+/// The members with another in the place of one of them.
+fn replaced(mut members: Vec<Member>, place: usize, member: Member) -> Vec<Member>
+    requires { place < length members.items }
+    ensures { result.items ≡ slice_set members.items place member }
+{
+    members[place] = member;
+    members
+}
+
+/// The members with another between them, where it has that place.
+fn inserted(
+    mut members: Vec<Member>,
+    place: usize,
+    member: Member,
+) -> Result<Vec<Member>, AllocError>
+    requires { place ≤ length members.items }
+    ensures { IfOk result (λ new. new.items ≡ take place members.items ++ member ∷ drop place members.items) }
+{
+    members.insert(place, member)?;
+    Ok(members)
+}
+
+/// Puts a member at its place among sorted ones, where it replaces the one of its kind and name.
+fn put_in(members: Vec<Member>, member: Member) -> Result<Vec<Member>, AllocError>
+    requires { IsSorted members.items }
+    ensures { IfOk result (λ new. new.items ≡ put member members.items) }
+{
+    let object = member.object();
+    match place_of(members.as_slice(), object.kind, object.name) {
+        Ok(place) => Ok(replaced(members, place, member)),
+        Err(place) => inserted(members, place, member),
+    }
 }
 
 impl Members {
-    /// No objects.
+    /// No members.
     pub(crate) fn new(alloc: Global) -> Members
         ensures { result ≡ [] }
     {
         Members {
-            by_key: BTreeMap::new(alloc),
+            list: Vec::new(alloc),
         }
     }
 
-    /// Puts an object at its place, where it replaces the one of its kind and name.
-    pub(crate) fn put(&mut self, object: Object) -> Result<(), AllocError>
-        ensures { OnOk result (self.new ≡ put object self.old) }
+    /// The members in their order.
+    pub(crate) fn as_slice(&self) -> &[Member]
+        ensures all { result.now ≡ self.now }
+        ensures sorted { IsSorted self.now }
     {
-        let earlier = self.by_key.insert(key_of(&object), object)?;
-        drop(earlier);
-        Ok(())
+        self.list.as_slice()
     }
 
-    /// Puts copies of objects at their places, one after another.
-    pub(crate) fn put_copies(&mut self, alloc: Global, objects: &[Object]) -> Result<(), AllocError>
-        ensures { OnOk result (self.new ≡ put_all objects.now self.old) }
+    /// The member of that kind and name: none exactly where there is none.
+    pub(crate) fn find(&self, kind: Kind, name: Label) -> Option<&Member>
+        ensures { option_copied result ≡ find_in self.now kind name }
     {
-        for object in objects {
-            self.put(copy_object(alloc, object)?)?;
+        let members = self.as_slice();
+        match place_of(members, kind, name) {
+            Ok(place) => Some(&members[place]),
+            Err(_) => None,
         }
-        Ok(())
     }
 
-    /// The objects in their order.
-    pub(crate) fn into_objects(self, alloc: Global) -> Result<Vec<Object>, AllocError>
-        ensures { IfOk result (λ objects. objects.items ≡ self) }
+    /// The members with another at its place, where it replaces the one of its kind and name.
+    pub(crate) fn put(self, member: Member) -> Result<Members, AllocError>
+        ensures { IfOk result (λ members. members ≡ put member self) }
     {
-        self.by_key.into_values().collect(alloc)
+        Ok(Members {
+            list: put_in(self.list, member)?,
+        })
+    }
+
+    /// The members with others at their places, put there one after another.
+    pub(crate) fn put_all(self, others: &[Member]) -> Result<Members, AllocError>
+        ensures { IfOk result (λ members. members ≡ put_all others.now self) }
+    {
+        let mut members = self;
+        for member in others {
+            members = members.put(member.share()?)?;
+        }
+        Ok(members)
+    }
+
+    /// The same members once more.
+    pub(crate) fn share(&self, alloc: Global) -> Result<Members, AllocError>
+        ensures { IfOk result (λ members. members ≡ self.now) }
+    {
+        Ok(Members {
+            list: shared(alloc, self.as_slice())?,
+        })
+    }
+
+    /// The members but for the one of that kind and name.
+    pub(crate) fn without(
+        &self,
+        alloc: Global,
+        kind: Kind,
+        name: Label,
+    ) -> Result<Members, AllocError>
+        ensures { IfOk result (λ members. members ≡ without kind name self.now) }
+    {
+        Ok(Members {
+            list: shared_without(alloc, self.as_slice(), kind, name)?,
+        })
     }
 }
 
-/// Copies of sorted objects, and of others that are put at their places among them: each replaces the one of its kind
-/// and name.
-#[tactic(auto, using(crate::proofs::PutLemmas::sorted_again))]
-pub(crate) fn combined(
-    alloc: Global,
-    old: &[Object],
-    objects: &[Object],
-) -> Result<Vec<Object>, AllocError>
-    requires { IsSorted old.now }
-    ensures { IfOk result (λ members. members.items ≡ put_all objects.now old.now) }
+/// The same members once more.
+fn shared(alloc: Global, members: &[Member]) -> Result<Vec<Member>, AllocError>
+    ensures { IfOk result (λ shared. shared.items ≡ members.now) }
 {
-    let mut members = Members::new(alloc);
-    members.put_copies(alloc, old)?;
-    members.put_copies(alloc, objects)?;
-    members.into_objects(alloc)
+    let mut shared = Vec::with_capacity(alloc, members.len())?;
+    for member in members {
+        shared.push(member.share()?)?;
+    }
+    Ok(shared)
 }
 
-/// Copies of objects, but for the one of that kind and name.
-pub(crate) fn copies_without(
+/// The same members once more, but for the one of that kind and name.
+fn shared_without(
     alloc: Global,
-    objects: &[Object],
+    members: &[Member],
     kind: Kind,
     name: Label,
-) -> Result<Vec<Object>, AllocError>
-    ensures { IfOk result (λ kept. kept.items ≡ without kind name objects.now) }
+) -> Result<Vec<Member>, AllocError>
+    ensures { IfOk result (λ kept. kept.items ≡ without kind name members.now) }
 {
     let mut kept = Vec::new(alloc);
-    for object in objects {
-        if !is_key(kind, name, object) {
-            kept.push(copy_object(alloc, object)?)?;
+    for member in members {
+        if !is_key(kind, name, member.object()) {
+            kept.push(member.share()?)?;
         }
     }
     Ok(kept)

@@ -7,7 +7,8 @@ ghost use Rattle.slo_catalog.specs.NeedsOp.{sli_named as sli_named_lem, gives_va
 ghost use Rattle.slo_objects.specs.Slo.{slo_in as slo_in_lem};
 
 use crate::bodies::{objectives_of, sli_in, slo_in};
-use crate::catalog::Catalog;
+use crate::member::Member;
+use crate::members::Members;
 use exact_fraction::Label;
 use slo_objects::{Kind, Metric, Object, Objective, Sli, Slo};
 use std::alloc::AllocError;
@@ -21,20 +22,20 @@ pub(crate) struct NeedsOp {
 }
 
 /// The indicator of that name.
-fn sli_named(catalog: &Catalog, name: Label) -> Option<&Sli>
-    ensures { option_copied result ≡ sli_named_lem catalog.now name }
+fn sli_named(members: &Members, name: Label) -> Option<&Sli>
+    ensures { option_copied result ≡ sli_named_lem members.now name }
 {
-    match catalog.find(Kind::Sli, name) {
-        Some(object) => sli_in(&object.body),
+    match members.find(Kind::Sli, name) {
+        Some(member) => sli_in(&member.object().body),
         None => None,
     }
 }
 
 /// Whether the indicator of that name is there and gives values.
-fn gives_values(catalog: &Catalog, name: Label) -> bool
-    ensures { result ≡ gives_values_lem (sli_named_lem catalog.now name) }
+fn gives_values(members: &Members, name: Label) -> bool
+    ensures { result ≡ gives_values_lem (sli_named_lem members.now name) }
 {
-    let Some(sli) = sli_named(catalog, name) else {
+    let Some(sli) = sli_named(members, name) else {
         return false;
     };
     match &sli.metric {
@@ -65,23 +66,23 @@ fn first_lacking(objectives: &[Objective]) -> Option<u32>
     None
 }
 
-fn lacking_in(catalog: &Catalog, slo: &Slo) -> Result<Option<u32>, AllocError>
-    ensures { IfOk result (λ number. number ≡ lacking_in_lem catalog.now (Some slo.now)) }
+fn lacking_in(members: &Members, slo: &Slo) -> Result<Option<u32>, AllocError>
+    ensures { IfOk result (λ number. number ≡ lacking_in_lem members.now (Some slo.now)) }
 {
-    if gives_values(catalog, slo.indicator) {
+    if gives_values(members, slo.indicator) {
         Ok(first_lacking(objectives_of(slo)?))
     } else {
         Ok(None)
     }
 }
 
-fn needing_op(catalog: &Catalog, object: &Object) -> Result<Option<NeedsOp>, AllocError>
-    ensures { IfOk result (λ needs. needs ≡ needing_op_lem catalog.now object.now) }
+fn needing_op(members: &Members, object: &Object) -> Result<Option<NeedsOp>, AllocError>
+    ensures { IfOk result (λ needs. needs ≡ needing_op_lem members.now object.now) }
 {
     let Some(slo) = slo_in(&object.body) else {
         return Ok(None);
     };
-    match lacking_in(catalog, slo)? {
+    match lacking_in(members, slo)? {
         Some(objective) => Ok(Some(NeedsOp {
             slo: object.name,
             objective,
@@ -90,11 +91,11 @@ fn needing_op(catalog: &Catalog, object: &Object) -> Result<Option<NeedsOp>, All
     }
 }
 
-fn first_in(catalog: &Catalog, objects: &[Object]) -> Result<Option<NeedsOp>, AllocError>
-    ensures { IfOk result (λ first. first ≡ first_given (needing_op_lem catalog.now) objects.now) }
+fn first_in(members: &Members, objects: &[Member]) -> Result<Option<NeedsOp>, AllocError>
+    ensures { IfOk result (λ first. first ≡ first_given (needing_op_lem members.now) objects.now) }
 {
-    for object in objects {
-        if let Some(needs) = needing_op(catalog, object)? {
+    for member in objects {
+        if let Some(needs) = needing_op(members, member.object())? {
             return Ok(Some(needs));
         }
     }
@@ -102,16 +103,16 @@ fn first_in(catalog: &Catalog, objects: &[Object]) -> Result<Option<NeedsOp>, Al
 }
 
 /// The first objective that needs `op` or `value`: of the SLOs of the objects in their order, then of those of the
-/// catalog in its order.
+/// members in theirs.
 #[tactic(auto, using(crate::proofs::SearchLemmas::given_by_both))]
 pub(crate) fn first_needing_op(
-    catalog: &Catalog,
-    objects: &[Object],
+    members: &Members,
+    objects: &[Member],
 ) -> Result<Option<NeedsOp>, AllocError>
-    ensures { IfOk result (λ first. first ≡ first_needing_op_lem catalog.now objects.now) }
+    ensures { IfOk result (λ first. first ≡ first_needing_op_lem members.now objects.now) }
 {
-    match first_in(catalog, objects)? {
+    match first_in(members, objects)? {
         Some(needs) => Ok(Some(needs)),
-        None => first_in(catalog, catalog.objects()),
+        None => first_in(members, members.as_slice()),
     }
 }

@@ -6,8 +6,9 @@ ghost use Rattle.slo_objects.specs.declared.kind.Kind.TheVariants as kinds;
 ghost use Rattle.slo_objects.specs.declared.object.Object.{Object};
 ghost use Rattle.slo_catalog.specs.References.{names_in as names_in_lem, data_sources, sources_of, sources_of_ratio, referring, references_of_slo, references_of_policy, references as references_lem, is_built_in as is_built_in_lem, is_built_in_policy as is_built_in_policy_lem, is_resolved as is_resolved_lem, unresolved_of as unresolved_of_lem, first_unresolved as first_unresolved_lem, is_to as is_to_lem, refers_to as refers_to_lem, first_referrer as first_referrer_lem, IsLegal};
 
-use crate::catalog::Catalog;
 use crate::key::kind_rank;
+use crate::member::Member;
+use crate::members::Members;
 use exact_fraction::Label;
 use slo_objects::{
     AlertPolicy, Body, Events, Kind, Metric, MetricSource, Names, Object, Ratio, Sli, Slo,
@@ -169,18 +170,18 @@ fn is_built_in_policy(reference: &Reference) -> bool
 }
 
 /// Whether a reference names a member, or a policy that is always there.
-fn is_resolved(catalog: &Catalog, reference: &Reference) -> bool
-    ensures { result ≡ is_resolved_lem catalog.now reference.now }
+fn is_resolved(members: &Members, reference: &Reference) -> bool
+    ensures { result ≡ is_resolved_lem members.now reference.now }
 {
-    catalog.find(reference.kind, reference.name).is_some() || is_built_in_policy(reference)
+    members.find(reference.kind, reference.name).is_some() || is_built_in_policy(reference)
 }
 
 /// The first of the references that isn't resolved.
-fn unresolved_in(catalog: &Catalog, references: &[Reference]) -> Option<Reference>
-    ensures { result ≡ find (λ r. not (is_resolved_lem catalog.now r)) references.now }
+fn unresolved_in(members: &Members, references: &[Reference]) -> Option<Reference>
+    ensures { result ≡ find (λ r. not (is_resolved_lem members.now r)) references.now }
 {
     for reference in references {
-        if !is_resolved(catalog, reference) {
+        if !is_resolved(members, reference) {
             return Some(*reference);
         }
     }
@@ -189,25 +190,26 @@ fn unresolved_in(catalog: &Catalog, references: &[Reference]) -> Option<Referenc
 
 fn unresolved_of(
     alloc: Global,
-    catalog: &Catalog,
+    members: &Members,
     object: &Object,
 ) -> Result<Option<Reference>, AllocError>
-    ensures { IfOk result (λ first. first ≡ unresolved_of_lem catalog.now object.now) }
+    ensures { IfOk result (λ first. first ≡ unresolved_of_lem members.now object.now) }
 {
     let references = references(alloc, object)?;
-    Ok(unresolved_in(catalog, &references))
+    Ok(unresolved_in(members, &references))
 }
 
-/// The first reference of the objects that isn't resolved in the catalog: in the order of the objects and of their fields.
+/// The first reference of the objects that isn't resolved among the members: in the order of the
+/// objects and of their fields.
 pub(crate) fn first_unresolved(
     alloc: Global,
-    catalog: &Catalog,
-    objects: &[Object],
+    members: &Members,
+    objects: &[Member],
 ) -> Result<Option<Reference>, AllocError>
-    ensures { IfOk result (λ first. first ≡ first_unresolved_lem catalog.now objects.now) }
+    ensures { IfOk result (λ first. first ≡ first_unresolved_lem members.now objects.now) }
 {
-    for object in objects {
-        if let Some(reference) = unresolved_of(alloc, catalog, object)? {
+    for member in objects {
+        if let Some(reference) = unresolved_of(alloc, members, member.object())? {
             return Ok(Some(reference));
         }
     }
@@ -242,15 +244,15 @@ fn refers_to(alloc: Global, kind: Kind, name: &Label, object: &Object) -> Result
 
 fn referrer_in(
     alloc: Global,
-    objects: &[Object],
+    objects: &[Member],
     kind: Kind,
     name: Label,
 ) -> Result<Option<&Object>, AllocError>
     ensures { IfOk result (λ first. option_copied first ≡ first_referrer_lem objects.now kind name) }
 {
     for member in objects {
-        if refers_to(alloc, kind, &name, member)? {
-            return Ok(Some(member));
+        if refers_to(alloc, kind, &name, member.object())? {
+            return Ok(Some(member.object()));
         }
     }
     Ok(None)
@@ -259,13 +261,13 @@ fn referrer_in(
 /// The first member, in the catalog's order, that refers to that kind and name.
 pub(crate) fn first_referrer(
     alloc: Global,
-    catalog: &Catalog,
+    members: &Members,
     kind: Kind,
     name: Label,
 ) -> Result<Option<&Object>, AllocError>
-    ensures { IfOk result (λ first. option_copied first ≡ first_referrer_lem catalog.now kind name) }
+    ensures { IfOk result (λ first. option_copied first ≡ first_referrer_lem members.now kind name) }
 {
-    referrer_in(alloc, catalog.objects(), kind, name)
+    referrer_in(alloc, members.as_slice(), kind, name)
 }
 
 /// The reference that is named as unresolved is the first such one of all that the objects have, in the order of the

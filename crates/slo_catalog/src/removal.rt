@@ -1,26 +1,17 @@
 //! Removals.
 ghost use Rattle.std.specs.Prelude.{◌≡◌, ◌++◌, [], ◌∷◌, List, IfOk};
-ghost use Rattle.slo_catalog.specs.Catalog.{Event, Removed, IsCatalog, without};
-ghost use Rattle.slo_catalog.specs.References.{IsLegal};
+ghost use Rattle.slo_catalog.specs.Catalog.{Event, Removed, IsCatalog};
 ghost use Rattle.slo_catalog.specs.Remove.{Removes, removed};
 
 use crate::catalog::Catalog;
 use crate::fault::{RemoveError, RemoveFault};
-use crate::members::copies_without;
+use crate::members::Members;
 use crate::reference::first_referrer;
 use exact_fraction::Label;
 use slo_objects::Kind;
-use std::alloc::{AllocError, Global};
+use std::alloc::Global;
 
-/// The catalog of copies of the old objects but for the one of that kind and name.
-fn left(alloc: Global, old: &Catalog, kind: Kind, name: Label) -> Result<Catalog, AllocError>
-    ensures { IfOk result (λ catalog. catalog ≡ without kind name old.now) }
-{
-    let members = copies_without(alloc, old.objects(), kind, name)?;
-    Ok(Catalog::of(members))
-}
-
-fn remove_one(alloc: Global, old: &Catalog, kind: Kind, name: Label) -> Result<Catalog, RemoveError>
+fn remove_one(alloc: Global, old: &Members, kind: Kind, name: Label) -> Result<Members, RemoveError>
     ensures { Removes result (removed old.now kind name) }
 {
     if old.find(kind, name).is_none() {
@@ -32,18 +23,28 @@ fn remove_one(alloc: Global, old: &Catalog, kind: Kind, name: Label) -> Result<C
             by_name: user.name,
         }));
     }
-    Ok(left(alloc, old, kind, name)?)
+    Ok(old.without(alloc, kind, name)?)
 }
 
-/// The catalog without the object of that kind and name.
+/// The catalog of what is left.
+fn removed_by(alloc: Global, old: &Catalog, kind: Kind, name: Label) -> Result<Catalog, RemoveError>
+    ensures { Removes result (removed old.now kind name) }
+{
+    match remove_one(alloc, old.sorted(), kind, name) {
+        Ok(members) => Ok(Catalog::of(members)),
+        Err(fault) => Err(fault),
+    }
+}
+
+/// The catalog without the object of that kind and name. The members that stay are shared.
 ///
 /// # Errors
 ///
-/// There is no such member; or the first member, in the catalog's order, that refers to it. Or memory ran out.
+/// There is no such member; or the first member, in the catalog's order, that refers to it. Or
+/// memory ran out.
 pub fn remove(alloc: Global, old: &Catalog, kind: Kind, name: Label) -> Result<Catalog, RemoveError>
     ensures exact { Removes result (removed old.now kind name) }
     ensures history { (events : List Event) → IsCatalog events old.now → IfOk result (λ catalog. IsCatalog (events ++ Removed kind name ∷ []) catalog) }
-    ensures legal { IsLegal old.now → IfOk result (λ catalog. IsLegal catalog) }
 {
-    remove_one(alloc, old, kind, name)
+    removed_by(alloc, old, kind, name)
 }

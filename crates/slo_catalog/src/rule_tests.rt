@@ -1,448 +1,498 @@
-//! References, objectives over values, bindings and limits: the faults of texts, and the bindings of catalogs.
-use crate::test_texts::objects_of;
-use crate::{
-    Binding, Catalog, CatalogFault, CatalogLimit, DefineError, RemoveError, RemoveFault, define,
-    remove,
-};
-use exact_fraction::read_label;
-use slo_objects::Kind;
+//! References, objectives over values, bindings and limits: the faults of texts, and what is
+//! bound in catalogs.
+
+use crate::Catalog;
+use crate::test_texts::{SLO, defined, document, text_of, wrong_in};
 use std::alloc::{AllocError, Global};
-use std::string::String;
 use std::test::Fail;
 
-/// A document of a kind and a name, and the line before the next one.
-fn document(alloc: Global, kind: &str, name: &str, spec: &str) -> Result<String, AllocError> {
-    format!(in alloc;
-        "apiVersion: openslo/v1\nkind: {kind}\nmetadata:\n  name: {name}\nspec:\n{spec}---\n"
-    )
-}
-
-/// What becomes of a catalog and the objects of a text.
-fn defined(alloc: Global, old: &Catalog, text: &str) -> Option<Result<Catalog, CatalogFault>> {
-    let objects = objects_of(alloc, text)?;
-    match define(alloc, old, objects.as_slice()) {
-        Ok(catalog) => Some(Ok(catalog)),
-        Err(DefineError::Fault(fault)) => Some(Err(fault)),
-        Err(DefineError::NoMemory) => None,
-    }
-}
-
-/// The catalog of a text's objects alone.
-fn catalog_of(alloc: Global, text: &str) -> Option<Catalog> {
-    match defined(alloc, &Catalog::new(alloc), text)? {
-        Ok(catalog) => Some(catalog),
-        Err(_) => None,
-    }
-}
-
-/// The fault of a text's objects in a catalog.
-fn fault_in(alloc: Global, old: &Catalog, text: &str) -> Option<CatalogFault> {
-    match defined(alloc, old, text)? {
-        Ok(catalog) => {
-            drop(catalog);
-            None
-        }
-        Err(fault) => Some(fault),
-    }
-}
-
-/// The fault of a text's objects alone.
-fn fault_of(alloc: Global, text: &str) -> Option<CatalogFault> {
-    fault_in(alloc, &Catalog::new(alloc), text)
-}
-
-/// The `spec` of an SLO of the service `shop`.
-const SLO: &str =
-    "  service: shop\n  indicatorRef: speed\n  timeWindow:\n  - duration: 30d\n    isRolling: true\n  budgetingMethod: Occurrences\n";
-
-const SHOP: &str =
-    "apiVersion: openslo/v1\nkind: Service\nmetadata:\n  name: shop\nspec: {}\n---\n";
-
-/// The indicator `speed`, as a ratio and as values.
-const RATIO: &str =
-    "apiVersion: openslo/v1\nkind: SLI\nmetadata:\n  name: speed\nspec:\n  ratioMetric:\n    total:\n      metricSource: {}\n    good:\n      metricSource: {}\n---\n";
-
-const VALUES: &str =
-    "apiVersion: openslo/v1\nkind: SLI\nmetadata:\n  name: speed\nspec:\n  thresholdMetric:\n    metricSource: {}\n---\n";
-
-/// Objects, and the first reference that names no member.
-const DANGLING: [(&str, &str, Kind, Kind, &str); 7] = [
-    (
-        "SLI",
-        "  thresholdMetric:\n    metricSource:\n      metricSourceRef: a\n",
-        Kind::Sli,
-        Kind::DataSource,
-        "a",
-    ),
-    (
-        "SLI",
-        "  ratioMetric:\n    raw:\n      metricSource:\n        metricSourceRef: a\n    rawType: success\n",
-        Kind::Sli,
-        Kind::DataSource,
-        "a",
-    ),
-    (
-        "SLI",
-        "  ratioMetric:\n    bad:\n      metricSource:\n        metricSourceRef: a\n    total:\n      metricSource:\n        metricSourceRef: b\n",
-        Kind::Sli,
-        Kind::DataSource,
-        "b",
-    ),
-    (
-        "SLI",
-        "  ratioMetric:\n    bad:\n      metricSource:\n        metricSourceRef: a\n    total:\n      metricSource: {}\n",
-        Kind::Sli,
-        Kind::DataSource,
-        "a",
-    ),
-    (
-        "AlertPolicy",
-        "  notificationTargets:\n  - targetRef: a\n  - targetRef: b\n  conditions:\n  - conditionRef: c\n",
-        Kind::AlertPolicy,
-        Kind::AlertCondition,
-        "c",
-    ),
-    (
-        "AlertPolicy",
-        "  notificationTargets:\n  - targetRef: a\n  - targetRef: b\n",
-        Kind::AlertPolicy,
-        Kind::AlertNotificationTarget,
-        "a",
-    ),
-    (
-        "AlertPolicy",
-        "  conditions:\n  - conditionRef: workbook-page\n",
-        Kind::AlertPolicy,
-        Kind::AlertCondition,
-        "workbook-page",
-    ),
-];
-
-fn is_dangling(
-    fault: &Option<CatalogFault>,
-    from_kind: Kind,
-    from_name: &str,
-    kind: Kind,
-    name: &str,
-) -> bool {
-    match fault {
-        Some(
-            CatalogFault::Unresolved {
-                from_kind: referring,
-                from_name: referrer,
-                kind: named,
-                name: missing,
-            },
-        ) => {
-            *referring == from_kind
-                && referrer.as_str() == from_name
-                && *named == kind
-                && missing.as_str() == name
-        }
-        _ => false,
-    }
+/// The first reference that names no member: of an object, in the order of its fields.
+fn references() -> &'static str {
+    "+ SLI first
+  thresholdMetric:
+    metricSource:
+      metricSourceRef: a
+=> Sli first needs DataSource a
+====
++ SLI first
+  ratioMetric:
+    raw:
+      metricSource:
+        metricSourceRef: a
+    rawType: success
+=> Sli first needs DataSource a
+====
++ SLI first
+  ratioMetric:
+    bad:
+      metricSource:
+        metricSourceRef: a
+    total:
+      metricSource:
+        metricSourceRef: b
+=> Sli first needs DataSource b
+====
++ SLI first
+  ratioMetric:
+    bad:
+      metricSource:
+        metricSourceRef: a
+    total:
+      metricSource: {}
+=> Sli first needs DataSource a
+====
++ AlertPolicy first
+  notificationTargets:
+  - targetRef: a
+  - targetRef: b
+  conditions:
+  - conditionRef: c
+=> AlertPolicy first needs AlertCondition c
+====
++ AlertPolicy first
+  notificationTargets:
+  - targetRef: a
+  - targetRef: b
+=> AlertPolicy first needs AlertNotificationTarget a
+====
++ AlertPolicy first
+  conditions:
+  - conditionRef: workbook-page
+=> AlertPolicy first needs AlertCondition workbook-page
+====
++ SLO first
+@slo
+  objectives:
+  - target: 0.9
+  alertPolicies: [workbook-page, workbook-ticket, pages]
+=> Slo first needs Service shop
+====
++ SLO first
+@slo
+  objectives:
+  - target: 0.9
+  alertPolicies: [workbook-page, workbook-ticket, pages]
++ Service shop
+  {}
+=> Slo first needs Sli speed
+====
++ SLO first
+@slo
+  objectives:
+  - target: 0.9
+  alertPolicies: [workbook-page, workbook-ticket, pages]
++ SLI speed
+  ratioMetric:
+    total:
+      metricSource: {}
+    good:
+      metricSource: {}
++ Service shop
+  {}
+=> Slo first needs AlertPolicy pages"
 }
 
 #[test]
 fn the_first_reference_to_nothing_is_named(rt: HostRuntime) -> Result<(), Fail> {
-    for (kind, spec, from_kind, missing_kind, missing) in DANGLING {
-        let text = document(rt.alloc(), kind, "first", spec)?;
-        let fault = fault_of(rt.alloc(), &text);
-        assert!(rt; is_dangling(&fault, from_kind, "first", missing_kind, missing));
-    }
+    assert_eq!(rt; wrong_in(rt.alloc(), references())?.as_str(), "");
     Ok(())
 }
 
-#[test]
-fn the_references_of_an_slo_are_tried_in_order(rt: HostRuntime) -> Result<(), Fail> {
-    let policies = format!(in rt.alloc();
-        "{SLO}  objectives:\n  - target: 0.9\n  alertPolicies: [workbook-page, workbook-ticket, pages]\n"
-    )?;
-    let slo = document(rt.alloc(), "SLO", "first", &policies)?;
-    let fault = fault_of(rt.alloc(), &slo);
-    assert!(rt; is_dangling(&fault, Kind::Slo, "first", Kind::Service, "shop"));
-    let text = format!(in rt.alloc(); "{slo}{SHOP}")?;
-    let fault = fault_of(rt.alloc(), &text);
-    assert!(rt; is_dangling(&fault, Kind::Slo, "first", Kind::Sli, "speed"));
-    let text = format!(in rt.alloc(); "{slo}{RATIO}{SHOP}")?;
-    let fault = fault_of(rt.alloc(), &text);
-    assert!(rt; is_dangling(&fault, Kind::Slo, "first", Kind::AlertPolicy, "pages"));
-    Ok(())
+/// The first objective that no value can be compared with: of the SLOs of the text, then of the
+/// others.
+fn objectives() -> &'static str {
+    "+ Service shop
+  {}
+~
+####
++ SLO fast
+@slo
+  objectives:
+  - target: 0.9
++ SLI speed
+  thresholdMetric:
+    metricSource: {}
+=> NeedsOp { slo: Label(fast), objective: 0 }
+====
++ SLO fast
+@slo
+  objectives:
+  - target: 0.9
+    op: lt
++ SLI speed
+  thresholdMetric:
+    metricSource: {}
+=> NeedsOp { slo: Label(fast), objective: 0 }
+====
++ SLO fast
+@slo
+  objectives:
+  - target: 0.9
+    op: lt
+    value: 1
+  - target: 0.8
+    value: 1
++ SLI speed
+  thresholdMetric:
+    metricSource: {}
+=> NeedsOp { slo: Label(fast), objective: 1 }
+====
++ SLO fast
+@slo
+  objectives:
+  - target: 0.9
+    op: lt
+    value: 1
+  - target: 0.8
+    value: 1
+    op: gte
+  - target: 0.7
++ SLI speed
+  thresholdMetric:
+    metricSource: {}
+=> NeedsOp { slo: Label(fast), objective: 2 }
+====
++ SLO fast
+@slo
+  objectives:
+  - target: 0.9
++ SLI speed
+  ratioMetric:
+    total:
+      metricSource: {}
+    good:
+      metricSource: {}
+=> Service shop
+Sli speed
+Slo fast
+====
++ SLO fast
+@slo
+  objectives:
+  - target: 0.9
+    op: lt
+    value: 1
++ SLI speed
+  thresholdMetric:
+    metricSource: {}
+=> Service shop
+Sli speed
+Slo fast
+====
++ SLI speed
+  ratioMetric:
+    total:
+      metricSource: {}
+    good:
+      metricSource: {}
++ SLO b
+@slo
+  objectives:
+  - target: 0.9
++ SLO a
+@slo
+  objectives:
+  - target: 0.9
+~
++ SLI speed
+  thresholdMetric:
+    metricSource: {}
+=> NeedsOp { slo: Label(a), objective: 0 }
+====
++ SLI speed
+  ratioMetric:
+    total:
+      metricSource: {}
+    good:
+      metricSource: {}
++ SLO b
+@slo
+  objectives:
+  - target: 0.9
++ SLO a
+@slo
+  objectives:
+  - target: 0.9
+~
++ SLI speed
+  thresholdMetric:
+    metricSource: {}
++ SLO b
+@slo
+  objectives:
+  - target: 0.9
+=> NeedsOp { slo: Label(b), objective: 0 }"
 }
-
-fn needs_op(fault: &Option<CatalogFault>, name: &str, number: u32) -> bool {
-    match fault {
-        Some(CatalogFault::NeedsOp { slo, objective }) => {
-            slo.as_str() == name && *objective == number
-        }
-        _ => false,
-    }
-}
-
-/// Objectives, and the number of the first that no value can be compared with.
-const OBJECTIVES: [(&str, u32); 4] = [
-    ("  objectives:\n  - target: 0.9\n", 0),
-    ("  objectives:\n  - target: 0.9\n    op: lt\n", 0),
-    (
-        "  objectives:\n  - target: 0.9\n    op: lt\n    value: 1\n  - target: 0.8\n    value: 1\n",
-        1,
-    ),
-    (
-        "  objectives:\n  - target: 0.9\n    op: lt\n    value: 1\n  - target: 0.8\n    value: 1\n    op: gte\n  - target: 0.7\n",
-        2,
-    ),
-];
 
 #[test]
 fn objectives_over_values_need_op_and_value(rt: HostRuntime) -> Result<(), Fail> {
-    for (objectives, number) in OBJECTIVES {
-        let spec = format!(in rt.alloc(); "{SLO}{objectives}")?;
-        let slo = document(rt.alloc(), "SLO", "fast", &spec)?;
-        let text = format!(in rt.alloc(); "{slo}{SHOP}{VALUES}")?;
-        assert!(rt; needs_op(&fault_of(rt.alloc(), &text), "fast", number));
-        let text = format!(in rt.alloc(); "{slo}{SHOP}{RATIO}")?;
-        assert!(rt; catalog_of(rt.alloc(), &text).is_some());
-    }
+    assert_eq!(rt; wrong_in(rt.alloc(), objectives())?.as_str(), "");
     Ok(())
+}
+
+/// Bindings stand by SLO, objective and policy, and the first of those that refer to an object is
+/// named.
+fn bindings() -> &'static str {
+    "+ Service shop
+  {}
++ SLI speed
+  ratioMetric:
+    total:
+      metricSource: {}
+    good:
+      metricSource: {}
++ AlertPolicy empty
+  conditions: []
++ AlertPolicy bare
+  {}
++ AlertPolicy pages
+  conditions:
+  - metadata:
+      name: fast
+    spec:
+      severity: page
+      condition:
+        kind: burnrate
+        op: gt
+        threshold: 2
+        lookbackWindow: 1h
+~
+####
++ SLO d
+@slo
+  objectives:
+  - target: 0.9
+  alertPolicies: []
++ SLO c
+@slo
+  objectives:
+  - target: 0.9
+  alertPolicies: [workbook-page]
++ SLO b
+@slo
+  objectives:
+  - target: 0.9
+  - target: 0.99
+  alertPolicies: [workbook-ticket, empty, pages, bare]
++ SLO a
+@slo
+  objectives:
+  - target: 0.9
+  alertPolicies: [pages, empty]
+=> Service shop
+Sli speed
+Slo a
+Slo b
+Slo c
+Slo d
+AlertPolicy bare
+AlertPolicy empty
+AlertPolicy pages
+AlertCondition fast
+a 0 pages
+b 0 workbook-ticket
+b 0 pages
+b 1 workbook-ticket
+b 1 pages
+c 0 workbook-page
+====
++ SLO b
+@slo
+  objectives:
+  - target: 0.9
+  alertPolicies: [pages]
++ SLO a
+@slo
+  objectives:
+  - target: 0.9
+  alertPolicies: []
+~
+- Service shop
+=> InUse { by_kind: Slo, by_name: Label(a) }
+====
++ SLO b
+@slo
+  objectives:
+  - target: 0.9
+  alertPolicies: [pages]
++ SLO a
+@slo
+  objectives:
+  - target: 0.9
+  alertPolicies: []
+~
+- SLI speed
+=> InUse { by_kind: Slo, by_name: Label(a) }
+====
++ SLO b
+@slo
+  objectives:
+  - target: 0.9
+  alertPolicies: [pages]
++ SLO a
+@slo
+  objectives:
+  - target: 0.9
+  alertPolicies: []
+~
+- AlertPolicy pages
+=> InUse { by_kind: Slo, by_name: Label(b) }
+====
++ SLO b
+@slo
+  objectives:
+  - target: 0.9
+  alertPolicies: [pages]
++ SLO a
+@slo
+  objectives:
+  - target: 0.9
+  alertPolicies: []
+~
+- AlertCondition fast
+=> InUse { by_kind: AlertPolicy, by_name: Label(pages) }
+====
++ SLO b
+@slo
+  objectives:
+  - target: 0.9
+  alertPolicies: [pages]
++ SLO a
+@slo
+  objectives:
+  - target: 0.9
+  alertPolicies: []
+~
+- AlertPolicy empty
+=> Service shop
+Sli speed
+Slo a
+Slo b
+AlertPolicy bare
+AlertPolicy pages
+AlertCondition fast
+b 0 pages"
 }
 
 #[test]
-fn the_slos_of_the_text_come_before_the_others(rt: HostRuntime) -> Result<(), Fail> {
-    let spec = format!(in rt.alloc(); "{SLO}  objectives:\n  - target: 0.9\n")?;
-    let b = document(rt.alloc(), "SLO", "b", &spec)?;
-    let a = document(rt.alloc(), "SLO", "a", &spec)?;
-    let text = format!(in rt.alloc(); "{SHOP}{RATIO}{b}{a}")?;
-    let Some(catalog) = catalog_of(rt.alloc(), &text) else {
-        assert!(rt; false);
-        return Ok(());
-    };
-    assert!(rt; needs_op(&fault_in(rt.alloc(), &catalog, VALUES), "a", 0));
-    let text = format!(in rt.alloc(); "{VALUES}{b}")?;
-    assert!(rt; needs_op(&fault_in(rt.alloc(), &catalog, &text), "b", 0));
+fn bindings_and_referrers_stand_in_order(rt: HostRuntime) -> Result<(), Fail> {
+    assert_eq!(rt; wrong_in(rt.alloc(), bindings())?.as_str(), "");
     Ok(())
 }
 
-/// Policies: `pages` has a condition, `empty` and `bare` have none.
-const POLICIES: &str =
-    "apiVersion: openslo/v1\nkind: AlertPolicy\nmetadata:\n  name: empty\nspec:\n  conditions: []\n---\napiVersion: openslo/v1\nkind: AlertPolicy\nmetadata:\n  name: bare\nspec: {}\n---\napiVersion: openslo/v1\nkind: AlertPolicy\nmetadata:\n  name: pages\nspec:\n  conditions:\n  - metadata:\n      name: fast\n    spec:\n      severity: page\n      condition:\n        kind: burnrate\n        op: gt\n        threshold: 2\n        lookbackWindow: 1h\n---\n";
-
-const BINDINGS: [(&str, u32, &str); 6] = [
-    ("a", 0, "pages"),
-    ("b", 0, "workbook-ticket"),
-    ("b", 0, "pages"),
-    ("b", 1, "workbook-ticket"),
-    ("b", 1, "pages"),
-    ("c", 0, "workbook-page"),
-];
-
-fn are_bindings(bindings: &[Binding], expected: &[(&str, u32, &str)]) -> bool {
-    if bindings.len() != expected.len() {
-        return false;
-    }
-    for at in 0..bindings.len() {
-        let (slo, objective, policy) = expected[at];
-        if bindings[at].slo.as_str() != slo
-            || bindings[at].objective != objective
-            || bindings[at].policy.as_str() != policy
-        {
-            return false;
-        }
-    }
-    true
-}
-
-/// An SLO with objectives and policies.
-fn slo(alloc: Global, name: &str, objectives: &str, policies: &str) -> Result<String, AllocError> {
-    let spec = format!(in alloc; "{SLO}  objectives:\n{objectives}  alertPolicies: {policies}\n")?;
-    document(alloc, "SLO", name, &spec)
-}
-
-#[test]
-fn bindings_stand_by_slo_objective_and_policy(rt: HostRuntime) -> Result<(), Fail> {
-    let two = "  - target: 0.9\n  - target: 0.99\n";
-    let b = slo(
-        rt.alloc(),
-        "b",
-        two,
-        "[workbook-ticket, empty, pages, bare]",
-    )?;
-    let c = slo(rt.alloc(), "c", "  - target: 0.9\n", "[workbook-page]")?;
-    let d = slo(rt.alloc(), "d", "  - target: 0.9\n", "[]")?;
-    let a = slo(rt.alloc(), "a", "  - target: 0.9\n", "[pages, empty]")?;
-    let text = format!(in rt.alloc(); "{d}{c}{b}{a}{SHOP}{RATIO}{POLICIES}")?;
-    let Some(catalog) = catalog_of(rt.alloc(), &text) else {
-        assert!(rt; false);
-        return Ok(());
-    };
-    let bindings = catalog.bindings(rt.alloc())?;
-    assert!(rt; are_bindings(&bindings, &BINDINGS));
-    Ok(())
-}
-
-fn is_use_by(fault: &RemoveFault, by: &str) -> bool {
-    match fault {
-        RemoveFault::InUse {
-            by_kind: _,
-            by_name,
-        } => by_name.as_str() == by,
-        RemoveFault::NotFound => false,
-    }
-}
-
-/// Whether it is refused to remove an object, since this one refers to it.
-fn is_used_by(catalog: &Catalog, alloc: Global, kind: Kind, name: &str, by: &str) -> bool {
-    let Some(label) = read_label(name.as_bytes()) else {
-        return false;
-    };
-    match remove(alloc, catalog, kind, label) {
-        Ok(left) => {
-            drop(left);
-            false
-        }
-        Err(RemoveError::Fault(fault)) => is_use_by(&fault, by),
-        Err(RemoveError::NoMemory) => false,
-    }
-}
-
-#[test]
-fn the_first_referrer_is_named(rt: HostRuntime) -> Result<(), Fail> {
-    let b = slo(rt.alloc(), "b", "  - target: 0.9\n", "[pages]")?;
-    let a = slo(rt.alloc(), "a", "  - target: 0.9\n", "[]")?;
-    let text = format!(in rt.alloc(); "{b}{a}{SHOP}{RATIO}{POLICIES}")?;
-    let Some(catalog) = catalog_of(rt.alloc(), &text) else {
-        assert!(rt; false);
-        return Ok(());
-    };
-    assert!(rt; is_used_by(&catalog, rt.alloc(), Kind::Service, "shop", "a"));
-    assert!(rt; is_used_by(&catalog, rt.alloc(), Kind::Sli, "speed", "a"));
-    assert!(rt; is_used_by(&catalog, rt.alloc(), Kind::AlertPolicy, "pages", "b"));
-    assert!(rt; is_used_by(&catalog, rt.alloc(), Kind::AlertCondition, "fast", "pages"));
-    assert!(rt; !is_used_by(&catalog, rt.alloc(), Kind::AlertPolicy, "empty", "a"));
-    Ok(())
-}
-
-/// Texts with so many documents of one kind, each with a name of its own.
-fn many(alloc: Global, kind: &str, spec: &str, count: u32) -> Option<String> {
+/// So many documents of one kind, each with a name of its own.
+fn many(alloc: Global, kind: &str, spec: &str, count: u32) -> Result<String, AllocError> {
     let mut text = String::new(alloc);
     for number in 0..count {
-        let name = format!(in alloc; "n{number}").ok()?;
-        let next = document(alloc, kind, &name, spec).ok()?;
-        text.push_str(&next).ok()?;
+        let name = format!(in alloc; "n{number}")?;
+        text.push_str(&document(alloc, kind, &name, spec)?)?;
     }
-    Some(text)
+    Ok(text)
 }
 
-fn is_limit(fault: &Option<CatalogFault>, limit: CatalogLimit) -> bool {
-    match fault {
-        Some(CatalogFault::Limit(which)) => *which == limit,
-        _ => false,
+/// The fault of a text in a catalog of its own; empty if it has none.
+fn fault_of(alloc: Global, text: &str) -> Option<String> {
+    match defined(alloc, &Catalog::new(alloc), text)? {
+        Ok(_catalog) => Some(String::new(alloc)),
+        Err(fault) => Some(fault),
     }
 }
 
-/// Whether so many objects of a kind can be defined beside others, and one more can't.
-fn ends_at(
-    alloc: Global,
-    others: &str,
-    kind: &str,
-    spec: &str,
-    most: u32,
-    limit: CatalogLimit,
-) -> Option<bool> {
-    let within = many(alloc, kind, spec, most)?;
+/// Whether a text has no fault, and one that is longer passes that limit.
+fn ends_between(alloc: Global, within: &str, above: &str, limit: &str) -> Option<bool> {
+    let fault = fault_of(alloc, above)?;
+    Some(fault_of(alloc, within)?.is_empty() && fault.strip_suffix("\n") == Some(limit))
+}
+
+/// Whether so many documents of a kind are taken beside others, and one more isn't.
+fn ends_at(alloc: Global, limit: &str, most: u32) -> Option<bool> {
+    let (limit, rest) = limit.split_once("\n")?;
+    let (kind, rest) = rest.split_once("\n")?;
+    let (spec, others) = rest.split_once("\n+ ").unwrap_or((rest, ""));
+    let others = text_of(alloc, others).ok()?;
+    let spec = spec.replace(alloc, "@slo\n", SLO).ok()?;
+    let within = many(alloc, kind, &spec, most).ok()?;
+    let above = document(alloc, kind, "above", &spec).ok()?;
     let within = format!(in alloc; "{others}{within}").ok()?;
-    let above = document(alloc, kind, "above", spec).ok()?;
     let above = format!(in alloc; "{within}{above}").ok()?;
-    Some(catalog_of(alloc, &within).is_some() && is_limit(&fault_of(alloc, &above), limit))
+    ends_between(alloc, &within, &above, limit)
 }
 
-const GOOD: &str =
-    "  ratioMetric:\n    total:\n      metricSource: {}\n    good:\n      metricSource: {}\n";
-
-#[test]
-fn a_catalog_has_at_most_2000_objects(rt: HostRuntime) {
-    let ends = ends_at(
-        rt.alloc(),
-        "",
-        "Service",
-        "  {}\n",
-        2_000,
-        CatalogLimit::Objects,
-    );
-    assert!(rt; ends == Some(true));
+/// Limits, the kind and the `spec` of the documents that are counted, and what stands before
+/// them. An SLO of the last has ten bindings.
+fn limits() -> &'static str {
+    "Limit(Objects)
+Service
+  {}
+====
+Limit(Slis)
+SLI
+  ratioMetric:
+    total:
+      metricSource: {}
+    good:
+      metricSource: {}
+====
+Limit(Slos)
+SLO
+@slo
+  objectives:
+  - target: 0.9
++ Service shop
+  {}
++ SLI speed
+  ratioMetric:
+    total:
+      metricSource: {}
+    good:
+      metricSource: {}
+====
+Limit(Bindings)
+SLO
+@slo
+  objectives:
+  - target: 0.9
+  - target: 0.8
+  - target: 0.7
+  - target: 0.6
+  - target: 0.5
+  alertPolicies: [workbook-page, workbook-ticket]
++ Service shop
+  {}
++ SLI speed
+  ratioMetric:
+    total:
+      metricSource: {}
+    good:
+      metricSource: {}"
 }
 
 #[test]
-fn a_catalog_has_at_most_200_slis(rt: HostRuntime) {
-    let ends = ends_at(rt.alloc(), "", "SLI", GOOD, 200, CatalogLimit::Slis);
-    assert!(rt; ends == Some(true));
-}
-
-#[test]
-fn a_catalog_has_at_most_200_slos(rt: HostRuntime) -> Result<(), Fail> {
-    let others = format!(in rt.alloc(); "{SHOP}{RATIO}")?;
-    let spec = format!(in rt.alloc(); "{SLO}  objectives:\n  - target: 0.9\n")?;
-    let ends = ends_at(rt.alloc(), &others, "SLO", &spec, 200, CatalogLimit::Slos);
-    assert!(rt; ends == Some(true));
+fn a_catalog_has_limits(rt: HostRuntime) -> Result<(), Fail> {
+    let counts = [2_000, 200, 200, 40];
+    for (limit, most) in limits().split("\n====\n").zip(counts) {
+        assert_eq!(rt; ends_at(rt.alloc(), limit, most), Some(true), "{limit}");
+    }
     Ok(())
 }
 
+/// A data source whose details are a list, as deep as may be, of so many items, and whose type
+/// has so many letters.
+fn deep(alloc: Global, items: usize, letters: usize) -> Result<String, AllocError> {
+    let dashes = "- ".repeat(alloc, 29)?;
+    let items = "a,".repeat(alloc, items)?;
+    let letters = "x".repeat(alloc, letters)?;
+    let spec = format!(in alloc; "  type: {letters}\n  connectionDetails:\n    {dashes}[{items}]")?;
+    document(alloc, "DataSource", "deep", &spec)
+}
+
+/// Each item is written in a line of 66 bytes, and what stands before them in 103 bytes and the
+/// letters.
 #[test]
-fn a_catalog_has_at_most_400_bindings(rt: HostRuntime) -> Result<(), Fail> {
-    let spec = format!(in rt.alloc();
-        "{SLO}  objectives:\n  - target: 0.9\n  - target: 0.99\n  alertPolicies: [workbook-page]\n"
-    )?;
-    let Some(slos) = many(rt.alloc(), "SLO", &spec, 199) else {
-        assert!(rt; false);
-        return Ok(());
-    };
-    let two = slo(
-        rt.alloc(),
-        "last",
-        "  - target: 0.9\n  - target: 0.8\n",
-        "[workbook-page]",
-    )?;
-    let three = slo(
-        rt.alloc(),
-        "last",
-        "  - target: 0.9\n  - target: 0.8\n  - target: 0.7\n",
-        "[workbook-page]",
-    )?;
-    let within = format!(in rt.alloc(); "{SHOP}{RATIO}{slos}{two}")?;
-    let above = format!(in rt.alloc(); "{SHOP}{RATIO}{slos}{three}")?;
-    assert!(rt; catalog_of(rt.alloc(), &within).is_some());
-    assert!(rt; is_limit(&fault_of(rt.alloc(), &above), CatalogLimit::Bindings));
+fn a_catalog_has_at_most_16777216_bytes(rt: HostRuntime) -> Result<(), Fail> {
+    let within = deep(rt.alloc(), 254_190, 573)?;
+    let above = deep(rt.alloc(), 254_190, 574)?;
+    let ends = ends_between(rt.alloc(), &within, &above, "Limit(Catalog)");
+    assert_eq!(rt; ends, Some(true));
     Ok(())
-}
-
-fn repeated(alloc: Global, piece: &str, count: u32) -> Option<String> {
-    let mut text = String::new(alloc);
-    for _ in 0..count {
-        text.push_str(piece).ok()?;
-    }
-    Some(text)
-}
-
-/// A data source whose details are a list, as deep as may be, of so many items, and whose type has so many letters.
-fn deep(alloc: Global, items: u32, letters: u32) -> Option<String> {
-    let dashes = repeated(alloc, "- ", 29)?;
-    let items = repeated(alloc, "a,", items)?;
-    let letters = repeated(alloc, "x", letters)?;
-    let spec = format!(in alloc;
-        "  type: {letters}\n  connectionDetails:\n    {dashes}[{items}]\n"
-    ).ok()?;
-    document(alloc, "DataSource", "deep", &spec).ok()
-}
-
-// Each item is written in a line of 66 bytes, and what stands before them in 103 bytes and the letters.
-#[test]
-fn a_catalog_has_at_most_16777216_bytes(rt: HostRuntime) {
-    let within = deep(rt.alloc(), 254_190, 573);
-    let above = deep(rt.alloc(), 254_190, 574);
-    match (within, above) {
-        (Some(within), Some(above)) => {
-            assert!(rt; catalog_of(rt.alloc(), &within).is_some());
-            assert!(rt; is_limit(&fault_of(rt.alloc(), &above), CatalogLimit::Catalog));
-        }
-        _ => assert!(rt; false),
-    }
 }

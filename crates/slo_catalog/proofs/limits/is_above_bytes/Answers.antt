@@ -10,8 +10,8 @@ above total bytes taken read all most t b within h = grind (arith, nat_tests, t,
 -- the bytes of one more object are within those of all
 pub returns-then-total-gt-MAX_CATALOG_BYTES : goal.returns-then-total-gt-MAX_CATALOG_BYTES
 returns-then-total-gt-MAX_CATALOG_BYTES c =
-    let place : c.loop-object.object-index < length c.args.objects.now = search rules in
-    let same : get_or c.args.objects.now c.loop-object.object-index c.object-item.result ≡ c.object-item.result = search rules in
-    let exact : c.in_ok-total.field-0 ≡ written_bytes c.object-item.result = search rules in
-    let more = sum_by_more_le written_bytes c.args.objects.now c.loop-object.object-index c.object-item.result place in
-    above _ _ _ _ _ _ c.loop-object.invariant.told (exact ∙ sym (ap written_bytes same)) more c.if-total-gt-MAX_CATALOG_BYTES.true
+    let place : c.loop-member.member-index < length c.args.members.now = search rules in
+    let same : get_or c.args.members.now c.loop-member.member-index c.member-item.result ≡ c.member-item.result = search rules in
+    let exact : c.bytes-total.result ≡ written_bytes c.member-item.result = search rules in
+    let more = sum_by_more_le written_bytes c.args.members.now c.loop-member.member-index c.member-item.result place in
+    above _ _ _ _ _ _ c.loop-member.invariant.told (exact ∙ sym (ap written_bytes same)) more c.if-total-gt-MAX_CATALOG_BYTES.true

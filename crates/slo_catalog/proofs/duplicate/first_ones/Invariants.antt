@@ -1,6 +1,6 @@
 use Rattle.std.proofs.Common.{◌≡◌, ◌≤◌, drop, length}
 use Rattle.slo_catalog.specs.Define.{firsts}
-use Rattle.slo_catalog.proofs.duplicate.first_members.Given as goal
+use Rattle.slo_catalog.proofs.duplicate.first_ones.Given as goal
 
 abbrev pub decreases-loop-left : goal.decreases-loop-left
 decreases-loop-left l = l.left
