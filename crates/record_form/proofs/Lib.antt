@@ -1,0 +1,5 @@
+mod FormLemmas
+mod HistoryLemmas
+mod LoopLemmas
+mod RecordLemmas
+mod SizeLemmas

@@ -1,0 +1,40 @@
+-- Laws of records.
+use Rattle.std.specs.Prelude.{◌≡◌, ◌++◌, ◌∷◌, [], ◌≤◌, ℕ, List, length, Some}
+use Rattle.std.specs.List.{AllByRecursion}
+use Rattle.slo_limits.specs.declared.TheConstants.{MAX_RECORD_BYTES}
+use Rattle.record_form.specs.declared.entry.Entry.{Entry}
+use Rattle.record_form.specs.Records.{entry, record_of}
+use Rattle.record_form.specs.Ranges.{FitsRecord, IsRecord}
+use Rattle.record_form.specs.Histories.{records_of, history_of, AreRecords}
+
+-- An entry is read back from its record, whatever follows.
+abbrev pub EntriesAreReadBack : Type 0
+EntriesAreReadBack = (e : Entry) (rest : List ℕ) → FitsRecord e → entry.read (record_of e ++ rest) ≡ Some (e, rest)
+
+-- No record begins another, so records that begin alike are of one entry, and one has nothing more.
+abbrev pub NoRecordBeginsAnother : Type 0
+NoRecordBeginsAnother = (one other rest : List ℕ) (e f : Entry) → IsRecord one e → IsRecord other f → one ++ rest ≡ other → (e ≡ f) × (rest ≡ [])
+
+-- A record has 5 bytes at least, the moment and the kind, and at most as many as the journal takes.
+pub record HasSize (e : Entry) : Type 0 where
+  pub least : 5 ≤ length (record_of e)
+  pub most : length (record_of e) ≤ MAX_RECORD_BYTES
+
+abbrev pub RecordsHaveSizes : Type 0
+RecordsHaveSizes = (e : Entry) → FitsRecord e → HasSize e
+
+-- A history is read back from its records.
+abbrev pub HistoriesAreReadBack : Type 0
+HistoriesAreReadBack = (history : List Entry) → AllByRecursion FitsRecord history → history_of (records_of history) ≡ history
+
+-- One record more is one entry more.
+pub record AddsOne (bytes : List ℕ) (e : Entry) : Type 0 where
+  pub history : history_of (bytes ++ record_of e) ≡ history_of bytes ++ e ∷ []
+  pub records : AreRecords (bytes ++ record_of e)
+
+abbrev pub OneRecordMore : Type 0
+OneRecordMore = (bytes : List ℕ) (e : Entry) → AreRecords bytes → FitsRecord e → AddsOne bytes e
+
+-- No bytes are the records of no entries.
+abbrev pub NoBytesAreNoHistory : Type 0
+NoBytesAreNoHistory = AreRecords [] × (history_of [] ≡ [])

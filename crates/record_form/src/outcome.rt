@@ -1,0 +1,117 @@
+//! What a request comes to.
+
+use crate::budget_row::BudgetRows;
+use crate::listed::Listed;
+use crate::refusal::Refusal;
+use burn_core::State;
+use exact_fraction::{Bytes, Fraction, Label};
+use notice_box::Notice;
+use slo_objects::Kind;
+
+/// Kinds and names of objects, by kind and then by name.
+pub type ObjectNames = Listed<(Kind, Label)>;
+
+/// Stretches [from, to) of minutes since 1970-01-01T00:00Z, in order.
+pub type Intervals = Listed<(u32, u32)>;
+
+/// Notices by their numbers.
+pub type NoticeRows = Listed<Notice>;
+
+/// The answer to a request. `entry` is the position of the entry that a change made, none where the
+/// change was there already; `entries` is the length of the history at the answer.
+#[derive(Drop)]
+pub enum Outcome {
+    /// `applied` counts the objects of the text, inline ones too.
+    Defined {
+        applied: u32,
+        entry: Option<u32>,
+    },
+    /// How many rows were new, corrected their cell, were there already, or came too late.
+    Sampled {
+        entry: Option<u32>,
+        new: u32,
+        newer: u32,
+        repeated: u32,
+        superseded: u32,
+    },
+    /// Of a removal, a zone, an exclusion, its lifting, or the taking of a notice.
+    Changed {
+        entry: Option<u32>,
+    },
+    /// `notices` counts those that the tick made.
+    Ticked {
+        entry: u32,
+        notices: u32,
+    },
+    ObjectList {
+        entries: u32,
+        objects: ObjectNames,
+    },
+    /// The canonical writing of an object.
+    ObjectText(Bytes),
+    Budgets {
+        at: u32,
+        budgets: BudgetRows,
+        entries: u32,
+    },
+    /// The burn rate is none exactly where `den` is 0.
+    Burn {
+        at: u32,
+        burn: Option<Fraction>,
+        den: u64,
+        entries: u32,
+        num: u64,
+    },
+    /// When the binding's alert was active in the stretch, and the state at the moment.
+    Timeline {
+        entries: u32,
+        intervals: Intervals,
+        state: State,
+    },
+    /// The first 1,000 notices that nobody has taken.
+    Notices {
+        entries: u32,
+        notices: NoticeRows,
+    },
+    Refused(Refusal),
+    /// The moment isn't below the end of the office's range; `reading` is the moment.
+    ClockRange {
+        end: u32,
+        reading: u32,
+    },
+    DiskFault,
+    /// The journal has `tail` bytes, and would have `needed` with the entry.
+    JournalFull {
+        needed: u64,
+        tail: u64,
+    },
+    NoMemory,
+}
+
+impl Outcome {
+    ghost use Rattle.std.specs.Prelude.{◌≡◌, MatchOption, None, Some};
+    ghost use Rattle.record_form.specs.Words.{failure_of};
+
+    /// The status of its HTTP answer and the member `error`, where it is no answer of status 200.
+    pub fn failure(&self) -> Option<(u16, &'static str)>
+        ensures { MatchOption result (failure_of self.now ≡ None) (λ failure. failure_of self.now ≡ Some (failure.0, failure.1.now)) }
+    {
+        match self {
+            Outcome::Refused(refusal) => Some((refusal.status(), refusal.word())),
+            Outcome::ClockRange { .. } => Some((500, "clock_range")),
+            Outcome::DiskFault => Some((500, "disk_fault")),
+            Outcome::JournalFull { .. } => Some((507, "journal_full")),
+            Outcome::NoMemory => Some((503, "no_memory")),
+            Outcome::Defined { .. }
+            | Outcome::Sampled { .. }
+            | Outcome::Changed { .. }
+            | Outcome::Ticked { .. }
+            | Outcome::ObjectList { .. }
+            | Outcome::ObjectText(_)
+            | Outcome::Budgets { .. }
+            | Outcome::Burn { .. }
+            | Outcome::Timeline { .. }
+            | Outcome::Notices { .. } => None,
+        }
+    }
+}

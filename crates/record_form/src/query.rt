@@ -1,0 +1,47 @@
+//! Questions to an office.
+
+use crate::command::Command;
+use exact_fraction::Label;
+use slo_duration::Duration;
+use slo_objects::Kind;
+
+/// What is asked. Minutes are counted since 1970-01-01T00:00Z, objectives from 0.
+#[derive(Clone, Copy)]
+pub enum Query {
+    /// The kinds and names of all objects.
+    Objects,
+    /// The canonical writing of an object.
+    Object {
+        kind: Kind,
+        name: Label,
+    },
+    /// The error budgets of an SLO's objectives, at a minute or at the moment.
+    Budgets {
+        slo: Label,
+        at: Option<u32>,
+    },
+    /// The burn rate over the lookback that ends at a minute or at the moment.
+    Burn {
+        slo: Label,
+        objective: u32,
+        lookback: Duration,
+        at: Option<u32>,
+    },
+    /// The stretches of [from, to) in which a binding's alert is active.
+    Timeline {
+        slo: Label,
+        objective: u32,
+        policy: Label,
+        from: u32,
+        to: u32,
+    },
+    /// The notices that nobody has taken.
+    Notices,
+}
+
+/// What one turn of the desk performs.
+#[derive(Drop)]
+pub enum Request {
+    Change(Command),
+    Ask(Query),
+}
