@@ -11,7 +11,7 @@ use slo_limits::MAX_JOURNAL_BYTES;
 use std::marker::Model;
 
 /// Where the first record's gate stands: behind the header.
-const FIRST: u64 = 13;
+pub const FIRST: u64 = 13;
 
 /// A journal on a disk. It is seen as the disk, the place of the closed gate, and the place of the
 /// gate behind a record in doubt, if there is one.

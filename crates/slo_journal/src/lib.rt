@@ -11,6 +11,8 @@ mod making;
 mod numbers;
 mod opening;
 mod scan;
+#[cfg(test)]
+mod tests;
 mod window;
 
 pub use fault::{AppendFault, CreateFault, DiskFault, OpenFault, ScanFault};

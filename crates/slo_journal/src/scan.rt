@@ -7,6 +7,7 @@ ghost use Rattle.slo_journal.specs.Scanning.{seen_from, StandsAt, IsHead, IsNext
 ghost use Rattle.slo_journal.specs.declared.fault.ScanFault.TheVariants.{DiskFault, Damaged};
 ghost use Rattle.slo_journal.specs.declared.scan.Head.TheVariants.{Shut, Opens};
 
+use crate::journal::FIRST;
 use crate::numbers::number;
 use crate::window::{Window, reach};
 use crate::{Journal, ScanFault};
@@ -14,9 +15,6 @@ use office_outside::Disk;
 use slo_limits::MAX_RECORD_BYTES;
 use std::alloc::Global;
 use std::marker::Model;
-
-/// Where the first record's gate stands: behind the header.
-const FIRST: u64 = 13;
 
 /// How many bytes a record's gate and length have.
 const HEAD: usize = 5;
