@@ -7,7 +7,7 @@ use Rattle.slo_terms.specs.Rows.{first_of_each, newer, newest}
 use Rattle.sample_book.specs.declared.Row.{Row}
 use Rattle.sample_book.specs.Rows.{current_rows, same_cell, verdict_of}
 use Rattle.sample_book.specs.History.{is_put}
-use Rattle.slo_office.specs.Tables.{rows_after}
+use Rattle.slo_office.specs.Budget.Tables.{rows_after}
 
 newer-holds : {A : Type 0} (P : A → Type 0) (revision_of : A → ℕ) (kept row : A) → P kept → P row → P (newer revision_of kept row)
 newer-holds P revision_of kept row k r = by (nat_lt (revision_of kept) (revision_of row))

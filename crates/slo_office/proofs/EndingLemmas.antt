@@ -4,7 +4,7 @@ use Rattle.std.specs.Prelude.{Option, Some, Ok, Err}
 use Rattle.slo_office.specs.Answer.{Answers}
 use Rattle.slo_office.specs.Runs.{IsStatus, Settled, TellsRefusal}
 use Rattle.slo_office.specs.declared.command.Command.{Command}
-use Rattle.slo_office.specs.declared.ending.Refusal.{Refusal}
+use Rattle.slo_office.specs.declared.ending.RunRefusal.{RunRefusal}
 use Rattle.slo_office.specs.declared.ending.Ending.{Ending}
 use Rattle.slo_office.specs.declared.ending.Ending.TheVariants.{Done, Usage, ReadFault, WriteFault, NoMemory, Refused}
 use Rattle.slo_office.specs.declared.ending.TheConstants.{REFUSED}
@@ -12,7 +12,7 @@ use Rattle.slo_office.specs.declared.ending.TheConstants.{REFUSED}
 pub status-settled : (command : Command) (left : Option (List ℕ)) (read write : Type 0) (ending : Ending) (status : ℕ)
     (old new : Option (List ℕ)) (before now : ℕ) →
     (ending ≡ Done → (text : List ℕ) × Answers command left (Ok text)) →
-    ((refusal : Refusal) → ending ≡ Refused refusal → Answers command left (Err refusal)) →
+    ((refusal : RunRefusal) → ending ≡ Refused refusal → Answers command left (Err refusal)) →
     (ending ≡ ReadFault → read) → (ending ≡ WriteFault → write) → (ending ≡ Usage → ⊥) →
     Settled ending status old new before now → IsStatus (Some command) left read write status
 status-settled command left read write Done status old new before now done refused r w u s =
@@ -26,7 +26,7 @@ status-settled command left read write (Refused refusal) status old new before n
 status-settled command left read write (Refused refusal) status old new before now done refused r w u (inr s) = inr (inl s.0)
 
 pub refusal-settled : (command : Command) (left : Option (List ℕ)) (ending : Ending) (status : ℕ) (old new : Option (List ℕ)) (before now : ℕ) →
-    ((refusal : Refusal) → ending ≡ Refused refusal → Answers command left (Err refusal)) →
+    ((refusal : RunRefusal) → ending ≡ Refused refusal → Answers command left (Err refusal)) →
     Settled ending status old new before now → status ≡ REFUSED → TellsRefusal (Some command) left old new before now
 refusal-settled command left Done status old new before now refused s e = absurd (omega (arith, s.0, e))
 refusal-settled command left Usage status old new before now refused s e = absurd (omega (arith, s.0, e))

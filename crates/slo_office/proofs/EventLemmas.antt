@@ -7,10 +7,10 @@ use Rattle.slo_terms.specs.Sums.{share_within, sum_of_slices}
 use Rattle.slo_terms.proofs.SumLemmas.{sum_of_slices-minutes}
 use Rattle.sample_book.specs.declared.Row.{Row}
 use Rattle.sample_book.specs.Rows.{current_rows}
-use Rattle.slo_office.specs.Rows.{good_of, total_of}
-use Rattle.slo_office.specs.BudgetText.{Tallies, budget_lines, events_at, events_in, lines_of, tallies_of}
-use Rattle.slo_office.specs.Tables.{AreKeptAs}
-use Rattle.slo_office.specs.declared.command.BudgetOrder.{BudgetOrder}
+use Rattle.slo_office.specs.Budget.Records.{good_of, total_of}
+use Rattle.slo_office.specs.Budget.Lines.{Tallies, budget_lines, events_at, events_in, lines_of, tallies_of}
+use Rattle.slo_office.specs.Budget.Tables.{AreKeptAs}
+use Rattle.slo_office.specs.declared.budget.order.BudgetOrder.{BudgetOrder}
 
 -- the sum over one more row
 pub sum-more : (f : Row → ℕ) (rows : List Row) (place : ℕ) (row : Row) (sum share : ℕ) →

@@ -4,4 +4,4 @@ pub mod CheckLemmas
 pub mod CurrentLemmas
 pub mod TableLemmas
 pub mod EventLemmas
-pub mod AnswerLemmas
+pub mod BudgetLemmas

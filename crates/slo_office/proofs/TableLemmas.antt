@@ -4,18 +4,18 @@ use mir.Val.{bool_byte}
 use Rattle.std.specs.List.{count_by}
 use Rattle.std.proofs.lemmas.List.{append-nil}
 use Rattle.std.proofs.lemmas.List.Sums.{sum_by_push}
-use Rattle.csv_rows.specs.Rows.{Record}
+use Rattle.csv_records.specs.Records.{Fields}
 use Rattle.slo_terms.specs.Judged.{judged_from, judged_next}
 use Rattle.sample_book.specs.declared.Row.{Row}
 use Rattle.sample_book.specs.declared.RowVerdict.{RowVerdict}
 use Rattle.sample_book.specs.declared.RowVerdict.TheVariants.{New, Newer, Repeated, Superseded, Conflict}
 use Rattle.sample_book.specs.Rows.{current_rows, verdict_of}
 use Rattle.sample_book.proofs.CameLemmas.{after-current}
-use Rattle.slo_office.specs.Rows.{is_newer, is_repeated, is_superseded, judge, judge_over, verdicts, verdicts_from}
-use Rattle.slo_office.specs.Tables.{IsSoFar, rows_after}
+use Rattle.slo_office.specs.Budget.Records.{is_newer, is_repeated, is_superseded, judge, judge_over, verdicts, verdicts_from}
+use Rattle.slo_office.specs.Budget.Tables.{IsSoFar, rows_after}
 
 -- a pass over records goes on behind one that keeps the rules
-judged_from-one : (came : List Row) (number : ℕ) (fields : Record) (rest : List Record) (row : Row) → judge came fields ≡ Ok row →
+judged_from-one : (came : List Row) (number : ℕ) (fields : Fields) (rest : List Fields) (row : Row) → judge came fields ≡ Ok row →
     judged_from judge came number (fields ∷ rest) ≡ judged_from judge (came ++ row ∷ []) (number + 1) rest
 judged_from-one came number fields rest row e = ap (judged_next (λ more. judged_from judge more (number + 1) rest) came number) e
 
@@ -48,7 +48,7 @@ one_at_most (Superseded revision) = omega arith
 one_at_most (Conflict kept) = omega arith
 
 -- A record that keeps the rules is judged, and its row kept.
-pub so_far-push : (records left : List Record) (number : ℕ) (rows : List Row) (corrected repeated superseded : ℕ) (fields : Record) (rest : List Record)
+pub so_far-push : (records left : List Fields) (number : ℕ) (rows : List Row) (corrected repeated superseded : ℕ) (fields : Fields) (rest : List Fields)
     (row : Row) (verdict : RowVerdict) (more : List Row) (newer again older : ℕ) →
     IsSoFar records left number rows corrected repeated superseded → left ≡ fields ∷ rest →
     judge_over rows fields ≡ Ok row → verdict ≡ verdict_of rows row → more ≡ rows_after rows row →
@@ -72,7 +72,7 @@ so_far-push records left number rows corrected repeated superseded fields rest r
     }
 
 -- Before the first record nothing came.
-pub so_far-none : (records left : List Record) (rows : List Row) → left ≡ records → rows ≡ [] → IsSoFar records left 1 rows 0 0 0
+pub so_far-none : (records left : List Fields) (rows : List Row) → left ≡ records → rows ≡ [] → IsSoFar records left 1 rows 0 0 0
 so_far-none records left rows all empty = record {
   came = [];
   kept = record { current = empty; newer = refl; again = refl; older = refl };

@@ -1,11 +1,8 @@
-pub mod Inputs
+pub mod Lines
+pub mod Budget
+pub mod Check
 pub mod Commands
-pub mod Rows
-pub mod BudgetText
-pub mod CheckText
-pub mod Documents
-pub mod Defining
+pub mod Inputs
 pub mod Endings
 pub mod Answer
 pub mod Runs
-pub mod Tables

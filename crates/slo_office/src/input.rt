@@ -6,9 +6,6 @@ ghost use Rattle.slo_office.specs.Inputs.{TakesAtMost, HasRead, HasMore};
 use office_outside::Source;
 use std::alloc::Global;
 
-/// The most bytes that a command reads: the samples of some weeks of one source.
-pub const INPUT_LIMIT: usize = 1_048_576;
-
 /// How many bytes are read at once.
 const PIECE: usize = 8_192;
 
@@ -20,19 +17,25 @@ pub enum InputFault {
     NoMemory,
 }
 
-/// All bytes of an input of at most `INPUT_LIMIT` bytes.
-pub fn read_input<S: Source>(alloc: Global, input: &mut S) -> Result<Vec<u8>, InputFault>
+/// All bytes of an input of at most `most` bytes.
+pub fn read_input<S: Source>(
+    alloc: Global,
+    input: &mut S,
+    most: usize,
+) -> Result<Vec<u8>, InputFault>
+    requires { most < usize.MAX }
     ensures ok { IfOk result (λ bytes. HasRead bytes.items (S.left input.old) (S.left input.new)) }
-    ensures small { IfOk result (λ bytes. length bytes.items ≤ INPUT_LIMIT) }
-    ensures large { result ≡ Err InputFault.TooLarge → HasMore INPUT_LIMIT (S.left input.old) }
-    ensures read { result ≡ Err InputFault.ReadFault → Rose (S.faults input.old) (S.faults input.new) }
+    ensures small { IfOk result (λ bytes. length bytes.items ≤ most) }
+    ensures large { result ≡ Err InputFault.TooLarge → HasMore most (S.left input.old) }
+    ensures read { result ≡ Err InputFault.ReadFault →
+        Rose (S.faults input.old) (S.faults input.new) }
     ensures later { S.faults input.old ≤ S.faults input.new }
-    ensures takes { TakesAtMost (INPUT_LIMIT + 1) (S.left input.old) (S.left input.new) }
+    ensures takes { TakesAtMost (most + 1) (S.left input.old) (S.left input.new) }
 {
     let mut bytes: Vec<u8> = Vec::new(alloc);
     let mut piece = [0u8; PIECE];
-    'reading: while bytes.len() <= INPUT_LIMIT {
-        let room = (INPUT_LIMIT + 1 - bytes.len()).min(PIECE);
+    'reading: while bytes.len() <= most {
+        let room = (most + 1 - bytes.len()).min(PIECE);
         let Ok(count) = input.read(&mut piece[..room]) else {
             return Err(InputFault::ReadFault);
         };

@@ -1,46 +1,51 @@
-//! The error budget office: the program, with the commands `budget` and `check`.
-//! Stands on `burn_core`, `csv_rows`, `yaml_subset`, `exact_fraction`, `office_outside` and the words of `slo_terms`.
+//! The error budget office: the program, with a module for each command, `budget` and `check`.
+//! Stands on `csv_records`, `sample_book` and `burn_core`, on `slo_catalog` and `office_outside`.
 //! Promises by `run`: what is printed is the definition's answer on the bytes of the input.
 #![tactic(auto)]
 
 mod answer;
 mod budget;
-mod budget_text;
 mod check;
 mod command;
-mod defining;
 mod ending;
 mod input;
-mod laws;
-mod row;
 mod run;
-mod table;
 #[cfg(test)]
 mod tests;
 
 use office_outside::{StdSink, StdSource};
-use run::run;
+use run::{run, run_out_of_memory};
+use std::alloc::AllocError;
 use std::env::{self, Env};
+use std::io::ErrorKind;
 use std::process::ExitCode;
 
 /// The words of the command line behind the program's name. Words that aren't text are no form of a
-/// command, and neither is no word.
-fn words_of(rt: &(impl Env + AllocGlobal)) -> Vec<String> {
+/// command, and are left out, as if there were none.
+fn words_of(rt: &(impl Env + AllocGlobal)) -> Result<Vec<String>, AllocError> {
     let mut words = Vec::new(rt.alloc());
-    if let Ok(all) = env::args(rt) {
-        for word in all.skip(1) {
-            if words.push(word).is_err() {
-                return Vec::new(rt.alloc());
+    match env::args(rt) {
+        Ok(all) => {
+            for word in all.skip(1) {
+                words.push(word)?;
+            }
+        }
+        Err(error) => {
+            if error.kind() == ErrorKind::OutOfMemory {
+                return Err(AllocError);
             }
         }
     }
-    words
+    Ok(words)
 }
 
 fn main(rt: HostRuntime) -> ExitCode {
-    let words = words_of(&rt);
     let mut input = StdSource::new(rt.stdin());
     let mut output = StdSink::new(rt.stdout());
     let mut faults = StdSink::new(rt.stderr());
-    ExitCode::from(run(&rt, &words, &mut input, &mut output, &mut faults))
+    let status = match words_of(&rt) {
+        Ok(words) => run(&rt, &words, &mut input, &mut output, &mut faults),
+        Err(AllocError) => run_out_of_memory(&mut faults),
+    };
+    ExitCode::from(status)
 }

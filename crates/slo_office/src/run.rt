@@ -4,7 +4,7 @@ ghost use Rattle.office_outside.specs.Faults.{Rose};
 ghost use Rattle.office_outside.specs.Told.{HasNothingLeft};
 ghost use Rattle.slo_office.specs.Endings.{line_of_status};
 ghost use Rattle.slo_office.specs.Inputs.{TakesAtMost};
-ghost use Rattle.slo_office.specs.Commands.{command_of};
+ghost use Rattle.slo_office.specs.Commands.{command_of, most_taken};
 ghost use Rattle.slo_office.specs.Runs.{IsStatus, Prints, PrintsPart, Settled, Tells, TellsRefusal};
 
 use crate::answer::print_answer;
@@ -12,13 +12,13 @@ use crate::command::read_command;
 use crate::ending::{
     DONE, Ending, NO_MEMORY, READ_FAULT, REFUSED, USAGE, WRITE_FAULT, refusal_line, status_line,
 };
-use crate::input::INPUT_LIMIT;
 use office_outside::{Sink, Source, write_whole};
 use std::alloc::Global;
 
-/// Tells a line. A fault of the faults sink changes nothing.
+/// Tells a line. A fault of the faults sink changes nothing else.
 fn tell<E: Sink>(faults: &mut E, line: &str)
-    ensures { Tells line.now (E.held faults.old) (E.held faults.new) (E.faults faults.old) (E.faults faults.new) }
+    ensures { Tells line.now (E.held faults.old) (E.held faults.new) (E.faults faults.old)
+        (E.faults faults.new) }
 {
     let _ = write_whole(faults, line.as_bytes());
 }
@@ -26,15 +26,26 @@ fn tell<E: Sink>(faults: &mut E, line: &str)
 /// Tells the line of a status, and answers the status.
 fn tell_status<E: Sink>(faults: &mut E, status: u8) -> u8
     ensures status { result ≡ status }
-    ensures told { Tells (line_of_status status) (E.held faults.old) (E.held faults.new) (E.faults faults.old) (E.faults faults.new) }
+    ensures told { Tells (line_of_status status) (E.held faults.old) (E.held faults.new)
+        (E.faults faults.old) (E.faults faults.new) }
 {
     tell(faults, status_line(status));
     status
 }
 
+/// The end of a run without memory for its words.
+pub fn run_out_of_memory<E: Sink>(faults: &mut E) -> u8
+    ensures status { result ≡ NO_MEMORY }
+    ensures told { Tells (line_of_status NO_MEMORY) (E.held faults.old) (E.held faults.new)
+        (E.faults faults.old) (E.faults faults.new) }
+{
+    tell_status(faults, NO_MEMORY)
+}
+
 /// The status of an ending, whose line the faults sink is told.
 fn settle<E: Sink>(alloc: Global, ending: Ending, faults: &mut E) -> u8
-    ensures { Settled ending result (E.held faults.old) (E.held faults.new) (E.faults faults.old) (E.faults faults.new) }
+    ensures { Settled ending result (E.held faults.old) (E.held faults.new) (E.faults faults.old)
+        (E.faults faults.new) }
 {
     match ending {
         Ending::Done => DONE,
@@ -55,9 +66,10 @@ fn settle<E: Sink>(alloc: Global, ending: Ending, faults: &mut E) -> u8
 /// Runs the program on these words, and answers the status that it ends with.
 ///
 /// `budget TARGET FROM TO` reads CSV records `source,minute,revision,good,total` and prints the
-/// error budget of the minutes in [FROM, TO). `check` reads OpenSLO documents and prints how many
-/// there are. Where the source tells its bytes, what is printed and what is refused is the
-/// definition's answer on these bytes, however reads cut them.
+/// error budget of the minutes in [FROM, TO). `check` reads OpenSLO documents, judges whether their
+/// objects can be defined together, and prints how many documents and objects there are. Where the
+/// source tells its bytes, what is printed and what is refused is the definition's answer on these
+/// bytes, however reads cut them.
 pub fn run<R: AllocGlobal, S: Source, K: Sink, E: Sink>(
     rt: &R,
     words: &[String],
@@ -69,15 +81,19 @@ pub fn run<R: AllocGlobal, S: Source, K: Sink, E: Sink>(
         (Rose (S.faults input.old) (S.faults input.new)) (Rose (K.faults output.old) (K.faults output.new)) result }
 
     // DONE: the output gained just the answer's lines, and the input was read to its end.
-    ensures done { result ≡ DONE → Prints (command_of (map string_bytes words.now)) (S.left input.old) (K.held output.old) (K.held output.new) }
+    ensures done { result ≡ DONE →
+        Prints (command_of (map string_bytes words.now)) (S.left input.old) (K.held output.old)
+        (K.held output.new) }
     ensures end { result ≡ DONE → HasNothingLeft (S.left input.new) }
     ensures silent { result ≡ DONE → E.held faults.new ≡ E.held faults.old }
 
-    // USAGE: exactly where the words are no form of a command.
+    // USAGE: exactly where the words are no form of a command. The input stays as it was.
     ensures usage { (result ≡ USAGE) ↔ (command_of (map string_bytes words.now) ≡ None) }
+    ensures untouched { result ≡ USAGE → input.new ≡ input.old }
 
     // REFUSED: the answer is a refusal, and its line says which.
-    ensures refused { result ≡ REFUSED → TellsRefusal (command_of (map string_bytes words.now)) (S.left input.old)
+    ensures refused { result ≡ REFUSED →
+        TellsRefusal (command_of (map string_bytes words.now)) (S.left input.old)
         (E.held faults.old) (E.held faults.new) (E.faults faults.old) (E.faults faults.new) }
 
     // Each other status has its line, and a fault's status has that object's count as its cause.
@@ -87,9 +103,12 @@ pub fn run<R: AllocGlobal, S: Source, K: Sink, E: Sink>(
     ensures write { result ≡ WRITE_FAULT → Rose (K.faults output.old) (K.faults output.new) }
 
     // The output keeps what it held, but for a prefix of the lines where a write failed.
-    ensures part { result ≡ WRITE_FAULT → PrintsPart (command_of (map string_bytes words.now)) (S.left input.old) (K.held output.old) (K.held output.new) }
+    ensures part { result ≡ WRITE_FAULT →
+        PrintsPart (command_of (map string_bytes words.now)) (S.left input.old) (K.held output.old)
+        (K.held output.new) }
     ensures quiet { result ≢ DONE → result ≢ WRITE_FAULT → K.held output.new ≡ K.held output.old }
-    ensures takes { TakesAtMost (INPUT_LIMIT + 1) (S.left input.old) (S.left input.new) }
+    ensures takes { TakesAtMost (most_taken (command_of (map string_bytes words.now)))
+        (S.left input.old) (S.left input.new) }
 {
     let alloc = rt.alloc();
     match read_command(words) {

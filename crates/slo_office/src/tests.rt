@@ -57,7 +57,8 @@ fn run_over(
     })
 }
 
-/// A run of `budget 0.999 0 1000` ends so: with this status, these lines on the output, and these on
+/// A run of `budget 0.999 0 1000` ends so: with this status, these lines on the output, and these
+/// on
 /// the faults sink.
 fn expect(
     rt: &(impl AllocGlobal + Abort),
@@ -224,7 +225,8 @@ fn refuses_the_first_bad_record(rt: HostRuntime) -> Result<(), Fail> {
     Ok(())
 }
 
-/// However reads cut the input, the answer is the same; and each fault ends the run with its status.
+/// However reads cut the input, the answer is the same; and each fault ends the run with its
+/// status.
 #[test]
 fn ends_with_the_fault_that_the_outside_counts(rt: HostRuntime) -> Result<(), Fail> {
     let input = "web,100,1,9990,10000\nweb,101,1,0,0\n";
@@ -523,7 +525,8 @@ fn counts_documents_and_objects(rt: HostRuntime) -> Result<(), Fail> {
     expect_check(&rt, &both, 0, "documents 3\nobjects 4\n")
 }
 
-/// The first document that stands for no objects is named, with the field and the rule that it breaks.
+/// The first document that stands for no objects is named, with the field and the rule that it
+/// breaks.
 #[test]
 fn names_the_document_and_the_field(rt: HostRuntime) -> Result<(), Fail> {
     let alloc = rt.alloc();
@@ -627,6 +630,45 @@ fn judges_calendars(rt: HostRuntime) -> Result<(), Fail> {
     expect_check(&rt, &text, 9, "slo_office: limit starts\n")?;
     let text = calendar_text(alloc, "1d", "1971-01-01 00:00:00", "Europe/Berlin")?;
     expect_check(&rt, &text, 9, "slo_office: unknown_zone Europe/Berlin\n")
+}
+
+/// So many indicators.
+fn indicators(alloc: Global, count: usize) -> Result<String, AllocError> {
+    let mut text = String::new(alloc);
+    for number in 0..count {
+        let one = format!(in alloc;
+            "---\napiVersion: openslo/v1\nkind: SLI\nmetadata:\n  name: s{number}\nspec:\n  thresholdMetric:\n    metricSource:\n      type: t\n"
+        )?;
+        text.push_str(&one)?;
+    }
+    Ok(text)
+}
+
+/// Limits are judged last: behind the zones of calendars.
+#[test]
+fn judges_zones_before_limits(rt: HostRuntime) -> Result<(), Fail> {
+    let alloc = rt.alloc();
+    let more = indicators(alloc, 201)?;
+    expect_check(&rt, &more, 9, "slo_office: limit slis\n")?;
+    let foreign = calendar_text(alloc, "1M", "2020-01-21 12:30:00", "Europe/Berlin")?;
+    let both = format!(in alloc; "{foreign}{more}")?;
+    expect_check(&rt, &both, 9, "slo_office: unknown_zone Europe/Berlin\n")
+}
+
+/// Where the faults sink fails, a prefix of the line may be there, and the status stays.
+#[test]
+fn keeps_the_status_where_the_faults_sink_fails(rt: HostRuntime) -> Result<(), Fail> {
+    let alloc = rt.alloc();
+    let mut words: Vec<String> = Vec::new(alloc);
+    words.push(String::from_str(alloc, "usage")?)?;
+    let mut input = MemorySource::new(b"left".to_vec(alloc)?, Plan::smooth(alloc));
+    let mut output = MemorySink::new(alloc, Plan::smooth(alloc));
+    let plan = Plan::new([1u64].to_vec(alloc)?, [5usize].to_vec(alloc)?);
+    let mut faults = MemorySink::new(alloc, plan);
+    let status = run(&rt, &words, &mut input, &mut output, &mut faults);
+    assert_eq!(rt; status, 2);
+    assert_eq!(rt; faults.bytes(), b"slo_o".as_slice());
+    Ok(())
 }
 
 /// An objective over an indicator with a threshold needs an operator and a value.

@@ -1,11 +1,11 @@
 use Rattle.std.proofs.Common.{◌≡◌, ◌∙◌, Err, ap, refl}
-use Rattle.slo_office.specs.declared.ending.Refusal.TheVariants.{BadRecord}
-use Rattle.slo_office.proofs.AnswerLemmas.{answer-broken, answer-lines, same_refusal}
+use Rattle.slo_office.specs.declared.budget.fault.BudgetFault.TheVariants.{BadRecord}
+use Rattle.slo_office.proofs.BudgetLemmas.{answer-broken, answer-lines, same_refusal}
 use Rattle.slo_office.proofs.EventLemmas.{budget_lines-kept}
 use Rattle.slo_office.proofs.budget.answer_budget.Goals as goal
 
-pub returns-in-Err-Broken-clause-refused : goal.returns-in-Err-Broken-clause-refused
-returns-in-Err-Broken-clause-refused c = λ refusal e.
+pub returns-in-Err-Broken-clause-fault : goal.returns-in-Err-Broken-clause-fault
+returns-in-Err-Broken-clause-fault c = λ refusal e.
     let told = rw c.in-Err-Broken.field-0-is at e in
     let is : BadRecord c.in-Err-Broken.number c.in-Err-Broken.fault ≡ refusal =
     same_refusal c.in-Err-Broken.number c.in-Err-Broken.number c.in-Err-Broken.fault c.in-Err-Broken.fault refusal told refl refl in

@@ -1,0 +1,4 @@
+pub mod StartLemmas
+pub mod FaultLemmas
+pub mod DocumentLemmas
+pub mod VerdictLemmas

@@ -1,0 +1,43 @@
+//! The faults of the catalog as refusals.
+ghost use Rattle.std.specs.Prelude.{◌≡◌};
+ghost use Rattle.definition_verdict.specs.Verdict.{catalog_refusal as catalog_refusal_lem, limit_name as limit_name_lem};
+
+use record_form::{LimitName, Refusal};
+use slo_catalog::{CatalogFault, CatalogLimit};
+
+fn limit_name(limit: CatalogLimit) -> LimitName
+    ensures { result ≡ limit_name_lem limit }
+{
+    match limit {
+        CatalogLimit::Objects => LimitName::Objects,
+        CatalogLimit::Catalog => LimitName::Catalog,
+        CatalogLimit::Slis => LimitName::Slis,
+        CatalogLimit::Slos => LimitName::Slos,
+        CatalogLimit::Bindings => LimitName::Bindings,
+    }
+}
+
+/// A fault of the catalog as a refusal.
+pub(crate) fn catalog_refusal(fault: CatalogFault) -> Refusal
+    ensures { result ≡ catalog_refusal_lem fault }
+{
+    match fault {
+        CatalogFault::Reserved { name } => Refusal::ReservedPolicy { name },
+        CatalogFault::DuplicateInText { kind, name } => Refusal::Duplicate { kind, name },
+        CatalogFault::Unresolved {
+            from_kind,
+            from_name,
+            kind,
+            name,
+        } => Refusal::Unresolved {
+            from_kind,
+            from_name,
+            kind,
+            name,
+        },
+        CatalogFault::NeedsOp { slo, objective } => Refusal::NeedsOp { objective, slo },
+        CatalogFault::Limit(limit) => Refusal::Limit {
+            which: limit_name(limit),
+        },
+    }
+}

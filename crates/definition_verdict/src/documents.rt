@@ -1,0 +1,114 @@
+//! The documents of a text, and their objects.
+ghost use Rattle.std.specs.Prelude.{◌≡◌, ℕ, [], Ok, Err, IfOk, map};
+ghost use Rattle.std.specs.List.{AllByRecursion};
+ghost use Rattle.yaml_subset.specs.NodeView.{node_view, nodes_view};
+ghost use Rattle.yaml_subset.specs.Fits.{IsWritable};
+ghost use Rattle.yaml_subset.specs.Text.{StandsFor};
+ghost use Rattle.definition_verdict.specs.Documents.{broken_document, objects_in as objects_in_lem};
+ghost use Rattle.definition_verdict.specs.Texts.{IsYamlFault};
+
+use record_form::{Refusal, YamlWord};
+use slo_objects::{ObjectFault, Objects, ReadError, read_object};
+use std::alloc::{AllocError, Global};
+use yaml_subset::{Node, Nodes, YamlFault, read_documents, standing_nodes_are_writable};
+
+/// Why a text stands for no documents.
+pub(crate) enum TextError {
+    Fault { line: u32, word: YamlWord },
+    NoMemory,
+}
+
+/// Why documents stand for no objects.
+#[derive(Drop)]
+pub(crate) enum DocumentsError {
+    Refused(Refusal),
+    NoMemory,
+}
+
+/// A number of lines or documents, which a text of a mebibyte has fewer of than 2^32.
+fn short(number: usize) -> Result<u32, AllocError>
+    ensures { IfOk result (λ short. short ≡ number) }
+{
+    match u32::try_from(number) {
+        Ok(number) => Ok(number),
+        Err(_) => Err(AllocError),
+    }
+}
+
+fn form_fault(line: usize, word: YamlWord) -> TextError
+    ensures { (number : ℕ) (named : YamlWord) → result ≡ TextError.Fault number named →
+        (number ≡ line) × (named ≡ word) }
+{
+    match short(line) {
+        Ok(line) => TextError::Fault { line, word },
+        Err(AllocError) => TextError::NoMemory,
+    }
+}
+
+/// The documents of a text.
+pub(crate) fn documents_in(alloc: Global, text: &[u8]) -> Result<Nodes, TextError>
+    ensures ok { IfOk result (λ nodes. StandsFor text.now (nodes_view nodes.items)) }
+    ensures writable { IfOk result (λ nodes. AllByRecursion IsWritable (nodes_view nodes.items)) }
+    ensures fault { (line : ℕ) (word : YamlWord) → result ≡ Err (TextError.Fault line word) →
+        IsYamlFault text.now line word }
+{
+    standing_nodes_are_writable();
+    match read_documents(alloc, text) {
+        Ok(nodes) => Ok(nodes),
+        Err(YamlFault::Form { line, which }) => Err(form_fault(line, YamlWord::Form(which))),
+        Err(YamlFault::NotUtf8(_)) => Err(TextError::Fault {
+            line: 0,
+            word: YamlWord::NotUtf8,
+        }),
+        Err(YamlFault::TooLarge) => Err(TextError::Fault {
+            line: 0,
+            word: YamlWord::TooLarge,
+        }),
+        Err(YamlFault::NoMemory) => Err(TextError::NoMemory),
+    }
+}
+
+/// The refusal of a document that stands for no objects.
+fn broken(document: usize, fault: ObjectFault) -> Result<Refusal, AllocError>
+    ensures { IfOk result (λ refusal. refusal ≡ broken_document document fault) }
+{
+    let document = short(document)?;
+    let ObjectFault { field, rule } = fault;
+    Ok(Refusal::Object {
+        document,
+        field,
+        rule,
+    })
+}
+
+fn broken_error(document: usize, fault: ObjectFault) -> DocumentsError
+    ensures { (refusal : Refusal) → result ≡ DocumentsError.Refused refusal →
+        refusal ≡ broken_document document fault }
+{
+    match broken(document, fault) {
+        Ok(refusal) => DocumentsError::Refused(refusal),
+        Err(AllocError) => DocumentsError::NoMemory,
+    }
+}
+
+/// The objects of all documents in order.
+pub(crate) fn objects_in(alloc: Global, documents: &[Node]) -> Result<Objects, DocumentsError>
+    ensures ok { IfOk result (λ objects. objects_in_lem (map node_view documents.now) ≡ Ok objects) }
+    ensures refused { (refusal : Refusal) → result ≡ Err (DocumentsError.Refused refusal) →
+        objects_in_lem (map node_view documents.now) ≡ Err refusal }
+{
+    let mut objects = Objects::new(alloc);
+    let mut number: usize = 1;
+    for node in documents {
+        let own = match read_object(alloc, node) {
+            Ok(own) => own,
+            Err(ReadError::Fault(fault)) => return Err(broken_error(number, fault)),
+            Err(ReadError::NoMemory) => return Err(DocumentsError::NoMemory),
+        };
+        if objects.append(own).is_err() {
+            return Err(DocumentsError::NoMemory);
+        }
+        number += 1;
+    }
+    Ok(objects)
+}

@@ -1,0 +1,102 @@
+//! How the amounts of an indicator's rows are read, and whose reading a text would change.
+ghost use Rattle.std.specs.Prelude.{◌≡◌};
+ghost use Rattle.slo_catalog.specs.NeedsOp.{sli_named as sli_named_lem};
+ghost use Rattle.slo_objects.specs.Sli.{sli_in as sli_in_lem};
+ghost use Rattle.std.specs.Option.{option_copied};
+ghost use Rattle.definition_verdict.specs.Readings.{first_read_anew as first_read_anew_lem, is_other_reading as is_other_reading_lem, reading_of as reading_of_lem, row_read_anew as row_read_anew_lem, same_reading as same_reading_lem};
+
+use exact_fraction::Label;
+use sample_book::{Row, SampleBook};
+use slice_method::Reading;
+use slo_catalog::Catalog;
+use slo_objects::{Body, Events, Kind, Metric, Object, Ratio, RawType, Sli};
+
+/// How the amounts of an indicator's rows are read (OpenSLO v1, `ratioMetric` and
+/// `thresholdMetric`).
+pub fn reading_of(metric: &Metric) -> Reading
+    ensures { result ≡ reading_of_lem metric.now }
+{
+    let Metric::Ratio(metric) = metric else {
+        return Reading::Threshold;
+    };
+    match &metric.ratio {
+        Ratio::Raw { raw_type, .. } => match raw_type {
+            RawType::Success => Reading::RawSuccess,
+            RawType::Failure => Reading::RawFailure,
+        },
+        Ratio::Counts { events, .. } => match events {
+            Events::Good(_) => Reading::Good,
+            Events::Bad(_) => Reading::Bad,
+        },
+    }
+}
+
+fn same_reading(a: Reading, b: Reading) -> bool
+    ensures { result ≡ same_reading_lem a b }
+{
+    match (a, b) {
+        (Reading::Good, Reading::Good) => true,
+        (Reading::Bad, Reading::Bad) => true,
+        (Reading::Threshold, Reading::Threshold) => true,
+        (Reading::RawSuccess, Reading::RawSuccess) => true,
+        (Reading::RawFailure, Reading::RawFailure) => true,
+        _ => false,
+    }
+}
+
+/// The indicator that an object is.
+fn sli_in(object: &Object) -> Option<&Sli>
+    ensures { option_copied result ≡ sli_in_lem object.now.body }
+{
+    match &object.body {
+        Body::Sli(sli) => Some(sli),
+        _ => None,
+    }
+}
+
+/// The indicator of that name.
+fn sli_named(catalog: &Catalog, name: Label) -> Option<&Sli>
+    ensures { option_copied result ≡ sli_named_lem catalog.now name }
+{
+    sli_in(catalog.find(Kind::Sli, name)?)
+}
+
+/// Whether the member of that name is there and read otherwise.
+fn is_other_reading(catalog: &Catalog, name: Label, reading: Reading) -> bool
+    ensures { result ≡ is_other_reading_lem reading (sli_named_lem catalog.now name) }
+{
+    match sli_named(catalog, name) {
+        Some(member) => !same_reading(reading, reading_of(&member.metric)),
+        None => false,
+    }
+}
+
+/// The first row of an indicator that would be read otherwise than its member.
+fn row_read_anew(catalog: &Catalog, book: &SampleBook, object: &Object) -> Option<Row>
+    ensures { result ≡ row_read_anew_lem catalog.now book.now.rows object.now.name
+        (sli_in_lem object.now.body) }
+{
+    let sli = sli_in(object)?;
+    if is_other_reading(catalog, object.name, reading_of(&sli.metric)) {
+        book.cell_of(object.name)
+    } else {
+        None
+    }
+}
+
+/// The first row of the first indicator of the objects that would be read otherwise than its
+/// member.
+pub(crate) fn first_read_anew(
+    catalog: &Catalog,
+    book: &SampleBook,
+    objects: &[Object],
+) -> Option<Row>
+    ensures { result ≡ first_read_anew_lem catalog.now book.now.rows objects.now }
+{
+    for object in objects {
+        if let Some(row) = row_read_anew(catalog, book, object) {
+            return Some(row);
+        }
+    }
+    None
+}

@@ -1,0 +1,55 @@
+//! The zones that the calendars of objects name.
+ghost use Rattle.std.specs.Prelude.{◌≡◌};
+ghost use Rattle.slo_objects.specs.Slo.{slo_in};
+ghost use Rattle.definition_verdict.specs.Zones.{first_unknown_zone as first_unknown_zone_lem, is_among as is_among_lem, is_known_zone as is_known_zone_lem, unknown_zone_in};
+
+use exact_fraction::ZoneName;
+use slo_objects::{Body, Object};
+
+/// Whether a zone is one of these.
+fn is_among(zones: &[ZoneName], name: ZoneName) -> bool
+    ensures { result ≡ is_among_lem zones.now name }
+{
+    for zone in zones {
+        if name.as_bytes() == zone.as_bytes() {
+            return true;
+        }
+    }
+    false
+}
+
+/// Whether a zone is known: one of these, or `UTC`.
+fn is_known_zone(zones: &[ZoneName], name: ZoneName) -> bool
+    ensures { result ≡ is_known_zone_lem zones.now name }
+{
+    name.as_bytes() == b"UTC".as_slice() || is_among(zones, name)
+}
+
+/// The zone of an SLO's calendar, where it isn't known.
+fn unknown_zone(zones: &[ZoneName], object: &Object) -> Option<ZoneName>
+    ensures { result ≡ unknown_zone_in zones.now (slo_in object.now.body) }
+{
+    let Body::Slo(slo) = &object.body else {
+        return None;
+    };
+    let Some(calendar) = &slo.time_window.calendar else {
+        return None;
+    };
+    if is_known_zone(zones, calendar.time_zone) {
+        None
+    } else {
+        Some(calendar.time_zone)
+    }
+}
+
+/// The first zone of the objects that isn't known.
+pub(crate) fn first_unknown_zone(zones: &[ZoneName], objects: &[Object]) -> Option<ZoneName>
+    ensures { result ≡ first_unknown_zone_lem zones.now objects.now }
+{
+    for object in objects {
+        if let Some(name) = unknown_zone(zones, object) {
+            return Some(name);
+        }
+    }
+    None
+}

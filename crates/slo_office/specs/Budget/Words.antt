@@ -1,0 +1,38 @@
+-- The words for why the input of `budget` is refused.
+use Rattle.std.specs.Prelude.{ℕ, List, ◌++◌, codes}
+use Rattle.std.specs.Fmt.{decimal}
+use Rattle.exact_fraction.specs.DecimalText.{decimal_text}
+use Rattle.slice_method.specs.declared.Amount.{Amount}
+use Rattle.slice_method.specs.declared.Amount.TheVariants.{Counts, Value}
+use Rattle.slo_office.specs.declared.budget.fault.RecordFault.{RecordFault}
+use Rattle.slo_office.specs.declared.budget.fault.RecordFault.TheVariants.{Fields, Field, Conflict}
+use Rattle.slo_office.specs.declared.budget.fault.BudgetFault.{BudgetFault}
+use Rattle.slo_office.specs.declared.budget.fault.BudgetFault.TheVariants.{TooLarge, BadRecord}
+use Rattle.slo_office.specs.declared.budget.fault.BudgetError.{BudgetError}
+use Rattle.slo_office.specs.declared.budget.fault.BudgetError.TheVariants.{Fault, NoMemory}
+use Rattle.slo_office.specs.declared.ending.RunRefusal.TheVariants as refusals
+use Rattle.slo_office.specs.declared.ending.Stop.{Stop}
+use Rattle.slo_office.specs.declared.ending.Stop.TheVariants as stops
+
+-- the words for a conflict with a kept amount
+abbrev pub words_of_amount : Amount → List ℕ
+words_of_amount (Counts part total) =
+    codes "conflict " ++ (decimal part ++ (codes "," ++ decimal total))
+words_of_amount (Value value) = codes "conflict " ++ decimal_text value
+
+-- the words for what is wrong with a record
+abbrev pub words_of_record : RecordFault → List ℕ
+words_of_record Fields = codes "fields"
+words_of_record Field = codes "row"
+words_of_record (Conflict kept) = words_of_amount kept
+
+-- the words for an input that is refused
+abbrev pub words_of_fault : BudgetFault → List ℕ
+words_of_fault TooLarge = codes "input too large"
+words_of_fault (BadRecord number fault) =
+    codes "record " ++ (decimal number ++ (codes ": " ++ words_of_record fault))
+
+-- a fault as the stop of a run
+abbrev pub stop_of : BudgetError → Stop
+stop_of (Fault fault) = stops.Refused (refusals.Budget fault)
+stop_of NoMemory = stops.NoMemory
