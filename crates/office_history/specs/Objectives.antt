@@ -1,0 +1,60 @@
+-- What an objective of an SLO counts, and what it aims at (OpenSLO v1, SLI and SLO).
+use Rattle.std.specs.Prelude.{ℕ, List, [], map, slice_get, Option, Some, None, option_map, option_and_then, unwrap_or}
+use Rattle.exact_fraction.specs.declared.Op.TheVariants.{Gte}
+use Rattle.slice_method.specs.declared.Reading.{Reading}
+use Rattle.slice_method.specs.declared.Method.{Method}
+use Rattle.slice_method.specs.declared.Method.TheVariants as methods
+use Rattle.slo_objects.specs.declared.kind.Kind.TheVariants as kinds
+use Rattle.slo_objects.specs.declared.Object.{Object}
+use Rattle.slo_objects.specs.declared.Sli.{Sli}
+use Rattle.slo_objects.specs.declared.Slo.{Slo}
+use Rattle.slo_objects.specs.declared.slo.BudgetingMethod.{BudgetingMethod}
+use Rattle.slo_objects.specs.declared.slo.BudgetingMethod.TheVariants as budgeting
+use Rattle.slo_objects.specs.declared.slo.Objective.{Objective}
+use Rattle.slo_objects.specs.Slo.{slo_in}
+use Rattle.slo_catalog.specs.Keys.{find_in}
+use Rattle.slo_catalog.specs.NeedsOp.{sli_named}
+use Rattle.definition_verdict.specs.Readings.{reading_of}
+use Rattle.office_history.specs.declared.measure.Measure.{Measure}
+
+-- the reading of the indicator of a name, where it is there
+abbrev pub reading_named : List Object → List ℕ → Option Reading
+reading_named members sli = option_map (λ (s : Sli). reading_of s.metric) (sli_named members sli)
+
+-- the method of an objective, with the width of its slices and the ratio from which on one is good
+abbrev pub method_of : BudgetingMethod → Objective → Method
+method_of budgeting.Occurrences objective = methods.Occurrences
+method_of budgeting.Timeslices objective = methods.Timeslices (unwrap_or objective.time_slice_window 1) (unwrap_or objective.time_slice_target 0)
+method_of budgeting.RatioTimeslices objective = methods.RatioTimeslices (unwrap_or objective.time_slice_window 1)
+
+-- an objective over an indicator of this reading; an omitted `op` is `gte`
+abbrev pub measure_of : List ℕ → Slo → Reading → Objective → Measure
+measure_of name slo reading objective = record {
+  slo = name;
+  sli = slo.indicator;
+  reading = reading;
+  op = unwrap_or objective.op Gte;
+  value = unwrap_or objective.value 0;
+  method = method_of slo.budgeting_method objective;
+  target = objective.target;
+}
+
+-- the SLO of a name, where it is there
+abbrev pub slo_named : List Object → List ℕ → Option Slo
+slo_named members name = option_and_then (λ o. slo_in o.body) (find_in members kinds.Slo name)
+
+abbrev pub measures_with : List ℕ → Slo → Option Reading → List Measure
+measures_with name slo None = []
+measures_with name slo (Some reading) = map (measure_of name slo reading) slo.objectives
+
+abbrev pub measures_of : List Object → List ℕ → Option Slo → List Measure
+measures_of members name None = []
+measures_of members name (Some slo) = measures_with name slo (reading_named members slo.indicator)
+
+-- the objectives of the SLO of a name, in their order
+abbrev pub measures_named : List Object → List ℕ → List Measure
+measures_named members name = measures_of members name (slo_named members name)
+
+-- the objective of this number of an SLO, from 0
+abbrev pub measure_at : List Object → List ℕ → ℕ → Option Measure
+measure_at members name number = slice_get (measures_named members name) number
