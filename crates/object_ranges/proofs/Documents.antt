@@ -1,0 +1,90 @@
+-- The ranges of an object that a document stands for: its canonical writing stands for it alone, so it is a document's own.
+use Rattle.std.proofs.Common.{◌≡◌, List, [], ◌∷◌, ◌++◌, Some, Ok, Err, refl, subst}
+use Rattle.std.specs.Prelude.{codes}
+use Rattle.std.specs.List.{AllByRecursion}
+use Rattle.std.proofs.lemmas.List.Elements.{All-from_recursion, All-contains}
+use Rattle.yaml_subset.specs.Tree.{Tree, Entries}
+use Rattle.yaml_subset.specs.Spelling.{meant}
+use Rattle.slo_objects.specs.declared.Object.{Object}
+use Rattle.slo_objects.specs.declared.Body.{Body}
+use Rattle.slo_objects.specs.declared.Body.TheVariants as bodies
+use Rattle.slo_objects.specs.declared.Kind.{Kind}
+use Rattle.slo_objects.specs.declared.Kind.TheVariants as kinds
+use Rattle.slo_objects.specs.declared.Slo.{Slo}
+use Rattle.slo_objects.specs.declared.AlertCondition.{AlertCondition}
+use Rattle.slo_objects.specs.Form.{Answer, map_with}
+use Rattle.slo_objects.specs.Document.{body, document, with_own, objects_of, written, IsOfDocument}
+use Rattle.slo_objects.specs.AlertCondition.{alert_condition, condition_in}
+use Rattle.slo_objects.specs.Slo.{slo, slo_in}
+use Rattle.object_ranges.specs.Ranges.{HasObjectives, IsWindow, IsCondition}
+use Rattle.object_ranges.proofs.Reading.{ok_same, err_not_ok, Reads, Makes, map_reads, mapped_gave}
+use Rattle.object_ranges.proofs.Lines.{required_gave}
+use Rattle.object_ranges.proofs.Tables.{IsSlo, slo_reads, alert_condition_reads}
+
+-- what a body is to be, by its variant
+abbrev pub IsBody : Body → Type 0
+IsBody (bodies.Slo s) = IsSlo s
+IsBody (bodies.AlertCondition c) = IsCondition c.condition
+IsBody _ = Unit {0}
+
+abbrev Any : {A : Type 0} → A → Type 0
+Any a = Unit {0}
+
+body_reads : (kind : Kind) → Reads (body kind) IsBody
+unfolding body
+body_reads kinds.DataSource key t = mapped_gave Any IsBody bodies.DataSource (λ a q. tt) _ (λ p e. tt)
+body_reads kinds.Service key t = mapped_gave Any IsBody bodies.Service (λ a q. tt) _ (λ p e. tt)
+body_reads kinds.Sli key t = mapped_gave Any IsBody bodies.Sli (λ a q. tt) _ (λ p e. tt)
+body_reads kinds.AlertPolicy key t = mapped_gave Any IsBody bodies.AlertPolicy (λ a q. tt) _ (λ p e. tt)
+body_reads kinds.AlertNotificationTarget key t = mapped_gave Any IsBody bodies.AlertNotificationTarget (λ a q. tt) _ (λ p e. tt)
+body_reads kinds.Slo key t = mapped_gave IsSlo IsBody bodies.Slo (λ s h. h) ((map_with slo).read key t) (slo_reads key t)
+body_reads kinds.AlertCondition key t = mapped_gave (λ c. IsCondition c.condition) IsBody bodies.AlertCondition (λ c h. h) ((map_with alert_condition).read key t) (alert_condition_reads key t)
+
+document_makes : (es : Entries) → Makes document es (λ o. IsBody o.body)
+unfolding document
+document_makes es = λ v _ k _ m _ s e. required_gave IsBody (codes "spec") (body k.1) (body_reads k.1) es s e
+
+document_reads : Reads (map_with document) (λ o. IsBody o.body)
+document_reads = map_reads document (λ o. IsBody o.body) document_makes
+
+-- the object that a document alone stands for is its own
+last_same : {X : Type 0} (xs : List X) (x y : X) → xs ++ x ∷ [] ≡ y ∷ [] → x ≡ y
+last_same [] x y e = cc
+last_same (z ∷ []) x y e = absurd (let f : ⊥ = cc in f)
+last_same (z ∷ w ∷ ws) x y e = absurd (let f : ⊥ = cc in f)
+
+own_body : (o : Object) (t : Tree) → objects_of t ≡ Ok (o ∷ []) → IsBody o.body
+own_body o t e = by ((map_with document).read (codes "document") t) refl e
+  where
+    by : (a : Answer Object) → (map_with document).read (codes "document") t ≡ a → with_own a ≡ Ok (o ∷ []) → IsBody o.body
+    by (Ok p) f g = subst (λ z. IsBody z.body) (last_same p.0 p.1 o (ok_same (p.0 ++ p.1 ∷ []) (o ∷ []) g)) (document_reads (codes "document") t p f)
+    by (Err x) f g = absurd (err_not_ok x (o ∷ []) g)
+
+-- each object that a document stands for is written as a document that stands for it alone
+abbrev pub ReadsBack : Type 0
+ReadsBack = (t : Tree) (os : List Object) → objects_of t ≡ Ok os → AllByRecursion (λ o. objects_of (meant (written o)) ≡ Ok (o ∷ [])) os
+
+pub of_document : ReadsBack → (o : Object) → IsOfDocument o → IsBody o.body
+of_document law o d = own_body o (meant (written o))
+    (All-contains (λ p. objects_of (meant (written p)) ≡ Ok (p ∷ [])) d.objects o
+    (All-from_recursion (λ p. objects_of (meant (written p)) ≡ Ok (p ∷ [])) d.objects (law d.node d.objects d.are_read)) d.is_among)
+
+slo_of : (b : Body) (s : Slo) → slo_in b ≡ Some s → IsBody b → IsSlo s
+slo_of (bodies.Slo t) s e h = subst IsSlo (let same : t ≡ s = cc e in same) h
+slo_of _ s e h = absurd (let f : ⊥ = cc e in f)
+
+condition_of : (b : Body) (c : AlertCondition) → condition_in b ≡ Some c → IsBody b → IsCondition c.condition
+condition_of (bodies.AlertCondition d) c e h = subst (λ z. IsCondition z.condition) (let same : d ≡ c = cc e in same) h
+condition_of _ c e h = absurd (let f : ⊥ = cc e in f)
+
+pub slos : ReadsBack → (o : Object) (s : Slo) → IsOfDocument o → slo_in o.body ≡ Some s → IsSlo s
+slos law o s d e = slo_of o.body s e (of_document law o d)
+
+pub objectives : ReadsBack → (o : Object) (s : Slo) → IsOfDocument o → slo_in o.body ≡ Some s → HasObjectives s
+objectives law o s d e = (slos law o s d e).objectives
+
+pub windows : ReadsBack → (o : Object) (s : Slo) → IsOfDocument o → slo_in o.body ≡ Some s → IsWindow s.time_window
+windows law o s d e = (slos law o s d e).window
+
+pub conditions : ReadsBack → (o : Object) (c : AlertCondition) → IsOfDocument o → condition_in o.body ≡ Some c → IsCondition c.condition
+conditions law o c d e = condition_of o.body c e (of_document law o d)

@@ -1,0 +1,6 @@
+mod Reading
+mod Lines
+mod Values
+mod Tables
+mod Documents
+mod ByName

@@ -1,0 +1,66 @@
+//! The laws of what the objects of a catalog give by their names.
+ghost use Rattle.std.specs.Prelude.{◌≡◌, ◌<◌, ℕ, All, List, Some};
+ghost use Rattle.std.specs.Int.{◌∣◌};
+ghost use Rattle.burn_core.specs.declared.AlertRule.{AlertRule};
+ghost use Rattle.burn_core.specs.Alert.{IsRule, lookback_of};
+ghost use Rattle.office_history.specs.declared.Measure.{Measure};
+ghost use Rattle.office_history.specs.Alerts.{rule_named, rule_of};
+ghost use Rattle.office_history.specs.Objectives.{measure_at, measure_of, slo_named};
+ghost use Rattle.slice_method.specs.declared.Reading.{Reading};
+ghost use Rattle.slo_limits.specs.declared.TheConstants.{WHOLE};
+ghost use Rattle.slo_objects.specs.declared.Object.{Object};
+ghost use Rattle.slo_objects.specs.declared.Slo.{Slo};
+ghost use Rattle.slo_objects.specs.declared.slo.Objective.{Objective};
+ghost use Rattle.slo_objects.specs.declared.alert_condition.Condition.{Condition};
+ghost use Rattle.slo_objects.specs.Document.{IsOfDocument};
+ghost use Rattle.window_sums.specs.Slices.{width_of};
+ghost use Rattle.object_ranges.specs.Measures.{HasSliceTarget, IsMeasure};
+ghost use Rattle.object_ranges.specs.Ranges.{IsCondition, IsObjective, IsWindow};
+
+use slo_objects::each_object_reads_back;
+
+/// What an objective in its ranges counts is in its ranges, whatever the indicator reads.
+pub fn objectives_give_measures()
+    ensures { (name : List ℕ) (slo : Slo) (reading : Reading) (o : Objective) →
+        IsObjective slo.budgeting_method o → IsMeasure (measure_of name slo reading o) }
+{}
+
+/// The rule of a condition in its ranges is a rule.
+pub fn conditions_give_rules()
+    ensures { (c : Condition) → IsCondition c → IsRule (rule_of c) }
+{}
+
+/// What an objective counts has a target below one (in billionths), slices of which an hour has
+/// a whole number, and a ratio of a slice, where its method asks for one, above zero and at most one.
+pub fn measures_are_in_range()
+    ensures target { (members : List Object) (slo : List ℕ) (number : ℕ) (m : Measure) →
+        All IsOfDocument members → measure_at members slo number ≡ Some m → m.target < WHOLE }
+    ensures width { (members : List Object) (slo : List ℕ) (number : ℕ) (m : Measure) →
+        All IsOfDocument members → measure_at members slo number ≡ Some m → width_of m.method ∣ 60 }
+    ensures some { (members : List Object) (slo : List ℕ) (number : ℕ) (m : Measure) →
+        All IsOfDocument members → measure_at members slo number ≡ Some m → 0 < width_of m.method }
+    ensures slices { (members : List Object) (slo : List ℕ) (number : ℕ) (m : Measure) →
+        All IsOfDocument members → measure_at members slo number ≡ Some m → HasSliceTarget m.method }
+{
+    each_object_reads_back();
+}
+
+/// The rule of a policy has a threshold of at most 10,000, a lookback of at least a minute and a
+/// wait, both of at most 30 days.
+pub fn rules_are_in_range()
+    ensures rule { (members : List Object) (policy : List ℕ) (rule : AlertRule) →
+        All IsOfDocument members → rule_named members policy ≡ Some rule → IsRule rule }
+    ensures lookback { (members : List Object) (policy : List ℕ) (rule : AlertRule) →
+        All IsOfDocument members → rule_named members policy ≡ Some rule → 0 < lookback_of rule }
+{
+    each_object_reads_back();
+}
+
+/// The window of the SLO of a name lasts at least a minute and at most 366 days; where it has a
+/// calendar, its starts can follow each other by it.
+pub fn named_windows_are_in_range()
+    ensures { (members : List Object) (name : List ℕ) (slo : Slo) →
+        All IsOfDocument members → slo_named members name ≡ Some slo → IsWindow slo.time_window }
+{
+    each_object_reads_back();
+}

@@ -1,0 +1,47 @@
+-- The days of an indicator, counted one by one.
+use Rattle.std.specs.Prelude.{ℕ, ◌+◌, ◌-◌, ◌/◌, ◌≤◌, ◌<◌, ◌||◌, Bool, false, cond, List, length, slice_index_or, Option, Some, None}
+use Rattle.slo_objects.specs.declared.Object.{Object}
+use Rattle.slo_objects.specs.declared.Slo.{Slo}
+use Rattle.slo_objects.specs.Slo.{slo_in}
+use Rattle.std.specs.List.{list_any}
+use Rattle.slo_terms.specs.Sums.{sum_over}
+use Rattle.sample_book.specs.declared.Row.{Row}
+use Rattle.sample_book.specs.Chains.{is_on}
+
+-- a row's minute lies in [origin, until)
+abbrev pub IsWithin : ℕ → ℕ → Row → Type 0
+IsWithin origin until row = (origin ≤ row.minute) × (row.minute < until)
+
+-- a row lies on one of so many days
+abbrev pub IsOnDays : ℕ → ℕ → Row → Type 0
+IsOnDays first count row = (first ≤ row.minute / 1440) × (row.minute / 1440 < first + count)
+
+-- one of the rows is of the indicator, on that day
+abbrev pub has_day : List ℕ → List Row → ℕ → Bool
+has_day sli rows day = list_any (is_on sli day) rows
+
+abbrev pub one_if : Bool → ℕ
+one_if b = cond b 1 0
+
+-- the first day that has a minute of [origin, until), and how many there are at most from it on
+abbrev pub first_day : ℕ → ℕ
+first_day origin = origin / 1440
+
+abbrev pub day_count : ℕ → ℕ → ℕ
+day_count origin until = (until - origin) / 1440 + 2
+
+-- how many of so many days from one on pass a test
+abbrev pub days_passing : (ℕ → Bool) → ℕ → ℕ → ℕ
+days_passing test first count = sum_over (λ day. one_if (test day)) first count
+
+-- a day is marked, or has a row of the indicator; the first mark is that of the first day
+abbrev pub is_counted : List ℕ → List Row → ℕ → List Bool → ℕ → Bool
+is_counted sli rows first marks day = has_day sli rows day || slice_index_or marks (day - first) false
+
+-- how many objectives an object has: those of an SLO, else none
+abbrev pub objectives_in : Option Slo → ℕ
+objectives_in None = 0
+objectives_in (Some slo) = length slo.objectives
+
+abbrev pub objectives_of : Object → ℕ
+objectives_of o = objectives_in (slo_in o.body)

@@ -1,0 +1,9 @@
+//! How many pairs there are of an objective and a day that has rows, judged by their limit.
+//! Stands on the book of samples and the catalog, and on the definition over a history.
+//! Promises the count's test exactly, at a look-up for each day of an indicator at most.
+#![tactic(auto)]
+
+mod days;
+mod limit;
+
+pub use limit::passes_days_limit;

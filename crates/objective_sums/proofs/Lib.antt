@@ -1,0 +1,4 @@
+mod ShareLemmas
+mod MinuteLemmas
+mod WatchLemmas
+mod CatalogLemmas

@@ -1,0 +1,100 @@
+//! What stands under a name in a catalog.
+ghost use Rattle.std.specs.Prelude.{◌≡◌, IfSome};
+ghost use Rattle.std.specs.Option.{option_copied};
+ghost use Rattle.slo_objects.specs.AlertCondition.{condition_in as condition_in_lem};
+ghost use Rattle.slo_objects.specs.AlertPolicy.{policy_in as policy_in_lem};
+ghost use Rattle.slo_objects.specs.Sli.{sli_in as sli_in_lem};
+ghost use Rattle.slo_objects.specs.Slo.{slo_in as slo_in_lem};
+ghost use Rattle.slo_catalog.specs.Bindings.{policy_named as policy_named_lem};
+ghost use Rattle.slo_catalog.specs.References.{names_in as names_in_lem};
+ghost use Rattle.object_ranges.specs.Ranges.{HasObjectives, IsCondition, IsWindow};
+ghost use Rattle.office_history.specs.Alerts.{condition_named as condition_named_lem};
+ghost use Rattle.office_history.specs.Objectives.{reading_named as reading_named_lem, slo_named as slo_named_lem};
+
+use definition_verdict::reading_of;
+use exact_fraction::Label;
+use object_ranges::{conditions_are_in_range, objectives_are_in_range, windows_are_in_range};
+use slice_method::Reading;
+use slo_catalog::Catalog;
+use slo_objects::{AlertCondition, AlertPolicy, Body, Kind, Names, Object, Sli, Slo};
+
+fn slo_in(object: &Object) -> Option<&Slo>
+    ensures { option_copied result ≡ slo_in_lem object.now.body }
+{
+    match &object.body {
+        Body::Slo(slo) => Some(slo),
+        _ => None,
+    }
+}
+
+fn sli_in(object: &Object) -> Option<&Sli>
+    ensures { option_copied result ≡ sli_in_lem object.now.body }
+{
+    match &object.body {
+        Body::Sli(sli) => Some(sli),
+        _ => None,
+    }
+}
+
+fn policy_in(object: &Object) -> Option<&AlertPolicy>
+    ensures { option_copied result ≡ policy_in_lem object.now.body }
+{
+    match &object.body {
+        Body::AlertPolicy(policy) => Some(policy),
+        _ => None,
+    }
+}
+
+fn condition_in(object: &Object) -> Option<&AlertCondition>
+    ensures { option_copied result ≡ condition_in_lem object.now.body }
+{
+    match &object.body {
+        Body::AlertCondition(condition) => Some(condition),
+        _ => None,
+    }
+}
+
+/// The SLO of a name: none exactly where there is no such member.
+pub fn slo_named(catalog: &Catalog, name: Label) -> Option<&Slo>
+    ensures there { option_copied result ≡ slo_named_lem catalog.now name }
+    ensures ranges { IfSome result (λ slo. HasObjectives slo.now) }
+    ensures window { IfSome result (λ slo. IsWindow slo.now.time_window) }
+{
+    objectives_are_in_range();
+    windows_are_in_range();
+    slo_in(catalog.find(Kind::Slo, name)?)
+}
+
+/// How the amounts of the indicator of a name are read: none exactly where there is no such member.
+pub fn reading_named(catalog: &Catalog, name: Label) -> Option<Reading>
+    ensures { result ≡ reading_named_lem catalog.now name }
+{
+    let sli = sli_in(catalog.find(Kind::Sli, name)?)?;
+    Some(reading_of(&sli.metric))
+}
+
+/// The alert policy of a name: none exactly where there is no such member.
+pub(crate) fn policy_named(catalog: &Catalog, name: Label) -> Option<&AlertPolicy>
+    ensures { option_copied result ≡ policy_named_lem catalog.now name }
+{
+    policy_in(catalog.find(Kind::AlertPolicy, name)?)
+}
+
+/// The alert condition of a name: none exactly where there is no such member.
+pub(crate) fn condition_named(catalog: &Catalog, name: Label) -> Option<&AlertCondition>
+    ensures there { option_copied result ≡ condition_named_lem catalog.now name }
+    ensures ranges { IfSome result (λ condition. IsCondition condition.now.condition) }
+{
+    conditions_are_in_range();
+    condition_in(catalog.find(Kind::AlertCondition, name)?)
+}
+
+/// The names of a list that may be omitted.
+pub(crate) fn names_in(names: &Option<Names>) -> &[Label]
+    ensures { result.now ≡ names_in_lem names.now }
+{
+    match names {
+        Some(names) => names.as_slice(),
+        None => &[],
+    }
+}

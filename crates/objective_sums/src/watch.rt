@@ -1,0 +1,137 @@
+//! An alert that is watched, and how it stands.
+ghost use Rattle.std.specs.Prelude.{◌≡◌, ◌≤◌, ◌<◌, ◌+◌, IfOk, IfSome};
+ghost use Rattle.burn_core.specs.Alert.{IsRule};
+ghost use Rattle.burn_core.specs.Timeline.{state_of};
+ghost use Rattle.object_ranges.specs.Measures.{IsMeasure};
+ghost use Rattle.alert_line.specs.Line.{Agrees, IsMinute, active_on, den_before};
+ghost use Rattle.office_history.specs.Counts.{Samples};
+ghost use Rattle.office_history.specs.Alerts.{same_binding as same_binding_lem, state_at, watch_of as watch_of_lem, watched as watched_lem};
+ghost use Rattle.std.specs.List.{list_any};
+ghost use Rattle.objective_sums.specs.Sums.{AreSums, IsNamed};
+
+use crate::measures::measure_at;
+use crate::rules::rule_named;
+use alert_line::AlertLine;
+use burn_core::{AlertRule, State};
+use counted_steps::Steps;
+use office_history::Measure;
+use slo_catalog::{Binding, Catalog};
+use std::alloc::{AllocError, Global};
+use std::marker::{Brand, Model};
+use std::sync::ledger::{Blank, Ledger};
+use window_sums::WindowSums;
+
+/// An objective, and the rule of an alert policy.
+#[derive(Drop)]
+pub struct Watch {
+    measure: Measure,
+    rule: AlertRule,
+}
+
+impl Model for Watch {
+    ghost use Rattle.office_history.specs.Alerts as alerts;
+    ghost use Rattle.objective_sums.specs.Sums.{IsWatch};
+
+    ghost Value = { alerts.Watch };
+
+    ghost view = { λ a. record { measure = a.measure; rule = a.rule } };
+
+    ghost invariant = { λ a. IsWatch (record { measure = a.measure; rule = a.rule }) };
+}
+
+impl Watch {
+    /// What the objective counts.
+    pub fn measure(&self) -> &Measure
+        ensures value { result.now ≡ self.now.measure }
+        ensures ranges { IsMeasure self.now.measure }
+    {
+        &self.measure
+    }
+
+    /// When its condition holds.
+    pub fn rule(&self) -> &AlertRule
+        ensures value { result.now ≡ self.now.rule }
+        ensures ranges { IsRule self.now.rule }
+    {
+        &self.rule
+    }
+}
+
+/// What a binding watches: none where its objective isn't there, or its policy has no condition.
+pub fn watch_of(catalog: &Catalog, binding: &Binding) -> Option<Watch>
+    ensures value { result ≡ watch_of_lem catalog.now binding.now }
+    ensures named { IfSome result (λ watch. IsNamed catalog.now watch.measure) }
+{
+    let measure = measure_at(catalog, binding.slo, binding.objective)?;
+    let rule = rule_named(catalog, binding.policy)?;
+    Some(Watch { measure, rule })
+}
+
+/// Whether two bindings are of one SLO, objective and policy.
+pub fn same_binding(a: &Binding, b: &Binding) -> bool
+    ensures { result ≡ same_binding_lem a.now b.now }
+{
+    a.slo == b.slo && a.objective == b.objective && a.policy == b.policy
+}
+
+fn is_among(bindings: &[Binding], binding: &Binding) -> bool
+    ensures { result ≡ list_any (same_binding_lem binding.now) bindings.now }
+{
+    bindings.iter().any(|other| same_binding(binding, other))
+}
+
+/// What a binding of the catalog watches: none where it is no binding of the catalog.
+///
+/// # Errors
+///
+/// Memory ran out.
+pub fn watched(
+    alloc: Global,
+    catalog: &Catalog,
+    binding: &Binding,
+) -> Result<Option<Watch>, AllocError>
+    ensures value { IfOk result (λ watch. watch ≡ watched_lem catalog.now binding.now) }
+    ensures named { IfOk result (λ watch. IfSome watch (λ found. IsNamed catalog.now found.measure)) }
+{
+    let bindings = catalog.bindings(alloc)?;
+    if !is_among(&bindings, binding) {
+        return Ok(None);
+    }
+    Ok(watch_of(catalog, binding))
+}
+
+/// How a watched alert stands at a minute of the office's range, over sums of its objective.
+///
+/// # Errors
+///
+/// Memory ran out.
+pub fn state_of_watch(
+    alloc: Global,
+    origin: u32,
+    sums: &WindowSums,
+    watch: &Watch,
+    minute: u32,
+) -> Result<State, AllocError>
+    requires begun { origin ≤ minute }
+    requires in_range { minute < origin + 2097152 }
+    ensures { (s : Samples) → AreSums s watch.now.measure sums.now → IfOk result (λ state. state ≡ state_at origin s watch.now minute) }
+{
+    let mut line = AlertLine::new(alloc, origin, watch.rule, watch.measure.target)?;
+    Ok(state_of_line::<Brand>(&mut line, sums, minute, Blank::new(1)))
+}
+
+// How the alert of a line stands. No one counts the steps.
+fn state_of_line<L: Ledger>(
+    line: &mut AlertLine,
+    sums: &WindowSums,
+    minute: u32,
+    blank: Blank,
+) -> State
+    requires minute { IsMinute line.old minute }
+    requires agrees { Agrees line.old sums.now }
+    requires blank { (blank.name ≡ L.name) × (blank.parts ≡ L.parts) × (0 < L.parts) }
+    ensures { result ≡ state_of (active_on line.old sums.now minute) (den_before line.old sums.now minute) }
+{
+    let mut steps = Steps::<L>::new(blank);
+    line.state_at(minute, sums, &mut steps)
+}

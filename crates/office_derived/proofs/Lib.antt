@@ -1,0 +1,4 @@
+pub mod Lists
+pub mod More
+pub mod Still
+pub mod ZoneLemmas

@@ -1,0 +1,14 @@
+//! What is derived from a history and kept beside it, and what is found out about a command.
+//! Stands on the definitions over the history, and on the crates whose values it keeps.
+//! Promises nothing of changes: their crates prove that what is kept reflects the history.
+#![tactic(auto)]
+
+mod derived;
+mod tally;
+mod work;
+mod zones;
+
+pub use derived::Derived;
+pub use tally::Tally;
+pub use work::{Judged, Work};
+pub use zones::Zones;

@@ -1,0 +1,55 @@
+//! What is found out about a command before it is done.
+
+use crate::tally::Tally;
+use burn_core::State;
+use exact_fraction::{Bytes, Label, ZoneName};
+use record_form::{Outcome, Refusal, Rows};
+use sample_book::Exclusion;
+use slo_catalog::{Binding, Catalog};
+use slo_objects::Kind;
+use zone_calendar::Zone;
+
+/// An accepted command, with what was found out about it.
+#[derive(Drop)]
+pub enum Work {
+    /// The catalog with the objects of the text, of which there are `applied`.
+    Define {
+        text: Bytes,
+        catalog: Catalog,
+        applied: u32,
+    },
+    /// The catalog without the object.
+    Remove {
+        kind: Kind,
+        name: Label,
+        catalog: Catalog,
+    },
+    /// The zone that the bytes are.
+    PutZone {
+        name: ZoneName,
+        bytes: Bytes,
+        zone: Zone,
+    },
+    /// What becomes of the rows, counted.
+    Samples {
+        rows: Rows,
+        tally: Tally,
+    },
+    Exclude(Exclusion),
+    Lift(Label),
+    /// Each binding with its state at the moment, and those of them that are told.
+    Tick {
+        states: Vec<(Binding, State)>,
+        told: Vec<(Binding, State)>,
+    },
+    Take(u32),
+}
+
+/// What the judging of a command comes to.
+#[derive(Drop)]
+pub enum Judged {
+    Ready(Work),
+    Same(Outcome),
+    Refused(Refusal),
+    NoMemory,
+}
