@@ -1,0 +1,6 @@
+pub mod KindLemmas
+pub mod MemberLemmas
+pub mod DefineLemmas
+pub mod ReadingLemmas
+pub mod ChangeLemmas
+pub mod LegalLemmas

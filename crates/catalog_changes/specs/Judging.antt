@@ -1,0 +1,43 @@
+-- What is found out about a definition, a removal and a zone, over what is kept.
+use Rattle.std.specs.Prelude.{◌≡◌, ℕ, List, length, map, Option, Some}
+use Rattle.definition_verdict.specs.Verdict.{Known, known}
+use Rattle.slo_objects.specs.declared.kind.Kind.{Kind}
+use Rattle.slo_objects.specs.declared.Object.{Object}
+use Rattle.slo_catalog.specs.Catalog.{put_all, without}
+use Rattle.zone_calendar.specs.ZoneBytes.{zone_of}
+use Rattle.office_history.specs.declared.Judgement.{Judgement}
+use Rattle.office_history.specs.declared.Judgement.TheVariants.{Accepted, Same, Refused}
+use Rattle.office_history.specs.History.{end_of}
+use Rattle.office_history.specs.Catalog.{text_objects}
+use Rattle.office_derived.specs.declared.Derived.{Derived}
+use Rattle.office_derived.specs.declared.Work.{Work}
+use Rattle.office_derived.specs.declared.Work.TheVariants as works
+use Rattle.office_derived.specs.declared.Judged.{Judged}
+use Rattle.office_derived.specs.declared.Judged.TheVariants as judged
+
+-- what a definition is judged by, as it is kept
+abbrev pub known_by : Derived → Known
+known_by d = known d.catalog (map (λ kept. kept.0) d.zones.kept) d.book.rows (end_of d.origin)
+
+-- a judgement of these, with a work of these where it is accepted; or memory ran out
+abbrev pub IsJudgedBy : (Judgement → Type 0) → (Work → Type 0) → Judged → Type 0
+IsJudgedBy IsJudgement IsWork (judged.Ready work) = IsJudgement Accepted × IsWork work
+IsJudgedBy IsJudgement IsWork (judged.Same outcome) = IsJudgement (Same outcome)
+IsJudgedBy IsJudgement IsWork (judged.Refused refusal) = IsJudgement (Refused refusal)
+IsJudgedBy IsJudgement IsWork judged.NoMemory = Unit {0}
+
+-- the work of a text: its objects, each put in its place among the members
+abbrev pub IsTextWork : List Object → List ℕ → Work → Type 0
+IsTextWork members text (works.Define copy catalog applied) =
+    (copy ≡ text) × (catalog ≡ put_all (text_objects text) members) × (applied ≡ length (text_objects text))
+IsTextWork members text _ = ⊥
+
+-- the work of a removal: the members but for one
+abbrev pub IsRemoval : List Object → Kind → List ℕ → Work → Type 0
+IsRemoval members kind name (works.Remove k n catalog) = (k ≡ kind) × (n ≡ name) × (catalog ≡ without kind name members)
+IsRemoval members kind name _ = ⊥
+
+-- the work of a zone: what its bytes say
+abbrev pub IsZoneWork : List ℕ → List ℕ → Work → Type 0
+IsZoneWork name bytes (works.PutZone n copy zone) = (n ≡ name) × (copy ≡ bytes) × (zone_of bytes ≡ Some zone)
+IsZoneWork name bytes _ = ⊥

@@ -1,0 +1,158 @@
+//! Definitions.
+ghost use Rattle.std.specs.Prelude.{◌≡◌, Err, IfOk, length};
+ghost use Rattle.record_form.specs.declared.Command.TheVariants.{Define};
+ghost use Rattle.record_form.specs.declared.Refusal.{Refusal};
+ghost use Rattle.definition_verdict.specs.Verdict.{IsDefinition, IsRefused};
+ghost use Rattle.slo_catalog.specs.Catalog.{put_all};
+ghost use Rattle.office_history.specs.Catalog.{text_objects};
+ghost use Rattle.office_history.specs.History.{Office, with_entry};
+ghost use Rattle.office_history.specs.Judges.{JudgesText, defined_verdict};
+ghost use Rattle.office_history.specs.Outcomes.{outcome_of};
+ghost use Rattle.office_derived.specs.Derived.{IsJudged, IsNext, IsSound, Reflects, entry_of};
+ghost use Rattle.office_derived.specs.declared.Work.TheVariants as works;
+ghost use Rattle.catalog_changes.specs.Judging.{IsJudgedBy, IsTextWork, known_by};
+
+use crate::days::passes_days;
+use crate::entries::{accepted, copy_of};
+use crate::kinds::bodies_are_of_their_kinds;
+use definition_verdict::{Definition, VerdictError, judge_definition};
+use exact_fraction::Bytes;
+use office_derived::{Derived, Judged, Work};
+use office_history::Judgement;
+use record_form::{LimitName, Outcome, Refusal};
+use slo_catalog::Catalog;
+use slo_limits::RANGE_MINUTES;
+use std::alloc::{AllocError, Global};
+
+/// What a text defines over what is kept.
+fn definition_over(
+    alloc: Global,
+    derived: &Derived,
+    text: &[u8],
+) -> Result<Definition, VerdictError>
+    requires { IsSound derived.now }
+    ensures defined { IfOk result (λ made. IsDefinition (known_by derived.now) text.now made) }
+    ensures catalog { IfOk result
+        (λ made. made.catalog ≡ put_all (text_objects text.now) derived.now.catalog) }
+    ensures objects { IfOk result (λ made. made.objects ≡ length (text_objects text.now)) }
+    ensures refused { (refusal : Refusal) → result ≡ Err (VerdictError.Refused refusal) →
+        IsRefused (known_by derived.now) text.now refusal }
+{
+    let Ok(zones) = derived.zones.names(alloc) else {
+        return Err(VerdictError::NoMemory);
+    };
+    judge_definition(
+        alloc,
+        &derived.catalog,
+        &zones,
+        &derived.book,
+        derived.origin + RANGE_MINUTES,
+        text,
+    )
+}
+
+/// How many objects a text has.
+fn applied_of(made: &Definition) -> Result<u32, AllocError>
+    ensures { IfOk result (λ applied. applied ≡ made.now.objects) }
+{
+    match u32::try_from(made.objects) {
+        Ok(applied) => Ok(applied),
+        Err(_) => Err(AllocError),
+    }
+}
+
+/// What becomes of a text that defines this.
+fn verdict_on(
+    alloc: Global,
+    derived: &Derived,
+    made: &Definition,
+    applied: u32,
+) -> Result<Judgement, AllocError>
+    requires sound { IsSound derived.now }
+    requires applied { applied ≡ made.now.objects }
+    ensures { IfOk result
+        (λ verdict. verdict ≡ defined_verdict (known_by derived.now) derived.now.entries made.now) }
+{
+    if passes_days(alloc, derived, &made.catalog)? {
+        return Ok(Judgement::Refused(Refusal::Limit {
+            which: LimitName::Days,
+        }));
+    }
+    if made.same {
+        return Ok(Judgement::Same(Outcome::Defined {
+            applied,
+            entry: None,
+        }));
+    }
+    Ok(accepted(derived.entries))
+}
+
+/// What becomes of a text over what is kept.
+fn judged_text(alloc: Global, derived: &Derived, text: &Bytes) -> Judged
+    requires { IsSound derived.now }
+    ensures { IsJudgedBy (JudgesText (known_by derived.now) derived.now.entries text.now)
+        (IsTextWork derived.now.catalog text.now) result }
+{
+    let made = match definition_over(alloc, derived, text.as_bytes()) {
+        Ok(made) => made,
+        Err(VerdictError::Refused(refusal)) => return Judged::Refused(refusal),
+        Err(VerdictError::NoMemory) => return Judged::NoMemory,
+    };
+    let Ok(applied) = applied_of(&made) else {
+        return Judged::NoMemory;
+    };
+    match verdict_on(alloc, derived, &made, applied) {
+        Ok(Judgement::Accepted) => match copy_of(alloc, text) {
+            Ok(text) => Judged::Ready(Work::Define {
+                text,
+                catalog: made.catalog,
+                applied,
+            }),
+            Err(AllocError) => Judged::NoMemory,
+        },
+        Ok(Judgement::Same(outcome)) => Judged::Same(outcome),
+        Ok(Judgement::Refused(refusal)) => Judged::Refused(refusal),
+        Err(AllocError) => Judged::NoMemory,
+    }
+}
+
+/// What becomes of a text of documents at a moment. The text, its documents, their objects and the
+/// catalog with them are judged first; then the limit of days, over that catalog; then whether the
+/// catalog stays as it is; and then the limit of entries.
+pub fn judge_define(alloc: Global, derived: &Derived, moment: u32, text: &Bytes) -> Judged
+    requires { IsSound derived.now }
+    ensures { (o : Office) → Reflects derived.now o → IsJudged o moment (Define text.now) result }
+{
+    judged_text(alloc, derived, text)
+}
+
+/// Defines the objects of an accepted text at a moment, in minutes since 1970-01-01T00:00Z: its
+/// catalog is kept, and it is one entry more. Takes no memory.
+pub fn apply_define(
+    derived: &mut Derived,
+    moment: u32,
+    text: Bytes,
+    catalog: Catalog,
+    applied: u32,
+) -> Outcome
+    requires sound { IsSound derived.old }
+    requires next { (o : Office) × IsNext derived.old o moment (works.Define text catalog applied) }
+    ensures reflects { (o : Office) →
+        IsNext derived.old o moment (works.Define text catalog applied) →
+        Reflects derived.new (with_entry o (entry_of moment (works.Define text catalog applied))) }
+    ensures sound { IsSound derived.new }
+    ensures outcome { (o : Office) →
+        IsNext derived.old o moment (works.Define text catalog applied) →
+        result ≡ outcome_of o moment (Define text) }
+{
+    // So each indicator that has samples keeps its reading.
+    bodies_are_of_their_kinds();
+    let entry = derived.entries;
+    derived.entries = entry + 1;
+    derived.present = moment;
+    derived.catalog = catalog;
+    Outcome::Defined {
+        applied,
+        entry: Some(entry),
+    }
+}

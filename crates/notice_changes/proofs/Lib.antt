@@ -1,0 +1,4 @@
+mod BoxLemmas
+mod TickLemmas
+mod TakeLemmas
+mod OnceLemmas

@@ -1,0 +1,33 @@
+//! Judgements that ticks and takings share.
+ghost use Rattle.std.specs.Prelude.{◌≡◌};
+ghost use Rattle.office_history.specs.Verdicts.{accepted as accepted_lem};
+ghost use Rattle.notice_changes.specs.Works.{judged_as as judged_as_lem};
+
+use office_derived::{Judged, Work};
+use office_history::Judgement;
+use record_form::{LimitName, Refusal};
+use slo_limits::MAX_ENTRIES;
+
+// Accepted, unless there is no room for an entry more.
+pub(crate) fn accepted(entries: u32) -> Judgement
+    ensures { result ≡ accepted_lem entries }
+{
+    if entries < MAX_ENTRIES {
+        Judgement::Accepted
+    } else {
+        Judgement::Refused(Refusal::Limit {
+            which: LimitName::Entries,
+        })
+    }
+}
+
+// What a judgement comes to, where it is accepted as this work.
+pub(crate) fn judged_as(judgement: Judgement, work: Work) -> Judged
+    ensures { result ≡ judged_as_lem judgement work }
+{
+    match judgement {
+        Judgement::Accepted => Judged::Ready(work),
+        Judgement::Same(outcome) => Judged::Same(outcome),
+        Judgement::Refused(refusal) => Judged::Refused(refusal),
+    }
+}

@@ -1,0 +1,6 @@
+pub mod Tallies
+pub mod GoodRows
+pub mod Judged
+pub mod Kept
+pub mod OnceExclusions
+pub mod OnceBatches

@@ -1,0 +1,37 @@
+-- The judging of a batch over what is kept: the current rows, and how many rows were accepted.
+use Rattle.std.specs.Prelude.{ℕ, ◌+◌, cond, nat_lt, List, [], ◌∷◌, ◌++◌, length, Option, None}
+use Rattle.std.specs.List.{list_any}
+use Rattle.slo_limits.specs.declared.TheConstants as most
+use Rattle.sample_book.specs.declared.Row.{Row}
+use Rattle.sample_book.specs.declared.RowVerdict.{RowVerdict}
+use Rattle.sample_book.specs.History.{is_put}
+use Rattle.sample_book.specs.Puts.{verdicts}
+use Rattle.sample_book.specs.Rows.{current_rows}
+use Rattle.slo_objects.specs.declared.Object.{Object}
+use Rattle.record_form.specs.declared.Refusal.{Refusal}
+use Rattle.record_form.specs.declared.Refusal.TheVariants as refusals
+use Rattle.record_form.specs.declared.LimitName.TheVariants as limits
+use Rattle.office_history.specs.declared.Judgement.{Judgement}
+use Rattle.office_history.specs.declared.Judgement.TheVariants.{Same}
+use Rattle.office_history.specs.Lists.{first_some}
+use Rattle.office_history.specs.Batches.{when, batch_fault, count, sampled, objective_days}
+use Rattle.office_history.specs.Verdicts.{unless_refused, accepted}
+
+-- the first rule that rows break behind the limit of their number
+abbrev pub rows_fault : ℕ → ℕ → List Object → List Row → ℕ → List Row → Option Refusal
+rows_fault origin moment members kept taken rows = first_some (
+    batch_fault origin moment members kept rows
+    ∷ when (nat_lt most.MAX_CELLS (length (current_rows (kept ++ rows)))) (refusals.Limit limits.Cells)
+    ∷ when (nat_lt most.MAX_ACCEPTED_ROWS (taken + count is_put (verdicts kept rows))) (refusals.Limit limits.Accepted)
+    ∷ when (nat_lt most.MAX_DAYS (objective_days members (current_rows (kept ++ rows)))) (refusals.Limit limits.Days)
+    ∷ [])
+
+-- what becomes of rows that break no rule
+abbrev pub faultless_verdict : List RowVerdict → ℕ → Judgement
+faultless_verdict vs entries = cond (list_any is_put vs) (accepted entries) (Same (sampled vs None))
+
+-- what becomes of rows that come over current rows, of which there aren't too many
+abbrev pub rows_verdict : ℕ → ℕ → List Object → List Row → ℕ → ℕ → List Row → Judgement
+rows_verdict origin moment members kept taken entries rows =
+    unless_refused (rows_fault origin moment members kept taken rows)
+    (faultless_verdict (verdicts kept rows) entries)

@@ -1,0 +1,183 @@
+//! Exclusions and their liftings.
+ghost use Rattle.std.specs.Prelude.{◌≡◌, ◌<◌, ℕ, OnOk, is_none, is_some, length};
+ghost use Rattle.sample_book.specs.declared.Exclusion.{Exclusion};
+ghost use Rattle.slo_objects.specs.Slo.{slo_in};
+ghost use Rattle.record_form.specs.declared.Command.TheVariants as commands;
+ghost use Rattle.office_history.specs.History.{Office, with_entry};
+ghost use Rattle.office_history.specs.Objectives.{slo_named};
+ghost use Rattle.office_history.specs.Outcomes.{outcome_of};
+ghost use Rattle.office_history.specs.Verdicts.{exclude_verdict as exclude_verdict_lem, is_range as is_range_lem, lift_verdict as lift_verdict_lem, new_exclusion_fault as new_exclusion_fault_lem, same_content};
+ghost use Rattle.office_derived.specs.declared.Work.TheVariants as works;
+ghost use Rattle.office_derived.specs.Derived.{HasRoom, IsJudged, IsNext, IsSound, Reflects, Stays, entry_of};
+
+use crate::judgement::{accepted, judged_as, limit};
+use exact_fraction::Label;
+use office_derived::{Derived, Judged, Work};
+use office_history::Judgement;
+use record_form::{LimitName, Outcome, Refusal};
+use sample_book::{Exclusion, SampleBook};
+use slo_catalog::Catalog;
+use slo_limits::{MAX_EXCLUSIONS, RANGE_MINUTES};
+use slo_objects::{Body, Kind, Object};
+use std::alloc::AllocError;
+
+fn is_slo(object: &Object) -> bool
+    ensures { result ≡ is_some (slo_in object.now.body) }
+{
+    match &object.body {
+        Body::Slo(_) => true,
+        _ => false,
+    }
+}
+
+/// Whether no SLO has the name.
+fn has_no_slo(catalog: &Catalog, name: Label) -> bool
+    ensures { result ≡ is_none (slo_named catalog.now name) }
+{
+    match catalog.find(Kind::Slo, name) {
+        Some(object) => !is_slo(object),
+        None => true,
+    }
+}
+
+fn is_same_content(a: &Exclusion, b: &Exclusion) -> bool
+    ensures { result ≡ same_content a.now b.now }
+{
+    a.slo == b.slo && a.from == b.from && a.to == b.to
+}
+
+/// Whether an exclusion is of minutes of the office, one at least.
+fn is_range(origin: u32, value: &Exclusion) -> bool
+    requires { origin < 67108864 }
+    ensures { result ≡ is_range_lem origin value.now }
+{
+    origin <= value.from && value.from < value.to && value.to <= origin + RANGE_MINUTES
+}
+
+/// The first rule that an exclusion of an unused id breaks.
+fn new_exclusion_fault(
+    origin: u32,
+    catalog: &Catalog,
+    made: u32,
+    value: &Exclusion,
+) -> Option<Refusal>
+    requires { origin < 67108864 }
+    ensures { result ≡ new_exclusion_fault_lem origin catalog.now made value.now }
+{
+    if has_no_slo(catalog, value.slo) {
+        return Some(Refusal::NoSuchSlo {
+            kind: Kind::Slo,
+            name: value.slo,
+        });
+    }
+    if !is_range(origin, value) {
+        return Some(Refusal::Range);
+    }
+    if MAX_EXCLUSIONS <= made as usize {
+        return Some(limit(LimitName::Exclusions));
+    }
+    None
+}
+
+/// What becomes of an exclusion.
+fn exclude_verdict(derived: &Derived, value: &Exclusion) -> Judgement
+    requires { IsSound derived.now }
+    ensures { result ≡ exclude_verdict_lem derived.now.origin derived.now.catalog
+        derived.now.book.exclusions derived.now.entries value.now }
+{
+    match derived.book.exclusion(value.id) {
+        Some((kept, true)) => {
+            if is_same_content(&kept, value) {
+                Judgement::Same(Outcome::Changed { entry: None })
+            } else {
+                Judgement::Refused(Refusal::ExclusionConflict {
+                    from: kept.from,
+                    slo: kept.slo,
+                    to: kept.to,
+                })
+            }
+        }
+        Some((_, false)) => Judgement::Refused(Refusal::Withdrawn { id: value.id }),
+        None => {
+            let made = derived.book.exclusions();
+            match new_exclusion_fault(derived.origin, &derived.catalog, made, value) {
+                Some(fault) => Judgement::Refused(fault),
+                None => accepted(derived.entries),
+            }
+        }
+    }
+}
+
+/// What becomes of an exclusion that comes, whatever the moment.
+pub fn judge_exclude(derived: &Derived, value: &Exclusion) -> Judged
+    requires { IsSound derived.now }
+    ensures { (o : Office) (moment : ℕ) → Reflects derived.now o → IsJudged o moment
+        (commands.Exclude value.now) result }
+{
+    judged_as(exclude_verdict(derived, value), Work::Exclude(*value))
+}
+
+/// Takes all memory that an exclusion needs. After an error nothing changes but the room.
+pub fn room_for_exclude(derived: &mut Derived) -> Result<(), AllocError>
+    ensures room { (value : Exclusion) → OnOk result (HasRoom derived.new (works.Exclude value)) }
+    ensures stays { Stays derived.old derived.new }
+{
+    derived.book.reserve(1)
+}
+
+/// Makes an accepted exclusion, with no memory.
+pub fn apply_exclude(derived: &mut Derived, moment: u32, value: Exclusion) -> Outcome
+    requires sound { IsSound derived.old }
+    requires room { HasRoom derived.old (works.Exclude value) }
+    requires next { (o : Office) × IsNext derived.old o moment (works.Exclude value) }
+    ensures reflects { (o : Office) → IsNext derived.old o moment (works.Exclude value) → Reflects
+        derived.new (with_entry o (entry_of moment (works.Exclude value))) }
+    ensures sound { IsSound derived.new }
+    ensures outcome { (o : Office) → IsNext derived.old o moment (works.Exclude value) → result ≡
+        outcome_of o moment (commands.Exclude value) }
+{
+    let entry = derived.entries;
+    derived.book.exclude(value);
+    derived.entries = entry + 1;
+    derived.present = moment;
+    Outcome::Changed { entry: Some(entry) }
+}
+
+/// What becomes of the lifting of an exclusion.
+fn lift_verdict(book: &SampleBook, entries: u32, id: Label) -> Judgement
+    ensures { result ≡ lift_verdict_lem book.now.exclusions entries id }
+{
+    match book.exclusion(id) {
+        Some((_, true)) => accepted(entries),
+        Some((_, false)) => Judgement::Same(Outcome::Changed { entry: None }),
+        None => Judgement::Refused(Refusal::NotFound),
+    }
+}
+
+/// What becomes of the lifting of an exclusion that comes, whatever the moment.
+pub fn judge_lift(derived: &Derived, id: Label) -> Judged
+    ensures { (o : Office) (moment : ℕ) → Reflects derived.now o → IsJudged o moment (commands.Lift
+        id) result }
+{
+    judged_as(
+        lift_verdict(&derived.book, derived.entries, id),
+        Work::Lift(id),
+    )
+}
+
+/// Lifts an exclusion, with no memory.
+pub fn apply_lift(derived: &mut Derived, moment: u32, id: Label) -> Outcome
+    requires sound { IsSound derived.old }
+    requires next { (o : Office) × IsNext derived.old o moment (works.Lift id) }
+    ensures reflects { (o : Office) → IsNext derived.old o moment (works.Lift id) → Reflects
+        derived.new (with_entry o (entry_of moment (works.Lift id))) }
+    ensures sound { IsSound derived.new }
+    ensures outcome { (o : Office) → IsNext derived.old o moment (works.Lift id) → result ≡
+        outcome_of o moment (commands.Lift id) }
+{
+    let entry = derived.entries;
+    derived.book.lift(id);
+    derived.entries = entry + 1;
+    derived.present = moment;
+    Outcome::Changed { entry: Some(entry) }
+}

@@ -1,0 +1,172 @@
+//! The rules that a row of a batch can break.
+ghost use Rattle.std.specs.Prelude.{◌≡◌, ◌≤◌, length};
+ghost use Rattle.std.specs.Option.{option_copied};
+ghost use Rattle.slo_limits.specs.declared.TheConstants.{MAX_BATCH_ROWS};
+ghost use Rattle.slo_objects.specs.Sli.{sli_in as sli_in_lem};
+ghost use Rattle.slice_method.specs.declared.Amount.TheVariants as amounts;
+ghost use Rattle.record_form.specs.declared.Refusal.TheVariants as refusals;
+ghost use Rattle.office_history.specs.Lists.{first_some};
+ghost use Rattle.office_history.specs.Objectives.{reading_named as reading_named_lem};
+ghost use Rattle.office_history.specs.Batches.{amount_fault as amount_fault_lem, conflict_fault as conflict_fault_lem, form_fault as form_fault_lem, row_fault as row_fault_lem, rows_faults, when};
+
+use definition_verdict::reading_of;
+use exact_fraction::{Decimal, Label};
+use record_form::Refusal;
+use sample_book::{Amount, Row, RowVerdict};
+use slice_method::Reading;
+use slo_catalog::Catalog;
+use slo_limits::{MAX_AMOUNT, WHOLE};
+use slo_objects::{Body, Kind, Object, Sli};
+
+/// The indicator that an object is.
+fn sli_in(object: &Object) -> Option<&Sli>
+    ensures { option_copied result ≡ sli_in_lem object.now.body }
+{
+    match &object.body {
+        Body::Sli(sli) => Some(sli),
+        _ => None,
+    }
+}
+
+/// How the amounts of the indicator of a name are read.
+fn reading_named(catalog: &Catalog, name: Label) -> Option<Reading>
+    ensures { result ≡ reading_named_lem catalog.now name }
+{
+    let sli = sli_in(catalog.find(Kind::Sli, name)?)?;
+    Some(reading_of(&sli.metric))
+}
+
+/// The fault of a row's numbers, where they are broken.
+fn counts_where(broken: bool, number: u32) -> Option<Refusal>
+    ensures { result ≡ when broken (refusals.Counts number) }
+{
+    if broken {
+        Some(Refusal::Counts { row: number })
+    } else {
+        None
+    }
+}
+
+/// What a part of a total breaks under a reading.
+fn part_fault(reading: Reading, part: u32, total: u32, number: u32) -> Option<Refusal>
+    ensures { result ≡ amount_fault_lem reading (amounts.Counts part total) number }
+{
+    let broken = total < part || MAX_AMOUNT < total;
+    match reading {
+        Reading::Good => counts_where(broken, number),
+        Reading::Bad => counts_where(broken, number),
+        Reading::Threshold => Some(Refusal::WrongKind { row: number }),
+        Reading::RawSuccess => Some(Refusal::WrongKind { row: number }),
+        Reading::RawFailure => Some(Refusal::WrongKind { row: number }),
+    }
+}
+
+/// What a value breaks under a reading.
+fn value_fault(reading: Reading, value: Decimal, number: u32) -> Option<Refusal>
+    ensures { result ≡ amount_fault_lem reading (amounts.Value value) number }
+{
+    let broken = WHOLE < value.billionths();
+    match reading {
+        Reading::Good => Some(Refusal::WrongKind { row: number }),
+        Reading::Bad => Some(Refusal::WrongKind { row: number }),
+        Reading::Threshold => None,
+        Reading::RawSuccess => counts_where(broken, number),
+        Reading::RawFailure => counts_where(broken, number),
+    }
+}
+
+/// What an amount breaks under a reading.
+fn amount_fault(reading: Reading, amount: Amount, number: u32) -> Option<Refusal>
+    ensures { result ≡ amount_fault_lem reading amount number }
+{
+    match amount {
+        Amount::Counts { part, total } => part_fault(reading, part, total, number),
+        Amount::Value(value) => value_fault(reading, value, number),
+    }
+}
+
+/// What a row breaks by itself.
+fn form_fault(catalog: &Catalog, row: &Row, number: u32) -> Option<Refusal>
+    ensures { result ≡ form_fault_lem (reading_named_lem catalog.now row.now.sli) row.now number }
+{
+    match reading_named(catalog, row.sli) {
+        Some(reading) => amount_fault(reading, row.amount, number),
+        None => Some(Refusal::UnknownSli {
+            name: row.sli,
+            row: number,
+        }),
+    }
+}
+
+/// What a row breaks that is in conflict.
+fn conflict_fault(verdict: &RowVerdict, number: u32) -> Option<Refusal>
+    ensures { result ≡ conflict_fault_lem verdict.now number }
+{
+    match verdict {
+        RowVerdict::Conflict(kept) => Some(Refusal::RowConflict {
+            amount: kept.amount,
+            revision: kept.revision,
+            row: number,
+        }),
+        _ => None,
+    }
+}
+
+/// The first rule that a row breaks, as the row of this number of its batch.
+fn row_fault(
+    origin: u32,
+    moment: u32,
+    catalog: &Catalog,
+    row: &Row,
+    verdict: &RowVerdict,
+    number: u32,
+) -> Option<Refusal>
+    ensures { result ≡ row_fault_lem origin moment catalog.now row.now verdict.now number }
+{
+    if let Some(fault) = form_fault(catalog, row, number) {
+        return Some(fault);
+    }
+    if row.minute < origin {
+        return Some(Refusal::Early {
+            minute: row.minute,
+            origin,
+            row: number,
+        });
+    }
+    if moment <= row.minute {
+        return Some(Refusal::OpenMinute {
+            minute: row.minute,
+            moment,
+            row: number,
+        });
+    }
+    conflict_fault(verdict, number)
+}
+
+/// The first rule that a row of a batch breaks, where each becomes this behind those before it.
+pub(crate) fn batch_fault(
+    origin: u32,
+    moment: u32,
+    catalog: &Catalog,
+    rows: &[Row],
+    verdicts: &[RowVerdict],
+) -> Option<Refusal>
+    requires each { length verdicts.now ≡ length rows.now }
+    requires few { length rows.now ≤ MAX_BATCH_ROWS }
+    ensures { result ≡ first_some (rows_faults origin moment catalog.now 1 rows.now verdicts.now) }
+{
+    for (place, row) in rows.iter().enumerate() {
+        let fault = row_fault(
+            origin,
+            moment,
+            catalog,
+            row,
+            &verdicts[place],
+            place as u32 + 1,
+        );
+        if fault.is_some() {
+            return fault;
+        }
+    }
+    None
+}

@@ -1,0 +1,15 @@
+//! Samples, exclusions and their liftings, as changes of an office.
+//! Stands on what is kept beside the history, on the book of samples and the limit of days.
+//! Promises the judgement that the history says, and that what is kept stays what it says.
+#![tactic(auto)]
+
+mod exclusions;
+mod faults;
+mod judgement;
+mod laws;
+mod samples;
+mod tally;
+
+pub use exclusions::{apply_exclude, apply_lift, judge_exclude, judge_lift, room_for_exclude};
+pub use laws::{a_batch_acts_once, a_lifting_acts_once, an_exclusion_acts_once};
+pub use samples::{apply_samples, judge_samples, room_for_samples};

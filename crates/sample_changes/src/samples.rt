@@ -1,0 +1,220 @@
+//! Samples: rows that are taken, all of them or none.
+ghost use Rattle.std.specs.Prelude.{◌≡◌, ◌+◌, ◌<◌, ◌≤◌, ◌++◌, ◌∷◌, [], List, Some, None, IfOk, OnOk, cond, length, map};
+ghost use Rattle.slo_limits.specs.declared.TheConstants.{MAX_BATCH_ROWS as most_rows};
+ghost use Rattle.sample_book.specs.Rows.{cell_of, current_rows, verdict_of};
+ghost use Rattle.sample_book.specs.History.{Came, Event, Gains, Holds, MayComeAll, MayComeAs, is_put as is_put_lem, room_after};
+ghost use Rattle.sample_book.specs.Puts.{verdicts as verdicts_lem};
+ghost use Rattle.record_form.specs.declared.Command.TheVariants as commands;
+ghost use Rattle.office_history.specs.History.{Office, with_entry};
+ghost use Rattle.office_history.specs.Outcomes.{outcome_of};
+ghost use Rattle.office_history.specs.declared.Judgement.TheVariants as judgements;
+ghost use Rattle.office_history.specs.Verdicts.{accepted as accepted_lem};
+ghost use Rattle.office_derived.specs.declared.Tally.{Tally};
+ghost use Rattle.office_derived.specs.declared.Work.TheVariants as works;
+ghost use Rattle.office_derived.specs.Tallies.{changes, tally_of as tally_of_lem, tally_outcome};
+ghost use Rattle.office_derived.specs.Derived.{HasRoom, IsJudged, IsNext, IsSound, Reflects, Stays, entry_of};
+ghost use Rattle.sample_changes.specs.Judging.{rows_fault as rows_fault_lem, rows_verdict};
+ghost use Rattle.sample_changes.specs.Works.{ComesTo};
+
+use crate::faults::batch_fault;
+use crate::judgement::{accepted, limit};
+use crate::tally::tally_of;
+use objective_days::passes_days_limit;
+use office_derived::{Derived, Judged, Tally, Work};
+use office_history::Judgement;
+use record_form::{LimitName, Outcome, Refusal, Rows};
+use sample_book::{Row, RowVerdict, SampleBook};
+use slo_limits::{MAX_ACCEPTED_ROWS, MAX_BATCH_ROWS, MAX_CELLS, RANGE_MINUTES};
+use std::alloc::{AllocError, Global};
+
+/// A minute before which all rows of an office lie, and those that are over at the moment.
+fn end_of_rows(origin: u32, moment: u32) -> u32
+    requires { origin < 67108864 }
+    ensures range { origin + 2097152 ≤ result }
+    ensures moment { moment ≤ result }
+{
+    moment.max(origin + RANGE_MINUTES)
+}
+
+/// The first rule that rows break behind the limit of their number.
+fn rows_fault(
+    alloc: Global,
+    derived: &Derived,
+    moment: u32,
+    rows: &[Row],
+    verdicts: &[RowVerdict],
+    tally: Tally,
+) -> Result<Option<Refusal>, AllocError>
+    requires sound { IsSound derived.now }
+    requires few { length rows.now ≤ most_rows }
+    requires judged { verdicts.now ≡ verdicts_lem derived.now.book.rows rows.now }
+    requires counted { tally ≡ tally_of_lem verdicts.now }
+    requires small { tally.new + tally.newer ≤ most_rows }
+    ensures { IfOk result (λ fault. fault ≡ rows_fault_lem derived.now.origin moment
+        derived.now.catalog derived.now.book.rows derived.now.accepted rows.now) }
+{
+    derived.book.rows_are_current();
+    match batch_fault(derived.origin, moment, &derived.catalog, rows, verdicts) {
+        Some(fault) => return Ok(Some(fault)),
+        None => {}
+    }
+    if MAX_CELLS < derived.book.cells() + tally.new {
+        return Ok(Some(limit(LimitName::Cells)));
+    }
+    if MAX_ACCEPTED_ROWS < derived.accepted + (tally.new + tally.newer) {
+        return Ok(Some(limit(LimitName::Accepted)));
+    }
+    let end = end_of_rows(derived.origin, moment);
+    let passes = passes_days_limit(
+        alloc,
+        derived.origin,
+        end,
+        &derived.catalog,
+        &derived.book,
+        rows,
+    )?;
+    if passes {
+        return Ok(Some(limit(LimitName::Days)));
+    }
+    Ok(None)
+}
+
+/// What becomes of rows that break no rule.
+fn faultless_verdict(tally: Tally, entries: u32) -> Judgement
+    ensures { result ≡ cond (changes tally) (accepted_lem entries) (judgements.Same (tally_outcome
+        tally None)) }
+{
+    if tally.changes() {
+        accepted(entries)
+    } else {
+        Judgement::Same(tally.sampled(None))
+    }
+}
+
+/// What becomes of rows, and of each of them, counted.
+fn rows_judgement(
+    alloc: Global,
+    derived: &Derived,
+    moment: u32,
+    rows: &[Row],
+) -> Result<(Judgement, Tally), AllocError>
+    requires sound { IsSound derived.now }
+    requires few { length rows.now ≤ most_rows }
+    ensures judged { IfOk result (λ found. found.0 ≡ rows_verdict derived.now.origin moment
+        derived.now.catalog derived.now.book.rows derived.now.accepted derived.now.entries
+        rows.now) }
+    ensures counted { IfOk result (λ found. found.1 ≡ tally_of_lem (verdicts_lem
+        derived.now.book.rows rows.now)) }
+{
+    let verdicts = derived.book.check_batch(alloc, rows)?;
+    let tally = tally_of(&verdicts);
+    let fault = rows_fault(alloc, derived, moment, rows, &verdicts, tally)?;
+    match fault {
+        Some(refusal) => return Ok((Judgement::Refused(refusal), tally)),
+        None => {}
+    }
+    Ok((faultless_verdict(tally, derived.entries), tally))
+}
+
+/// A copy of rows.
+fn copy_of(alloc: Global, rows: &[Row]) -> Result<Rows, AllocError>
+    ensures { IfOk result (λ copy. copy ≡ rows.now) }
+{
+    let mut copy = Vec::new(alloc);
+    copy.extend_from_slice(rows)?;
+    Ok(Rows::from_vec(copy))
+}
+
+/// What the judging of rows comes to, with a copy of them where they are accepted.
+fn judged_rows(alloc: Global, rows: &[Row], found: (Judgement, Tally)) -> Judged
+    ensures { ComesTo found.0 rows.now found.1 result }
+{
+    let (judgement, tally) = found;
+    match judgement {
+        Judgement::Same(outcome) => Judged::Same(outcome),
+        Judgement::Refused(refusal) => Judged::Refused(refusal),
+        Judgement::Accepted => match copy_of(alloc, rows) {
+            Ok(rows) => Judged::Ready(Work::Samples { rows, tally }),
+            Err(_) => Judged::NoMemory,
+        },
+    }
+}
+
+/// What becomes of samples that come at a moment, with a copy of them where they are accepted.
+pub fn judge_samples(alloc: Global, derived: &Derived, moment: u32, rows: &Rows) -> Judged
+    requires { IsSound derived.now }
+    ensures { (o : Office) → Reflects derived.now o → IsJudged o moment (commands.Samples rows.now)
+        result }
+{
+    let batch = rows.as_slice();
+    if MAX_BATCH_ROWS < batch.len() {
+        return Judged::Refused(limit(LimitName::Rows));
+    }
+    match rows_judgement(alloc, derived, moment, batch) {
+        Err(_) => Judged::NoMemory,
+        Ok(found) => judged_rows(alloc, batch, found),
+    }
+}
+
+/// Takes all memory that samples need. After an error nothing changes but the room.
+pub fn room_for_samples(derived: &mut Derived, rows: &Rows) -> Result<(), AllocError>
+    ensures room { (tally : Tally) → OnOk result (HasRoom derived.new (works.Samples rows.now
+        tally)) }
+    ensures stays { Stays derived.old derived.new }
+{
+    derived.book.make_room(rows.as_slice())
+}
+
+fn is_put(verdict: &RowVerdict) -> bool
+    ensures { result ≡ is_put_lem verdict.now }
+{
+    match verdict {
+        RowVerdict::New => true,
+        RowVerdict::Newer(_) => true,
+        _ => false,
+    }
+}
+
+/// Puts a row that is new or newer, and passes over another.
+fn put_row(book: &mut SampleBook, row: &Row)
+    requires { MayComeAs (verdict_of book.old.rows row.now) book.old.room (cell_of row.now) }
+    ensures rows { book.new.rows ≡ cond (is_put_lem (verdict_of book.old.rows row.now))
+        (current_rows (book.old.rows ++ row.now ∷ [])) book.old.rows }
+    ensures room { book.new.room ≡ room_after (verdict_of book.old.rows row.now) book.old.room }
+    ensures history { Gains book.old (Came row.now) book.new }
+{
+    let verdict = book.check(row);
+    if is_put(&verdict) {
+        book.put(row);
+    }
+}
+
+/// Puts the rows of a batch, in order.
+fn put_rows(book: &mut SampleBook, rows: &[Row])
+    requires { MayComeAll book.old.rows book.old.room rows.now }
+    ensures { (events : List Event) → Holds events book.old.rows book.old.exclusions → Holds
+        (events ++ map Came rows.now) book.new.rows book.new.exclusions }
+{
+    for row in rows {
+        put_row(book, row);
+    }
+}
+
+/// Takes accepted samples, with no memory.
+pub fn apply_samples(derived: &mut Derived, moment: u32, rows: Rows, tally: Tally) -> Outcome
+    requires sound { IsSound derived.old }
+    requires room { HasRoom derived.old (works.Samples rows tally) }
+    requires next { (o : Office) × IsNext derived.old o moment (works.Samples rows tally) }
+    ensures reflects { (o : Office) → IsNext derived.old o moment (works.Samples rows tally) →
+        Reflects derived.new (with_entry o (entry_of moment (works.Samples rows tally))) }
+    ensures sound { IsSound derived.new }
+    ensures outcome { (o : Office) → IsNext derived.old o moment (works.Samples rows tally) →
+        result ≡ outcome_of o moment (commands.Samples rows) }
+{
+    let entry = derived.entries;
+    put_rows(&mut derived.book, rows.as_slice());
+    derived.accepted += tally.new + tally.newer;
+    derived.entries = entry + 1;
+    derived.present = moment;
+    tally.sampled(Some(entry))
+}

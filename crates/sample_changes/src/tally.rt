@@ -1,0 +1,60 @@
+//! What becomes of the rows of a batch, counted.
+ghost use Rattle.std.specs.Prelude.{◌≡◌, ◌+◌, ◌<◌, ◌≤◌, ◌^◌, length};
+ghost use Rattle.slo_limits.specs.declared.TheConstants.{MAX_BATCH_ROWS};
+ghost use Rattle.office_derived.specs.Tallies.{tally_of as tally_of_lem};
+ghost use Rattle.sample_changes.specs.Works.{tallied as tallied_lem};
+
+use office_derived::Tally;
+use sample_book::RowVerdict;
+
+/// One row more.
+fn tallied(tally: Tally, verdict: &RowVerdict) -> Tally
+    requires { tally.new + tally.newer + tally.repeated + tally.superseded < 2 ^ 31 }
+    ensures { result ≡ tallied_lem tally verdict.now }
+{
+    match verdict {
+        RowVerdict::New => Tally {
+            new: tally.new + 1,
+            newer: tally.newer,
+            repeated: tally.repeated,
+            superseded: tally.superseded,
+        },
+        RowVerdict::Newer(_) => Tally {
+            new: tally.new,
+            newer: tally.newer + 1,
+            repeated: tally.repeated,
+            superseded: tally.superseded,
+        },
+        RowVerdict::Repeated => Tally {
+            new: tally.new,
+            newer: tally.newer,
+            repeated: tally.repeated + 1,
+            superseded: tally.superseded,
+        },
+        RowVerdict::Superseded(_) => Tally {
+            new: tally.new,
+            newer: tally.newer,
+            repeated: tally.repeated,
+            superseded: tally.superseded + 1,
+        },
+        RowVerdict::Conflict(_) => tally,
+    }
+}
+
+/// How many rows became what.
+pub(crate) fn tally_of(verdicts: &[RowVerdict]) -> Tally
+    requires { length verdicts.now ≤ MAX_BATCH_ROWS }
+    ensures all { result ≡ tally_of_lem verdicts.now }
+    ensures few { result.new + result.newer ≤ MAX_BATCH_ROWS }
+{
+    let mut tally = Tally {
+        new: 0,
+        newer: 0,
+        repeated: 0,
+        superseded: 0,
+    };
+    for verdict in verdicts {
+        tally = tallied(tally, verdict);
+    }
+    tally
+}
