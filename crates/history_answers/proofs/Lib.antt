@@ -1,0 +1,6 @@
+mod BudgetLemmas
+mod LawLemmas
+mod SpanLemmas
+mod StartLemmas
+mod SumLemmas
+mod TimelineLemmas

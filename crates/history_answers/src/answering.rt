@@ -1,0 +1,67 @@
+//! What a query answers.
+ghost use Rattle.std.specs.Prelude.{◌≡◌, ◌≤◌, ◌<◌, ◌⊎◌, IfOk};
+ghost use Rattle.office_history.specs.History.{Office, end_of};
+ghost use Rattle.office_history.specs.Answers.{Answers};
+ghost use Rattle.office_derived.specs.Derived.{IsSound, Reflects};
+
+use crate::budget_list::budget_list;
+use crate::burn_rate::burn_rate;
+use crate::notice_list::notice_list;
+use crate::object_list::{object_list, object_text};
+use crate::timeline::timeline;
+use office_derived::Derived;
+use record_form::{Outcome, Query};
+use slo_catalog::Binding;
+use std::alloc::{AllocError, Global};
+
+fn answered(
+    alloc: Global,
+    derived: &Derived,
+    moment: u32,
+    query: &Query,
+) -> Result<Outcome, AllocError>
+    requires sound { IsSound derived.now }
+    requires begun { derived.now.origin ≤ moment }
+    requires in_range { moment < end_of derived.now.origin }
+    ensures { (o : Office) → Reflects derived.now o → IfOk result (Answers o moment query.now) }
+{
+    match *query {
+        Query::Objects => object_list(alloc, derived),
+        Query::Object { kind, name } => object_text(alloc, derived, kind, name),
+        Query::Budgets { slo, at } => budget_list(alloc, derived, moment, slo, at),
+        Query::Burn {
+            slo,
+            objective,
+            lookback,
+            at,
+        } => burn_rate(alloc, derived, moment, slo, objective, lookback, at),
+        Query::Timeline {
+            slo,
+            objective,
+            policy,
+            from,
+            to,
+        } => {
+            let binding = Binding {
+                slo,
+                objective,
+                policy,
+            };
+            timeline(alloc, derived, moment, &binding, from, to)
+        }
+        Query::Notices => notice_list(alloc, derived),
+    }
+}
+
+/// The answer to a query at a moment of the office's range, or `NoMemory` where memory ran out.
+pub fn answer(alloc: Global, derived: &Derived, moment: u32, query: &Query) -> Outcome
+    requires sound { IsSound derived.now }
+    requires begun { derived.now.origin ≤ moment }
+    requires in_range { moment < end_of derived.now.origin }
+    ensures { (o : Office) → Reflects derived.now o → (Answers o moment query.now result ⊎ (result ≡ Outcome.NoMemory)) }
+{
+    match answered(alloc, derived, moment, query) {
+        Ok(outcome) => outcome,
+        Err(_) => Outcome::NoMemory,
+    }
+}

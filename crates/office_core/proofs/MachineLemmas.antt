@@ -1,0 +1,210 @@
+-- The machine with one entry more.
+use Rattle.std.proofs.Common.{◌≡◌, ℕ, ◌+◌, ◌<◌, ◌≤◌, List, [], ◌∷◌, ◌++◌, refl, ap, sym, subst, ◌∙◌, Bool, fold, max, length, Option, Some, None, IfSome, arith}
+use Rattle.std.specs.List.{All, AllByRecursion}
+use Rattle.std.proofs.lemmas.List.Elements.{All-from_recursion}
+use Rattle.slo_limits.specs.declared.TheConstants as most
+use Rattle.slo_objects.specs.declared.Object.{Object}
+use Rattle.sample_book.specs.declared.Row.{Row}
+use Rattle.notice_box.specs.declared.Notice.{Notice}
+use Rattle.sample_book.specs.History.{Holds}
+use Rattle.sample_book.proofs.HistoryLemmas.{rows-held, exclusions-held}
+use Rattle.record_form.specs.declared.Entry.{Entry}
+use Rattle.record_form.specs.Records.{record_of}
+use Rattle.record_form.specs.Ranges.{FitsRecord}
+use Rattle.record_form.specs.Histories.{AreRecords, history_of}
+use Rattle.record_form.specs.Laws.{NoBytesAreNoHistory, OneRecordMore}
+use Rattle.office_history.specs.declared.Judgement.TheVariants.{Accepted}
+use Rattle.office_history.specs.History.{Office, with_entry, events_in, present, end_of}
+use Rattle.office_history.specs.Judges.{Judges}
+use Rattle.office_history.specs.Notices.{waiting}
+use Rattle.office_history.specs.Legal.{IsLegal, MayFollow, empty, followed}
+use Rattle.office_derived.specs.declared.Derived.{Derived}
+use Rattle.office_derived.specs.Derived.{HasRoom, IsFound, IsNext, IsPlaced, IsRead, IsSound, Reflects, Stays, command_of, entry_of}
+use Rattle.office_core.specs.declared.machine.Pending.{Pending}
+use Rattle.office_core.specs.Machine.{IsKept, IsReady, IsReadyIf, office_of, pending_of}
+
+-- the office of the bytes with one record more
+pub office_next : OneRecordMore → (d d' : Derived) (bytes bytes' : List ℕ) (e : Entry) → AreRecords bytes → FitsRecord e → bytes' ≡ bytes ++ record_of e →
+    Reflects d' (with_entry (office_of d bytes) e) → office_of d' bytes' ≡ with_entry (office_of d bytes) e
+office_next law d d' bytes bytes' e r f is reflects i = record {
+  origin = reflects.origin i;
+  history = (ap history_of is ∙ (law bytes e r f).history) i;
+}
+
+-- What a commit is given: the entry that is pending, with its record.
+pub record IsCommitted (d d' : Derived) (old new : List ℕ) (e : Entry) : Type 0 where
+  pub records : AreRecords old
+  pub fits : FitsRecord e
+  pub bytes : new ≡ old ++ record_of e
+  pub legal : IsLegal d.origin (history_of old)
+  pub follows : MayFollow (office_of d old) e
+  pub reflects : Reflects d' (with_entry (office_of d old) e)
+
+follows_next : (d : Derived) (o : Office) (p : Pending) → IsNext d o p.moment p.work → MayFollow o (entry_of p.moment p.work)
+follows_next d o p n = record { in_range = n.in_range; later = n.later; accepted = n.accepted }
+
+pub committed : (d d' : Derived) (bytes bytes' piece : List ℕ) (spare : ℕ) (kept : Option Pending) (p : Pending) (e : Entry) → IsKept d bytes spare kept → Some p ≡ kept →
+    pending_of kept ≡ Some e → piece ≡ record_of e → bytes' ≡ bytes ++ piece →
+    ((o : Office) → IsNext d o p.moment p.work → Reflects d' (with_entry o (entry_of p.moment p.work))) → IsCommitted d d' bytes bytes' e
+committed d d' bytes bytes' piece spare kept p e k is pending piece-is added applied =
+    let ready : IsReady d (office_of d bytes) spare p = subst (IsReadyIf d (office_of d bytes) spare) (sym is) k.ready in
+    let same : entry_of p.moment p.work ≡ e = cc (ap pending_of is ∙ pending) in
+    record {
+      records = k.records;
+      fits = subst FitsRecord same ready.fits;
+      bytes = added ∙ ap (λ bs. bytes ++ bs) piece-is;
+      legal = k.legal;
+      follows = subst (MayFollow (office_of d bytes)) same (follows_next d (office_of d bytes) p ready.next);
+      reflects = subst (λ (e : Entry). Reflects d' (with_entry (office_of d bytes) e)) same (applied (office_of d bytes) ready.next);
+    }
+
+pub kept_next : OneRecordMore → (d d' : Derived) (bytes bytes' : List ℕ) (spare : ℕ) (pending : Option Pending) (e : Entry) → IsCommitted d d' bytes bytes' e → IsSound d' → pending ≡ None →
+    IsKept d' bytes' spare pending
+kept_next law d d' bytes bytes' spare pending e k sound none =
+    let one = law bytes e k.records k.fits in
+    let next = office_next law d d' bytes bytes' e k.records k.fits k.bytes k.reflects in
+    record {
+      records = subst AreRecords (sym k.bytes) one.records;
+      sound = sound;
+      reflects = subst (Reflects d') (sym next) k.reflects;
+      legal = subst (λ (o : Office). IsLegal o.origin o.history) (sym next) (followed e k.legal k.follows);
+      ready = subst (IsReadyIf d' (office_of d' bytes') spare) (sym none) tt;
+    }
+
+-- the present isn't before the origin
+pub begun : (o : Office) → o.origin ≤ present o
+begun o = from o.origin o.history
+  where
+    from : (a : ℕ) (h : List Entry) → a ≤ fold (λ greatest (e : Entry). max greatest e.moment) a h
+    from a [] = omega arith
+    from a (e ∷ h) = omega (arith, from (max a e.moment) h)
+
+-- the present isn't past the last minute of records
+present_fits : (a : ℕ) (h : List Entry) → a ≤ most.MAX_MINUTE → AllByRecursion FitsRecord h → fold (λ greatest (e : Entry). max greatest e.moment) a h ≤ most.MAX_MINUTE
+present_fits a [] few all = few
+present_fits a (e ∷ h) few all = present_fits (max a e.moment) h (omega (arith, few, all.0.moment)) all.1
+
+pub readable : (d : Derived) (bytes : List ℕ) (spare : ℕ) (pending : Option Pending) → IsKept d bytes spare pending → present (office_of d bytes) ≤ most.MAX_MINUTE
+readable d bytes spare pending k = present_fits d.origin (history_of bytes) (omega (arith, k.sound.origin)) k.records.fit
+
+-- the entry that is pending has a record
+pub pending_fits : (d : Derived) (o : Office) (spare : ℕ) (pending : Option Pending) → IsReadyIf d o spare pending → IfSome (pending_of pending) FitsRecord
+pending_fits d o spare None ready = tt
+pending_fits d o spare (Some p) ready = ready.fits
+
+-- more room changes nothing else
+pub stays_sound : (d d' : Derived) → Stays d d' → IsSound d → IsSound d'
+stays_sound d d' s k = record {
+  origin = subst (λ n. n < 67108864) (sym s.origin) k.origin;
+  entries = subst (λ n. n ≤ most.MAX_ENTRIES) (sym s.entries) k.entries;
+  cells = subst (λ (rows : List Row). length rows ≤ most.MAX_CELLS) (sym s.rows) k.cells;
+  accepted = subst (λ n. n ≤ most.MAX_ACCEPTED_ROWS) (sym s.accepted) k.accepted;
+  few_waiting = subst (λ (made : List (Notice × Bool)). waiting made ≤ most.MAX_NOTICES) (sym s.notices) k.few_waiting;
+  made = both (d'.entries) s.notices s.entries;
+  read = read_still;
+  placed = placed_still;
+}
+  where
+    both : (n : ℕ) → d'.notices.made ≡ d.notices.made → d'.entries ≡ d.entries → length d'.notices.made ≤ waiting d'.notices.made + d'.entries
+    both n e f = subst (λ (made : List (Notice × Bool)). length made ≤ waiting made + d'.entries) (sym e) (subst (λ m. length d.notices.made ≤ waiting d.notices.made + m) (sym f) k.made)
+
+    read_still : All (IsRead d'.catalog) d'.book.rows
+    read_still = subst (λ (os : List Object). All (IsRead os) d'.book.rows) (sym s.catalog) (subst (All (IsRead d.catalog)) (sym s.rows) k.read)
+
+    placed_still : All (IsPlaced d'.origin) d'.book.rows
+    placed_still = subst (λ n. All (IsPlaced n) d'.book.rows) (sym s.origin) (subst (All (IsPlaced d.origin)) (sym s.rows) k.placed)
+
+pub stays_reflects : (d d' : Derived) (o : Office) → Stays d d' → Reflects d o → Reflects d' o
+stays_reflects d d' o s r = record {
+  origin = s.origin ∙ r.origin;
+  entries = s.entries ∙ r.entries;
+  present = s.present ∙ r.present;
+  catalog = s.catalog ∙ r.catalog;
+  zones = s.zones ∙ r.zones;
+  rows = s.rows ∙ r.rows;
+  exclusions = s.exclusions ∙ r.exclusions;
+  held = subst (λ (rows : List Row). Holds (events_in o.history) rows d'.book.exclusions) (sym s.rows) (subst (Holds (events_in o.history) d.book.rows) (sym s.exclusions) r.held);
+  accepted = s.accepted ∙ r.accepted;
+  notices = s.notices ∙ r.notices;
+  states = s.states ∙ r.states;
+  numbers = r.numbers;
+}
+
+office_stays : (d d' : Derived) (bytes : List ℕ) → Stays d d' → office_of d bytes ≡ office_of d' bytes
+office_stays d d' bytes s i = record { origin = sym s.origin i; history = history_of bytes }
+
+-- with nothing pending
+pub kept_none : (d : Derived) (bytes : List ℕ) (spare spare' : ℕ) (pending : Option Pending) → IsKept d bytes spare pending → IsKept d bytes spare' None
+kept_none d bytes spare spare' pending k = record { records = k.records; sound = k.sound; reflects = k.reflects; legal = k.legal; ready = tt }
+
+-- the machine whose derived part got room, with nothing pending
+pub kept_stays : (d d' : Derived) (bytes bytes' : List ℕ) (spare spare' : ℕ) (pending pending' : Option Pending) → IsKept d bytes spare pending → Stays d d' → bytes' ≡ bytes → pending' ≡ None →
+    IsKept d' bytes' spare' pending'
+kept_stays d d' bytes bytes' spare spare' pending pending' k s is none =
+    subst (λ (bs : List ℕ). IsKept d' bs spare' pending') (sym is) (record {
+      records = k.records;
+      sound = stays_sound d d' s k.sound;
+      reflects = subst (Reflects d') (office_stays d d' bytes s) (stays_reflects d d' (office_of d bytes) s k.reflects);
+      legal = subst (λ n. IsLegal n (history_of bytes)) (sym s.origin) k.legal;
+      ready = subst (IsReadyIf d' (office_of d' bytes) spare') (sym none) tt;
+    })
+
+-- the machine with a command that was accepted and found room
+pub kept_ready : (d d' : Derived) (bytes bytes' : List ℕ) (spare spare' : ℕ) (pending pending' : Option Pending) (p : Pending) → IsKept d bytes spare pending → Stays d d' → bytes' ≡ bytes →
+    pending' ≡ Some p → present (office_of d bytes) ≤ p.moment → p.moment < end_of d.origin → Judges (office_of d bytes) p.moment (command_of p.work) Accepted → IsFound (office_of d bytes) p.moment p.work →
+    HasRoom d' p.work → FitsRecord (entry_of p.moment p.work) → length (record_of (entry_of p.moment p.work)) ≤ spare' → IsKept d' bytes' spare' pending'
+kept_ready d d' bytes bytes' spare spare' pending pending' p k s is some later in_range accepted found room fits few =
+    let reflects : Reflects d' (office_of d bytes) = stays_reflects d d' (office_of d bytes) s k.reflects in
+    let next : IsNext d' (office_of d bytes) p.moment p.work = record { reflects = reflects; later = later; in_range = in_range; accepted = accepted; found = found } in
+    let same = office_stays d d' bytes s in
+    let ready : IsReady d' (office_of d' bytes) spare' p = record { next = subst (λ (o : Office). IsNext d' o p.moment p.work) same next; room = room; fits = fits; bytes = few } in
+    subst (λ (bs : List ℕ). IsKept d' bs spare' pending') (sym is) (record {
+      records = k.records;
+      sound = stays_sound d d' s k.sound;
+      reflects = subst (Reflects d') same reflects;
+      legal = subst (λ n. IsLegal n (history_of bytes)) (sym s.origin) k.legal;
+      ready = subst (IsReadyIf d' (office_of d' bytes) spare') (sym some) ready;
+    })
+
+-- a new machine keeps what the empty history says
+empty_reflects : (d : Derived) → d.entries ≡ 0 → d.present ≡ d.origin → d.catalog ≡ [] → d.zones.kept ≡ [] → Holds [] d.book.rows d.book.exclusions → d.accepted ≡ 0 → d.notices.made ≡ [] →
+    d.states.items ≡ [] → Reflects d (record { origin = d.origin; history = [] })
+empty_reflects d entries now catalog zones held accepted notices states = record {
+  origin = refl;
+  entries = entries;
+  present = now;
+  catalog = catalog;
+  zones = zones;
+  rows = rows-held [] d.book.rows d.book.exclusions held;
+  exclusions = exclusions-held [] d.book.rows d.book.exclusions held;
+  held = held;
+  accepted = accepted;
+  notices = notices;
+  states = states;
+  numbers = λ number above. refl;
+}
+
+none_of : (P : Row → Type 0) (rows : List Row) → rows ≡ [] → All P rows
+none_of P rows is = subst (All P) (sym is) (All-from_recursion P [] tt)
+
+pub kept_new : NoBytesAreNoHistory → (d : Derived) (bytes : List ℕ) (spare : ℕ) → bytes ≡ [] → d.origin ≤ most.MAX_MINUTE → d.entries ≡ 0 → d.present ≡ d.origin → d.catalog ≡ [] → d.zones.kept ≡ [] →
+    Holds [] d.book.rows d.book.exclusions → d.accepted ≡ 0 → d.notices.made ≡ [] → d.states.items ≡ [] → IsKept d bytes spare None
+kept_new law d bytes spare is origin entries now catalog zones held accepted notices states =
+    let rows : d.book.rows ≡ [] = rows-held [] d.book.rows d.book.exclusions held in
+    subst (λ (bs : List ℕ). IsKept d bs spare None) (sym is) (record {
+      records = law.0;
+      sound = record {
+        origin = omega (arith, origin);
+        entries = omega (arith, entries);
+        cells = omega (arith, ap length rows);
+        accepted = omega (arith, accepted);
+        few_waiting = omega (arith, ap waiting notices);
+        made = omega (arith, ap length notices);
+        read = none_of (IsRead d.catalog) d.book.rows rows;
+        placed = none_of (IsPlaced d.origin) d.book.rows rows;
+      };
+      reflects = subst (λ (h : List Entry). Reflects d (record { origin = d.origin; history = h })) (sym law.1)
+          (empty_reflects d entries now catalog zones held accepted notices states);
+      legal = subst (IsLegal d.origin) (sym law.1) empty;
+      ready = tt;
+    })

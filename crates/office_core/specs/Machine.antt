@@ -1,0 +1,68 @@
+-- The machine, and what it keeps.
+use Rattle.std.specs.Prelude.{◌≡◌, ℕ, ◌≤◌, List, length, Option, Some, None}
+use Rattle.std.specs.List.{AllByRecursion}
+use Rattle.slo_limits.specs.declared.TheConstants.{MAX_REVISION}
+use Rattle.sample_book.specs.declared.Row.{Row}
+use Rattle.record_form.specs.declared.Command.{Command}
+use Rattle.record_form.specs.declared.Command.TheVariants.{Samples}
+use Rattle.record_form.specs.declared.Entry.{Entry}
+use Rattle.record_form.specs.Records.{record_of}
+use Rattle.record_form.specs.Ranges.{FitsRecord}
+use Rattle.record_form.specs.Histories.{AreRecords, history_of}
+use Rattle.office_history.specs.declared.Judgement.TheVariants as judgements
+use Rattle.office_history.specs.History.{Office}
+use Rattle.office_history.specs.Judges.{Judges}
+use Rattle.office_history.specs.Legal.{IsLegal}
+use Rattle.office_derived.specs.declared.Derived.{Derived}
+use Rattle.office_derived.specs.Derived.{HasRoom, IsNext, IsSound, Reflects, entry_of}
+use Rattle.office_core.specs.declared.machine.Pending.{Pending}
+use Rattle.office_core.specs.declared.machine.Verdict.{Verdict}
+use Rattle.office_core.specs.declared.machine.Verdict.TheVariants as verdicts
+use Rattle.office_core.specs.Seen.{Machine}
+
+abbrev pub office_of : Derived → List ℕ → Office
+office_of d bytes = record { origin = d.origin; history = history_of bytes }
+
+abbrev pub pending_of : Option Pending → Option Entry
+pending_of None = None
+pending_of (Some p) = Some (entry_of p.moment p.work)
+
+-- an entry can be added with no memory
+pub record IsReady (d : Derived) (o : Office) (spare : ℕ) (p : Pending) : Type 0 where
+  pub next : IsNext d o p.moment p.work
+  pub room : HasRoom d p.work
+  pub fits : FitsRecord (entry_of p.moment p.work)
+  pub bytes : length (record_of (entry_of p.moment p.work)) ≤ spare
+
+abbrev pub IsReadyIf : Derived → Office → ℕ → Option Pending → Type 0
+IsReadyIf d o spare None = Unit {0}
+IsReadyIf d o spare (Some p) = IsReady d o spare p
+
+-- what the machine keeps is what its history says
+pub record IsKept (d : Derived) (bytes : List ℕ) (spare : ℕ) (pending : Option Pending) : Type 0 where
+  pub records : AreRecords bytes
+  pub sound : IsSound d
+  pub reflects : Reflects d (office_of d bytes)
+  pub legal : IsLegal d.origin (history_of bytes)
+  pub ready : IsReadyIf d (office_of d bytes) spare pending
+
+-- What the preparing of a command answers: its verdict over the history, unless memory ran out. An accepted one is pending,
+-- with its record; after every other answer nothing is.
+abbrev pub IsVerdict : Office → Entry → Verdict → Option Entry → Type 0
+IsVerdict o e (verdicts.Ready prepared) pending = Judges o e.moment e.command judgements.Accepted × (prepared ≡ record_of e) × (pending ≡ Some e)
+IsVerdict o e (verdicts.Same outcome) pending = Judges o e.moment e.command (judgements.Same outcome) × (pending ≡ None)
+IsVerdict o e (verdicts.Refused refusal) pending = Judges o e.moment e.command (judgements.Refused refusal) × (pending ≡ None)
+IsVerdict o e verdicts.NoMemory pending = pending ≡ None
+
+-- the entry is the one for which room was made
+abbrev pub IsPending : Machine → Entry → Type 0
+IsPending m e = m.pending ≡ Some e
+
+-- the revisions of a batch's rows are from 1 to 10^9
+pub record HasRevision (r : Row) : Type 0 where
+  pub first : 1 ≤ r.revision
+  pub last : r.revision ≤ MAX_REVISION
+
+abbrev pub HasRevisions : Command → Type 0
+HasRevisions (Samples rows) = AllByRecursion HasRevision rows
+HasRevisions _ = Unit {0}

@@ -1,0 +1,80 @@
+//! Commands: judged, given room, done.
+ghost use Rattle.std.specs.Prelude.{◌≡◌, ◌≤◌, ◌<◌, OnOk};
+ghost use Rattle.office_history.specs.History.{Office, with_entry, end_of};
+ghost use Rattle.office_history.specs.Outcomes.{outcome_of};
+ghost use Rattle.office_derived.specs.Derived.{HasRoom, IsJudged, IsNext, IsSound, Reflects, Stays, command_of, entry_of};
+
+use catalog_changes::{
+    apply_define, apply_put_zone, apply_remove, judge_define, judge_put_zone, judge_remove,
+    room_for_put_zone,
+};
+use notice_changes::{apply_take, apply_tick, judge_take, judge_tick, room_for_tick};
+use office_derived::{Derived, Judged, Work};
+use record_form::{Command, Outcome};
+use sample_changes::{
+    apply_exclude, apply_lift, apply_samples, judge_exclude, judge_lift, judge_samples,
+    room_for_exclude, room_for_samples,
+};
+use std::alloc::{AllocError, Global};
+
+/// What becomes of a command at a moment.
+pub(crate) fn judge(alloc: Global, derived: &Derived, moment: u32, command: &Command) -> Judged
+    requires sound { IsSound derived.now }
+    requires begun { derived.now.origin ≤ moment }
+    requires in_range { moment < end_of derived.now.origin }
+    ensures { (o : Office) → Reflects derived.now o → IsJudged o moment command.now result }
+{
+    match command {
+        Command::Define(text) => judge_define(alloc, derived, moment, text),
+        Command::Remove(kind, name) => judge_remove(alloc, derived, moment, *kind, *name),
+        Command::PutZone(name, bytes) => judge_put_zone(alloc, derived, moment, *name, bytes),
+        Command::Samples(rows) => judge_samples(alloc, derived, moment, rows),
+        Command::Exclude(value) => judge_exclude(derived, value),
+        Command::Lift(id) => judge_lift(derived, *id),
+        Command::Tick => judge_tick(alloc, derived, moment),
+        Command::Take(number) => judge_take(derived, *number),
+    }
+}
+
+/// Takes all memory that an accepted command needs.
+pub(crate) fn make_room(derived: &mut Derived, work: &Work) -> Result<(), AllocError>
+    ensures room { OnOk result (HasRoom derived.new work.now) }
+    ensures stays { Stays derived.old derived.new }
+{
+    match work {
+        Work::PutZone { .. } => room_for_put_zone(derived),
+        Work::Samples { rows, .. } => room_for_samples(derived, rows),
+        Work::Exclude(_) => room_for_exclude(derived),
+        Work::Tick { told, .. } => room_for_tick(derived, told),
+        _ => Ok(()),
+    }
+}
+
+/// Does an accepted command, with no memory.
+pub(crate) fn apply(derived: &mut Derived, moment: u32, work: Work) -> Outcome
+    requires sound { IsSound derived.old }
+    requires room { HasRoom derived.old work }
+    requires next { (o : Office) × IsNext derived.old o moment work }
+    ensures reflects { (o : Office) → IsNext derived.old o moment work → Reflects derived.new (with_entry o (entry_of moment work)) }
+    ensures sound { IsSound derived.new }
+    ensures outcome { (o : Office) → IsNext derived.old o moment work → result ≡ outcome_of o moment (command_of work) }
+{
+    match work {
+        Work::Define {
+            text,
+            catalog,
+            applied,
+        } => apply_define(derived, moment, text, catalog, applied),
+        Work::Remove {
+            kind,
+            name,
+            catalog,
+        } => apply_remove(derived, moment, kind, name, catalog),
+        Work::PutZone { name, bytes, zone } => apply_put_zone(derived, moment, name, bytes, zone),
+        Work::Samples { rows, tally } => apply_samples(derived, moment, rows, tally),
+        Work::Exclude(value) => apply_exclude(derived, moment, value),
+        Work::Lift(id) => apply_lift(derived, moment, id),
+        Work::Tick { states, told } => apply_tick(derived, moment, states, told),
+        Work::Take(number) => apply_take(derived, moment, number),
+    }
+}

@@ -1,0 +1,302 @@
+//! The machine over its history.
+ghost use Rattle.std.specs.Prelude.{◌-◌, vec_capacity, vec_len, ◌≡◌, ◌≤◌, ◌<◌, ◌+◌, ◌⊎◌, ℕ, Option, [], Some, None, IfOk, OnOk, IfSome, length, nat_lt};
+ghost use Rattle.std.specs.List.{AllByRecursion};
+ghost use Rattle.slo_limits.specs.declared.TheConstants.{MAX_MINUTE};
+ghost use Rattle.record_form.specs.declared.Command.{Command};
+ghost use Rattle.record_form.specs.declared.Entry.{Entry};
+ghost use Rattle.record_form.specs.declared.Outcome.TheVariants.{NoMemory};
+ghost use Rattle.record_form.specs.Records.{record_of};
+ghost use Rattle.record_form.specs.Ranges.{FitsRecord, IsEntryInRange};
+ghost use Rattle.office_history.specs.Answers.{Answers};
+ghost use Rattle.office_history.specs.Catalog.{catalog_in};
+ghost use Rattle.office_history.specs.History.{Office, current_in, end_of, moment_of, present, with_entry};
+ghost use Rattle.office_history.specs.Legal.{IsLegal};
+ghost use Rattle.office_history.specs.Notices.{notices_in, waiting};
+ghost use Rattle.office_history.specs.Outcomes.{outcome_of};
+ghost use Rattle.office_derived.specs.Derived.{HasRoom, Stays, command_of, entry_of};
+ghost use Rattle.history_answers.specs.States.{binding_state};
+ghost use Rattle.office_core.specs.Machine.{HasRevisions, IsKept, IsPending, IsVerdict, office_of, pending_of};
+ghost use Rattle.office_core.specs.declared.machine.Pending.{Pending};
+
+use crate::commands::{apply, judge, make_room};
+use burn_core::State;
+use exact_fraction::Label;
+use history_answers::{answer, state_of};
+use notice_box::NoticeBox;
+use office_derived::{Derived, Judged, Work, Zones};
+use record_form::{
+    Command, Outcome, Query, Refusal, no_bytes_are_no_history, one_record_more, write_command,
+};
+use sample_book::SampleBook;
+use slo_catalog::Catalog;
+use slo_limits::RANGE_MINUTES;
+use std::alloc::{AllocError, Global};
+use std::marker::Model;
+
+/// An entry for which room was made.
+#[derive(Drop)]
+pub(crate) struct Pending {
+    moment: u32,
+    work: Work,
+}
+
+/// The record of an entry for which room was made.
+#[derive(Drop)]
+pub struct Prepared {
+    bytes: Vec<u8>,
+}
+
+impl Model for Prepared {
+    ghost use Rattle.std.specs.Prelude.{List, ℕ};
+
+    ghost Value = { List ℕ };
+
+    ghost view = { λ a. a.bytes.items };
+}
+
+impl Prepared {
+    /// The record.
+    pub fn bytes(&self) -> &[u8]
+        ensures { result.now ≡ self.now }
+    {
+        &self.bytes
+    }
+}
+
+/// What the preparing of a command comes to.
+#[derive(Drop)]
+pub enum Verdict {
+    Ready(Prepared),
+    Same(Outcome),
+    Refused(Refusal),
+    NoMemory,
+}
+
+/// The machine: a history of accepted entries, kept as their records, and what it comes to.
+#[derive(Drop)]
+pub struct Core {
+    records: Vec<u8>,
+    derived: Derived,
+    pending: Option<Pending>,
+}
+
+impl Model for Core {
+    ghost use Rattle.std.specs.Prelude.{◌-◌, vec_capacity, vec_len};
+    ghost use Rattle.office_core.specs.Machine.{IsKept, office_of, pending_of};
+    ghost use Rattle.office_core.specs.Seen.{Machine};
+
+    ghost Value = { Machine };
+
+    ghost view = { λ a. record { office = office_of a.derived a.records.items; pending = pending_of a.pending } };
+
+    ghost invariant = { λ a. IsKept a.derived a.records.items (vec_capacity a.records - vec_len a.records) a.pending };
+}
+
+impl Core {
+    /// A machine with no entries, whose history begins at a minute since 1970-01-01T00:00Z.
+    pub fn new(alloc: Global, origin: u32) -> Result<Core, AllocError>
+        requires { origin ≤ MAX_MINUTE }
+        ensures office { IfOk result (λ core. core.office ≡ record { origin = origin; history = [] }) }
+        ensures pending { IfOk result (λ core. core.pending ≡ None) }
+    {
+        no_bytes_are_no_history();
+        let book = SampleBook::new(alloc)?;
+        Ok(Core {
+            records: Vec::new(alloc),
+            derived: Derived {
+                origin,
+                entries: 0,
+                present: origin,
+                catalog: Catalog::new(alloc),
+                zones: Zones::new(alloc),
+                book,
+                accepted: 0,
+                notices: NoticeBox::new(alloc),
+                states: Vec::new(alloc),
+            },
+            pending: None,
+        })
+    }
+
+    /// No work: the history is legal, each of its entries has a record, and no minute of it lies past
+    /// the last one. An entry that is pending has a record too.
+    pub fn is_legal(&self)
+        ensures legal { IsLegal self.now.office.origin self.now.office.history }
+        ensures fit { AllByRecursion FitsRecord self.now.office.history }
+        ensures pending { IfSome self.now.pending FitsRecord }
+        ensures origin { self.now.office.origin ≤ MAX_MINUTE }
+        ensures present { present self.now.office ≤ MAX_MINUTE }
+    {
+        let _present = self.derived.present;
+    }
+
+    /// The moment of a request that is read at a reading of the clock: not before the present.
+    pub fn moment(&self, reading: u32) -> u32
+        ensures { result ≡ moment_of self.now.office reading }
+    {
+        self.derived.present.max(reading)
+    }
+
+    /// Whether a moment lies below the end of the office's range.
+    pub fn in_range(&self, moment: u32) -> bool
+        ensures { result ≡ nat_lt moment (end_of self.now.office.origin) }
+    {
+        moment < self.derived.origin + RANGE_MINUTES
+    }
+
+    /// How many entries there are.
+    pub fn length(&self) -> u32
+        ensures { result ≡ length self.now.office.history }
+    {
+        self.derived.entries
+    }
+
+    /// The minute at which the history begins.
+    pub fn origin(&self) -> u32
+        ensures { result ≡ self.now.office.origin }
+    {
+        self.derived.origin
+    }
+
+    /// The catalog.
+    pub fn catalog(&self) -> &Catalog
+        ensures { result.now ≡ catalog_in self.now.office.history }
+    {
+        &self.derived.catalog
+    }
+
+    /// How many current rows there are.
+    pub fn cells(&self) -> u32
+        ensures { result ≡ length (current_in self.now.office.history) }
+    {
+        self.derived.book.cells()
+    }
+
+    /// How many notices wait.
+    pub fn waiting(&self) -> u32
+        ensures { result ≡ waiting (notices_in self.now.office) }
+    {
+        self.derived.notices.waiting()
+    }
+
+    /// Judges a command, and takes all memory that it needs where it is accepted. The entry is
+    /// pending then; after every other answer nothing is.
+    pub fn prepare(&mut self, alloc: Global, moment: u32, command: &Command) -> Verdict
+        requires later { present self.old.office ≤ moment }
+        requires in_range { moment < end_of self.old.office.origin }
+        requires readable { moment ≤ MAX_MINUTE }
+        requires revisions { HasRevisions command.now }
+        ensures office { self.new.office ≡ self.old.office }
+        ensures verdict { IsVerdict self.old.office (record { moment = moment; command = command.now }) result self.new.pending }
+    {
+        let (verdict, pending) = judge_and_make_room(
+            alloc,
+            &mut self.records,
+            &mut self.derived,
+            moment,
+            command,
+        );
+        self.pending = pending;
+        verdict
+    }
+
+    /// Adds the entry for which room was made, with no memory. It can't be refused.
+    pub fn commit(&mut self, value: Prepared) -> Outcome
+        requires { (e : Entry) × IsPending self.old e × (value ≡ record_of e) }
+        ensures office { (e : Entry) → IsPending self.old e → self.new.office ≡ with_entry self.old.office e }
+        ensures pending { self.new.pending ≡ None }
+        ensures outcome { (e : Entry) → IsPending self.old e → result ≡ outcome_of self.old.office e.moment e.command }
+    {
+        let Some(Pending { moment, work }) = self.pending.take() else {
+            return Outcome::NoMemory;
+        };
+        one_record_more();
+        self.records.extend_from_slice(value.bytes()).unwrap();
+        apply(&mut self.derived, moment, work)
+    }
+
+    /// Answers a query at a moment. The history and what is pending stay.
+    pub fn answer(&mut self, alloc: Global, moment: u32, query: &Query) -> Outcome
+        requires later { present self.old.office ≤ moment }
+        requires in_range { moment < end_of self.old.office.origin }
+        ensures same { self.new ≡ self.old }
+        ensures answer { Answers self.old.office moment query.now result ⊎ (result ≡ NoMemory) }
+    {
+        answer(alloc, &self.derived, moment, query)
+    }
+
+    /// The state of a binding at a minute; none exactly where there is no such binding. The history
+    /// and what is pending stay.
+    pub fn state_of(
+        &mut self,
+        alloc: Global,
+        slo: Label,
+        objective: u32,
+        policy: Label,
+        at: u32,
+    ) -> Result<Option<State>, AllocError>
+        requires begun { self.old.office.origin ≤ at }
+        requires in_range { at < end_of self.old.office.origin }
+        ensures same { self.new ≡ self.old }
+        ensures state { IfOk result (λ state. state ≡ binding_state self.old.office (record { slo = slo; objective = objective; policy = policy }) at) }
+    {
+        state_of(alloc, &self.derived, slo, objective, policy, at)
+    }
+}
+
+/// What becomes of a command, and the entry for which room was made.
+fn judge_and_make_room(
+    alloc: Global,
+    records: &mut Vec<u8>,
+    derived: &mut Derived,
+    moment: u32,
+    command: &Command,
+) -> (Verdict, Option<Pending>)
+    requires kept { (spare : ℕ) × (pending : Option Pending) × IsKept derived.old records.old.items spare pending }
+    requires later { present (office_of derived.old records.old.items) ≤ moment }
+    requires in_range { moment < end_of derived.old.origin }
+    requires readable { moment ≤ MAX_MINUTE }
+    requires revisions { HasRevisions command.now }
+    ensures kept { IsKept derived.new records.new.items (vec_capacity records.new - vec_len records.new) result.1 }
+    ensures office { office_of derived.new records.new.items ≡ office_of derived.old records.old.items }
+    ensures verdict { IsVerdict (office_of derived.old records.old.items) (record { moment = moment; command = command.now }) result.0 (pending_of result.1) }
+{
+    match judge(alloc, derived, moment, command) {
+        Judged::Same(outcome) => (Verdict::Same(outcome), None),
+        Judged::Refused(refusal) => (Verdict::Refused(refusal), None),
+        Judged::NoMemory => (Verdict::NoMemory, None),
+        Judged::Ready(work) => {
+            match make_ready(alloc, records, derived, moment, command, &work) {
+                Ok(bytes) => (
+                    Verdict::Ready(Prepared { bytes }),
+                    Some(Pending { moment, work }),
+                ),
+                Err(_) => (Verdict::NoMemory, None),
+            }
+        }
+    }
+}
+
+/// Makes room for an entry, and gives its record.
+fn make_ready(
+    alloc: Global,
+    records: &mut Vec<u8>,
+    derived: &mut Derived,
+    moment: u32,
+    command: &Command,
+    work: &Work,
+) -> Result<Vec<u8>, AllocError>
+    requires command { command_of work.now ≡ command.now }
+    requires range { IsEntryInRange (record { moment = moment; command = command.now }) }
+    ensures stays { Stays derived.old derived.new }
+    ensures records { records.new.items ≡ records.old.items }
+    ensures room { OnOk result (HasRoom derived.new work.now) }
+    ensures bytes { IfOk result (λ bytes. bytes.items ≡ record_of (entry_of moment work.now)) }
+    ensures fits { OnOk result (FitsRecord (entry_of moment work.now)) }
+    ensures spare { IfOk result (λ bytes. length bytes.items ≤ vec_capacity records.new - vec_len records.new) }
+{
+    make_room(derived, work)?;
+    let bytes = write_command(alloc, moment, command)?.into_vec();
+    records.reserve(bytes.len())?;
+    Ok(bytes)
+}
