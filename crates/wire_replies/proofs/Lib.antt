@@ -1,0 +1,5 @@
+pub mod HeadLemmas
+pub mod OutcomeLemmas
+pub mod Phrases
+pub mod Results
+pub mod Values

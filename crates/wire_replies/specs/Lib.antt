@@ -1,0 +1,8 @@
+pub mod Answers
+pub mod Bodies
+pub mod Heads
+pub mod Immediate
+pub mod Laws
+pub mod Outcomes
+pub mod Refusals
+pub mod Values

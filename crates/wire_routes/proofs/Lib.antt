@@ -1,0 +1,10 @@
+pub mod CutLemmas
+pub mod ReaderLemmas
+pub mod SeekLemmas
+pub mod RouteLemmas
+pub mod ItemLemmas
+pub mod RowLemmas
+pub mod MemberLemmas
+pub mod LookbackLemmas
+pub mod JsonLemmas
+pub mod RangeLemmas

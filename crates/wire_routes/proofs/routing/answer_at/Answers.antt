@@ -1,0 +1,22 @@
+use Rattle.wire_routes.proofs.routing.answer_at.Goals as goal
+
+pub returns-in-Object : goal.returns-in-Object
+returns-in-Object c = rw c.in-Object.is (c.object.ensures c.args.body.now)
+
+pub returns-in-Tick : goal.returns-in-Tick
+returns-in-Tick c = rw c.in-Tick.is (c.tick.ensures c.args.body.now)
+
+pub returns-in-Notices : goal.returns-in-Notices
+returns-in-Notices c = rw c.in-Notices.is (c.notices.ensures c.args.body.now)
+
+pub returns-in-Take : goal.returns-in-Take
+returns-in-Take c = rw c.in-Take.is (c.take.ensures c.args.body.now)
+
+pub returns-in-Budgets : goal.returns-in-Budgets
+returns-in-Budgets c = rw c.in-Budgets.is (c.budgets.ensures c.args.body.now)
+
+pub returns-in-Burns : goal.returns-in-Burns
+returns-in-Burns c = rw c.in-Burns.is (c.burns.ensures c.args.body.now)
+
+pub returns-in-Alerts : goal.returns-in-Alerts
+returns-in-Alerts c = rw c.in-Alerts.is (c.alerts.ensures c.args.body.now)

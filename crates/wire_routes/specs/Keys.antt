@@ -1,0 +1,34 @@
+-- The keys of the routes: `at`, `from` and `to` are minutes below 2^32, `lookback` is a duration.
+use Rattle.std.specs.Prelude.{ℕ, List, Option, Some, None, option_map, option_and_then, codes}
+use Rattle.std.specs.Result.{result_ok}
+use Rattle.slo_duration.specs.declared.duration.Duration.{Duration}
+use Rattle.slo_objects.specs.Durations.{duration_read}
+use Rattle.wire_routes.specs.Cuts.{number32}
+use Rattle.wire_routes.specs.Queries.{asked}
+
+-- a duration in OpenSLO's shorthand
+abbrev pub lookback_of : List ℕ → Option Duration
+lookback_of text = result_ok (duration_read text)
+
+-- a minute that may be left out
+abbrev pub minute_or_none : Option (List ℕ) → Option (Option ℕ)
+minute_or_none None = Some None
+minute_or_none (Some digits) = option_map (λ n. Some n) (number32 digits)
+
+-- the key `at`, which may be left out
+abbrev pub budgets_keys : Option (List ℕ) → Option (Option ℕ)
+budgets_keys query = option_and_then (λ p. minute_or_none p.0) (asked query (codes "at") (codes "at"))
+
+-- the keys `lookback`, which is needed, and `at`, which may be left out
+abbrev pub burn_of : Option (List ℕ) → Option (List ℕ) → Option (Duration × Option ℕ)
+burn_of lookback at = option_and_then (λ d. option_map (λ m. (d, m)) (minute_or_none at)) (option_and_then lookback_of lookback)
+
+abbrev pub burns_keys : Option (List ℕ) → Option (Duration × Option ℕ)
+burns_keys query = option_and_then (λ p. burn_of p.0 p.1) (asked query (codes "lookback") (codes "at"))
+
+-- the keys `from` and `to`, which are needed
+abbrev pub stretch_of : Option (List ℕ) → Option (List ℕ) → Option (ℕ × ℕ)
+stretch_of from to = option_and_then (λ f. option_map (λ t. (f, t)) (option_and_then number32 to)) (option_and_then number32 from)
+
+abbrev pub alerts_keys : Option (List ℕ) → Option (ℕ × ℕ)
+alerts_keys query = option_and_then (λ p. stretch_of p.0 p.1) (asked query (codes "from") (codes "to"))

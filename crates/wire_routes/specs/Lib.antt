@@ -1,0 +1,13 @@
+pub mod Cuts
+pub mod Places
+pub mod Queries
+pub mod Keys
+pub mod Samples
+pub mod Exclusions
+pub mod Methods
+pub mod Requests
+pub mod Ranges
+pub mod Laws
+pub mod Table
+pub mod Readers
+pub mod RowByRow

@@ -1,0 +1,57 @@
+//! The keys of the routes that have any.
+ghost use Rattle.std.specs.Prelude.{◌≡◌};
+ghost use Rattle.wire_routes.specs.Keys.{alerts_keys, budgets_keys, burns_keys, lookback_of, minute_or_none};
+ghost use Rattle.wire_routes.specs.Queries.{bytes_of};
+
+use crate::cuts::read_number32;
+use crate::query::read_query;
+use slo_duration::{Duration, read_duration};
+
+fn minute_or_none(digits: Option<&[u8]>) -> Option<Option<u32>>
+    ensures { result ≡ minute_or_none (bytes_of digits.entry) }
+{
+    match digits {
+        Some(digits) => match read_number32(digits) {
+            Some(minute) => Some(Some(minute)),
+            None => None,
+        },
+        None => Some(None),
+    }
+}
+
+fn read_lookback(text: &[u8]) -> Option<Duration>
+    ensures { result ≡ lookback_of text.now }
+{
+    match read_duration(text) {
+        Ok(lookback) => Some(lookback),
+        Err(_) => None,
+    }
+}
+
+/// The key `at` of `/budgets`; none where the query isn't of that form.
+pub(crate) fn budgets_keys(query: Option<&[u8]>) -> Option<Option<u32>>
+    ensures { result ≡ budgets_keys (bytes_of query.entry) }
+{
+    let (at, _) = read_query(query, b"at", b"at")?;
+    minute_or_none(at)
+}
+
+/// The keys `lookback` and `at` of `/burns`; none where the query isn't of that form.
+pub(crate) fn burns_keys(query: Option<&[u8]>) -> Option<(Duration, Option<u32>)>
+    ensures { result ≡ burns_keys (bytes_of query.entry) }
+{
+    let (lookback, at) = read_query(query, b"lookback", b"at")?;
+    let lookback = read_lookback(lookback?)?;
+    let at = minute_or_none(at)?;
+    Some((lookback, at))
+}
+
+/// The keys `from` and `to` of `/alerts`; none where the query isn't of that form.
+pub(crate) fn alerts_keys(query: Option<&[u8]>) -> Option<(u32, u32)>
+    ensures { result ≡ alerts_keys (bytes_of query.entry) }
+{
+    let (from, to) = read_query(query, b"from", b"to")?;
+    let from = read_number32(from?)?;
+    let to = read_number32(to?)?;
+    Some((from, to))
+}

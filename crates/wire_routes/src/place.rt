@@ -1,0 +1,65 @@
+//! What paths name.
+
+use exact_fraction::{Label, ZoneName};
+use slo_objects::Kind;
+
+/// The paths of the routes.
+#[derive(Clone, Copy)]
+pub enum Route {
+    /// `/objects`
+    Objects,
+    /// `/objects/{kind}/{name}`
+    Object,
+    /// `/zones/{*name}`
+    Zone,
+    /// `/samples`
+    Samples,
+    /// `/exclusions/{id}`
+    Exclusion,
+    /// `/tick`
+    Tick,
+    /// `/notices`
+    Notices,
+    /// `/notices/{n}/take`
+    Take,
+    /// `/budgets/{slo}`
+    Budgets,
+    /// `/burns/{slo}/{objective}`
+    Burns,
+    /// `/alerts/{slo}/{objective}/{policy}`
+    Alerts,
+}
+
+/// A route's path with the values of its parts.
+#[derive(Clone, Copy)]
+pub enum Place {
+    Objects,
+    Object {
+        kind: Kind,
+        name: Label,
+    },
+    Zone {
+        name: ZoneName,
+    },
+    Samples,
+    Exclusion {
+        id: Label,
+    },
+    Tick,
+    Notices,
+    Take {
+        number: u32,
+    },
+    Budgets {
+        slo: Label,
+    },
+    Burns {
+        slo: Label,
+        objective: u32,
+    },
+    Alerts {
+        slo: Label,
+        objective: u32,
+        policy: Label,
+    },
+}
