@@ -3,4 +3,3 @@ pub mod MinuteLemmas
 pub mod RunLemmas
 pub mod SpanLemmas
 pub mod WindowLemmas
-pub mod TestLemmas

@@ -14,6 +14,3 @@ mod window;
 pub use laws::marked_lines_agree;
 pub use line::{AlertLine, LINE_MINUTES};
 pub use spans::Spans;
-
-#[cfg(test)]
-mod tests;

@@ -13,6 +13,3 @@ pub use laws::{
     active_means_it_held, burn_times_allowance_is_error, one_slice_decides_nearby,
     remaining_and_burn_are_one,
 };
-
-#[cfg(test)]
-mod tests;

@@ -8,6 +8,3 @@ mod reader;
 
 pub use csv_record::Record;
 pub use reader::RecordReader;
-
-#[cfg(test)]
-mod tests;

@@ -1,6 +1,6 @@
 //! Numbers, fractions and the small texts that name things.
 //! Stands on nothing but std.
-//! Promises: what a text of digits or of a decimal is worth, exact fractions in lowest terms, and names that are compared by machine words.
+//! Promises what a text of digits is worth, fractions in lowest terms, names compared by words.
 #![tactic(auto)]
 
 mod decimal;
@@ -23,6 +23,3 @@ pub use op::{Op, compare, holds};
 pub use spelling::{write_decimal, write_percent};
 pub use text::{Bytes, Text};
 pub use zone_name::{ZoneName, read_zone_name};
-
-#[cfg(test)]
-mod tests;

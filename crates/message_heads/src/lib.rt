@@ -10,8 +10,6 @@ mod message;
 mod reading;
 mod start;
 mod target;
-#[cfg(test)]
-mod tests;
 
 pub use laws::{
     a_message_begins_one_stream, at_most_one_decision, decided_is_not_passed, heard_is_kept,

@@ -13,6 +13,3 @@ pub use changes::plan;
 pub use laws::takings_are_few;
 pub use notice::Notice;
 pub use notice_box::{NoticeBox, UnknownNotice};
-
-#[cfg(test)]
-mod tests;

@@ -1,5 +1,5 @@
 //! The ranges of what stands in documents: objectives, windows and conditions.
-//! Stands on the tables of objects, whose readers let nothing else through, and on what a history means.
+//! Stands on the tables of objects, whose readers let nothing else through, and on histories.
 //! Promises what sums, burn rates, alert lines and calendars ask of their arguments.
 #![tactic(auto)]
 

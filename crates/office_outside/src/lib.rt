@@ -1,4 +1,4 @@
-//! Traits of the outside, as sources, sinks, disks and clocks, with their memory forms and adapters over std.
+//! Traits of the outside: sources, sinks, disks, clocks, with memory forms and adapters over std.
 //! It stands on std and the limits.
 //! It promises that each failure has its cause in the object's own count of faults.
 #![tactic(auto)]
@@ -6,8 +6,6 @@
 // the traits
 mod clock;
 mod disk;
-#[cfg(test)]
-mod disk_tests;
 mod failed;
 mod sink;
 mod source;
@@ -20,8 +18,6 @@ mod memory_disk;
 mod memory_sink;
 mod memory_source;
 mod plan;
-#[cfg(test)]
-mod tests;
 mod wall_clock;
 
 pub use adapters::{StdSink, StdSource};

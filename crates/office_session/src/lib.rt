@@ -10,6 +10,3 @@ mod serving;
 
 pub use handler::Handler;
 pub use serving::{SessionEnd, session};
-
-#[cfg(test)]
-mod tests;

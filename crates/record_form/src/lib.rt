@@ -34,6 +34,3 @@ pub use reading::read_record;
 pub use refusal::Refusal;
 pub use writing::{write_command, write_record};
 pub use yaml_word::YamlWord;
-
-#[cfg(test)]
-mod tests;

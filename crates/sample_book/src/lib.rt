@@ -1,6 +1,6 @@
 //! Samples that arrive late, repeated and corrected, and the exclusions that are made afterwards.
 //! Stands on `exact_fraction`, `indexmap`, `slice_method` and `slo_terms`.
-//! Promises of each cell the row of the greatest revision, and which minutes are excluded, over all that ever came.
+//! Promises each cell's row of the greatest revision, and the excluded minutes, of all that came.
 #![tactic(auto)]
 
 mod batch;
@@ -23,6 +23,3 @@ pub use laws::{
 };
 pub use row::{Cell, Row, RowVerdict};
 pub use slice_method::Amount;
-
-#[cfg(test)]
-mod tests;

@@ -1,6 +1,6 @@
 //! Counts of a row by the reading of its indicator, and leaves of a slice by the budgeting method.
 //! Stands on `exact_fraction` and `slo_terms`.
-//! Promises the counts that the reading table gives, and leaves that are exact, ratios rounded down to billionths.
+//! Promises the counts of the reading table, and exact leaves, ratios rounded down to billionths.
 #![tactic(auto)]
 
 mod amount;
@@ -10,6 +10,3 @@ mod reading;
 pub use amount::{Amount, Counts, Reading};
 pub use method::{Method, leaf_of};
 pub use reading::counts_of;
-
-#[cfg(test)]
-mod tests;

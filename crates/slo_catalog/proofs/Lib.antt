@@ -10,5 +10,4 @@ mod DefineLemmas
 mod LegalLemmas
 mod RemoveLemmas
 mod DuplicateLemmas
-mod TestLemmas
 mod SameLemmas

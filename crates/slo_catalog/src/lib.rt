@@ -1,6 +1,6 @@
 //! The catalog of objects: what the definitions and removals of a history leave.
 //! Stands on the objects of OpenSLO.
-//! Promises of each kind and name the last object that was defined, and that each reference names a member.
+//! Promises of each kind and name the object defined last, and that each reference names a member.
 #![tactic(auto)]
 
 mod bindings;
@@ -32,10 +32,3 @@ pub use proposal::Proposal;
 pub use reference::the_first_reference_to_nothing_is_named;
 pub use removal::remove;
 pub use same::an_unchanged_definition_leaves_the_members;
-
-#[cfg(test)]
-mod history_tests;
-#[cfg(test)]
-mod rule_tests;
-#[cfg(test)]
-mod test_texts;

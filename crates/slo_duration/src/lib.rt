@@ -5,8 +5,6 @@
 
 mod duration;
 mod read;
-#[cfg(test)]
-mod tests;
 mod unit;
 mod write;
 

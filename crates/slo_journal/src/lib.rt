@@ -11,8 +11,6 @@ mod making;
 mod numbers;
 mod opening;
 mod scan;
-#[cfg(test)]
-mod tests;
 mod window;
 
 pub use fault::{AppendFault, CreateFault, DiskFault, OpenFault, ScanFault};

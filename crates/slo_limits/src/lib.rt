@@ -15,8 +15,8 @@ pub const MAX_DECIMAL: u64 = 1_000_000_000_000_000_000;
 /// The greatest part or total of a row: a source counts fewer events in one minute.
 pub const MAX_AMOUNT: u32 = 1_000_000_000;
 
-/// The greatest revision of a row, so that a writer that numbers its corrections by seconds has room
-/// for 31 years.
+/// The greatest revision of a row, so that a writer that numbers its corrections by seconds has
+/// room for 31 years.
 pub const MAX_REVISION: u32 = 1_000_000_000;
 
 /// The most events of a sum: what as many rows as the office takes come to at the greatest amount.
@@ -32,8 +32,8 @@ pub const MAX_THRESHOLD: u64 = 10_000_000_000_000;
 /// The greatest minute of the clock, which gives minutes below 2^26: some 127 years from 1970 on.
 pub const MAX_MINUTE: u32 = 67_108_863;
 
-/// How many minutes an office's range has, from its origin on: almost four years, so that two bits a
-/// minute of each alert stay small.
+/// How many minutes an office's range has, from its origin on: almost four years, so that two bits
+/// a minute of each alert stay small.
 pub const RANGE_MINUTES: u32 = 2_097_152;
 
 /// The most minutes of a rolling window, and of a calendar window's duration: 366 days, so that a

@@ -1,4 +1,4 @@
-//! The objects of OpenSLO v1: the seven kinds, as a reliability engineer reads them in the specification.
+//! The objects of OpenSLO v1: the seven kinds, as one reads them in the specification.
 //! Stands on the YAML profile, and on the readers of names, decimals, durations and civil moments.
 //! Promises which nodes are objects, which objects they are, and the first fault of any other node.
 #![tactic(auto)]
@@ -45,16 +45,3 @@ pub use service::Service;
 pub use sli::{Events, Metric, MetricSource, Ratio, RatioMetric, RawType, Sli};
 pub use slo::{BudgetingMethod, Calendar, Objective, Objectives, Slo, TimeWindow};
 pub use writing::write_object;
-
-#[cfg(test)]
-mod example_tests;
-#[cfg(test)]
-mod field_tests;
-#[cfg(test)]
-mod slo_tests;
-#[cfg(test)]
-mod tables;
-#[cfg(test)]
-mod tests;
-#[cfg(test)]
-mod write_tests;

@@ -1,12 +1,9 @@
 //! Leaves of slots of time in pages of a day, with the total of each hour and of the day.
 //! Stands on `slo_terms` for the sums, on `counted_steps` and on `indexmap`.
-//! Promises that a leaf, an hour or a day is read in one counted step, and that totals follow each change.
+//! Promises that a leaf, an hour or a day is read in one step, and that totals follow each change.
 #![tactic(auto)]
 
 mod page;
 mod sum_pages;
 
 pub use sum_pages::SumPages;
-
-#[cfg(test)]
-mod tests;

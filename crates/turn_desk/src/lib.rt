@@ -1,6 +1,6 @@
 //! A desk at which threads take turns with one value, so that its changes have one history.
 //! It stands on `atomic_table`, and on no other crate of this repository.
-//! It promises that what passes have seen are beginnings of one history, and no entry has two makers.
+//! It promises that passes have seen beginnings of one history, and no entry has two makers.
 #![tactic(auto)]
 
 mod bell;

@@ -31,7 +31,8 @@ fn add_and_split<R: Wait>(
 ) -> Option<Pass<Numbers>>
     requires { pass.old.desk ≡ desk.now }
     ensures desk { pass.new.desk ≡ desk.now }
-    ensures seen { IfSome result (λ further. (further.desk ≡ desk.now) × ((before : List ℕ) × (further.seen ≡ (numbers (before ++ number ∷ [])).history))) }
+    ensures seen { IfSome result (λ further. (further.desk ≡ desk.now)
+        × ((before : List ℕ) × (further.seen ≡ (numbers (before ++ number ∷ [])).history))) }
 {
     let mut add = Add { number };
     if !desk.with_turn(rt, pass, &mut add) {

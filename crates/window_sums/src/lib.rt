@@ -1,6 +1,6 @@
-//! Sums over the slices of a range of time, kept as the counts of each slice and pages of their leaves.
-//! Stands on `sum_pages` for the leaves, on `slice_method`, `slo_terms`, `counted_steps` and `indexmap`.
-//! Promises that a sum adds the leaves of the slices wholly in its range, in at most 600 reads over 400 days.
+//! Sums over the slices of a range of time, kept as counts of slices and pages of their leaves.
+//! Stands on `sum_pages` for leaves, on `slice_method`, `slo_terms`, `counted_steps`, `indexmap`.
+//! Promises that a sum adds the leaves of whole slices, in at most 600 reads over 400 days.
 #![tactic(auto)]
 
 mod day;
@@ -11,6 +11,3 @@ mod window_sums;
 
 pub use laws::counts_of_rows_are_sound;
 pub use window_sums::WindowSums;
-
-#[cfg(test)]
-mod tests;

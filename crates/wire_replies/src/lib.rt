@@ -20,6 +20,3 @@ pub use laws::answers_have_their_statuses;
 pub use rendering::render;
 pub use reply::{Form, Reply, SmallBody};
 pub use writing::write_reply;
-
-#[cfg(test)]
-mod tests;

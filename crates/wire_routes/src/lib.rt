@@ -1,6 +1,6 @@
 //! The requests that whole messages stand for, by the table of routes, their keys and their bodies.
 //! Stands on `message_heads`, on `matchit` for paths, on `csv_records` and `serde_json` for bodies.
-//! Promises exactly the request, or the answer that tells why there is none, and always one of them.
+//! Promises exactly the request, or the answer that tells why there is none, and always one.
 #![tactic(auto)]
 
 mod cuts;
@@ -16,8 +16,6 @@ mod routed;
 mod routing;
 mod samples;
 mod table;
-#[cfg(test)]
-mod tests;
 
 pub use find::Routes;
 pub use laws::{a_message_stands_for_one_answer, a_message_stands_for_something};

@@ -1,6 +1,6 @@
-//! The YAML profile of OpenSLO documents: block text read as a list of nodes, and nodes written canonically.
+//! The YAML profile of OpenSLO documents: block text read as nodes, and nodes written canonically.
 //! Stands on the standard library alone.
-//! Promises that a text is read exactly where the profile takes it, that a refusal names the first line and row, and that what is written reads back.
+//! Promises to read exactly the profile, to name the first fault, and that writings read back.
 #![tactic(auto)]
 
 mod block;
@@ -37,12 +37,3 @@ pub use spelling::{FieldKey, Spelling, spelled};
 pub use text::Text;
 pub use which::Which;
 pub use write::{write_node, write_spelling};
-
-#[cfg(test)]
-mod profile_tests;
-#[cfg(test)]
-mod tests;
-#[cfg(test)]
-mod utf8_tests;
-#[cfg(test)]
-mod write_tests;

@@ -1,6 +1,6 @@
 //! Civil moments, time zones, and the starts of calendar windows.
-//! Stands on `slo_duration`, and on the parts of `jiff` that read zone files and POSIX rules and add months to dates.
-//! Promises what a zone says as a function of its bytes, and exactly the starts of the definition, sorted.
+//! Stands on `slo_duration`, and on the parts of `jiff` that read zones and add months to dates.
+//! Promises what a zone says as a function of its bytes, and exactly the defined starts, sorted.
 #![tactic(auto)]
 
 mod calendar;
@@ -8,8 +8,6 @@ mod civil;
 mod civil_text;
 mod laws;
 mod read;
-#[cfg(test)]
-mod tests;
 mod windows;
 mod zone;
 

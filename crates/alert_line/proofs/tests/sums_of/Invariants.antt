@@ -1,8 +1,0 @@
-use Rattle.std.proofs.Common.{◌*◌}
-use Rattle.window_sums.specs.Slices.{HasAtMost, counts_of}
-use Rattle.alert_line.proofs.tests.sums_of.Given as goal
-
-abbrev pub invariant-loop-place : goal.invariant-loop-place
-invariant-loop-place g l = record {
-  few : HasAtMost l.sums.method (counts_of l.sums) (l.place * 2000000000);
-}

@@ -1,0 +1,23 @@
+-- The tests of catalogs know that nodes read from a text can be written, and so give objects that
+-- a document may hold; and that such objects behind others are such objects.
+use Rattle.std.proofs.Common.{List, [], ◌∷◌, ◌++◌}
+use Rattle.std.specs.List.{All, AllByRecursion}
+use Rattle.std.proofs.lemmas.List.Elements.{All-from_recursion, All-append}
+use Rattle.yaml_subset.specs.declared.Node.{Node}
+use Rattle.yaml_subset.specs.NodeView.{node_view, nodes_view}
+use Rattle.yaml_subset.specs.Fits.{IsWritable}
+use Rattle.slo_objects.specs.declared.Object.{Object}
+use Rattle.slo_objects.specs.Document.{IsOfDocument}
+
+by_nodes : (nodes : List Node) → AllByRecursion IsWritable (nodes_view nodes)
+    → AllByRecursion (λ n. IsWritable (node_view n)) nodes
+by_nodes [] h = tt
+by_nodes (n ∷ ns) h = (h.0, by_nodes ns h.1)
+
+pub each_node : (nodes : List Node) → AllByRecursion IsWritable (nodes_view nodes)
+    → All (λ n. IsWritable (node_view n)) nodes
+each_node nodes h = All-from_recursion (λ n. IsWritable (node_view n)) nodes (by_nodes nodes h)
+
+pub all_of_both : (os ps : List Object) → All IsOfDocument os → All IsOfDocument ps
+    → All IsOfDocument (os ++ ps)
+all_of_both os ps h k = All-append IsOfDocument os ps h k

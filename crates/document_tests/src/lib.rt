@@ -1,0 +1,35 @@
+//! Tests of YAML texts, OpenSLO objects and catalogs; no code.
+//! Stands on `yaml_subset`, `slo_objects` and `slo_catalog`, by public names.
+//! Promises that texts are read, written and kept as OpenSLO, YAML 1.2.2 and worked cases say.
+#![tactic(auto)]
+
+#[cfg(test)]
+mod catalog_history;
+#[cfg(test)]
+mod catalog_rules;
+#[cfg(test)]
+mod catalog_tables;
+#[cfg(test)]
+mod expectations;
+#[cfg(test)]
+mod object_faults;
+#[cfg(test)]
+mod object_fields;
+#[cfg(test)]
+mod object_tables;
+#[cfg(test)]
+mod object_writing;
+#[cfg(test)]
+mod objective_faults;
+#[cfg(test)]
+mod openslo_examples;
+#[cfg(test)]
+mod yaml_bytes;
+#[cfg(test)]
+mod yaml_profile;
+#[cfg(test)]
+mod yaml_tables;
+#[cfg(test)]
+mod yaml_texts;
+#[cfg(test)]
+mod yaml_writing;

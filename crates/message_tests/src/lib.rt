@@ -1,0 +1,15 @@
+//! Tests of the outside's forms, of messages, of the sessions over them, and of the journal.
+//! Stands on the crates that it tests, and calls what they make public.
+//! Promises nothing by itself: the tests show what no clause of those crates says.
+#![tactic(auto)]
+
+#[cfg(test)]
+mod disks;
+#[cfg(test)]
+mod heads;
+#[cfg(test)]
+mod journals;
+#[cfg(test)]
+mod sessions;
+#[cfg(test)]
+mod sources_and_sinks;

@@ -1,0 +1,21 @@
+//! Tests of what stands between a row and a notice: readings, sums, burn rates, alerts.
+//! Stands on the crates from `slice_method` up to `notice_box`, and calls them as their users do.
+//! Promises nothing by itself: each expected value was worked out apart from the code.
+#![tactic(auto)]
+
+#[cfg(test)]
+mod added_events;
+#[cfg(test)]
+mod alert_lines;
+#[cfg(test)]
+mod burn_rates;
+#[cfg(test)]
+mod kept_samples;
+#[cfg(test)]
+mod leaf_pages;
+#[cfg(test)]
+mod notices;
+#[cfg(test)]
+mod readings;
+#[cfg(test)]
+mod sums_of_windows;

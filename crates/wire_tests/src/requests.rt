@@ -1,0 +1,306 @@
+//! What messages stand for: each route, each refusal, queries and bodies. A table is one text,
+//! since a proof of a test costs by its literals: a line has the request line, the body and what is
+//! wanted, with ` ~ ` between them. In a body `;` stands for the end of a line.
+use exact_fraction::Bytes;
+use message_heads::{Heard, read_request};
+use record_form::{Command, Query, Request, Rows};
+use sample_book::Exclusion;
+use slice_method::Amount;
+use std::alloc::{AllocError, Global};
+use std::str;
+use wire_routes::{Routed, Routes};
+
+const ROUTES: &str = "\
+POST /objects ~ a: b ~ define a: b
+GET /objects ~ a: b ~ objects
+GET /objects/SLO/Shop ~  ~ object Slo Shop
+DELETE /objects/AlertNotificationTarget/on-call ~ x ~ remove AlertNotificationTarget on-call
+PUT /zones/Europe/Berlin ~ CET-1 ~ zone Europe/Berlin CET-1
+PUT /zones//x ~  ~ zone /x 
+PUT /zones/a/ ~  ~ zone a/ 
+POST /samples ~ a,b,1,2,3,4 ~ samples a b 1 2 3/4
+PUT /exclusions/night ~ {\"to\":9,\"from\":5,\"slo\":\"shop\"} ~ exclude night shop 5 9
+DELETE /exclusions/night ~  ~ lift night
+POST /tick ~ {} ~ tick
+GET /notices ~  ~ notices
+POST /notices/007/take ~ x ~ take 7
+POST /notices/4294967295/take ~  ~ take 4294967295
+GET /budgets/shop-slo ~  ~ budgets shop-slo None
+GET /burns/shop-slo/1?lookback=1h ~  ~ burn shop-slo 1 1 Hour None
+GET /alerts/shop-slo/0/fast?from=2&to=9 ~  ~ timeline shop-slo 0 fast 2 9";
+
+const REFUSALS: &str = "\
+GET / ~  ~ NotFound
+GET * ~  ~ NotFound
+GET http://office/objects ~  ~ NotFound
+BREW /object ~  ~ NotFound
+GET /objects/ ~  ~ NotFound
+GET /objects/Slo/shop ~  ~ NotFound
+GET /objects/SLO/ ~  ~ NotFound
+GET /objects/SLO/a%2Db ~  ~ NotFound
+GET /objects/SLO/a/b ~  ~ NotFound
+GET /budgets/a123456789b123456789c123456789d123456789e123456789f123456789xyz4 ~  ~ NotFound
+PUT /zones/ ~  ~ NotFound
+PUT /zones/a%20b ~  ~ NotFound
+POST /samples/ ~  ~ NotFound
+PUT /exclusions/a/b ~  ~ NotFound
+POST /notices/4294967296/take ~  ~ NotFound
+POST /notices/+1/take ~  ~ NotFound
+POST /notices//take ~  ~ NotFound
+POST /notices/1/take/ ~  ~ NotFound
+GET /burns/shop/x?lookback=1h ~  ~ NotFound
+GET /burns/shop?lookback=1h ~  ~ NotFound
+GET /alerts/shop/0?from=1&to=2 ~  ~ NotFound
+GET /alerts/shop/0/fast/x?from=1&to=2 ~  ~ NotFound
+HEAD /objects ~  ~ Method(PostGet)
+get /objects ~  ~ Method(PostGet)
+PUT /objects/SLO/shop?x=1 ~  ~ Method(GetDelete)
+GET /zones/Europe/Berlin ~  ~ Method(Put)
+GET /samples ~ x ~ Method(Post)
+GET /exclusions/night ~  ~ Method(PutDelete)
+GET /tick ~  ~ Method(Post)
+POST /notices ~  ~ Method(Get)
+GET /notices/1/take ~  ~ Method(Post)
+POST /budgets/shop?at=x ~  ~ Method(Get)
+POST /burns/shop/0 ~  ~ Method(Get)
+DELETE /alerts/shop/0/fast ~  ~ Method(Get)";
+
+const QUERIES: &str = "\
+GET /objects? ~  ~ Query
+POST /tick?x=1 ~  ~ Query
+POST /samples?x=1 ~ none ~ Query
+PUT /exclusions/night? ~ none ~ Query
+GET /budgets/shop?at=007 ~  ~ budgets shop Some(7)
+GET /budgets/shop?at=4294967295 ~  ~ budgets shop Some(4294967295)
+GET /budgets/shop?at=4294967296 ~  ~ Query
+GET /budgets/shop?at=-1 ~  ~ Query
+GET /budgets/shop?at= ~  ~ Query
+GET /budgets/shop?at ~  ~ Query
+GET /budgets/shop? ~  ~ Query
+GET /budgets/shop?at=1& ~  ~ Query
+GET /budgets/shop?&at=1 ~  ~ Query
+GET /budgets/shop?at=1&at=1 ~  ~ Query
+GET /budgets/shop?AT=1 ~  ~ Query
+GET /budgets/shop?at=%31 ~  ~ Query
+GET /budgets/shop?at=1?at=1 ~  ~ Query
+GET /budgets/shop?at=1&x=1 ~  ~ Query
+GET /burns/shop/0?at=5&lookback=030d ~  ~ burn shop 0 30 Day Some(5)
+GET /burns/shop/0?at=5 ~  ~ Query
+GET /burns/shop/0 ~  ~ Query
+GET /burns/shop/0?lookback=1h&lookback=1h ~  ~ Query
+GET /burns/shop/0?lookback=1s ~  ~ Query
+GET /burns/shop/0?lookback=1h&at=x ~  ~ Query
+GET /alerts/shop/0/fast?to=2&from=9 ~  ~ timeline shop 0 fast 9 2
+GET /alerts/shop/0/fast?from=1 ~  ~ Query
+GET /alerts/shop/0/fast?to=1 ~  ~ Query
+GET /alerts/shop/0/fast?from=1&to=2&at=3 ~  ~ Query";
+
+const SAMPLES: &str = "\
+;; ~ samples
+ ~ samples
+a,b,1,2,3,4;a,b,0002,1,0.5,; ~ samples a b 1 2 3/4 a b 2 1 500000000
+\u{feff}\"a\",b,\"1\",2,3,4 ~ samples a b 1 2 3/4
+a,b,67108863,1000000000,4294967295,0 ~ samples a b 67108863 1000000000 4294967295/0
+a,b,67108864,1,1,1 ~ Record(1)
+a,b,1,1000000001,1,1 ~ Record(1)
+a,b,1,0,1,1 ~ Record(1)
+a,b,1,1,4294967296,1 ~ Record(1)
+a,b,1,1,1,4294967296 ~ Record(1)
+a,b,1,1,1000000000, ~ samples a b 1 1 1000000000000000000
+a,b,1,1,1000000000.1, ~ Record(1)
+a,b,1,1,, ~ Record(1)
+a,b,1,1,0.5,1 ~ Record(1)
+a,b,1,1,1 ~ Record(1)
+a,b,1,1,1,1,1 ~ Record(1)
+a,b c,1,1,1,1 ~ Record(1)
+a,b,1,1,1,1;  ~ Record(2)
+;a,b,1,1,1,1;;sli,source,minute,revision,amount,total;x ~ Record(2)";
+
+const EXCLUSIONS: &str = "\
+{\"from\":0,\"slo\":\"Shop.1\",\"to\":4294967295} ~ exclude night Shop.1 0 4294967295
+ {\"to\" : 2, \"\\u0073lo\" : \"\\u0061\", \"from\" : 1 }  ~ exclude night a 1 2
+{\"from\":1,\"slo\":\"a\",\"to\":2,\"to\":3} ~ exclude night a 1 3
+{\"from\":1e999,\"from\":1,\"slo\":\"a\",\"to\":2} ~ Body
+{\"from\":01,\"slo\":\"a\",\"to\":2} ~ Body
+{\"from\":-0,\"slo\":\"a\",\"to\":2} ~ Body
+{\"from\":1.0,\"slo\":\"a\",\"to\":2} ~ Body
+{\"from\":1e0,\"slo\":\"a\",\"to\":2} ~ Body
+{\"from\":\"1\",\"slo\":\"a\",\"to\":2} ~ Body
+{\"from\":1,\"slo\":\"a\",\"to\":4294967296} ~ Body
+{\"from\":1,\"slo\":\"a b\",\"to\":2} ~ Body
+{\"from\":1,\"slo\":null,\"to\":2} ~ Body
+{\"from\":1,\"slo\":\"a\"} ~ Body
+{\"from\":1,\"slo\":\"a\",\"to\":2,\"x\":3} ~ Body
+[1,\"a\",2] ~ Body
+{\"from\":1,\"slo\":\"a\",\"to\":2} 3 ~ Body
+ ~ Body";
+
+// The text of bytes.
+fn text_of(bytes: &Bytes) -> &str {
+    str::from_utf8(bytes.as_bytes()).unwrap_or("no text")
+}
+
+// The part and the total of an amount, or the billionths of its value.
+fn amount_text(alloc: Global, amount: Amount) -> Result<String, AllocError> {
+    match amount {
+        Amount::Counts { part, total } => format!(in alloc; "{part}/{total}"),
+        Amount::Value(value) => {
+            let billionths = value.billionths();
+            format!(in alloc; "{billionths}")
+        }
+    }
+}
+
+// The rows in words.
+fn samples_text(alloc: Global, rows: &Rows) -> Result<String, AllocError> {
+    let mut text = String::from_str(alloc, "samples")?;
+    for row in rows.as_slice() {
+        let amount = amount_text(alloc, row.amount)?;
+        let (sli, source, minute, revision) = (row.sli, row.source, row.minute, row.revision);
+        text.push_str(&format!(in alloc; " {sli} {source} {minute} {revision} {amount}")?)?;
+    }
+    Ok(text)
+}
+
+fn exclusion_text(alloc: Global, value: &Exclusion) -> Result<String, AllocError> {
+    let (id, slo, from, to) = (value.id, value.slo, value.from, value.to);
+    format!(in alloc; "exclude {id} {slo} {from} {to}")
+}
+
+// A change in words.
+fn change_text(alloc: Global, command: &Command) -> Result<String, AllocError> {
+    match command {
+        Command::Define(documents) => {
+            let text = text_of(documents);
+            format!(in alloc; "define {text}")
+        }
+        Command::Remove(kind, name) => format!(in alloc; "remove {kind:?} {name}"),
+        Command::PutZone(name, bytes) => {
+            let text = text_of(bytes);
+            format!(in alloc; "zone {name} {text}")
+        }
+        Command::Samples(rows) => samples_text(alloc, rows),
+        Command::Exclude(value) => exclusion_text(alloc, value),
+        Command::Lift(id) => format!(in alloc; "lift {id}"),
+        Command::Tick => String::from_str(alloc, "tick"),
+        Command::Take(number) => format!(in alloc; "take {number}"),
+    }
+}
+
+// A question in words.
+fn query_text(alloc: Global, query: &Query) -> Result<String, AllocError> {
+    match query {
+        Query::Objects => String::from_str(alloc, "objects"),
+        Query::Object { kind, name } => format!(in alloc; "object {kind:?} {name}"),
+        Query::Budgets { slo, at } => format!(in alloc; "budgets {slo} {at:?}"),
+        Query::Burn {
+            slo,
+            objective,
+            lookback,
+            at,
+        } => {
+            let (count, unit) = (lookback.count, lookback.unit);
+            format!(in alloc; "burn {slo} {objective} {count} {unit:?} {at:?}")
+        }
+        Query::Timeline {
+            slo,
+            objective,
+            policy,
+            from,
+            to,
+        } => format!(in alloc; "timeline {slo} {objective} {policy} {from} {to}"),
+        Query::Notices => String::from_str(alloc, "notices"),
+    }
+}
+
+// What becomes of a message, in words.
+fn answer(alloc: Global, routes: &Routes, start: &str, body: &[u8]) -> Result<String, AllocError> {
+    let length = body.len();
+    let head = format!(in alloc; "{start} HTTP/1.1\r\nContent-Length: {length}\r\n\r\n")?;
+    let mut bytes = Vec::from_slice(alloc, head.as_bytes())?;
+    bytes.extend_from_slice(body)?;
+    let Heard::Whole(message, _) = read_request(&bytes) else {
+        return String::from_str(alloc, "no message");
+    };
+    match routes.request(alloc, &message, &bytes) {
+        Routed::Request(Request::Change(command)) => change_text(alloc, &command),
+        Routed::Request(Request::Ask(query)) => query_text(alloc, &query),
+        Routed::Immediate(reason) => format!(in alloc; "{reason:?}"),
+        Routed::NoMemory => Err(AllocError),
+    }
+}
+
+// The body of a line, where `;` ends lines.
+fn body_of(alloc: Global, written: &str) -> Result<Vec<u8>, AllocError> {
+    let mut body = Vec::new(alloc);
+    for byte in written.as_bytes() {
+        body.push(if *byte == b';' { b'\n' } else { *byte })?;
+    }
+    Ok(body)
+}
+
+// The first line of a table whose answer isn't the wanted one, with its answer.
+fn first_wrong(alloc: Global, front: &str, table: &str) -> Result<String, AllocError> {
+    let routes = Routes::new(alloc)?;
+    for line in table.split('\n') {
+        let whole = format!(in alloc; "{front}{line}")?;
+        let (start, rest) = whole.split_once(" ~ ").unwrap_or(("", ""));
+        let (body, wanted) = rest.split_once(" ~ ").unwrap_or(("", ""));
+        let told = answer(alloc, &routes, start, &body_of(alloc, body)?)?;
+        if told.as_str() != wanted {
+            return format!(in alloc; "{line}: {told}");
+        }
+    }
+    Ok(String::new(alloc))
+}
+
+#[test]
+fn each_route_has_its_requests(rt: HostRuntime) {
+    assert_eq!(rt;
+        first_wrong(rt.alloc(), "", ROUTES)
+            .expect(&rt, "memory")
+            .as_str(),
+        ""
+    );
+}
+
+#[test]
+fn paths_and_methods_are_refused_in_order(rt: HostRuntime) {
+    assert_eq!(rt;
+        first_wrong(rt.alloc(), "", REFUSALS)
+            .expect(&rt, "memory")
+            .as_str(),
+        ""
+    );
+}
+
+#[test]
+fn queries_are_of_their_keys(rt: HostRuntime) {
+    assert_eq!(rt;
+        first_wrong(rt.alloc(), "", QUERIES)
+            .expect(&rt, "memory")
+            .as_str(),
+        ""
+    );
+}
+
+#[test]
+fn samples_are_rows(rt: HostRuntime) {
+    let wrong = first_wrong(rt.alloc(), "POST /samples ~ ", SAMPLES).expect(&rt, "memory");
+    assert_eq!(rt; wrong.as_str(), "");
+}
+
+#[test]
+fn exclusions_are_objects_of_three_members(rt: HostRuntime) {
+    let front = "PUT /exclusions/night ~ ";
+    let wrong = first_wrong(rt.alloc(), front, EXCLUSIONS).expect(&rt, "memory");
+    assert_eq!(rt; wrong.as_str(), "");
+    let routes = Routes::new(rt.alloc()).expect(&rt, "memory");
+    let told = answer(
+        rt.alloc(),
+        &routes,
+        "PUT /exclusions/night",
+        b"{\"slo\":\"\xff\"}",
+    );
+    assert_eq!(rt; told.expect(&rt, "memory").as_str(), "Body");
+}
