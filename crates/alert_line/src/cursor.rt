@@ -31,7 +31,8 @@ impl PairWindows {
     ) -> PairWindows
         requires long { pair.long ≤ 43200 }
         requires short { pair.short ≤ 43200 }
-        ensures value { AreOver (width_of sums.now.method) (leaf_at sums.now) pair.long pair.short pair.above minute result }
+        ensures value { AreOver (width_of sums.now.method) (leaf_at sums.now) pair.long pair.short
+            pair.above minute result }
         ensures steps { steps.new ≤ steps.old + 1200 }
     {
         let long = Window::new(pair.long, minute, sums, steps);
@@ -41,8 +42,10 @@ impl PairWindows {
 
     fn next<L: Ledger>(self, minute: u32, sums: &WindowSums, steps: &mut Steps<L>) -> PairWindows
         requires minute { minute + 1 < 2 ^ 32 }
-        requires value { AreOver (width_of sums.now.method) (leaf_at sums.now) self.pair.long self.pair.short self.pair.above minute self }
-        ensures value { AreOver (width_of sums.now.method) (leaf_at sums.now) self.pair.long self.pair.short self.pair.above (minute + 1) result }
+        requires value { AreOver (width_of sums.now.method) (leaf_at sums.now) self.pair.long
+            self.pair.short self.pair.above minute self }
+        ensures value { AreOver (width_of sums.now.method) (leaf_at sums.now) self.pair.long
+            self.pair.short self.pair.above (minute + 1) result }
         ensures steps { steps.new ≤ steps.old + 4 }
     {
         let pair = self.pair;
@@ -55,8 +58,10 @@ impl PairWindows {
     fn both_burn(&self, target: Decimal, minute: u32, sums: &WindowSums) -> bool
         requires target { target < 10 ^ 9 }
         requires few { self.now.pair.above ≤ 10 ^ 13 }
-        requires value { AreOver (width_of sums.now.method) (leaf_at sums.now) self.now.pair.long self.now.pair.short self.now.pair.above minute self.now }
-        ensures { result ≡ both_burn (width_of sums.now.method) (leaf_at sums.now) target minute self.now.pair }
+        requires value { AreOver (width_of sums.now.method) (leaf_at sums.now) self.now.pair.long
+            self.now.pair.short self.now.pair.above minute self.now }
+        ensures { result ≡ both_burn (width_of sums.now.method) (leaf_at sums.now) target minute
+            self.now.pair }
     {
         let threshold = self.pair.above;
         above(self.long.sum, target, Op::Gt, threshold)
@@ -167,7 +172,8 @@ impl Windows {
         requires rule { IsRule (rule_of self.now) }
         requires target { target < 10 ^ 9 }
         requires stand { StandAt (width_of sums.now.method) (leaf_at sums.now) minute self.now }
-        ensures { result ≡ burns_by (rule_of self.now) target (width_of sums.now.method) (leaf_at sums.now) minute }
+        ensures { result ≡ burns_by (rule_of self.now) target (width_of sums.now.method)
+            (leaf_at sums.now) minute }
     {
         match *self {
             Windows::OfSingle {
@@ -209,8 +215,10 @@ impl Cursor {
 
     fn next<L: Ledger>(self, sums: &WindowSums, steps: &mut Steps<L>) -> Cursor
         requires minute { self.minute + 1 < 2 ^ 32 }
-        requires stand { StandAt (width_of sums.now.method) (leaf_at sums.now) self.minute self.windows }
-        ensures value { IsAt (rule_of self.windows) (width_of sums.now.method) (leaf_at sums.now) (self.minute + 1) result }
+        requires stand { StandAt (width_of sums.now.method) (leaf_at sums.now) self.minute
+            self.windows }
+        ensures value { IsAt (rule_of self.windows) (width_of sums.now.method) (leaf_at sums.now)
+            (self.minute + 1) result }
         ensures steps { steps.new ≤ steps.old + 8 }
     {
         let windows = self.windows.next(self.minute, sums, steps);
@@ -228,8 +236,10 @@ impl Cursor {
         steps: &mut Steps<L>,
     ) -> Cursor
         requires order { self.minute ≤ minute }
-        requires stand { StandAt (width_of sums.now.method) (leaf_at sums.now) self.minute self.windows }
-        ensures value { IsAt (rule_of self.windows) (width_of sums.now.method) (leaf_at sums.now) minute result }
+        requires stand { StandAt (width_of sums.now.method) (leaf_at sums.now) self.minute
+            self.windows }
+        ensures value { IsAt (rule_of self.windows) (width_of sums.now.method) (leaf_at sums.now)
+            minute result }
         ensures steps { steps.new ≤ steps.old + 8 * (minute - self.minute) }
     {
         let mut cursor = self;
@@ -243,8 +253,10 @@ impl Cursor {
     pub(crate) fn burns(&self, target: Decimal, sums: &WindowSums) -> bool
         requires rule { IsRule (rule_of self.now.windows) }
         requires target { target < 10 ^ 9 }
-        requires stand { StandAt (width_of sums.now.method) (leaf_at sums.now) self.now.minute self.now.windows }
-        ensures { result ≡ burns_by (rule_of self.now.windows) target (width_of sums.now.method) (leaf_at sums.now) self.now.minute }
+        requires stand { StandAt (width_of sums.now.method) (leaf_at sums.now) self.now.minute
+            self.now.windows }
+        ensures { result ≡ burns_by (rule_of self.now.windows) target (width_of sums.now.method)
+            (leaf_at sums.now) self.now.minute }
     {
         self.windows.burn(target, self.minute, sums)
     }

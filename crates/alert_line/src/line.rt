@@ -1,12 +1,15 @@
 //! A line that remembers the condition of an alert.
-ghost use Rattle.std.specs.Prelude.{◌≡◌, ℕ, Bool, true, ◌+◌, ◌-◌, ◌*◌, ◌^◌, [], IfSome, OnOk, is_none, ◌<◌, ◌≤◌, ◌==◌, ◌&&◌, nat_le, nat_lt, IfOk, IsTrue, is_some, None, Some, length, slice_index, if◌then◌else◌};
+ghost use Rattle.std.specs.Prelude.{◌≡◌, ℕ, Bool, true, ◌+◌, ◌-◌, ◌*◌, ◌^◌, [], IfSome, OnOk};
+ghost use Rattle.std.specs.Prelude.{is_none, ◌<◌, ◌≤◌, ◌==◌, ◌&&◌, nat_le, nat_lt, IfOk, IsTrue};
+ghost use Rattle.std.specs.Prelude.{is_some, None, Some, length, slice_index, if◌then◌else◌};
 ghost use Rattle.burn_core.specs.Alert.{IsRule, wait_of};
 ghost use Rattle.burn_core.specs.Timeline.{AreSpansOf, is_active, state_of};
 ghost use Rattle.window_sums.specs.Slices.{CountedDays, leaf_at, width_of};
 ghost use Rattle.alert_line.specs.Cursor.{IsAt, IsBehind, StandAt, rule_of};
 ghost use Rattle.alert_line.specs.Laws.{HasForgotten};
 ghost use Rattle.alert_line.specs.Learnt.{IsLearnt, IsRun, start_of, unknown_in};
-ghost use Rattle.alert_line.specs.Line.{Agrees, IsMinute, SameAlert, active_on, condition_on, den_before, known};
+ghost use Rattle.alert_line.specs.Line.{Agrees, IsMinute, SameAlert, active_on, condition_on};
+ghost use Rattle.alert_line.specs.Line.{den_before, known};
 
 use crate::cursor::Cursor;
 use crate::minutes::{forget_in, keep, kept_at};
@@ -39,9 +42,19 @@ impl Model for AlertLine {
 
     ghost Value = { Line };
 
-    ghost view = { λ a. record { rule = a.rule; target = a.target; origin = a.origin; bytes = a.bytes.items } };
+    ghost view = { λ a. record {
+      rule = a.rule;
+      target = a.target;
+      origin = a.origin;
+      bytes = a.bytes.items;
+    } };
 
-    ghost invariant = { λ a. IsLine (record { rule = a.rule; target = a.target; origin = a.origin; bytes = a.bytes.items }) };
+    ghost invariant = { λ a. IsLine (record {
+      rule = a.rule;
+      target = a.target;
+      origin = a.origin;
+      bytes = a.bytes.items;
+    }) };
 }
 
 impl AlertLine {
@@ -107,7 +120,8 @@ impl AlertLine {
         ensures value { result ≡ condition_on self.old sums.now minute }
         ensures alert { SameAlert self.old self.new }
         ensures agrees { Agrees self.new sums.now }
-        ensures known { (u : ℕ) → known self.new u ≡ (if u == minute then Some result else known self.old u) }
+        ensures known { (u : ℕ) → known self.new u
+            ≡ (if u == minute then Some result else known self.old u) }
         ensures free { IsTrue (is_some (known self.old minute)) → steps.new ≡ steps.old }
         ensures steps { steps.new ≤ steps.old + 2400 }
     {
@@ -134,12 +148,16 @@ impl AlertLine {
         requires begin { self.old.origin ≤ from }
         requires end { to ≤ self.old.origin + 2097152 }
         requires agrees { Agrees self.old sums.now }
-        ensures value { IfOk result (λ spans. AreSpansOf (λ minute. active_on self.old sums.now minute ≡ true) from to spans.items) }
+        ensures value { IfOk result (λ spans. AreSpansOf
+            (λ minute. active_on self.old sums.now minute ≡ true) from to spans.items) }
         ensures alert { SameAlert self.old self.new }
         ensures agrees { Agrees self.new sums.now }
-        ensures kept { (u : ℕ) (holds : Bool) → known self.old u ≡ Some holds → known self.new u ≡ Some holds }
-        ensures known { OnOk result (IsLearnt self.old self.new sums.now (start_of self.old from) to) }
-        ensures steps { steps.new ≤ steps.old + 2400 * unknown_in self.old (start_of self.old from) (to - start_of self.old from) }
+        ensures kept { (u : ℕ) (holds : Bool) → known self.old u ≡ Some holds
+            → known self.new u ≡ Some holds }
+        ensures known { OnOk result (IsLearnt self.old self.new sums.now (start_of self.old from)
+            to) }
+        ensures steps { steps.new ≤ steps.old
+            + 2400 * unknown_in self.old (start_of self.old from) (to - start_of self.old from) }
     {
         let wait = self.wait();
         let start = self.start(from);
@@ -165,12 +183,17 @@ impl AlertLine {
     ) -> State
         requires minute { IsMinute self.old minute }
         requires agrees { Agrees self.old sums.now }
-        ensures value { result ≡ state_of (active_on self.old sums.now minute) (den_before self.old sums.now minute) }
+        ensures value { result ≡ state_of (active_on self.old sums.now minute)
+            (den_before self.old sums.now minute) }
         ensures alert { SameAlert self.old self.new }
         ensures agrees { Agrees self.new sums.now }
-        ensures kept { (u : ℕ) (holds : Bool) → known self.old u ≡ Some holds → known self.new u ≡ Some holds }
-        ensures known { IsLearnt self.old self.new sums.now (start_of self.old minute) (minute + 1) }
-        ensures steps { steps.new ≤ steps.old + 600 + 2400 * unknown_in self.old (start_of self.old minute) (minute + 1 - start_of self.old minute) }
+        ensures kept { (u : ℕ) (holds : Bool) → known self.old u ≡ Some holds
+            → known self.new u ≡ Some holds }
+        ensures known { IsLearnt self.old self.new sums.now (start_of self.old minute)
+            (minute + 1) }
+        ensures steps { steps.new ≤ steps.old + 600
+            + 2400 * unknown_in self.old (start_of self.old minute)
+            (minute + 1 - start_of self.old minute) }
     {
         let den = self.den_before(minute, sums, steps);
         let active = self.active_at(minute, sums, steps);
@@ -184,9 +207,13 @@ impl AlertLine {
         ensures value { result ≡ active_on self.old sums.now minute }
         ensures alert { SameAlert self.old self.new }
         ensures agrees { Agrees self.new sums.now }
-        ensures kept { (u : ℕ) (holds : Bool) → known self.old u ≡ Some holds → known self.new u ≡ Some holds }
-        ensures known { IsLearnt self.old self.new sums.now (start_of self.old minute) (minute + 1) }
-        ensures steps { steps.new ≤ steps.old + 2400 * unknown_in self.old (start_of self.old minute) (minute + 1 - start_of self.old minute) }
+        ensures kept { (u : ℕ) (holds : Bool) → known self.old u ≡ Some holds
+            → known self.new u ≡ Some holds }
+        ensures known { IsLearnt self.old self.new sums.now (start_of self.old minute)
+            (minute + 1) }
+        ensures steps { steps.new ≤ steps.old
+            + 2400 * unknown_in self.old (start_of self.old minute)
+            (minute + 1 - start_of self.old minute) }
     {
         let wait = self.wait();
         let mut cursor = None;
@@ -207,12 +234,16 @@ impl AlertLine {
         requires minute { IsMinute self.old minute }
         requires agrees { Agrees self.old sums.now }
         requires none { cursor.old ≡ None }
-        ensures run { IsRun (condition_on self.old sums.now) (start_of self.old minute) minute result }
+        ensures run { IsRun (condition_on self.old sums.now) (start_of self.old minute) minute
+            result }
         ensures alert { SameAlert self.old self.new }
         ensures agrees { Agrees self.new sums.now }
         ensures known { IsLearnt self.old self.new sums.now (start_of self.old minute) minute }
-        ensures behind { IfSome cursor.new (IsBehind self.old.rule (width_of sums.now.method) (leaf_at sums.now) minute) }
-        ensures steps { steps.new ≤ steps.old + 2400 * unknown_in self.old (start_of self.old minute) (minute - start_of self.old minute) }
+        ensures behind { IfSome cursor.new
+            (IsBehind self.old.rule (width_of sums.now.method) (leaf_at sums.now) minute) }
+        ensures steps { steps.new ≤ steps.old
+            + 2400 * unknown_in self.old (start_of self.old minute)
+            (minute - start_of self.old minute) }
     {
         let start = self.start(minute);
         let mut run = 0;
@@ -243,12 +274,16 @@ impl AlertLine {
     ) -> bool
         requires minute { IsMinute self.old minute }
         requires agrees { Agrees self.old sums.now }
-        requires behind { IfSome cursor.old (IsBehind self.old.rule (width_of sums.now.method) (leaf_at sums.now) minute) }
+        requires behind { IfSome cursor.old
+            (IsBehind self.old.rule (width_of sums.now.method) (leaf_at sums.now) minute) }
         ensures value { result ≡ condition_on self.old sums.now minute }
         ensures alert { SameAlert self.old self.new }
-        ensures known { (u : ℕ) → known self.new u ≡ (if u == minute then Some result else known self.old u) }
-        ensures behind { IfSome cursor.new (IsBehind self.old.rule (width_of sums.now.method) (leaf_at sums.now) (minute + 1)) }
-        ensures steps { steps.new ≤ steps.old + 2400 * (if is_none (known self.old minute) then 1 else 0) }
+        ensures known { (u : ℕ) → known self.new u
+            ≡ (if u == minute then Some result else known self.old u) }
+        ensures behind { IfSome cursor.new
+            (IsBehind self.old.rule (width_of sums.now.method) (leaf_at sums.now) (minute + 1)) }
+        ensures steps { steps.new ≤ steps.old
+            + 2400 * (if is_none (known self.old minute) then 1 else 0) }
     {
         if let Some(holds) = self.known_at(minute) {
             return holds;
@@ -269,14 +304,19 @@ impl AlertLine {
     ) -> bool
         requires minute { IsMinute self.old minute }
         requires agrees { Agrees self.old sums.now }
-        requires behind { IfSome cursor.old (IsBehind self.old.rule (width_of sums.now.method) (leaf_at sums.now) minute) }
+        requires behind { IfSome cursor.old
+            (IsBehind self.old.rule (width_of sums.now.method) (leaf_at sums.now) minute) }
         ensures value { result ≡ condition_on self.old sums.now minute }
         ensures alert { SameAlert self.old self.new }
-        ensures known { (u : ℕ) → known self.new u ≡ (if u == minute then Some result else known self.old u) }
-        ensures stands { IfSome cursor.new (IsAt self.old.rule (width_of sums.now.method) (leaf_at sums.now) minute) }
+        ensures known { (u : ℕ) → known self.new u
+            ≡ (if u == minute then Some result else known self.old u) }
+        ensures stands { IfSome cursor.new
+            (IsAt self.old.rule (width_of sums.now.method) (leaf_at sums.now) minute) }
         ensures stays { IsTrue (is_some cursor.new) }
         ensures steps { steps.new ≤ steps.old + 2400 }
-        ensures moved { IfSome cursor.old (λ last. minute - last.minute ≤ MOST_MOVES → steps.new ≤ steps.old + 8 * (minute - last.minute)) }
+        ensures moved { IfSome cursor.old
+            (λ last. minute - last.minute ≤ MOST_MOVES
+            → steps.new ≤ steps.old + 8 * (minute - last.minute)) }
     {
         let next = self.cursor_at(minute, *cursor, sums, steps);
         let holds = self.burns(&next, sums);
@@ -293,10 +333,13 @@ impl AlertLine {
         sums: &WindowSums,
         steps: &mut Steps<L>,
     ) -> Cursor
-        requires behind { IfSome last (IsBehind self.now.rule (width_of sums.now.method) (leaf_at sums.now) minute) }
-        ensures value { IsAt self.now.rule (width_of sums.now.method) (leaf_at sums.now) minute result }
+        requires behind { IfSome last (IsBehind self.now.rule (width_of sums.now.method)
+            (leaf_at sums.now) minute) }
+        ensures value { IsAt self.now.rule (width_of sums.now.method) (leaf_at sums.now) minute
+            result }
         ensures steps { steps.new ≤ steps.old + 2400 }
-        ensures moved { IfSome last (λ last. minute - last.minute ≤ MOST_MOVES → steps.new ≤ steps.old + 8 * (minute - last.minute)) }
+        ensures moved { IfSome last (λ last. minute - last.minute ≤ MOST_MOVES
+            → steps.new ≤ steps.old + 8 * (minute - last.minute)) }
     {
         match last {
             Some(cursor) => self.moved_or_new(minute, cursor, sums, steps),
@@ -311,10 +354,13 @@ impl AlertLine {
         sums: &WindowSums,
         steps: &mut Steps<L>,
     ) -> Cursor
-        requires behind { IsBehind self.now.rule (width_of sums.now.method) (leaf_at sums.now) minute last }
-        ensures value { IsAt self.now.rule (width_of sums.now.method) (leaf_at sums.now) minute result }
+        requires behind { IsBehind self.now.rule (width_of sums.now.method) (leaf_at sums.now)
+            minute last }
+        ensures value { IsAt self.now.rule (width_of sums.now.method) (leaf_at sums.now) minute
+            result }
         ensures steps { steps.new ≤ steps.old + 2400 }
-        ensures moved { minute - last.minute ≤ MOST_MOVES → steps.new ≤ steps.old + 8 * (minute - last.minute) }
+        ensures moved { minute - last.minute ≤ MOST_MOVES
+            → steps.new ≤ steps.old + 8 * (minute - last.minute) }
     {
         if minute - last.minute <= MOST_MOVES {
             last.moved_to(minute, sums, steps)
@@ -326,7 +372,8 @@ impl AlertLine {
     // What the rule says at the minute of a cursor.
     fn burns(&self, cursor: &Cursor, sums: &WindowSums) -> bool
         requires minute { IsMinute self.now cursor.now.minute }
-        requires stands { IsAt self.now.rule (width_of sums.now.method) (leaf_at sums.now) cursor.now.minute cursor.now }
+        requires stands { IsAt self.now.rule (width_of sums.now.method) (leaf_at sums.now)
+            cursor.now.minute cursor.now }
         ensures { result ≡ condition_on self.now sums.now cursor.now.minute }
     {
         cursor.burns(self.target, sums)
@@ -336,7 +383,8 @@ impl AlertLine {
     fn learn(&mut self, minute: u32, holds: bool)
         requires { IsMinute self.old minute }
         ensures alert { SameAlert self.old self.new }
-        ensures known { (u : ℕ) → known self.new u ≡ (if u == minute then Some holds else known self.old u) }
+        ensures known { (u : ℕ) → known self.new u
+            ≡ (if u == minute then Some holds else known self.old u) }
     {
         let slot = (minute - self.origin) as usize;
         keep(&mut self.bytes, slot, holds);

@@ -1,5 +1,6 @@
 //! What is remembered of each minute, over the bytes alone.
-ghost use Rattle.std.specs.Prelude.{◌≡◌, ℕ, ◌+◌, ◌*◌, ◌<◌, ◌≤◌, ◌==◌, ◌&&◌, nat_le, nat_lt, length, slice_index, Some, if◌then◌else◌};
+ghost use Rattle.std.specs.Prelude.{◌≡◌, ℕ, ◌+◌, ◌*◌, ◌<◌, ◌≤◌, ◌==◌, ◌&&◌, nat_le, nat_lt, length};
+ghost use Rattle.std.specs.Prelude.{slice_index, Some, if◌then◌else◌};
 ghost use Rattle.alert_line.specs.Minutes.{Forgets, kept_at, verdict_of};
 
 use crate::bits::{bits_at, with_bits};
@@ -15,7 +16,8 @@ pub(crate) fn kept_at(bytes: &[u8], slot: usize) -> Option<bool>
 fn put_bits(bytes: &mut [u8], slot: usize, bits: u8)
     requires within { slot < 4 * length bytes.old }
     requires bits { bits < 4 }
-    ensures here { (k : ℕ) → kept_at bytes.new k ≡ (if k == slot then verdict_of bits else kept_at bytes.old k) }
+    ensures here { (k : ℕ) → kept_at bytes.new k
+        ≡ (if k == slot then verdict_of bits else kept_at bytes.old k) }
     ensures len { length bytes.new ≡ length bytes.old }
 {
     bytes[slot / 4] = with_bits(bytes[slot / 4], slot % 4, bits);
@@ -23,7 +25,8 @@ fn put_bits(bytes: &mut [u8], slot: usize, bits: u8)
 
 pub(crate) fn keep(bytes: &mut [u8], slot: usize, holds: bool)
     requires within { slot < 4 * length bytes.old }
-    ensures here { (k : ℕ) → kept_at bytes.new k ≡ (if k == slot then Some holds else kept_at bytes.old k) }
+    ensures here { (k : ℕ) → kept_at bytes.new k
+        ≡ (if k == slot then Some holds else kept_at bytes.old k) }
     ensures len { length bytes.new ≡ length bytes.old }
 {
     put_bits(bytes, slot, if holds { 2 } else { 1 });
@@ -43,7 +46,8 @@ fn forget_singly(bytes: &mut [u8], from: usize, to: usize)
 fn clear(bytes: &mut [u8], first: usize, end: usize)
     requires order { first ≤ end }
     requires within { end ≤ length bytes.old }
-    ensures value { (at : ℕ) → slice_index bytes.new at ≡ (if nat_le first at && nat_lt at end then 0 else slice_index bytes.old at) }
+    ensures value { (at : ℕ) → slice_index bytes.new at
+        ≡ (if nat_le first at && nat_lt at end then 0 else slice_index bytes.old at) }
     ensures len { length bytes.new ≡ length bytes.old }
 {
     let part = &mut bytes[first..end];

@@ -4,7 +4,8 @@ ghost use Rattle.alert_line.specs.Spans.{with_minute};
 
 use std::alloc::AllocError;
 
-/// Stretches of time, ascending: each the minutes from the first number up to but without the second.
+/// Stretches of time, ascending: each the minutes from the first number up to but without the
+/// second.
 pub type Spans = Vec<(u32, u32)>;
 
 // Adds a minute at the end: to the last stretch where that ends there, else as one of its own.
@@ -27,7 +28,8 @@ fn add_minute(spans: &mut Spans, minute: u32) -> Result<(), AllocError>
 // Adds a minute at which the alert is active, and no other.
 pub(crate) fn note_minute(spans: &mut Spans, minute: u32, active: bool) -> Result<(), AllocError>
     requires { minute + 1 < 2 ^ 32 }
-    ensures { OnOk result (spans.new.items ≡ (if active then with_minute spans.old.items minute else spans.old.items)) }
+    ensures { OnOk result (spans.new.items
+        ≡ (if active then with_minute spans.old.items minute else spans.old.items)) }
 {
     if active {
         return add_minute(spans, minute);

@@ -49,7 +49,8 @@ impl Window {
     ) -> Window
         requires minute { minute + 1 < 2 ^ 32 }
         requires value { IsOver (width_of sums.now.method) (leaf_at sums.now) length minute self }
-        ensures value { IsOver (width_of sums.now.method) (leaf_at sums.now) length (minute + 1) result }
+        ensures value { IsOver (width_of sums.now.method) (leaf_at sums.now) length (minute + 1)
+            result }
         ensures steps { steps.new ≤ steps.old + 2 }
     {
         let width = sums.width();

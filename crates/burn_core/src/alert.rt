@@ -1,6 +1,7 @@
 //! When an alert fires, and how it stands (Site Reliability Workbook, 'Alerting on SLOs').
 ghost use Rattle.std.specs.Prelude.{◌≡◌, false, true};
-ghost use Rattle.burn_core.specs.Alert.{flag_of, lookback_of, page_pairs, reach_of, state_word, ticket_pairs, wait_of};
+ghost use Rattle.burn_core.specs.Alert.{flag_of, lookback_of, page_pairs, reach_of, state_word};
+ghost use Rattle.burn_core.specs.Alert.{ticket_pairs, wait_of};
 
 use exact_fraction::{Decimal, Op};
 

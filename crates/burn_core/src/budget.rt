@@ -14,7 +14,8 @@ pub fn error_rate(sum: Leaf) -> Option<Fraction>
     requires part { sum.num ≤ sum.den }
     requires few { sum.den ≤ MAX_SUM }
     ensures value { result ≡ error_rate_of sum }
-    ensures small { IfSome result (λ error. (unsigned_abs error.num ≤ sum.den) × (error.den ≤ sum.den)) }
+    ensures small { IfSome result (λ error. (unsigned_abs error.num ≤ sum.den)
+        × (error.den ≤ sum.den)) }
     ensures not_negative { IfSome result (λ error. pos 0 ≤ℤ error.num) }
 {
     if sum.den == 0 {

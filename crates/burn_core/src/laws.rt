@@ -1,5 +1,6 @@
 //! What budgets, conditions and active minutes come to.
-ghost use Rattle.burn_core.specs.Laws.{ActiveMeansItHeld, BurnTimesAllowanceIsError, OneSliceDecidesNearby, RemainingAndBurnAreOne};
+ghost use Rattle.burn_core.specs.Laws.{ActiveMeansItHeld, BurnTimesAllowanceIsError};
+ghost use Rattle.burn_core.specs.Laws.{OneSliceDecidesNearby, RemainingAndBurnAreOne};
 
 /// The error rate is the burn rate times what the target allows: error = burn * (1 - target).
 pub fn burn_times_allowance_is_error()
@@ -11,8 +12,8 @@ pub fn remaining_and_burn_are_one()
     ensures { RemainingAndBurnAreOne }
 {}
 
-/// A slice decides about the conditions of the minutes from its end to `reach` behind its start, and
-/// about no other.
+/// A slice decides about the conditions of the minutes from its end to `reach` behind its start,
+/// and about no other.
 pub fn one_slice_decides_nearby()
     ensures { OneSliceDecidesNearby }
 {}

@@ -1,6 +1,7 @@
 //! One record.
 
-ghost use Rattle.std.specs.Prelude.{◌≡◌, ◌≢◌, ◌∷◌, [], length, option_map, IfSome, IfNone, slice_get};
+ghost use Rattle.std.specs.Prelude.{◌≡◌, ◌≢◌, ◌∷◌, [], length, option_map, IfSome, IfNone};
+ghost use Rattle.std.specs.Prelude.{slice_get};
 ghost use Rattle.csv_records.specs.Columns.{five_fields, six_fields};
 
 use csv::ByteRecord;
@@ -48,8 +49,10 @@ impl Record {
 
     /// The fields, where there are exactly five.
     pub fn five(&self) -> Option<(&[u8], &[u8], &[u8], &[u8], &[u8])>
-        ensures five { option_map (λ f. (f.0.now, f.1.now, f.2.now, f.3.now, f.4.now)) result ≡ five_fields self.now }
-        ensures fields { IfSome result (λ f. self.now ≡ f.0.now ∷ f.1.now ∷ f.2.now ∷ f.3.now ∷ f.4.now ∷ []) }
+        ensures five { option_map (λ f. (f.0.now, f.1.now, f.2.now, f.3.now, f.4.now)) result
+            ≡ five_fields self.now }
+        ensures fields { IfSome result (λ f. self.now
+            ≡ f.0.now ∷ f.1.now ∷ f.2.now ∷ f.3.now ∷ f.4.now ∷ []) }
         ensures other { IfNone result (length self.now ≢ 5) }
     {
         if self.len() != 5 {
@@ -66,8 +69,10 @@ impl Record {
 
     /// The fields, where there are exactly six.
     pub fn six(&self) -> Option<(&[u8], &[u8], &[u8], &[u8], &[u8], &[u8])>
-        ensures six { option_map (λ f. (f.0.now, f.1.now, f.2.now, f.3.now, f.4.now, f.5.now)) result ≡ six_fields self.now }
-        ensures fields { IfSome result (λ f. self.now ≡ f.0.now ∷ f.1.now ∷ f.2.now ∷ f.3.now ∷ f.4.now ∷ f.5.now ∷ []) }
+        ensures six { option_map (λ f. (f.0.now, f.1.now, f.2.now, f.3.now, f.4.now, f.5.now))
+            result ≡ six_fields self.now }
+        ensures fields { IfSome result (λ f. self.now
+            ≡ f.0.now ∷ f.1.now ∷ f.2.now ∷ f.3.now ∷ f.4.now ∷ f.5.now ∷ []) }
         ensures other { IfNone result (length self.now ≢ 6) }
     {
         if self.len() != 6 {

@@ -19,12 +19,14 @@ use std::marker::Model;
 /// ```
 ///
 /// Its measure is `length l.reader`. Its invariant says that the answer so far, and then the
-/// caller's definition over `l.reader`, is that definition over `csv_records l.fn.text`: for a count,
-/// `l.count + length l.reader ≡ length (csv_records l.fn.text)`. A counter fits its type by `few`.
+/// caller's definition over `l.reader`, is that definition over `csv_records l.fn.text`: for a
+/// count, `l.count + length l.reader ≡ length (csv_records l.fn.text)`. A counter fits its type by
+/// `few`.
 #[derive(Drop)]
 pub struct RecordReader<'a> {
     text: Reader<&'a [u8]>,
-    // a read failed, or found no record, after which no clause of `csv` says what the next one finds
+    // a read failed, or found no record, after which no clause of `csv` says what the next one
+    // finds
     ended: bool,
 }
 

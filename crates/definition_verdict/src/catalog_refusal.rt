@@ -1,6 +1,7 @@
 //! The faults of the catalog as refusals.
 ghost use Rattle.std.specs.Prelude.{◌≡◌};
-ghost use Rattle.definition_verdict.specs.Verdict.{catalog_refusal as catalog_refusal_lem, limit_name as limit_name_lem};
+ghost use Rattle.definition_verdict.specs.Verdict.{catalog_refusal as catalog_refusal_lem};
+ghost use Rattle.definition_verdict.specs.Verdict.{limit_name as limit_name_lem};
 
 use record_form::{LimitName, Refusal};
 use slo_catalog::{CatalogFault, CatalogLimit};

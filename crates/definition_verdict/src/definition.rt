@@ -4,7 +4,8 @@ ghost use Rattle.std.specs.List.{All};
 ghost use Rattle.slo_objects.specs.declared.Object.{Object};
 ghost use Rattle.slo_objects.specs.Document.{IsOfDocument};
 ghost use Rattle.slo_catalog.specs.Define.{is_unchanged};
-ghost use Rattle.definition_verdict.specs.Verdict.{IsDefinition, IsRefused, defined_over, known, within_limits};
+ghost use Rattle.definition_verdict.specs.Verdict.{IsDefinition, IsRefused, defined_over, known};
+ghost use Rattle.definition_verdict.specs.Verdict.{within_limits};
 
 use crate::catalog_refusal::catalog_refusal;
 use crate::documents::{DocumentsError, TextError, documents_in, objects_in};
@@ -112,10 +113,9 @@ fn judge_objects(
 /// # Errors
 ///
 /// The first refusal, in this order: the text stands for no documents, a document for no objects;
-/// an
-/// object has a built-in policy's name, stands twice with different content, refers to nothing, or
-/// needs an operator; a zone isn't known; an SLI with samples would get another reading; a limit of
-/// objects, bytes, SLIs, SLOs, bindings or starts is passed. Or memory ran out.
+/// an object has a built-in policy's name, stands twice with different content, refers to nothing,
+/// or needs an operator; a zone isn't known; an SLI with samples would get another reading; a limit
+/// of objects, bytes, SLIs, SLOs, bindings or starts is passed. Or memory ran out.
 pub fn judge_definition(
     alloc: Global,
     catalog: &Catalog,

@@ -93,7 +93,8 @@ fn broken_error(document: usize, fault: ObjectFault) -> DocumentsError
 
 /// The objects of all documents in order.
 pub(crate) fn objects_in(alloc: Global, documents: &[Node]) -> Result<Objects, DocumentsError>
-    ensures ok { IfOk result (λ objects. objects_in_lem (map node_view documents.now) ≡ Ok objects) }
+    ensures ok { IfOk result (λ objects. objects_in_lem (map node_view documents.now)
+        ≡ Ok objects) }
     ensures refused { (refusal : Refusal) → result ≡ Err (DocumentsError.Refused refusal) →
         objects_in_lem (map node_view documents.now) ≡ Err refusal }
 {

@@ -5,8 +5,7 @@ ghost use Rattle.definition_verdict.specs.declared.definition.Definition.{Defini
 ghost use Rattle.definition_verdict.specs.Verdict.{IsDefinition, IsRefused, Known};
 
 /// A text has one verdict at most over what is kept: what it defines, or why it is refused, which
-/// is
-/// then the first refusal in the order.
+/// is then the first refusal in the order.
 pub fn one_verdict()
     ensures refusal { (known : Known) (text : List ℕ) (a b : Refusal) → IsRefused known text a →
         IsRefused known text b → a ≡ b }

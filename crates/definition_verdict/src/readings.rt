@@ -3,7 +3,11 @@ ghost use Rattle.std.specs.Prelude.{◌≡◌};
 ghost use Rattle.slo_catalog.specs.NeedsOp.{sli_named as sli_named_lem};
 ghost use Rattle.slo_objects.specs.Sli.{sli_in as sli_in_lem};
 ghost use Rattle.std.specs.Option.{option_copied};
-ghost use Rattle.definition_verdict.specs.Readings.{first_read_anew as first_read_anew_lem, is_other_reading as is_other_reading_lem, reading_of as reading_of_lem, row_read_anew as row_read_anew_lem, same_reading as same_reading_lem};
+ghost use Rattle.definition_verdict.specs.Readings.{first_read_anew as first_read_anew_lem};
+ghost use Rattle.definition_verdict.specs.Readings.{is_other_reading as is_other_reading_lem};
+ghost use Rattle.definition_verdict.specs.Readings.{reading_of as reading_of_lem};
+ghost use Rattle.definition_verdict.specs.Readings.{row_read_anew as row_read_anew_lem};
+ghost use Rattle.definition_verdict.specs.Readings.{same_reading as same_reading_lem};
 
 use exact_fraction::Label;
 use sample_book::{Row, SampleBook};

@@ -1,6 +1,8 @@
 //! How often the windows of calendars begin.
 ghost use Rattle.std.specs.Prelude.{◌≡◌, ◌<◌, ◌^◌};
-ghost use Rattle.definition_verdict.specs.Starts.{begins_too_often as begins_too_often_lem, is_step as is_step_lem, one_begins_too_often as one_begins_too_often_lem};
+ghost use Rattle.definition_verdict.specs.Starts.{begins_too_often as begins_too_often_lem};
+ghost use Rattle.definition_verdict.specs.Starts.{is_step as is_step_lem};
+ghost use Rattle.definition_verdict.specs.Starts.{one_begins_too_often as one_begins_too_often_lem};
 
 use slo_catalog::Member;
 use slo_duration::{Duration, Unit, rolling_minutes};

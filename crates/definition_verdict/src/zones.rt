@@ -1,7 +1,10 @@
 //! The zones that the calendars of objects name.
 ghost use Rattle.std.specs.Prelude.{◌≡◌};
 ghost use Rattle.slo_objects.specs.Slo.{slo_in};
-ghost use Rattle.definition_verdict.specs.Zones.{first_unknown_zone as first_unknown_zone_lem, is_among as is_among_lem, is_known_zone as is_known_zone_lem, unknown_zone_in};
+ghost use Rattle.definition_verdict.specs.Zones.{first_unknown_zone as first_unknown_zone_lem};
+ghost use Rattle.definition_verdict.specs.Zones.{is_among as is_among_lem};
+ghost use Rattle.definition_verdict.specs.Zones.{is_known_zone as is_known_zone_lem};
+ghost use Rattle.definition_verdict.specs.Zones.{unknown_zone_in};
 
 use exact_fraction::ZoneName;
 use slo_objects::{Body, Object};

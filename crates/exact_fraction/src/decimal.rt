@@ -1,7 +1,8 @@
 // Numbers with at most nine decimals.
 ghost use Rattle.std.specs.Prelude.{◌≡◌, ℕ, ◌+◌, ◌<◌, ◌≤◌, ◌^◌, length, Result};
 ghost use Rattle.exact_fraction.specs.Decimal.{AnswersDecimal};
-ghost use Rattle.exact_fraction.specs.DecimalCuts.{after_point, decimal_by_cuts, leading_digits, worth_of};
+ghost use Rattle.exact_fraction.specs.DecimalCuts.{after_point, decimal_by_cuts, leading_digits};
+ghost use Rattle.exact_fraction.specs.DecimalCuts.{worth_of};
 ghost use Rattle.exact_fraction.specs.declared.decimal.DecimalFault.{DecimalFault};
 
 use crate::digits::capped_number;
@@ -61,10 +62,12 @@ pub enum DecimalFault {
     TooLarge,
 }
 
-/// Reads digits, then optionally a point and digits. Leading zeros are read, and the text may have any length.
+/// Reads digits, then optionally a point and digits. Leading zeros are read, and the text may have
+/// any length.
 pub fn read_decimal(text: &[u8]) -> Result<Decimal, DecimalFault>
     ensures answer { AnswersDecimal text.now result }
-    ensures only { (other : Result ℕ DecimalFault) → AnswersDecimal text.now other → result ≡ other }
+    ensures only { (other : Result ℕ DecimalFault) → AnswersDecimal text.now other
+        → result ≡ other }
     ensures cuts { result ≡ decimal_by_cuts text.now }
 {
     read_by_cuts(text)

@@ -1,6 +1,7 @@
 // Exact fractions in lowest terms.
 ghost use Rattle.std.specs.Prelude.{◌≡◌, ◌<◌, ◌≤◌, ◌++◌, pos, ◌≤ℤ◌, unsigned_abs, OnErr, OnOk};
-ghost use Rattle.exact_fraction.specs.Ratio.{IsFraction, IsLowest, SameValue, fraction_text, gcd, lowest, most_part, with_sign_of};
+ghost use Rattle.exact_fraction.specs.Ratio.{IsFraction, IsLowest, SameValue, fraction_text, gcd};
+ghost use Rattle.exact_fraction.specs.Ratio.{lowest, most_part, with_sign_of};
 
 use std::alloc::AllocError;
 use std::fmt;

@@ -32,7 +32,8 @@ pub fn holds(op: Op, order: Ordering) -> bool
     }
 }
 
-/// The exact order of a fraction and a decimal of at most 10,000, so that both cross products fit 128 bits.
+/// The exact order of a fraction and a decimal of at most 10,000, so that both cross products fit
+/// 128 bits.
 pub fn compare(a: &Fraction, b: Decimal) -> Ordering
     requires { b ≤ MAX_THRESHOLD }
     ensures { result ≡ order_with a.now b }

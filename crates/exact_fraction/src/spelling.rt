@@ -1,8 +1,10 @@
 // Decimals and percentages as people write them.
-ghost use Rattle.std.specs.Prelude.{◌≡◌, ◌+◌, ◌-◌, ◌*◌, ◌/◌, ◌%◌, ◌^◌, ◌<◌, ◌≤◌, ◌++◌, ◌==◌, ◌*ℤ◌, pos, IsTrue, OnErr, OnOk, length, unsigned_abs};
+ghost use Rattle.std.specs.Prelude.{◌≡◌, ◌+◌, ◌-◌, ◌*◌, ◌/◌, ◌%◌, ◌^◌, ◌<◌, ◌≤◌, ◌++◌, ◌==◌, ◌*ℤ◌};
+ghost use Rattle.std.specs.Prelude.{pos, IsTrue, OnErr, OnOk, length, unsigned_abs};
 ghost use Rattle.std.specs.Char.{is_ascii_digit};
 ghost use Rattle.std.specs.List.{list_all, suffix_len};
-ghost use Rattle.exact_fraction.specs.DecimalText.{IsFloor, decimal_text, last_digits, minus_of, percent_parts, percent_text, without_last_zeros};
+ghost use Rattle.exact_fraction.specs.DecimalText.{IsFloor, decimal_text, last_digits, minus_of};
+ghost use Rattle.exact_fraction.specs.DecimalText.{percent_parts, percent_text, without_last_zeros};
 
 use crate::decimal::Decimal;
 use crate::fraction::Fraction;
@@ -32,7 +34,8 @@ impl fmt::Display for Decimal {
     }
 }
 
-/// Appends a decimal without zeros at the end of its decimals, and without a point where it is whole: `14.4`, `0.5`, `7`.
+/// Appends a decimal without zeros at the end of its decimals, and without a point where it is
+/// whole: `14.4`, `0.5`, `7`.
 /// After an error `out` is as before.
 pub fn write_decimal(out: &mut Vec<u8>, value: Decimal) -> Result<(), AllocError>
     ensures written { OnOk result (out.new.items ≡ out.old.items ++ decimal_text value) }
@@ -43,11 +46,13 @@ pub fn write_decimal(out: &mut Vec<u8>, value: Decimal) -> Result<(), AllocError
     out.extend_from_slice(text.as_bytes())
 }
 
-/// Appends a fraction as a percentage with four places, rounded toward minus infinity: -2/3 as `-66.6667`.
+/// Appends a fraction as a percentage with four places, rounded toward minus infinity: -2/3 as
+/// `-66.6667`.
 /// After an error `out` is as before.
 pub fn write_percent(out: &mut Vec<u8>, value: &Fraction) -> Result<(), AllocError>
     ensures written { OnOk result (out.new.items ≡ out.old.items ++ percent_text value.now) }
-    ensures floor { IsFloor (percent_parts value.now) (value.now.num *ℤ pos (10 ^ 6)) value.now.den }
+    ensures floor { IsFloor (percent_parts value.now) (value.now.num *ℤ pos (10 ^ 6))
+        value.now.den }
     ensures unchanged { OnErr result (out.new.items ≡ out.old.items) }
 {
     let parts = percent_parts(value);
@@ -64,7 +69,8 @@ pub fn write_percent(out: &mut Vec<u8>, value: &Fraction) -> Result<(), AllocErr
 // The fraction in ten-thousandths of a percent, rounded toward minus infinity.
 fn percent_parts(value: &Fraction) -> i128
     ensures value { result ≡ percent_parts value.now }
-    ensures floor { IsFloor (percent_parts value.now) (value.now.num *ℤ pos (10 ^ 6)) value.now.den }
+    ensures floor { IsFloor (percent_parts value.now) (value.now.num *ℤ pos (10 ^ 6))
+        value.now.den }
 {
     (value.num() * PARTS_OF_THE_WHOLE).div_euclid(value.den() as i128)
 }

@@ -8,7 +8,8 @@ use crate::label::is_label_byte;
 use std::fmt;
 use std::marker::Model;
 
-/// A name of 1 to 63 letters, digits, `.`, `_`, `-`, `/` and `+`, as `America/New_York`, kept as a label is.
+/// A name of 1 to 63 letters, digits, `.`, `_`, `-`, `/` and `+`, as `America/New_York`, kept as a
+/// label is.
 #[derive(Clone, Copy, PartialEq, Eq, PartialOrd, Ord, Hash)]
 pub struct ZoneName {
     name: InlineName,
@@ -44,7 +45,8 @@ impl ZoneName {
     }
 }
 
-/// Reads a zone's name: none exactly where the text's length or one of its bytes is outside the rule.
+/// Reads a zone's name: none exactly where the text's length or one of its bytes is outside the
+/// rule.
 pub fn read_zone_name(text: &[u8]) -> Option<ZoneName>
     ensures { result ≡ zone_name_of text.now }
 {

@@ -58,7 +58,8 @@ pub fn answer(alloc: Global, derived: &Derived, moment: u32, query: &Query) -> O
     requires sound { IsSound derived.now }
     requires begun { derived.now.origin ≤ moment }
     requires in_range { moment < end_of derived.now.origin }
-    ensures { (o : Office) → Reflects derived.now o → (Answers o moment query.now result ⊎ (result ≡ Outcome.NoMemory)) }
+    ensures { (o : Office) → Reflects derived.now o
+        → (Answers o moment query.now result ⊎ (result ≡ Outcome.NoMemory)) }
 {
     match answered(alloc, derived, moment, query) {
         Ok(outcome) => outcome,

@@ -5,8 +5,11 @@ ghost use Rattle.object_ranges.specs.Ranges.{IsWindow};
 ghost use Rattle.record_form.specs.declared.Query.TheVariants.{Budgets};
 ghost use Rattle.office_history.specs.History.{Office, end_of};
 ghost use Rattle.office_history.specs.Catalog.{catalog_in};
-ghost use Rattle.office_history.specs.Objectives.{measures_named as measures_named_lem, slo_named as slo_named_lem};
-ghost use Rattle.office_history.specs.Answers.{Answers, AnswersBudgets, budgets_from as budgets_from_lem, budget_rows as budget_rows_lem};
+ghost use Rattle.office_history.specs.Objectives.{measures_named as measures_named_lem};
+ghost use Rattle.office_history.specs.Objectives.{slo_named as slo_named_lem};
+ghost use Rattle.office_history.specs.Answers.{Answers, AnswersBudgets};
+ghost use Rattle.office_history.specs.Answers.{budgets_from as budgets_from_lem};
+ghost use Rattle.office_history.specs.Answers.{budget_rows as budget_rows_lem};
 ghost use Rattle.office_derived.specs.Derived.{IsSound, Reflects};
 ghost use Rattle.objective_sums.specs.Sums.{IsNamed, samples_of};
 
@@ -36,7 +39,8 @@ fn budget_rows(
     requires named { All (IsNamed derived.now.catalog) measures.now }
     requires order { from ≤ at }
     requires few { length measures.now ≤ MAX_OBJECTIVES }
-    ensures { IfOk result (λ rows. rows.items ≡ budget_rows_lem (samples_of derived.now.book) from at 0 measures.now) }
+    ensures { IfOk result (λ rows. rows.items
+        ≡ budget_rows_lem (samples_of derived.now.book) from at 0 measures.now) }
 {
     let mut rows = Vec::new(alloc);
     let mut number = 0;
@@ -66,7 +70,9 @@ fn budgets_from(
     requires sound { IsSound derived.now }
     requires order { from ≤ at }
     requires few { length (measures_named_lem derived.now.catalog name) ≤ MAX_OBJECTIVES }
-    ensures { (o : Office) → Reflects derived.now o → IfOk result (λ outcome. outcome ≡ budgets_from_lem o at (measures_named_lem (catalog_in o.history) name) (Some from)) }
+    ensures { (o : Office) → Reflects derived.now o
+        → IfOk result (λ outcome. outcome
+        ≡ budgets_from_lem o at (measures_named_lem (catalog_in o.history) name) (Some from)) }
 {
     let measures = measures_named(alloc, &derived.catalog, name)?;
     let rows = budget_rows(alloc, derived, measures.as_slice(), from, at)?;
@@ -91,7 +97,8 @@ fn budgets_of(
     requires there { slo_named_lem derived.now.catalog name ≡ Some slo.now }
     requires few { length slo.now.objectives ≤ MAX_OBJECTIVES }
     requires window { IsWindow slo.now.time_window }
-    ensures { (o : Office) → Reflects derived.now o → IfOk result (AnswersBudgets o moment name at (Some slo.now)) }
+    ensures { (o : Office) → Reflects derived.now o
+        → IfOk result (AnswersBudgets o moment name at (Some slo.now)) }
 {
     if is_outside(derived, moment, at) {
         return Ok(Outcome::Refused(Refusal::Range));
@@ -113,7 +120,8 @@ pub(crate) fn budget_list(
 ) -> Result<Outcome, AllocError>
     requires sound { IsSound derived.now }
     requires in_range { moment < end_of derived.now.origin }
-    ensures { (o : Office) → Reflects derived.now o → IfOk result (Answers o moment (Budgets name at)) }
+    ensures { (o : Office) → Reflects derived.now o
+        → IfOk result (Answers o moment (Budgets name at)) }
 {
     match slo_named(&derived.catalog, name) {
         Some(slo) => budgets_of(alloc, derived, moment, name, slo, asked_at(moment, at)),

@@ -38,7 +38,8 @@ fn burn_of(
     requires sound { IsSound derived.now }
     requires ranges { IsMeasure measure.now }
     requires named { IsNamed derived.now.catalog measure.now }
-    ensures { (o : Office) → Reflects derived.now o → IfOk result (λ outcome. outcome ≡ burn_answer o moment at lookback (Some measure.now)) }
+    ensures { (o : Office) → Reflects derived.now o
+        → IfOk result (λ outcome. outcome ≡ burn_answer o moment at lookback (Some measure.now)) }
 {
     if is_outside(derived, moment, at) || is_no_lookback(lookback) {
         return Ok(Outcome::Refused(Refusal::Range));
@@ -65,7 +66,8 @@ pub(crate) fn burn_rate(
     at: Option<u32>,
 ) -> Result<Outcome, AllocError>
     requires { IsSound derived.now }
-    ensures { (o : Office) → Reflects derived.now o → IfOk result (Answers o moment (queries.Burn slo objective lookback at)) }
+    ensures { (o : Office) → Reflects derived.now o
+        → IfOk result (Answers o moment (queries.Burn slo objective lookback at)) }
 {
     match measure_at(&derived.catalog, slo, objective) {
         Some(measure) => {

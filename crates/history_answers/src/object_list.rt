@@ -16,7 +16,8 @@ use slo_objects::{Kind, Object, write_object};
 use std::alloc::{AllocError, Global};
 
 fn names_of(alloc: Global, members: &[Member]) -> Result<ObjectNames, AllocError>
-    ensures { IfOk result (λ names. names ≡ map (λ (object : Object). (object.kind, object.name)) members.now) }
+    ensures { IfOk result (λ names. names
+        ≡ map (λ (object : Object). (object.kind, object.name)) members.now) }
 {
     let mut names = Listed::new(alloc);
     for member in members {
@@ -52,7 +53,8 @@ pub(crate) fn object_text(
     kind: Kind,
     name: Label,
 ) -> Result<Outcome, AllocError>
-    ensures { (o : Office) → Reflects derived.now o → IfOk result (Answers o 0 (queries.Object kind name)) }
+    ensures { (o : Office) → Reflects derived.now o
+        → IfOk result (Answers o 0 (queries.Object kind name)) }
 {
     match derived.catalog.find(kind, name) {
         Some(object) => Ok(Outcome::ObjectText(text_of(alloc, object)?)),

@@ -41,7 +41,8 @@ pub(crate) fn sum_between(
     requires ranges { IsMeasure measure.now }
     requires named { IsNamed derived.now.catalog measure.now }
     requires order { from ≤ to }
-    ensures value { IfOk result (λ sum. sum ≡ sum_between_lem (samples_of derived.now.book) measure.now from to) }
+    ensures value { IfOk result (λ sum. sum
+        ≡ sum_between_lem (samples_of derived.now.book) measure.now from to) }
     ensures part { IfOk result (λ sum. sum.num ≤ sum.den) }
     ensures few { IfOk result (λ sum. sum.den ≤ most_events) }
 {

@@ -1,5 +1,6 @@
 //! The stretches in which an alert is active, and how it stands.
-ghost use Rattle.std.specs.Prelude.{◌≡◌, ◌+◌, ◌-◌, ◌<◌, ◌≤◌, ◌&&◌, true, IfOk, IfSome, Some, nat_le};
+ghost use Rattle.std.specs.Prelude.{◌≡◌, ◌+◌, ◌-◌, ◌<◌, ◌≤◌, ◌&&◌, true, IfOk, IfSome, Some};
+ghost use Rattle.std.specs.Prelude.{nat_le};
 ghost use Rattle.burn_core.specs.Timeline.{AreSpansOf};
 ghost use Rattle.alert_line.specs.Line.{Agrees, active_on};
 ghost use Rattle.slo_catalog.specs.declared.Binding.{Binding};
@@ -39,7 +40,8 @@ fn spans_of<L: Ledger>(
     requires end { to ≤ line.old.origin + 2097152 }
     requires agrees { Agrees line.old sums.now }
     requires blank { (blank.name ≡ L.name) × (blank.parts ≡ L.parts) × (0 < L.parts) }
-    ensures { IfOk result (λ spans. AreSpansOf (λ minute. active_on line.old sums.now minute ≡ true) from to spans.items) }
+    ensures { IfOk result (λ spans. AreSpansOf (λ minute. active_on line.old sums.now minute ≡ true)
+        from to spans.items) }
 {
     let mut steps = Steps::<L>::new(blank);
     line.intervals(from, to, sums, &mut steps)
@@ -57,7 +59,9 @@ fn intervals_of(
     requires order { from ≤ to }
     requires begin { origin ≤ from }
     requires end { to ≤ origin + 2097152 }
-    ensures { (s : Samples) → AreSums s watch.now.measure sums.now → IfOk result (AreSpansOf (λ minute. is_watch_active origin s watch.now minute ≡ true) from to) }
+    ensures { (s : Samples) → AreSums s watch.now.measure sums.now
+        → IfOk result (AreSpansOf (λ minute. is_watch_active origin s watch.now minute ≡ true) from
+        to) }
 {
     let mut line = AlertLine::new(alloc, origin, *watch.rule(), watch.measure().target)?;
     let spans = spans_of::<Brand>(&mut line, sums, from, to, Blank::new(1))?;
@@ -66,7 +70,8 @@ fn intervals_of(
 
 // Whether [from, to) lies between the origin and the moment, and is short enough.
 fn is_timeline(derived: &Derived, moment: u32, from: u32, to: u32) -> bool
-    ensures { result ≡ (nat_le derived.now.origin from && nat_le from to && nat_le to moment && nat_le (to - from) MAX_TIMELINE) }
+    ensures { result ≡ (nat_le derived.now.origin from && nat_le from to && nat_le to moment
+        && nat_le (to - from) MAX_TIMELINE) }
 {
     derived.origin <= from && (from <= to && (to <= moment && to - from <= MAX_TIMELINE))
 }
@@ -92,7 +97,8 @@ fn timeline_of(
     requires begun { derived.now.origin ≤ moment }
     requires in_range { moment < end_of derived.now.origin }
     requires named { IsNamed derived.now.catalog watch.now.measure }
-    ensures { (o : Office) → Reflects derived.now o → IfOk result (AnswersTimeline o moment from to (Some watch.now)) }
+    ensures { (o : Office) → Reflects derived.now o
+        → IfOk result (AnswersTimeline o moment from to (Some watch.now)) }
 {
     if !is_timeline(derived, moment, from, to) {
         return Ok(Outcome::Refused(Refusal::Range));
@@ -119,7 +125,9 @@ pub(crate) fn timeline(
     requires sound { IsSound derived.now }
     requires begun { derived.now.origin ≤ moment }
     requires in_range { moment < end_of derived.now.origin }
-    ensures { (o : Office) → Reflects derived.now o → IfOk result (Answers o moment (Timeline binding.now.slo binding.now.objective binding.now.policy from to)) }
+    ensures { (o : Office) → Reflects derived.now o
+        → IfOk result (Answers o moment (Timeline binding.now.slo binding.now.objective
+        binding.now.policy from to)) }
 {
     let found = watched(alloc, &derived.catalog, binding)?;
     match found {
@@ -145,7 +153,9 @@ pub fn state_of(
     requires sound { IsSound derived.now }
     requires begun { derived.now.origin ≤ at }
     requires in_range { at < end_of derived.now.origin }
-    ensures { (o : Office) → Reflects derived.now o → IfOk result (λ state. state ≡ binding_state o (record { slo = slo; objective = objective; policy = policy }) at) }
+    ensures { (o : Office) → Reflects derived.now o
+        → IfOk result (λ state. state ≡ binding_state o
+        (record { slo = slo; objective = objective; policy = policy }) at) }
 {
     let binding = Binding {
         slo,

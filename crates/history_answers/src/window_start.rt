@@ -62,7 +62,8 @@ fn calendar_start(
 ) -> Result<Option<u32>, AllocError>
     requires step { IsCalendarStep step }
     requires horizon { horizon < 2 ^ 27 }
-    ensures { IfOk result (BeginsIn (zone_named zones.now.kept calendar.now.time_zone) calendar.now step horizon minute) }
+    ensures { IfOk result (BeginsIn (zone_named zones.now.kept calendar.now.time_zone) calendar.now
+        step horizon minute) }
 {
     if is_utc(calendar.time_zone) {
         return start_in_zone(alloc, &Zone::utc(), calendar, step, horizon, minute);

@@ -2,7 +2,8 @@
 ghost use Rattle.std.specs.Prelude.{◌≡◌, ◌≤◌, List, ℕ, Option, length, map, option_map, All, codes};
 ghost use Rattle.httparse.specs.Spans.{IsHeaderWithin, header_bytes};
 ghost use Rattle.httparse.specs.Grammar.{is_ows, trim_ows};
-ghost use Rattle.message_heads.specs.Fields.{is_close, is_named, values_named, counted_length, is_encoded, has_close, closes};
+ghost use Rattle.message_heads.specs.Fields.{is_close, is_named, values_named, counted_length};
+ghost use Rattle.message_heads.specs.Fields.{is_encoded, has_close, closes};
 ghost use Rattle.message_heads.specs.Named.{named_of, sort_of};
 
 use exact_fraction::read_number;
@@ -26,7 +27,8 @@ fn is_named(bytes: &[u8], field: &HeaderSpan, name: &[u8]) -> bool
 // The values of the fields of a name.
 fn only_value<'a>(bytes: &'a [u8], fields: &[HeaderSpan], name: &[u8]) -> Named<'a>
     requires { All (IsHeaderWithin (length bytes.now)) fields.now }
-    ensures { named_of result ≡ sort_of (values_named name.now (map (header_bytes bytes.now) fields.now)) }
+    ensures { named_of result ≡ sort_of (values_named name.now
+        (map (header_bytes bytes.now) fields.now)) }
 {
     let mut named = Named::Absent;
     for field in fields {

@@ -19,8 +19,8 @@ fn may_begin(bytes: &[u8]) -> bool
     }
 }
 
-/// How many bytes of these, of which none is a head whatever follows, are the fewest of which that is
-/// known. It is found by halving, since it is asked for once, before the connection ends.
+/// How many bytes of these, of which none is a head whatever follows, are the fewest of which that
+/// is known. It is found by halving, since it is asked for once, before the connection ends.
 pub(crate) fn first_refused(front: &[u8]) -> usize
     requires few { length front.now ≤ 8192 }
     requires never { NeverHasRequest front.now }

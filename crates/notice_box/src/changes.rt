@@ -1,5 +1,6 @@
 //! Which changes of states a tick gives notice of.
-ghost use Rattle.std.specs.Prelude.{◌≡◌, ◌++◌, ◌∷◌, [], ◌<◌, ◌^◌, IfOk, OnOk, cond, length, slice_index_or};
+ghost use Rattle.std.specs.Prelude.{◌≡◌, ◌++◌, ◌∷◌, [], ◌<◌, ◌^◌, IfOk, OnOk, cond, length};
+ghost use Rattle.std.specs.Prelude.{slice_index_or};
 ghost use Rattle.burn_core.specs.declared.alert.State.TheVariants.{Quiet};
 ghost use Rattle.notice_box.specs.Plan.{is_due, is_due_at, plan_of, same_state};
 

@@ -1,5 +1,7 @@
 //! The places of a list at which something waits, linked with one another.
-ghost use Rattle.std.specs.Prelude.{◌≡◌, ℕ, ◌-◌, ◌<◌, ◌==◌, ◌∷◌, [], ◌++◌, false, length, slice_index_or, slice_set, vec_capacity, vec_len, Some, if◌then◌else◌};
+ghost use Rattle.std.specs.Prelude.{◌≡◌, ℕ, ◌-◌, ◌<◌, ◌==◌, ◌∷◌, [], ◌++◌, false, length};
+ghost use Rattle.std.specs.Prelude.{slice_index_or, slice_set, vec_capacity, vec_len, Some};
+ghost use Rattle.std.specs.Prelude.{if◌then◌else◌};
 ghost use Rattle.notice_box.specs.Links.{earlier_at, if_there, is_at, later_at, no_link};
 ghost use Rattle.notice_box.specs.Box.{no_notice, waits};
 
@@ -21,10 +23,13 @@ pub(crate) fn go_on(
 ) -> Option<u32>
     requires { (place : ℕ) → earlier ≡ Some place → place < length links.old.items }
     ensures first { result ≡ if_there earlier first later }
-    ensures later { (place : ℕ) → later_at links.new.items place ≡ (if is_at earlier place then later else later_at links.old.items place) }
-    ensures earlier { (place : ℕ) → earlier_at links.new.items place ≡ earlier_at links.old.items place }
+    ensures later { (place : ℕ) → later_at links.new.items place
+        ≡ (if is_at earlier place then later else later_at links.old.items place) }
+    ensures earlier { (place : ℕ) → earlier_at links.new.items place
+        ≡ earlier_at links.old.items place }
     ensures len { length links.new.items ≡ length links.old.items }
-    ensures room { vec_capacity links.new - vec_len links.new ≡ vec_capacity links.old - vec_len links.old }
+    ensures room { vec_capacity links.new - vec_len links.new
+        ≡ vec_capacity links.old - vec_len links.old }
 {
     match earlier {
         Some(place) => {
@@ -44,10 +49,12 @@ pub(crate) fn come_from(
 ) -> Option<u32>
     requires { (place : ℕ) → later ≡ Some place → place < length links.old.items }
     ensures last { result ≡ if_there later last earlier }
-    ensures earlier { (place : ℕ) → earlier_at links.new.items place ≡ (if is_at later place then earlier else earlier_at links.old.items place) }
+    ensures earlier { (place : ℕ) → earlier_at links.new.items place
+        ≡ (if is_at later place then earlier else earlier_at links.old.items place) }
     ensures later { (place : ℕ) → later_at links.new.items place ≡ later_at links.old.items place }
     ensures len { length links.new.items ≡ length links.old.items }
-    ensures room { vec_capacity links.new - vec_len links.new ≡ vec_capacity links.old - vec_len links.old }
+    ensures room { vec_capacity links.new - vec_len links.new
+        ≡ vec_capacity links.old - vec_len links.old }
 {
     match later {
         Some(place) => {
@@ -82,8 +89,10 @@ pub(crate) fn notice_at(made: &[(Notice, bool)], place: u32) -> Notice
 // The notice at a place waits no more.
 pub(crate) fn let_go(made: &mut Vec<(Notice, bool)>, place: u32)
     requires { place < length made.old.items }
-    ensures made { made.new.items ≡ slice_set made.old.items place ((slice_index_or made.old.items place no_notice).0, false) }
-    ensures room { vec_capacity made.new - vec_len made.new ≡ vec_capacity made.old - vec_len made.old }
+    ensures made { made.new.items ≡ slice_set made.old.items place
+        ((slice_index_or made.old.items place no_notice).0, false) }
+    ensures room { vec_capacity made.new - vec_len made.new
+        ≡ vec_capacity made.old - vec_len made.old }
 {
     let notice = notice_at(made, place);
     made[place as usize] = (notice, false);

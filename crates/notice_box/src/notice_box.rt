@@ -1,6 +1,8 @@
 //! The box in which notices wait.
-ghost use Rattle.std.specs.Prelude.{◌≡◌, ◌⊎◌, ℕ, ◌+◌, ◌-◌, ◌<◌, ◌≤◌, ◌++◌, ◌∷◌, [], true, IfOk, OnErr, OnOk, length, slice_get, take};
-ghost use Rattle.notice_box.specs.Box.{AreNumbered, IsNext, count_waiting, notices_of, taken, waiting_in, waits};
+ghost use Rattle.std.specs.Prelude.{◌≡◌, ◌⊎◌, ℕ, ◌+◌, ◌-◌, ◌<◌, ◌≤◌, ◌++◌, ◌∷◌, [], true, IfOk};
+ghost use Rattle.std.specs.Prelude.{OnErr, OnOk, length, slice_get, take};
+ghost use Rattle.notice_box.specs.Box.{AreNumbered, IsNext, count_waiting, notices_of, taken};
+ghost use Rattle.notice_box.specs.Box.{waiting_in, waits};
 
 use crate::links::{Link, come_from, go_on, let_go, link_at, notice_at, waits_at};
 use crate::notice::Notice;
@@ -30,7 +32,11 @@ impl Model for NoticeBox {
 
     ghost Value = { Made };
 
-    ghost view = { λ a. record { made = a.made.items; spare = min (vec_capacity a.made - vec_len a.made) (vec_capacity a.links - vec_len a.links) } };
+    ghost view = { λ a. record {
+      made = a.made.items;
+      spare = min
+          (vec_capacity a.made - vec_len a.made) (vec_capacity a.links - vec_len a.links);
+    } };
 
     ghost invariant = { λ a. IsKept a.made.items a.links.items a.first a.last a.waiting };
 }

@@ -1,6 +1,8 @@
 //! Which changes of states a tick tells.
 ghost use Rattle.std.specs.Prelude.{◌≡◌, IfOk};
-ghost use Rattle.office_history.specs.Notices.{changes as changes_lem, is_told as is_told_lem, state_among as state_among_lem, state_eq as state_eq_lem};
+ghost use Rattle.office_history.specs.Notices.{changes as changes_lem, is_told as is_told_lem};
+ghost use Rattle.office_history.specs.Notices.{state_among as state_among_lem};
+ghost use Rattle.office_history.specs.Notices.{state_eq as state_eq_lem};
 
 use burn_core::State;
 use objective_sums::{flags_named, same_binding};

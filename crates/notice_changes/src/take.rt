@@ -43,7 +43,8 @@ fn take_judgement(notices: &NoticeBox, entries: u32, number: u32) -> Judgement
 /// What becomes of the taking of the notice of a number, at any moment.
 pub fn judge_take(derived: &Derived, number: u32) -> Judged
     requires { IsSound derived.now }
-    ensures { (o : Office) (moment : ℕ) → Reflects derived.now o → IsJudged o moment (Take number) result }
+    ensures { (o : Office) (moment : ℕ) → Reflects derived.now o
+        → IsJudged o moment (Take number) result }
 {
     let judgement = take_judgement(&derived.notices, derived.entries, number);
     judged_as(judgement, Work::Take(number))
@@ -66,9 +67,11 @@ fn take(notices: &mut NoticeBox, number: u32)
 pub fn apply_take(derived: &mut Derived, moment: u32, number: u32) -> Outcome
     requires sound { IsSound derived.old }
     requires next { (o : Office) × IsNext derived.old o moment (works.Take number) }
-    ensures reflects { (o : Office) → IsNext derived.old o moment (works.Take number) → Reflects derived.new (with_entry o (entry_of moment (works.Take number))) }
+    ensures reflects { (o : Office) → IsNext derived.old o moment (works.Take number)
+        → Reflects derived.new (with_entry o (entry_of moment (works.Take number))) }
     ensures sound { IsSound derived.new }
-    ensures outcome { (o : Office) → IsNext derived.old o moment (works.Take number) → result ≡ outcome_of o moment (Take number) }
+    ensures outcome { (o : Office) → IsNext derived.old o moment (works.Take number)
+        → result ≡ outcome_of o moment (Take number) }
 {
     let entry = derived.entries;
     take(&mut derived.notices, number);

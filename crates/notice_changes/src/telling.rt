@@ -11,7 +11,8 @@ use slo_catalog::Binding;
 pub(crate) fn tell(notices: &mut NoticeBox, at: u32, told: &[(Binding, State)])
     requires few { length notices.old.made + length told.now < 2 ^ 32 }
     requires room { length told.now ≤ notices.old.spare }
-    ensures { notices.new.made ≡ notices.old.made ++ new_notices at (length notices.old.made + 1) told.now }
+    ensures { notices.new.made ≡ notices.old.made
+        ++ new_notices at (length notices.old.made + 1) told.now }
 {
     for change in told {
         push(notices, at, change);
@@ -22,7 +23,8 @@ pub(crate) fn tell(notices: &mut NoticeBox, at: u32, told: &[(Binding, State)])
 fn push(notices: &mut NoticeBox, at: u32, change: &(Binding, State))
     requires few { length notices.old.made + 1 < 2 ^ 32 }
     requires room { 0 < notices.old.spare }
-    ensures made { notices.new.made ≡ notices.old.made ++ (notice_of (length notices.old.made + 1) (at, change.now), true) ∷ [] }
+    ensures made { notices.new.made ≡ notices.old.made
+        ++ (notice_of (length notices.old.made + 1) (at, change.now), true) ∷ [] }
     ensures spare { notices.old.spare ≤ notices.new.spare + 1 }
 {
     let number = notices.count() + 1;

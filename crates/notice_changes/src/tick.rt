@@ -8,7 +8,8 @@ ghost use Rattle.office_history.specs.Notices.{changes as changes_lem, waiting};
 ghost use Rattle.office_history.specs.Outcomes.{outcome_of};
 ghost use Rattle.office_history.specs.Verdicts.{tick_verdict};
 ghost use Rattle.office_derived.specs.declared.Work.TheVariants as works;
-ghost use Rattle.office_derived.specs.Derived.{HasRoom, IsJudged, IsNext, IsSound, Reflects, Stays, entry_of};
+ghost use Rattle.office_derived.specs.Derived.{HasRoom, IsJudged, IsNext, IsSound, Reflects, Stays};
+ghost use Rattle.office_derived.specs.Derived.{entry_of};
 ghost use Rattle.objective_sums.specs.Sums.{samples_of};
 
 use crate::changes::changes;
@@ -57,8 +58,10 @@ fn states_and_changes(
     requires sound { IsSound derived.now }
     requires begun { derived.now.origin ≤ moment }
     requires in_range { moment < end_of derived.now.origin }
-    ensures states { IfOk result (λ found. found.0.items ≡ states_at derived.now.origin derived.now.catalog (samples_of derived.now.book) moment) }
-    ensures told { IfOk result (λ found. found.1.items ≡ changes_lem derived.now.catalog derived.now.states.items found.0.items) }
+    ensures states { IfOk result (λ found. found.0.items
+        ≡ states_at derived.now.origin derived.now.catalog (samples_of derived.now.book) moment) }
+    ensures told { IfOk result (λ found. found.1.items
+        ≡ changes_lem derived.now.catalog derived.now.states.items found.0.items) }
 {
     let states = states_over(alloc, derived, moment)?;
     let told = changes(alloc, &derived.catalog, &derived.states, &states)?;
@@ -104,9 +107,11 @@ pub fn apply_tick(derived: &mut Derived, moment: u32, states: States, told: Stat
     requires sound { IsSound derived.old }
     requires room { HasRoom derived.old (works.Tick states told) }
     requires next { (o : Office) × IsNext derived.old o moment (works.Tick states told) }
-    ensures reflects { (o : Office) → IsNext derived.old o moment (works.Tick states told) → Reflects derived.new (with_entry o (entry_of moment (works.Tick states told))) }
+    ensures reflects { (o : Office) → IsNext derived.old o moment (works.Tick states told)
+        → Reflects derived.new (with_entry o (entry_of moment (works.Tick states told))) }
     ensures sound { IsSound derived.new }
-    ensures outcome { (o : Office) → IsNext derived.old o moment (works.Tick states told) → result ≡ outcome_of o moment Tick }
+    ensures outcome { (o : Office) → IsNext derived.old o moment (works.Tick states told)
+        → result ≡ outcome_of o moment Tick }
 {
     let entry = derived.entries;
     let notices = count(&told);

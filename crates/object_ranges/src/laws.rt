@@ -13,7 +13,8 @@ use slo_objects::each_object_reads_back;
 /// An SLO of a document has one to five objectives, each with a target below one and what its
 /// budgeting method wants of slices, and at most ten policies.
 pub fn objectives_are_in_range()
-    ensures { (o : Object) (slo : Slo) → IsOfDocument o → slo_in o.body ≡ Some slo → HasObjectives slo }
+    ensures { (o : Object) (slo : Slo) → IsOfDocument o → slo_in o.body ≡ Some slo
+        → HasObjectives slo }
 {
     each_object_reads_back();
 }
@@ -21,14 +22,16 @@ pub fn objectives_are_in_range()
 /// The window of an SLO of a document lasts at least a minute and at most 366 days; where it has a
 /// calendar, its starts can follow each other by it.
 pub fn windows_are_in_range()
-    ensures { (o : Object) (slo : Slo) → IsOfDocument o → slo_in o.body ≡ Some slo → IsWindow slo.time_window }
+    ensures { (o : Object) (slo : Slo) → IsOfDocument o → slo_in o.body ≡ Some slo
+        → IsWindow slo.time_window }
 {
     each_object_reads_back();
 }
 
 /// The threshold, the lookback and the wait of a condition of a document are those of a rule.
 pub fn conditions_are_in_range()
-    ensures { (o : Object) (c : AlertCondition) → IsOfDocument o → condition_in o.body ≡ Some c → IsCondition c.condition }
+    ensures { (o : Object) (c : AlertCondition) → IsOfDocument o → condition_in o.body ≡ Some c
+        → IsCondition c.condition }
 {
     each_object_reads_back();
 }

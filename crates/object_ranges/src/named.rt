@@ -31,7 +31,8 @@ pub fn conditions_give_rules()
 {}
 
 /// What an objective counts has a target below one (in billionths), slices of which an hour has
-/// a whole number, and a ratio of a slice, where its method asks for one, above zero and at most one.
+/// a whole number, and a ratio of a slice, where its method asks for one, above zero and at most
+/// one.
 pub fn measures_are_in_range()
     ensures target { (members : List Object) (slo : List ℕ) (number : ℕ) (m : Measure) →
         All IsOfDocument members → measure_at members slo number ≡ Some m → m.target < WHOLE }
@@ -40,7 +41,8 @@ pub fn measures_are_in_range()
     ensures some { (members : List Object) (slo : List ℕ) (number : ℕ) (m : Measure) →
         All IsOfDocument members → measure_at members slo number ≡ Some m → 0 < width_of m.method }
     ensures slices { (members : List Object) (slo : List ℕ) (number : ℕ) (m : Measure) →
-        All IsOfDocument members → measure_at members slo number ≡ Some m → HasSliceTarget m.method }
+        All IsOfDocument members → measure_at members slo number ≡ Some m
+        → HasSliceTarget m.method }
 {
     each_object_reads_back();
 }

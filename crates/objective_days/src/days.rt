@@ -1,9 +1,11 @@
 //! The days of an indicator, counted.
-ghost use Rattle.std.specs.Prelude.{◌≡◌, ◌+◌, ◌-◌, ◌*◌, ◌/◌, ◌^◌, ◌<◌, ◌≤◌, ◌||◌, ◌++◌, List, ℕ, false, IfOk, length, slice_index_or};
+ghost use Rattle.std.specs.Prelude.{◌≡◌, ◌+◌, ◌-◌, ◌*◌, ◌/◌, ◌^◌, ◌<◌, ◌≤◌, ◌||◌, ◌++◌, List, ℕ};
+ghost use Rattle.std.specs.Prelude.{false, IfOk, length, slice_index_or};
 ghost use Rattle.std.specs.List.{All};
 ghost use Rattle.sample_book.specs.Rows.{current_rows};
 ghost use Rattle.office_history.specs.Batches.{days_of};
-ghost use Rattle.objective_days.specs.Days.{IsOnDays, IsWithin, has_day, is_counted, first_day, day_count, days_passing};
+ghost use Rattle.objective_days.specs.Days.{IsOnDays, IsWithin, has_day, is_counted, first_day};
+ghost use Rattle.objective_days.specs.Days.{day_count, days_passing};
 
 use exact_fraction::Label;
 use sample_book::{Row, SampleBook};

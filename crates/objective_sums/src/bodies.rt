@@ -9,7 +9,8 @@ ghost use Rattle.slo_catalog.specs.Bindings.{policy_named as policy_named_lem};
 ghost use Rattle.slo_catalog.specs.References.{names_in as names_in_lem};
 ghost use Rattle.object_ranges.specs.Ranges.{HasObjectives, IsCondition, IsWindow};
 ghost use Rattle.office_history.specs.Alerts.{condition_named as condition_named_lem};
-ghost use Rattle.office_history.specs.Objectives.{reading_named as reading_named_lem, slo_named as slo_named_lem};
+ghost use Rattle.office_history.specs.Objectives.{reading_named as reading_named_lem};
+ghost use Rattle.office_history.specs.Objectives.{slo_named as slo_named_lem};
 
 use definition_verdict::reading_of;
 use exact_fraction::Label;

@@ -1,8 +1,12 @@
 //! What the objectives of an SLO count.
-ghost use Rattle.std.specs.Prelude.{◌≡◌, ◌++◌, ◌∷◌, [], All, IfOk, IfSome, OnOk, map, slice_get, unwrap_or};
+ghost use Rattle.std.specs.Prelude.{◌≡◌, ◌++◌, ◌∷◌, [], All, IfOk, IfSome, OnOk, map, slice_get};
+ghost use Rattle.std.specs.Prelude.{unwrap_or};
 ghost use Rattle.std.specs.Option.{option_copied};
 ghost use Rattle.object_ranges.specs.Measures.{IsMeasure};
-ghost use Rattle.office_history.specs.Objectives.{measure_at as measure_at_lem, measure_of as measure_of_lem, measures_named as measures_named_lem, method_of as method_of_lem};
+ghost use Rattle.office_history.specs.Objectives.{measure_at as measure_at_lem};
+ghost use Rattle.office_history.specs.Objectives.{measure_of as measure_of_lem};
+ghost use Rattle.office_history.specs.Objectives.{measures_named as measures_named_lem};
+ghost use Rattle.office_history.specs.Objectives.{method_of as method_of_lem};
 ghost use Rattle.objective_sums.specs.Sums.{IsNamed};
 
 use crate::bodies::{reading_named, slo_named};
@@ -73,7 +77,8 @@ fn objective_at(slo: &Slo, number: u32) -> Option<&Objective>
     slo.objectives.as_slice().get(number as usize)
 }
 
-/// The objective of this number of an SLO, from 0: none exactly where there is no such SLO or number.
+/// The objective of this number of an SLO, from 0: none exactly where there is no such SLO or
+/// number.
 pub fn measure_at(catalog: &Catalog, name: Label, number: u32) -> Option<Measure>
     ensures value { result ≡ measure_at_lem catalog.now name number }
     ensures ranges { IfSome result IsMeasure }
@@ -99,7 +104,8 @@ fn measures_with(
     slo: &Slo,
     reading: Reading,
 ) -> Result<Vec<Measure>, AllocError>
-    ensures { IfOk result (λ measures. measures.items ≡ map (measure_of_lem name slo.now reading) slo.now.objectives) }
+    ensures { IfOk result (λ measures. measures.items
+        ≡ map (measure_of_lem name slo.now reading) slo.now.objectives) }
 {
     let mut measures = Vec::new(alloc);
     for objective in slo.objectives.as_slice() {

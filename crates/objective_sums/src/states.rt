@@ -53,11 +53,13 @@ fn sums_for(
 ) -> Result<KeptSums, AllocError>
     requires sound { IsSound derived.now }
     requires last { IfSome last (AreKept derived.now) }
-    requires measure { measure_at_lem derived.now.catalog binding.now.slo binding.now.objective ≡ Some measure.now }
+    requires measure { measure_at_lem derived.now.catalog binding.now.slo binding.now.objective
+        ≡ Some measure.now }
     requires ranges { IsMeasure measure.now }
     requires named { IsNamed derived.now.catalog measure.now }
     ensures kept { IfOk result (AreKept derived.now) }
-    ensures sums { IfOk result (λ kept. AreSums (samples_of derived.now.book) measure.now kept.sums) }
+    ensures sums { IfOk result (λ kept. AreSums (samples_of derived.now.book) measure.now
+        kept.sums) }
 {
     if let Some(kept) = last {
         if kept.slo == binding.slo && kept.number == binding.objective {
@@ -83,7 +85,9 @@ fn state_of_binding(
     requires begun { derived.now.origin ≤ minute }
     requires in_range { minute < derived.now.origin + 2097152 }
     requires last { IfSome last (AreKept derived.now) }
-    ensures state { IfOk result (λ found. found.0 ≡ state_if derived.now.origin (samples_of derived.now.book) minute (watch_of_lem derived.now.catalog binding.now)) }
+    ensures state { IfOk result (λ found. found.0
+        ≡ state_if derived.now.origin (samples_of derived.now.book) minute
+        (watch_of_lem derived.now.catalog binding.now)) }
     ensures kept { IfOk result (λ found. IfSome found.1 (AreKept derived.now)) }
 {
     let Some(watch) = watch_of(&derived.catalog, binding) else {
@@ -108,7 +112,8 @@ pub fn states_over(
     requires sound { IsSound derived.now }
     requires begun { derived.now.origin ≤ minute }
     requires in_range { minute < derived.now.origin + 2097152 }
-    ensures { IfOk result (λ states. states.items ≡ states_at derived.now.origin derived.now.catalog (samples_of derived.now.book) minute) }
+    ensures { IfOk result (λ states. states.items
+        ≡ states_at derived.now.origin derived.now.catalog (samples_of derived.now.book) minute) }
 {
     let bindings = derived.catalog.bindings(alloc)?;
     states_of(alloc, derived, &bindings, minute)
@@ -124,7 +129,8 @@ fn states_of(
     requires sound { IsSound derived.now }
     requires begun { derived.now.origin ≤ minute }
     requires in_range { minute < derived.now.origin + 2097152 }
-    ensures { IfOk result (λ states. states.items ≡ map (with_state derived.now minute) bindings.now) }
+    ensures { IfOk result (λ states. states.items
+        ≡ map (with_state derived.now minute) bindings.now) }
 {
     let mut states = Vec::new(alloc);
     let mut last = None;

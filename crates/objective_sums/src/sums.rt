@@ -1,5 +1,6 @@
 //! The sums of an objective, made from the rows of the book.
-ghost use Rattle.std.specs.Prelude.{◌≡◌, ◌*◌, ◌^◌, ◌<◌, ◌≤◌, ◌∷◌, List, Some, IfOk, IsTrue, OnOk, length, slice_get};
+ghost use Rattle.std.specs.Prelude.{◌≡◌, ◌*◌, ◌^◌, ◌<◌, ◌≤◌, ◌∷◌, List, Some, IfOk, IsTrue, OnOk};
+ghost use Rattle.std.specs.Prelude.{length, slice_get};
 ghost use Rattle.std.specs.Int.{◌∣◌};
 ghost use Rattle.std.specs.List.{All};
 ghost use Rattle.slice_method.specs.Readings.{HasForm, IsSmall};
@@ -62,9 +63,11 @@ fn count_row(
 ) -> Result<(), AllocError>
     requires form { HasForm measure.now.reading row.now.amount }
     requires few { IsSmall row.now.amount }
-    requires may { (shares : List Share) × MayGain sums.old (share_of measure.now book.now.exclusions row.now) shares }
+    requires may { (shares : List Share) × MayGain sums.old
+        (share_of measure.now book.now.exclusions row.now) shares }
     ensures method { sums.new.method ≡ sums.old.method }
-    ensures counted { OnOk result ((shares : List Share) → IsSumOf sums.old shares → IsSumOf sums.new (share_of measure.now book.now.exclusions row.now ∷ shares)) }
+    ensures counted { OnOk result ((shares : List Share) → IsSumOf sums.old shares
+        → IsSumOf sums.new (share_of measure.now book.now.exclusions row.now ∷ shares)) }
 {
     if book.is_excluded(measure.slo, row.minute) {
         return Ok(());
@@ -78,9 +81,11 @@ fn count_row(
 // A minute, whose day is there, gains counts.
 fn add(sums: &mut WindowSums, minute: u32, counts: Counts)
     requires day { IsTrue (has_day sums.old (day_of minute)) }
-    requires may { (shares : List Share) × MayGain sums.old (record { minute = minute; counts = counts }) shares }
+    requires may { (shares : List Share) × MayGain sums.old
+        (record { minute = minute; counts = counts }) shares }
     ensures method { sums.new.method ≡ sums.old.method }
-    ensures counted { (shares : List Share) → IsSumOf sums.old shares → IsSumOf sums.new (record { minute = minute; counts = counts } ∷ shares) }
+    ensures counted { (shares : List Share) → IsSumOf sums.old shares
+        → IsSumOf sums.new (record { minute = minute; counts = counts } ∷ shares) }
 {
     sums.change(minute, NOTHING, counts);
 }

@@ -5,7 +5,8 @@ ghost use Rattle.burn_core.specs.Timeline.{state_of};
 ghost use Rattle.object_ranges.specs.Measures.{IsMeasure};
 ghost use Rattle.alert_line.specs.Line.{Agrees, IsMinute, active_on, den_before};
 ghost use Rattle.office_history.specs.Counts.{Samples};
-ghost use Rattle.office_history.specs.Alerts.{same_binding as same_binding_lem, state_at, watch_of as watch_of_lem, watched as watched_lem};
+ghost use Rattle.office_history.specs.Alerts.{same_binding as same_binding_lem, state_at};
+ghost use Rattle.office_history.specs.Alerts.{watch_of as watch_of_lem, watched as watched_lem};
 ghost use Rattle.std.specs.List.{list_any};
 ghost use Rattle.objective_sums.specs.Sums.{AreSums, IsNamed};
 
@@ -91,7 +92,8 @@ pub fn watched(
     binding: &Binding,
 ) -> Result<Option<Watch>, AllocError>
     ensures value { IfOk result (λ watch. watch ≡ watched_lem catalog.now binding.now) }
-    ensures named { IfOk result (λ watch. IfSome watch (λ found. IsNamed catalog.now found.measure)) }
+    ensures named { IfOk result (λ watch. IfSome watch
+        (λ found. IsNamed catalog.now found.measure)) }
 {
     let bindings = catalog.bindings(alloc)?;
     if !is_among(&bindings, binding) {
@@ -114,7 +116,8 @@ pub fn state_of_watch(
 ) -> Result<State, AllocError>
     requires begun { origin ≤ minute }
     requires in_range { minute < origin + 2097152 }
-    ensures { (s : Samples) → AreSums s watch.now.measure sums.now → IfOk result (λ state. state ≡ state_at origin s watch.now minute) }
+    ensures { (s : Samples) → AreSums s watch.now.measure sums.now
+        → IfOk result (λ state. state ≡ state_at origin s watch.now minute) }
 {
     let mut line = AlertLine::new(alloc, origin, watch.rule, watch.measure.target)?;
     Ok(state_of_line::<Brand>(&mut line, sums, minute, Blank::new(1)))
@@ -130,7 +133,8 @@ fn state_of_line<L: Ledger>(
     requires minute { IsMinute line.old minute }
     requires agrees { Agrees line.old sums.now }
     requires blank { (blank.name ≡ L.name) × (blank.parts ≡ L.parts) × (0 < L.parts) }
-    ensures { result ≡ state_of (active_on line.old sums.now minute) (den_before line.old sums.now minute) }
+    ensures { result ≡ state_of (active_on line.old sums.now minute)
+        (den_before line.old sums.now minute) }
 {
     let mut steps = Steps::<L>::new(blank);
     line.state_at(minute, sums, &mut steps)

@@ -2,7 +2,8 @@
 ghost use Rattle.std.specs.Prelude.{◌≡◌, ◌≤◌, ◌<◌, OnOk};
 ghost use Rattle.office_history.specs.History.{Office, with_entry, end_of};
 ghost use Rattle.office_history.specs.Outcomes.{outcome_of};
-ghost use Rattle.office_derived.specs.Derived.{HasRoom, IsJudged, IsNext, IsSound, Reflects, Stays, command_of, entry_of};
+ghost use Rattle.office_derived.specs.Derived.{HasRoom, IsJudged, IsNext, IsSound, Reflects, Stays};
+ghost use Rattle.office_derived.specs.Derived.{command_of, entry_of};
 
 use catalog_changes::{
     apply_define, apply_put_zone, apply_remove, judge_define, judge_put_zone, judge_remove,
@@ -55,9 +56,11 @@ pub(crate) fn apply(derived: &mut Derived, moment: u32, work: Work) -> Outcome
     requires sound { IsSound derived.old }
     requires room { HasRoom derived.old work }
     requires next { (o : Office) × IsNext derived.old o moment work }
-    ensures reflects { (o : Office) → IsNext derived.old o moment work → Reflects derived.new (with_entry o (entry_of moment work)) }
+    ensures reflects { (o : Office) → IsNext derived.old o moment work
+        → Reflects derived.new (with_entry o (entry_of moment work)) }
     ensures sound { IsSound derived.new }
-    ensures outcome { (o : Office) → IsNext derived.old o moment work → result ≡ outcome_of o moment (command_of work) }
+    ensures outcome { (o : Office) → IsNext derived.old o moment work
+        → result ≡ outcome_of o moment (command_of work) }
 {
     match work {
         Work::Define {

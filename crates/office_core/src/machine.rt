@@ -1,5 +1,6 @@
 //! The machine over its history.
-ghost use Rattle.std.specs.Prelude.{◌-◌, vec_capacity, vec_len, ◌≡◌, ◌≤◌, ◌<◌, ◌+◌, ◌⊎◌, ℕ, Option, [], Some, None, IfOk, OnOk, IfSome, length, nat_lt};
+ghost use Rattle.std.specs.Prelude.{◌-◌, vec_capacity, vec_len, ◌≡◌, ◌≤◌, ◌<◌, ◌+◌, ◌⊎◌, ℕ, Option};
+ghost use Rattle.std.specs.Prelude.{[], Some, None, IfOk, OnOk, IfSome, length, nat_lt};
 ghost use Rattle.std.specs.List.{AllByRecursion};
 ghost use Rattle.slo_limits.specs.declared.TheConstants.{MAX_MINUTE};
 ghost use Rattle.record_form.specs.declared.Command.{Command};
@@ -9,13 +10,15 @@ ghost use Rattle.record_form.specs.Records.{record_of};
 ghost use Rattle.record_form.specs.Ranges.{FitsRecord, IsEntryInRange};
 ghost use Rattle.office_history.specs.Answers.{Answers};
 ghost use Rattle.office_history.specs.Catalog.{catalog_in};
-ghost use Rattle.office_history.specs.History.{Office, current_in, end_of, moment_of, present, with_entry};
+ghost use Rattle.office_history.specs.History.{Office, current_in, end_of, moment_of, present};
+ghost use Rattle.office_history.specs.History.{with_entry};
 ghost use Rattle.office_history.specs.Legal.{IsLegal};
 ghost use Rattle.office_history.specs.Notices.{notices_in, waiting};
 ghost use Rattle.office_history.specs.Outcomes.{outcome_of};
 ghost use Rattle.office_derived.specs.Derived.{HasRoom, Stays, command_of, entry_of};
 ghost use Rattle.history_answers.specs.States.{binding_state};
-ghost use Rattle.office_core.specs.Machine.{HasRevisions, IsKept, IsPending, IsVerdict, office_of, pending_of};
+ghost use Rattle.office_core.specs.Machine.{HasRevisions, IsKept, IsPending, IsVerdict, office_of};
+ghost use Rattle.office_core.specs.Machine.{pending_of};
 ghost use Rattle.office_core.specs.declared.machine.Pending.{Pending};
 
 use crate::commands::{apply, judge, make_room};
@@ -87,16 +90,22 @@ impl Model for Core {
 
     ghost Value = { Machine };
 
-    ghost view = { λ a. record { office = office_of a.derived a.records.items; pending = pending_of a.pending } };
+    ghost view = { λ a. record {
+      office = office_of a.derived a.records.items;
+      pending = pending_of
+          a.pending;
+    } };
 
-    ghost invariant = { λ a. IsKept a.derived a.records.items (vec_capacity a.records - vec_len a.records) a.pending };
+    ghost invariant = { λ a. IsKept a.derived a.records.items
+        (vec_capacity a.records - vec_len a.records) a.pending };
 }
 
 impl Core {
     /// A machine with no entries, whose history begins at a minute since 1970-01-01T00:00Z.
     pub fn new(alloc: Global, origin: u32) -> Result<Core, AllocError>
         requires { origin ≤ MAX_MINUTE }
-        ensures office { IfOk result (λ core. core.office ≡ record { origin = origin; history = [] }) }
+        ensures office { IfOk result (λ core. core.office
+            ≡ record { origin = origin; history = [] }) }
         ensures pending { IfOk result (λ core. core.pending ≡ None) }
     {
         no_bytes_are_no_history();
@@ -118,8 +127,8 @@ impl Core {
         })
     }
 
-    /// No work: the history is legal, each of its entries has a record, and no minute of it lies past
-    /// the last one. An entry that is pending has a record too.
+    /// No work: the history is legal, each of its entries has a record, and no minute of it lies
+    /// past the last one. An entry that is pending has a record too.
     pub fn is_legal(&self)
         ensures legal { IsLegal self.now.office.origin self.now.office.history }
         ensures fit { AllByRecursion FitsRecord self.now.office.history }
@@ -187,7 +196,8 @@ impl Core {
         requires readable { moment ≤ MAX_MINUTE }
         requires revisions { HasRevisions command.now }
         ensures office { self.new.office ≡ self.old.office }
-        ensures verdict { IsVerdict self.old.office (record { moment = moment; command = command.now }) result self.new.pending }
+        ensures verdict { IsVerdict self.old.office
+            (record { moment = moment; command = command.now }) result self.new.pending }
     {
         let (verdict, pending) = judge_and_make_room(
             alloc,
@@ -203,9 +213,11 @@ impl Core {
     /// Adds the entry for which room was made, with no memory. It can't be refused.
     pub fn commit(&mut self, value: Prepared) -> Outcome
         requires { (e : Entry) × IsPending self.old e × (value ≡ record_of e) }
-        ensures office { (e : Entry) → IsPending self.old e → self.new.office ≡ with_entry self.old.office e }
+        ensures office { (e : Entry) → IsPending self.old e
+            → self.new.office ≡ with_entry self.old.office e }
         ensures pending { self.new.pending ≡ None }
-        ensures outcome { (e : Entry) → IsPending self.old e → result ≡ outcome_of self.old.office e.moment e.command }
+        ensures outcome { (e : Entry) → IsPending self.old e
+            → result ≡ outcome_of self.old.office e.moment e.command }
     {
         let Some(Pending { moment, work }) = self.pending.take() else {
             return Outcome::NoMemory;
@@ -238,7 +250,9 @@ impl Core {
         requires begun { self.old.office.origin ≤ at }
         requires in_range { at < end_of self.old.office.origin }
         ensures same { self.new ≡ self.old }
-        ensures state { IfOk result (λ state. state ≡ binding_state self.old.office (record { slo = slo; objective = objective; policy = policy }) at) }
+        ensures state { IfOk result (λ state. state
+            ≡ binding_state self.old.office
+            (record { slo = slo; objective = objective; policy = policy }) at) }
     {
         state_of(alloc, &self.derived, slo, objective, policy, at)
     }
@@ -252,14 +266,18 @@ fn judge_and_make_room(
     moment: u32,
     command: &Command,
 ) -> (Verdict, Option<Pending>)
-    requires kept { (spare : ℕ) × (pending : Option Pending) × IsKept derived.old records.old.items spare pending }
+    requires kept { (spare : ℕ) × (pending : Option Pending)
+        × IsKept derived.old records.old.items spare pending }
     requires later { present (office_of derived.old records.old.items) ≤ moment }
     requires in_range { moment < end_of derived.old.origin }
     requires readable { moment ≤ MAX_MINUTE }
     requires revisions { HasRevisions command.now }
-    ensures kept { IsKept derived.new records.new.items (vec_capacity records.new - vec_len records.new) result.1 }
-    ensures office { office_of derived.new records.new.items ≡ office_of derived.old records.old.items }
-    ensures verdict { IsVerdict (office_of derived.old records.old.items) (record { moment = moment; command = command.now }) result.0 (pending_of result.1) }
+    ensures kept { IsKept derived.new records.new.items
+        (vec_capacity records.new - vec_len records.new) result.1 }
+    ensures office { office_of derived.new records.new.items
+        ≡ office_of derived.old records.old.items }
+    ensures verdict { IsVerdict (office_of derived.old records.old.items)
+        (record { moment = moment; command = command.now }) result.0 (pending_of result.1) }
 {
     match judge(alloc, derived, moment, command) {
         Judged::Same(outcome) => (Verdict::Same(outcome), None),
@@ -293,7 +311,8 @@ fn make_ready(
     ensures room { OnOk result (HasRoom derived.new work.now) }
     ensures bytes { IfOk result (λ bytes. bytes.items ≡ record_of (entry_of moment work.now)) }
     ensures fits { OnOk result (FitsRecord (entry_of moment work.now)) }
-    ensures spare { IfOk result (λ bytes. length bytes.items ≤ vec_capacity records.new - vec_len records.new) }
+    ensures spare { IfOk result (λ bytes. length bytes.items ≤ vec_capacity records.new
+        - vec_len records.new) }
 {
     make_room(derived, work)?;
     let bytes = write_command(alloc, moment, command)?.into_vec();

@@ -1,5 +1,6 @@
 //! The zones that were put.
-ghost use Rattle.std.specs.Prelude.{◌≡◌, ◌+◌, ◌<◌, ◌≤◌, ◌++◌, ◌∷◌, [], length, map, Some, IfOk, OnOk, IfSome, option_map, option_and_then};
+ghost use Rattle.std.specs.Prelude.{◌≡◌, ◌+◌, ◌<◌, ◌≤◌, ◌++◌, ◌∷◌, [], length, map, Some, IfOk};
+ghost use Rattle.std.specs.Prelude.{OnOk, IfSome, option_map, option_and_then};
 ghost use Rattle.std.specs.Option.{option_copied};
 ghost use Rattle.zone_calendar.specs.ZoneBytes.{zone_of};
 ghost use Rattle.std.specs.List.{find};
@@ -34,9 +35,13 @@ impl Model for Zones {
 
     ghost Value = { KeptZones };
 
-    ghost view = { λ a. record { kept = map (λ (k : KeptZone). (k.name, k.bytes)) a.kept.items; spare = vec_capacity a.kept - vec_len a.kept } };
+    ghost view = { λ a. record {
+      kept = map (λ (k : KeptZone). (k.name, k.bytes)) a.kept.items;
+      spare = vec_capacity a.kept - vec_len a.kept;
+    } };
 
-    ghost invariant = { λ a. AllByRecursion (λ (k : KeptZone). IsRead k.bytes k.zone) a.kept.items };
+    ghost invariant = { λ a. AllByRecursion (λ (k : KeptZone). IsRead k.bytes k.zone)
+        a.kept.items };
 }
 
 impl Zones {

@@ -26,7 +26,8 @@ fn counted<T>(outcome: Result<T, Failed>, faults: &mut u64) -> Result<T, Failed>
 /// Reads once, and again where the read was interrupted.
 fn read_some<R: Read>(reader: &mut R, piece: &mut [u8]) -> Result<usize, Failed>
     ensures count { IfOk result (λ n. n ≤ length piece.new) }
-    ensures bytes { ReadConsumes (R.remaining reader.old) (R.remaining reader.new) result piece.new }
+    ensures bytes { ReadConsumes (R.remaining reader.old) (R.remaining reader.new) result
+        piece.new }
 {
     for _ in 0..TRIES {
         match reader.read(piece) {
@@ -113,7 +114,8 @@ impl<R: Read + Drop> Source for StdSource<R> {
         ensures cause { HasCause self.old.faults self.new.faults result }
 
         ensures counted { CountsFailure self.old.faults self.new.faults result }
-        ensures reader { ReadConsumes (R.remaining self.old.inner) (R.remaining self.new.inner) result piece.new }
+        ensures reader { ReadConsumes (R.remaining self.old.inner) (R.remaining self.new.inner)
+            result piece.new }
     {
         counted(read_some(&mut self.inner, piece), &mut self.faults)
     }
@@ -165,7 +167,8 @@ impl<W: Write + Drop> Sink for StdSink<W> {
         ensures cause { HasCause self.old.faults self.new.faults result }
 
         ensures counted { CountsFailure self.old.faults self.new.faults result }
-        ensures writer { WriteAppends (W.contents self.old.inner) (W.contents self.new.inner) result piece.now }
+        ensures writer { WriteAppends (W.contents self.old.inner) (W.contents self.new.inner) result
+            piece.now }
     {
         counted(write_some(&mut self.inner, piece), &mut self.faults)
     }

@@ -1,7 +1,8 @@
 //! A file as a journal sees it: what a read gives, what a stop may leave, and how often it failed.
 ghost use Rattle.std.specs.Prelude.{◌≡◌, ◌≤◌, List, ℕ, Option, length, IfOk, OnOk, IfSome, is_some};
 ghost use Rattle.office_outside.specs.Faults.{HasCause};
-ghost use Rattle.office_outside.specs.Disk.{OnlyAsRead, NoMore, Follows, Torn, Elapses, IsWritten, IsRead};
+ghost use Rattle.office_outside.specs.Disk.{OnlyAsRead, NoMore, Follows, Torn, Elapses, IsWritten};
+ghost use Rattle.office_outside.specs.Disk.{IsRead};
 
 use crate::Failed;
 
@@ -30,18 +31,22 @@ pub trait Disk {
     /// Reads from `at` on. Fewer bytes than asked come only where the file ends.
     fn read_at(&mut self, at: u64, piece: &mut [u8]) -> Result<usize, Failed>
         ensures count { IfOk result (λ n. n ≤ length piece.new) }
-        ensures bytes { IfOk result (λ n. IfSome (content self.old) (λ file. IsRead at file piece.new n)) }
+        ensures bytes { IfOk result (λ n. IfSome (content self.old)
+            (λ file. IsRead at file piece.new n)) }
         ensures content { content self.new ≡ content self.old }
         ensures crash { NoMore (images self.old) (images self.new) }
-        ensures time { Elapses (moment self.old) (moment self.new) (images_since self.old) (images_since self.new) (images self.new) }
+        ensures time { Elapses (moment self.old) (moment self.new) (images_since self.old)
+            (images_since self.new) (images self.new) }
         ensures cause { HasCause (faults self.old) (faults self.new) result };
 
     /// Writes all of the piece. A write that fails may have done any part of its work.
     fn write_at(&mut self, at: u64, piece: &[u8]) -> Result<(), Failed>
-        ensures written { OnOk result (IsWritten at piece.now (content self.old) (content self.new)) }
+        ensures written { OnOk result (IsWritten at piece.now (content self.old)
+            (content self.new)) }
         ensures tells { is_some (content self.new) ≡ is_some (content self.old) }
         ensures crash { Follows (Torn at (length piece.now)) (images self.old) (images self.new) }
-        ensures time { Elapses (moment self.old) (moment self.new) (images_since self.old) (images_since self.new) (images self.new) }
+        ensures time { Elapses (moment self.old) (moment self.new) (images_since self.old)
+            (images_since self.new) (images self.new) }
         ensures cause { HasCause (faults self.old) (faults self.new) result };
 
     /// After it, a stop leaves what a read gives. A sync that fails may have done any part of its
@@ -50,14 +55,17 @@ pub trait Disk {
         ensures durable { OnOk result (OnlyAsRead (content self.old) (images self.new)) }
         ensures content { content self.new ≡ content self.old }
         ensures crash { NoMore (images self.old) (images self.new) }
-        ensures time { Elapses (moment self.old) (moment self.new) (images_since self.old) (images_since self.new) (images self.new) }
+        ensures time { Elapses (moment self.old) (moment self.new) (images_since self.old)
+            (images_since self.new) (images self.new) }
         ensures cause { HasCause (faults self.old) (faults self.new) result };
 
     /// This moment is one of those since an earlier one.
-    ghost counts_now: { (disk : Self) (t : ℕ) (c : List ℕ) → t ≤ moment disk → images disk c → images_since disk t c };
+    ghost counts_now: { (disk : Self) (t : ℕ) (c : List ℕ) → t ≤ moment disk → images disk c
+        → images_since disk t c };
 
     /// Since this moment there is no other.
-    ghost only_now: { (disk : Self) (c : List ℕ) → images_since disk (moment disk) c → images disk c };
+    ghost only_now: { (disk : Self) (c : List ℕ) → images_since disk (moment disk) c
+        → images disk c };
 
     /// The disk as it reads is one of its images.
     ghost as_read: { (disk : Self) → IfSome (content disk) (images disk) };

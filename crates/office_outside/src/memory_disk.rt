@@ -1,11 +1,16 @@
 //! A disk in memory. It keeps a record of its calls and so answers for the images of each moment.
-ghost use Rattle.std.specs.Prelude.{◌≡◌, ◌⊎◌, ◌+◌, ◌-◌, ◌<◌, ◌≤◌, ◌^◌, ◌++◌, ◌∷◌, ◌↔◌, [], true, false, if◌then◌else◌, length, min, take, drop, replicate, Some, IsErr, IfOk, OnOk, OnErr, Contains, refl};
+ghost use Rattle.std.specs.Prelude.{◌≡◌, ◌⊎◌, ◌+◌, ◌-◌, ◌<◌, ◌≤◌, ◌^◌, ◌++◌, ◌∷◌, ◌↔◌, [], true};
+ghost use Rattle.std.specs.Prelude.{false, if◌then◌else◌, length, min, take, drop, replicate, Some};
+ghost use Rattle.std.specs.Prelude.{IsErr, IfOk, OnOk, OnErr, Contains, refl};
 ghost use Rattle.std.proofs.Common.{inl};
 ghost use Rattle.office_outside.specs.Faults.{HasCause};
 ghost use Rattle.office_outside.specs.Memory.{after_flush, after_failure};
-ghost use Rattle.office_outside.specs.Disk.{OnlyAsRead, NoMore, Follows, Torn, Elapses, IsWritten, written_over, IsRead};
-ghost use Rattle.office_outside.specs.DiskCalls.{State, after, Left, replay, IsImage, LeftSince, counts_now, only_now};
-ghost use Rattle.office_outside.specs.declared.memory_disk.DiskCall.TheVariants.{Looked, Wrote, Synced};
+ghost use Rattle.office_outside.specs.Disk.{OnlyAsRead, NoMore, Follows, Torn, Elapses, IsWritten};
+ghost use Rattle.office_outside.specs.Disk.{written_over, IsRead};
+ghost use Rattle.office_outside.specs.DiskCalls.{State, after, Left, replay, IsImage, LeftSince};
+ghost use Rattle.office_outside.specs.DiskCalls.{counts_now, only_now};
+ghost use Rattle.office_outside.specs.declared.memory_disk.DiskCall.TheVariants.{Looked, Wrote};
+ghost use Rattle.office_outside.specs.declared.memory_disk.DiskCall.TheVariants.{Synced};
 
 use crate::{Disk, Failed, Plan};
 use std::alloc::{AllocError, Global};
@@ -35,7 +40,8 @@ pub struct MemoryDisk {
 
 impl MemoryDisk {
     ghost use Rattle.std.specs.Prelude.{length};
-    ghost use Rattle.office_outside.specs.DiskMemory.{bytes_read, calls_made, planned, IsFresh, IsLeftAt};
+    ghost use Rattle.office_outside.specs.DiskMemory.{bytes_read, calls_made, planned, IsFresh};
+    ghost use Rattle.office_outside.specs.DiskMemory.{IsLeftAt};
 
     /// A disk whose file has these bytes, all of them kept.
     pub fn new(alloc: Global, bytes: Vec<u8>, plan: Plan) -> Result<MemoryDisk, AllocError>
@@ -169,7 +175,8 @@ fn overwrite(file: &mut Vec<u8>, at: usize, piece: &[u8]) -> Result<(), AllocErr
 
 /// Adds zeros up to a length.
 fn lengthen(file: &mut Vec<u8>, end: usize) -> Result<(), AllocError>
-    ensures ok { OnOk result (file.new.items ≡ file.old.items ++ replicate (end - length file.old.items) 0) }
+    ensures ok { OnOk result (file.new.items
+        ≡ file.old.items ++ replicate (end - length file.old.items) 0) }
     ensures err { OnErr result (file.new.items ≡ file.old.items) }
 {
     if end > file.len() {
@@ -195,11 +202,15 @@ fn write_into(
     piece: &[u8],
     done: bool,
 ) -> Result<(), AllocError>
-    ensures noted { OnOk result ((v : _) × (v.items ≡ piece.now) × (calls.new.items ≡ calls.old.items ++ Wrote at v done ∷ [])) }
-    ensures ok { OnOk result (file.new.items ≡ (if done then written_over file.old.items at piece.now else file.old.items)) }
+    ensures noted { OnOk result ((v : _) × (v.items ≡ piece.now)
+        × (calls.new.items ≡ calls.old.items ++ Wrote at v done ∷ [])) }
+    ensures ok { OnOk result (file.new.items
+        ≡ (if done then written_over file.old.items at piece.now else file.old.items)) }
     ensures err { OnErr result (file.new.items ≡ file.old.items) }
     ensures unnoted { OnErr result (calls.new.items ≡ calls.old.items) }
-    ensures either { (calls.new.items ≡ calls.old.items) ⊎ ((v : _) × (v.items ≡ piece.now) × (calls.new.items ≡ calls.old.items ++ Wrote at v done ∷ [])) }
+    ensures either { (calls.new.items ≡ calls.old.items)
+        ⊎ ((v : _) × (v.items ≡ piece.now)
+        × (calls.new.items ≡ calls.old.items ++ Wrote at v done ∷ [])) }
 {
     let bytes = piece.to_vec(alloc)?;
     calls.reserve(1)?;
@@ -214,7 +225,8 @@ fn write_into(
 fn note(calls: &mut Vec<DiskCall>, call: DiskCall) -> Result<(), AllocError>
     ensures noted { OnOk result (calls.new.items ≡ calls.old.items ++ call ∷ []) }
     ensures unnoted { OnErr result (calls.new.items ≡ calls.old.items) }
-    ensures either { (calls.new.items ≡ calls.old.items) ⊎ (calls.new.items ≡ calls.old.items ++ call ∷ []) }
+    ensures either { (calls.new.items ≡ calls.old.items)
+        ⊎ (calls.new.items ≡ calls.old.items ++ call ∷ []) }
 {
     calls.push(call)?;
     Ok(())
@@ -237,7 +249,8 @@ fn leave(
     call: &DiskCall,
     wanted: &[u8],
 ) -> Result<(), AllocError>
-    ensures { OnOk result ((s : State) → Left s reads.old.items left.old.items → Left (after s call.now) reads.new.items left.new.items) }
+    ensures { OnOk result ((s : State) → Left s reads.old.items left.old.items
+        → Left (after s call.now) reads.new.items left.new.items) }
 {
     match call {
         DiskCall::Looked { .. } => Ok(()),
@@ -257,7 +270,8 @@ fn leave_write(
     done: bool,
     wanted: &[u8],
 ) -> Result<(), AllocError>
-    ensures reads { OnOk result (reads.new.items ≡ (if done then written_over reads.old.items at bytes.now else reads.old.items)) }
+    ensures reads { OnOk result (reads.new.items
+        ≡ (if done then written_over reads.old.items at bytes.now else reads.old.items)) }
     ensures left { OnOk result (Torn at (length bytes.now) left.old.items left.new.items) }
 {
     if done {

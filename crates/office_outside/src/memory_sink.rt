@@ -1,5 +1,6 @@
 //! A sink into memory, which tells what it holds.
-ghost use Rattle.std.specs.Prelude.{◌≡◌, ◌<◌, ◌≤◌, ◌↔◌, ◌++◌, [], length, take, IsErr, IfOk, OnOk, OnErr, Contains};
+ghost use Rattle.std.specs.Prelude.{◌≡◌, ◌<◌, ◌≤◌, ◌↔◌, ◌++◌, [], length, take, IsErr, IfOk, OnOk};
+ghost use Rattle.std.specs.Prelude.{OnErr, Contains};
 ghost use Rattle.office_outside.specs.Faults.{HasCause};
 ghost use Rattle.office_outside.specs.Memory.{share_of, after_write, after_flush, after_failure};
 
@@ -69,7 +70,8 @@ impl Sink for MemorySink {
         ensures failing { Contains self.old.plan.failing self.old.plan.calls → IsErr result }
         ensures exact_count { IfOk result (λ n. n ≡ share_of self.old.plan (length piece.now)) }
         ensures after { IfOk result (λ n. self.new ≡ after_write (take n piece.now) self.old) }
-        ensures after_failure { OnErr result (self.new ≡ record self.old { plan = after_failure self.old.plan }) }
+        ensures after_failure { OnErr result
+            (self.new ≡ record self.old { plan = after_failure self.old.plan }) }
     {
         let count = self.plan.share(piece.len());
         if self.plan.fails_now() || self.bytes.extend_from_slice(&piece[..count]).is_err() {
@@ -86,8 +88,10 @@ impl Sink for MemorySink {
         ensures cause { HasCause self.old.plan.faults self.new.plan.faults result }
 
         ensures failing { IsErr result ↔ Contains self.old.plan.failing self.old.plan.calls }
-        ensures after { OnOk result (self.new ≡ record self.old { plan = after_flush self.old.plan }) }
-        ensures after_failure { OnErr result (self.new ≡ record self.old { plan = after_failure self.old.plan }) }
+        ensures after { OnOk result (self.new
+            ≡ record self.old { plan = after_flush self.old.plan }) }
+        ensures after_failure { OnErr result
+            (self.new ≡ record self.old { plan = after_failure self.old.plan }) }
     {
         if self.plan.fails_now() {
             self.plan.note_failure();

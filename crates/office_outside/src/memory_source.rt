@@ -1,5 +1,6 @@
 //! A source over bytes in memory, which tells what is left.
-ghost use Rattle.std.specs.Prelude.{◌≡◌, ◌<◌, ◌≤◌, ◌↔◌, ◌++◌, [], length, take, drop, min, IsErr, IfOk, OnErr, Contains};
+ghost use Rattle.std.specs.Prelude.{◌≡◌, ◌<◌, ◌≤◌, ◌↔◌, ◌++◌, [], length, take, drop, min, IsErr};
+ghost use Rattle.std.specs.Prelude.{IfOk, OnErr, Contains};
 ghost use Rattle.office_outside.specs.Faults.{HasCause};
 ghost use Rattle.office_outside.specs.Memory.{share_of, after_read, after_failure};
 
@@ -66,11 +67,13 @@ impl Source for MemorySource {
         ensures cause { HasCause self.old.plan.faults self.new.plan.faults result }
 
         ensures failing { IsErr result ↔ Contains self.old.plan.failing self.old.plan.calls }
-        ensures exact_count { IfOk result (λ n. n ≡ share_of self.old.plan (min (length self.old.left) (length piece.old))) }
+        ensures exact_count { IfOk result
+            (λ n. n ≡ share_of self.old.plan (min (length self.old.left) (length piece.old))) }
         ensures piece { IfOk result (λ n. piece.new ≡ take n self.old.left ++ drop n piece.old) }
         ensures after { IfOk result (λ n. self.new ≡ after_read n self.old) }
         ensures piece_kept { OnErr result (piece.new ≡ piece.old) }
-        ensures after_failure { OnErr result (self.new ≡ record self.old { plan = after_failure self.old.plan }) }
+        ensures after_failure { OnErr result
+            (self.new ≡ record self.old { plan = after_failure self.old.plan }) }
     {
         if self.plan.fails_now() {
             self.plan.note_failure();

@@ -1,6 +1,7 @@
 //! The plan by which the calls of a memory form go: which of them fail, and how much they move.
 ghost use Rattle.std.specs.Prelude.{◌≡◌, ◌≤◌, ◌↔◌, IsTrue, Contains, []};
-ghost use Rattle.office_outside.specs.Memory.{fresh_plan, share_of, after_move, after_flush, after_failure};
+ghost use Rattle.office_outside.specs.Memory.{fresh_plan, share_of, after_move, after_flush};
+ghost use Rattle.office_outside.specs.Memory.{after_failure};
 
 use std::alloc::Global;
 use std::marker::Model;
@@ -21,7 +22,13 @@ impl Model for Plan {
 
     ghost Value = { Planned };
 
-    ghost view = { λ p. record { failing = p.failing.items; sizes = p.sizes.items; calls = p.calls; moves = p.moves; faults = p.faults } };
+    ghost view = { λ p. record {
+      failing = p.failing.items;
+      sizes = p.sizes.items;
+      calls = p.calls;
+      moves = p.moves;
+      faults = p.faults;
+    } };
 }
 
 impl Plan {

@@ -1,5 +1,6 @@
 //! Where bytes go.
-ghost use Rattle.std.specs.Prelude.{◌≡◌, ◌<◌, ◌≤◌, List, ℕ, Option, length, take, IfOk, OnOk, OnErr};
+ghost use Rattle.std.specs.Prelude.{◌≡◌, ◌<◌, ◌≤◌, List, ℕ, Option, length, take, IfOk, OnOk};
+ghost use Rattle.std.specs.Prelude.{OnErr};
 ghost use Rattle.office_outside.specs.Faults.{HasCause};
 ghost use Rattle.office_outside.specs.Told.{Gained, GainedPrefix};
 
@@ -14,11 +15,13 @@ pub trait Sink {
     ghost faults: { Self → ℕ };
 
     /// Appends the first bytes of the piece and answers how many they are. Of a piece that isn't
-    /// empty it takes at least one byte, or it answers `Failed`. After `Failed` nothing was appended.
+    /// empty it takes at least one byte, or it answers `Failed`. After `Failed` nothing was
+    /// appended.
     fn write(&mut self, piece: &[u8]) -> Result<usize, Failed>
         ensures count { IfOk result (λ n. n ≤ length piece.now) }
         ensures progress { IfOk result (λ n. 0 < length piece.now → 0 < n) }
-        ensures gained { IfOk result (λ n. Gained (take n piece.now) (held self.old) (held self.new)) }
+        ensures gained { IfOk result (λ n. Gained (take n piece.now) (held self.old)
+            (held self.new)) }
         ensures kept { OnErr result (held self.new ≡ held self.old) }
         ensures cause { HasCause (faults self.old) (faults self.new) result };
 

@@ -19,7 +19,8 @@ pub trait Source {
     fn read(&mut self, piece: &mut [u8]) -> Result<usize, Failed>
         ensures count { IfOk result (λ n. n ≤ length piece.new) }
         ensures bytes { IfOk result (λ n. Lost (take n piece.new) (left self.old) (left self.new)) }
-        ensures end { IfOk result (λ n. n ≡ 0 → 0 < length piece.new → HasNothingLeft (left self.new)) }
+        ensures end { IfOk result (λ n. n ≡ 0 → 0 < length piece.new
+            → HasNothingLeft (left self.new)) }
         ensures kept { OnErr result (left self.new ≡ left self.old) }
         ensures cause { HasCause (faults self.old) (faults self.new) result };
 }

@@ -96,7 +96,8 @@ impl<'a> Cursor<'a> {
 
     /// The next bytes, as many as the count says.
     pub(crate) fn bytes(&mut self, count: usize) -> Result<&'a [u8], Unread>
-        ensures { ReadsAs (λ bytes. bytes.now) (take_bytes count) result self.old.left.now self.new.left.now }
+        ensures { ReadsAs (λ bytes. bytes.now) (take_bytes count) result self.old.left.now
+            self.new.left.now }
     {
         if self.left.len() < count {
             return Err(Unread::NoRecord);

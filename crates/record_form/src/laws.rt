@@ -1,5 +1,7 @@
 //! What holds of records: laws without code, for whoever keeps them.
-ghost use Rattle.record_form.specs.Laws.{EntriesAreReadBack, HistoriesAreReadBack, NoBytesAreNoHistory, NoRecordBeginsAnother, OneRecordMore, RecordsHaveSizes};
+ghost use Rattle.record_form.specs.Laws.{EntriesAreReadBack, HistoriesAreReadBack};
+ghost use Rattle.record_form.specs.Laws.{NoBytesAreNoHistory, NoRecordBeginsAnother, OneRecordMore};
+ghost use Rattle.record_form.specs.Laws.{RecordsHaveSizes};
 
 /// An entry is read back from its record, whatever follows.
 pub fn an_entry_is_read_back()

@@ -94,7 +94,8 @@ impl Outcome {
 
     /// The status of its HTTP answer and the member `error`, where it is no answer of status 200.
     pub fn failure(&self) -> Option<(u16, &'static str)>
-        ensures { MatchOption result (failure_of self.now ≡ None) (λ failure. failure_of self.now ≡ Some (failure.0, failure.1.now)) }
+        ensures { MatchOption result (failure_of self.now ≡ None)
+            (λ failure. failure_of self.now ≡ Some (failure.0, failure.1.now)) }
     {
         match self {
             Outcome::Refused(refusal) => Some((refusal.status(), refusal.word())),

@@ -61,7 +61,8 @@ fn read_whole(alloc: Global, bytes: &[u8]) -> Result<Option<Entry>, AllocError>
 /// The entry whose record the bytes are, all of them; none exactly where they are no record.
 pub fn read_record(alloc: Global, bytes: &[u8]) -> Result<Option<Entry>, AllocError>
     ensures record { (e : Entry) → IfOk result (λ found. found ≡ Some e → IsRecord bytes.now e) }
-    ensures each_record { (e : Entry) → IsRecord bytes.now e → IfOk result (λ found. found ≡ Some e) }
+    ensures each_record { (e : Entry) → IsRecord bytes.now e
+        → IfOk result (λ found. found ≡ Some e) }
     ensures in_range { IfOk result (λ found. IfSome found IsEntryInRange) }
     ensures exact { IfOk result (λ found. found ≡ entry_of bytes.now) }
 {

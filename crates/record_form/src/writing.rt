@@ -4,8 +4,12 @@ ghost use Rattle.std.specs.Int.{w32};
 ghost use Rattle.exact_fraction.specs.Label.{is_label};
 ghost use Rattle.exact_fraction.specs.ZoneName.{is_zone_name};
 ghost use Rattle.record_form.specs.Form.{byte, number, text};
-ghost use Rattle.record_form.specs.Records.{amount, command as command_form, exclusion, label as label_form, row as row_form, rows as rows_form, text_within, zone_name};
-ghost use Rattle.record_form.specs.Ranges.{Fits, FitsAmount, FitsExclusion, FitsRow, FitsRows, IsEntryInRange, IsExclusionInRange, IsInRange, IsRecord, IsRowInRange, AreRowsInRange};
+ghost use Rattle.record_form.specs.Records.{amount, command as command_form, exclusion};
+ghost use Rattle.record_form.specs.Records.{label as label_form, row as row_form};
+ghost use Rattle.record_form.specs.Records.{rows as rows_form, text_within, zone_name};
+ghost use Rattle.record_form.specs.Ranges.{Fits, FitsAmount, FitsExclusion, FitsRow, FitsRows};
+ghost use Rattle.record_form.specs.Ranges.{IsEntryInRange, IsExclusionInRange, IsInRange, IsRecord};
+ghost use Rattle.record_form.specs.Ranges.{IsRowInRange, AreRowsInRange};
 ghost use Rattle.record_form.specs.Writing.{Writes};
 
 use crate::command::Command;
@@ -51,7 +55,8 @@ fn put_zone_name(out: &mut Vec<u8>, name: ZoneName) -> Result<(), AllocError>
 #[tactic(auto, unfolding(crate::specs::Records::text_within, crate::specs::Records::number_within))]
 fn put_text(out: &mut Vec<u8>, text: &[u8]) -> Result<(), AllocError>
     requires { length text.now ≤ MAX_TEXT_BYTES }
-    ensures { OnOk result ((most : ℕ) → Writes (text_within most) text.now out.old.items out.new.items) }
+    ensures { OnOk result ((most : ℕ) → Writes (text_within most) text.now out.old.items
+        out.new.items) }
 {
     put_number(out, text.len() as u32)?;
     out.extend_from_slice(text)
@@ -162,7 +167,8 @@ fn put_command(out: &mut Vec<u8>, command: &Command) -> Result<(), AllocError>
 #[tactic(auto, unfolding(crate::specs::Records::entry, crate::specs::Records::number_within))]
 pub fn write_command(alloc: Global, moment: u32, command: &Command) -> Result<Bytes, AllocError>
     requires { IsEntryInRange (record { moment = moment; command = command.now }) }
-    ensures { IfOk result (λ bytes. IsRecord bytes (record { moment = moment; command = command.now })) }
+    ensures { IfOk result (λ bytes. IsRecord bytes
+        (record { moment = moment; command = command.now })) }
 {
     let mut out = Vec::new(alloc);
     put_number(&mut out, moment)?;

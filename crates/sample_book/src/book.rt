@@ -1,10 +1,14 @@
 // The book of samples and exclusions.
-ghost use Rattle.std.specs.Prelude.{◌/◌, take, ℕ, List, ◌||◌, ◌≡◌, ◌≢◌, ◌+◌, ◌*◌, ◌^◌, ◌<◌, ◌≤◌, ◌++◌, ◌∷◌, [], true, false, Some, None, OnOk, OnErr, IfOk, length, slice_get};
+ghost use Rattle.std.specs.Prelude.{◌/◌, take, ℕ, List, ◌||◌, ◌≡◌, ◌≢◌, ◌+◌, ◌*◌, ◌^◌, ◌<◌, ◌≤◌};
+ghost use Rattle.std.specs.Prelude.{◌++◌, ◌∷◌, [], true, false, Some, None, OnOk, OnErr, IfOk};
+ghost use Rattle.std.specs.Prelude.{length, slice_get};
 ghost use Rattle.sample_book.specs.Book.{Book};
 ghost use Rattle.std.specs.List.{AllByRecursion};
 ghost use Rattle.sample_book.specs.Chains.{below, is_on, last_place};
-ghost use Rattle.sample_book.specs.Counting.{HaveForm, IsSmallRow, is_of, counted_in_minute, counts_of_minute, first_of};
-ghost use Rattle.sample_book.specs.Exclusions.{Excluded, HaveOwnIds, IsLive, Lifted, excludes, exclusion_of, is_excluded, lifted};
+ghost use Rattle.sample_book.specs.Counting.{HaveForm, IsSmallRow, is_of, counted_in_minute};
+ghost use Rattle.sample_book.specs.Counting.{counts_of_minute, first_of};
+ghost use Rattle.sample_book.specs.Exclusions.{Excluded, HaveOwnIds, IsLive, Lifted, excludes};
+ghost use Rattle.sample_book.specs.Exclusions.{exclusion_of, is_excluded, lifted};
 ghost use Rattle.sample_book.specs.History.{Came, Changed, Gains, Holds, is_put};
 ghost use Rattle.sample_book.specs.Puts.{IsPutInto, verdicts};
 ghost use Rattle.sample_book.specs.Rows.{MayPutAs, cell_of, current_rows, room_for, verdict_of};
@@ -34,7 +38,12 @@ impl Model for SampleBook {
 
     ghost Value = { Book };
 
-    ghost view = { λ a. record { rows = a.rows.rows; exclusions = a.exclusions.made; room = a.rows.room; spare = a.exclusions.spare } };
+    ghost view = { λ a. record {
+      rows = a.rows.rows;
+      exclusions = a.exclusions.made;
+      room = a.rows.room;
+      spare = a.exclusions.spare;
+    } };
 
     // The index is of the rows, and each cell with room can get its row in it without memory.
     ghost invariant = { λ a. IsInOrder a.rows.rows a.rows.room a.index };
@@ -92,15 +101,16 @@ impl SampleBook {
         self.rows.check(row)
     }
 
-    /// What becomes of each row of a batch that arrives, each behind those before it. Nothing is put: a
-    /// batch that is refused leaves the book. It takes time in proportion to the batch.
+    /// What becomes of each row of a batch that arrives, each behind those before it. Nothing is
+    /// put: a batch that is refused leaves the book. It takes time in proportion to the batch.
     pub fn check_batch(&self, alloc: Global, rows: &[Row]) -> Result<Vec<RowVerdict>, AllocError>
         ensures { IfOk result (λ found. found.items ≡ verdicts self.now.rows rows.now) }
     {
         check_batch(&self.rows, alloc, rows)
     }
 
-    /// Gives room to the cells of these rows that have no current row, each once, in the order of the rows.
+    /// Gives room to the cells of these rows that have no current row, each once, in the order of
+    /// the rows.
     /// No other cell has room afterwards, and none after a refusal.
     pub fn make_room(&mut self, rows: &[Row]) -> Result<(), AllocError>
         ensures room { OnOk result (self.new.room ≡ room_for self.old.rows rows.now) }
@@ -119,9 +129,12 @@ impl SampleBook {
         requires { MayPutAs (verdict_of self.old.rows row.now) self.old.room (cell_of row.now) }
         // The rows are the current ones of the old rows and this one.
         ensures rows { self.new.rows ≡ current_rows (self.old.rows ++ row.now ∷ []) }
-        ensures placed { IsPutInto self.old.rows row.now (verdict_of self.old.rows row.now) self.new.rows }
-        ensures new { verdict_of self.old.rows row.now ≡ RowVerdict.New → self.old.room ≡ cell_of row.now ∷ self.new.room }
-        ensures newer { verdict_of self.old.rows row.now ≢ RowVerdict.New → self.new.room ≡ self.old.room }
+        ensures placed { IsPutInto self.old.rows row.now (verdict_of self.old.rows row.now)
+            self.new.rows }
+        ensures new { verdict_of self.old.rows row.now ≡ RowVerdict.New
+            → self.old.room ≡ cell_of row.now ∷ self.new.room }
+        ensures newer { verdict_of self.old.rows row.now ≢ RowVerdict.New
+            → self.new.room ≡ self.old.room }
         ensures exclusions { self.new.exclusions ≡ self.old.exclusions }
         ensures spare { self.new.spare ≡ self.old.spare }
         ensures history { Gains self.old (Came row.now) self.new }
@@ -156,7 +169,9 @@ impl SampleBook {
         requires unused { exclusion_of self.old.exclusions value.id ≡ None }
         ensures exclusions { self.new.exclusions ≡ self.old.exclusions ++ (value, true) ∷ [] }
         // It takes its minutes, beside those that others take.
-        ensures minutes { (slo : List ℕ) (minute : ℕ) → is_excluded self.new.exclusions slo minute ≡ (is_excluded self.old.exclusions slo minute || excludes slo minute (value, true)) }
+        ensures minutes { (slo : List ℕ) (minute : ℕ)
+            → is_excluded self.new.exclusions slo minute
+            ≡ (is_excluded self.old.exclusions slo minute || excludes slo minute (value, true)) }
         ensures spare { self.old.spare ≤ self.new.spare + 1 }
         ensures rows { self.new.rows ≡ self.old.rows }
         ensures room { self.new.room ≡ self.old.room }
@@ -170,7 +185,10 @@ impl SampleBook {
         requires { IsLive self.old.exclusions id }
         ensures exclusions { self.new.exclusions ≡ lifted self.old.exclusions id }
         // It gives its minutes back, but for those that others take.
-        ensures minutes { (value : Exclusion) (slo : List ℕ) (minute : ℕ) → exclusion_of self.old.exclusions id ≡ Some (value, true) → is_excluded self.old.exclusions slo minute ≡ (is_excluded self.new.exclusions slo minute || excludes slo minute (value, true)) }
+        ensures minutes { (value : Exclusion) (slo : List ℕ) (minute : ℕ)
+            → exclusion_of self.old.exclusions id ≡ Some (value, true)
+            → is_excluded self.old.exclusions slo minute
+            ≡ (is_excluded self.new.exclusions slo minute || excludes slo minute (value, true)) }
         ensures spare { self.new.spare ≡ self.old.spare }
         ensures rows { self.new.rows ≡ self.old.rows }
         ensures room { self.new.room ≡ self.old.room }
@@ -214,11 +232,12 @@ impl SampleBook {
         below(self.index.last_of(sli))
     }
 
-    /// The place of the row before a row of the list, of the same indicator: from `last_row` on these
-    /// lead to all rows of an indicator, from the last to the first.
+    /// The place of the row before a row of the list, of the same indicator: from `last_row` on
+    /// these lead to all rows of an indicator, from the last to the first.
     pub fn row_before(&self, place: u32) -> Option<u32>
         requires { place < length self.now.rows }
-        ensures { (row : Row) → slice_get self.now.rows place ≡ Some row → result ≡ last_place (is_of row.sli) (take place self.now.rows) }
+        ensures { (row : Row) → slice_get self.now.rows place ≡ Some row
+            → result ≡ last_place (is_of row.sli) (take place self.now.rows) }
     {
         below(self.index.before(place as usize))
     }
@@ -233,12 +252,14 @@ impl SampleBook {
     /// The place of the row before a row of the list, of the same indicator and day.
     pub fn row_before_on(&self, place: u32) -> Option<u32>
         requires { place < length self.now.rows }
-        ensures { (row : Row) → slice_get self.now.rows place ≡ Some row → result ≡ last_place (is_on row.sli (row.minute / 1440)) (take place self.now.rows) }
+        ensures { (row : Row) → slice_get self.now.rows place ≡ Some row
+            → result ≡ last_place (is_on row.sli (row.minute / 1440)) (take place self.now.rows) }
     {
         below(self.index.before_on_day(place as usize))
     }
 
-    /// The sums of good and total over the current rows of an indicator at a minute, before exclusion.
+    /// The sums of good and total over the current rows of an indicator at a minute, before
+    /// exclusion.
     /// Only the rows of its day are looked at.
     pub fn counts_at(
         &self,
@@ -252,13 +273,14 @@ impl SampleBook {
         requires few { length self.now.rows ≤ 4 * 10 ^ 6 }
         ensures counts { result ≡ counts_of_minute reading op value self.now.rows sli minute }
         ensures part { result.good ≤ result.total }
-        ensures few { AllByRecursion IsSmallRow self.now.rows → result.total ≤ 10 ^ 9 * length self.now.rows }
+        ensures few { AllByRecursion IsSmallRow self.now.rows
+            → result.total ≤ 10 ^ 9 * length self.now.rows }
     {
         counts_at(&self.rows, &self.index, sli, reading, op, value, minute)
     }
 
-    /// What a minute counts for in an objective: nothing where the minute is excluded for it, else the
-    /// sums over the current rows of its indicator.
+    /// What a minute counts for in an objective: nothing where the minute is excluded for it, else
+    /// the sums over the current rows of its indicator.
     pub fn counted_at(
         &self,
         slo: Label,
@@ -270,9 +292,11 @@ impl SampleBook {
     ) -> Counts
         requires form { HaveForm reading self.now.rows sli minute }
         requires few { length self.now.rows ≤ 4 * 10 ^ 6 }
-        ensures counts { result ≡ counted_in_minute reading op value self.now.exclusions self.now.rows slo sli minute }
+        ensures counts { result ≡ counted_in_minute reading op value self.now.exclusions
+            self.now.rows slo sli minute }
         ensures part { result.good ≤ result.total }
-        ensures few { AllByRecursion IsSmallRow self.now.rows → result.total ≤ 10 ^ 9 * length self.now.rows }
+        ensures few { AllByRecursion IsSmallRow self.now.rows
+            → result.total ≤ 10 ^ 9 * length self.now.rows }
     {
         if self.is_excluded(slo, minute) {
             return Counts { good: 0, total: 0 };

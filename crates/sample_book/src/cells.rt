@@ -1,5 +1,7 @@
-// Cells in the order in which they came, small for many cells: a name is kept once, and a cell is three numbers.
-ghost use Rattle.std.specs.Prelude.{◌≡◌, ◌<◌, ◌++◌, ◌∷◌, [], None, Some, false, IfSome, IfNone, IfOk, OnOk, OnErr, length, slice_get, take};
+// Cells in the order in which they came, small for many cells: a name is kept once, and a cell is
+// three numbers.
+ghost use Rattle.std.specs.Prelude.{◌≡◌, ◌<◌, ◌++◌, ◌∷◌, [], None, Some, false, IfSome, IfNone};
+ghost use Rattle.std.specs.Prelude.{IfOk, OnOk, OnErr, length, slice_get, take};
 ghost use Rattle.std.specs.List.{list_any, position};
 ghost use Rattle.sample_book.specs.Keys.{HasNoKey, IsKeyOf, IsNamed, cell_named};
 ghost use Rattle.sample_book.specs.Names.{IsGrown};

@@ -1,5 +1,6 @@
 // Items in groups, each linked to the one before it of its group.
-ghost use Rattle.std.specs.Prelude.{◌≡◌, ◌<◌, ◌≤◌, ◌+◌, ◌++◌, ◌∷◌, [], ℕ, List, Some, OnOk, length, slice_get, take};
+ghost use Rattle.std.specs.Prelude.{◌≡◌, ◌<◌, ◌≤◌, ◌+◌, ◌++◌, ◌∷◌, [], ℕ, List, Some, OnOk, length};
+ghost use Rattle.std.specs.Prelude.{slice_get, take};
 ghost use Rattle.sample_book.specs.Chains.{AreLinked, HasRoomFor, group_eq, last, link_of};
 
 use exact_fraction::Label;
@@ -37,7 +38,8 @@ impl Chains {
 
     // One more than the place of the last item of a group, or 0.
     pub(crate) fn last(&self, group: Group) -> u32
-        ensures { (groups : List Group) → AreLinked groups self.now → result ≡ last (group_eq group) groups }
+        ensures { (groups : List Group) → AreLinked groups self.now
+            → result ≡ last (group_eq group) groups }
     {
         match self.lasts.get(&group) {
             Some(last) => *last,
@@ -48,13 +50,16 @@ impl Chains {
     // The same of the items before a place, for the group of the item there.
     pub(crate) fn before(&self, place: usize) -> u32
         requires { place < length self.now.links.items }
-        ensures { (groups : List Group) (group : Group) → AreLinked groups self.now → slice_get groups place ≡ Some group → result ≡ last (group_eq group) (take place groups) }
+        ensures { (groups : List Group) (group : Group) → AreLinked groups self.now
+            → slice_get groups place ≡ Some group
+            → result ≡ last (group_eq group) (take place groups) }
     {
         self.links[place]
     }
 
     pub(crate) fn reserve(&mut self, count: usize) -> Result<(), AllocError>
-        ensures linked { (groups : List Group) → AreLinked groups self.old → AreLinked groups self.new }
+        ensures linked { (groups : List Group) → AreLinked groups self.old
+            → AreLinked groups self.new }
         ensures room { OnOk result (HasRoomFor count self.new) }
         ensures stays { (fewer : ℕ) → HasRoomFor fewer self.old → HasRoomFor fewer self.new }
     {
@@ -66,7 +71,8 @@ impl Chains {
     pub(crate) fn push(&mut self, group: Group)
         requires room { HasRoomFor 1 self.old }
         requires few { length self.old.links.items < MOST_ITEMS }
-        ensures linked { (groups : List Group) → AreLinked groups self.old → AreLinked (groups ++ group ∷ []) self.new }
+        ensures linked { (groups : List Group) → AreLinked groups self.old
+            → AreLinked (groups ++ group ∷ []) self.new }
         ensures room { (count : ℕ) → HasRoomFor (count + 1) self.old → HasRoomFor count self.new }
     {
         let place = self.links.len() as u32;

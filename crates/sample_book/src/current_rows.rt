@@ -1,9 +1,12 @@
 // The current rows, and room for the rows of further cells.
-ghost use Rattle.std.specs.Prelude.{List, ◌+◌, ◌≤◌, vec_capacity, ◌≡◌, ◌≢◌, ◌<◌, ◌++◌, ◌∷◌, [], false, Some, IfSome, IfNone, OnOk, OnErr, length, slice_get, take};
+ghost use Rattle.std.specs.Prelude.{List, ◌+◌, ◌≤◌, vec_capacity, ◌≡◌, ◌≢◌, ◌<◌, ◌++◌, ◌∷◌, []};
+ghost use Rattle.std.specs.Prelude.{false, Some, IfSome, IfNone, OnOk, OnErr, length, slice_get};
+ghost use Rattle.std.specs.Prelude.{take};
 ghost use Rattle.std.specs.List.{list_any, position};
 ghost use Rattle.sample_book.specs.History.{MayComeAs, is_put, room_after, rows_after};
 ghost use Rattle.sample_book.specs.Puts.{IsPutInto, later_of};
-ghost use Rattle.sample_book.specs.Rows.{MayPutAs, cell_eq, cell_of, current_rows, kept_of, new_cells, room_for, verdict_of, verdict_where, with_cell};
+ghost use Rattle.sample_book.specs.Rows.{MayPutAs, cell_eq, cell_of, current_rows, kept_of};
+ghost use Rattle.sample_book.specs.Rows.{new_cells, room_for, verdict_of, verdict_where, with_cell};
 ghost use Rattle.sample_book.specs.Standing.{row_stored};
 
 use crate::cells::Cells;
@@ -90,7 +93,8 @@ impl CurrentRows {
 
     // What becomes of a row that arrives behind others, of which these are the current ones.
     pub(crate) fn check_after(&self, others: &CurrentRows, row: &Row) -> RowVerdict
-        ensures { (came : List Row) → others.now.rows ≡ current_rows came → result ≡ verdict_of (current_rows (self.now.rows ++ came)) row.now }
+        ensures { (came : List Row) → others.now.rows ≡ current_rows came
+            → result ≡ verdict_of (current_rows (self.now.rows ++ came)) row.now }
     {
         self.are_current();
         verdict_where(later_of(self.kept(row), others.kept(row)), row)
@@ -115,9 +119,12 @@ impl CurrentRows {
     pub(crate) fn put(&mut self, row: &Row)
         requires { MayPutAs (verdict_of self.old.rows row.now) self.old.room (cell_of row.now) }
         ensures rows { self.new.rows ≡ current_rows (self.old.rows ++ row.now ∷ []) }
-        ensures placed { IsPutInto self.old.rows row.now (verdict_of self.old.rows row.now) self.new.rows }
-        ensures new { verdict_of self.old.rows row.now ≡ RowVerdict.New → self.old.room ≡ cell_of row.now ∷ self.new.room }
-        ensures newer { verdict_of self.old.rows row.now ≢ RowVerdict.New → self.new.room ≡ self.old.room }
+        ensures placed { IsPutInto self.old.rows row.now (verdict_of self.old.rows row.now)
+            self.new.rows }
+        ensures new { verdict_of self.old.rows row.now ≡ RowVerdict.New
+            → self.old.room ≡ cell_of row.now ∷ self.new.room }
+        ensures newer { verdict_of self.old.rows row.now ≢ RowVerdict.New
+            → self.new.room ≡ self.old.room }
     {
         let stored = Stored {
             revision: row.revision,

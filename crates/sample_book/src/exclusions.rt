@@ -1,6 +1,8 @@
 // Stretches of time that are excluded afterwards.
-ghost use Rattle.std.specs.Prelude.{ℕ, List, ◌||◌, ◌≡◌, ◌+◌, ◌<◌, ◌≤◌, ◌++◌, ◌∷◌, [], true, Some, None, OnOk, length, slice_get};
-ghost use Rattle.sample_book.specs.Exclusions.{HaveOwnIds, excludes, exclusion_of, is_excluded, lifted};
+ghost use Rattle.std.specs.Prelude.{ℕ, List, ◌||◌, ◌≡◌, ◌+◌, ◌<◌, ◌≤◌, ◌++◌, ◌∷◌, [], true, Some};
+ghost use Rattle.std.specs.Prelude.{None, OnOk, length, slice_get};
+ghost use Rattle.sample_book.specs.Exclusions.{HaveOwnIds, excludes, exclusion_of, is_excluded};
+ghost use Rattle.sample_book.specs.Exclusions.{lifted};
 
 use exact_fraction::Label;
 use std::alloc::{AllocError, Global};
@@ -31,7 +33,11 @@ impl Model for Exclusions {
 
     ghost Value = { Kept };
 
-    ghost view = { λ a. record { made = a.made.items; spare = min (vec_capacity a.made) MOST_EXCLUSIONS - vec_len a.made } };
+    ghost view = { λ a. record {
+      made = a.made.items;
+      spare = min (vec_capacity a.made)
+          MOST_EXCLUSIONS - vec_len a.made;
+    } };
 
     ghost invariant = { λ a. AreExclusions a.made.items };
 }
@@ -110,7 +116,10 @@ impl Exclusions {
     // Lifts the exclusion of an id, with no memory.
     pub(crate) fn lift(&mut self, id: Label)
         ensures made { self.new.made ≡ lifted self.old.made id }
-        ensures minutes { (value : Exclusion) (slo : List ℕ) (minute : ℕ) → exclusion_of self.old.made id ≡ Some (value, true) → is_excluded self.old.made slo minute ≡ (is_excluded self.new.made slo minute || excludes slo minute (value, true)) }
+        ensures minutes { (value : Exclusion) (slo : List ℕ) (minute : ℕ)
+            → exclusion_of self.old.made id ≡ Some (value, true)
+            → is_excluded self.old.made slo minute
+            ≡ (is_excluded self.new.made slo minute || excludes slo minute (value, true)) }
         ensures spare { self.new.spare ≡ self.old.spare }
     {
         for kept in self.made.iter_mut() {

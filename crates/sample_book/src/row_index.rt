@@ -1,5 +1,6 @@
 // Where the rows of an indicator stand, and those of an indicator on a day.
-ghost use Rattle.std.specs.Prelude.{◌/◌, ◌≡◌, ◌<◌, ◌≤◌, ◌+◌, ◌++◌, ◌∷◌, [], ℕ, List, Some, OnOk, length, slice_get, take};
+ghost use Rattle.std.specs.Prelude.{◌/◌, ◌≡◌, ◌<◌, ◌≤◌, ◌+◌, ◌++◌, ◌∷◌, [], ℕ, List, Some, OnOk};
+ghost use Rattle.std.specs.Prelude.{length, slice_get, take};
 ghost use Rattle.sample_book.specs.Chains.{IsIndexed, IsReadyFor, is_on, last};
 ghost use Rattle.sample_book.specs.Counting.{is_of};
 
@@ -40,7 +41,9 @@ impl RowIndex {
     // The same of the rows before a place, for the indicator and day of the row there.
     pub(crate) fn before_on_day(&self, place: usize) -> u32
         requires { (rows : List Row) × IsIndexed rows self.now × (place < length rows) }
-        ensures { (rows : List Row) (row : Row) → IsIndexed rows self.now → slice_get rows place ≡ Some row → result ≡ last (is_on row.sli (row.minute / 1440)) (take place rows) }
+        ensures { (rows : List Row) (row : Row) → IsIndexed rows self.now
+            → slice_get rows place ≡ Some row
+            → result ≡ last (is_on row.sli (row.minute / 1440)) (take place rows) }
     {
         self.days.before(place)
     }
@@ -55,7 +58,8 @@ impl RowIndex {
     // The same of the rows before a place, for the indicator of the row there.
     pub(crate) fn before(&self, place: usize) -> u32
         requires { (rows : List Row) × IsIndexed rows self.now × (place < length rows) }
-        ensures { (rows : List Row) (row : Row) → IsIndexed rows self.now → slice_get rows place ≡ Some row → result ≡ last (is_of row.sli) (take place rows) }
+        ensures { (rows : List Row) (row : Row) → IsIndexed rows self.now
+            → slice_get rows place ≡ Some row → result ≡ last (is_of row.sli) (take place rows) }
     {
         self.slis.before(place)
     }
@@ -73,7 +77,8 @@ impl RowIndex {
     pub(crate) fn push(&mut self, row: &Row)
         requires ready { IsReadyFor 1 self.old }
         requires few { (rows : List Row) × IsIndexed rows self.old × (length rows < 4294967295) }
-        ensures indexed { (rows : List Row) → IsIndexed rows self.old → IsIndexed (rows ++ row.now ∷ []) self.new }
+        ensures indexed { (rows : List Row) → IsIndexed rows self.old
+            → IsIndexed (rows ++ row.now ∷ []) self.new }
         ensures ready { (count : ℕ) → IsReadyFor (count + 1) self.old → IsReadyFor count self.new }
     {
         self.days.push(Group {

@@ -6,9 +6,14 @@ ghost use Rattle.record_form.specs.declared.Command.TheVariants as commands;
 ghost use Rattle.office_history.specs.History.{Office, with_entry};
 ghost use Rattle.office_history.specs.Objectives.{slo_named};
 ghost use Rattle.office_history.specs.Outcomes.{outcome_of};
-ghost use Rattle.office_history.specs.Verdicts.{exclude_verdict as exclude_verdict_lem, is_range as is_range_lem, lift_verdict as lift_verdict_lem, new_exclusion_fault as new_exclusion_fault_lem, same_content};
+ghost use Rattle.office_history.specs.Verdicts.{exclude_verdict as exclude_verdict_lem};
+ghost use Rattle.office_history.specs.Verdicts.{is_range as is_range_lem};
+ghost use Rattle.office_history.specs.Verdicts.{lift_verdict as lift_verdict_lem};
+ghost use Rattle.office_history.specs.Verdicts.{new_exclusion_fault as new_exclusion_fault_lem};
+ghost use Rattle.office_history.specs.Verdicts.{same_content};
 ghost use Rattle.office_derived.specs.declared.Work.TheVariants as works;
-ghost use Rattle.office_derived.specs.Derived.{HasRoom, IsJudged, IsNext, IsSound, Reflects, Stays, entry_of};
+ghost use Rattle.office_derived.specs.Derived.{HasRoom, IsJudged, IsNext, IsSound, Reflects, Stays};
+ghost use Rattle.office_derived.specs.Derived.{entry_of};
 
 use crate::judgement::{accepted, judged_as, limit};
 use exact_fraction::Label;

@@ -7,7 +7,10 @@ ghost use Rattle.slice_method.specs.declared.Amount.TheVariants as amounts;
 ghost use Rattle.record_form.specs.declared.Refusal.TheVariants as refusals;
 ghost use Rattle.office_history.specs.Lists.{first_some};
 ghost use Rattle.office_history.specs.Objectives.{reading_named as reading_named_lem};
-ghost use Rattle.office_history.specs.Batches.{amount_fault as amount_fault_lem, conflict_fault as conflict_fault_lem, form_fault as form_fault_lem, row_fault as row_fault_lem, rows_faults, when};
+ghost use Rattle.office_history.specs.Batches.{amount_fault as amount_fault_lem};
+ghost use Rattle.office_history.specs.Batches.{conflict_fault as conflict_fault_lem};
+ghost use Rattle.office_history.specs.Batches.{form_fault as form_fault_lem};
+ghost use Rattle.office_history.specs.Batches.{row_fault as row_fault_lem, rows_faults, when};
 
 use definition_verdict::reading_of;
 use exact_fraction::{Decimal, Label};

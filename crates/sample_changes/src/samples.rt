@@ -1,8 +1,10 @@
 //! Samples: rows that are taken, all of them or none.
-ghost use Rattle.std.specs.Prelude.{◌≡◌, ◌+◌, ◌<◌, ◌≤◌, ◌++◌, ◌∷◌, [], List, Some, None, IfOk, OnOk, cond, length, map};
+ghost use Rattle.std.specs.Prelude.{◌≡◌, ◌+◌, ◌<◌, ◌≤◌, ◌++◌, ◌∷◌, [], List, Some, None, IfOk};
+ghost use Rattle.std.specs.Prelude.{OnOk, cond, length, map};
 ghost use Rattle.slo_limits.specs.declared.TheConstants.{MAX_BATCH_ROWS as most_rows};
 ghost use Rattle.sample_book.specs.Rows.{cell_of, current_rows, verdict_of};
-ghost use Rattle.sample_book.specs.History.{Came, Event, Gains, Holds, MayComeAll, MayComeAs, is_put as is_put_lem, room_after};
+ghost use Rattle.sample_book.specs.History.{Came, Event, Gains, Holds, MayComeAll, MayComeAs};
+ghost use Rattle.sample_book.specs.History.{is_put as is_put_lem, room_after};
 ghost use Rattle.sample_book.specs.Puts.{verdicts as verdicts_lem};
 ghost use Rattle.record_form.specs.declared.Command.TheVariants as commands;
 ghost use Rattle.office_history.specs.History.{Office, with_entry};
@@ -12,7 +14,8 @@ ghost use Rattle.office_history.specs.Verdicts.{accepted as accepted_lem};
 ghost use Rattle.office_derived.specs.declared.Tally.{Tally};
 ghost use Rattle.office_derived.specs.declared.Work.TheVariants as works;
 ghost use Rattle.office_derived.specs.Tallies.{changes, tally_of as tally_of_lem, tally_outcome};
-ghost use Rattle.office_derived.specs.Derived.{HasRoom, IsJudged, IsNext, IsSound, Reflects, Stays, entry_of};
+ghost use Rattle.office_derived.specs.Derived.{HasRoom, IsJudged, IsNext, IsSound, Reflects, Stays};
+ghost use Rattle.office_derived.specs.Derived.{entry_of};
 ghost use Rattle.sample_changes.specs.Judging.{rows_fault as rows_fault_lem, rows_verdict};
 ghost use Rattle.sample_changes.specs.Works.{ComesTo};
 

@@ -3,7 +3,10 @@ ghost use Rattle.std.specs.Prelude.{◌≡◌, ◌<◌, ◌^◌, ◌++◌, lengt
 ghost use Rattle.std.specs.Option.{option_copied};
 ghost use Rattle.slo_objects.specs.Slo.{slo_in as slo_in_lem};
 ghost use Rattle.slo_catalog.specs.References.{names_in as names_in_lem};
-ghost use Rattle.slo_catalog.specs.Bindings.{is_empty, policy_named as policy_named_lem, lists_condition as lists_condition_lem, has_condition as has_condition_lem, bound, bound_from, bindings_in, bindings as bindings_lem};
+ghost use Rattle.slo_catalog.specs.Bindings.{is_empty, policy_named as policy_named_lem};
+ghost use Rattle.slo_catalog.specs.Bindings.{lists_condition as lists_condition_lem};
+ghost use Rattle.slo_catalog.specs.Bindings.{has_condition as has_condition_lem, bound, bound_from};
+ghost use Rattle.slo_catalog.specs.Bindings.{bindings_in, bindings as bindings_lem};
 
 use crate::bodies::{objectives_of, policy_in, slo_in};
 use crate::catalog::Catalog;
@@ -81,7 +84,8 @@ fn bind(
     policies: &[Label],
     objective: u32,
 ) -> Result<(), AllocError>
-    ensures { OnOk result (bindings.new.items ≡ bindings.old.items ++ bound slo.now policies.now objective) }
+    ensures { OnOk result (bindings.new.items
+        ≡ bindings.old.items ++ bound slo.now policies.now objective) }
 {
     for policy in policies {
         bindings.push(Binding {
@@ -101,7 +105,8 @@ fn bind_each(
     objectives: &[Objective],
 ) -> Result<(), AllocError>
     requires { length objectives.now < 2 ^ 32 }
-    ensures { OnOk result (bindings.new.items ≡ bindings.old.items ++ bound_from slo.now policies.now 0 objectives.now) }
+    ensures { OnOk result (bindings.new.items
+        ≡ bindings.old.items ++ bound_from slo.now policies.now 0 objectives.now) }
 {
     let mut number = 0;
     for _objective in objectives {
@@ -118,7 +123,8 @@ fn bind_slo(
     name: &Label,
     slo: &Slo,
 ) -> Result<(), AllocError>
-    ensures { OnOk result (bindings.new.items ≡ bindings.old.items ++ bindings_in members.now name.now (Some slo.now)) }
+    ensures { OnOk result (bindings.new.items
+        ≡ bindings.old.items ++ bindings_in members.now name.now (Some slo.now)) }
 {
     let policies = policies_with_condition(alloc, members, names_in(&slo.alert_policies))?;
     bind_each(bindings, name, &policies, objectives_of(slo)?)
@@ -131,7 +137,9 @@ fn bind_object(
     members: &Members,
     object: &Object,
 ) -> Result<(), AllocError>
-    ensures { OnOk result (bindings.new.items ≡ bindings.old.items ++ bindings_in members.now object.now.name (slo_in_lem object.now.body)) }
+    ensures { OnOk result (bindings.new.items
+        ≡ bindings.old.items ++ bindings_in members.now object.now.name
+        (slo_in_lem object.now.body)) }
 {
     match slo_in(&object.body) {
         Some(slo) => bind_slo(bindings, alloc, members, &object.name, slo),

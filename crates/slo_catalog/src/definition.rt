@@ -4,7 +4,9 @@ ghost use Rattle.std.specs.List.{All};
 ghost use Rattle.std.specs.Option.{option_copied};
 ghost use Rattle.slo_objects.specs.Document.{IsOfDocument};
 ghost use Rattle.slo_catalog.specs.Catalog.{Event, Defined, IsCatalog};
-ghost use Rattle.slo_catalog.specs.Define.{Defines, Proposes, judged as judged_lem, proposed, defined, is_unchanged, is_reserved as is_reserved_lem, first_reserved as first_reserved_lem};
+ghost use Rattle.slo_catalog.specs.Define.{Defines, Proposes, judged as judged_lem, proposed};
+ghost use Rattle.slo_catalog.specs.Define.{defined, is_unchanged, is_reserved as is_reserved_lem};
+ghost use Rattle.slo_catalog.specs.Define.{first_reserved as first_reserved_lem};
 
 use crate::catalog::Catalog;
 use crate::duplicate::first_duplicate;
@@ -119,7 +121,8 @@ fn defined_by(alloc: Global, old: &Catalog, objects: &[Object]) -> Result<Catalo
 pub fn define(alloc: Global, old: &Catalog, objects: &[Object]) -> Result<Catalog, DefineError>
     requires { All IsOfDocument objects.now }
     ensures exact { Defines result (defined old.now objects.now) }
-    ensures history { (events : List Event) → IsCatalog events old.now → IfOk result (λ catalog. IsCatalog (events ++ map Defined objects.now) catalog) }
+    ensures history { (events : List Event) → IsCatalog events old.now
+        → IfOk result (λ catalog. IsCatalog (events ++ map Defined objects.now) catalog) }
 {
     defined_by(alloc, old, objects)
 }

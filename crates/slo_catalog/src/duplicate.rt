@@ -4,7 +4,10 @@ ghost use Rattle.std.specs.Option.{option_copied};
 ghost use Rattle.slo_objects.specs.Document.{IsOfDocument, written};
 ghost use Rattle.yaml_subset.specs.Spelling.{writing};
 ghost use Rattle.slo_catalog.specs.Keys.{find_in};
-ghost use Rattle.slo_catalog.specs.Define.{is_same as is_same_lem, is_other_than as is_other_than_lem, firsts, first_other as first_other_lem, first_duplicate as first_duplicate_lem};
+ghost use Rattle.slo_catalog.specs.Define.{is_same as is_same_lem};
+ghost use Rattle.slo_catalog.specs.Define.{is_other_than as is_other_than_lem, firsts};
+ghost use Rattle.slo_catalog.specs.Define.{first_other as first_other_lem};
+ghost use Rattle.slo_catalog.specs.Define.{first_duplicate as first_duplicate_lem};
 
 use crate::member::Member;
 use crate::members::Members;
@@ -50,7 +53,8 @@ fn first_ones(alloc: Global, objects: &[Member]) -> Result<Members, AllocError>
 
 /// Whether an object is another than the first one of its kind and name.
 fn is_other(alloc: Global, first_ones: &Members, member: &Member) -> Result<bool, AllocError>
-    ensures { IfOk result (λ other. other ≡ is_other_than_lem (find_in first_ones.now member.now.kind member.now.name) member.now) }
+    ensures { IfOk result (λ other. other
+        ≡ is_other_than_lem (find_in first_ones.now member.now.kind member.now.name) member.now) }
 {
     let object = member.object();
     match first_ones.find(object.kind, object.name) {
@@ -65,7 +69,8 @@ fn first_other<'a>(
     first_ones: &Members,
     objects: &'a [Member],
 ) -> Result<Option<&'a Member>, AllocError>
-    ensures { IfOk result (λ first. option_copied first ≡ first_other_lem first_ones.now objects.now) }
+    ensures { IfOk result (λ first. option_copied first
+        ≡ first_other_lem first_ones.now objects.now) }
 {
     for member in objects {
         if is_other(alloc, first_ones, member)? {

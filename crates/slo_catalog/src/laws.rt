@@ -7,19 +7,23 @@ ghost use Rattle.slo_catalog.specs.Define.{first_duplicate, first_differing};
 
 /// A history has one catalog.
 pub fn a_history_has_one_catalog()
-    ensures { (events : List Event) (os ps : List Object) → IsCatalog events os → IsCatalog events ps → os ≡ ps }
+    ensures { (events : List Event) (os ps : List Object) → IsCatalog events os
+        → IsCatalog events ps → os ≡ ps }
 {}
 
-/// The catalog of no events is empty. Definitions put their objects in their places, where each replaces the one
-/// of its kind and name, and a removal takes the object of its kind and name out.
+/// The catalog of no events is empty. Definitions put their objects in their places, where each
+/// replaces the one of its kind and name, and a removal takes the object of its kind and name out.
 pub fn a_catalog_follows_its_history()
     ensures empty { IsCatalog [] [] }
-    ensures defined { (events : List Event) (os objects : List Object) → IsCatalog events os → IsCatalog (events ++ map Defined objects) (put_all objects os) }
-    ensures removed { (events : List Event) (os : List Object) (kind : Kind) (name : List ℕ) → IsCatalog events os → IsCatalog (events ++ Removed kind name ∷ []) (without kind name os) }
+    ensures defined { (events : List Event) (os objects : List Object) → IsCatalog events os
+        → IsCatalog (events ++ map Defined objects) (put_all objects os) }
+    ensures removed { (events : List Event) (os : List Object) (kind : Kind) (name : List ℕ)
+        → IsCatalog events os → IsCatalog (events ++ Removed kind name ∷ [])
+        (without kind name os) }
 {}
 
-/// The first copy that is named as a duplicate is the first object that differs from an earlier one of its kind and
-/// name.
+/// The first copy that is named as a duplicate is the first object that differs from an earlier one
+/// of its kind and name.
 pub fn the_first_copy_that_differs_is_named()
     ensures { (objects : List Object) → first_duplicate objects ≡ first_differing [] objects }
 {}

@@ -1,6 +1,7 @@
 //! How much a catalog holds.
 ghost use Rattle.std.specs.Prelude.{◌≡◌, IfOk, nat_lt};
-ghost use Rattle.slo_catalog.specs.Limits.{catalog_bytes, count_of_kind as count_of_kind_lem, first_limit as first_limit_lem};
+ghost use Rattle.slo_catalog.specs.Limits.{catalog_bytes, count_of_kind as count_of_kind_lem};
+ghost use Rattle.slo_catalog.specs.Limits.{first_limit as first_limit_lem};
 
 use crate::bindings::bindings_of;
 use crate::fault::CatalogLimit;

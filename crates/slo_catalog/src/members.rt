@@ -1,5 +1,6 @@
 //! Sorted members.
-ghost use Rattle.std.specs.Prelude.{◌≡◌, ◌<◌, ◌≤◌, ◌++◌, ◌∷◌, [], length, take, drop, slice_set, IfOk, MatchResult};
+ghost use Rattle.std.specs.Prelude.{◌≡◌, ◌<◌, ◌≤◌, ◌++◌, ◌∷◌, [], length, take, drop, slice_set};
+ghost use Rattle.std.specs.Prelude.{IfOk, MatchResult};
 ghost use Rattle.std.specs.Option.{option_copied};
 ghost use Rattle.slo_catalog.specs.Catalog.{put, put_all, without};
 ghost use Rattle.slo_catalog.specs.Keys.{IsSorted, find_in, key_cmp};
@@ -47,7 +48,8 @@ fn compare(object: &Object, kind: Kind, name: Label) -> Ordering
 /// Where among sorted members the one of that kind and name stands, or else where it belongs.
 fn place_of(members: &[Member], kind: Kind, name: Label) -> Result<usize, usize>
     requires { IsSorted members.now }
-    ensures { MatchResult result (StandsAt kind name members.now) (BelongsAt kind name members.now) }
+    ensures { MatchResult result (StandsAt kind name members.now)
+        (BelongsAt kind name members.now) }
 {
     let mut low = 0;
     let mut high = members.len();
@@ -78,7 +80,8 @@ fn inserted(
     member: Member,
 ) -> Result<Vec<Member>, AllocError>
     requires { place ≤ length members.items }
-    ensures { IfOk result (λ new. new.items ≡ take place members.items ++ member ∷ drop place members.items) }
+    ensures { IfOk result (λ new. new.items
+        ≡ take place members.items ++ member ∷ drop place members.items) }
 {
     members.insert(place, member)?;
     Ok(members)

@@ -3,7 +3,11 @@ ghost use Rattle.std.specs.Prelude.{◌≡◌, ◌<◌, ◌^◌, Some, IfOk, len
 ghost use Rattle.std.specs.Option.{option_copied};
 ghost use Rattle.std.specs.List.{position_from};
 ghost use Rattle.slo_catalog.specs.References.{first_given};
-ghost use Rattle.slo_catalog.specs.NeedsOp.{sli_named as sli_named_lem, gives_values as gives_values_lem, lacks_op as lacks_op_lem, lacking_in as lacking_in_lem, needing_op as needing_op_lem, first_needing_op as first_needing_op_lem};
+ghost use Rattle.slo_catalog.specs.NeedsOp.{sli_named as sli_named_lem};
+ghost use Rattle.slo_catalog.specs.NeedsOp.{gives_values as gives_values_lem};
+ghost use Rattle.slo_catalog.specs.NeedsOp.{lacks_op as lacks_op_lem, lacking_in as lacking_in_lem};
+ghost use Rattle.slo_catalog.specs.NeedsOp.{needing_op as needing_op_lem};
+ghost use Rattle.slo_catalog.specs.NeedsOp.{first_needing_op as first_needing_op_lem};
 ghost use Rattle.slo_objects.specs.Slo.{slo_in as slo_in_lem};
 
 use crate::bodies::{objectives_of, sli_in, slo_in};
@@ -102,8 +106,8 @@ fn first_in(members: &Members, objects: &[Member]) -> Result<Option<NeedsOp>, Al
     Ok(None)
 }
 
-/// The first objective that needs `op` or `value`: of the SLOs of the objects in their order, then of those of the
-/// members in theirs.
+/// The first objective that needs `op` or `value`: of the SLOs of the objects in their order, then
+/// of those of the members in theirs.
 #[tactic(auto, using(crate::proofs::SearchLemmas::given_by_both))]
 pub(crate) fn first_needing_op(
     members: &Members,

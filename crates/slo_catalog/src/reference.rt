@@ -1,10 +1,20 @@
 //! What objects refer to, and who refers to an object.
-ghost use Rattle.std.specs.Prelude.{◌≡◌, ◌++◌, [], ◌∷◌, not, find, flat_map, List, None, IfOk, OnOk};
+ghost use Rattle.std.specs.Prelude.{◌≡◌, ◌++◌, [], ◌∷◌, not, find, flat_map, List, None, IfOk};
+ghost use Rattle.std.specs.Prelude.{OnOk};
 ghost use Rattle.std.specs.Option.{option_copied};
 ghost use Rattle.std.specs.List.{list_any};
 ghost use Rattle.slo_objects.specs.declared.kind.Kind.TheVariants as kinds;
 ghost use Rattle.slo_objects.specs.declared.object.Object.{Object};
-ghost use Rattle.slo_catalog.specs.References.{names_in as names_in_lem, data_sources, sources_of, sources_of_ratio, referring, references_of_slo, references_of_policy, references as references_lem, is_built_in as is_built_in_lem, is_built_in_policy as is_built_in_policy_lem, is_resolved as is_resolved_lem, unresolved_of as unresolved_of_lem, first_unresolved as first_unresolved_lem, is_to as is_to_lem, refers_to as refers_to_lem, first_referrer as first_referrer_lem, IsLegal};
+ghost use Rattle.slo_catalog.specs.References.{names_in as names_in_lem, data_sources, sources_of};
+ghost use Rattle.slo_catalog.specs.References.{sources_of_ratio, referring, references_of_slo};
+ghost use Rattle.slo_catalog.specs.References.{references_of_policy, references as references_lem};
+ghost use Rattle.slo_catalog.specs.References.{is_built_in as is_built_in_lem};
+ghost use Rattle.slo_catalog.specs.References.{is_built_in_policy as is_built_in_policy_lem};
+ghost use Rattle.slo_catalog.specs.References.{is_resolved as is_resolved_lem};
+ghost use Rattle.slo_catalog.specs.References.{unresolved_of as unresolved_of_lem};
+ghost use Rattle.slo_catalog.specs.References.{first_unresolved as first_unresolved_lem};
+ghost use Rattle.slo_catalog.specs.References.{is_to as is_to_lem, refers_to as refers_to_lem};
+ghost use Rattle.slo_catalog.specs.References.{first_referrer as first_referrer_lem, IsLegal};
 
 use crate::key::kind_rank;
 use crate::member::Member;
@@ -48,7 +58,8 @@ fn refer(
     kind: Kind,
     names: &[Label],
 ) -> Result<(), AllocError>
-    ensures { OnOk result (references.new.items ≡ references.old.items ++ referring object.now kind names.now) }
+    ensures { OnOk result (references.new.items
+        ≡ references.old.items ++ referring object.now kind names.now) }
 {
     for name in names {
         references.push(Reference {
@@ -67,7 +78,9 @@ fn refer_to_source(
     object: &Object,
     source: &MetricSource,
 ) -> Result<(), AllocError>
-    ensures { OnOk result (references.new.items ≡ references.old.items ++ referring object.now kinds.DataSource (data_sources (source.now ∷ []))) }
+    ensures { OnOk result (references.new.items
+        ≡ references.old.items ++ referring object.now kinds.DataSource
+        (data_sources (source.now ∷ []))) }
 {
     match &source.metric_source_ref {
         Some(name) => refer(references, object, Kind::DataSource, &[*name]),
@@ -80,7 +93,9 @@ fn refer_to_ratio(
     object: &Object,
     ratio: &Ratio,
 ) -> Result<(), AllocError>
-    ensures { OnOk result (references.new.items ≡ references.old.items ++ referring object.now kinds.DataSource (data_sources (sources_of_ratio ratio.now))) }
+    ensures { OnOk result (references.new.items
+        ≡ references.old.items ++ referring object.now kinds.DataSource
+        (data_sources (sources_of_ratio ratio.now))) }
 {
     match ratio {
         Ratio::Raw { raw, raw_type: _ } => refer_to_source(references, object, raw),
@@ -99,7 +114,9 @@ fn refer_of_sli(
     object: &Object,
     sli: &Sli,
 ) -> Result<(), AllocError>
-    ensures { OnOk result (references.new.items ≡ references.old.items ++ referring object.now kinds.DataSource (data_sources (sources_of sli.now.metric))) }
+    ensures { OnOk result (references.new.items
+        ≡ references.old.items ++ referring object.now kinds.DataSource
+        (data_sources (sources_of sli.now.metric))) }
 {
     match &sli.metric {
         Metric::Threshold(source) => refer_to_source(references, object, source),
@@ -112,7 +129,8 @@ fn refer_of_slo(
     object: &Object,
     slo: &Slo,
 ) -> Result<(), AllocError>
-    ensures { OnOk result (references.new.items ≡ references.old.items ++ references_of_slo (referring object.now) slo.now) }
+    ensures { OnOk result (references.new.items
+        ≡ references.old.items ++ references_of_slo (referring object.now) slo.now) }
 {
     refer(references, object, Kind::Service, &[slo.service])?;
     refer(references, object, Kind::Sli, &[slo.indicator])?;
@@ -129,7 +147,8 @@ fn refer_of_policy(
     object: &Object,
     policy: &AlertPolicy,
 ) -> Result<(), AllocError>
-    ensures { OnOk result (references.new.items ≡ references.old.items ++ references_of_policy (referring object.now) policy.now) }
+    ensures { OnOk result (references.new.items
+        ≡ references.old.items ++ references_of_policy (referring object.now) policy.now) }
 {
     refer(
         references,
@@ -248,7 +267,8 @@ fn referrer_in(
     kind: Kind,
     name: Label,
 ) -> Result<Option<&Object>, AllocError>
-    ensures { IfOk result (λ first. option_copied first ≡ first_referrer_lem objects.now kind name) }
+    ensures { IfOk result (λ first. option_copied first
+        ≡ first_referrer_lem objects.now kind name) }
 {
     for member in objects {
         if refers_to(alloc, kind, &name, member.object())? {
@@ -265,16 +285,22 @@ pub(crate) fn first_referrer(
     kind: Kind,
     name: Label,
 ) -> Result<Option<&Object>, AllocError>
-    ensures { IfOk result (λ first. option_copied first ≡ first_referrer_lem members.now kind name) }
+    ensures { IfOk result (λ first. option_copied first
+        ≡ first_referrer_lem members.now kind name) }
 {
     referrer_in(alloc, members.as_slice(), kind, name)
 }
 
-/// The reference that is named as unresolved is the first such one of all that the objects have, in the order of the
-/// objects and of their fields; and a list of objects is legal exactly where none of theirs is named.
+/// The reference that is named as unresolved is the first such one of all that the objects have, in
+/// the order of the objects and of their fields; and a list of objects is legal exactly where none
+/// of theirs is named.
 #[tactic(auto, using(crate::proofs::SearchLemmas::found_among_all, crate::proofs::SearchLemmas::resolved_in_none, crate::proofs::LegalLemmas::all_resolved))]
 pub fn the_first_reference_to_nothing_is_named()
-    ensures first { (members objects : List Object) → first_unresolved_lem members objects ≡ find (λ r. not (is_resolved_lem members r)) (flat_map references_lem objects) }
-    ensures none { (members : List Object) → IsLegal members → first_unresolved_lem members members ≡ None }
-    ensures legal { (members : List Object) → first_unresolved_lem members members ≡ None → IsLegal members }
+    ensures first { (members objects : List Object)
+        → first_unresolved_lem members objects
+        ≡ find (λ r. not (is_resolved_lem members r)) (flat_map references_lem objects) }
+    ensures none { (members : List Object) → IsLegal members
+        → first_unresolved_lem members members ≡ None }
+    ensures legal { (members : List Object) → first_unresolved_lem members members ≡ None
+        → IsLegal members }
 {}

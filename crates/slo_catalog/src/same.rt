@@ -15,7 +15,8 @@ use std::alloc::{AllocError, Global};
 
 /// Whether an object is written as the member of its kind and name.
 fn is_alike(alloc: Global, old: &Members, member: &Member) -> Result<bool, AllocError>
-    ensures { IfOk result (λ alike. alike ≡ is_alike_lem (find_in old.now member.now.kind member.now.name) member.now) }
+    ensures { IfOk result (λ alike. alike
+        ≡ is_alike_lem (find_in old.now member.now.kind member.now.name) member.now) }
 {
     let object = member.object();
     match old.find(object.kind, object.name) {
@@ -43,7 +44,8 @@ pub(crate) fn are_alike(
 /// Where each object is written as the member of its kind and name, a definition of them leaves the
 /// members as they are.
 pub fn an_unchanged_definition_leaves_the_members()
-    ensures { (old objects : List Object) → IsSorted old → All IsOfDocument old → All IsOfDocument objects → is_unchanged old objects ≡ true → put_all objects old ≡ old }
+    ensures { (old objects : List Object) → IsSorted old → All IsOfDocument old
+        → All IsOfDocument objects → is_unchanged old objects ≡ true → put_all objects old ≡ old }
 {
     objects_with_one_text_are_one();
 }

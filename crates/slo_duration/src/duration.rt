@@ -15,7 +15,8 @@ pub struct Duration {
     pub ghost fits: { count * unit_minutes unit ≤ 4_294_967_295 },
 }
 
-/// The duration's minutes in a rolling window or a lookback, where a month has 30 days, a quarter 90 and a year 365.
+/// The duration's minutes in a rolling window or a lookback, where a month has 30 days, a quarter
+/// 90 and a year 365.
 pub fn rolling_minutes(value: Duration) -> u32
     ensures { result ≡ value.count * unit_minutes value.unit }
 {

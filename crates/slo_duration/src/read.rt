@@ -25,7 +25,8 @@ pub enum DurationFault {
     TooLong,
 }
 
-/// Reads OpenSLO's shorthand: digits and one of the letters `m h d w M Q Y`. Leading zeros are read.
+/// Reads OpenSLO's shorthand: digits and one of the letters `m h d w M Q Y`. Leading zeros are
+/// read.
 ///
 /// # Errors
 ///

@@ -6,7 +6,8 @@ ghost use Rattle.slo_duration.specs.Writing.{duration_text};
 use crate::Duration;
 use std::alloc::{AllocError, Global};
 
-/// Appends the duration: its count in decimal digits, and the letter of its unit. The text reads back as the duration.
+/// Appends the duration: its count in decimal digits, and the letter of its unit. The text reads
+/// back as the duration.
 ///
 /// # Errors
 ///

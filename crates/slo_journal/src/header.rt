@@ -1,5 +1,6 @@
 //! The header of a journal's file.
-ghost use Rattle.std.specs.Prelude.{◌≡◌, ◌+◌, ◌<◌, ◌≤◌, List, ℕ, length, take, OnOk, IfOk, IfSome, Some, None, true, false, codes};
+ghost use Rattle.std.specs.Prelude.{◌≡◌, ◌+◌, ◌<◌, ◌≤◌, List, ℕ, length, take, OnOk, IfOk, IfSome};
+ghost use Rattle.std.specs.Prelude.{Some, None, true, false, codes};
 ghost use Rattle.office_outside.specs.Disk.{OnlyAsRead, IsQuiet};
 ghost use Rattle.office_outside.specs.Faults.{HasCause};
 ghost use Rattle.slo_journal.specs.File.{four};
@@ -26,7 +27,8 @@ pub enum Front {
 
 /// Syncs, and looks at the front of the file.
 pub fn look_at_front<D: Disk>(disk: &mut D) -> Result<Front, Failed>
-    ensures front { IfOk result (λ front. (file : List ℕ) → D.content disk.old ≡ Some file → IsFront front file) }
+    ensures front { IfOk result (λ front. (file : List ℕ) → D.content disk.old ≡ Some file
+        → IsFront front file) }
     ensures range { (origin : ℕ) → result ≡ Ok (Header origin) → origin ≤ MAX_MINUTE }
     ensures content { D.content disk.new ≡ D.content disk.old }
     ensures only { OnOk result (OnlyAsRead (D.content disk.old) (D.images disk.new)) }

@@ -23,8 +23,10 @@ pub fn open<D: Disk + Drop>(alloc: Global, disk: D) -> Result<Scan<D>, OpenFaile
     ensures begun { IfOk result (λ scan. HasBegun D.content D.images disk scan) }
     ensures quiet { IfOk result (λ scan. IsQuiet D.images D.moment D.images_since disk scan.disk) }
     ensures later { IfOk result (λ scan. D.faults disk ≤ D.faults scan.disk) }
-    ensures not_a_journal { IfErr result (λ e. e.fault ≡ NotAJournal → (file : List ℕ) → D.content disk ≡ Some file → HasNoHeader file) }
-    ensures cause { IfErr result (λ e. e.fault ≡ DiskFault → Rose (D.faults disk) (D.faults e.disk)) }
+    ensures not_a_journal { IfErr result (λ e. e.fault ≡ NotAJournal → (file : List ℕ)
+        → D.content disk ≡ Some file → HasNoHeader file) }
+    ensures cause { IfErr result (λ e. e.fault ≡ DiskFault
+        → Rose (D.faults disk) (D.faults e.disk)) }
     ensures quiet_err { IfErr result (λ e. IsQuiet D.images D.moment D.images_since disk e.disk) }
     ensures later_err { IfErr result (λ e. D.faults disk ≤ D.faults e.disk) }
 {

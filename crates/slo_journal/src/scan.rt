@@ -1,5 +1,6 @@
 //! The records of a file, one after another.
-ghost use Rattle.std.specs.Prelude.{◌≡◌, ◌+◌, ◌-◌, ◌<◌, ◌≤◌, [], List, ℕ, length, take, drop, OnOk, OnErr, IfOk, IsErrOf, None, Some, true, false, Ok, Err};
+ghost use Rattle.std.specs.Prelude.{◌≡◌, ◌+◌, ◌-◌, ◌<◌, ◌≤◌, [], List, ℕ, length, take, drop, OnOk};
+ghost use Rattle.std.specs.Prelude.{OnErr, IfOk, IsErrOf, None, Some, true, false, Ok, Err};
 ghost use Rattle.office_outside.specs.Disk.{IsQuiet};
 ghost use Rattle.office_outside.specs.Faults.{Rose};
 ghost use Rattle.slo_journal.specs.File.{IsRecord, limit};
@@ -40,7 +41,8 @@ impl<D: Disk + Drop> Model for Scan<D> {
 
     // Where the disk tells, the window's bytes are those of the file.
     ghost invariant = { λ s. (s.at ≤ limit) × (s.window.start + length s.window.bytes.items ≤ limit)
-        × ((file : List ℕ) → D.content s.disk ≡ Some file → StandsAt s.window.start s.window.bytes.items file) };
+        × ((file : List ℕ) → D.content s.disk ≡ Some file
+        → StandsAt s.window.start s.window.bytes.items file) };
 }
 
 impl<D: Disk + Drop> Scan<D> {
@@ -74,15 +76,19 @@ impl<D: Disk + Drop> Scan<D> {
     /// Puts the next record into `out`, or answers false at the closed gate. After that and after a
     /// refusal `out` is empty, and the scan is where it was.
     pub fn next(&mut self, out: &mut Vec<u8>) -> Result<bool, ScanFault>
-        ensures next { (file : List ℕ) → D.content self.old.disk ≡ Some file → IsNext (seen_from self.old.at file) self.old.at result out.new.items }
-        ensures moves { result ≡ Ok true → (self.new.at ≡ self.old.at + 5 + length out.new.items) × IsRecord out.new.items }
-        ensures stays { (result ≡ Ok true → ⊥) → (self.new.at ≡ self.old.at) × (out.new.items ≡ []) }
+        ensures next { (file : List ℕ) → D.content self.old.disk ≡ Some file
+            → IsNext (seen_from self.old.at file) self.old.at result out.new.items }
+        ensures moves { result ≡ Ok true → (self.new.at ≡ self.old.at + 5 + length out.new.items)
+            × IsRecord out.new.items }
+        ensures stays { (result ≡ Ok true → ⊥) → (self.new.at ≡ self.old.at)
+            × (out.new.items ≡ []) }
         ensures within { result ≡ Ok false → self.new.at < limit }
         ensures bound { self.new.at ≤ limit }
         ensures origin { self.new.origin ≡ self.old.origin }
         ensures content { D.content self.new.disk ≡ D.content self.old.disk }
         ensures quiet { IsQuiet D.images D.moment D.images_since self.old.disk self.new.disk }
-        ensures cause { IsErrOf result DiskFault → Rose (D.faults self.old.disk) (D.faults self.new.disk) }
+        ensures cause { IsErrOf result DiskFault
+            → Rose (D.faults self.old.disk) (D.faults self.new.disk) }
         ensures later { D.faults self.old.disk ≤ D.faults self.new.disk }
     {
         out.clear();
@@ -132,9 +138,14 @@ fn peek<D: Disk>(disk: &mut D, window: &mut Window, at: u64) -> Result<Head, Sca
     requires at { at ≤ limit }
     requires within { window.old.start + length window.old.bytes.items ≤ limit }
     ensures within { window.new.start + length window.new.bytes.items ≤ limit }
-    ensures holds { (file : List ℕ) → D.content disk.old ≡ Some file → StandsAt window.old.start window.old.bytes.items file → StandsAt window.new.start window.new.bytes.items file }
-    ensures head { IfOk result (λ head. (file : List ℕ) → D.content disk.old ≡ Some file → StandsAt window.old.start window.old.bytes.items file → IsHead (take 5 (seen_from at file)) head) }
-    ensures size { IfOk result (λ head. (count : ℕ) → head ≡ Opens count → (1 ≤ count) × (count ≤ 1100000)) }
+    ensures holds { (file : List ℕ) → D.content disk.old ≡ Some file
+        → StandsAt window.old.start window.old.bytes.items file
+        → StandsAt window.new.start window.new.bytes.items file }
+    ensures head { IfOk result (λ head. (file : List ℕ) → D.content disk.old ≡ Some file
+        → StandsAt window.old.start window.old.bytes.items file
+        → IsHead (take 5 (seen_from at file)) head) }
+    ensures size { IfOk result (λ head. (count : ℕ) → head ≡ Opens count → (1 ≤ count)
+        × (count ≤ 1100000)) }
     ensures shut { result ≡ Ok Shut → at < limit }
     ensures content { D.content disk.new ≡ D.content disk.old }
     ensures quiet { IsQuiet D.images D.moment D.images_since disk.old disk.new }
@@ -179,9 +190,17 @@ fn fill<D: Disk>(
     requires within { window.old.start + length window.old.bytes.items ≤ limit }
     requires empty { out.old.items ≡ [] }
     ensures within { window.new.start + length window.new.bytes.items ≤ limit }
-    ensures holds { (file : List ℕ) → D.content disk.old ≡ Some file → StandsAt window.old.start window.old.bytes.items file → StandsAt window.new.start window.new.bytes.items file }
-    ensures whole { result ≡ Ok true → (length out.new.items ≡ count) × (at + 5 + count ≤ limit) × ((file : List ℕ) → D.content disk.old ≡ Some file → StandsAt window.old.start window.old.bytes.items file → out.new.items ≡ take count (drop 5 (seen_from at file))) }
-    ensures short { result ≡ Ok false → (out.new.items ≡ []) × ((file : List ℕ) → D.content disk.old ≡ Some file → StandsAt window.old.start window.old.bytes.items file → length (seen_from at file) < 5 + count) }
+    ensures holds { (file : List ℕ) → D.content disk.old ≡ Some file
+        → StandsAt window.old.start window.old.bytes.items file
+        → StandsAt window.new.start window.new.bytes.items file }
+    ensures whole { result ≡ Ok true → (length out.new.items ≡ count) × (at + 5 + count ≤ limit)
+        × ((file : List ℕ) → D.content disk.old ≡ Some file
+        → StandsAt window.old.start window.old.bytes.items file
+        → out.new.items ≡ take count (drop 5 (seen_from at file))) }
+    ensures short { result ≡ Ok false → (out.new.items ≡ [])
+        × ((file : List ℕ) → D.content disk.old ≡ Some file
+        → StandsAt window.old.start window.old.bytes.items file
+        → length (seen_from at file) < 5 + count) }
     ensures err { OnErr result (out.new.items ≡ []) }
     ensures content { D.content disk.new ≡ D.content disk.old }
     ensures quiet { IsQuiet D.images D.moment D.images_since disk.old disk.new }

@@ -1,5 +1,6 @@
 //! A piece of the file, so that many records are read by one call of the disk.
-ghost use Rattle.std.specs.Prelude.{◌≡◌, ◌+◌, ◌-◌, ◌≤◌, ◌<◌, List, ℕ, [], length, take, drop, OnOk, OnErr, IsErrOf, Some, Err};
+ghost use Rattle.std.specs.Prelude.{◌≡◌, ◌+◌, ◌-◌, ◌≤◌, ◌<◌, List, ℕ, [], length, take, drop, OnOk};
+ghost use Rattle.std.specs.Prelude.{OnErr, IsErrOf, Some, Err};
 ghost use Rattle.office_outside.specs.Disk.{IsQuiet};
 ghost use Rattle.office_outside.specs.Faults.{Rose};
 ghost use Rattle.slo_journal.specs.File.{limit};
@@ -56,9 +57,14 @@ pub fn reach<D: Disk>(
     requires need { need ≤ 1100005 }
     requires within { window.old.start + length window.old.bytes.items ≤ limit }
     ensures within { window.new.start + length window.new.bytes.items ≤ limit }
-    ensures holds { (file : List ℕ) → D.content disk.old ≡ Some file → StandsAt window.old.start window.old.bytes.items file → StandsAt window.new.start window.new.bytes.items file }
+    ensures holds { (file : List ℕ) → D.content disk.old ≡ Some file
+        → StandsAt window.old.start window.old.bytes.items file
+        → StandsAt window.new.start window.new.bytes.items file }
     ensures starts { OnOk result (window.new.start ≤ at) }
-    ensures seen { OnOk result ((file : List ℕ) → D.content disk.old ≡ Some file → StandsAt window.old.start window.old.bytes.items file → take need (drop (at - window.new.start) window.new.bytes.items) ≡ take need (seen_from at file)) }
+    ensures seen { OnOk result ((file : List ℕ) → D.content disk.old ≡ Some file
+        → StandsAt window.old.start window.old.bytes.items file
+        → take need (drop (at - window.new.start) window.new.bytes.items)
+        ≡ take need (seen_from at file)) }
     ensures content { D.content disk.new ≡ D.content disk.old }
     ensures quiet { IsQuiet D.images D.moment D.images_since disk.old disk.new }
     ensures cause { IsErrOf result DiskFault → Rose (D.faults disk.old) (D.faults disk.new) }
@@ -86,7 +92,8 @@ fn refill<D: Disk>(disk: &mut D, window: &mut Window, at: u64, size: usize) -> R
     ensures start { window.new.start ≡ at }
     ensures few { length window.new.bytes.items ≤ size }
     ensures empty { OnErr result (window.new.bytes.items ≡ []) }
-    ensures bytes { OnOk result ((file : List ℕ) → D.content disk.old ≡ Some file → window.new.bytes.items ≡ take size (drop at file)) }
+    ensures bytes { OnOk result ((file : List ℕ) → D.content disk.old ≡ Some file
+        → window.new.bytes.items ≡ take size (drop at file)) }
     ensures content { D.content disk.new ≡ D.content disk.old }
     ensures quiet { IsQuiet D.images D.moment D.images_since disk.old disk.new }
     ensures cause { IsErrOf result DiskFault → Rose (D.faults disk.old) (D.faults disk.new) }

@@ -6,7 +6,8 @@ ghost use Rattle.slo_objects.specs.Form.{map_with, optional, required, run};
 ghost use Rattle.slo_objects.specs.Inline.{inline_object, inline_read};
 ghost use Rattle.slo_objects.specs.declared.kind.Kind.TheVariants as kinds;
 ghost use Rattle.slo_objects.specs.Reading.{Gives, alone, both, entries_view};
-ghost use Rattle.slo_objects.specs.AlertCondition.{condition, alert_condition, condition_body, condition_kind, condition_kind_value};
+ghost use Rattle.slo_objects.specs.AlertCondition.{condition, alert_condition, condition_body};
+ghost use Rattle.slo_objects.specs.AlertCondition.{condition_kind, condition_kind_value};
 
 use crate::fault::{ReadError, Rule};
 use crate::fields::{close, fault_at, field};
@@ -86,7 +87,8 @@ fn optional_condition_kind(
     fields: &[(NodeText, Node)],
     key: &str,
 ) -> Result<Option<ConditionKind>, ReadError>
-    ensures { Gives alone result ((optional key.now condition_kind).read (entries_view fields.now)) }
+    ensures { Gives alone result ((optional key.now condition_kind).read
+        (entries_view fields.now)) }
 {
     match field(fields, key) {
         Some(node) => Ok(Some(condition_kind_of(alloc, key, node)?)),
@@ -125,7 +127,8 @@ fn required_condition(
     fields: &[(NodeText, Node)],
     key: &str,
 ) -> Result<Condition, ReadError>
-    ensures { Gives alone result ((required key.now (map_with condition)).read (entries_view fields.now)) }
+    ensures { Gives alone result ((required key.now (map_with condition)).read
+        (entries_view fields.now)) }
 {
     match field(fields, key) {
         Some(node) => condition_of(alloc, key, node),
@@ -162,7 +165,8 @@ pub(crate) fn required_condition_body(
     fields: &[(NodeText, Node)],
     key: &str,
 ) -> Result<Body, ReadError>
-    ensures { Gives alone result ((required key.now condition_body).read (entries_view fields.now)) }
+    ensures { Gives alone result ((required key.now condition_body).read
+        (entries_view fields.now)) }
 {
     match field(fields, key) {
         Some(node) => Ok(Body::AlertCondition(alert_condition_of(alloc, key, node)?)),
@@ -173,7 +177,8 @@ pub(crate) fn required_condition_body(
 /// A condition that stands inline.
 #[tactic(auto, unfolding(crate::specs::Inline::inline_object))]
 fn inline_condition_object(alloc: Global, fields: &[(NodeText, Node)]) -> Result<Object, ReadError>
-    ensures { Gives alone result (run (inline_object kinds.AlertCondition condition_body) [] (entries_view fields.now)) }
+    ensures { Gives alone result (run (inline_object kinds.AlertCondition condition_body) []
+        (entries_view fields.now)) }
 {
     let _version = optional_version(alloc, fields, "apiVersion")?;
     let _kind = optional_only_kind(alloc, fields, "kind", Kind::AlertCondition)?;
@@ -188,7 +193,8 @@ pub(crate) fn inline_condition(
     alloc: Global,
     fields: &[(NodeText, Node)],
 ) -> Result<(Objects, Label), ReadError>
-    ensures { Gives both result (inline_read kinds.AlertCondition condition_body (entries_view fields.now)) }
+    ensures { Gives both result (inline_read kinds.AlertCondition condition_body
+        (entries_view fields.now)) }
 {
     let object = inline_condition_object(alloc, fields)?;
     Ok(take_out(Objects::new(alloc), object)?)

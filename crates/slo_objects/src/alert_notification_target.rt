@@ -33,7 +33,8 @@ pub(crate) fn target_of(
     key: &str,
     node: &Node,
 ) -> Result<AlertNotificationTarget, ReadError>
-    ensures { Gives alone result ((map_with alert_notification_target).read key.now (node_view node.now)) }
+    ensures { Gives alone result ((map_with alert_notification_target).read key.now
+        (node_view node.now)) }
 {
     let Some(fields) = map_entries(node) else {
         return Err(ReadError::Fault(fault_at(alloc, key, Rule::NotMap)?));
@@ -64,7 +65,8 @@ pub(crate) fn required_target_body(
 /// A target that stands inline.
 #[tactic(auto, unfolding(crate::specs::Inline::inline_object))]
 fn inline_target_object(alloc: Global, fields: &[(NodeText, Node)]) -> Result<Object, ReadError>
-    ensures { Gives alone result (run (inline_object kinds.AlertNotificationTarget target_body) [] (entries_view fields.now)) }
+    ensures { Gives alone result (run (inline_object kinds.AlertNotificationTarget target_body) []
+        (entries_view fields.now)) }
 {
     let _version = optional_version(alloc, fields, "apiVersion")?;
     let _kind = optional_only_kind(alloc, fields, "kind", Kind::AlertNotificationTarget)?;
@@ -79,7 +81,8 @@ pub(crate) fn inline_target(
     alloc: Global,
     fields: &[(NodeText, Node)],
 ) -> Result<(Objects, Label), ReadError>
-    ensures { Gives both result (inline_read kinds.AlertNotificationTarget target_body (entries_view fields.now)) }
+    ensures { Gives both result (inline_read kinds.AlertNotificationTarget target_body
+        (entries_view fields.now)) }
 {
     let object = inline_target_object(alloc, fields)?;
     Ok(take_out(Objects::new(alloc), object)?)

@@ -6,7 +6,9 @@ ghost use Rattle.slo_objects.specs.Form.{map_with, optional, required, run, each
 ghost use Rattle.slo_objects.specs.Inline.{inline_object, inline_read};
 ghost use Rattle.slo_objects.specs.declared.kind.Kind.TheVariants as kinds;
 ghost use Rattle.slo_objects.specs.Reading.{Gives, alone, both, entries_view, trees_view};
-ghost use Rattle.slo_objects.specs.AlertPolicy.{alert_policy, condition_item as condition_item_lem, target_item as target_item_lem, conditions, targets, policy_body};
+ghost use Rattle.slo_objects.specs.AlertPolicy.{alert_policy, condition_item as condition_item_lem};
+ghost use Rattle.slo_objects.specs.AlertPolicy.{target_item as target_item_lem, conditions};
+ghost use Rattle.slo_objects.specs.AlertPolicy.{targets, policy_body};
 
 use crate::alert_condition::inline_condition;
 use crate::alert_notification_target::inline_target;
@@ -211,7 +213,8 @@ fn inline_policy_object(
     alloc: Global,
     fields: &[(NodeText, Node)],
 ) -> Result<(Objects, Object), ReadError>
-    ensures { Gives both result (run (inline_object kinds.AlertPolicy policy_body) [] (entries_view fields.now)) }
+    ensures { Gives both result (run (inline_object kinds.AlertPolicy policy_body) []
+        (entries_view fields.now)) }
 {
     let _version = optional_version(alloc, fields, "apiVersion")?;
     let _kind = optional_only_kind(alloc, fields, "kind", Kind::AlertPolicy)?;
@@ -226,7 +229,8 @@ pub(crate) fn inline_policy(
     alloc: Global,
     fields: &[(NodeText, Node)],
 ) -> Result<(Objects, Label), ReadError>
-    ensures { Gives both result (inline_read kinds.AlertPolicy policy_body (entries_view fields.now)) }
+    ensures { Gives both result (inline_read kinds.AlertPolicy policy_body
+        (entries_view fields.now)) }
 {
     let (objects, object) = inline_policy_object(alloc, fields)?;
     Ok(take_out(objects, object)?)

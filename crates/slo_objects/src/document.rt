@@ -85,13 +85,14 @@ fn document_of(alloc: Global, key: &str, node: &Node) -> Result<(Objects, Object
 ///
 /// # Errors
 ///
-/// The first fault of the node, in the order of the tables of fields, depth first; unknown fields of a map come after its
-/// known ones. Or memory ran out.
+/// The first fault of the node, in the order of the tables of fields, depth first; unknown fields
+/// of a map come after its known ones. Or memory ran out.
 pub fn read_object(alloc: Global, node: &Node) -> Result<Objects, ReadError>
     ensures exact { Gives (λ objects. objects) result (objects_of (node_view node.now)) }
 
     // What may be asked of an object wherever it goes: some document stands for it.
-    ensures origin { IsWritable (node_view node.now) → IfOk result (λ objects. All IsOfDocument objects) }
+    ensures origin { IsWritable (node_view node.now)
+        → IfOk result (λ objects. All IsOfDocument objects) }
 {
     let (mut objects, own) = document_of(alloc, "document", node)?;
     objects.push(own)?;

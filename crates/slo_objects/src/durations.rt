@@ -4,7 +4,9 @@ ghost use Rattle.std.specs.Char.{is_ascii_digit};
 ghost use Rattle.std.specs.List.{prefix_len};
 ghost use Rattle.yaml_subset.specs.NodeView.{node_view};
 ghost use Rattle.slo_objects.specs.Reading.{Gives, alone};
-ghost use Rattle.slo_objects.specs.Scalars.{number, number_value, decimal_read, percent, percent_value, has_few_decimals as has_few_decimals_lem};
+ghost use Rattle.slo_objects.specs.Scalars.{number, number_value, decimal_read, percent};
+ghost use Rattle.slo_objects.specs.Scalars.{percent_value};
+ghost use Rattle.slo_objects.specs.Scalars.{has_few_decimals as has_few_decimals_lem};
 ghost use Rattle.slo_objects.specs.Durations.{duration, duration_value, duration_read};
 
 use crate::fault::{ReadError, Rule};

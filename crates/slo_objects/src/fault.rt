@@ -81,7 +81,8 @@ impl Rule {
 }
 
 /// The first fault of a node: the key of the field, and the rule that it breaks.
-/// For an item of the wrong form it is the key of the list, for a document that is no map `document`.
+/// For an item of the wrong form it is the key of the list, for a document that is no map
+/// `document`.
 #[derive(Debug, Drop)]
 pub struct ObjectFault {
     pub field: Text,

@@ -2,7 +2,9 @@
 ghost use Rattle.std.specs.Prelude.{◌≡◌, ◌&&◌, ◌||◌, not, option_map, map, IfOk};
 ghost use Rattle.std.specs.Str.{bytes_eq};
 ghost use Rattle.yaml_subset.specs.NodeView.{node_view};
-ghost use Rattle.slo_objects.specs.Form.{closed, field_of, is_among as is_among_lem, is_null as is_null_lem, map_read, gives, shown, utf8_in, has_one_of as has_one_of_lem};
+ghost use Rattle.slo_objects.specs.Form.{closed, field_of, is_among as is_among_lem};
+ghost use Rattle.slo_objects.specs.Form.{is_null as is_null_lem, map_read, gives, shown, utf8_in};
+ghost use Rattle.slo_objects.specs.Form.{has_one_of as has_one_of_lem};
 ghost use Rattle.slo_objects.specs.Reading.{Gives, alone, entries_view};
 
 use crate::fault::{ObjectFault, ReadError, Rule};
@@ -41,7 +43,8 @@ fn is_field(name: &NodeText, value: &Node, key: &str) -> bool
 
 /// The value of the field of that key. A field whose value is null is as omitted.
 pub(crate) fn field<'a>(fields: &'a [(NodeText, Node)], key: &str) -> Option<&'a Node>
-    ensures { option_map (λ n. node_view n.now) result ≡ field_of key.now (entries_view fields.now) }
+    ensures { option_map (λ n. node_view n.now) result
+        ≡ field_of key.now (entries_view fields.now) }
 {
     for (name, value) in fields {
         if is_field(name, value, key) {
@@ -65,7 +68,8 @@ pub(crate) fn has_one_of(fields: &[(NodeText, Node)], keys: &[&str]) -> bool
 
 /// Whether the field is known, or as omitted.
 fn may_stand(name: &NodeText, value: &Node, known: &[&str]) -> bool
-    ensures { result ≡ (is_among_lem (map (λ k. k.now) known.now) name.now || is_null_lem (node_view value.now)) }
+    ensures { result ≡ (is_among_lem (map (λ k. k.now) known.now) name.now
+        || is_null_lem (node_view value.now)) }
 {
     is_among(known, name.as_bytes()) || is_null(value)
 }

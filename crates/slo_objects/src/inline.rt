@@ -46,7 +46,8 @@ pub(crate) fn required_metadata(
     fields: &[(NodeText, Node)],
     key: &str,
 ) -> Result<Metadata, ReadError>
-    ensures { Gives alone result ((required key.now (map_with metadata)).read (entries_view fields.now)) }
+    ensures { Gives alone result ((required key.now (map_with metadata)).read
+        (entries_view fields.now)) }
 {
     match field(fields, key) {
         Some(node) => metadata_of(alloc, key, node),

@@ -12,26 +12,37 @@ ghost use Rattle.slo_objects.specs.Document.{objects_of, written};
 
 use yaml_subset::written_text_reads_back;
 
-/// What is written is read again: the canonical writing of each object that a document stands for, also of one
-/// that stood inline, stands for that object alone.
+/// What is written is read again: the canonical writing of each object that a document stands for,
+/// also of one that stood inline, stands for that object alone.
 pub fn each_object_reads_back()
-    ensures { (t : Tree) (os : List Object) → objects_of t ≡ Ok os → AllByRecursion (λ o. objects_of (meant (written o)) ≡ Ok (o ∷ [])) os }
+    ensures { (t : Tree) (os : List Object) → objects_of t ≡ Ok os
+        → AllByRecursion (λ o. objects_of (meant (written o)) ≡ Ok (o ∷ [])) os }
 {}
 
-/// The canonical writing of each object of a document that can be written, as every node of a text can, can be
-/// written itself; and its text, where it has at most `MAX_BYTES` bytes, stands for the node that it means.
+/// The canonical writing of each object of a document that can be written, as every node of a text
+/// can, can be written itself; and its text, where it has at most `MAX_BYTES` bytes, stands for the
+/// node that it means.
 pub fn each_object_can_be_written()
-    ensures fits { (t : Tree) (os : List Object) → IsWritable t → objects_of t ≡ Ok os → AllByRecursion (λ o. Fits max_depth (written o)) os }
-    ensures stands { (t : Tree) (os : List Object) → IsWritable t → objects_of t ≡ Ok os → AllByRecursion (λ o. length (writing 0 (written o)) ≤ max_bytes → StandsFor (writing 0 (written o)) (meant (written o) ∷ [])) os }
+    ensures fits { (t : Tree) (os : List Object) → IsWritable t → objects_of t ≡ Ok os
+        → AllByRecursion (λ o. Fits max_depth (written o)) os }
+    ensures stands { (t : Tree) (os : List Object) → IsWritable t → objects_of t ≡ Ok os
+        → AllByRecursion (λ o. length (writing 0 (written o)) ≤ max_bytes
+        → StandsFor (writing 0 (written o)) (meant (written o) ∷ [])) os }
 {
     written_text_reads_back();
 }
 
-/// Objects with one writing are one object: by the nodes that they are written as, and by their texts, whatever their
-/// size. So a test on texts tells whether a name is defined twice with different content.
+/// Objects with one writing are one object: by the nodes that they are written as, and by their
+/// texts, whatever their size. So a test on texts tells whether a name is defined twice with
+/// different content.
 pub fn objects_with_one_text_are_one()
-    ensures nodes { (t u : Tree) (os ps : List Object) → objects_of t ≡ Ok os → objects_of u ≡ Ok ps → AllByRecursion (λ o. AllByRecursion (λ p. meant (written o) ≡ meant (written p) → o ≡ p) ps) os }
-    ensures texts { (t u : Tree) (os ps : List Object) → IsWritable t → IsWritable u → objects_of t ≡ Ok os → objects_of u ≡ Ok ps → AllByRecursion (λ o. AllByRecursion (λ p. writing 0 (written o) ≡ writing 0 (written p) → o ≡ p) ps) os }
+    ensures nodes { (t u : Tree) (os ps : List Object) → objects_of t ≡ Ok os → objects_of u ≡ Ok ps
+        → AllByRecursion (λ o. AllByRecursion (λ p. meant (written o) ≡ meant (written p) → o ≡ p)
+        ps) os }
+    ensures texts { (t u : Tree) (os ps : List Object) → IsWritable t → IsWritable u
+        → objects_of t ≡ Ok os → objects_of u ≡ Ok ps
+        → AllByRecursion (λ o. AllByRecursion
+        (λ p. writing 0 (written o) ≡ writing 0 (written p) → o ≡ p) ps) os }
 {
     written_text_reads_back();
 }

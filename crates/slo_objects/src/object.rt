@@ -14,11 +14,13 @@ use exact_fraction::{Label, Text};
 use std::alloc::{AllocError, Global};
 use std::marker::Model;
 
-/// An object of OpenSLO. What stood inline in its document is an object of its own, and is named here.
+/// An object of OpenSLO. What stood inline in its document is an object of its own, and is named
+/// here.
 #[derive(Debug, Drop)]
 pub struct Object {
     pub kind: Kind,
-    /// The name in its metadata: 1 to 63 of lower-case letters, digits and `-`, with no `-` at an end.
+    /// The name in its metadata: 1 to 63 of lower-case letters, digits and `-`, with no `-` at an
+    /// end.
     pub name: Label,
     pub display_name: Option<Text>,
     /// A map as it was written.

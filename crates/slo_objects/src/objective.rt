@@ -7,7 +7,10 @@ ghost use Rattle.yaml_subset.specs.NodeView.{node_view};
 ghost use Rattle.slo_objects.specs.Form.{required_where, one_of, map_with};
 ghost use Rattle.slo_objects.specs.Reading.{Gives, alone, entries_view};
 ghost use Rattle.slo_objects.specs.Scalars.{number, percent};
-ghost use Rattle.slo_objects.specs.Slo.{objective, target, is_target, slice_width, width_value, width_in as width_in_lem, has_slice_target as has_slice_target_lem, has_slices as has_slices_lem};
+ghost use Rattle.slo_objects.specs.Slo.{objective, target, is_target, slice_width, width_value};
+ghost use Rattle.slo_objects.specs.Slo.{width_in as width_in_lem};
+ghost use Rattle.slo_objects.specs.Slo.{has_slice_target as has_slice_target_lem};
+ghost use Rattle.slo_objects.specs.Slo.{has_slices as has_slices_lem};
 
 use crate::durations::{duration_at, number_of, percent_of};
 use crate::fault::{ReadError, Rule};
@@ -87,7 +90,8 @@ fn width_where(
     fields: &[(NodeText, Node)],
     key: &str,
 ) -> Result<Option<u32>, ReadError>
-    ensures { Gives alone result ((required_where needed key.now slice_width).read (entries_view fields.now)) }
+    ensures { Gives alone result ((required_where needed key.now slice_width).read
+        (entries_view fields.now)) }
 {
     match (field(fields, key), needed) {
         (Some(node), _) => Ok(Some(width_of(alloc, key, node)?)),
@@ -105,7 +109,8 @@ fn number_where(
     least: u64,
     most: u64,
 ) -> Result<Option<Decimal>, ReadError>
-    ensures { Gives alone result ((required_where needed key.now (number least most)).read (entries_view fields.now)) }
+    ensures { Gives alone result ((required_where needed key.now (number least most)).read
+        (entries_view fields.now)) }
 {
     match (field(fields, key), needed) {
         (Some(node), _) => Ok(Some(number_of(alloc, key, node, least, most)?)),
@@ -121,7 +126,8 @@ fn one_target(
     key: &str,
     other: &str,
 ) -> Result<Decimal, ReadError>
-    ensures { Gives alone result ((one_of key.now target other.now percent is_target).read (entries_view fields.now)) }
+    ensures { Gives alone result ((one_of key.now target other.now percent is_target).read
+        (entries_view fields.now)) }
 {
     match (field(fields, key), field(fields, other)) {
         (Some(node), None) => number_of(alloc, key, node, 0, ONE - 1),

@@ -3,7 +3,8 @@ ghost use Rattle.std.specs.Prelude.{◌≡◌, ◌≤◌};
 ghost use Rattle.yaml_subset.specs.NodeView.{node_view};
 ghost use Rattle.slo_objects.specs.Form.{optional, required, free, free_map};
 ghost use Rattle.slo_objects.specs.Reading.{Gives, alone, entries_view};
-ghost use Rattle.slo_objects.specs.Scalars.{text, description, name, version, kind, only_kind, op, boolean, number};
+ghost use Rattle.slo_objects.specs.Scalars.{text, description, name, version, kind, only_kind, op};
+ghost use Rattle.slo_objects.specs.Scalars.{boolean, number};
 ghost use Rattle.slo_objects.specs.Durations.{duration};
 
 use crate::durations::{duration_of, number_of};
@@ -143,7 +144,8 @@ pub(crate) fn optional_number(
     least: u64,
     most: u64,
 ) -> Result<Option<Decimal>, ReadError>
-    ensures { Gives alone result ((optional key.now (number least most)).read (entries_view fields.now)) }
+    ensures { Gives alone result ((optional key.now (number least most)).read
+        (entries_view fields.now)) }
 {
     match field(fields, key) {
         Some(node) => Ok(Some(number_of(alloc, key, node, least, most)?)),
@@ -159,7 +161,8 @@ pub(crate) fn required_number(
     least: u64,
     most: u64,
 ) -> Result<Decimal, ReadError>
-    ensures { Gives alone result ((required key.now (number least most)).read (entries_view fields.now)) }
+    ensures { Gives alone result ((required key.now (number least most)).read
+        (entries_view fields.now)) }
 {
     match field(fields, key) {
         Some(node) => number_of(alloc, key, node, least, most),
@@ -175,7 +178,8 @@ pub(crate) fn optional_duration(
     least: u32,
     most: u32,
 ) -> Result<Option<Duration>, ReadError>
-    ensures { Gives alone result ((optional key.now (duration least most)).read (entries_view fields.now)) }
+    ensures { Gives alone result ((optional key.now (duration least most)).read
+        (entries_view fields.now)) }
 {
     match field(fields, key) {
         Some(node) => Ok(Some(duration_of(alloc, key, node, least, most)?)),
@@ -191,7 +195,8 @@ pub(crate) fn required_duration(
     least: u32,
     most: u32,
 ) -> Result<Duration, ReadError>
-    ensures { Gives alone result ((required key.now (duration least most)).read (entries_view fields.now)) }
+    ensures { Gives alone result ((required key.now (duration least most)).read
+        (entries_view fields.now)) }
 {
     match field(fields, key) {
         Some(node) => duration_of(alloc, key, node, least, most),
@@ -276,7 +281,8 @@ pub(crate) fn optional_only_kind(
     key: &str,
     word: Kind,
 ) -> Result<Option<()>, ReadError>
-    ensures { Gives alone result ((optional key.now (only_kind word)).read (entries_view fields.now)) }
+    ensures { Gives alone result ((optional key.now (only_kind word)).read
+        (entries_view fields.now)) }
 {
     match field(fields, key) {
         Some(node) => Ok(Some(only_kind_of(alloc, key, node, word)?)),

@@ -4,7 +4,12 @@ ghost use Rattle.std.specs.List.{list_all};
 ghost use Rattle.std.specs.Str.{bytes_eq, chars};
 ghost use Rattle.yaml_subset.specs.NodeView.{node_view};
 ghost use Rattle.slo_objects.specs.Reading.{Gives, alone};
-ghost use Rattle.slo_objects.specs.Scalars.{text, text_value, description, description_value, name, name_value, zone_name, zone_value, version, version_value, kind, kind_value, only_kind, only_kind_value, op, op_value, boolean, boolean_value, is_name_byte as is_name_byte_lem, is_object_name as is_object_name_lem};
+ghost use Rattle.slo_objects.specs.Scalars.{text, text_value, description, description_value, name};
+ghost use Rattle.slo_objects.specs.Scalars.{name_value, zone_name, zone_value, version};
+ghost use Rattle.slo_objects.specs.Scalars.{version_value, kind, kind_value, only_kind};
+ghost use Rattle.slo_objects.specs.Scalars.{only_kind_value, op, op_value, boolean, boolean_value};
+ghost use Rattle.slo_objects.specs.Scalars.{is_name_byte as is_name_byte_lem};
+ghost use Rattle.slo_objects.specs.Scalars.{is_object_name as is_object_name_lem};
 
 use crate::fault::{ReadError, Rule};
 use crate::fields::{fault_at, is_among, utf8_text};
@@ -26,7 +31,8 @@ pub(crate) fn is_word(text: &[u8], word: &str) -> bool
 
 #[tactic(auto, unfolding(crate::specs::Scalars::text_value))]
 fn read_text(bytes: &[u8]) -> Result<&str, Rule>
-    ensures { MatchResult result (λ t. text_value bytes.now ≡ Ok t.now) (λ rule. text_value bytes.now ≡ Err rule) }
+    ensures { MatchResult result (λ t. text_value bytes.now ≡ Ok t.now)
+        (λ rule. text_value bytes.now ≡ Err rule) }
 {
     match utf8_text(bytes) {
         Some(text) => Ok(text),
@@ -56,7 +62,8 @@ fn characters(text: &str) -> usize
 
 #[tactic(auto, unfolding(crate::specs::Scalars::description_value))]
 fn read_description(bytes: &[u8]) -> Result<&str, Rule>
-    ensures { MatchResult result (λ t. description_value bytes.now ≡ Ok t.now) (λ rule. description_value bytes.now ≡ Err rule) }
+    ensures { MatchResult result (λ t. description_value bytes.now ≡ Ok t.now)
+        (λ rule. description_value bytes.now ≡ Err rule) }
 {
     let Some(text) = utf8_text(bytes) else {
         return Err(Rule::NotText);

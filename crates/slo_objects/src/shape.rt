@@ -20,7 +20,8 @@ pub(crate) fn scalar_text(node: &Node) -> Option<&[u8]>
 
 /// The entries of a map.
 pub(crate) fn map_entries(node: &Node) -> Option<&[(Text, Node)]>
-    ensures { option_map (λ entries. entries_view entries.now) result ≡ mapping_in (node_view node.now) }
+    ensures { option_map (λ entries. entries_view entries.now) result
+        ≡ mapping_in (node_view node.now) }
 {
     match node {
         Node::Map(entries) => Some(entries.as_slice()),

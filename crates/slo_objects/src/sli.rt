@@ -6,7 +6,10 @@ ghost use Rattle.slo_objects.specs.Form.{map_with, required, optional_alone, one
 ghost use Rattle.slo_objects.specs.Inline.{inline_object, inline_read};
 ghost use Rattle.slo_objects.specs.declared.kind.Kind.TheVariants as kinds;
 ghost use Rattle.slo_objects.specs.Reading.{Gives, alone, both, entries_view};
-ghost use Rattle.slo_objects.specs.Sli.{metric_source, source_map, source, raw_type, raw_type_value, is_good, events_written, ratio_metric, raw_ratio, counted_ratio, is_threshold, metric_written, sli, sli_body, known_with_raw};
+ghost use Rattle.slo_objects.specs.Sli.{metric_source, source_map, source, raw_type};
+ghost use Rattle.slo_objects.specs.Sli.{raw_type_value, is_good, events_written, ratio_metric};
+ghost use Rattle.slo_objects.specs.Sli.{raw_ratio, counted_ratio, is_threshold, metric_written};
+ghost use Rattle.slo_objects.specs.Sli.{sli, sli_body, known_with_raw};
 ghost use Rattle.slo_objects.specs.declared.sli.Events.TheVariants.{Good, Bad};
 ghost use Rattle.slo_objects.specs.declared.sli.Metric.TheVariants as metrics;
 
@@ -113,7 +116,8 @@ fn required_metric_source(
     fields: &[(NodeText, Node)],
     key: &str,
 ) -> Result<MetricSource, ReadError>
-    ensures { Gives alone result ((required key.now (map_with metric_source)).read (entries_view fields.now)) }
+    ensures { Gives alone result ((required key.now (map_with metric_source)).read
+        (entries_view fields.now)) }
 {
     match field(fields, key) {
         Some(node) => metric_source_of(alloc, key, node),
@@ -154,7 +158,8 @@ fn alone_source(
     key: &str,
     others: &[&str],
 ) -> Result<Option<MetricSource>, ReadError>
-    ensures { Gives alone result ((optional_alone key.now (map (λ k. k.now) others.now) source).read (entries_view fields.now)) }
+    ensures { Gives alone result ((optional_alone key.now (map (λ k. k.now) others.now) source).read
+        (entries_view fields.now)) }
 {
     let Some(node) = field(fields, key) else {
         return Ok(None);
@@ -210,7 +215,8 @@ fn one_of_events(
     good: &str,
     bad: &str,
 ) -> Result<Events, ReadError>
-    ensures { Gives alone result ((one_of good.now (variant source Good events_written) bad.now (variant source Bad events_written) is_good).read (entries_view fields.now)) }
+    ensures { Gives alone result ((one_of good.now (variant source Good events_written) bad.now
+        (variant source Bad events_written) is_good).read (entries_view fields.now)) }
 {
     match (field(fields, good), field(fields, bad)) {
         (Some(node), None) => Ok(Events::Good(source_of(alloc, good, node)?)),
@@ -228,7 +234,8 @@ fn raw_ratio_of(
     counter: Option<bool>,
     raw: MetricSource,
 ) -> Result<RatioMetric, ReadError>
-    ensures { Gives alone result (run (raw_ratio counter raw) known_with_raw (entries_view fields.now)) }
+    ensures { Gives alone result (run (raw_ratio counter raw) known_with_raw
+        (entries_view fields.now)) }
 {
     let raw_type = required_raw_type(alloc, fields, "rawType")?;
     close(alloc, fields, &["counter", "raw", "rawType"])?;
@@ -245,7 +252,8 @@ fn counted_ratio_of(
     fields: &[(NodeText, Node)],
     counter: Option<bool>,
 ) -> Result<RatioMetric, ReadError>
-    ensures { Gives alone result (run (counted_ratio counter) known_with_raw (entries_view fields.now)) }
+    ensures { Gives alone result (run (counted_ratio counter) known_with_raw
+        (entries_view fields.now)) }
 {
     let total = required_source(alloc, fields, "total")?;
     let events = one_of_events(alloc, fields, "good", "bad")?;
@@ -277,7 +285,10 @@ fn one_metric(
     threshold: &str,
     ratio: &str,
 ) -> Result<Metric, ReadError>
-    ensures { Gives alone result ((one_of threshold.now (variant source metrics.Threshold metric_written) ratio.now (variant (map_with ratio_metric) metrics.Ratio metric_written) is_threshold).read (entries_view fields.now)) }
+    ensures { Gives alone result ((one_of threshold.now
+        (variant source metrics.Threshold metric_written) ratio.now
+        (variant (map_with ratio_metric) metrics.Ratio metric_written) is_threshold).read
+        (entries_view fields.now)) }
 {
     match (field(fields, threshold), field(fields, ratio)) {
         (Some(node), None) => Ok(Metric::Threshold(source_of(alloc, threshold, node)?)),
@@ -325,7 +336,8 @@ pub(crate) fn required_sli_body(
 /// An indicator that stands inline.
 #[tactic(auto, unfolding(crate::specs::Inline::inline_object))]
 fn inline_sli_object(alloc: Global, fields: &[(NodeText, Node)]) -> Result<Object, ReadError>
-    ensures { Gives alone result (run (inline_object kinds.Sli sli_body) [] (entries_view fields.now)) }
+    ensures { Gives alone result (run (inline_object kinds.Sli sli_body) []
+        (entries_view fields.now)) }
 {
     let _version = optional_version(alloc, fields, "apiVersion")?;
     let _kind = optional_only_kind(alloc, fields, "kind", Kind::Sli)?;

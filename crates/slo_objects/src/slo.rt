@@ -1,9 +1,13 @@
 //! Objectives over time.
 ghost use Rattle.std.specs.Prelude.{◌≡◌, [], ◌∷◌, ◌++◌, OnOk};
 ghost use Rattle.yaml_subset.specs.NodeView.{node_view};
-ghost use Rattle.slo_objects.specs.Form.{map_with, required, optional, required_unless, one_of, single, each};
+ghost use Rattle.slo_objects.specs.Form.{map_with, required, optional, required_unless, one_of};
+ghost use Rattle.slo_objects.specs.Form.{single, each};
 ghost use Rattle.slo_objects.specs.Reading.{Gives, alone, both, entries_view, trees_view};
-ghost use Rattle.slo_objects.specs.Slo.{slo, time_window, objectives, objective_item, inline_indicator, is_inline, policies, policy_item as policy_item_lem, policy_map as policy_map_lem, policy_form};
+ghost use Rattle.slo_objects.specs.Slo.{slo, time_window, objectives, objective_item};
+ghost use Rattle.slo_objects.specs.Slo.{inline_indicator, is_inline, policies};
+ghost use Rattle.slo_objects.specs.Slo.{policy_item as policy_item_lem};
+ghost use Rattle.slo_objects.specs.Slo.{policy_map as policy_map_lem, policy_form};
 ghost use Rattle.slo_objects.specs.Scalars.{name};
 
 use crate::alert_policy::inline_policy;
@@ -126,7 +130,8 @@ impl Objectives {
 
 /// A list of one window.
 fn single_window(alloc: Global, key: &str, node: &Node) -> Result<TimeWindow, ReadError>
-    ensures { Gives alone result ((single (map_with time_window)).read key.now (node_view node.now)) }
+    ensures { Gives alone result ((single (map_with time_window)).read key.now
+        (node_view node.now)) }
 {
     let Some(items) = list_items(node) else {
         return Err(ReadError::Fault(fault_at(alloc, key, Rule::NotList)?));
@@ -142,7 +147,8 @@ fn required_window(
     fields: &[(NodeText, Node)],
     key: &str,
 ) -> Result<TimeWindow, ReadError>
-    ensures { Gives alone result ((required key.now (single (map_with time_window))).read (entries_view fields.now)) }
+    ensures { Gives alone result ((required key.now (single (map_with time_window))).read
+        (entries_view fields.now)) }
 {
     match field(fields, key) {
         Some(node) => single_window(alloc, key, node),
@@ -156,7 +162,8 @@ fn each_objective(
     items: &[Node],
     method: BudgetingMethod,
 ) -> Result<Objectives, ReadError>
-    ensures { Gives alone result (each (objective_item method key.now) [] [] (trees_view items.now)) }
+    ensures { Gives alone result (each (objective_item method key.now) [] []
+        (trees_view items.now)) }
 {
     let mut objectives = Objectives::new(alloc);
     for node in items {
@@ -189,7 +196,8 @@ fn required_objectives(
     key: &str,
     method: BudgetingMethod,
 ) -> Result<Objectives, ReadError>
-    ensures { Gives alone result ((required key.now (objectives method)).read (entries_view fields.now)) }
+    ensures { Gives alone result ((required key.now (objectives method)).read
+        (entries_view fields.now)) }
 {
     match field(fields, key) {
         Some(node) => objectives_of(alloc, key, node, method),
@@ -214,7 +222,8 @@ fn one_indicator(
     inline: &str,
     reference: &str,
 ) -> Result<(Objects, Label), ReadError>
-    ensures { Gives both result ((one_of inline.now inline_indicator reference.now name is_inline).read (entries_view fields.now)) }
+    ensures { Gives both result ((one_of inline.now inline_indicator reference.now name
+        is_inline).read (entries_view fields.now)) }
 {
     match (field(fields, inline), field(fields, reference)) {
         (Some(node), None) => indicator_of(alloc, inline, node),

@@ -5,7 +5,9 @@ ghost use Rattle.slo_objects.specs.Form.{map_with, required, required_unless, gi
 ghost use Rattle.slo_objects.specs.Reading.{Gives, alone, entries_view};
 ghost use Rattle.slo_objects.specs.Scalars.{zone_name};
 ghost use Rattle.slo_objects.specs.Moments.{moment};
-ghost use Rattle.slo_objects.specs.Slo.{calendar, time_window, is_rolling as is_rolling_lem, is_calendar_unit as is_calendar_unit_lem, method, method_value};
+ghost use Rattle.slo_objects.specs.Slo.{calendar, time_window, is_rolling as is_rolling_lem};
+ghost use Rattle.slo_objects.specs.Slo.{is_calendar_unit as is_calendar_unit_lem, method};
+ghost use Rattle.slo_objects.specs.Slo.{method_value};
 
 use crate::fault::{ReadError, Rule};
 use crate::fields::{close, fault_at, field};
@@ -72,7 +74,8 @@ fn calendar_unless(
     fields: &[(NodeText, Node)],
     key: &str,
 ) -> Result<Option<Calendar>, ReadError>
-    ensures { Gives alone result ((required_unless barred key.now (map_with calendar)).read (entries_view fields.now)) }
+    ensures { Gives alone result ((required_unless barred key.now (map_with calendar)).read
+        (entries_view fields.now)) }
 {
     match (field(fields, key), barred) {
         (None, true) => Ok(None),

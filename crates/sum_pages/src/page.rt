@@ -1,5 +1,6 @@
 // The leaves of the slots of one day, with the totals of its hours and its own.
-ghost use Rattle.std.specs.Prelude.{◌≡◌, ◌+◌, ◌-◌, ◌*◌, ◌/◌, ◌<◌, ◌≤◌, ◌^◌, IfOk, length, replicate, slice_set};
+ghost use Rattle.std.specs.Prelude.{◌≡◌, ◌+◌, ◌-◌, ◌*◌, ◌/◌, ◌<◌, ◌≤◌, ◌^◌, IfOk, length};
+ghost use Rattle.std.specs.Prelude.{replicate, slice_set};
 ghost use Rattle.slo_terms.specs.Sums.{leaves_over, most_events};
 ghost use Rattle.sum_pages.specs.Pages.{MayExchange, exchanged, leaf_in};
 
@@ -55,7 +56,8 @@ impl Page {
     // The leaves of an hour, added up.
     pub(crate) fn hour(&self, hour: usize) -> Leaf
         requires { hour < 24 }
-        ensures { result ≡ leaves_over (leaf_in self.now) (hour * (length self.now / 24)) (length self.now / 24) }
+        ensures { result ≡ leaves_over (leaf_in self.now) (hour * (length self.now / 24))
+            (length self.now / 24) }
     {
         self.hours[hour]
     }
@@ -72,7 +74,8 @@ impl Page {
         requires within { place < length self.old }
         requires hours { length self.old ≡ 24 * per_hour }
         requires part { value.num ≤ value.den }
-        requires few { (leaves_over (leaf_in (slice_set self.old place value)) 0 (length self.old)).den ≤ most_events }
+        requires few { (leaves_over (leaf_in (slice_set self.old place value)) 0
+            (length self.old)).den ≤ most_events }
         ensures { self.new ≡ slice_set self.old place value }
     {
         let before = self.leaf(place);

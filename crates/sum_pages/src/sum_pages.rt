@@ -1,5 +1,6 @@
 // Pages of leaves, by the number of the day.
-ghost use Rattle.std.specs.Prelude.{◌≡◌, ℕ, ◌+◌, ◌*◌, ◌/◌, ◌%◌, ◌<◌, ◌≤◌, ◌==◌, ◌||◌, nat_eq, is_some, length, slice_set, IsTrue, [], OnOk, OnErr};
+ghost use Rattle.std.specs.Prelude.{◌≡◌, ℕ, ◌+◌, ◌*◌, ◌/◌, ◌%◌, ◌<◌, ◌≤◌, ◌==◌, ◌||◌, nat_eq};
+ghost use Rattle.std.specs.Prelude.{is_some, length, slice_set, IsTrue, [], OnOk, OnErr};
 ghost use Rattle.std.specs.Int.{◌∣◌};
 ghost use Rattle.std.specs.Map.{lookup, set_value};
 ghost use Rattle.slo_terms.specs.Sums.{AreFew, AreSound, leaves_over, most_events};
@@ -36,7 +37,8 @@ impl Model for SumPages {
 }
 
 impl SumPages {
-    /// Pages of no day. The slots of an hour, at most one a minute, are equally long. Takes no memory.
+    /// Pages of no day. The slots of an hour, at most one a minute, are equally long. Takes no
+    /// memory.
     pub fn new(alloc: Global, per_hour: u32) -> SumPages
         requires hour { per_hour ∣ 60 }
         ensures per_hour { result.per_hour ≡ per_hour }
@@ -68,7 +70,8 @@ impl SumPages {
     pub fn reserve_day(&mut self, day: u32) -> Result<(), AllocError>
         ensures per_hour { self.new.per_hour ≡ self.old.per_hour }
         ensures leaves { (slot : ℕ) → leaf_at self.new slot ≡ leaf_at self.old slot }
-        ensures days { OnOk result ((other : ℕ) → has_day self.new other ≡ (has_day self.old other || other == day)) }
+        ensures days { OnOk result ((other : ℕ)
+            → has_day self.new other ≡ (has_day self.old other || other == day)) }
         ensures unchanged { OnErr result (self.new ≡ self.old) }
     {
         if self.pages.contains_key(&day) {
@@ -87,7 +90,8 @@ impl SumPages {
         requires part { value.num ≤ value.den }
         requires few { AreFew (λ other. (leaf_after self.old slot value other).den) }
         ensures per_hour { self.new.per_hour ≡ self.old.per_hour }
-        ensures leaves { (other : ℕ) → leaf_at self.new other ≡ leaf_after self.old slot value other }
+        ensures leaves { (other : ℕ) → leaf_at self.new other
+            ≡ leaf_after self.old slot value other }
         ensures days { (day : ℕ) → has_day self.new day ≡ has_day self.old day }
     {
         let slots = self.slots_a_day();
@@ -116,7 +120,8 @@ impl SumPages {
 
     /// The leaves of an hour added up, in one step. Hour 0 is the first of day 0.
     pub fn read_hour<L: Ledger>(&self, hour: u32, steps: &mut Steps<L>) -> Leaf
-        ensures value { result ≡ leaves_over (leaf_at self.now) (hour * self.now.per_hour) self.now.per_hour }
+        ensures value { result ≡ leaves_over (leaf_at self.now) (hour * self.now.per_hour)
+            self.now.per_hour }
         ensures cost { steps.new ≡ steps.old + 1 }
     {
         steps.tick();
@@ -128,7 +133,8 @@ impl SumPages {
 
     /// The leaves of a day added up, in one step.
     pub fn read_day<L: Ledger>(&self, day: u32, steps: &mut Steps<L>) -> Leaf
-        ensures value { result ≡ leaves_over (leaf_at self.now) (day * slots_a_day self.now) (slots_a_day self.now) }
+        ensures value { result ≡ leaves_over (leaf_at self.now) (day * slots_a_day self.now)
+            (slots_a_day self.now) }
         ensures cost { steps.new ≡ steps.old + 1 }
     {
         steps.tick();
@@ -152,8 +158,10 @@ fn set_in(pages: &mut IndexMap<u32, Page>, day: u32, place: usize, per_hour: usi
     requires within { place < length (values_of_day pages.old.entries day) }
     requires hours { length (values_of_day pages.old.entries day) ≡ 24 * per_hour }
     requires part { value.num ≤ value.den }
-    requires few { (leaves_over (leaf_in (slice_set (values_of_day pages.old.entries day) place value)) 0 (length (values_of_day pages.old.entries day))).den ≤ most_events }
-    ensures { pages.new.entries ≡ set_value (nat_eq day) pages.old.entries (slice_set (values_of_day pages.old.entries day) place value) }
+    requires few { (leaves_over (leaf_in (slice_set (values_of_day pages.old.entries day) place
+        value)) 0 (length (values_of_day pages.old.entries day))).den ≤ most_events }
+    ensures { pages.new.entries ≡ set_value (nat_eq day) pages.old.entries
+        (slice_set (values_of_day pages.old.entries day) place value) }
 {
     let index = pages.get_index_of(&day).unwrap();
     let page = &mut pages[index];

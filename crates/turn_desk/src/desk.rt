@@ -50,7 +50,9 @@ impl<T: Ledgered + Drop> Desk<T> {
     ) -> Result<(Desk<T>, Vec<Pass<T>>), DeskFailed<T>>
         requires { 0 < passes }
         ensures count { IfOk result (λ made. length made.1.items ≡ passes) }
-        ensures passes { IfOk result (λ made. All (λ p. p ≡ newcomer made.0 (T.ledger value).root (T.ledger value).history) made.1.items) }
+        ensures passes { IfOk result (λ made. All
+            (λ p. p ≡ newcomer made.0 (T.ledger value).root (T.ledger value).history)
+            made.1.items) }
         ensures err { IfErr result (λ failed. failed.value ≡ value) }
     {
         let mut list = Vec::new(alloc);
@@ -72,7 +74,8 @@ impl<T: Ledgered + Drop> Desk<T> {
 
     /// A desk over the value, and its first pass.
     fn with_pass(alloc: Global, value: T) -> Result<(Desk<T>, Pass<T>), DeskFailed<T>>
-        ensures pass { IfOk result (λ made. made.1 ≡ newcomer made.0 (T.ledger value).root (T.ledger value).history) }
+        ensures pass { IfOk result (λ made. made.1
+            ≡ newcomer made.0 (T.ledger value).root (T.ledger value).history) }
         ensures err { IfErr result (λ failed. failed.value ≡ value) }
     {
         let about = Snapshot::of(&value);
@@ -171,7 +174,8 @@ impl<T: Ledgered + Drop> Desk<T> {
         requires desk { All (λ p. p.desk ≡ self) passes.items }
         ensures root { All (λ p. p.root ≡ (T.ledger result).root) passes.items }
         ensures seen { All (λ p. Extends p.seen (T.ledger result).history) passes.items }
-        ensures within { All (λ k. k < length (T.ledger result).history) (flat_map (λ p. p.own) passes.items) }
+        ensures within { All (λ k. k < length (T.ledger result).history)
+            (flat_map (λ p. p.own) passes.items) }
         ensures apart { Distinct (flat_map (λ p. p.own) passes.items) }
     {
         let pass = self.gather(passes);

@@ -29,5 +29,6 @@ pub trait Call<T: Ledgered> {
     /// of the call's own, if it added one.
     fn act(&mut self, value: &mut T) -> Self::Out
         ensures clause { then self.old value.old result self.new value.new }
-        ensures ledger { GoesOn (T.ledger value.old) (T.ledger value.new) (added self.old value.old result value.new) };
+        ensures ledger { GoesOn (T.ledger value.old) (T.ledger value.new)
+            (added self.old value.old result value.new) };
 }

@@ -28,7 +28,9 @@ pub struct Add {
 impl Call<Numbers> for Add {
     type Out = bool;
 
-    ghost then = { λ add old out after new. (out ≡ true → new.items.items ≡ old.items.items ++ add.number ∷ []) × (out ≡ false → new.items.items ≡ old.items.items) };
+    ghost then = { λ add old out after new. (out ≡ true
+        → new.items.items ≡ old.items.items ++ add.number ∷ [])
+        × (out ≡ false → new.items.items ≡ old.items.items) };
 
     ghost added = { λ add old out new. out };
 
@@ -46,7 +48,8 @@ pub struct Read {
 impl Call<Numbers> for Read {
     type Out = Option<Vec<u64>>;
 
-    ghost then = { λ read old out after new. (new ≡ old) × IfSome out (λ list. list.items ≡ old.items.items) };
+    ghost then = { λ read old out after new. (new ≡ old)
+        × IfSome out (λ list. list.items ≡ old.items.items) };
 
     ghost added = { λ read old out new. false };
 

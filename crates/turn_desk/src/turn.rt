@@ -34,7 +34,10 @@ fn try_turn<T: Ledgered>(board: &Board<T>, seat: &mut Seat<Option<T>, View>) -> 
     requires board { (seat.old.table_id ≡ board.now.table_id) × IsDesk board.now.table_id }
     requires idle { IsIdle seat.old.me }
     ensures seat { (seat.new.table_id ≡ seat.old.table_id) × (seat.new.id ≡ seat.old.id) }
-    ensures won { result ≡ true → (y : T) × (seat.new.me ≡ (taken seat.old.me.0 (T.ledger y).history, (0, Some y) ∷ [])) × Extends seat.old.me.0.seen (T.ledger y).history × ((T.ledger y).root ≡ seat.old.me.0.root) }
+    ensures won { result ≡ true → (y : T)
+        × (seat.new.me ≡ (taken seat.old.me.0 (T.ledger y).history, (0, Some y) ∷ []))
+        × Extends seat.old.me.0.seen (T.ledger y).history
+        × ((T.ledger y).root ≡ seat.old.me.0.root) }
     ensures lost { result ≡ false → seat.new.me ≡ seat.old.me }
 {
     board.compare_exchange::<Take>(seat, MARK, FREE, TAKEN) == FREE
@@ -50,7 +53,10 @@ fn take_turn<R: Wait, T: Ledgered>(
     requires board { (seat.old.table_id ≡ board.now.table_id) × IsDesk board.now.table_id }
     requires idle { IsIdle seat.old.me }
     ensures seat { (seat.new.table_id ≡ seat.old.table_id) × (seat.new.id ≡ seat.old.id) }
-    ensures value { (y : T) × (seat.new.me ≡ (taken seat.old.me.0 (T.ledger y).history, (0, Some y) ∷ [])) × Extends seat.old.me.0.seen (T.ledger y).history × ((T.ledger y).root ≡ seat.old.me.0.root) }
+    ensures value { (y : T) × (seat.new.me
+        ≡ (taken seat.old.me.0 (T.ledger y).history, (0, Some y) ∷ []))
+        × Extends seat.old.me.0.seen (T.ledger y).history
+        × ((T.ledger y).root ≡ seat.old.me.0.root) }
 {
     if try_turn(board, seat) {
         return;
@@ -75,7 +81,8 @@ pub(crate) fn take_out<R: Wait, T: Ledgered>(
     requires board { (seat.old.table_id ≡ board.now.table_id) × IsDesk board.now.table_id }
     requires idle { IsIdle seat.old.me }
     ensures seat { (seat.new.table_id ≡ seat.old.table_id) × (seat.new.id ≡ seat.old.id) }
-    ensures value { Extends seat.old.me.0.seen (T.ledger result).history × ((T.ledger result).root ≡ seat.old.me.0.root) }
+    ensures value { Extends seat.old.me.0.seen (T.ledger result).history
+        × ((T.ledger result).root ≡ seat.old.me.0.root) }
     ensures view { seat.new.me ≡ (taken seat.old.me.0 (T.ledger result).history, (0, None) ∷ []) }
 {
     take_turn(rt, board, bell, seat);
@@ -96,10 +103,17 @@ pub(crate) fn give_back<T: Ledgered, C: Call<T>, B: Did>(
     _out: &C::Out,
 )
     requires board { (seat.old.table_id ≡ board.now.table_id) × IsDesk board.now.table_id }
-    requires holds { (seat.old.me.1 ≡ (0, None) ∷ []) × (seat.old.me.0.holds ≡ true) × (seat.old.me.0.live ≡ true) }
-    requires value { Extends seat.old.me.0.seen (T.ledger value).history × ((T.ledger value).root ≡ seat.old.me.0.root) × (B.added ≡ true → length seat.old.me.0.seen < length (T.ledger value).history) }
+    requires holds { (seat.old.me.1 ≡ (0, None) ∷ []) × (seat.old.me.0.holds ≡ true)
+        × (seat.old.me.0.live ≡ true) }
+    requires value { Extends seat.old.me.0.seen (T.ledger value).history
+        × ((T.ledger value).root ≡ seat.old.me.0.root)
+        × (B.added ≡ true → length seat.old.me.0.seen < length (T.ledger value).history) }
     ensures seat { (seat.new.table_id ≡ seat.old.table_id) × (seat.new.id ≡ seat.old.id) }
-    ensures view { seat.new.me ≡ (freed (grown B.added B.rose seat.old.me.0 (T.ledger value).history), []) }
+    ensures view { seat.new.me ≡ (
+      freed (grown B.added B.rose seat.old.me.0
+          (T.ledger value).history),
+      [],
+    ) }
 {
     let length = value.length();
     let none = board.exchange(seat, PLACE, Some(value));

@@ -9,5 +9,7 @@ ghost use Rattle.window_sums.specs.Slices.{AreSoundCounts};
 /// count for, a part of at most 10^9 events each, all slices together have at most 4 * 10^15
 /// events, and so has the den of their leaves. So `change` may follow the rows of an office.
 pub fn counts_of_rows_are_sound()
-    ensures { (method : Method) (counts : ℕ → Counts) (shares : List Share) → AreSmall shares → ((slice : ℕ) → counts slice ≡ slice_counts method shares slice) → AreSoundCounts method counts }
+    ensures { (method : Method) (counts : ℕ → Counts) (shares : List Share) → AreSmall shares
+        → ((slice : ℕ) → counts slice ≡ slice_counts method shares slice)
+        → AreSoundCounts method counts }
 {}

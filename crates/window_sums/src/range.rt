@@ -47,7 +47,8 @@ pub(crate) fn sum_slots<L: Ledger>(
 // The leaves of the hours from `from` up to `to`: hours up to a whole day, then days, and hours
 // behind the last whole day.
 fn sum_hours<L: Ledger>(pages: &SumPages, from: u32, to: u32, steps: &mut Steps<L>) -> Leaf
-    ensures value { result ≡ leaves_over (leaf_at pages.now) (from * pages.now.per_hour) ((to - from) * pages.now.per_hour) }
+    ensures value { result ≡ leaves_over (leaf_at pages.now) (from * pages.now.per_hour)
+        ((to - from) * pages.now.per_hour) }
     ensures short { steps.new ≤ steps.old + (to - from) }
     ensures bounded { steps.new ≤ steps.old + (46 + (to - from) / 24) }
 {
@@ -71,7 +72,8 @@ fn sum_units<L: Ledger>(
     to: u32,
     steps: &mut Steps<L>,
 ) -> Leaf
-    ensures value { result ≡ leaves_over (leaf_at pages.now) (from * slots_of unit pages.now.per_hour) ((to - from) * slots_of unit pages.now.per_hour) }
+    ensures value { result ≡ leaves_over (leaf_at pages.now)
+        (from * slots_of unit pages.now.per_hour) ((to - from) * slots_of unit pages.now.per_hour) }
     ensures cost { steps.new ≤ steps.old + (to - from) }
 {
     pages.sound();
@@ -84,7 +86,8 @@ fn sum_units<L: Ledger>(
 
 // The leaves of a unit, in one step.
 fn read<L: Ledger>(pages: &SumPages, unit: Unit, at: u32, steps: &mut Steps<L>) -> Leaf
-    ensures value { result ≡ leaves_over (leaf_at pages.now) (at * slots_of unit pages.now.per_hour) (slots_of unit pages.now.per_hour) }
+    ensures value { result ≡ leaves_over (leaf_at pages.now) (at * slots_of unit pages.now.per_hour)
+        (slots_of unit pages.now.per_hour) }
     ensures cost { steps.new ≡ steps.old + 1 }
 {
     match unit {

@@ -1,11 +1,15 @@
 // Sums over slices by the counts of each.
-ghost use Rattle.std.specs.Prelude.{◌≡◌, ℕ, ◌+◌, ◌-◌, ◌<◌, ◌≤◌, ◌==◌, ◌||◌, nat_eq, length, slice_index_or, slice_set, IsTrue, [], OnOk, OnErr};
+ghost use Rattle.std.specs.Prelude.{◌≡◌, ℕ, ◌+◌, ◌-◌, ◌<◌, ◌≤◌, ◌==◌, ◌||◌, nat_eq, length};
+ghost use Rattle.std.specs.Prelude.{slice_index_or, slice_set, IsTrue, [], OnOk, OnErr};
 ghost use Rattle.std.specs.Int.{◌∣◌};
 ghost use Rattle.std.specs.Map.{set_value};
 ghost use Rattle.slice_method.specs.Leaves.{leaf};
-ghost use Rattle.slo_terms.specs.Sums.{AreFew, AreSound, most_events, slice_from, slices_until, sum_of_slices};
+ghost use Rattle.slo_terms.specs.Sums.{AreFew, AreSound, most_events, slice_from, slices_until};
+ghost use Rattle.slo_terms.specs.Sums.{sum_of_slices};
 ghost use Rattle.sum_pages.specs.DayTables.{is_day_of, values_of_day};
-ghost use Rattle.window_sums.specs.Slices.{IsPart, MayExchange, counts_after, counts_of, day_of, exchanged, has_day, leaf_at, no_counts, slice_of, width_of};
+ghost use Rattle.window_sums.specs.Slices.{IsPart, MayExchange, counts_after, counts_of, day_of};
+ghost use Rattle.window_sums.specs.Slices.{exchanged, has_day, leaf_at, no_counts, slice_of};
+ghost use Rattle.window_sums.specs.Slices.{width_of};
 
 use crate::day::Day;
 use crate::range::sum_slots;
@@ -81,7 +85,8 @@ impl WindowSums {
     pub fn reserve(&mut self, minute: u32) -> Result<(), AllocError>
         ensures method { self.new.method ≡ self.old.method }
         ensures counts { (slice : ℕ) → counts_of self.new slice ≡ counts_of self.old slice }
-        ensures days { OnOk result ((day : ℕ) → has_day self.new day ≡ (has_day self.old day || day == day_of minute)) }
+        ensures days { OnOk result ((day : ℕ)
+            → has_day self.new day ≡ (has_day self.old day || day == day_of minute)) }
         ensures unchanged { OnErr result (self.new ≡ self.old) }
     {
         let day = minute / MINUTES_A_DAY;
@@ -101,12 +106,17 @@ impl WindowSums {
     pub fn change(&mut self, minute: u32, before: Counts, after: Counts)
         requires day { IsTrue (has_day self.old (day_of minute)) }
         requires good { before.good ≤ (counts_of self.old (slice_of self.old.method minute)).good }
-        requires total { before.total ≤ (counts_of self.old (slice_of self.old.method minute)).total }
-        requires part { IsPart (counts_after self.old minute before after (slice_of self.old.method minute)) }
-        requires events { AreFew (λ slice. (counts_after self.old minute before after slice).total) }
-        requires leaves { AreFew (λ slice. (leaf self.old.method (counts_after self.old minute before after slice)).den) }
+        requires total { before.total ≤ (counts_of self.old
+            (slice_of self.old.method minute)).total }
+        requires part { IsPart (counts_after self.old minute before after
+            (slice_of self.old.method minute)) }
+        requires events { AreFew (λ slice. (counts_after self.old minute before after
+            slice).total) }
+        requires leaves { AreFew (λ slice. (leaf self.old.method
+            (counts_after self.old minute before after slice)).den) }
         ensures method { self.new.method ≡ self.old.method }
-        ensures counts { (slice : ℕ) → counts_of self.new slice ≡ counts_after self.old minute before after slice }
+        ensures counts { (slice : ℕ) → counts_of self.new slice
+            ≡ counts_after self.old minute before after slice }
         ensures days { (day : ℕ) → has_day self.new day ≡ has_day self.old day }
     {
         let slice = minute / width_of(&self.method);
@@ -129,11 +139,14 @@ impl WindowSums {
     /// range has at most 400 days.
     pub fn sum<L: Ledger>(&self, from: u32, to: u32, steps: &mut Steps<L>) -> Leaf
         requires range { from ≤ to }
-        ensures value { result ≡ sum_of_slices (width_of self.now.method) (leaf_at self.now) from to }
+        ensures value { result ≡ sum_of_slices (width_of self.now.method) (leaf_at self.now) from
+            to }
         ensures part { result.num ≤ result.den }
         ensures few { result.den ≤ most_events }
         ensures bounded { to - from ≤ 576000 → steps.new ≤ steps.old + 600 }
-        ensures short { steps.new ≤ steps.old + (slices_until (width_of self.now.method) to - slice_from (width_of self.now.method) from) }
+        ensures short { steps.new ≤ steps.old
+            + (slices_until (width_of self.now.method) to
+            - slice_from (width_of self.now.method) from) }
     {
         self.sound();
         let width = width_of(&self.method);
@@ -152,9 +165,12 @@ fn exchange_in(
 ) -> Counts
     requires there { IsTrue (is_day_of days.old.entries day) }
     requires within { place < length (values_of_day days.old.entries day) }
-    requires may { MayExchange (slice_index_or (values_of_day days.old.entries day) place no_counts) before after }
-    ensures days { days.new.entries ≡ set_value (nat_eq day) days.old.entries (slice_set (values_of_day days.old.entries day) place result) }
-    ensures value { result ≡ exchanged (slice_index_or (values_of_day days.old.entries day) place no_counts) before after }
+    requires may { MayExchange (slice_index_or (values_of_day days.old.entries day) place no_counts)
+        before after }
+    ensures days { days.new.entries ≡ set_value (nat_eq day) days.old.entries
+        (slice_set (values_of_day days.old.entries day) place result) }
+    ensures value { result ≡ exchanged (slice_index_or (values_of_day days.old.entries day) place
+        no_counts) before after }
 {
     let index = days.get_index_of(&day).unwrap();
     let slices = &mut days[index];

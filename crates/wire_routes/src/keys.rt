@@ -1,6 +1,7 @@
 //! The keys of the routes that have any.
 ghost use Rattle.std.specs.Prelude.{◌≡◌};
-ghost use Rattle.wire_routes.specs.Keys.{alerts_keys, budgets_keys, burns_keys, lookback_of, minute_or_none};
+ghost use Rattle.wire_routes.specs.Keys.{alerts_keys, budgets_keys, burns_keys, lookback_of};
+ghost use Rattle.wire_routes.specs.Keys.{minute_or_none};
 ghost use Rattle.wire_routes.specs.Queries.{bytes_of};
 
 use crate::cuts::read_number32;

@@ -1,7 +1,8 @@
 //! The items of a query.
 ghost use Rattle.std.specs.Prelude.{◌≡◌, ◌∷◌, [], option_map, MatchOption};
 ghost use Rattle.std.specs.List.{list_all};
-ghost use Rattle.wire_routes.specs.Queries.{asked, bytes_of, is_known, items_of, only_of, value_of, values_of};
+ghost use Rattle.wire_routes.specs.Queries.{asked, bytes_of, is_known, items_of, only_of, value_of};
+ghost use Rattle.wire_routes.specs.Queries.{values_of};
 
 use crate::cuts::cut_at;
 use std::marker::Model;

@@ -1,6 +1,8 @@
 //! The places of paths, by their routes.
 ghost use Rattle.std.specs.Prelude.{◌≡◌};
-ghost use Rattle.wire_routes.specs.Readers.{alerts_at, alerts_in, budgets_at, burns_at, exclusion_at, fixed_at, object_at, place_by, take_at, zone_at};
+ghost use Rattle.wire_routes.specs.Readers.{alerts_at, alerts_in, budgets_at, burns_at};
+ghost use Rattle.wire_routes.specs.Readers.{exclusion_at, fixed_at, object_at, place_by, take_at};
+ghost use Rattle.wire_routes.specs.Readers.{zone_at};
 
 use crate::cuts::{after_word, cut_at, read_number32};
 use crate::place::{Place, Route};

@@ -9,7 +9,8 @@ ghost use Rattle.wire_routes.specs.declared.place.Place.TheVariants as place;
 ghost use Rattle.wire_routes.specs.Exclusions.{exclusion_of};
 ghost use Rattle.wire_routes.specs.Queries.{bytes_of};
 ghost use Rattle.wire_routes.specs.Ranges.{IsRoutedInRange};
-ghost use Rattle.wire_routes.specs.Requests.{IsRouted, Tells, answer_at, exclusion_answer, samples_answer, without_keys};
+ghost use Rattle.wire_routes.specs.Requests.{IsRouted, Tells, answer_at, exclusion_answer};
+ghost use Rattle.wire_routes.specs.Requests.{samples_answer, without_keys};
 ghost use Rattle.wire_routes.specs.Samples.{samples_of};
 
 use crate::exclusion::read_exclusion;

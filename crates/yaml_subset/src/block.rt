@@ -2,14 +2,16 @@
 
 ghost use Rattle.std.specs.Prelude.{◌≡◌, ℕ, suc, ◌++◌, replicate, IfOk, Some};
 ghost use Rattle.yaml_subset.specs.Block.{joint as joint_lem, ending as ending_lem};
-ghost use Rattle.yaml_subset.specs.OpenNodes.{with_line as with_line_lem, no_lines, filled, ended as ended_lem};
+ghost use Rattle.yaml_subset.specs.OpenNodes.{with_line as with_line_lem, no_lines, filled};
+ghost use Rattle.yaml_subset.specs.OpenNodes.{ended as ended_lem};
 ghost use Rattle.yaml_subset.specs.OpenView.{block_view};
 
 use crate::bytes::{from, is_blank, spaces};
 use crate::style::{Chomping, Style};
 use std::alloc::{AllocError, Global};
 
-/// A block scalar so far: its text up to its last line that isn't blank, and the blank lines after it.
+/// A block scalar so far: its text up to its last line that isn't blank, and the blank lines after
+/// it.
 #[derive(Debug, Drop)]
 pub(crate) struct Block {
     pub(crate) style: Style,

@@ -1,10 +1,16 @@
 //! Tests on bytes, and parts of a line.
 
-ghost use Rattle.std.specs.Prelude.{◌≡◌, ℕ, ◌+◌, ◌-◌, ◌==◌, ◌<◌, ◌≤◌, ◌≢◌, length, slice_index, drop, take, reverse};
+ghost use Rattle.std.specs.Prelude.{◌≡◌, ℕ, ◌+◌, ◌-◌, ◌==◌, ◌<◌, ◌≤◌, ◌≢◌, length, slice_index};
+ghost use Rattle.std.specs.Prelude.{drop, take, reverse};
 ghost use Rattle.std.specs.List.{prefix_len, list_any, list_all, starts_with};
-ghost use Rattle.yaml_subset.specs.Block.{is_space, is_blank_byte as is_blank_lem, is_blank as is_blank_list, indentation, trimmed};
-ghost use Rattle.yaml_subset.specs.Flow.{is_flow_indicator as is_flow_indicator_lem, is_indicator as is_indicator_lem, is_soft_indicator as is_soft_indicator_lem};
-ghost use Rattle.yaml_subset.specs.Line.{is_control as is_control_lem, has_control as has_control_lem, ends_word as ends_word_lem, is_tail as is_tail_lem};
+ghost use Rattle.yaml_subset.specs.Block.{is_space, is_blank_byte as is_blank_lem};
+ghost use Rattle.yaml_subset.specs.Block.{is_blank as is_blank_list, indentation, trimmed};
+ghost use Rattle.yaml_subset.specs.Flow.{is_flow_indicator as is_flow_indicator_lem};
+ghost use Rattle.yaml_subset.specs.Flow.{is_indicator as is_indicator_lem};
+ghost use Rattle.yaml_subset.specs.Flow.{is_soft_indicator as is_soft_indicator_lem};
+ghost use Rattle.yaml_subset.specs.Line.{is_control as is_control_lem};
+ghost use Rattle.yaml_subset.specs.Line.{has_control as has_control_lem};
+ghost use Rattle.yaml_subset.specs.Line.{ends_word as ends_word_lem, is_tail as is_tail_lem};
 
 /// A space or a tab.
 pub(crate) fn is_blank_byte(byte: u8) -> bool

@@ -8,8 +8,8 @@ use std::alloc::{AllocError, Global};
 use std::collections::BTreeSet;
 use std::marker::Model;
 
-/// The entries so far, with a copy of their keys in order: a map of many keys is read in little more than linear time,
-/// whatever its keys are.
+/// The entries so far, with a copy of their keys in order: a map of many keys is read in little
+/// more than linear time, whatever its keys are.
 #[derive(Drop)]
 pub(crate) struct OpenEntries {
     pairs: Pairs,

@@ -1,14 +1,20 @@
 //! Which values can be written.
 
-ghost use Rattle.std.specs.Prelude.{◌≡◌, ◌<◌, ◌&&◌, ◌==◌, ◌-◌, not, length, drop, slice_index, Decides};
+ghost use Rattle.std.specs.Prelude.{◌≡◌, ◌<◌, ◌&&◌, ◌==◌, ◌-◌, not, length, drop, slice_index};
+ghost use Rattle.std.specs.Prelude.{Decides};
 ghost use Rattle.std.specs.List.{list_any, list_all};
 ghost use Rattle.std.specs.Str.{is_utf8 as is_utf8_lem, bytes_eq};
 ghost use Rattle.yaml_subset.specs.Profile.{max_depth};
-ghost use Rattle.yaml_subset.specs.Fits.{Fits, is_plain as is_plain_lem, is_letter as is_letter_lem, is_plain_key as is_plain_key_lem, is_quotable as is_quotable_lem};
+ghost use Rattle.yaml_subset.specs.Fits.{Fits, is_plain as is_plain_lem};
+ghost use Rattle.yaml_subset.specs.Fits.{is_letter as is_letter_lem};
+ghost use Rattle.yaml_subset.specs.Fits.{is_plain_key as is_plain_key_lem};
+ghost use Rattle.yaml_subset.specs.Fits.{is_quotable as is_quotable_lem};
 ghost use Rattle.yaml_subset.specs.Block.{is_blank_byte as is_blank_lem};
-ghost use Rattle.yaml_subset.specs.Line.{is_plain_start as is_plain_start_lem, plain_len as plain_len_lem};
+ghost use Rattle.yaml_subset.specs.Line.{is_plain_start as is_plain_start_lem};
+ghost use Rattle.yaml_subset.specs.Line.{plain_len as plain_len_lem};
 ghost use Rattle.yaml_subset.specs.FitsView.{key_test, fits_test, fields_test, items_test};
-ghost use Rattle.yaml_subset.specs.SpellingView.{is_quoted, text_of, spelling_view, fields_view, items_view};
+ghost use Rattle.yaml_subset.specs.SpellingView.{is_quoted, text_of, spelling_view, fields_view};
+ghost use Rattle.yaml_subset.specs.SpellingView.{items_view};
 
 use crate::bytes::{from, has_control, is_blank_byte, is_control};
 use crate::inline::{is_plain_start, plain_len};
@@ -28,7 +34,8 @@ fn is_utf8(bytes: &[u8]) -> bool
 /// Whether a text begins as a plain scalar does.
 fn begins_plain(text: &[u8]) -> bool
     requires { 0 < length text.now }
-    ensures { result ≡ (not (is_blank_lem (slice_index text.now 0)) && is_plain_start_lem (slice_index text.now 0) (drop 1 text.now)) }
+    ensures { result ≡ (not (is_blank_lem (slice_index text.now 0))
+        && is_plain_start_lem (slice_index text.now 0) (drop 1 text.now)) }
 {
     !is_blank_byte(text[0]) && is_plain_start(text[0], from(text, 1))
 }
@@ -36,7 +43,8 @@ fn begins_plain(text: &[u8]) -> bool
 /// Whether a plain scalar that begins with a text goes on to its end, and keeps its last byte.
 fn ends_plain(text: &[u8]) -> bool
     requires { 0 < length text.now }
-    ensures { result ≡ (plain_len_lem text.now == length text.now && not (is_blank_lem (slice_index text.now (length text.now - 1)))) }
+    ensures { result ≡ (plain_len_lem text.now == length text.now
+        && not (is_blank_lem (slice_index text.now (length text.now - 1)))) }
 {
     plain_len(text) == text.len() && !is_blank_byte(text[text.len() - 1])
 }

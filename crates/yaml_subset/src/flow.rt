@@ -1,7 +1,18 @@
 //! One-line lists, byte by byte.
 
 ghost use Rattle.std.specs.Prelude.{◌≡◌, IfOk, [], ◌∷◌};
-ghost use Rattle.yaml_subset.specs.Flow.{flow_start, is_left_out as is_left_out_lem, is_flow_start as is_flow_start_lem, flow_row as flow_row_lem, flow_fault, flow_part, flow_item, flow_more, flow_quoted, flow_scalar, flow_plain, colon_end as colon_end_lem, in_closed as in_closed_lem, in_want as in_want_lem, in_plain as in_plain_lem, in_single as in_single_lem, in_double as in_double_lem, in_escape as in_escape_lem, in_after as in_after_lem, in_broken as in_broken_lem, begins_comment as begins_comment_lem, flow_at as flow_at_lem, flow_step, flow, end_row as end_row_lem};
+ghost use Rattle.yaml_subset.specs.Flow.{flow_start, is_left_out as is_left_out_lem};
+ghost use Rattle.yaml_subset.specs.Flow.{is_flow_start as is_flow_start_lem};
+ghost use Rattle.yaml_subset.specs.Flow.{flow_row as flow_row_lem, flow_fault, flow_part};
+ghost use Rattle.yaml_subset.specs.Flow.{flow_item, flow_more, flow_quoted, flow_scalar};
+ghost use Rattle.yaml_subset.specs.Flow.{flow_plain, colon_end as colon_end_lem};
+ghost use Rattle.yaml_subset.specs.Flow.{in_closed as in_closed_lem, in_want as in_want_lem};
+ghost use Rattle.yaml_subset.specs.Flow.{in_plain as in_plain_lem, in_single as in_single_lem};
+ghost use Rattle.yaml_subset.specs.Flow.{in_double as in_double_lem, in_escape as in_escape_lem};
+ghost use Rattle.yaml_subset.specs.Flow.{in_after as in_after_lem, in_broken as in_broken_lem};
+ghost use Rattle.yaml_subset.specs.Flow.{begins_comment as begins_comment_lem};
+ghost use Rattle.yaml_subset.specs.Flow.{flow_at as flow_at_lem, flow_step, flow};
+ghost use Rattle.yaml_subset.specs.Flow.{end_row as end_row_lem};
 ghost use Rattle.yaml_subset.specs.FlowView.{flow_view};
 
 use crate::bytes::{
@@ -38,7 +49,8 @@ pub(crate) enum Part {
     Over,
 }
 
-/// A one-line list so far: the text of the item where the reading stands, the finished items, and the first row met.
+/// A one-line list so far: the text of the item where the reading stands, the finished items, and
+/// the first row met.
 #[derive(Debug, Drop)]
 pub(crate) struct Flow {
     pub(crate) part: Part,
@@ -336,7 +348,8 @@ impl Flow {
     }
 
     fn within(self, alloc: Global, byte: u8, next: u8) -> Result<Flow, AllocError>
-        ensures { IfOk result (λ s. flow_view s ≡ flow_at_lem self.part (flow_view self) byte next) }
+        ensures { IfOk result (λ s. flow_view s
+            ≡ flow_at_lem self.part (flow_view self) byte next) }
     {
         match self.part {
             Part::Want => self.in_want(alloc, byte, next),

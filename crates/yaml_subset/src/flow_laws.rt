@@ -10,7 +10,10 @@ ghost use Rattle.yaml_subset.specs.Line.{inline_value, one_mark};
 /// A value that begins with `[` is taken exactly where a one-line list in YAML's words stands there
 /// (YAML 1.2.2, section 7.4.1), and it is then the list of its items.
 pub fn one_line_lists()
-    ensures read { (line : List ℕ) (items : List Tree) → IsFlowList line items ↔ EndsWell (flow flow_start line) items }
-    ensures taken { (column : ℕ) (line : List ℕ) (items : List Tree) → IsFlowList line items → inline_value column (91 ∷ line) ≡ one_mark (value column (sequence (trees items))) None }
-    ensures only { (column : ℕ) (line : List ℕ) → (inline_value column (91 ∷ line)).fault ≡ None → (items : List Tree) × IsFlowList line items }
+    ensures read { (line : List ℕ) (items : List Tree) → IsFlowList line items
+        ↔ EndsWell (flow flow_start line) items }
+    ensures taken { (column : ℕ) (line : List ℕ) (items : List Tree) → IsFlowList line items
+        → inline_value column (91 ∷ line) ≡ one_mark (value column (sequence (trees items))) None }
+    ensures only { (column : ℕ) (line : List ℕ) → (inline_value column (91 ∷ line)).fault ≡ None
+        → (items : List Tree) × IsFlowList line items }
 {}

@@ -1,11 +1,15 @@
 //! Open maps and lists.
 
-ghost use Rattle.std.specs.Prelude.{◌≡◌, ℕ, ◌||◌, true, Option, Some, None, IfOk, ◌<◌, map, length, option_map};
+ghost use Rattle.std.specs.Prelude.{◌≡◌, ℕ, ◌||◌, true, Option, Some, None, IfOk, ◌<◌, map, length};
+ghost use Rattle.std.specs.Prelude.{option_map};
 ghost use Rattle.yaml_subset.specs.Tree.{Tree};
 ghost use Rattle.std.specs.Str.{bytes_eq};
 ghost use Rattle.yaml_subset.specs.Mark as marks;
 ghost use Rattle.yaml_subset.specs.Fault.{column, same_column};
-ghost use Rattle.yaml_subset.specs.Profile.{is_next, has_room as has_room_lem, with_child, is_repeated as is_repeated_lem, collection, is_deeper as is_deeper_lem, no_text as no_text_lem, or_no_text as or_no_text_lem};
+ghost use Rattle.yaml_subset.specs.Profile.{is_next, has_room as has_room_lem, with_child};
+ghost use Rattle.yaml_subset.specs.Profile.{is_repeated as is_repeated_lem, collection};
+ghost use Rattle.yaml_subset.specs.Profile.{is_deeper as is_deeper_lem, no_text as no_text_lem};
+ghost use Rattle.yaml_subset.specs.Profile.{or_no_text as or_no_text_lem};
 ghost use Rattle.yaml_subset.specs.OpenNodes.{closed};
 ghost use Rattle.yaml_subset.specs.NodeView.{node_view};
 ghost use Rattle.yaml_subset.specs.LineView.{mark_view};
@@ -18,7 +22,8 @@ use crate::node::{Node, Nodes};
 use crate::text::Text;
 use std::alloc::{AllocError, Global};
 
-/// An open map or list at its column, with its finished children; a map also with the key whose value is open.
+/// An open map or list at its column, with its finished children; a map also with the key whose
+/// value is open.
 #[derive(Drop)]
 pub(crate) enum Frame {
     Map(usize, OpenEntries, Text),
@@ -80,7 +85,8 @@ fn same_bytes(one: &[u8], other: &[u8]) -> bool
 
 /// Whether a map at a column has a key among its entries, or open.
 fn is_known(column: usize, entries: &OpenEntries, key: &[u8], next: &[u8]) -> bool
-    ensures { result ≡ is_repeated_lem (marks.key column next.now) (with_child (map (entry_child column) entries.now) (marks.key column key.now) None) }
+    ensures { result ≡ is_repeated_lem (marks.key column next.now)
+        (with_child (map (entry_child column) entries.now) (marks.key column key.now) None) }
 {
     let finished = entries.has_key(next);
     let open = same_bytes(next, key);
@@ -183,7 +189,8 @@ impl Frame {
     /// Whether a mark is a key that it has already, finished or open.
     pub(crate) fn is_repeated_by(&self, mark: &Mark) -> bool
         requires { is_next (head_of self.now) (mark_view mark.now) ≡ true }
-        ensures { result ≡ is_repeated_lem (mark_view mark.now) (with_child (done_of self.now) (head_of self.now) None) }
+        ensures { result ≡ is_repeated_lem (mark_view mark.now)
+            (with_child (done_of self.now) (head_of self.now) None) }
     {
         match self {
             Frame::List(_, _) => false,
@@ -205,7 +212,8 @@ impl Frame {
     ) -> Result<Frame, AllocError>
         requires { is_next (head_of self) (mark_view mark) ≡ true }
         ensures head { IfOk result (λ f. head_of f ≡ mark_view mark) }
-        ensures done { IfOk result (λ f. done_of f ≡ with_child (done_of self) (head_of self) (option_map node_view value)) }
+        ensures done { IfOk result (λ f. done_of f
+            ≡ with_child (done_of self) (head_of self) (option_map node_view value)) }
     {
         match self {
             Frame::Map(column, entries, key) => match mark {
@@ -224,7 +232,8 @@ impl Frame {
 
     /// The map or list that it is, with a value behind its last mark.
     pub(crate) fn closed(self, alloc: Global, value: Option<Node>) -> Result<Node, AllocError>
-        ensures { IfOk result (λ x. node_view x ≡ collection (with_child (done_of self) (head_of self) (option_map node_view value))) }
+        ensures { IfOk result (λ x. node_view x
+            ≡ collection (with_child (done_of self) (head_of self) (option_map node_view value))) }
     {
         match self {
             Frame::Map(column, entries, key) => {
@@ -242,7 +251,9 @@ impl Frame {
 /// The documents with one more, where it has a node.
 #[tactic(auto, using(std::proofs::lemmas::List::map_push))]
 pub(crate) fn more_documents(nodes: Nodes, value: Option<Node>) -> Result<Nodes, AllocError>
-    ensures { IfOk result (λ v. map (child marks.start) v.items ≡ with_child (map (child marks.start) nodes.items) marks.start (option_map node_view value)) }
+    ensures { IfOk result (λ v. map (child marks.start) v.items
+        ≡ with_child (map (child marks.start) nodes.items) marks.start
+        (option_map node_view value)) }
 {
     match value {
         None => Ok(nodes),
@@ -263,7 +274,9 @@ fn more_entries(
     key: Text,
     value: Option<Node>,
 ) -> Result<OpenEntries, AllocError>
-    ensures more { IfOk result (λ e. map (entry_child column) e ≡ with_child (map (entry_child column) entries) (marks.key column key) (option_map node_view value)) }
+    ensures more { IfOk result (λ e. map (entry_child column) e
+        ≡ with_child (map (entry_child column) entries) (marks.key column key)
+        (option_map node_view value)) }
     ensures filled { IfOk result (λ e. 0 < length e) }
 {
     let node = or_no_text(alloc, value);
@@ -279,7 +292,9 @@ fn more_items(
     items: Nodes,
     value: Option<Node>,
 ) -> Result<Nodes, AllocError>
-    ensures { IfOk result (λ v. map (child (marks.dash column)) v.items ≡ with_child (map (child (marks.dash column)) items.items) (marks.dash column) (option_map node_view value)) }
+    ensures { IfOk result (λ v. map (child (marks.dash column)) v.items
+        ≡ with_child (map (child (marks.dash column)) items.items) (marks.dash column)
+        (option_map node_view value)) }
 {
     let node = or_no_text(alloc, value);
     let mut items = items;

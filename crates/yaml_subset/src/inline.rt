@@ -1,8 +1,23 @@
 //! Values and keys that end on their line.
 
-ghost use Rattle.std.specs.Prelude.{◌≡◌, ℕ, ◌+◌, ◌^◌, ◌<◌, ◌≤◌, ◌==◌, length, ◌∷◌, IfOk, IfSome, option_map};
+ghost use Rattle.std.specs.Prelude.{◌≡◌, ℕ, ◌+◌, ◌^◌, ◌<◌, ◌≤◌, ◌==◌, length, ◌∷◌, IfOk, IfSome};
+ghost use Rattle.std.specs.Prelude.{option_map};
 ghost use Rattle.yaml_subset.specs.FlowView.{flow_view};
-ghost use Rattle.yaml_subset.specs.Line.{is_plain_start as is_plain_start_lem, stops_plain as stops_plain_lem, plain_len as plain_len_lem, plain_value as plain_value_lem, is_quote as is_quote_lem, escape_row as escape_row_lem, quoted_value as quoted_value_lem, flow_value as flow_value_lem, empty_map as empty_map_lem, chomping_of as chomping_of_lem, is_sign as is_sign_lem, is_digit as is_digit_lem, header_tail as header_tail_lem, header_value as header_value_lem, indicator_row as indicator_row_lem, inline_value as inline_value_lem, quoted_key as quoted_key_lem, plain_key_fault as plain_key_fault_lem, plain_key as plain_key_lem, key_of as key_of_lem};
+ghost use Rattle.yaml_subset.specs.Line.{is_plain_start as is_plain_start_lem};
+ghost use Rattle.yaml_subset.specs.Line.{stops_plain as stops_plain_lem};
+ghost use Rattle.yaml_subset.specs.Line.{plain_len as plain_len_lem};
+ghost use Rattle.yaml_subset.specs.Line.{plain_value as plain_value_lem, is_quote as is_quote_lem};
+ghost use Rattle.yaml_subset.specs.Line.{escape_row as escape_row_lem};
+ghost use Rattle.yaml_subset.specs.Line.{quoted_value as quoted_value_lem};
+ghost use Rattle.yaml_subset.specs.Line.{flow_value as flow_value_lem, empty_map as empty_map_lem};
+ghost use Rattle.yaml_subset.specs.Line.{chomping_of as chomping_of_lem, is_sign as is_sign_lem};
+ghost use Rattle.yaml_subset.specs.Line.{is_digit as is_digit_lem, header_tail as header_tail_lem};
+ghost use Rattle.yaml_subset.specs.Line.{header_value as header_value_lem};
+ghost use Rattle.yaml_subset.specs.Line.{indicator_row as indicator_row_lem};
+ghost use Rattle.yaml_subset.specs.Line.{inline_value as inline_value_lem};
+ghost use Rattle.yaml_subset.specs.Line.{quoted_key as quoted_key_lem};
+ghost use Rattle.yaml_subset.specs.Line.{plain_key_fault as plain_key_fault_lem};
+ghost use Rattle.yaml_subset.specs.Line.{plain_key as plain_key_lem, key_of as key_of_lem};
 ghost use Rattle.yaml_subset.specs.LineView.{line_view, key_view};
 ghost use Rattle.yaml_subset.specs.ScanView.{quoted_view};
 
@@ -88,7 +103,8 @@ fn quoted_value(
     rest: &[u8],
     quoted: Option<Quoted>,
 ) -> Result<Line, AllocError>
-    ensures { IfOk result (λ l. line_view l ≡ quoted_value_lem column rest.now (option_map quoted_view quoted)) }
+    ensures { IfOk result (λ l. line_view l
+        ≡ quoted_value_lem column rest.now (option_map quoted_view quoted)) }
 {
     match quoted {
         None => Line::spoiled(alloc, column, Which::Quote),
@@ -229,7 +245,8 @@ pub(crate) fn inline_value(alloc: Global, column: usize, bytes: &[u8]) -> Result
 /// A quoted key, with the bytes behind its first quote: none where no colon follows it.
 fn quoted_key(rest: &[u8], quoted: Option<Quoted>) -> Option<Key>
     requires { IfSome quoted (λ q. q.length ≤ length rest.now) }
-    ensures value { option_map key_view result ≡ quoted_key_lem rest.now (option_map quoted_view quoted) }
+    ensures value { option_map key_view result
+        ≡ quoted_key_lem rest.now (option_map quoted_view quoted) }
     ensures within { IfSome result (λ k. k.length ≤ length rest.now + 1) }
 {
     match quoted {

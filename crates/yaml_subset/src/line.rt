@@ -1,10 +1,19 @@
 //! A line by itself: its marks, and the first row that it meets.
 
-ghost use Rattle.std.specs.Prelude.{◌≡◌, ◌+◌, ◌^◌, ◌<◌, ◌≤◌, length, IfOk, IfSome, option_map, nat_eq};
+ghost use Rattle.std.specs.Prelude.{◌≡◌, ◌+◌, ◌^◌, ◌<◌, ◌≤◌, length, IfOk, IfSome, option_map};
+ghost use Rattle.std.specs.Prelude.{nat_eq};
 ghost use Rattle.std.specs.List.{starts_with};
 ghost use Rattle.yaml_subset.specs.Mark as keys;
-ghost use Rattle.yaml_subset.specs.Line.{behind_colon as behind_colon_lem, entry_or_value as entry_or_value_lem, tab_row as tab_row_lem, content as content_lem, one_mark, key_of as key_of_list, begins_as_marker as begins_as_marker_lem, is_marker as is_marker_lem, marker_line as marker_line_lem, filled_line as filled_line_lem, line_of as line_of_lem};
-ghost use Rattle.yaml_subset.specs.LineView.{line_view, key_view, mark_view, blank_seen, dash_seen, ahead_of};
+ghost use Rattle.yaml_subset.specs.Line.{behind_colon as behind_colon_lem};
+ghost use Rattle.yaml_subset.specs.Line.{entry_or_value as entry_or_value_lem};
+ghost use Rattle.yaml_subset.specs.Line.{tab_row as tab_row_lem, content as content_lem, one_mark};
+ghost use Rattle.yaml_subset.specs.Line.{key_of as key_of_list};
+ghost use Rattle.yaml_subset.specs.Line.{begins_as_marker as begins_as_marker_lem};
+ghost use Rattle.yaml_subset.specs.Line.{is_marker as is_marker_lem};
+ghost use Rattle.yaml_subset.specs.Line.{marker_line as marker_line_lem};
+ghost use Rattle.yaml_subset.specs.Line.{filled_line as filled_line_lem, line_of as line_of_lem};
+ghost use Rattle.yaml_subset.specs.LineView.{line_view, key_view, mark_view, blank_seen, dash_seen};
+ghost use Rattle.yaml_subset.specs.LineView.{ahead_of};
 
 use crate::bytes::{
     blanks, byte_at, ends_word, from, has_control, is_blank, is_blank_byte, is_tail, spaces,
@@ -42,7 +51,8 @@ fn entry_or_value(
 ) -> Result<Line, AllocError>
     requires fits { column + length bytes.now < 2 ^ 64 }
     requires within { IfSome key (λ k. k.length ≤ length bytes.now) }
-    ensures { IfOk result (λ l. line_view l ≡ entry_or_value_lem column bytes.now (option_map key_view key)) }
+    ensures { IfOk result (λ l. line_view l
+        ≡ entry_or_value_lem column bytes.now (option_map key_view key)) }
 {
     match key {
         None => inline_value(alloc, column, bytes),
@@ -89,7 +99,8 @@ fn with_dash(line: Line, column: usize) -> Result<Line, AllocError>
 /// The entry or value from a column on.
 fn entry(alloc: Global, column: usize, bytes: &[u8]) -> Result<Line, AllocError>
     requires { column + length bytes.now < 2 ^ 64 }
-    ensures { IfOk result (λ l. line_view l ≡ entry_or_value_lem column bytes.now (key_of_list bytes.now)) }
+    ensures { IfOk result (λ l. line_view l
+        ≡ entry_or_value_lem column bytes.now (key_of_list bytes.now)) }
 {
     let key = key_of(alloc, bytes)?;
     entry_or_value(alloc, column, bytes, key)

@@ -30,7 +30,8 @@ pub(crate) struct Line {
 
 impl Line {
     ghost use Rattle.std.specs.Prelude.{◌≡◌, ℕ, List, IfOk};
-    ghost use Rattle.yaml_subset.specs.Line.{no_marks, faulty as faulty_lem, one_mark, spoiled as spoiled_lem};
+    ghost use Rattle.yaml_subset.specs.Line.{no_marks, faulty as faulty_lem, one_mark};
+    ghost use Rattle.yaml_subset.specs.Line.{spoiled as spoiled_lem};
     ghost use Rattle.yaml_subset.specs.LineView.{line_view, mark_view, joined};
 
     /// A line with nothing on it.

@@ -1,13 +1,19 @@
 //! The nodes that are open after some marks.
 
-ghost use Rattle.std.specs.Prelude.{◌≡◌, ℕ, cond, [], true, false, ◌+◌, ◌-◌, ◌==◌, ◌<◌, ◌≤◌, Option, Some, None, IfOk, IfErr, length, take, drop, vec_len, option_map, map};
+ghost use Rattle.std.specs.Prelude.{◌≡◌, ℕ, cond, [], true, false, ◌+◌, ◌-◌, ◌==◌, ◌<◌, ◌≤◌};
+ghost use Rattle.std.specs.Prelude.{Option, Some, None, IfOk, IfErr, length, take, drop, vec_len};
+ghost use Rattle.std.specs.Prelude.{option_map, map};
 ghost use Rattle.yaml_subset.specs.Mark as marks;
 ghost use Rattle.yaml_subset.specs.Profile.{max_depth, is_next, has_room as has_room_lem};
-ghost use Rattle.yaml_subset.specs.OpenNodes.{closed, add as add_lem, begun, finished as finished_lem, nothing, within};
+ghost use Rattle.yaml_subset.specs.OpenNodes.{closed, add as add_lem, begun};
+ghost use Rattle.yaml_subset.specs.OpenNodes.{finished as finished_lem, nothing, within};
 ghost use Rattle.yaml_subset.specs.Fault.{row_of_mark, column as column_lem};
 ghost use Rattle.yaml_subset.specs.NodeView.{node_view, nodes_view};
 ghost use Rattle.yaml_subset.specs.LineView.{mark_view};
-ghost use Rattle.yaml_subset.specs.OpenView.{head_of, done_of, open_of, last_view, stream_of, next_place as next_place_lem, last_head, any_at as any_at_lem, is_nothing as is_nothing_lem, ClosesOne, BeginsAs};
+ghost use Rattle.yaml_subset.specs.OpenView.{head_of, done_of, open_of, last_view, stream_of};
+ghost use Rattle.yaml_subset.specs.OpenView.{next_place as next_place_lem, last_head};
+ghost use Rattle.yaml_subset.specs.OpenView.{any_at as any_at_lem, is_nothing as is_nothing_lem};
+ghost use Rattle.yaml_subset.specs.OpenView.{ClosesOne, BeginsAs};
 ghost use Rattle.yaml_subset.specs.StopView.{Refuses, nodes_open};
 
 use crate::block::Block;
@@ -18,7 +24,8 @@ use crate::node::{Node, Nodes, is_scalar};
 use crate::which::Which;
 use std::alloc::{AllocError, AllocFailed, Global};
 
-/// How deep maps and lists are nested at most, the root's node being 1: what OpenSLO's objects need, with room.
+/// How deep maps and lists are nested at most, the root's node being 1: what OpenSLO's objects
+/// need, with room.
 pub(crate) const MAX_DEPTH: usize = 32;
 
 /// Why a mark wasn't taken.
@@ -50,7 +57,8 @@ impl<T: Drop> From<AllocFailed<T>> for Stop {
     }
 }
 
-/// The finished documents, the open maps and lists, the outermost first, and what stands in the innermost.
+/// The finished documents, the open maps and lists, the outermost first, and what stands in the
+/// innermost.
 #[derive(Drop)]
 pub(crate) struct OpenNodes {
     pub(crate) documents: Nodes,
@@ -84,7 +92,8 @@ fn next_place(frames: &[Frame], mark: &Mark) -> usize
 fn close_one(alloc: Global, frames: Vec<Frame>, value: Option<Node>) -> Result<Closed, AllocError>
     requires { 0 < vec_len frames }
     ensures fewer { IfOk result (λ c. vec_len c.frames + 1 ≡ vec_len frames) }
-    ensures closes { IfOk result (λ c. ClosesOne frames.items (option_map node_view value) c.frames.items (option_map node_view c.value)) }
+    ensures closes { IfOk result (λ c. ClosesOne frames.items (option_map node_view value)
+        c.frames.items (option_map node_view c.value)) }
 {
     let mut frames = frames;
     match frames.pop() {
@@ -108,7 +117,8 @@ fn close_above(
 ) -> Result<Closed, AllocError>
     requires { keep ≤ vec_len frames }
     ensures kept { IfOk result (λ c. c.frames.items ≡ take keep frames.items) }
-    ensures value { IfOk result (λ c. option_map node_view c.value ≡ closed (open_of (drop keep frames.items) (last_view last))) }
+    ensures value { IfOk result (λ c. option_map node_view c.value
+        ≡ closed (open_of (drop keep frames.items) (last_view last))) }
 {
     let end = frames.len();
     let mut closed = Closed {
@@ -132,7 +142,8 @@ fn is_nothing(last: &Last) -> bool
     }
 }
 
-/// Whether a node that begins with a mark has room behind the last mark of the innermost map or list.
+/// Whether a node that begins with a mark has room behind the last mark of the innermost map or
+/// list.
 #[tactic(auto, using(crate::proofs::OpenViewLemmas::last_head_at))]
 fn has_room(frames: &[Frame], mark: &Mark) -> bool
     ensures { result ≡ has_room_lem (last_head marks.start frames.now) (mark_view mark.now) }
@@ -161,7 +172,8 @@ fn any_at(frames: &[Frame], at: Option<usize>) -> bool
 
 /// Whether a node that begins with a mark may begin within the innermost map or list.
 fn may_begin(frames: &[Frame], last: &Last, mark: &Mark) -> bool
-    ensures { result ≡ cond (is_nothing_lem last.now) (has_room_lem (last_head marks.start frames.now) (mark_view mark.now)) false }
+    ensures { result ≡ cond (is_nothing_lem last.now)
+        (has_room_lem (last_head marks.start frames.now) (mark_view mark.now)) false }
 {
     if is_nothing(last) {
         has_room(frames, mark)
@@ -172,7 +184,9 @@ fn may_begin(frames: &[Frame], last: &Last, mark: &Mark) -> bool
 
 /// The row of a mark that goes on in no open map or list.
 fn row_of(frames: &[Frame], last: &Last, mark: &Mark) -> Which
-    ensures { result ≡ cond (cond (is_nothing_lem last.now) (has_room_lem (last_head marks.start frames.now) (mark_view mark.now)) false) Which.TooDeep (cond (any_at_lem (column_lem (mark_view mark.now)) frames.now) Which.Colon Which.Indent) }
+    ensures { result ≡ cond (cond (is_nothing_lem last.now)
+        (has_room_lem (last_head marks.start frames.now) (mark_view mark.now)) false) Which.TooDeep
+        (cond (any_at_lem (column_lem (mark_view mark.now)) frames.now) Which.Colon Which.Indent) }
 {
     if may_begin(frames, last, mark) {
         Which::TooDeep
@@ -185,7 +199,8 @@ fn row_of(frames: &[Frame], last: &Last, mark: &Mark) -> Which
 
 /// One more open map or list, with nothing in it yet.
 fn with_frame(documents: Nodes, frames: Vec<Frame>, frame: Frame) -> Result<OpenNodes, AllocError>
-    ensures { IfOk result (λ o. nodes_open o ≡ stream_of documents.items frames.items (within (head_of frame) (done_of frame) nothing)) }
+    ensures { IfOk result (λ o. nodes_open o
+        ≡ stream_of documents.items frames.items (within (head_of frame) (done_of frame) nothing)) }
 {
     let mut frames = frames;
     frames.push(frame)?;
@@ -200,8 +215,11 @@ fn with_frame(documents: Nodes, frames: Vec<Frame>, frame: Frame) -> Result<Open
 #[tactic(auto, using(crate::proofs::OpenViewLemmas::begun_lemmas))]
 fn begin(alloc: Global, documents: Nodes, frames: Vec<Frame>, mark: Mark) -> Result<OpenNodes, Stop>
     requires { is_next marks.start (mark_view mark) ≡ false }
-    ensures ok { IfOk result (λ o. BeginsAs documents.items frames.items (begun (max_depth - length frames.items) (mark_view mark)) (nodes_open o)) }
-    ensures refused { IfErr result (λ s. Refuses s (λ w. (begun (max_depth - length frames.items) (mark_view mark) ≡ None) × (w ≡ Which.TooDeep))) }
+    ensures ok { IfOk result (λ o. BeginsAs documents.items frames.items
+        (begun (max_depth - length frames.items) (mark_view mark)) (nodes_open o)) }
+    ensures refused { IfErr result (λ s. Refuses s
+        (λ w. (begun (max_depth - length frames.items) (mark_view mark) ≡ None)
+        × (w ≡ Which.TooDeep))) }
 {
     let is_full = frames.len() >= MAX_DEPTH;
     match mark {
@@ -247,8 +265,11 @@ fn go_on(alloc: Global, nodes: OpenNodes, at: usize, mark: Mark) -> Result<OpenN
     requires place { next_place_lem (mark_view mark) nodes.frames.items ≡ at }
     requires inside { at < vec_len nodes.frames }
     requires no_start { is_next marks.start (mark_view mark) ≡ false }
-    ensures ok { IfOk result (λ o. add_lem (mark_view mark) (nodes_open nodes) ≡ Some (nodes_open o)) }
-    ensures refused { IfErr result (λ s. Refuses s (λ w. (add_lem (mark_view mark) (nodes_open nodes) ≡ None) × (row_of_mark (mark_view mark) (nodes_open nodes) ≡ w))) }
+    ensures ok { IfOk result (λ o. add_lem (mark_view mark) (nodes_open nodes)
+        ≡ Some (nodes_open o)) }
+    ensures refused { IfErr result (λ s. Refuses s
+        (λ w. (add_lem (mark_view mark) (nodes_open nodes) ≡ None)
+        × (row_of_mark (mark_view mark) (nodes_open nodes) ≡ w))) }
 {
     let OpenNodes {
         documents,
@@ -295,10 +316,14 @@ fn next_document(alloc: Global, nodes: OpenNodes) -> Result<OpenNodes, Stop>
 
 /// A node begins within the innermost frame, or the mark has no place.
 fn begin_or_refuse(alloc: Global, nodes: OpenNodes, mark: Mark) -> Result<OpenNodes, Stop>
-    requires place { next_place_lem (mark_view mark) nodes.frames.items ≡ length nodes.frames.items }
+    requires place { next_place_lem (mark_view mark) nodes.frames.items
+        ≡ length nodes.frames.items }
     requires no_start { is_next marks.start (mark_view mark) ≡ false }
-    ensures ok { IfOk result (λ o. add_lem (mark_view mark) (nodes_open nodes) ≡ Some (nodes_open o)) }
-    ensures refused { IfErr result (λ s. Refuses s (λ w. (add_lem (mark_view mark) (nodes_open nodes) ≡ None) × (row_of_mark (mark_view mark) (nodes_open nodes) ≡ w))) }
+    ensures ok { IfOk result (λ o. add_lem (mark_view mark) (nodes_open nodes)
+        ≡ Some (nodes_open o)) }
+    ensures refused { IfErr result (λ s. Refuses s
+        (λ w. (add_lem (mark_view mark) (nodes_open nodes) ≡ None)
+        × (row_of_mark (mark_view mark) (nodes_open nodes) ≡ w))) }
 {
     if may_begin(&nodes.frames, &nodes.last, &mark) {
         begin(alloc, nodes.documents, nodes.frames, mark)
@@ -322,8 +347,11 @@ impl OpenNodes {
 
     /// The open nodes after one more mark.
     pub(crate) fn add(self, alloc: Global, mark: Mark) -> Result<OpenNodes, Stop>
-        ensures ok { IfOk result (λ o. add_lem (mark_view mark) (nodes_open self) ≡ Some (nodes_open o)) }
-        ensures refused { IfErr result (λ s. Refuses s (λ w. (add_lem (mark_view mark) (nodes_open self) ≡ None) × (row_of_mark (mark_view mark) (nodes_open self) ≡ w))) }
+        ensures ok { IfOk result (λ o. add_lem (mark_view mark) (nodes_open self)
+            ≡ Some (nodes_open o)) }
+        ensures refused { IfErr result (λ s. Refuses s
+            (λ w. (add_lem (mark_view mark) (nodes_open self) ≡ None)
+            × (row_of_mark (mark_view mark) (nodes_open self) ≡ w))) }
     {
         if mark.is_start() {
             return next_document(alloc, self);
@@ -338,8 +366,11 @@ impl OpenNodes {
 
     /// The open nodes after one more line of the block scalar that stands in the innermost.
     pub(crate) fn add_raw(self, line: &[u8]) -> Result<OpenNodes, Stop>
-        ensures ok { IfOk result (λ o. add_lem (marks.raw line.now) (nodes_open self) ≡ Some (nodes_open o)) }
-        ensures refused { IfErr result (λ s. Refuses s (λ w. (add_lem (marks.raw line.now) (nodes_open self) ≡ None) × (row_of_mark (marks.raw line.now) (nodes_open self) ≡ w))) }
+        ensures ok { IfOk result (λ o. add_lem (marks.raw line.now) (nodes_open self)
+            ≡ Some (nodes_open o)) }
+        ensures refused { IfErr result (λ s. Refuses s
+            (λ w. (add_lem (marks.raw line.now) (nodes_open self) ≡ None)
+            × (row_of_mark (marks.raw line.now) (nodes_open self) ≡ w))) }
     {
         let OpenNodes {
             documents,

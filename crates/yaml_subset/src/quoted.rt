@@ -2,13 +2,15 @@
 
 ghost use Rattle.std.specs.Prelude.{◌≡◌, ◌+◌, ◌^◌, ◌<◌, ◌≤◌, length, IfOk, IfSome, option_map};
 ghost use Rattle.yaml_subset.specs.Quoted.{escaped as escaped_lem, quoted as quoted_lem};
-ghost use Rattle.yaml_subset.specs.Scan.{step_of as step_of_lem, advanced, inside, scan, scan_end, scan_start};
+ghost use Rattle.yaml_subset.specs.Scan.{step_of as step_of_lem, advanced, inside, scan, scan_end};
+ghost use Rattle.yaml_subset.specs.Scan.{scan_start};
 ghost use Rattle.yaml_subset.specs.ScanView.{scan_view, quoted_view};
 
 use crate::bytes::byte_at;
 use std::alloc::{AllocError, Global};
 
-/// A quoted scalar: its text, the bytes that it takes behind its first quote, and whether an escape in it is none.
+/// A quoted scalar: its text, the bytes that it takes behind its first quote, and whether an escape
+/// in it is none.
 #[derive(Debug, Drop)]
 pub(crate) struct Quoted {
     pub(crate) text: Vec<u8>,

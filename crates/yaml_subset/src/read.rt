@@ -1,6 +1,7 @@
 //! The reading of whole texts.
 
-ghost use Rattle.std.specs.Prelude.{◌≡◌, List, ◌+◌, ◌≤◌, ◌<◌, IfOk, IfErr, map, length, drop, nat_eq, [], None};
+ghost use Rattle.std.specs.Prelude.{◌≡◌, List, ◌+◌, ◌≤◌, ◌<◌, IfOk, IfErr, map, length, drop};
+ghost use Rattle.std.specs.Prelude.{nat_eq, [], None};
 ghost use Rattle.std.specs.List.{starts_with};
 ghost use Rattle.std.specs.Str.{IsValidUpTo, IsErrorLen};
 ghost use Rattle.std.specs.Str.Lossy.{utf8_error_len};
@@ -26,10 +27,12 @@ pub const MAX_BYTES: usize = 1_048_576;
 pub enum YamlFault {
     /// It has more than `MAX_BYTES` bytes.
     TooLarge,
-    /// It isn't UTF-8: the place of the first byte that no UTF-8 text can have there, the first byte's being 0.
+    /// It isn't UTF-8: the place of the first byte that no UTF-8 text can have there, the first
+    /// byte's being 0.
     /// The text's length where it ends inside a character.
     NotUtf8(usize),
-    /// Its first lines up to this one, the first being 1, are no text of the profile, and that line meets this row.
+    /// Its first lines up to this one, the first being 1, are no text of the profile, and that line
+    /// meets this row.
     Form { line: usize, which: Which },
     /// Memory ran out.
     NoMemory,
@@ -48,7 +51,8 @@ fn at_start(alloc: Global) -> Reader
 
 /// Reads lines.
 fn read_lines(alloc: Global, lines: &[&str]) -> Result<Nodes, YamlFault>
-    ensures found { IfOk result (λ xs. nodes_of (map (λ x. x.now) lines.now) ≡ Some (nodes_view xs.items)) }
+    ensures found { IfOk result (λ xs. nodes_of (map (λ x. x.now) lines.now)
+        ≡ Some (nodes_view xs.items)) }
     ensures fault { IfErr result (λ f. NamesLine (map (λ x. x.now) lines.now) f) }
 {
     let mut reader = at_start(alloc);
@@ -99,7 +103,8 @@ fn read_text(alloc: Global, text: &str) -> Result<Nodes, YamlFault>
     }
 }
 
-/// The place of the first byte that no UTF-8 text can have there, behind a longest front that is UTF-8.
+/// The place of the first byte that no UTF-8 text can have there, behind a longest front that is
+/// UTF-8.
 fn bad_place(bytes: &[u8], valid: usize, bad: Option<usize>) -> usize
     requires front { IsValidUpTo bytes.now valid }
     requires fault { bad ≡ utf8_error_len (drop valid bytes.now) }
@@ -126,7 +131,8 @@ pub fn read_documents(alloc: Global, text: &[u8]) -> Result<Nodes, YamlFault>
     ensures too_large { MAX_BYTES < length text.now → result ≡ Err YamlFault.TooLarge }
 
     // A text that stands for nodes is read, unless memory is wanting.
-    ensures taken { (xs : List Tree) → StandsFor text.now xs → IfErr result (λ f. f ≡ YamlFault.NoMemory) }
+    ensures taken { (xs : List Tree) → StandsFor text.now xs
+        → IfErr result (λ f. f ≡ YamlFault.NoMemory) }
 {
     read_checked(alloc, text)
 }

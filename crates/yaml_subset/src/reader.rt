@@ -1,9 +1,12 @@
 //! The reader: what is kept after some lines, and one more line.
 
 ghost use Rattle.std.specs.Prelude.{◌≡◌, IfOk, IfErr, None, Some, map, true, false};
-ghost use Rattle.yaml_subset.specs.Text.{parent_at as parent_at_lem, parent_after as parent_after_lem, header_scalar as header_scalar_lem, takes as takes_lem};
+ghost use Rattle.yaml_subset.specs.Text.{parent_at as parent_at_lem};
+ghost use Rattle.yaml_subset.specs.Text.{parent_after as parent_after_lem};
+ghost use Rattle.yaml_subset.specs.Text.{header_scalar as header_scalar_lem, takes as takes_lem};
 ghost use Rattle.yaml_subset.specs.Fault.{misfit, row_of};
-ghost use Rattle.yaml_subset.specs.Reader.{add_all as add_all_lem, header_folds, scalar_behind as scalar_behind_lem, Follows};
+ghost use Rattle.yaml_subset.specs.Reader.{add_all as add_all_lem, header_folds};
+ghost use Rattle.yaml_subset.specs.Reader.{scalar_behind as scalar_behind_lem, Follows};
 ghost use Rattle.yaml_subset.specs.LineView.{mark_view};
 ghost use Rattle.yaml_subset.specs.Rows.{earlier as earlier_lem};
 ghost use Rattle.yaml_subset.specs.ReaderView.{reading};
@@ -78,8 +81,10 @@ fn header_scalar(parent: Option<usize>, marks: &[Mark]) -> Option<Scalar>
 
 /// The open nodes after the marks of a line, or the row of the first that has no place.
 fn add_all(alloc: Global, nodes: OpenNodes, marks: Vec<Mark>) -> Result<OpenNodes, Stop>
-    ensures ok { IfOk result (λ o. (add_all_lem (map mark_view marks.items) (nodes_open nodes) ≡ Some (nodes_open o)) × (misfit (map mark_view marks.items) (nodes_open nodes) ≡ None)) }
-    ensures refused { IfErr result (λ s. Refuses s (λ w. misfit (map mark_view marks.items) (nodes_open nodes) ≡ Some w)) }
+    ensures ok { IfOk result (λ o. (add_all_lem (map mark_view marks.items) (nodes_open nodes)
+        ≡ Some (nodes_open o)) × (misfit (map mark_view marks.items) (nodes_open nodes) ≡ None)) }
+    ensures refused { IfErr result (λ s. Refuses s
+        (λ w. misfit (map mark_view marks.items) (nodes_open nodes) ≡ Some w)) }
 {
     let mut nodes = nodes;
     for mark in marks {
@@ -103,7 +108,8 @@ fn read_raw(reader: Reader, scalar: Scalar, line: &[u8]) -> Result<Reader, Stop>
     requires taken { takes_lem reader.scalar line.now ≡ true }
     requires it { reader.scalar ≡ Some scalar }
     ensures ok { IfOk result (λ r. Follows (reading reader) line.now (reading r)) }
-    ensures refused { IfErr result (λ s. Refuses s (λ w. row_of reader.scalar (nodes_open reader.nodes) line.now ≡ Some w)) }
+    ensures refused { IfErr result (λ s. Refuses s
+        (λ w. row_of reader.scalar (nodes_open reader.nodes) line.now ≡ Some w)) }
 {
     let fault = raw_fault(scalar, line);
     match reader.nodes.add_raw(line) {
@@ -124,7 +130,8 @@ fn read_raw(reader: Reader, scalar: Scalar, line: &[u8]) -> Result<Reader, Stop>
 fn read_own(alloc: Global, reader: Reader, line: &[u8]) -> Result<Reader, Stop>
     requires { takes_lem reader.scalar line.now ≡ false }
     ensures ok { IfOk result (λ r. Follows (reading reader) line.now (reading r)) }
-    ensures refused { IfErr result (λ s. Refuses s (λ w. row_of reader.scalar (nodes_open reader.nodes) line.now ≡ Some w)) }
+    ensures refused { IfErr result (λ s. Refuses s
+        (λ w. row_of reader.scalar (nodes_open reader.nodes) line.now ≡ Some w)) }
 {
     let Line { marks, fault } = line_of(alloc, line)?;
     let parent = parent_after(reader.parent, &marks);
@@ -162,7 +169,8 @@ fn first_of(fault: Option<Which>, which: Which) -> Which
 /// One more line.
 pub(crate) fn read_line(alloc: Global, reader: Reader, line: &[u8]) -> Result<Reader, Stop>
     ensures ok { IfOk result (λ r. Follows (reading reader) line.now (reading r)) }
-    ensures refused { IfErr result (λ s. Refuses s (λ w. row_of reader.scalar (nodes_open reader.nodes) line.now ≡ Some w)) }
+    ensures refused { IfErr result (λ s. Refuses s
+        (λ w. row_of reader.scalar (nodes_open reader.nodes) line.now ≡ Some w)) }
 {
     match reader.scalar {
         None => read_own(alloc, reader, line),

@@ -1,7 +1,13 @@
 //! A block scalar that may take the next line.
 
 ghost use Rattle.std.specs.Prelude.{◌≡◌, Some};
-ghost use Rattle.yaml_subset.specs.Text.{is_content as is_content_lem, takes as takes_lem, indent_of as indent_of_lem, behind_indent as behind_indent_lem, is_more_indented as is_more_indented_lem, has_early_tab as has_early_tab_lem, raw_fault as raw_fault_lem, scalar_with as scalar_with_lem};
+ghost use Rattle.yaml_subset.specs.Text.{is_content as is_content_lem, takes as takes_lem};
+ghost use Rattle.yaml_subset.specs.Text.{indent_of as indent_of_lem};
+ghost use Rattle.yaml_subset.specs.Text.{behind_indent as behind_indent_lem};
+ghost use Rattle.yaml_subset.specs.Text.{is_more_indented as is_more_indented_lem};
+ghost use Rattle.yaml_subset.specs.Text.{has_early_tab as has_early_tab_lem};
+ghost use Rattle.yaml_subset.specs.Text.{raw_fault as raw_fault_lem};
+ghost use Rattle.yaml_subset.specs.Text.{scalar_with as scalar_with_lem};
 
 use crate::bytes::{blanks, from, has_control, is_blank, spaces};
 use crate::line::is_marker;

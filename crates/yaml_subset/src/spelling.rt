@@ -4,7 +4,8 @@ ghost use Rattle.std.specs.Prelude.{◌≡◌, IfOk, map};
 ghost use Rattle.yaml_subset.specs.Tree.{trees};
 ghost use Rattle.yaml_subset.specs.Spelling.{spelled as spelled_lem, fields_spelled, items_spelled};
 ghost use Rattle.yaml_subset.specs.NodeView.{node_view};
-ghost use Rattle.yaml_subset.specs.SpellingView.{spelling_view, fields_view, items_view, entries_view};
+ghost use Rattle.yaml_subset.specs.SpellingView.{spelling_view, fields_view, items_view};
+ghost use Rattle.yaml_subset.specs.SpellingView.{entries_view};
 
 use crate::copy::copy_text;
 use crate::node::{Node, Nodes, Pairs};
@@ -49,7 +50,8 @@ pub fn spelled(alloc: Global, node: &Node) -> Result<Spelling, AllocError>
 /// The fields of a map, in the order of its entries.
 #[cycle(spelled)]
 fn spelled_fields(alloc: Global, entries: &Pairs) -> Result<Vec<(FieldKey, Spelling)>, AllocError>
-    ensures { IfOk result (λ v. fields_view v.items ≡ fields_spelled (entries_view entries.now.items)) }
+    ensures { IfOk result (λ v. fields_view v.items
+        ≡ fields_spelled (entries_view entries.now.items)) }
 {
     let mut fields = Vec::new(alloc);
     for entry in entries {
@@ -63,7 +65,8 @@ fn spelled_fields(alloc: Global, entries: &Pairs) -> Result<Vec<(FieldKey, Spell
 /// The items of a list.
 #[cycle(spelled)]
 fn spelled_items(alloc: Global, nodes: &Nodes) -> Result<Vec<Spelling>, AllocError>
-    ensures { IfOk result (λ v. items_view v.items ≡ items_spelled (trees (map node_view nodes.now.items))) }
+    ensures { IfOk result (λ v. items_view v.items
+        ≡ items_spelled (trees (map node_view nodes.now.items))) }
 {
     let mut items = Vec::new(alloc);
     for node in nodes {
@@ -75,7 +78,8 @@ fn spelled_items(alloc: Global, nodes: &Nodes) -> Result<Vec<Spelling>, AllocErr
 
 /// A scalar, plain where it was written plain.
 fn spelled_scalar(alloc: Global, text: &Text, plain: bool) -> Result<Spelling, AllocError>
-    ensures { IfOk result (λ s. spelling_view s ≡ spelled_lem (node_view (Node.Scalar text.now plain))) }
+    ensures { IfOk result (λ s. spelling_view s
+        ≡ spelled_lem (node_view (Node.Scalar text.now plain))) }
 {
     let text = copy_text(alloc, text)?;
     if plain {

@@ -3,7 +3,8 @@
 ghost use Rattle.std.specs.Prelude.{◌≡◌};
 ghost use Rattle.yaml_subset.specs.Rows.{earlier as earlier_lem};
 
-/// Why a line has no place after the lines before it. A line that meets several rows is named by the first.
+/// Why a line has no place after the lines before it. A line that meets several rows is named by
+/// the first.
 #[derive(Clone, Copy, Debug, PartialEq, Eq, Drop)]
 pub enum Which {
     /// A character below U+0020 other than a tab, or U+007F; a CR is one unless an LF follows it.

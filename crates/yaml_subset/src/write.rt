@@ -1,13 +1,19 @@
 //! The canonical writing.
 
-ghost use Rattle.std.specs.Prelude.{◌≡◌, ◌≤◌, ◌+◌, ◌*◌, ◌^◌, ℕ, false, ◌++◌, ◌∷◌, [], length, cond, replicate, OnOk, OnErr};
+ghost use Rattle.std.specs.Prelude.{◌≡◌, ◌≤◌, ◌+◌, ◌*◌, ◌^◌, ℕ, false, ◌++◌, ◌∷◌, [], length, cond};
+ghost use Rattle.std.specs.Prelude.{replicate, OnOk, OnErr};
 ghost use Rattle.std.specs.List.{flat_map};
 ghost use Rattle.yaml_subset.specs.Profile.{max_depth};
 ghost use Rattle.yaml_subset.specs.Text.{StandsFor, max_bytes};
-ghost use Rattle.yaml_subset.specs.Spelling.{meant, spelled as spelled_lem, escape_of, in_quotes, key_text, spaces as spaces_lem, step, gap_at_colon, gap_at_dash, written, written_fields, written_items, writing, is_word};
+ghost use Rattle.yaml_subset.specs.Spelling.{meant, spelled as spelled_lem, escape_of, in_quotes};
+ghost use Rattle.yaml_subset.specs.Spelling.{key_text, spaces as spaces_lem, step, gap_at_colon};
+ghost use Rattle.yaml_subset.specs.Spelling.{gap_at_dash, written, written_fields, written_items};
+ghost use Rattle.yaml_subset.specs.Spelling.{writing, is_word};
 ghost use Rattle.yaml_subset.specs.Fits.{Fits, FitFields, FitItems, IsWritable};
 ghost use Rattle.yaml_subset.specs.NodeView.{node_view};
-ghost use Rattle.yaml_subset.specs.SpellingView.{is_quoted, text_of, is_no_text as is_no_text_lem, has_lines as has_lines_lem, spelling_view, fields_view, items_view};
+ghost use Rattle.yaml_subset.specs.SpellingView.{is_quoted, text_of, is_no_text as is_no_text_lem};
+ghost use Rattle.yaml_subset.specs.SpellingView.{has_lines as has_lines_lem, spelling_view};
+ghost use Rattle.yaml_subset.specs.SpellingView.{fields_view, items_view};
 
 use crate::node::Node;
 use crate::open::MAX_DEPTH;
@@ -58,7 +64,8 @@ fn write_quoted(out: &mut Vec<u8>, text: &[u8]) -> Result<(), AllocError>
 
 /// Writes the key of a field, without its colon.
 fn write_key(out: &mut Vec<u8>, key: &FieldKey) -> Result<(), AllocError>
-    ensures { OnOk result (out.new.items ≡ out.old.items ++ key_text (is_quoted key.now) (text_of key.now)) }
+    ensures { OnOk result (out.new.items ≡ out.old.items
+        ++ key_text (is_quoted key.now) (text_of key.now)) }
 {
     match key {
         FieldKey::Plain(text) => out.extend_from_slice(text.as_bytes()),
@@ -90,7 +97,8 @@ fn has_lines(value: &Spelling) -> bool
 /// Writes what stands between the colon of a key at a column and its value.
 fn write_gap_at_colon(out: &mut Vec<u8>, value: &Spelling, column: usize) -> Result<(), AllocError>
     requires { column ≤ 2 ^ 33 }
-    ensures { OnOk result (out.new.items ≡ out.old.items ++ gap_at_colon column (spelling_view value.now)) }
+    ensures { OnOk result (out.new.items ≡ out.old.items
+        ++ gap_at_colon column (spelling_view value.now)) }
 {
     if is_no_text(value) {
         Ok(())
@@ -139,7 +147,8 @@ fn write_value(
 ) -> Result<(), AllocError>
     requires bounded { column + 2 * levels ≤ 2 ^ 33 }
     requires fits { Fits levels (spelling_view value.now) }
-    ensures { OnOk result (out.new.items ≡ out.old.items ++ written [] column (spelling_view value.now)) }
+    ensures { OnOk result (out.new.items ≡ out.old.items
+        ++ written [] column (spelling_view value.now)) }
 {
     match value {
         Spelling::Word(text) => write_line(out, text.as_bytes()),
@@ -171,7 +180,8 @@ fn write_fields(
 ) -> Result<(), AllocError>
     requires bounded { column + 2 * levels + 2 ≤ 2 ^ 33 }
     requires fits { FitFields levels (fields_view fields.now.items) }
-    ensures { OnOk result (out.new.items ≡ out.old.items ++ written_fields [] column (fields_view fields.now.items)) }
+    ensures { OnOk result (out.new.items ≡ out.old.items
+        ++ written_fields [] column (fields_view fields.now.items)) }
 {
     let mut lead = 0;
     for field in fields {
@@ -195,7 +205,8 @@ fn write_items(
 ) -> Result<(), AllocError>
     requires bounded { column + 2 * levels + 2 ≤ 2 ^ 33 }
     requires fits { FitItems levels (items_view items.now.items) }
-    ensures { OnOk result (out.new.items ≡ out.old.items ++ written_items [] column (items_view items.now.items)) }
+    ensures { OnOk result (out.new.items ≡ out.old.items
+        ++ written_items [] column (items_view items.now.items)) }
 {
     let mut lead = 0;
     for item in items {
@@ -215,11 +226,15 @@ fn write_items(
 /// it has at most `MAX_BYTES` bytes. The error is want of memory, and leaves all as it was.
 pub fn write_spelling(out: &mut Vec<u8>, value: &Spelling, indent: u32) -> Result<(), AllocError>
     requires { Fits max_depth (spelling_view value.now) }
-    ensures exact { OnOk result (out.new.items ≡ out.old.items ++ writing indent (spelling_view value.now)) }
+    ensures exact { OnOk result (out.new.items
+        ≡ out.old.items ++ writing indent (spelling_view value.now)) }
     ensures kept { OnErr result (out.new.items ≡ out.old.items) }
 
     // What is written with no spaces before its lines stands for the node alone.
-    ensures alone { OnOk result (indent ≡ 0 → is_word (spelling_view value.now) ≡ false → length (writing indent (spelling_view value.now)) ≤ max_bytes → StandsFor (writing indent (spelling_view value.now)) (meant (spelling_view value.now) ∷ [])) }
+    ensures alone { OnOk result (indent ≡ 0 → is_word (spelling_view value.now) ≡ false
+        → length (writing indent (spelling_view value.now)) ≤ max_bytes
+        → StandsFor (writing indent (spelling_view value.now))
+        (meant (spelling_view value.now) ∷ [])) }
 {
     let mut text = Vec::new(*out.allocator());
     let column = indent as usize;
@@ -237,11 +252,14 @@ pub fn write_spelling(out: &mut Vec<u8>, value: &Spelling, indent: u32) -> Resul
 /// at most `MAX_BYTES` bytes. The error is want of memory, and leaves all as it was.
 pub fn write_node(out: &mut Vec<u8>, node: &Node, indent: u32) -> Result<(), AllocError>
     requires { IsWritable (node_view node.now) }
-    ensures exact { OnOk result (out.new.items ≡ out.old.items ++ writing indent (spelled_lem (node_view node.now))) }
+    ensures exact { OnOk result (out.new.items
+        ≡ out.old.items ++ writing indent (spelled_lem (node_view node.now))) }
     ensures kept { OnErr result (out.new.items ≡ out.old.items) }
 
     // What is written with no spaces before its lines stands for the node alone.
-    ensures alone { OnOk result (indent ≡ 0 → is_word (spelled_lem (node_view node.now)) ≡ false → length (writing indent (spelled_lem (node_view node.now))) ≤ max_bytes → StandsFor (writing indent (spelled_lem (node_view node.now))) (node_view node.now ∷ [])) }
+    ensures alone { OnOk result (indent ≡ 0 → is_word (spelled_lem (node_view node.now)) ≡ false
+        → length (writing indent (spelled_lem (node_view node.now))) ≤ max_bytes
+        → StandsFor (writing indent (spelled_lem (node_view node.now))) (node_view node.now ∷ [])) }
 {
     let value = spelled(*out.allocator(), node)?;
     write_spelling(out, &value, indent)

@@ -1,9 +1,13 @@
 //! The starts of calendar windows.
-ghost use Rattle.std.specs.Prelude.{◌≡◌, ◌↔◌, ◌+◌, ◌*◌, ◌<◌, ◌≤◌, ◌^◌, ℕ, pos, ◌+ℤ◌, ◌≤ℤ◌, IsTrue, IfOk, IfErr, IfSome, IfNone, Err, true, false, map, vec_len, IsPermutation};
+ghost use Rattle.std.specs.Prelude.{◌≡◌, ◌↔◌, ◌+◌, ◌*◌, ◌<◌, ◌≤◌, ◌^◌, ℕ, pos, ◌+ℤ◌, ◌≤ℤ◌, IsTrue};
+ghost use Rattle.std.specs.Prelude.{IfOk, IfErr, IfSome, IfNone, Err, true, false, map, vec_len};
+ghost use Rattle.std.specs.Prelude.{IsPermutation};
 ghost use Rattle.std.specs.List.Sorted.{IsNonDecreasing};
 ghost use Rattle.std.specs.List.{range_with_len};
 ghost use Rattle.jiff_core.specs.Date.{epoch_day};
-ghost use Rattle.zone_calendar.specs.Starts.{IsCalendarStep, AreStarts, AreTooMany, day_of, month_of, clamped_day, date_after, is_counted, start_at};
+ghost use Rattle.zone_calendar.specs.Starts.{IsCalendarStep, AreStarts, AreTooMany, day_of};
+ghost use Rattle.zone_calendar.specs.Starts.{month_of, clamped_day, date_after, is_counted};
+ghost use Rattle.zone_calendar.specs.Starts.{start_at};
 ghost use Rattle.zone_calendar.specs.Moments.{IsMomentOf};
 
 use crate::{Civil, Zone};
@@ -15,7 +19,8 @@ use std::alloc::Global;
 /// The most starts of one list, so that a catalog's calendars fit its memory.
 const MOST_STARTS: u32 = 40_000;
 
-/// The minutes past the horizon up to which civil moments count: 26 hours, further than any zone is from UTC.
+/// The minutes past the horizon up to which civil moments count: 26 hours, further than any zone is
+/// from UTC.
 const MARGIN_MINUTES: u32 = 1_560;
 
 /// The most rolling minutes from one start to the next: 366 days, so that a leap year fits.
@@ -30,12 +35,14 @@ pub enum StartsFault {
     NoMemory,
 }
 
-/// The starts of the windows that begin at a first moment and follow each other by a duration, in minutes since
-/// 1970-01-01T00:00Z: all whose civil moment, read as UTC, is below the horizon plus 1,560 minutes, in order.
+/// The starts of the windows that begin at a first moment and follow each other by a duration, in
+/// minutes since 1970-01-01T00:00Z: all whose civil moment, read as UTC, is below the horizon plus
+/// 1,560 minutes, in order.
 ///
 /// # Errors
 ///
-/// `TooManyStarts` exactly where more than 40,000 count, which takes no memory; else `NoMemory` may come.
+/// `TooManyStarts` exactly where more than 40,000 count, which takes no memory; else `NoMemory` may
+/// come.
 pub fn starts(
     alloc: Global,
     zone: &Zone,
@@ -56,8 +63,9 @@ pub fn starts(
     starts_from(alloc, zone, first, step, horizon, count)
 }
 
-/// Whether calendar windows may follow each other by a duration: by days, weeks, months, quarters or years, not zero,
-/// and by at most 366 days where a month counts 30, a quarter 90 and a year 365.
+/// Whether calendar windows may follow each other by a duration: by days, weeks, months, quarters
+/// or years, not zero, and by at most 366 days where a month counts 30, a quarter 90 and a year
+/// 365.
 pub fn is_calendar_step(step: Duration) -> bool
     ensures { IsTrue result ↔ IsCalendarStep step }
 {
@@ -180,7 +188,8 @@ fn moment_after(first: &Civil, step: Duration, k: u32) -> Option<DateTime>
 fn date_after(first: &Civil, step: Duration, k: u32) -> Option<Date>
     requires step { IsCalendarStep step }
     requires number { k ≤ 40_000 }
-    ensures some { IfSome result (λ date. epoch_day date ≡ date_after first.now step.unit (k * step.count)) }
+    ensures some { IfSome result (λ date. epoch_day date
+        ≡ date_after first.now step.unit (k * step.count)) }
     ensures none { IfNone result (pos 100_000 ≤ℤ date_after first.now step.unit (k * step.count)) }
 {
     match step.unit {
@@ -204,8 +213,10 @@ fn days_after(first: &Civil, count: u32) -> Option<Date>
 /// The same day so many months later, or the month's last day.
 fn months_after(first: &Civil, count: u32) -> Option<Date>
     requires { count ≤ 480_000 }
-    ensures some { IfSome result (λ date. epoch_day date ≡ clamped_day (month_of first.now +ℤ pos count) first.now.day) }
-    ensures none { IfNone result (pos 100_000 ≤ℤ clamped_day (month_of first.now +ℤ pos count) first.now.day) }
+    ensures some { IfSome result (λ date. epoch_day date
+        ≡ clamped_day (month_of first.now +ℤ pos count) first.now.day) }
+    ensures none { IfNone result (pos 100_000 ≤ℤ clamped_day (month_of first.now +ℤ pos count)
+        first.now.day) }
 {
     add_months(date_of(first), count as i32).ok()
 }

@@ -3,8 +3,8 @@ ghost use Rattle.std.specs.Prelude.{◌≡◌, ◌<◌, pos};
 ghost use Rattle.std.specs.Int.{IsInRange};
 ghost use Rattle.jiff_core.specs.Calendar.{IsBetween, days_in_month};
 
-/// A moment of the civil clock: a real date of the years 1971 to 2097 with a real time of day. The office's clock ends in
-/// 2097, and from 1971 on no zone puts a moment before 1970.
+/// A moment of the civil clock: a real date of the years 1971 to 2097 with a real time of day. The
+/// office's clock ends in 2097, and from 1971 on no zone puts a moment before 1970.
 #[derive(Clone, Copy, Debug, PartialEq, Eq)]
 pub struct Civil {
     pub year: i16,

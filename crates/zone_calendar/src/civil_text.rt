@@ -1,6 +1,8 @@
 //! Reading a civil moment.
-ghost use Rattle.std.specs.Prelude.{◌≡◌, ◌<◌, ◌+◌, ◌++◌, length, true, false, IfSome, IfNone, Some, OnOk, OnErr};
-ghost use Rattle.zone_calendar.specs.CivilText.{civil_text, two_digits as two_digits_lem, parts_of, two_at, has_form, parts_in, is_moment};
+ghost use Rattle.std.specs.Prelude.{◌≡◌, ◌<◌, ◌+◌, ◌++◌, length, true, false, IfSome, IfNone, Some};
+ghost use Rattle.std.specs.Prelude.{OnOk, OnErr};
+ghost use Rattle.zone_calendar.specs.CivilText.{civil_text, two_digits as two_digits_lem, parts_of};
+ghost use Rattle.zone_calendar.specs.CivilText.{two_at, has_form, parts_in, is_moment};
 ghost use Rattle.zone_calendar.specs.declared.civil.Civil.{Civil};
 
 use crate::Civil;
@@ -20,8 +22,8 @@ pub(crate) struct Parts {
 
 /// Reads a moment as `2020-01-21 12:30:00`.
 ///
-/// `None` where the text hasn't this form, or isn't a real date of the years 1971 to 2097 with a real time. It takes no
-/// memory.
+/// `None` where the text hasn't this form, or isn't a real date of the years 1971 to 2097 with a
+/// real time. It takes no memory.
 pub fn read_civil(text: &[u8]) -> Option<Civil>
     ensures read { IfSome result (λ moment. text.now ≡ civil_text moment) }
     ensures all { (moment : Civil) → text.now ≡ civil_text moment → result ≡ Some moment }

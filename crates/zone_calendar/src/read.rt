@@ -2,7 +2,8 @@
 ghost use Rattle.std.specs.Prelude.{◌≡◌, ◌≢◌, Some, None, Err, IfOk, false};
 ghost use Rattle.std.specs.Str.{is_utf8};
 ghost use Rattle.jiff_tz.specs.TzifReader.{read_tzif};
-ghost use Rattle.zone_calendar.specs.ZoneBytes.{zone_of, table_of, rule_of, rule_bytes, is_zone_file};
+ghost use Rattle.zone_calendar.specs.ZoneBytes.{zone_of, table_of, rule_of, rule_bytes};
+ghost use Rattle.zone_calendar.specs.ZoneBytes.{is_zone_file};
 
 use crate::Zone;
 use crate::zone::Kind;
@@ -20,8 +21,8 @@ pub enum ZoneFault {
     NoMemory,
 }
 
-/// Reads a zone file (RFC 9636) where the bytes begin with `TZif`, else a rule of POSIX TZ with an optional line feed at
-/// its end.
+/// Reads a zone file (RFC 9636) where the bytes begin with `TZif`, else a rule of POSIX TZ with an
+/// optional line feed at its end.
 ///
 /// # Errors
 ///

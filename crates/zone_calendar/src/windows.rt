@@ -1,11 +1,12 @@
 //! The window that holds a minute.
-ghost use Rattle.std.specs.Prelude.{◌≡◌, ◌↔◌, ◌<◌, ◌≤◌, ℕ, length, None, IfSome, EachIndex, slice_index, nat_le};
+ghost use Rattle.std.specs.Prelude.{◌≡◌, ◌↔◌, ◌<◌, ◌≤◌, ℕ, length, None, IfSome, EachIndex};
+ghost use Rattle.std.specs.Prelude.{slice_index, nat_le};
 ghost use Rattle.std.specs.List.Sorted.{IsNonDecreasing};
 ghost use Rattle.zone_calendar.specs.Window.{IsWindow};
 
-/// The start of the window that holds the minute, and where the next window starts: the greatest start at or before the
-/// minute, and the least start after that one, if there is one. It takes no memory, and a number of steps that grows with
-/// the logarithm of the number of starts.
+/// The start of the window that holds the minute, and where the next window starts: the greatest
+/// start at or before the minute, and the least start after that one, if there is one. It takes no
+/// memory, and a number of steps that grows with the logarithm of the number of starts.
 ///
 /// `None` where no start is at or before the minute.
 pub fn window_at(starts: &[u32], minute: u32) -> Option<(u32, Option<u32>)>
@@ -25,7 +26,8 @@ fn begun_by(starts: &[u32], minute: u32) -> usize
     requires { IsNonDecreasing starts.now }
     ensures within { result ≤ length starts.now }
     ensures before { (k : ℕ) → k < result → slice_index starts.now k ≤ minute }
-    ensures after { (k : ℕ) → result ≤ k → k < length starts.now → minute < slice_index starts.now k }
+    ensures after { (k : ℕ) → result ≤ k → k < length starts.now
+        → minute < slice_index starts.now k }
 {
     starts.partition_point(
         |start: &u32| -> bool

@@ -55,8 +55,8 @@ impl Zone {
         Zone { kind }
     }
 
-    /// The second since 1970-01-01T00:00:00Z at which the zone's clock shows the moment: in a gap the later side, in a fold
-    /// the earlier one.
+    /// The second since 1970-01-01T00:00:00Z at which the zone's clock shows the moment: in a gap
+    /// the later side, in a fold the earlier one.
     pub(crate) fn instant(&self, moment: DateTime) -> i64
         requires { moment.time.subsec_nanosecond ≡ 0 }
         ensures value { result ≡ instant_at self.now (civil_seconds moment) }

@@ -4,7 +4,8 @@ ghost use Rattle.yaml_subset.specs.Spelling.{items as items_lem};
 ghost use Rattle.yaml_subset.specs.SpellingView.{spelling_view};
 ghost use Rattle.slo_objects.specs.Form.{map_with, optional, written_items};
 ghost use Rattle.slo_objects.specs.Inline.{reference_written};
-ghost use Rattle.slo_objects.specs.AlertCondition.{condition, alert_condition, condition_body, condition_kind};
+ghost use Rattle.slo_objects.specs.AlertCondition.{condition, alert_condition, condition_body};
+ghost use Rattle.slo_objects.specs.AlertCondition.{condition_kind};
 ghost use Rattle.slo_objects.specs.AlertPolicy.{alert_policy, policy_body, conditions, targets};
 ghost use Rattle.slo_objects.specs.Durations.{duration, month};
 ghost use Rattle.slo_objects.specs.Adding.{Adds};
@@ -29,7 +30,8 @@ fn optional_condition_kind(
     key: &str,
     value: Option<ConditionKind>,
 ) -> Result<(), AllocError>
-    ensures { OnOk result (Adds fields.old.items fields.new.items ((optional key.now condition_kind).write value)) }
+    ensures { OnOk result (Adds fields.old.items fields.new.items
+        ((optional key.now condition_kind).write value)) }
 {
     match value {
         Some(value) => required_word(fields, key, condition_word(value)),
@@ -42,7 +44,8 @@ fn optional_duration(
     key: &str,
     value: Option<Duration>,
 ) -> Result<(), AllocError>
-    ensures { OnOk result (Adds fields.old.items fields.new.items ((optional key.now (duration 0 month)).write value)) }
+    ensures { OnOk result (Adds fields.old.items fields.new.items
+        ((optional key.now (duration 0 month)).write value)) }
 {
     match value {
         Some(value) => required_duration(fields, key, value),
@@ -96,7 +99,8 @@ fn reference(alloc: Global, key: &str, name: &Label) -> Result<Spelling, AllocEr
 
 /// References to these objects.
 pub(crate) fn references(alloc: Global, key: &str, names: &[Label]) -> Result<Spelling, AllocError>
-    ensures { IfOk result (λ s. spelling_view s ≡ items_lem (written_items (reference_written key.now) names.now)) }
+    ensures { IfOk result (λ s. spelling_view s
+        ≡ items_lem (written_items (reference_written key.now) names.now)) }
 {
     let mut items = Vec::new(alloc);
     for name in names {
@@ -111,7 +115,8 @@ fn optional_conditions(
     key: &str,
     names: &Option<Names>,
 ) -> Result<(), AllocError>
-    ensures { OnOk result (Adds fields.old.items fields.new.items ((optional key.now conditions).write names.now)) }
+    ensures { OnOk result (Adds fields.old.items fields.new.items
+        ((optional key.now conditions).write names.now)) }
 {
     let Some(names) = names else {
         return Ok(());
@@ -125,7 +130,8 @@ fn optional_targets(
     key: &str,
     names: &Option<Names>,
 ) -> Result<(), AllocError>
-    ensures { OnOk result (Adds fields.old.items fields.new.items ((optional key.now targets).write names.now)) }
+    ensures { OnOk result (Adds fields.old.items fields.new.items
+        ((optional key.now targets).write names.now)) }
 {
     let Some(names) = names else {
         return Ok(());

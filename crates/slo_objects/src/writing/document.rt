@@ -21,7 +21,8 @@ use yaml_subset::{Spelling, write_spelling};
 
 #[tactic(auto, unfolding(crate::specs::Metadata::metadata))]
 fn metadata_map(alloc: Global, value: &Object) -> Result<Spelling, AllocError>
-    ensures { IfOk result (λ s. spelling_view s ≡ (map_with metadata).write (metadata_of value.now)) }
+    ensures { IfOk result (λ s. spelling_view s
+        ≡ (map_with metadata).write (metadata_of value.now)) }
 {
     let mut fields = Vec::new(alloc);
     required_name(&mut fields, "name", &value.name)?;
@@ -61,18 +62,20 @@ fn document_map(alloc: Global, value: &Object) -> Result<Spelling, AllocError>
     Ok(map_of(fields))
 }
 
-/// Appends the canonical writing of an object: its fields in the order of the tables, omitted ones left out, fixed words,
-/// numbers, booleans and durations plain, every other text in double quotes, objects that stood inline as references.
+/// Appends the canonical writing of an object: its fields in the order of the tables, omitted ones
+/// left out, fixed words, numbers, booleans and durations plain, every other text in double quotes,
+/// objects that stood inline as references.
 ///
-/// The text stands for the object alone, where it has at most `MAX_BYTES` bytes. The error is want of memory, and leaves
-/// all as it was.
+/// The text stands for the object alone, where it has at most `MAX_BYTES` bytes. The error is want
+/// of memory, and leaves all as it was.
 pub fn write_object(out: &mut Vec<u8>, value: &Object) -> Result<(), AllocError>
     requires { IsOfDocument value.now }
     ensures exact { OnOk result (out.new.items ≡ out.old.items ++ writing 0 (written value.now)) }
     ensures kept { OnErr result (out.new.items ≡ out.old.items) }
 
     // The text stands for one node, and this node for the object alone.
-    ensures stands { length (writing 0 (written value.now)) ≤ max_bytes → StandsFor (writing 0 (written value.now)) (meant (written value.now) ∷ []) }
+    ensures stands { length (writing 0 (written value.now)) ≤ max_bytes
+        → StandsFor (writing 0 (written value.now)) (meant (written value.now) ∷ []) }
     ensures alone { objects_of (meant (written value.now)) ≡ Ok (value.now ∷ []) }
 {
     each_object_can_be_written();

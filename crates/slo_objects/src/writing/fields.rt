@@ -1,6 +1,7 @@
 //! Maps and lists that are written: their fields and items, one behind the other.
 ghost use Rattle.std.specs.Prelude.{◌≡◌, OnOk};
-ghost use Rattle.yaml_subset.specs.Spelling.{fields as fields_lem, no_fields, Items, items as items_lem, no_items, one_item};
+ghost use Rattle.yaml_subset.specs.Spelling.{fields as fields_lem, no_fields, Items};
+ghost use Rattle.yaml_subset.specs.Spelling.{items as items_lem, no_items, one_item};
 ghost use Rattle.yaml_subset.specs.SpellingView.{spelling_view};
 ghost use Rattle.slo_objects.specs.Form.{own};
 ghost use Rattle.slo_objects.specs.Adding.{before, Adds, items_before};
@@ -15,7 +16,8 @@ pub(crate) fn put(
     key: &str,
     value: Spelling,
 ) -> Result<(), AllocError>
-    ensures { OnOk result (Adds fields.old.items fields.new.items (own key.now (spelling_view value))) }
+    ensures { OnOk result (Adds fields.old.items fields.new.items
+        (own key.now (spelling_view value))) }
 {
     let text = Text::of(Vec::from_slice(*fields.allocator(), key.as_bytes())?);
     fields.push((FieldKey::Plain(text), value))?;
@@ -32,7 +34,9 @@ pub(crate) fn map_of(fields: Vec<(FieldKey, Spelling)>) -> Spelling
 /// Adds an item to a list.
 #[tactic(auto, using(crate::proofs::AddLemmas::items_before_more))]
 pub(crate) fn put_item(items: &mut Vec<Spelling>, item: Spelling) -> Result<(), AllocError>
-    ensures { OnOk result ((behind : Items) → items_before items.new.items behind ≡ items_before items.old.items (one_item (spelling_view item) behind)) }
+    ensures { OnOk result ((behind : Items)
+        → items_before items.new.items behind
+        ≡ items_before items.old.items (one_item (spelling_view item) behind)) }
 {
     items.push(item)?;
     Ok(())

@@ -34,7 +34,8 @@ pub(crate) fn required_text(
     key: &str,
     value: &Text,
 ) -> Result<(), AllocError>
-    ensures { OnOk result (Adds fields.old.items fields.new.items ((required key.now text).write value.now)) }
+    ensures { OnOk result (Adds fields.old.items fields.new.items
+        ((required key.now text).write value.now)) }
 {
     let spelling = scalars::in_quotes(*fields.allocator(), value.as_bytes())?;
     put(fields, key, spelling)
@@ -46,7 +47,8 @@ pub(crate) fn required_name(
     key: &str,
     value: &Label,
 ) -> Result<(), AllocError>
-    ensures { OnOk result (Adds fields.old.items fields.new.items ((required key.now name).write value.now)) }
+    ensures { OnOk result (Adds fields.old.items fields.new.items
+        ((required key.now name).write value.now)) }
 {
     let spelling = scalars::in_quotes(*fields.allocator(), value.as_bytes())?;
     put(fields, key, spelling)
@@ -58,7 +60,8 @@ pub(crate) fn required_number(
     key: &str,
     value: Decimal,
 ) -> Result<(), AllocError>
-    ensures { OnOk result (Adds fields.old.items fields.new.items (own key.now (word (decimal_text value)))) }
+    ensures { OnOk result (Adds fields.old.items fields.new.items
+        (own key.now (word (decimal_text value)))) }
 {
     let spelling = scalars::number(*fields.allocator(), value)?;
     put(fields, key, spelling)
@@ -70,7 +73,8 @@ pub(crate) fn required_duration(
     key: &str,
     value: Duration,
 ) -> Result<(), AllocError>
-    ensures { OnOk result (Adds fields.old.items fields.new.items (own key.now (word (duration_text value)))) }
+    ensures { OnOk result (Adds fields.old.items fields.new.items
+        (own key.now (word (duration_text value)))) }
 {
     let spelling = scalars::duration(*fields.allocator(), value)?;
     put(fields, key, spelling)
@@ -82,7 +86,8 @@ pub(crate) fn optional_description(
     key: &str,
     value: &Option<Text>,
 ) -> Result<(), AllocError>
-    ensures { OnOk result (Adds fields.old.items fields.new.items ((optional key.now description).write value.now)) }
+    ensures { OnOk result (Adds fields.old.items fields.new.items
+        ((optional key.now description).write value.now)) }
 {
     match value {
         Some(value) => required_text(fields, key, value),
@@ -96,7 +101,8 @@ pub(crate) fn optional_text(
     key: &str,
     value: &Option<Text>,
 ) -> Result<(), AllocError>
-    ensures { OnOk result (Adds fields.old.items fields.new.items ((optional key.now text).write value.now)) }
+    ensures { OnOk result (Adds fields.old.items fields.new.items
+        ((optional key.now text).write value.now)) }
 {
     match value {
         Some(value) => required_text(fields, key, value),
@@ -110,7 +116,8 @@ pub(crate) fn optional_name(
     key: &str,
     value: &Option<Label>,
 ) -> Result<(), AllocError>
-    ensures { OnOk result (Adds fields.old.items fields.new.items ((optional key.now name).write value.now)) }
+    ensures { OnOk result (Adds fields.old.items fields.new.items
+        ((optional key.now name).write value.now)) }
 {
     match value {
         Some(value) => required_name(fields, key, value),
@@ -124,7 +131,8 @@ pub(crate) fn optional_boolean(
     key: &str,
     value: Option<bool>,
 ) -> Result<(), AllocError>
-    ensures { OnOk result (Adds fields.old.items fields.new.items ((optional key.now boolean).write value)) }
+    ensures { OnOk result (Adds fields.old.items fields.new.items
+        ((optional key.now boolean).write value)) }
 {
     let Some(value) = value else {
         return Ok(());
@@ -139,7 +147,8 @@ pub(crate) fn optional_op(
     key: &str,
     value: Option<Op>,
 ) -> Result<(), AllocError>
-    ensures { OnOk result (Adds fields.old.items fields.new.items ((optional key.now op).write value)) }
+    ensures { OnOk result (Adds fields.old.items fields.new.items
+        ((optional key.now op).write value)) }
 {
     match value {
         Some(value) => required_word(fields, key, op_word(value)),
@@ -153,7 +162,8 @@ pub(crate) fn optional_free(
     key: &str,
     value: &Option<Part>,
 ) -> Result<(), AllocError>
-    ensures { OnOk result (Adds fields.old.items fields.new.items ((optional key.now free).write value.now)) }
+    ensures { OnOk result (Adds fields.old.items fields.new.items
+        ((optional key.now free).write value.now)) }
 {
     let Some(value) = value else {
         return Ok(());
@@ -168,7 +178,8 @@ pub(crate) fn optional_free_map(
     key: &str,
     value: &Option<Part>,
 ) -> Result<(), AllocError>
-    ensures { OnOk result (Adds fields.old.items fields.new.items ((optional key.now free_map).write value.now)) }
+    ensures { OnOk result (Adds fields.old.items fields.new.items
+        ((optional key.now free_map).write value.now)) }
 {
     let Some(value) = value else {
         return Ok(());

@@ -1,4 +1,4 @@
-//! Scalars as they are written: fixed words, numbers and durations plain, every other text in double quotes.
+//! Scalars as they are written: fixed words, numbers and durations plain, every other text quoted.
 ghost use Rattle.std.specs.Prelude.{◌≡◌, IfOk, codes, cond, decimal};
 ghost use Rattle.yaml_subset.specs.Spelling.{word, quoted, spelled as spelled_lem};
 ghost use Rattle.yaml_subset.specs.SpellingView.{spelling_view};
@@ -29,7 +29,8 @@ pub(crate) fn in_quotes(alloc: Global, text: &[u8]) -> Result<Spelling, AllocErr
 
 /// A boolean.
 pub(crate) fn boolean(alloc: Global, value: bool) -> Result<Spelling, AllocError>
-    ensures { IfOk result (λ s. spelling_view s ≡ word (cond value (codes "true") (codes "false"))) }
+    ensures { IfOk result (λ s. spelling_view s
+        ≡ word (cond value (codes "true") (codes "false"))) }
 {
     if value {
         plain(alloc, "true")

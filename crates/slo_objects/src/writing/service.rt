@@ -57,7 +57,8 @@ pub(crate) fn data_source_spec(alloc: Global, body: &Body) -> Result<Spelling, A
 
 #[tactic(auto, unfolding(crate::specs::AlertNotificationTarget::alert_notification_target))]
 fn target_map(alloc: Global, value: &AlertNotificationTarget) -> Result<Spelling, AllocError>
-    ensures { IfOk result (λ s. spelling_view s ≡ (map_with alert_notification_target).write value.now) }
+    ensures { IfOk result (λ s. spelling_view s
+        ≡ (map_with alert_notification_target).write value.now) }
 {
     let mut fields = Vec::new(alloc);
     optional_description(&mut fields, "description", &value.description)?;

@@ -2,7 +2,8 @@
 ghost use Rattle.std.specs.Prelude.{◌≡◌, IfOk, OnOk, codes, cond};
 ghost use Rattle.yaml_subset.specs.SpellingView.{spelling_view};
 ghost use Rattle.slo_objects.specs.Form.{map_with, own};
-ghost use Rattle.slo_objects.specs.Sli.{metric_source, source, is_good, events_written, ratio_metric, is_threshold, metric_written, sli, sli_body};
+ghost use Rattle.slo_objects.specs.Sli.{metric_source, source, is_good, events_written};
+ghost use Rattle.slo_objects.specs.Sli.{ratio_metric, is_threshold, metric_written, sli, sli_body};
 ghost use Rattle.slo_objects.specs.Adding.{Adds};
 
 use crate::object::Body;
@@ -44,7 +45,8 @@ fn put_source(
     key: &str,
     value: &MetricSource,
 ) -> Result<(), AllocError>
-    ensures { OnOk result (Adds fields.old.items fields.new.items (own key.now (source.write value.now))) }
+    ensures { OnOk result (Adds fields.old.items fields.new.items
+        (own key.now (source.write value.now))) }
 {
     let source = source_map(*fields.allocator(), value)?;
     put(fields, key, source)
@@ -52,7 +54,9 @@ fn put_source(
 
 /// The events that are counted beside the total.
 fn put_events(fields: &mut Vec<(FieldKey, Spelling)>, value: &Events) -> Result<(), AllocError>
-    ensures { OnOk result (Adds fields.old.items fields.new.items (λ behind. cond (is_good value.now) (own (codes "good") (events_written value.now) behind) (own (codes "bad") (events_written value.now) behind))) }
+    ensures { OnOk result (Adds fields.old.items fields.new.items
+        (λ behind. cond (is_good value.now) (own (codes "good") (events_written value.now) behind)
+        (own (codes "bad") (events_written value.now) behind))) }
 {
     match value {
         Events::Good(source) => put_source(fields, "good", source),
@@ -81,7 +85,10 @@ fn ratio_map(alloc: Global, value: &RatioMetric) -> Result<Spelling, AllocError>
 
 /// What an indicator measures.
 fn put_metric(fields: &mut Vec<(FieldKey, Spelling)>, value: &Metric) -> Result<(), AllocError>
-    ensures { OnOk result (Adds fields.old.items fields.new.items (λ behind. cond (is_threshold value.now) (own (codes "thresholdMetric") (metric_written value.now) behind) (own (codes "ratioMetric") (metric_written value.now) behind))) }
+    ensures { OnOk result (Adds fields.old.items fields.new.items
+        (λ behind. cond (is_threshold value.now)
+        (own (codes "thresholdMetric") (metric_written value.now) behind)
+        (own (codes "ratioMetric") (metric_written value.now) behind))) }
 {
     match value {
         Metric::Threshold(source) => put_source(fields, "thresholdMetric", source),

@@ -2,9 +2,11 @@
 ghost use Rattle.std.specs.Prelude.{◌≡◌, IfOk, OnOk};
 ghost use Rattle.yaml_subset.specs.Spelling.{items as items_lem};
 ghost use Rattle.yaml_subset.specs.SpellingView.{spelling_view};
-ghost use Rattle.slo_objects.specs.Form.{map_with, optional, required, own_where, spelled_where, single, written_items};
+ghost use Rattle.slo_objects.specs.Form.{map_with, optional, required, own_where, spelled_where};
+ghost use Rattle.slo_objects.specs.Form.{single, written_items};
 ghost use Rattle.slo_objects.specs.Scalars.{number, one, greatest};
-ghost use Rattle.slo_objects.specs.Slo.{calendar, time_window, method, objective, objectives, slice_width, policies, slo, slo_body};
+ghost use Rattle.slo_objects.specs.Slo.{calendar, time_window, method, objective, objectives};
+ghost use Rattle.slo_objects.specs.Slo.{slice_width, policies, slo, slo_body};
 ghost use Rattle.slo_objects.specs.Adding.{Adds};
 
 use crate::names::Names;
@@ -39,7 +41,8 @@ fn optional_calendar(
     key: &str,
     value: &Option<Calendar>,
 ) -> Result<(), AllocError>
-    ensures { OnOk result (Adds fields.old.items fields.new.items (own_where key.now (spelled_where (map_with calendar) value.now))) }
+    ensures { OnOk result (Adds fields.old.items fields.new.items
+        (own_where key.now (spelled_where (map_with calendar) value.now))) }
 {
     let Some(value) = value else {
         return Ok(());
@@ -65,7 +68,8 @@ fn required_window(
     key: &str,
     value: &TimeWindow,
 ) -> Result<(), AllocError>
-    ensures { OnOk result (Adds fields.old.items fields.new.items ((required key.now (single (map_with time_window))).write value.now)) }
+    ensures { OnOk result (Adds fields.old.items fields.new.items
+        ((required key.now (single (map_with time_window))).write value.now)) }
 {
     let alloc = *fields.allocator();
     let mut items = Vec::new(alloc);
@@ -79,7 +83,8 @@ fn required_method(
     key: &str,
     value: BudgetingMethod,
 ) -> Result<(), AllocError>
-    ensures { OnOk result (Adds fields.old.items fields.new.items ((required key.now method).write value)) }
+    ensures { OnOk result (Adds fields.old.items fields.new.items
+        ((required key.now method).write value)) }
 {
     required_word(fields, key, method_word(value))
 }
@@ -90,7 +95,8 @@ fn optional_value(
     key: &str,
     value: Option<Decimal>,
 ) -> Result<(), AllocError>
-    ensures { OnOk result (Adds fields.old.items fields.new.items ((optional key.now (number 0 greatest)).write value)) }
+    ensures { OnOk result (Adds fields.old.items fields.new.items
+        ((optional key.now (number 0 greatest)).write value)) }
 {
     match value {
         Some(value) => required_number(fields, key, value),
@@ -104,7 +110,8 @@ fn optional_slice_target(
     key: &str,
     value: Option<Decimal>,
 ) -> Result<(), AllocError>
-    ensures { OnOk result (Adds fields.old.items fields.new.items (own_where key.now (spelled_where (number 1 one) value))) }
+    ensures { OnOk result (Adds fields.old.items fields.new.items
+        (own_where key.now (spelled_where (number 1 one) value))) }
 {
     match value {
         Some(value) => required_number(fields, key, value),
@@ -118,7 +125,8 @@ fn optional_slice_width(
     key: &str,
     value: Option<u32>,
 ) -> Result<(), AllocError>
-    ensures { OnOk result (Adds fields.old.items fields.new.items (own_where key.now (spelled_where slice_width value))) }
+    ensures { OnOk result (Adds fields.old.items fields.new.items
+        (own_where key.now (spelled_where slice_width value))) }
 {
     let Some(value) = value else {
         return Ok(());
@@ -151,7 +159,8 @@ fn objective_list(
     method: BudgetingMethod,
     values: &[Objective],
 ) -> Result<Spelling, AllocError>
-    ensures { IfOk result (λ s. spelling_view s ≡ items_lem (written_items (map_with (objective method)).write values.now)) }
+    ensures { IfOk result (λ s. spelling_view s
+        ≡ items_lem (written_items (map_with (objective method)).write values.now)) }
 {
     let mut items = Vec::new(alloc);
     for value in values {
@@ -167,7 +176,8 @@ fn required_objectives(
     method: BudgetingMethod,
     values: &Objectives,
 ) -> Result<(), AllocError>
-    ensures { OnOk result (Adds fields.old.items fields.new.items ((required key.now (objectives method)).write values.now)) }
+    ensures { OnOk result (Adds fields.old.items fields.new.items
+        ((required key.now (objectives method)).write values.now)) }
 {
     let list = objective_list(*fields.allocator(), method, values.as_slice())?;
     put(fields, key, list)
@@ -178,7 +188,8 @@ fn optional_policies(
     key: &str,
     names: &Option<Names>,
 ) -> Result<(), AllocError>
-    ensures { OnOk result (Adds fields.old.items fields.new.items ((optional key.now policies).write names.now)) }
+    ensures { OnOk result (Adds fields.old.items fields.new.items
+        ((optional key.now policies).write names.now)) }
 {
     let Some(names) = names else {
         return Ok(());
