@@ -1,5 +1,6 @@
 //! The bytes that were read and aren't answered yet.
-ghost use Rattle.std.specs.Prelude.{◌≡◌, ◌+◌, ◌≤◌, ◌<◌, ◌-◌, [], length, take, drop, IfOk, IfSome, OnErr};
+ghost use Rattle.std.specs.Prelude.{◌≡◌, ◌+◌, ◌≤◌, ◌<◌, ◌-◌, [], length, take, drop, IfOk, IfSome};
+ghost use Rattle.std.specs.Prelude.{OnErr};
 ghost use Rattle.office_outside.specs.Faults.{HasCause};
 ghost use Rattle.office_outside.specs.Told.{HasNothingLeft};
 ghost use Rattle.office_session.specs.Fillings.{Fills};
@@ -45,10 +46,12 @@ fn move_to_front(bytes: &mut Vec<u8>, start: usize, end: usize) -> usize
 /// Reads once, behind the first bytes.
 fn read_behind<S: Source>(bytes: &mut [u8], end: usize, input: &mut S) -> Result<usize, Failed>
     requires { end < length bytes.old }
-    ensures fills { IfOk result (λ n. Fills (take end bytes.old) (take (end + n) bytes.new) (S.left input.old) (S.left input.new)) }
+    ensures fills { IfOk result (λ n. Fills (take end bytes.old) (take (end + n) bytes.new)
+        (S.left input.old) (S.left input.new)) }
     ensures within { IfOk result (λ n. end + n ≤ length bytes.new) }
     ensures kept { OnErr result (take end bytes.new ≡ take end bytes.old) }
-    ensures fills_none { OnErr result (Fills (take end bytes.old) (take end bytes.new) (S.left input.old) (S.left input.new)) }
+    ensures fills_none { OnErr result (Fills (take end bytes.old) (take end bytes.new)
+        (S.left input.old) (S.left input.new)) }
     ensures end { IfOk result (λ n. n ≡ 0 → HasNothingLeft (S.left input.new)) }
     ensures cause { HasCause (S.faults input.old) (S.faults input.new) result }
 {

@@ -1,5 +1,6 @@
 //! Who answers messages.
-ghost use Rattle.std.specs.Prelude.{◌≡◌, ℕ, List, Bool, OnOk, OnErr};
+ghost use Rattle.std.specs.Prelude.{◌≡◌, ◌≤◌, ℕ, List, Bool, OnOk, OnErr};
+ghost use Rattle.slo_limits.specs.declared.TheConstants.{MAX_MINUTE};
 ghost use Rattle.office_outside.specs.Faults.{HasCause};
 ghost use Rattle.office_outside.specs.Told.{Gained, GainedPrefix};
 ghost use Rattle.message_heads.specs.declared.message.Heard.TheVariants.{Whole};
@@ -12,15 +13,15 @@ use office_outside::{Failed, Sink};
 /// Answers messages: it makes a message's request, asks it of whom it concerns, and writes the
 /// outcome. What all this means is the handler's own matter.
 pub trait Handler<K: Sink> {
-    /// What the handler may do with one message: of itself before, of what the message says, whether
-    /// the answer is the session's last, of the clock's reading, of the answer's bytes, and of itself
-    /// after.
+    /// What the handler may do with one message: of itself before, of what the message says,
+    /// whether the answer is the session's last, of the clock's reading, of the answer's bytes, and
+    /// of itself after.
     ghost answers: { Self → Said → Bool → ℕ → List ℕ → Self → Type 0 };
 
     /// The answer to a bad message, which closes, by the answer's status.
     ghost refusal: { Self → ℕ → List ℕ };
 
-    /// Writes the answer to a whole message.
+    /// Writes the answer to a whole message, which came at a reading of the clock.
     fn answer(
         &mut self,
         message: &Message,
@@ -30,6 +31,7 @@ pub trait Handler<K: Sink> {
         output: &mut K,
     ) -> Result<(), Failed>
         requires message { (n : ℕ) × Hears bytes.now (Whole message.now n) }
+        requires reading { reading ≤ MAX_MINUTE }
         ensures whole { OnOk result ((text : List ℕ)
             × answers self.old (said_in bytes.now message.now) last reading text self.new
             × Gained text (K.held output.old) (K.held output.new)) }

@@ -1,10 +1,12 @@
 //! A session over a source, a sink and a clock.
-ghost use Rattle.std.specs.Prelude.{◌≡◌, ◌<◌, ◌≤◌, ◌+◌, ◌||◌, ℕ, List, Bool, true, Option, nat_le, IfOk, OnOk, OnErr};
+ghost use Rattle.std.specs.Prelude.{◌≡◌, ◌<◌, ◌≤◌, ◌+◌, ◌||◌, ℕ, List, Bool, true, Option, nat_le};
+ghost use Rattle.std.specs.Prelude.{IfOk, OnOk, OnErr};
 ghost use Rattle.office_outside.specs.Told.{Gained, GainedPrefix};
 ghost use Rattle.office_outside.specs.Faults.{HasCause, Rose};
 ghost use Rattle.message_heads.specs.declared.message.Heard.TheVariants.{Whole};
 ghost use Rattle.message_heads.specs.Hearing.{Hears};
 ghost use Rattle.message_heads.specs.Streams.{said_in};
+ghost use Rattle.slo_limits.specs.declared.TheConstants.{MAX_MINUTE};
 ghost use Rattle.office_session.specs.Sessions.{EndsAt, EndsSo, EndsWriting, HasTurn, scene};
 
 use crate::buffer::Buffer;
@@ -38,6 +40,7 @@ fn answer<K: Sink, H: Handler<K>>(
     last: bool,
 ) -> Result<(), Failed>
     requires message { (n : ℕ) × Hears bytes.now (Whole message.now n) }
+    requires reading { reading ≤ MAX_MINUTE }
     ensures whole { OnOk result ((text : List ℕ)
         × H.answers handler.old (said_in bytes.now message.now) last reading text handler.new
         × Gained text (K.held output.old) (K.held output.new)) }
@@ -75,10 +78,12 @@ fn take_turn<K: Sink, H: Handler<K>, C: Clock>(
 ) -> Result<bool, Failed>
     requires message { Hears waiting.now (Whole message size) }
     requires few { count < MAX_REQUESTS }
-    ensures turn { IfOk result (λ last. (left : Option (List ℕ)) → HasTurn H.answers Gained last count size waiting.now
+    ensures turn { IfOk result (λ last. (left : Option (List ℕ))
+        → HasTurn H.answers Gained last count size waiting.now
         (scene left (C.to_come clock.old) handler.old (K.held output.old))
         (scene left (C.to_come clock.new) handler.new (K.held output.new))) }
-    ensures part { OnErr result ((left : Option (List ℕ)) → (last : Bool) × HasTurn H.answers GainedPrefix last count size waiting.now
+    ensures part { OnErr result ((left : Option (List ℕ)) → (last : Bool)
+        × HasTurn H.answers GainedPrefix last count size waiting.now
         (scene left (C.to_come clock.old) handler.old (K.held output.old))
         (scene left (C.to_come clock.new) handler.new (K.held output.new))) }
     ensures cause { HasCause (K.faults output.old) (K.faults output.new) result }
@@ -104,8 +109,10 @@ fn end_at(waiting: usize) -> SessionEnd
 
 // Answers a bad message, and ends the session.
 fn refuse<K: Sink, H: Handler<K>>(handler: &H, status: u16, output: &mut K) -> SessionEnd
-    ensures ends { EndsWriting (H.refusal handler.now status) result (K.held output.old) (K.held output.new) }
-    ensures cause { result ≡ SessionEnd.WriteFault → Rose (K.faults output.old) (K.faults output.new) }
+    ensures ends { EndsWriting (H.refusal handler.now status) result (K.held output.old)
+        (K.held output.new) }
+    ensures cause { result ≡ SessionEnd.WriteFault
+        → Rose (K.faults output.old) (K.faults output.new) }
     ensures later { K.faults output.old ≤ K.faults output.new }
 {
     match handler.refuse(status, output) {
@@ -118,7 +125,8 @@ fn refuse<K: Sink, H: Handler<K>>(handler: &H, status: u16, output: &mut K) -> S
 fn flush_last<K: Sink>(output: &mut K) -> SessionEnd
     ensures ends { (text : List ℕ) (held : Option (List ℕ)) → Gained text held (K.held output.old)
         → EndsWriting text result held (K.held output.new) }
-    ensures cause { result ≡ SessionEnd.WriteFault → Rose (K.faults output.old) (K.faults output.new) }
+    ensures cause { result ≡ SessionEnd.WriteFault
+        → Rose (K.faults output.old) (K.faults output.new) }
     ensures later { K.faults output.old ≤ K.faults output.new }
 {
     match output.flush() {
@@ -142,7 +150,10 @@ pub fn session<K: Sink, H: Handler<K>, S: Source, C: Clock>(
         (scene (S.left input.old) (C.to_come clock.old) handler.old (K.held output.old))
         (scene (S.left input.new) (C.to_come clock.new) handler.new (K.held output.new)) }
     ensures read { result ≡ SessionEnd.ReadFault → Rose (S.faults input.old) (S.faults input.new) }
-    ensures write { result ≡ SessionEnd.WriteFault → Rose (K.faults output.old) (K.faults output.new) }
+    ensures read_later { S.faults input.old ≤ S.faults input.new }
+    ensures write { result ≡ SessionEnd.WriteFault
+        → Rose (K.faults output.old) (K.faults output.new) }
+    ensures write_later { K.faults output.old ≤ K.faults output.new }
 {
     let Ok(mut buffer) = Buffer::new(alloc) else {
         return SessionEnd::NoMemory;

@@ -1,0 +1,10 @@
+//! Who answers requests: the trait of all that share or own an office's history.
+//! Stands on the machine's definitions alone.
+//! Promises that each asking is one step of a legal history, which extends what was seen.
+#![tactic(auto)]
+
+mod counter;
+mod laws;
+
+pub use counter::Counter;
+pub use laws::{own_places_stay, steps_extend, what_it_comes_to_is_the_outcome};

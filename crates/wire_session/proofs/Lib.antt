@@ -1,0 +1,5 @@
+pub mod Keeping
+pub mod Seeing
+pub mod Clerking
+pub mod Owning
+pub mod Replying

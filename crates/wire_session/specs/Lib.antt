@@ -1,0 +1,2 @@
+pub mod Treats
+pub mod Clerks

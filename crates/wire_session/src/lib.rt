@@ -1,0 +1,11 @@
+//! A session of the office over a stream: each request is asked of a counter, and answered.
+//! Stands on sessions over messages, on routes, on counters and on the spelling of answers.
+//! Promises that each answer is that of its message's request, which is asked once, in order.
+#![tactic(auto)]
+
+mod clerk;
+mod laws;
+mod serving;
+
+pub use laws::{own_places_stay_in_a_session, what_is_seen_grows_in_a_session};
+pub use serving::session;
