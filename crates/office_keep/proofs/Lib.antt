@@ -1,0 +1,10 @@
+pub mod Histories
+pub mod Judgements
+pub mod Blame
+pub mod Openings
+pub mod Offices
+pub mod Runs
+pub mod Writing
+pub mod Adding
+pub mod Changing
+pub mod Performing

@@ -1,0 +1,86 @@
+-- What the office's type keeps, and what the images of its disk stand for.
+use Rattle.std.proofs.Common.{◌≡◌, inl, inr, ⊎_elim, ℕ, List, [], ◌∷◌, ◌++◌, Option, Some}
+use Rattle.std.proofs.Common.{None}
+use Rattle.std.proofs.Common.{Bool, Result, refl, sym, ap, ◌∙◌, subst}
+use Rattle.office_outside.specs.Disk.{All}
+use Rattle.record_form.specs.declared.Entry.{Entry}
+use Rattle.record_form.specs.Records.{record_of}
+use Rattle.office_history.specs.History.{Office, with_entry}
+use Rattle.office_core.specs.Seen.{Machine}
+use Rattle.slo_journal.specs.File.{Stands, StandsInDoubt}
+use Rattle.slo_journal.specs.Keeping.{JournalOn, Keeps, Appended, Settled}
+use Rattle.slo_journal.specs.declared.AppendFault.{AppendFault}
+use Rattle.slo_journal.specs.declared.DiskFault.{DiskFault}
+use Rattle.slo_journal.proofs.Files.{by_gate}
+use Rattle.office_keep.specs.Files.{records}
+use Rattle.office_keep.specs.Office.{StandsSettled}
+use Rattle.office_keep.specs.Steps.{IsDoubted, IsKept, KeepsOffice, entry_in}
+use Rattle.office_keep.proofs.Histories.{records_more}
+
+-- a file in doubt stands for the office, or for it with the entry
+by_entry : (o : Office) (e : Entry) (file : List ℕ) →
+    StandsInDoubt o.origin (records o.history) (record_of e) file → StandsSettled o (Some e) file
+by_entry o e file d = ⊎_elim
+    (λ s. (o, inl refl, s))
+    (λ s. (
+      with_entry o e,
+      inr refl,
+      subst (λ (l : List (List ℕ)). Stands o.origin l file) (sym (records_more o.history e)) s,
+    ))
+    (by_gate o.origin (records o.history) (record_of e) file d)
+
+module _ {D : Type 0} (images : D → List ℕ → Type 0) where
+  pub doubted_of : (m : Machine) (doubt : Option (List ℕ)) (journal : JournalOn D)
+      (bytes : List ℕ) → IsKept images m doubt journal → doubt ≡ Some bytes →
+      IsDoubted images m bytes journal
+  doubted_of m doubt journal bytes k some =
+      subst (λ (d : Option (List ℕ)). IsKept images m d journal) some k
+
+  pub kept_of : (m : Machine) (doubt : Option (List ℕ)) (journal : JournalOn D) (o : Office) →
+      doubt ≡ None → m.office ≡ o → KeepsOffice images o journal → IsKept images m doubt journal
+  kept_of m doubt journal o none same k =
+      subst (λ (d : Option (List ℕ)). IsKept images m d journal) (sym none)
+      (subst (λ (p : Office). KeepsOffice images p journal) (sym same) k)
+
+  -- with one entry more
+  pub keeps_more : (o : Office) (e : Entry) (journal : JournalOn D) →
+      Keeps images o.origin (records o.history ++ record_of e ∷ []) journal →
+      KeepsOffice images (with_entry o e) journal
+  keeps_more o e journal k =
+      subst (λ (l : List (List ℕ)). Keeps images o.origin l journal)
+      (sym (records_more o.history e)) k
+
+  -- what the images stand for now
+  pub stands_now : (m : Machine) (doubt : Option (List ℕ)) (journal : JournalOn D) →
+      IsKept images m doubt journal →
+      All (StandsSettled m.office (entry_in doubt m.pending)) (images journal.disk)
+  stands_now m None journal k = λ file image. (m.office, refl, k.each file image)
+  stands_now m (Some bytes) journal k = λ file image.
+      subst (λ (d : Option Entry). StandsSettled m.office d file) (sym k.pending)
+      (by_entry m.office k.entry file (k.doubts.each file image))
+
+  pub stands_in_doubt : (m : Machine) (doubt : Option (List ℕ)) (journal : JournalOn D)
+      (bytes : List ℕ) → doubt ≡ Some bytes → (d : IsDoubted images m bytes journal) →
+      (file : List ℕ) →
+      StandsInDoubt m.office.origin (records m.office.history) (record_of d.entry) file →
+      StandsSettled m.office (entry_in doubt m.pending) file
+  stands_in_doubt m doubt journal bytes some d file s =
+      subst (λ (e : Option Entry). StandsSettled m.office e file)
+      (sym (ap (λ (x : Option (List ℕ)). entry_in x m.pending) some ∙ d.pending))
+      (by_entry m.office d.entry file s)
+
+  pub appended : (o : Office) (frame r : List ℕ) (result known : Result Prim.Unit AppendFault)
+      (journal : JournalOn D) → frame ≡ r → result ≡ known →
+      Appended images o.origin (records o.history) frame result journal →
+      Appended images o.origin (records o.history) r known journal
+  appended o frame r result known journal same is after =
+      subst (λ x. Appended images o.origin (records o.history) r x journal) is
+      (subst (λ (x : List ℕ). Appended images o.origin (records o.history) x result journal)
+      same after)
+
+  pub settled_as : (o : Office) (r : List ℕ) (result known : Result Bool DiskFault)
+      (journal : JournalOn D) → result ≡ known →
+      Settled images o.origin (records o.history) r result journal →
+      Settled images o.origin (records o.history) r known journal
+  settled_as o r result known journal is after =
+      subst (λ x. Settled images o.origin (records o.history) r x journal) is after

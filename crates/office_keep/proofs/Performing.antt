@@ -1,0 +1,48 @@
+-- A request by its kind.
+use Rattle.std.proofs.Common.{◌≡◌, ◌⊎◌, ℕ, List, Option, ⊎_elim, sym, subst, arith}
+use Rattle.office_outside.specs.Disk.{LeavesOnly}
+use Rattle.record_form.specs.declared.Command.{Command}
+use Rattle.record_form.specs.declared.Outcome.{Outcome}
+use Rattle.record_form.specs.declared.Outcome.TheVariants.{NoMemory}
+use Rattle.record_form.specs.declared.Query.{Query}
+use Rattle.record_form.specs.declared.Request.{Request}
+use Rattle.record_form.specs.declared.Request.TheVariants.{Ask, Change}
+use Rattle.office_history.specs.Answers.{Answers}
+use Rattle.office_history.specs.History.{Office}
+use Rattle.office_keep.specs.Office.{Changes, IsBlamed, Leaves, LeavesBy, OfficeOn, Performs}
+use Rattle.office_keep.specs.Office.{StandsSettled, unsettled}
+use Rattle.office_keep.proofs.Blame.{answer_no_fault}
+
+-- what stood there is among what a stop may leave
+pub stays_by : {D : Type 0} (old new : OfficeOn D) (reading : ℕ) (request : Request)
+    (file : List ℕ) → StandsSettled old.office old.doubt file →
+    LeavesBy old reading request new file
+stays_by old new reading (Ask query) file stood = stood
+stays_by old new reading (Change command) file stood = unsettled stood
+
+pub performs_change : {D : Type 0} (old new : OfficeOn D) (reading : ℕ) (request : Request)
+    (command : Command) (outcome : Outcome) (place : Option ℕ) → request ≡ Change command →
+    Changes old reading command outcome place new → Performs old reading request outcome place new
+performs_change old new reading request command outcome place is changes =
+    subst (λ (r : Request). Performs old reading r outcome place new) (sym is) changes
+
+pub leaves_change : {D : Type 0} (moment : D → ℕ) (since : D → ℕ → List ℕ → Type 0)
+    (old new : OfficeOn D) (reading : ℕ) (request : Request) (command : Command) →
+    request ≡ Change command →
+    LeavesOnly moment since old.disk new.disk (Leaves old reading command new) →
+    LeavesOnly moment since old.disk new.disk (LeavesBy old reading request new)
+leaves_change moment since old new reading request command is leaves =
+    subst (λ (r : Request). LeavesOnly moment since old.disk new.disk (LeavesBy old reading r new))
+    (sym is) leaves
+
+-- an answer blames no disk
+pub answers_blame_none : (before : ℕ) (o : Office) (moment : ℕ) (query : Query)
+    (outcome : Outcome) → Answers o moment query outcome ⊎ (outcome ≡ NoMemory) →
+    IsBlamed before before outcome
+answers_blame_none before o moment query outcome told = record {
+  later = omega arith;
+  rose = λ failed. absurd (⊎_elim
+      (λ answer. answer_no_fault o moment query outcome answer failed)
+      (λ lack. cc (lack, failed))
+      told);
+}

@@ -1,0 +1,4 @@
+pub mod Files
+pub mod Office
+pub mod Steps
+pub mod Laws

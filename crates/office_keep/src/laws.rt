@@ -1,0 +1,17 @@
+//! Laws of histories and of the files that stand for them.
+ghost use Rattle.office_keep.specs.Laws.{OneHistory, OneJudgement};
+
+use record_form::no_record_begins_another;
+
+/// A command has one judgement at a moment, so an entry that is refused, or changes nothing, is in
+/// no legal history.
+pub fn one_judgement()
+    ensures { OneJudgement }
+{}
+
+/// A file stands for one history at most.
+pub fn one_history()
+    ensures { OneHistory }
+{
+    no_record_begins_another();
+}

@@ -1,0 +1,14 @@
+//! The office that keeps its history in a journal.
+//! Stands on the machine, the journal and disks of the outside.
+//! Promises that a stop at any moment leaves a file that opens to every acknowledged change.
+#![tactic(auto)]
+
+mod fault;
+mod laws;
+mod office;
+mod opening;
+mod steps;
+
+pub use fault::{KeepFailed, KeepFault};
+pub use laws::{one_history, one_judgement};
+pub use office::{Office, let_go};

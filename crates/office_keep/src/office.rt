@@ -1,0 +1,280 @@
+//! A machine and its journal.
+ghost use Rattle.std.specs.Prelude.{◌≡◌, ◌≤◌, ◌⊎◌, [], List, ℕ, Option, Some, None, IfOk, IfErr};
+ghost use Rattle.std.specs.Prelude.{length, take};
+ghost use Rattle.slo_limits.specs.declared.TheConstants.{MAX_MINUTE};
+ghost use Rattle.office_outside.specs.Disk.{All, IsQuiet, LeavesOnly};
+ghost use Rattle.office_outside.specs.Faults.{Rose};
+ghost use Rattle.office_counter.specs.Steps.{HasRevisionsIn};
+ghost use Rattle.slo_journal.specs.Front.{HasNoHeader, IsHeader, IsMaking};
+ghost use Rattle.office_keep.specs.Files.{IsDamagedAt, IsWhole, StandsFor};
+ghost use Rattle.office_keep.specs.Office.{IsBlamed, LeavesBy, Performs, SettlesBy, StandsSettled};
+ghost use Rattle.office_keep.specs.declared.fault.KeepFault.TheVariants.{AlreadyThere, Damaged};
+ghost use Rattle.office_keep.specs.declared.fault.KeepFault.TheVariants.{DiskFault, NoMemory};
+ghost use Rattle.office_keep.specs.declared.fault.KeepFault.TheVariants.{NotAJournal};
+
+use crate::fault::{fault_of_create, fault_of_open};
+use crate::opening::load;
+use crate::steps::change;
+use crate::{KeepFailed, KeepFault};
+use office_core::{Core, Prepared};
+use office_outside::Disk;
+use record_form::{Outcome, Request};
+use slo_journal::{Journal, create, open};
+use slo_limits::RANGE_MINUTES;
+use std::alloc::Global;
+use std::marker::Model;
+
+/// An office that keeps its history on a disk. It is seen as its origin and history, the entry in
+/// doubt if there is one, and the disk.
+#[derive(Drop)]
+pub struct Office<D: Disk + Drop> {
+    core: Core,
+    journal: Journal<D>,
+    /// The entry in doubt, for which the machine has room.
+    doubt: Option<Prepared>,
+}
+
+impl<D: Disk + Drop> Model for Office<D> {
+    ghost use Rattle.office_keep.specs.Office.{OfficeOn};
+    ghost use Rattle.office_keep.specs.Steps.{IsKept, office_on};
+
+    ghost Value = { OfficeOn D };
+
+    ghost view = { λ o. office_on o.core o.doubt o.journal };
+
+    // Each image of the disk stands for the history, or for it with the entry in doubt.
+    ghost invariant = { λ o. IsKept D.images o.core o.doubt o.journal };
+}
+
+impl<D: Disk + Drop> Office<D> {
+    /// Makes a journal without entries on a disk, whose history begins at a minute since
+    /// 1970-01-01T00:00Z. It takes its memory before it touches the disk.
+    pub fn create(alloc: Global, disk: D, origin: u32) -> Result<Office<D>, KeepFailed<D>>
+        requires origin { origin ≤ MAX_MINUTE }
+        ensures made { IfOk result (λ office.
+            (office.office ≡ record { origin = origin; history = [] }) × (office.doubt ≡ None)) }
+        ensures none_before { IfOk result (λ _. (file : List ℕ) → D.content disk ≡ Some file
+            → HasNoHeader file) }
+        ensures moments { IfOk result (λ office.
+            IsMaking D.images D.moment D.images_since origin disk office.disk) }
+        ensures already_there { IfErr result (λ e. e.fault ≡ AlreadyThere
+            → (file : List ℕ) → D.content disk ≡ Some file
+            → (o : ℕ) × IsHeader o (take 13 file)) }
+        ensures untouched { IfErr result (λ e. e.fault ≡ AlreadyThere
+            → IsQuiet D.images D.moment D.images_since disk e.disk) }
+        ensures fault { IfErr result (λ e. e.fault ≡ DiskFault
+            → IsQuiet D.images D.moment D.images_since disk e.disk
+            ⊎ IsMaking D.images D.moment D.images_since origin disk e.disk) }
+        ensures no_memory { IfErr result (λ e. e.fault ≡ NoMemory → e.disk ≡ disk) }
+        ensures others { IfErr result (λ e.
+            (e.fault ≡ DiskFault) ⊎ ((e.fault ≡ AlreadyThere) ⊎ (e.fault ≡ NoMemory))) }
+        ensures cause { IfErr result (λ e. e.fault ≡ DiskFault
+            → Rose (D.faults disk) (D.faults e.disk)) }
+        ensures later { IfOk result (λ office. D.faults disk ≤ D.faults office.disk) }
+        ensures later_err { IfErr result (λ e. D.faults disk ≤ D.faults e.disk) }
+    {
+        let Ok(core) = Core::new(alloc, origin) else {
+            return Err(KeepFailed {
+                fault: KeepFault::NoMemory,
+                disk,
+            });
+        };
+        match create(disk, origin) {
+            Ok(journal) => Ok(Office {
+                core,
+                journal,
+                doubt: None,
+            }),
+            Err(failed) => {
+                drop(core);
+                Err(KeepFailed {
+                    fault: fault_of_create(failed.fault),
+                    disk: failed.disk,
+                })
+            }
+        }
+    }
+
+    /// Opens a journal's file. It writes nothing.
+    pub fn open(alloc: Global, disk: D) -> Result<Office<D>, KeepFailed<D>>
+        ensures settled { IfOk result (λ office. office.doubt ≡ None) }
+        ensures whole { IfOk result (λ office. IsWhole office.office) }
+        ensures stands { IfOk result (λ office. (file : List ℕ) → D.content disk ≡ Some file
+            → StandsFor office.office file) }
+        ensures damaged { IfErr result (λ e. (at : ℕ) → e.fault ≡ Damaged at
+            → (file : List ℕ) → D.content disk ≡ Some file → IsDamagedAt at file) }
+        ensures not_a_journal { IfErr result (λ e. e.fault ≡ NotAJournal
+            → (file : List ℕ) → D.content disk ≡ Some file → HasNoHeader file) }
+        ensures others { IfErr result (λ e. e.fault ≡ AlreadyThere → ⊥) }
+        ensures quiet { IfOk result (λ office.
+            IsQuiet D.images D.moment D.images_since disk office.disk) }
+        ensures quiet_err { IfErr result (λ e.
+            IsQuiet D.images D.moment D.images_since disk e.disk) }
+        ensures cause { IfErr result (λ e. e.fault ≡ DiskFault
+            → Rose (D.faults disk) (D.faults e.disk)) }
+        ensures later { IfOk result (λ office. D.faults disk ≤ D.faults office.disk) }
+        ensures later_err { IfErr result (λ e. D.faults disk ≤ D.faults e.disk) }
+    {
+        let mut scan = match open(alloc, disk) {
+            Ok(scan) => scan,
+            Err(failed) => {
+                return Err(KeepFailed {
+                    fault: fault_of_open(failed.fault),
+                    disk: failed.disk,
+                });
+            }
+        };
+        let Ok(mut core) = Core::new(alloc, scan.origin()) else {
+            return Err(KeepFailed {
+                fault: KeepFault::NoMemory,
+                disk: scan.give_back(),
+            });
+        };
+        match load(alloc, &mut core, &mut scan) {
+            Ok(()) => {
+                core.is_legal();
+                Ok(Office {
+                    core,
+                    journal: scan.ready(),
+                    doubt: None,
+                })
+            }
+            Err(fault) => {
+                drop(core);
+                Err(KeepFailed {
+                    fault,
+                    disk: scan.give_back(),
+                })
+            }
+        }
+    }
+
+    /// Each image of the disk stands for the history, or for it with the entry in doubt; and the
+    /// history is legal. No work.
+    pub fn disk_stands(&self)
+        ensures stands { All (StandsSettled self.now.office self.now.doubt)
+            (D.images self.now.disk) }
+        ensures whole { IsWhole self.now.office }
+    {
+        self.core.is_legal();
+    }
+
+    /// The machine.
+    pub fn core(&self) -> &Core
+        ensures { result.now.office ≡ self.now.office }
+    {
+        &self.core
+    }
+
+    /// How many entries there are.
+    pub fn length(&self) -> u32
+        ensures { result ≡ length self.now.office.history }
+    {
+        self.core.length()
+    }
+
+    /// The machine and the disk.
+    pub fn give_back(self) -> (Core, D)
+        ensures office { result.0.office ≡ self.office }
+        ensures disk { result.1 ≡ self.disk }
+    {
+        (self.core, self.journal.give_back())
+    }
+
+    /// The disk. The machine is let go.
+    pub fn into_disk(self) -> D
+        ensures { result ≡ self.disk }
+    {
+        let (core, disk) = self.give_back();
+        drop(core);
+        disk
+    }
+
+    /// Performs a request that was read at this reading of the clock, in minutes since
+    /// 1970-01-01T00:00Z. A moment past the range is told first. A change then settles what is in
+    /// doubt, and is judged; a query touches neither the disk nor what is in doubt.
+    pub fn perform(&mut self, alloc: Global, reading: u32, request: &Request) -> Outcome
+        requires reading { reading ≤ MAX_MINUTE }
+        requires revisions { HasRevisionsIn request.now }
+        ensures ended { (place : Option ℕ)
+            × Performs self.old reading request.now result place self.new }
+        ensures any_moment { LeavesOnly D.moment D.images_since self.old.disk self.new.disk
+            (LeavesBy self.old reading request.now self.new) }
+        ensures stands { All (StandsSettled self.new.office self.new.doubt)
+            (D.images self.new.disk) }
+        ensures whole { IsWhole self.new.office }
+        ensures after_settling { SettlesBy D.moment D.images_since self.old reading request.now
+            self.new }
+        ensures cause { IsBlamed (D.faults self.old.disk) (D.faults self.new.disk) result }
+    {
+        let (outcome, _place) = self.act(alloc, reading, request);
+        outcome
+    }
+
+    /// Performs a request as `perform` does, and tells the place in the history of the entry that
+    /// this call added, if it added one. An entry that was in doubt isn't this call's.
+    pub fn act(&mut self, alloc: Global, reading: u32, request: &Request) -> (Outcome, Option<u32>)
+        requires reading { reading ≤ MAX_MINUTE }
+        requires revisions { HasRevisionsIn request.now }
+        ensures ended { Performs self.old reading request.now result.0 result.1 self.new }
+        ensures any_moment { LeavesOnly D.moment D.images_since self.old.disk self.new.disk
+            (LeavesBy self.old reading request.now self.new) }
+        ensures stands { All (StandsSettled self.new.office self.new.doubt)
+            (D.images self.new.disk) }
+        ensures whole { IsWhole self.new.office }
+        ensures after_settling { SettlesBy D.moment D.images_since self.old reading request.now
+            self.new }
+        ensures cause { IsBlamed (D.faults self.old.disk) (D.faults self.new.disk) result.0 }
+    {
+        let done = self.do_in_range(alloc, reading, request);
+        self.disk_stands();
+        done
+    }
+
+    /// Tells a moment past the range, or does what is asked.
+    fn do_in_range(
+        &mut self,
+        alloc: Global,
+        reading: u32,
+        request: &Request,
+    ) -> (Outcome, Option<u32>)
+        requires reading { reading ≤ MAX_MINUTE }
+        requires revisions { HasRevisionsIn request.now }
+        ensures ended { Performs self.old reading request.now result.0 result.1 self.new }
+        ensures any_moment { LeavesOnly D.moment D.images_since self.old.disk self.new.disk
+            (LeavesBy self.old reading request.now self.new) }
+        ensures after_settling { SettlesBy D.moment D.images_since self.old reading request.now
+            self.new }
+        ensures cause { IsBlamed (D.faults self.old.disk) (D.faults self.new.disk) result.0 }
+    {
+        self.core.is_legal();
+        let moment = self.core.moment(reading);
+        if !self.core.in_range(moment) {
+            let end = self.core.origin() + RANGE_MINUTES;
+            return (
+                Outcome::ClockRange {
+                    end,
+                    reading: moment,
+                },
+                None,
+            );
+        }
+        match request {
+            Request::Ask(query) => (self.core.answer(alloc, moment, query), None),
+            Request::Change(command) => change(
+                alloc,
+                &mut self.core,
+                &mut self.journal,
+                &mut self.doubt,
+                reading,
+                command,
+            ),
+        }
+    }
+}
+
+/// Lets a machine go whose disk was taken from it. A caller that does it itself proves the dropping
+/// of each type inside anew.
+pub fn let_go(core: Core) {
+    drop(core);
+}

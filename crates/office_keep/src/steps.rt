@@ -1,0 +1,167 @@
+//! The steps of a change: what is in doubt is settled, and the entry is written.
+ghost use Rattle.std.specs.Prelude.{◌≡◌, ◌≤◌, Option, Some, None, OnOk, OnErr};
+ghost use Rattle.slo_limits.specs.declared.TheConstants.{MAX_MINUTE};
+ghost use Rattle.office_outside.specs.Disk.{LeavesOnly};
+ghost use Rattle.office_outside.specs.Faults.{HasCause};
+ghost use Rattle.record_form.specs.declared.Entry.{Entry};
+ghost use Rattle.record_form.specs.declared.Request.TheVariants.{Change};
+ghost use Rattle.record_form.specs.Ranges.{FitsRecord};
+ghost use Rattle.record_form.specs.Records.{record_of};
+ghost use Rattle.office_core.specs.Machine.{HasRevisions};
+ghost use Rattle.slo_journal.specs.Keeping.{WithOrWithout};
+ghost use Rattle.office_keep.specs.Files.{records};
+ghost use Rattle.office_keep.specs.Office.{Changes, IsAsBefore, IsBlamed, IsTimely, IsUnmoved};
+ghost use Rattle.office_keep.specs.Office.{Leaves, SettlesBy, StandsSettled};
+ghost use Rattle.office_keep.specs.Steps.{IsKept, KeepsOffice, Writes, entry_in, office_on};
+
+use office_core::{Core, Prepared, Verdict};
+use office_outside::{Disk, Failed};
+use record_form::{Command, Outcome, records_have_sizes};
+use slo_journal::{AppendFault, Journal, frame_of};
+use std::alloc::Global;
+
+/// Settles what is in doubt, and makes a change; with the place of the entry that it added.
+pub(crate) fn change<D: Disk + Drop>(
+    alloc: Global,
+    core: &mut Core,
+    journal: &mut Journal<D>,
+    doubt: &mut Option<Prepared>,
+    reading: u32,
+    command: &Command,
+) -> (Outcome, Option<u32>)
+    requires kept { IsKept D.images core.old doubt.old journal.old }
+    requires reading { reading ≤ MAX_MINUTE }
+    requires timely { IsTimely core.old.office reading }
+    requires revisions { HasRevisions command.now }
+    ensures kept { IsKept D.images core.new doubt.new journal.new }
+    ensures ended { Changes (office_on core.old doubt.old journal.old) reading command.now
+        result.0 result.1 (office_on core.new doubt.new journal.new) }
+    ensures any_moment { LeavesOnly D.moment D.images_since journal.old.disk journal.new.disk
+        (Leaves (office_on core.old doubt.old journal.old) reading command.now
+        (office_on core.new doubt.new journal.new)) }
+    ensures after_settling { SettlesBy D.moment D.images_since
+        (office_on core.old doubt.old journal.old) reading (Change command.now)
+        (office_on core.new doubt.new journal.new) }
+    ensures cause { IsBlamed (D.faults journal.old.disk) (D.faults journal.new.disk) result.0 }
+{
+    let Ok(()) = settle(core, journal, doubt) else {
+        return (Outcome::DiskFault, None);
+    };
+    core.is_legal();
+    add(alloc, core, journal, doubt, reading, command)
+}
+
+/// Settles what is in doubt.
+fn settle<D: Disk + Drop>(
+    core: &mut Core,
+    journal: &mut Journal<D>,
+    doubt: &mut Option<Prepared>,
+) -> Result<(), Failed>
+    requires kept { IsKept D.images core.old doubt.old journal.old }
+    ensures kept { IsKept D.images core.new doubt.new journal.new }
+    ensures settled { OnOk result (IsUnmoved (office_on core.old doubt.old journal.old)
+        (office_on core.new doubt.new journal.new)) }
+    ensures stays { OnErr result (IsAsBefore (office_on core.old doubt.old journal.old)
+        (office_on core.new doubt.new journal.new)) }
+    ensures any_moment { LeavesOnly D.moment D.images_since journal.old.disk journal.new.disk
+        (StandsSettled core.old.office (entry_in doubt.old core.old.pending)) }
+    ensures cause { HasCause (D.faults journal.old.disk) (D.faults journal.new.disk) result }
+{
+    match doubt.take() {
+        None => Ok(()),
+        Some(entry) => match journal.settle() {
+            Ok(true) => {
+                core.commit(entry);
+                Ok(())
+            }
+            Ok(false) => {
+                drop(entry);
+                Ok(())
+            }
+            Err(_) => {
+                *doubt = Some(entry);
+                Err(Failed)
+            }
+        },
+    }
+}
+
+/// Makes a change where nothing is in doubt.
+fn add<D: Disk + Drop>(
+    alloc: Global,
+    core: &mut Core,
+    journal: &mut Journal<D>,
+    doubt: &mut Option<Prepared>,
+    reading: u32,
+    command: &Command,
+) -> (Outcome, Option<u32>)
+    requires kept { KeepsOffice D.images core.old.office journal.old }
+    requires none { doubt.old ≡ None }
+    requires reading { reading ≤ MAX_MINUTE }
+    requires timely { IsTimely core.old.office reading }
+    requires revisions { HasRevisions command.now }
+    ensures kept { IsKept D.images core.new doubt.new journal.new }
+    ensures ended { Changes (office_on core.old doubt.old journal.old) reading command.now
+        result.0 result.1 (office_on core.new doubt.new journal.new) }
+    ensures any_moment { LeavesOnly D.moment D.images_since journal.old.disk journal.new.disk
+        (Leaves (office_on core.old doubt.old journal.old) reading command.now
+        (office_on core.new doubt.new journal.new)) }
+    ensures cause { IsBlamed (D.faults journal.old.disk) (D.faults journal.new.disk) result.0 }
+{
+    core.is_legal();
+    let moment = core.moment(reading);
+    match core.prepare(alloc, moment, command) {
+        Verdict::Ready(value) => write(alloc, core, journal, doubt, value),
+        Verdict::Same(outcome) => (outcome, None),
+        Verdict::Refused(refusal) => (Outcome::Refused(refusal), None),
+        Verdict::NoMemory => (Outcome::NoMemory, None),
+    }
+}
+
+/// Writes the entry for which room was made, and adds it once it is on the disk.
+fn write<D: Disk + Drop>(
+    alloc: Global,
+    core: &mut Core,
+    journal: &mut Journal<D>,
+    doubt: &mut Option<Prepared>,
+    value: Prepared,
+) -> (Outcome, Option<u32>)
+    requires kept { KeepsOffice D.images core.old.office journal.old }
+    requires none { doubt.old ≡ None }
+    requires pending { (e : Entry) × (core.old.pending ≡ Some e) × (value ≡ record_of e) }
+    ensures kept { IsKept D.images core.new doubt.new journal.new }
+    ensures fits { (e : Entry) → core.old.pending ≡ Some e → FitsRecord e }
+    ensures ended { (e : Entry) → core.old.pending ≡ Some e
+        → Writes core.old.office e result.0 result.1
+        core.new.office (entry_in doubt.new core.new.pending) }
+    ensures any_moment { (e : Entry) → core.old.pending ≡ Some e
+        → LeavesOnly D.moment D.images_since journal.old.disk journal.new.disk
+        (WithOrWithout core.old.office.origin (records core.old.office.history)
+        (record_of e)) }
+    ensures cause { IsBlamed (D.faults journal.old.disk) (D.faults journal.new.disk) result.0 }
+{
+    core.is_legal();
+    records_have_sizes();
+    let Ok(frame) = frame_of(alloc, value.bytes()) else {
+        drop(value);
+        return (Outcome::NoMemory, None);
+    };
+    let place = core.length();
+    let appended = journal.append(&frame);
+    drop(frame);
+    match appended {
+        Ok(()) => (core.commit(value), Some(place)),
+        Err(AppendFault::JournalFull { tail, needed }) => {
+            drop(value);
+            (Outcome::JournalFull { needed, tail }, None)
+        }
+        Err(AppendFault::NotKept) => {
+            drop(value);
+            (Outcome::DiskFault, None)
+        }
+        Err(AppendFault::InDoubt) => {
+            *doubt = Some(value);
+            (Outcome::DiskFault, None)
+        }
+    }
+}

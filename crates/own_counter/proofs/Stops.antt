@@ -1,0 +1,206 @@
+-- What a stop may leave in the course of a session.
+use Rattle.std.proofs.Common.{◌≡◌, ◌⊎◌, ℕ, List, [], ◌∷◌, Bool, Option, Some, None, arith}
+use Rattle.std.proofs.Common.{sym, ap, subst, inl, inr}
+use Rattle.message_heads.specs.Streams.{Said}
+use Rattle.record_form.specs.declared.Command.{Command}
+use Rattle.record_form.specs.declared.Entry.{Entry}
+use Rattle.record_form.specs.declared.Outcome.{Outcome}
+use Rattle.record_form.specs.declared.Request.{Request}
+use Rattle.record_form.specs.declared.Request.TheVariants.{Change, Ask}
+use Rattle.office_outside.specs.Disk.{All, LeavesOnly}
+use Rattle.office_history.specs.History.{Office, with_entry}
+use Rattle.office_counter.specs.Laws.{Extends}
+use Rattle.office_counter.specs.Steps.{with_made}
+use Rattle.office_counter.proofs.Steps.{extends_still, extends_both, extends_with_others}
+use Rattle.office_counter.proofs.Steps.{step_extends}
+use Rattle.office_keep.specs.Files.{StandsFor}
+use Rattle.office_keep.specs.Office.{IsSettled, Leaves, LeavesBy, OfficeOn, StandsSettled, entry_at}
+use Rattle.office_keep.specs.Office.{unsettled, written}
+use Rattle.office_session.specs.Sessions.{EndsSo, Scene, Trace, Turn}
+use Rattle.office_session.specs.declared.SessionEnd.{SessionEnd}
+use Rattle.own_counter.specs.Own.{OwnAsks, OwnOn}
+use Rattle.own_counter.specs.Runs.{IsBetween}
+use Rattle.own_counter.specs.Stepping.{own_steps, settled_others}
+use Rattle.own_counter.proofs.Asking.{stays}
+use Rattle.wire_session.specs.Treats.{Treats, asked, at_once, unread}
+use Rattle.wire_session.proofs.Keeping.{trace_keeps, end_keeps}
+
+-- an office may be longer at its end, and begin earlier
+between_longer : (first mid last : Office) (file : List ℕ) → Extends mid last
+    → IsBetween first mid file → IsBetween first last file
+between_longer first mid last file more b = record {
+  office = b.office;
+  from_first = b.from_first;
+  up_to_last = extends_both b.office mid last b.up_to_last more;
+  stands = b.stands;
+}
+
+between_earlier : (first mid last : Office) (file : List ℕ) → Extends first mid
+    → IsBetween mid last file → IsBetween first last file
+between_earlier first mid last file more b = record {
+  office = b.office;
+  from_first = extends_both first mid b.office more b.from_first;
+  up_to_last = b.up_to_last;
+  stands = b.stands;
+}
+
+settled_extends : (o : Office) (doubt : Option Entry) (settled : Office) → IsSettled o doubt settled
+    → Extends o settled
+settled_extends o doubt settled is =
+    let s = settled_others o doubt settled is in extends_with_others o settled s.0 s.1
+
+made_extends : (o new : Office) (made : Option Entry) → new ≡ with_made o made → Extends o new
+made_extends o new None is = subst (λ (p : Office). Extends o p) (sym is) (extends_still o)
+made_extends o new (Some e) is = record {
+  origin = ap (λ (p : Office). p.origin) is;
+  more = e ∷ [];
+  history = ap (λ (p : Office). p.history) is;
+}
+
+stands_with : (o : Office) (doubt : Option Entry) (settled : Office) (file : List ℕ)
+    → IsSettled o doubt settled → StandsFor settled file
+    → StandsFor o file ⊎ ((e : Entry) × StandsFor (with_entry o e) file)
+stands_with o None settled file is stands = inl (subst (λ (p : Office). StandsFor p file) is stands)
+stands_with o (Some e) settled file (inl is) stands =
+    inl (subst (λ (p : Office). StandsFor p file) is stands)
+stands_with o (Some e) settled file (inr is) stands =
+    inr (e, subst (λ (p : Office). StandsFor p file) is stands)
+
+-- what stood there stands between
+settled_between : (first last : Office) (doubt : Option Entry) (file : List ℕ) → Extends first last
+    → StandsSettled first doubt file
+    → IsBetween first last file
+settled_between first last doubt file more (settled, is, stands) = record {
+  office = first;
+  from_first = extends_still first;
+  up_to_last = more;
+  stands = stands_with first doubt settled file is stands;
+}
+
+change_between : {D : Type 0} (old : OfficeOn D) (reading : ℕ) (command : Command)
+    (new : OfficeOn D) (file : List ℕ) → Extends old.office new.office
+    → Leaves old reading command new file → IsBetween old.office new.office file
+change_between old reading command new file more (unsettled stands) =
+    settled_between old.office new.office old.doubt file more stands
+change_between old reading command new file more (written settled made is grows accepts stands) =
+    record {
+      office = settled;
+      from_first = settled_extends old.office old.doubt settled is;
+      up_to_last = made_extends settled new.office made grows;
+      stands = inr (entry_at settled reading command, stands);
+    }
+
+left_between : {D : Type 0} (old : OfficeOn D) (reading : ℕ) (request : Request) (new : OfficeOn D)
+    (file : List ℕ) → Extends old.office new.office
+    → LeavesBy old reading request new file → IsBetween old.office new.office file
+left_between old reading (Ask query) new file more stands =
+    settled_between old.office new.office old.doubt file more stands
+left_between old reading (Change command) new file more leaves =
+    change_between old reading command new file more leaves
+
+leaves_weaker : {D : Type 0} (moment : D → ℕ) (since : D → ℕ → List ℕ → Type 0) (old new : D)
+    (P Q : List ℕ → Type 0)
+    → ((c : List ℕ) → P c → Q c) → LeavesOnly moment since old new P
+    → LeavesOnly moment since old new Q
+leaves_weaker moment since old new P Q weaker leaves = record {
+  later = leaves.later;
+  each = λ c left. weaker c (leaves.each c left);
+  before = λ t c le left. elim (leaves.before t c le left)
+      [ inl past ↦ inl past | inr now ↦ inr (weaker c now) ];
+}
+
+leaves_both : {D : Type 0} (moment : D → ℕ) (since : D → ℕ → List ℕ → Type 0) (a b c : D)
+    (P : List ℕ → Type 0)
+    → LeavesOnly moment since a b P → LeavesOnly moment since b c P → LeavesOnly moment since a c P
+leaves_both moment since a b c P first second = record {
+  later = omega (arith, first.later, second.later);
+  each = λ file left. elim (second.before (moment a) file first.later left)
+      [ inl past ↦ first.each file past | inr now ↦ now ];
+  before = λ t file le left. elim (second.before t file (omega (arith, first.later, le)) left)
+      [ inl past ↦ first.before t file le past | inr now ↦ inr now ];
+}
+
+module _ {D : Type 0} (images : D → List ℕ → Type 0) (moment : D → ℕ)
+    (since : D → ℕ → List ℕ → Type 0) (faults : D → ℕ)
+    (only_now : (disk : D) (c : List ℕ) → since disk (moment disk) c → images disk c) where
+  -- what a part of a session leaves, at each moment and at its end
+  record IsKept (old new : OwnOn D) : Type 0 where
+    pub moments : LeavesOnly moment since old.kept.disk new.kept.disk
+        (IsBetween old.kept.office new.kept.office)
+    pub now : All (StandsSettled new.kept.office new.kept.doubt) (images new.kept.disk)
+    pub more : Extends old.kept.office new.kept.office
+
+  abbrev Keeps : OwnOn D → OwnOn D → Type 0
+  Keeps old new =
+      All (StandsSettled old.kept.office old.kept.doubt) (images old.kept.disk) → IsKept old new
+
+  keeps_still : (o : OwnOn D) → Keeps o o
+  keeps_still o stands = record {
+    moments = stays images moment since only_now o.kept.disk (IsBetween o.kept.office o.kept.office)
+        (λ file image. settled_between o.kept.office o.kept.office o.kept.doubt file
+        (extends_still o.kept.office) (stands file image));
+    now = stands;
+    more = extends_still o.kept.office;
+  }
+
+  keeps_both : (a b c : OwnOn D) → Keeps a b → Keeps b c → Keeps a c
+  keeps_both a b c first second stands =
+      let one = first stands in
+      let two = second one.now in
+      record {
+        moments = leaves_both moment since a.kept.disk b.kept.disk c.kept.disk
+            (IsBetween a.kept.office c.kept.office)
+            (leaves_weaker moment since a.kept.disk b.kept.disk _ _
+            (λ file. between_longer a.kept.office b.kept.office c.kept.office file two.more)
+            one.moments)
+            (leaves_weaker moment since b.kept.disk c.kept.disk _ _
+            (λ file. between_earlier a.kept.office b.kept.office c.kept.office file one.more)
+            two.moments);
+        now = two.now;
+        more = extends_both a.kept.office b.kept.office c.kept.office one.more two.more;
+      }
+
+  asking_keeps : (old : OwnOn D) (reading : ℕ) (request : Request) (outcome : Outcome)
+      (new : OwnOn D)
+      → OwnAsks images moment since faults old reading request outcome new → Keeps old new
+  asking_keeps old reading request outcome new asks stands =
+      let more : Extends old.kept.office new.kept.office =
+      step_extends _ reading request outcome _
+      (own_steps images moment since faults old reading request outcome new asks) in
+      record {
+        moments = leaves_weaker moment since old.kept.disk new.kept.disk _ _
+            (λ file. left_between old.kept reading request new.kept file more) asks.any_moment;
+        now = asks.stands;
+        more = more;
+      }
+
+  turn_keeps : (old : OwnOn D) (said : Said) (last : Bool) (reading : ℕ) (text : List ℕ)
+      (new : OwnOn D)
+      → Treats (OwnAsks images moment since faults) old said last reading text new → Keeps old new
+  turn_keeps old said last reading text new (asked request outcome for asks answer) =
+      asking_keeps old reading request outcome new asks
+  turn_keeps old said last reading text new (at_once reason for answer same) =
+      subst (λ (o : OwnOn D). Keeps old o) (sym same) (keeps_still old)
+  turn_keeps old said last reading text new (unread answer same) =
+      subst (λ (o : OwnOn D). Keeps old o) (sym same) (keeps_still old)
+
+  pub turns_leave : (count : ℕ) (old : OwnOn D) (turns : List Turn) (new : OwnOn D)
+      → Trace (Treats (OwnAsks images moment since faults)) count old turns new
+      → All (StandsSettled old.kept.office old.kept.doubt) (images old.kept.disk)
+      → LeavesOnly moment since old.kept.disk new.kept.disk
+      (IsBetween old.kept.office new.kept.office)
+  turns_leave count old turns new trace stands =
+      (trace_keeps (Treats
+      (OwnAsks images moment since faults)) Keeps keeps_still keeps_both turn_keeps
+      count old turns new trace stands).moments
+
+  pub end_leaves : (refusal : OwnOn D → ℕ → List ℕ) (end : SessionEnd) (old new : Scene (OwnOn D))
+      → EndsSo (Treats (OwnAsks images moment since faults)) refusal end old new
+      → All (StandsSettled old.handler.kept.office old.handler.kept.doubt)
+      (images old.handler.kept.disk)
+      → LeavesOnly moment since old.handler.kept.disk new.handler.kept.disk
+      (IsBetween old.handler.kept.office new.handler.kept.office)
+  end_leaves refusal end old new ends stands =
+      (end_keeps (Treats
+      (OwnAsks images moment since faults)) Keeps keeps_still keeps_both turn_keeps
+      refusal end old new ends stands).moments

@@ -1,0 +1,28 @@
+//! Laws of sessions over an office of one's own.
+ghost use Rattle.std.specs.Prelude.{ℕ, List};
+ghost use Rattle.office_keep.specs.Office.{StandsSettled};
+ghost use Rattle.office_outside.specs.Disk.{All, LeavesOnly};
+ghost use Rattle.office_session.specs.declared.SessionEnd.{SessionEnd};
+ghost use Rattle.office_session.specs.Sessions.{EndsSo, Scene, Trace, Turn};
+ghost use Rattle.own_counter.specs.Own.{OwnAsks, OwnOn};
+ghost use Rattle.own_counter.specs.Runs.{IsBetween};
+ghost use Rattle.wire_session.specs.Treats.{Treats};
+
+use office_outside::Disk;
+
+/// A stop at any moment of a session leaves a file that stands for the office as it was before some
+/// entry of the session, or for it with one entry more. It begins where the disk stands for the
+/// office, as `Office::disk_stands` says of each.
+pub fn a_stop_leaves_what_was_kept<D: Disk + Drop>()
+    ensures turns { (count : ℕ) (old : OwnOn D) (turns : List Turn) (new : OwnOn D)
+        → Trace (Treats (OwnAsks D.images D.moment D.images_since D.faults)) count old turns new
+        → All (StandsSettled old.kept.office old.kept.doubt) (D.images old.kept.disk)
+        → LeavesOnly D.moment D.images_since old.kept.disk new.kept.disk
+        (IsBetween old.kept.office new.kept.office) }
+    ensures end { (refusal : OwnOn D → ℕ → List ℕ) (end : SessionEnd) (old new : Scene (OwnOn D))
+        → EndsSo (Treats (OwnAsks D.images D.moment D.images_since D.faults)) refusal end old new
+        → All (StandsSettled old.handler.kept.office old.handler.kept.doubt)
+        (D.images old.handler.kept.disk)
+        → LeavesOnly D.moment D.images_since old.handler.kept.disk new.handler.kept.disk
+        (IsBetween old.handler.kept.office new.handler.kept.office) }
+{}
