@@ -1,0 +1,4 @@
+pub mod JudgementLemmas
+pub mod ReadLemmas
+pub mod DayLemmas
+pub mod OnceLemmas
