@@ -1,0 +1,4 @@
+mod LawLemmas
+mod LineLemmas
+mod PresentLemmas
+mod StateLemmas

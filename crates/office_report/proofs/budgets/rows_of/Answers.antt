@@ -1,0 +1,10 @@
+use Rattle.std.proofs.Common.{◌<◌, arith}
+use Rattle.office_history.specs.History.{end_of, present}
+use Rattle.office_report.proofs.PresentLemmas.{present_in_range}
+use Rattle.office_report.proofs.budgets.rows_of.Goals as goal
+
+pub answer-requires-clause-in_range : goal.answer-requires-clause-in_range
+answer-requires-clause-in_range c =
+    let o = c.args.core.now.office in
+    let now : present o < end_of o.origin = present_in_range o.origin c.is_legal.ensures.legal in
+    omega (arith, c.moment-moment.ensures)
