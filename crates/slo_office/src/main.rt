@@ -1,20 +1,10 @@
-//! The error budget office: the program, with a module for each command, `budget` and `check`.
-//! Stands on `csv_records`, `sample_book` and `burn_core`, on `slo_catalog` and `office_outside`.
-//! Promises by `run`: what is printed is the definition's answer on the bytes of the input.
+//! The error budget office: the program.
+//! Stands on its commands, and on the adapters over files, terminals and the clock.
+//! Promises what `run` promises over these.
 #![tactic(auto)]
 
-mod answer;
-mod budget;
-mod check;
-mod command;
-mod ending;
-mod input;
-mod run;
-#[cfg(test)]
-mod tests;
-
-use office_outside::{StdSink, StdSource};
-use run::{run, run_out_of_memory};
+use office_commands::{run, run_out_of_memory};
+use office_outside::{FileDisk, StdSink, StdSource, WallClock};
 use std::alloc::AllocError;
 use std::env::{self, Env};
 use std::io::ErrorKind;
@@ -43,8 +33,21 @@ fn main(rt: HostRuntime) -> ExitCode {
     let mut input = StdSource::new(rt.stdin());
     let mut output = StdSink::new(rt.stdout());
     let mut faults = StdSink::new(rt.stderr());
+    let disk = FileDisk::new(rt);
+    let mut clock = WallClock::new(rt);
     let status = match words_of(&rt) {
-        Ok(words) => run(&rt, &words, &mut input, &mut output, &mut faults),
+        Ok(words) => {
+            let end = run(
+                &rt,
+                &words,
+                &mut input,
+                &mut output,
+                &mut faults,
+                disk,
+                &mut clock,
+            );
+            end.status
+        }
         Err(AllocError) => run_out_of_memory(&mut faults),
     };
     ExitCode::from(status)

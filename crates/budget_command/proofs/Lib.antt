@@ -1,0 +1,4 @@
+pub mod CurrentLemmas
+pub mod TableLemmas
+pub mod EventLemmas
+pub mod BudgetLemmas

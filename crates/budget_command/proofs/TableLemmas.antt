@@ -1,0 +1,83 @@
+-- One more row behind those that came.
+use Rattle.std.proofs.Common.{◌≡◌, ◌≤◌, ◌+◌, ◌∙◌, ℕ, List, [], ◌∷◌, ◌++◌, Bool, Ok, ap, append_assoc, arith, length-append, refl, sym}
+use Rattle.std.specs.List.{count_by}
+use Rattle.std.proofs.lemmas.List.{append-nil}
+use Rattle.std.proofs.lemmas.List.Sums.{sum_by_push}
+use Rattle.csv_records.specs.Records.{Fields}
+use Rattle.slo_terms.specs.Judged.{judged_from, judged_next}
+use Rattle.sample_book.specs.declared.Row.{Row}
+use Rattle.sample_book.specs.declared.RowVerdict.{RowVerdict}
+use Rattle.sample_book.specs.declared.RowVerdict.TheVariants.{New, Newer, Repeated, Superseded, Conflict}
+use Rattle.sample_book.specs.Rows.{current_rows, verdict_of}
+use Rattle.sample_book.proofs.CameLemmas.{after-current}
+use Rattle.budget_command.specs.Records.{is_newer, is_repeated, is_superseded, judge, judge_over, verdicts, verdicts_from}
+use Rattle.budget_command.specs.Tables.{HasTakenRecord, IsEmpty, IsSoFar, one_if, rows_after}
+use Rattle.budget_command.specs.declared.table.Table.{Table}
+
+-- a pass over records goes on behind one that keeps the rules
+judged_from-one : (came : List Row) (number : ℕ) (fields : Fields) (rest : List Fields) (row : Row) → judge came fields ≡ Ok row →
+    judged_from judge came number (fields ∷ rest) ≡ judged_from judge (came ++ row ∷ []) (number + 1) rest
+judged_from-one came number fields rest row e = ap (judged_next (λ more. judged_from judge more (number + 1) rest) came number) e
+
+after-came : (came : List Row) (row : Row) → rows_after (current_rows came) row ≡ current_rows (came ++ row ∷ [])
+after-came came row = after-current came row
+
+verdicts-push : (before rows : List Row) (row : Row) →
+    verdicts_from before (rows ++ row ∷ []) ≡ verdicts_from before rows ++ verdict_of (current_rows (before ++ rows)) row ∷ []
+verdicts-push before [] row = ap (λ rows. verdict_of (current_rows rows) row ∷ []) (sym (append-nil before))
+verdicts-push before (first ∷ rows) row =
+    ap (λ more. verdict_of (current_rows before) first ∷ more)
+    (verdicts-push (before ++ first ∷ []) rows row
+    ∙ ap (λ came. verdicts_from (before ++ first ∷ []) rows ++ verdict_of (current_rows came) row ∷ []) (append_assoc before (first ∷ []) rows))
+
+-- what became of the rows that came, and of one more
+count-more : (p : RowVerdict → Bool) (came : List Row) (row : Row) (verdict : RowVerdict) (count : ℕ) →
+    count ≡ count_by p (verdicts came) → verdict ≡ verdict_of (current_rows came) row →
+    count + one_if (p verdict) ≡ count_by p (verdicts (came ++ row ∷ []))
+count-more p came row verdict count e v =
+    ap (λ n. n + one_if (p verdict)) e
+    ∙ sym (sum_by_push (λ verdict. one_if (p verdict)) (verdicts came) verdict)
+    ∙ ap (λ v. count_by p (verdicts came ++ v ∷ [])) v
+    ∙ ap (count_by p) (sym (verdicts-push [] came row))
+
+one_at_most : (verdict : RowVerdict) → one_if (is_newer verdict) + one_if (is_repeated verdict) + one_if (is_superseded verdict) ≤ 1
+one_at_most New = omega arith
+one_at_most (Newer old) = omega arith
+one_at_most Repeated = omega arith
+one_at_most (Superseded revision) = omega arith
+one_at_most (Conflict kept) = omega arith
+
+-- A record that keeps the rules is judged, and its row kept.
+pub so_far-push : (records left : List Fields) (number : ℕ) (old new : Table) (fields : Fields) (rest : List Fields) →
+    IsSoFar records left number old.book.rows old.corrected old.repeated old.superseded → left ≡ fields ∷ rest → HasTakenRecord fields old new →
+    IsSoFar records rest (number + 1) new.book.rows new.corrected new.repeated new.superseded
+so_far-push records left number old new fields rest so_far is record_taken =
+    let kept = so_far.kept in
+    let row = record_taken.row in
+    let taken = record_taken.taken in
+    let verdict : RowVerdict = verdict_of old.book.rows row in
+    let over : judge so_far.came fields ≡ Ok row = ap (λ rows. judge_over rows fields) (sym kept.current) ∙ record_taken.judged in
+    let stands : verdict ≡ verdict_of (current_rows so_far.came) row = ap (λ rows. verdict_of rows row) kept.current in
+    record {
+      came = so_far.came ++ row ∷ [];
+      kept = record {
+        current = taken.rows ∙ ap (λ rows. rows_after rows row) kept.current ∙ after-came so_far.came row;
+        newer = taken.newer ∙ count-more is_newer so_far.came row verdict old.corrected kept.newer stands;
+        again = taken.again ∙ count-more is_repeated so_far.came row verdict old.repeated kept.again stands;
+        older = taken.older ∙ count-more is_superseded so_far.came row verdict old.superseded kept.older stands;
+      };
+      judged = so_far.judged ∙ ap (judged_from judge so_far.came number) is ∙ judged_from-one so_far.came number fields rest row over;
+      numbered = omega (arith, so_far.numbered, length-append so_far.came (row ∷ []));
+      shorter = (let one = one_at_most verdict in omega (arith, so_far.shorter, one, taken.newer, taken.again, taken.older, length-append so_far.came (row ∷ [])));
+    }
+
+-- Before the first record nothing came.
+pub so_far-none : (records left : List Fields) (table : Table) → left ≡ records → IsEmpty table →
+    IsSoFar records left 1 table.book.rows table.corrected table.repeated table.superseded
+so_far-none records left table all empty = record {
+  came = [];
+  kept = record { current = empty.rows; newer = empty.newer; again = empty.again; older = empty.older };
+  judged = ap (judged_from judge [] 1) (sym all);
+  numbered = refl;
+  shorter = omega (arith, empty.newer, empty.again, empty.older);
+}

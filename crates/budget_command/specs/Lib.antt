@@ -1,0 +1,6 @@
+pub mod Order
+pub mod Records
+pub mod Tables
+pub mod Lines
+pub mod Words
+pub mod Answer

@@ -1,0 +1,67 @@
+//! Why the input of `budget` is refused.
+ghost use Rattle.std.specs.Prelude.{◌≡◌, IfOk, string_bytes};
+ghost use Rattle.budget_command.specs.Words.{words_of_amount, words_of_fault, words_of_record};
+
+use sample_book::Amount;
+use std::alloc::{AllocError, Global};
+
+/// What is wrong with a record, in the order in which the rules are tried.
+#[derive(Clone, Copy, Debug, PartialEq, Eq)]
+pub enum RecordFault {
+    /// It hasn't five fields.
+    Fields,
+    /// A field breaks its rule.
+    Field,
+    /// The current row of its cell has its revision and this other amount.
+    Conflict(Amount),
+}
+
+/// Why an input is refused.
+#[derive(Clone, Copy, Debug, PartialEq, Eq)]
+pub enum BudgetFault {
+    /// It has more bytes than a table of samples may have.
+    TooLarge,
+    /// The record of this number, counted from 1, is the first that breaks a rule.
+    BadRecord { number: u64, fault: RecordFault },
+}
+
+/// Why there are no lines to print.
+#[derive(Clone, Copy, Debug, PartialEq, Eq)]
+pub enum BudgetError {
+    Fault(BudgetFault),
+    NoMemory,
+}
+
+/// The words for a conflict with a kept amount.
+fn amount_words(alloc: Global, kept: Amount) -> Result<String, AllocError>
+    ensures { IfOk result (λ text. string_bytes text ≡ words_of_amount kept) }
+{
+    match kept {
+        Amount::Counts { part, total } => format!(in alloc; "conflict {part},{total}"),
+        Amount::Value(value) => format!(in alloc; "conflict {value}"),
+    }
+}
+
+/// The words for what is wrong with a record.
+fn record_words(alloc: Global, fault: RecordFault) -> Result<String, AllocError>
+    ensures { IfOk result (λ text. string_bytes text ≡ words_of_record fault) }
+{
+    match fault {
+        RecordFault::Fields => String::from_str(alloc, "fields"),
+        RecordFault::Field => String::from_str(alloc, "row"),
+        RecordFault::Conflict(kept) => amount_words(alloc, kept),
+    }
+}
+
+/// The words for an input that is refused.
+pub fn budget_words(alloc: Global, fault: BudgetFault) -> Result<String, AllocError>
+    ensures { IfOk result (λ text. string_bytes text ≡ words_of_fault fault) }
+{
+    match fault {
+        BudgetFault::TooLarge => String::from_str(alloc, "input too large"),
+        BudgetFault::BadRecord { number, fault } => {
+            let words = record_words(alloc, fault)?;
+            format!(in alloc; "record {number}: {words}")
+        }
+    }
+}

@@ -1,0 +1,64 @@
+-- What a session leaves, from what its parts leave.
+use Rattle.std.proofs.Common.{◌≡◌, ℕ, List, [], ap, subst, sym, ◌∙◌}
+use Rattle.std.specs.Prelude.{Option, None}
+use Rattle.office_outside.specs.Disk.{All, LeavesOnly}
+use Rattle.record_form.specs.declared.Entry.{Entry}
+use Rattle.office_history.specs.History.{Office}
+use Rattle.office_keep.specs.Files.{IsWhole, StandsFor}
+use Rattle.office_keep.specs.Office.{OfficeOn, StandsSettled}
+use Rattle.office_session.specs.Sessions.{EndsSo}
+use Rattle.office_session.specs.declared.SessionEnd.{SessionEnd}
+use Rattle.office_counter.specs.Laws.{Extends, IsOwned}
+use Rattle.wire_session.specs.Treats.{Treats, refusal_text}
+use Rattle.own_counter.specs.Own.{OwnAsks, OwnOn, own_on, standing_of}
+use Rattle.own_counter.specs.Runs.{IsBetween}
+use Rattle.journal_commands.specs.Serving.{IsServed, Outside, with_counter}
+
+-- with nothing in doubt each image stands for the history
+pub as_opened : {D : Type 0} (images : D → List ℕ → Type 0) (office : OfficeOn D) →
+    office.doubt ≡ None → All (StandsSettled office.office office.doubt) (images office.disk) →
+    All (StandsFor office.office) (images office.disk)
+as_opened images office none all = λ file image.
+    let P : Option Entry → Type 0 = λ doubt. StandsSettled office.office doubt file in
+    let s = subst P none (all file image) in
+    let Q : Office → Type 0 = λ o. StandsFor o file in
+    subst Q s.1 s.2
+
+-- before its first change a counter has no places
+pub none_owned : (o : Office) (faults : ℕ) →
+    IsOwned (record { office = o; own = []; faults = faults })
+none_owned o faults = record { rise = tt; within = tt }
+
+-- the parts of a session that was served, put together
+module _ {D : Type 0} (images : D → List ℕ → Type 0) (moment : D → ℕ)
+    (since : D → ℕ → List ℕ → Type 0) (faults : D → ℕ) (office : OfficeOn D) (end : SessionEnd)
+    (old new : Outside) (disk : D) (last : OwnOn D) (back : OfficeOn D) where
+  pub as_served :
+      EndsSo (Treats (OwnAsks images moment since faults)) refusal_text end
+      (with_counter old (own_on office [])) (with_counter new last) →
+      back ≡ last.kept → disk ≡ back.disk → IsWhole back.office →
+      Extends office.office last.kept.office → IsOwned (standing_of faults last) →
+      All (StandsFor office.office) (images office.disk) →
+      All (StandsSettled back.office back.doubt) (images back.disk) →
+      LeavesOnly moment since office.disk last.kept.disk
+      (IsBetween office.office last.kept.office) →
+      IsServed images moment since faults office end old new disk
+  as_served ends given handed whole grows owned stood stands moments =
+      let P : D → Type 0 = λ d.
+      LeavesOnly moment since office.disk d (IsBetween office.office last.kept.office) in
+      let Q : D → Type 0 = λ d.
+      All (StandsSettled last.kept.office last.kept.doubt) (images d) in
+      let R : OfficeOn D → Type 0 = λ o. IsWhole o.office in
+      let S : OfficeOn D → Type 0 = λ o. All (StandsSettled o.office o.doubt) (images o.disk) in
+      let is_back : disk ≡ last.kept.disk = handed ∙ ap (λ (o : OfficeOn D). o.disk) given in
+      record {
+        last = last;
+        ends = ends;
+        handed_back = is_back;
+        whole = subst R given whole;
+        grows = grows;
+        owned = owned;
+        stood = stood;
+        stands = subst Q (sym is_back) (subst S given stands);
+        moments = subst P (sym is_back) moments;
+      }

@@ -1,0 +1,4 @@
+pub mod InputLemmas
+pub mod EndingLemmas
+pub mod WorldLemmas
+pub mod StatusLemmas

@@ -1,0 +1,116 @@
+-- What the statuses of `init`, `pipe` and `report` say.
+use Rattle.std.proofs.Common.{◌≡◌, ◌<◌, ◌≤◌, ℕ, List, arith, inl, inr}
+use Rattle.std.specs.Prelude.{Option, Some}
+use Rattle.office_outside.specs.Told.{Gained}
+use Rattle.office_session.specs.declared.SessionEnd.{SessionEnd}
+use Rattle.office_session.specs.declared.SessionEnd.TheVariants as session
+use Rattle.journal_commands.specs.Making.{Bench, EndsMaking, HasHeader}
+use Rattle.journal_commands.specs.Reporting.{EndsReporting, IsPrinted, IsUnprinted, OpensTo}
+use Rattle.journal_commands.specs.Serving.{EndsServing, IsBad, Outside}
+use Rattle.journal_commands.specs.declared.InitEnd.{InitEnd}
+use Rattle.journal_commands.specs.declared.InitEnd.TheVariants as init
+use Rattle.journal_commands.specs.declared.PipeEnd.{PipeEnd}
+use Rattle.journal_commands.specs.declared.PipeEnd.TheVariants as pipe
+use Rattle.journal_commands.specs.declared.ReportEnd.{ReportEnd}
+use Rattle.journal_commands.specs.declared.ReportEnd.TheVariants as report
+use Rattle.office_commands.specs.Init.{SettledInit}
+use Rattle.office_commands.specs.Pipe.{SettledPipe, SettledSession}
+use Rattle.office_commands.specs.Report.{SettledReport}
+use Rattle.office_commands.specs.declared.ending.TheConstants.{BAD_FILE, DONE, REFUSED}
+
+module _ {D : Type 0} (content : D → Option (List ℕ)) (images : D → List ℕ → Type 0)
+    (moment : D → ℕ) (since : D → ℕ → List ℕ → Type 0) (status origin reading : ℕ)
+    (old new : Option (List ℕ)) (before now : ℕ) (first last : Bench D) where
+  pub init_bad : (end : InitEnd) → SettledInit end status old new before now →
+      EndsMaking content images moment since origin reading end first last →
+      status ≡ BAD_FILE → (file : List ℕ) → content first.disk ≡ Some file →
+      HasHeader file
+  init_bad init.Done s ends e file read = absurd (omega (arith, s.0, e))
+  init_bad init.OriginAboveClock s ends e file read = absurd (omega (arith, s.0, e))
+  init_bad init.AlreadyThere s ends e file read = ends.1.header file read
+  init_bad init.DiskFault s ends e file read = absurd (omega (arith, s.0, e))
+  init_bad init.WriteFault s ends e file read = absurd (omega (arith, s.0, e))
+  init_bad init.NoMemory s ends e file read = absurd (omega (arith, s.0, e))
+
+  pub init_refused : (end : InitEnd) → SettledInit end status old new before now →
+      EndsMaking content images moment since origin reading end first last →
+      status ≡ REFUSED → reading < origin
+  init_refused init.Done s ends e = absurd (omega (arith, s.0, e))
+  init_refused init.OriginAboveClock s ends e = ends.0
+  init_refused init.AlreadyThere s ends e = absurd (omega (arith, s.0, e))
+  init_refused init.DiskFault s ends e = absurd (omega (arith, s.0, e))
+  init_refused init.WriteFault s ends e = absurd (omega (arith, s.0, e))
+  init_refused init.NoMemory s ends e = absurd (omega (arith, s.0, e))
+
+  pub init_taken : (end : InitEnd) → SettledInit end status old new before now →
+      EndsMaking content images moment since origin reading end first last →
+      (status ≡ REFUSED → ⊥) → origin ≤ reading
+  init_taken init.Done s ends e = ends.0
+  init_taken init.OriginAboveClock s ends e = absurd (e s.0)
+  init_taken init.AlreadyThere s ends e = ends.0
+  init_taken init.DiskFault s ends e = ends.0
+  init_taken init.WriteFault s ends e = ends.0
+  init_taken init.NoMemory s ends e = ends.0
+
+module _ (status : ℕ) (old new : Option (List ℕ)) (before now : ℕ) where
+  session_bad : (end : SessionEnd) → SettledSession end status old new before now →
+      status ≡ BAD_FILE → ⊥
+  session_bad session.Done s e = omega (arith, s.0, e)
+  session_bad session.Cut s e = omega (arith, s.0, e)
+  session_bad session.ReadFault s e = omega (arith, s.0, e)
+  session_bad session.WriteFault s e = omega (arith, s.0, e)
+  session_bad session.NoMemory s e = omega (arith, s.0, e)
+
+module _ {D : Type 0} (content : D → Option (List ℕ)) (images : D → List ℕ → Type 0)
+    (moment : D → ℕ) (since : D → ℕ → List ℕ → Type 0) (faults : D → ℕ) (status : ℕ)
+    (old new : Option (List ℕ)) (before now : ℕ) (first last : Outside) (disk after : D) where
+  pub pipe_bad : (end : PipeEnd) → SettledPipe end status old new before now →
+      EndsServing content images moment since faults end first last disk after →
+      status ≡ BAD_FILE → (file : List ℕ) → content disk ≡ Some file →
+      IsBad file
+  pipe_bad (pipe.Served end) s ends e file read =
+      absurd (session_bad status old new before now end s e)
+  pipe_bad pipe.NotAJournal s ends e file read = inl (ends.found file read)
+  pipe_bad (pipe.Damaged at) s ends e file read = inr (at, ends.found file read)
+  pipe_bad pipe.DiskFault s ends e file read = absurd (omega (arith, s.0, e))
+  pipe_bad pipe.NoMemory s ends e file read = absurd (omega (arith, s.0, e))
+
+module _ {D : Type 0} (content : D → Option (List ℕ)) (images : D → List ℕ → Type 0)
+    (asked : Option ℕ) (reading status : ℕ) (old new : Option (List ℕ)) (before now : ℕ)
+    (first last : Bench D) where
+  pub report_bad : (end : ReportEnd) → SettledReport end status old new before now →
+      EndsReporting content images asked reading end first last →
+      status ≡ BAD_FILE → (file : List ℕ) → content first.disk ≡ Some file →
+      IsBad file
+  report_bad report.Done s ends e file read = absurd (omega (arith, s.0, e))
+  report_bad report.OutOfRange s ends e file read = absurd (omega (arith, s.0, e))
+  report_bad report.NotAJournal s ends e file read = inl (ends.found file read)
+  report_bad (report.Damaged at) s ends e file read = inr (at, ends.found file read)
+  report_bad report.DiskFault s ends e file read = absurd (omega (arith, s.0, e))
+  report_bad report.WriteFault s ends e file read = absurd (omega (arith, s.0, e))
+  report_bad report.NoMemory s ends e file read = absurd (omega (arith, s.0, e))
+
+  pub report_refused : (end : ReportEnd) → SettledReport end status old new before now →
+      EndsReporting content images asked reading end first last → status ≡ REFUSED →
+      OpensTo content images (IsUnprinted asked reading first.held last.held) first.disk last.disk
+  report_refused report.Done s ends e = absurd (omega (arith, s.0, e))
+  report_refused report.OutOfRange s ends e = ends
+  report_refused report.NotAJournal s ends e = absurd (omega (arith, s.0, e))
+  report_refused (report.Damaged at) (inl s) ends e = absurd (omega (arith, s.0, e))
+  report_refused (report.Damaged at) (inr s) ends e = absurd (omega (arith, s.0, e))
+  report_refused report.DiskFault s ends e = absurd (omega (arith, s.0, e))
+  report_refused report.WriteFault s ends e = absurd (omega (arith, s.0, e))
+  report_refused report.NoMemory s ends e = absurd (omega (arith, s.0, e))
+
+  pub report_done : (end : ReportEnd) → SettledReport end status old new before now →
+      EndsReporting content images asked reading end first last → status ≡ DONE →
+      OpensTo content images (IsPrinted Gained asked reading first.held last.held)
+      first.disk last.disk
+  report_done report.Done s ends e = ends
+  report_done report.OutOfRange s ends e = absurd (omega (arith, s.0, e))
+  report_done report.NotAJournal s ends e = absurd (omega (arith, s.0, e))
+  report_done (report.Damaged at) (inl s) ends e = absurd (omega (arith, s.0, e))
+  report_done (report.Damaged at) (inr s) ends e = absurd (omega (arith, s.0, e))
+  report_done report.DiskFault s ends e = absurd (omega (arith, s.0, e))
+  report_done report.WriteFault s ends e = absurd (omega (arith, s.0, e))
+  report_done report.NoMemory s ends e = absurd (omega (arith, s.0, e))

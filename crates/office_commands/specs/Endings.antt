@@ -1,0 +1,42 @@
+-- The line for each ending on the faults sink.
+use Rattle.std.specs.Prelude.{ℕ, List, [], ◌++◌, codes, ◌==◌, if◌then◌else◌}
+use Rattle.budget_command.specs.Words as budget
+use Rattle.budget_command.specs.declared.BudgetError.{BudgetError}
+use Rattle.budget_command.specs.declared.BudgetError.TheVariants as budget_error
+use Rattle.check_command.specs.Words as check
+use Rattle.check_command.specs.declared.CheckError.{CheckError}
+use Rattle.check_command.specs.declared.CheckError.TheVariants as check_error
+use Rattle.office_commands.specs.declared.ending.Stop.{Stop}
+use Rattle.office_commands.specs.declared.ending.Stop.TheVariants as stops
+use Rattle.office_commands.specs.declared.ending.RunRefusal.{RunRefusal}
+use Rattle.office_commands.specs.declared.ending.RunRefusal.TheVariants.{Budget, Check}
+use Rattle.office_commands.specs.declared.ending.TheConstants.{USAGE, DISK_FAULT, READ_FAULT}
+use Rattle.office_commands.specs.declared.ending.TheConstants.{WRITE_FAULT, NO_MEMORY}
+
+-- a command's error as the stop of a run
+abbrev pub stop_of_budget : BudgetError → Stop
+stop_of_budget (budget_error.Fault fault) = stops.Refused (Budget fault)
+stop_of_budget budget_error.NoMemory = stops.NoMemory
+
+abbrev pub stop_of_check : CheckError → Stop
+stop_of_check (check_error.Fault refusal) = stops.Refused (Check refusal)
+stop_of_check check_error.NoMemory = stops.NoMemory
+
+-- the words for an input that is refused, by the command that refuses it
+abbrev pub refusal_words_of : RunRefusal → List ℕ
+refusal_words_of (Budget fault) = budget.words_of_fault fault
+refusal_words_of (Check fault) = check.words_of_refusal fault
+
+-- the line for an input that is refused
+abbrev pub refusal_line_of : RunRefusal → List ℕ
+refusal_line_of refusal = codes "slo_office: " ++ (refusal_words_of refusal ++ codes "\n")
+
+-- the line for a status without further words
+abbrev pub line_of_status : ℕ → List ℕ
+line_of_status status =
+    if status == USAGE then codes "slo_office: usage\n"
+    else if status == DISK_FAULT then codes "slo_office: disk fault\n"
+    else if status == READ_FAULT then codes "slo_office: read fault\n"
+    else if status == WRITE_FAULT then codes "slo_office: write fault\n"
+    else if status == NO_MEMORY then codes "slo_office: no memory\n"
+    else []

@@ -1,0 +1,9 @@
+pub mod Commands
+pub mod Inputs
+pub mod Endings
+pub mod Answer
+pub mod Runs
+pub mod Init
+pub mod Pipe
+pub mod Report
+pub mod Worlds

@@ -1,0 +1,71 @@
+-- What a run leaves on its output and on the faults sink, and the status that it ends with.
+use Rattle.std.specs.Prelude.{◌≡◌, ℕ, List, Option, Some, None, Result, Ok, Err, ◌⊎◌}
+use Rattle.office_outside.specs.Told.{Gained, GainedPrefix}
+use Rattle.office_outside.specs.Faults.{Rose}
+use Rattle.office_commands.specs.Answer.{Answers}
+use Rattle.office_commands.specs.Endings.{line_of_status, refusal_line_of}
+use Rattle.office_commands.specs.declared.ending.Ending.{Ending}
+use Rattle.office_commands.specs.declared.ending.Ending.TheVariants.{Done, Usage, ReadFault}
+use Rattle.office_commands.specs.declared.ending.Ending.TheVariants.{WriteFault, NoMemory, Refused}
+use Rattle.office_commands.specs.declared.command.Command.{Command}
+use Rattle.office_commands.specs.declared.ending.RunRefusal.{RunRefusal}
+use Rattle.office_commands.specs.declared.ending.TheConstants.{DONE, USAGE, READ_FAULT}
+use Rattle.office_commands.specs.declared.ending.TheConstants.{WRITE_FAULT, NO_MEMORY, REFUSED}
+
+-- The words ask for a command, and this is its answer on the bytes that are left.
+abbrev pub AsksFor : Option Command → Option (List ℕ) → Result (List ℕ) RunRefusal → Type 0
+AsksFor None left answer = ⊥
+AsksFor (Some command) left answer = Answers command left answer
+
+-- The output gained the answer's lines.
+pub record Prints (asked : Option Command) (left old new : Option (List ℕ)) : Type 0 where
+  pub text : List ℕ
+  pub answer : AsksFor asked left (Ok text)
+  pub gained : Gained text old new
+
+-- The output gained a prefix of the answer's lines.
+pub record PrintsPart (asked : Option Command) (left old new : Option (List ℕ)) : Type 0 where
+  pub text : List ℕ
+  pub answer : AsksFor asked left (Ok text)
+  pub gained : GainedPrefix text old new
+
+-- The faults sink gained this line; or it counted a fault, and gained a prefix of the line.
+abbrev pub Tells : List ℕ → Option (List ℕ) → Option (List ℕ) → ℕ → ℕ → Type 0
+Tells line old new before now = Gained line old new ⊎ (Rose before now × GainedPrefix line old new)
+
+-- The answer is a refusal, and the faults sink tells it.
+pub record TellsRefusal (asked : Option Command) (left old new : Option (List ℕ)) (before now : ℕ)
+    : Type 0 where
+  pub refusal : RunRefusal
+  pub answer : AsksFor asked left (Err refusal)
+  pub told : Tells (refusal_line_of refusal) old new before now
+
+-- the status of an answer that was given
+abbrev pub status_of : Result (List ℕ) RunRefusal → ℕ
+status_of (Ok text) = DONE
+status_of (Err refusal) = REFUSED
+
+-- The status is that of the answer; or memory ran out, or the source or the sink counted a fault in
+-- this run. Without words of a command it is USAGE.
+abbrev pub IsStatus : Option Command → Option (List ℕ) → Type 0 → Type 0 → ℕ → Type 0
+IsStatus None left read write status = status ≡ USAGE
+IsStatus (Some command) left read write status =
+    ((answer : Result (List ℕ) RunRefusal) × Answers command left answer
+    × (status ≡ status_of answer))
+    ⊎ ((status ≡ NO_MEMORY) ⊎ (((status ≡ READ_FAULT) × read) ⊎ ((status ≡ WRITE_FAULT) × write)))
+
+-- An ending has its status, and the faults sink tells its line; where the line can't be made for
+-- want of memory, that is the ending.
+abbrev pub Settled : Ending → ℕ → Option (List ℕ) → Option (List ℕ) → ℕ → ℕ → Type 0
+Settled Done status old new before now = (status ≡ DONE) × (new ≡ old) × (now ≡ before)
+Settled (Refused refusal) status old new before now =
+    ((status ≡ REFUSED) × Tells (refusal_line_of refusal) old new before now)
+    ⊎ ((status ≡ NO_MEMORY) × Tells (line_of_status NO_MEMORY) old new before now)
+Settled Usage status old new before now =
+    (status ≡ USAGE) × Tells (line_of_status USAGE) old new before now
+Settled ReadFault status old new before now =
+    (status ≡ READ_FAULT) × Tells (line_of_status READ_FAULT) old new before now
+Settled WriteFault status old new before now =
+    (status ≡ WRITE_FAULT) × Tells (line_of_status WRITE_FAULT) old new before now
+Settled NoMemory status old new before now =
+    (status ≡ NO_MEMORY) × Tells (line_of_status NO_MEMORY) old new before now

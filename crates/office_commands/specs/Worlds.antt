@@ -1,0 +1,141 @@
+-- What a run does to all that it speaks to, by what its words ask for.
+use Rattle.std.specs.Prelude.{◌≡◌, ◌≢◌, ℕ, List, Option, Some, None}
+use Rattle.office_outside.specs.Faults.{Rose}
+use Rattle.office_outside.specs.Told.{HasNothingLeft}
+use Rattle.journal_commands.specs.Making.{Makes, bench}
+use Rattle.journal_commands.specs.Reporting.{Reports}
+use Rattle.journal_commands.specs.Serving.{EndsServing, outside}
+use Rattle.journal_commands.specs.declared.InitEnd.{InitEnd}
+use Rattle.journal_commands.specs.declared.PipeEnd.{PipeEnd}
+use Rattle.journal_commands.specs.declared.ReportEnd.{ReportEnd}
+use Rattle.office_commands.specs.Commands.{most_taken}
+use Rattle.office_commands.specs.Endings.{line_of_status}
+use Rattle.office_commands.specs.Init.{SettledInit}
+use Rattle.office_commands.specs.Inputs.{TakesAtMost}
+use Rattle.office_commands.specs.Pipe.{SettledPipe}
+use Rattle.office_commands.specs.Report.{SettledReport}
+use Rattle.office_commands.specs.Runs.{IsStatus, Prints, PrintsPart, Tells, TellsRefusal}
+use Rattle.office_commands.specs.declared.command.Asked.{Asked}
+use Rattle.office_commands.specs.declared.command.Asked.TheVariants.{Answer, Init, Pipe, Report}
+use Rattle.office_commands.specs.declared.command.Command.{Command}
+use Rattle.office_commands.specs.declared.ending.TheConstants.{DONE, USAGE, READ_FAULT}
+use Rattle.office_commands.specs.declared.ending.TheConstants.{WRITE_FAULT, REFUSED}
+
+-- All that a run speaks to, at one moment: the bytes that its input has left, what its output and
+-- its faults sink hold, how often each of these has failed, its clock's readings to come, and its
+-- disk.
+pub record World (D : Type 0) : Type 0 where
+  pub left : Option (List ℕ)
+  pub reads : ℕ
+  pub held : Option (List ℕ)
+  pub writes : ℕ
+  pub said : Option (List ℕ)
+  pub tellings : ℕ
+  pub to_come : ℕ → Option ℕ
+  pub disk : D
+
+abbrev pub world : {D : Type 0} → Option (List ℕ) → ℕ → Option (List ℕ) → ℕ → Option (List ℕ) → ℕ →
+    (ℕ → Option ℕ) → D → World D
+world left reads held writes said tellings to_come disk = record {
+  left = left;
+  reads = reads;
+  held = held;
+  writes = writes;
+  said = said;
+  tellings = tellings;
+  to_come = to_come;
+  disk = disk;
+}
+
+-- The faults sink gained this line, or counted a fault and gained a prefix of it.
+abbrev pub SaysLine : {D : Type 0} → List ℕ → World D → World D → Type 0
+SaysLine line before after = Tells line before.said after.said before.tellings after.tellings
+
+-- the input, the output, the clock and the disk are as they were
+pub record IsStill {D : Type 0} (before after : World D) : Type 0 where
+  pub left : after.left ≡ before.left
+  pub held : after.held ≡ before.held
+  pub to_come : after.to_come ≡ before.to_come
+  pub disk : after.disk ≡ before.disk
+
+-- The words are no form of a command.
+pub record RunsNothing {D : Type 0} (status : ℕ) (before after : World D) : Type 0 where
+  pub status_is : status ≡ USAGE
+  pub told : SaysLine (line_of_status USAGE) before after
+  pub still : IsStill before after
+
+-- A run of a command that is answered from the bytes of its input. Neither the clock nor the disk
+-- is touched.
+pub record RunsAnswer {D : Type 0} (command : Command) (status : ℕ) (before after : World D) :
+    Type 0 where
+  pub status_is : IsStatus (Some command) before.left (Rose before.reads after.reads)
+      (Rose before.writes after.writes) status
+  -- DONE: the output gained just the answer's lines, and the input was read to its end.
+  pub done : status ≡ DONE → Prints (Some command) before.left before.held after.held
+  pub ended : status ≡ DONE → HasNothingLeft after.left
+  pub silent : status ≡ DONE → after.said ≡ before.said
+  -- REFUSED: the answer is a refusal, and its line says which.
+  pub refused : status ≡ REFUSED →
+      TellsRefusal (Some command) before.left before.said after.said before.tellings after.tellings
+  -- Each other status has its line, and a fault's status has that object's count as its cause.
+  pub told : status ≢ DONE → status ≢ REFUSED → SaysLine (line_of_status status) before after
+  pub read : status ≡ READ_FAULT → Rose before.reads after.reads
+  pub write : status ≡ WRITE_FAULT → Rose before.writes after.writes
+  -- The output keeps what it held, but for a prefix of the lines where a write failed.
+  pub part : status ≡ WRITE_FAULT → PrintsPart (Some command) before.left before.held after.held
+  pub quiet : status ≢ DONE → status ≢ WRITE_FAULT → after.held ≡ before.held
+  pub takes : TakesAtMost (most_taken (Some command)) before.left after.left
+  -- the clock and the disk are as they were
+  pub unread : after.to_come ≡ before.to_come
+  pub untouched : after.disk ≡ before.disk
+
+-- A run of `init`, by how the making of the journal ended. The input isn't touched.
+pub record RunsInit {D : Type 0} (content : D → Option (List ℕ)) (images : D → List ℕ → Type 0)
+    (moment : D → ℕ) (since : D → ℕ → List ℕ → Type 0) (origin : Option ℕ) (status : ℕ)
+    (before after : World D) : Type 0 where
+  pub end : InitEnd
+  pub settled : SettledInit end status before.said after.said before.tellings after.tellings
+  pub makes : Makes content images moment since origin end
+      (bench before.disk before.to_come before.held) (bench after.disk after.to_come after.held)
+  pub untaken : after.left ≡ before.left
+
+-- A run of `pipe`, by how the serving of the journal ended.
+pub record RunsPipe {D : Type 0} (content : D → Option (List ℕ)) (images : D → List ℕ → Type 0)
+    (moment : D → ℕ) (since : D → ℕ → List ℕ → Type 0) (faults : D → ℕ) (status : ℕ)
+    (before after : World D) : Type 0 where
+  pub end : PipeEnd
+  pub settled : SettledPipe end status before.said after.said before.tellings after.tellings
+  pub serves : EndsServing content images moment since faults end
+      (outside before.left before.to_come before.held)
+      (outside after.left after.to_come after.held) before.disk after.disk
+
+-- A run of `report`, by how the printing of the report ended. The input isn't touched.
+pub record RunsReport {D : Type 0} (content : D → Option (List ℕ)) (images : D → List ℕ → Type 0)
+    (moment : D → ℕ) (since : D → ℕ → List ℕ → Type 0) (at : Option ℕ) (status : ℕ)
+    (before after : World D) : Type 0 where
+  pub end : ReportEnd
+  pub settled : SettledReport end status before.said after.said before.tellings after.tellings
+  pub reports : Reports content images moment since at end
+      (bench before.disk before.to_come before.held) (bench after.disk after.to_come after.held)
+  pub untaken : after.left ≡ before.left
+
+-- What a run does, by what its words ask for.
+abbrev pub Runs : {D : Type 0} → (D → Option (List ℕ)) → (D → List ℕ → Type 0) → (D → ℕ) →
+    (D → ℕ → List ℕ → Type 0) → (D → ℕ) → Option Asked → ℕ → World D → World D → Type 0
+Runs content images moment since faults None status before after = RunsNothing status before after
+Runs content images moment since faults (Some (Answer command)) status before after =
+    RunsAnswer command status before after
+Runs content images moment since faults (Some (Init origin)) status before after =
+    RunsInit content images moment since origin status before after
+Runs content images moment since faults (Some Pipe) status before after =
+    RunsPipe content images moment since faults status before after
+Runs content images moment since faults (Some (Report at)) status before after =
+    RunsReport content images moment since at status before after
+
+-- The clock and the disk belong to `init`, `pipe` and `report`.
+abbrev pub IsOffDisk : Option Asked → Type 0
+IsOffDisk None = Unit {0}
+IsOffDisk (Some (Answer command)) = Unit {0}
+IsOffDisk (Some (Init origin)) = ⊥
+IsOffDisk (Some Pipe) = ⊥
+IsOffDisk (Some (Report at)) = ⊥

@@ -1,0 +1,58 @@
+//! `init` and `init ORIGIN`: makes the journal and prints its origin.
+ghost use Rattle.std.specs.Prelude.{◌≡◌, ◌≢◌};
+ghost use Rattle.office_outside.specs.Faults.{Rose};
+ghost use Rattle.journal_commands.specs.Making.{Makes, bench};
+ghost use Rattle.journal_commands.specs.declared.InitEnd.{InitEnd};
+ghost use Rattle.office_commands.specs.Init.{SettledInit};
+ghost use Rattle.office_commands.specs.Worlds.{RunsInit, world};
+
+use crate::ending::{
+    BAD_FILE, DISK_FAULT, DONE, NO_MEMORY, READ_FAULT, REFUSED, USAGE, WRITE_FAULT,
+};
+use crate::running::RunEnd;
+use crate::telling::{tell_as, tell_status};
+use journal_commands::{InitEnd, make_journal};
+use office_outside::{Clock, Disk, Sink};
+use std::alloc::Global;
+
+/// The status of an end, whose line the faults sink is told.
+fn settle_init<E: Sink>(end: InitEnd, faults: &mut E) -> u8
+    ensures { SettledInit end result (E.held faults.old) (E.held faults.new) (E.faults faults.old)
+        (E.faults faults.new) }
+{
+    match end {
+        InitEnd::Done => DONE,
+        InitEnd::OriginAboveClock => tell_as(faults, "slo_office: origin above clock\n", REFUSED),
+        InitEnd::AlreadyThere => tell_as(faults, "slo_office: file already there\n", BAD_FILE),
+        InitEnd::DiskFault => tell_status(faults, DISK_FAULT),
+        InitEnd::WriteFault => tell_status(faults, WRITE_FAULT),
+        InitEnd::NoMemory => tell_status(faults, NO_MEMORY),
+    }
+}
+
+/// Runs `init`.
+pub fn run_init<K: Sink, E: Sink, D: Disk + Drop, C: Clock>(
+    alloc: Global,
+    origin: Option<u32>,
+    output: &mut K,
+    faults: &mut E,
+    disk: D,
+    clock: &mut C,
+) -> RunEnd<D>
+    ensures settled { (end : InitEnd)
+        × SettledInit end result.status (E.held faults.old) (E.held faults.new)
+        (E.faults faults.old) (E.faults faults.new)
+        × Makes D.content D.images D.moment D.images_since origin end
+        (bench disk (C.to_come clock.old) (K.held output.old))
+        (bench result.disk (C.to_come clock.new) (K.held output.new)) }
+    ensures silent { result.status ≡ DONE → E.held faults.new ≡ E.held faults.old }
+    ensures write { result.status ≡ WRITE_FAULT →
+        Rose (K.faults output.old) (K.faults output.new) }
+    ensures disk { result.status ≡ DISK_FAULT → Rose (D.faults disk) (D.faults result.disk) }
+    ensures usable { result.status ≢ USAGE }
+    ensures unread { result.status ≢ READ_FAULT }
+{
+    let (end, disk) = make_journal(alloc, origin, disk, clock, output);
+    let status = settle_init(end, faults);
+    RunEnd { status, disk }
+}

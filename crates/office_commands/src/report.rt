@@ -1,0 +1,58 @@
+//! `report` and `report AT`: opens the journal, and prints the report over its history.
+ghost use Rattle.std.specs.Prelude.{◌≡◌, ◌≢◌};
+ghost use Rattle.office_outside.specs.Faults.{Rose};
+ghost use Rattle.journal_commands.specs.Making.{bench};
+ghost use Rattle.journal_commands.specs.Reporting.{Reports};
+ghost use Rattle.journal_commands.specs.declared.ReportEnd.{ReportEnd};
+ghost use Rattle.office_commands.specs.Report.{SettledReport};
+
+use crate::ending::{DISK_FAULT, DONE, READ_FAULT, REFUSED, USAGE, WRITE_FAULT};
+use crate::pipe::settle_pipe;
+use crate::running::RunEnd;
+use crate::telling::{tell_as, tell_status};
+use journal_commands::{PipeEnd, ReportEnd, print_report};
+use office_outside::{Clock, Disk, Sink};
+use std::alloc::Global;
+
+/// The status of an end, whose line the faults sink is told.
+fn settle_report<E: Sink>(alloc: Global, end: ReportEnd, faults: &mut E) -> u8
+    ensures { SettledReport end result (E.held faults.old) (E.held faults.new)
+        (E.faults faults.old) (E.faults faults.new) }
+{
+    match end {
+        ReportEnd::Done => DONE,
+        ReportEnd::OutOfRange => tell_as(faults, "slo_office: AT out of range\n", REFUSED),
+        ReportEnd::NotAJournal => settle_pipe(alloc, PipeEnd::NotAJournal, faults),
+        ReportEnd::Damaged { at } => settle_pipe(alloc, PipeEnd::Damaged { at }, faults),
+        ReportEnd::DiskFault => settle_pipe(alloc, PipeEnd::DiskFault, faults),
+        ReportEnd::WriteFault => tell_status(faults, WRITE_FAULT),
+        ReportEnd::NoMemory => settle_pipe(alloc, PipeEnd::NoMemory, faults),
+    }
+}
+
+/// Runs `report`.
+pub fn run_report<K: Sink, E: Sink, D: Disk + Drop, C: Clock>(
+    alloc: Global,
+    at: Option<u32>,
+    output: &mut K,
+    faults: &mut E,
+    disk: D,
+    clock: &mut C,
+) -> RunEnd<D>
+    ensures settled { (end : ReportEnd)
+        × SettledReport end result.status (E.held faults.old) (E.held faults.new)
+        (E.faults faults.old) (E.faults faults.new)
+        × Reports D.content D.images D.moment D.images_since at end
+        (bench disk (C.to_come clock.old) (K.held output.old))
+        (bench result.disk (C.to_come clock.new) (K.held output.new)) }
+    ensures silent { result.status ≡ DONE → E.held faults.new ≡ E.held faults.old }
+    ensures write { result.status ≡ WRITE_FAULT →
+        Rose (K.faults output.old) (K.faults output.new) }
+    ensures disk { result.status ≡ DISK_FAULT → Rose (D.faults disk) (D.faults result.disk) }
+    ensures usable { result.status ≢ USAGE }
+    ensures unread { result.status ≢ READ_FAULT }
+{
+    let (end, disk) = print_report(alloc, at, disk, clock, output);
+    let status = settle_report(alloc, end, faults);
+    RunEnd { status, disk }
+}

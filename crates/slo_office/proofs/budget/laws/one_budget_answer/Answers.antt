@@ -1,8 +1,0 @@
-use Rattle.slo_office.proofs.BudgetLemmas.{answer-exists, answer-unique}
-use Rattle.slo_office.proofs.budget.laws.one_budget_answer.Goals as goal
-
-pub returns-clause-some : goal.returns-clause-some
-returns-clause-some c = answer-exists
-
-pub returns-clause-only : goal.returns-clause-only
-returns-clause-only c = answer-unique

@@ -1,7 +1,0 @@
--- `budget`: its words, its records, and its lines.
-pub mod Order
-pub mod Records
-pub mod Tables
-pub mod Lines
-pub mod Words
-pub mod Answer
