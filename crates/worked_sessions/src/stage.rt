@@ -1,0 +1,236 @@
+//! What the next run is made from, and what the runs so far came to.
+
+use crate::playing::{Played, Setting};
+use crate::show::{show_answers, show_file, show_whole};
+use crate::trials::{over_faults, over_prefixes, over_stops};
+use std::alloc::{AllocError, Global};
+
+/// A stage: the file as it stands, what the next run reads, and the text of all that came out.
+#[derive(Drop)]
+pub struct Stage {
+    alloc: Global,
+    file: Vec<u8>,
+    saved: Vec<u8>,
+    readings: Vec<u32>,
+    failing: String,
+    piece: usize,
+    whole: bool,
+    request: String,
+    body: String,
+    input: String,
+    out: String,
+}
+
+/// Appends the clock's readings that stand in a line.
+fn push_readings(readings: &mut Vec<u32>, line: &str) -> Result<(), AllocError> {
+    for word in line.split_ascii_whitespace() {
+        readings.push(word.parse::<u32>().unwrap_or(u32::MAX))?;
+    }
+    Ok(())
+}
+
+/// Appends a text in which `\` stands for a line's end.
+fn push_raw(input: &mut String, text: &str) -> Result<(), AllocError> {
+    for (place, part) in text.split("\\").enumerate() {
+        if place > 0 {
+            input.push_str("\r\n")?;
+        }
+        input.push_str(part)?;
+    }
+    Ok(())
+}
+
+/// Appends as many rows as the second number says, of one minute after another from the first on.
+fn push_rows(alloc: Global, body: &mut String, numbers: &str) -> Result<(), AllocError> {
+    if let Some((first, count)) = numbers.split_once(" ") {
+        let first = first.parse::<u32>().unwrap_or(0);
+        for place in 0..count.parse::<u32>().unwrap_or(0) {
+            let minute = first.saturating_add(place);
+            let row = format!(in alloc; "shop-good,web,{minute},1,1,1\n")?;
+            body.push_str(row.as_str())?;
+        }
+    }
+    Ok(())
+}
+
+/// Puts bytes in the place of others.
+fn copy_over(old: &mut Vec<u8>, bytes: &[u8]) -> Result<(), AllocError> {
+    old.clear();
+    old.extend_from_slice(bytes)
+}
+
+/// Appends a text as often as the number before it says.
+fn push_many(input: &mut String, line: &str) -> Result<(), AllocError> {
+    if let Some((number, text)) = line.split_once(" ") {
+        for _ in 0..number.parse::<u32>().unwrap_or(0) {
+            push_raw(input, text)?;
+        }
+    }
+    Ok(())
+}
+
+impl Stage {
+    /// A stage without a file.
+    pub fn new(alloc: Global) -> Stage {
+        Stage {
+            alloc,
+            file: Vec::new(alloc),
+            saved: Vec::new(alloc),
+            readings: Vec::new(alloc),
+            failing: String::new(alloc),
+            piece: usize::MAX,
+            whole: false,
+            request: String::new(alloc),
+            body: String::new(alloc),
+            input: String::new(alloc),
+            out: String::new(alloc),
+        }
+    }
+
+    /// Takes one line of the script. A line of a body begins with `|`, and `rows FIRST COUNT` stands
+    /// for lines of samples; each other one ends the request before it.
+    pub fn take_line(&mut self, rt: &impl AllocGlobal, line: &str) -> Result<(), AllocError> {
+        if let Some(text) = line.strip_prefix("|") {
+            self.body.push_str(text)?;
+            return self.body.push('\n');
+        }
+        if let Some(numbers) = line.strip_prefix("rows ") {
+            return push_rows(self.alloc, &mut self.body, numbers);
+        }
+        self.end_request()?;
+        if let Some(title) = line.strip_prefix("== ") {
+            return self.begin(title);
+        }
+        if let Some(words) = line.strip_prefix("$ ") {
+            return self.run(rt, words);
+        }
+        if let Some(text) = line.strip_prefix("> ") {
+            return self.send(text);
+        }
+        if let Some(trial) = line.strip_prefix("each ") {
+            return self.run_trial(rt, trial);
+        }
+        if line.starts_with("#") || line.is_empty() {
+            return Ok(());
+        }
+        self.set(line)
+    }
+
+    /// The text of all that came out.
+    pub fn end(mut self) -> Result<String, AllocError> {
+        self.end_request()?;
+        Ok(self.out)
+    }
+
+    /// Begins a case: there is no file, no call fails, and reads give all that they can.
+    fn begin(&mut self, title: &str) -> Result<(), AllocError> {
+        self.file.clear();
+        self.failing.clear();
+        self.piece = usize::MAX;
+        self.whole = false;
+        self.out.push_str("== ")?;
+        self.out.push_str(title)?;
+        self.out.push('\n')
+    }
+
+    /// Sends a request line, or the bytes that stand behind `raw`, where `\` is a line's end.
+    fn send(&mut self, text: &str) -> Result<(), AllocError> {
+        if let Some(bytes) = text.strip_prefix("raw ") {
+            return push_raw(&mut self.input, bytes);
+        }
+        if let Some(repeated) = text.strip_prefix("many ") {
+            return push_many(&mut self.input, repeated);
+        }
+        self.request.push_str(text)
+    }
+
+    /// Appends the request that is being made to the input, with the length of its body. Lines of a
+    /// body without a request are the input itself.
+    fn end_request(&mut self) -> Result<(), AllocError> {
+        if !self.request.is_empty() {
+            let length = self.body.len();
+            self.input.push_str(self.request.as_str())?;
+            let head = format!(in self.alloc; " HTTP/1.1\r\nContent-Length: {length}\r\n\r\n")?;
+            self.input.push_str(head.as_str())?;
+        }
+        self.input.push_str(self.body.as_str())?;
+        self.request.clear();
+        self.body.clear();
+        Ok(())
+    }
+
+    /// Sets what the next runs are made from, or shows the file.
+    fn set(&mut self, line: &str) -> Result<(), AllocError> {
+        if let Some(numbers) = line.strip_prefix("clock ") {
+            self.readings.clear();
+            return push_readings(&mut self.readings, numbers);
+        }
+        if let Some(calls) = line.strip_prefix("failing ") {
+            return self.failing.push_str(calls);
+        }
+        if let Some(number) = line.strip_prefix("pieces ") {
+            self.piece = number.parse::<usize>().unwrap_or(usize::MAX);
+        }
+        if let Some(number) = line.strip_prefix("cut ") {
+            self.file
+                .truncate(number.parse::<usize>().unwrap_or(usize::MAX));
+        }
+        match line {
+            "heads" => self.whole = true,
+            "file" => show_file(self.alloc, &mut self.out, &self.file)?,
+            "save" => copy_over(&mut self.saved, &self.file)?,
+            "load" => copy_over(&mut self.file, &self.saved)?,
+            _ => {}
+        }
+        Ok(())
+    }
+
+    /// Runs the program on these words, and notes what it wrote and how it ended.
+    fn run(&mut self, rt: &impl AllocGlobal, words: &str) -> Result<(), AllocError> {
+        let played = self.setting().play(rt, words, self.input.as_bytes())?;
+        self.input.clear();
+        self.failing.clear();
+        copy_over(&mut self.file, played.disk.bytes())?;
+        self.note(words, &played)
+    }
+
+    /// What the next run is made from.
+    fn setting(&self) -> Setting<'_> {
+        Setting {
+            file: &self.file,
+            readings: &self.readings,
+            failing: self.failing.as_str(),
+            piece: self.piece,
+        }
+    }
+
+    /// Tries the requests in many runs: `prefix`, or `stop of` or `fault of` these words.
+    fn run_trial(&mut self, rt: &impl AllocGlobal, trial: &str) -> Result<(), AllocError> {
+        let input = self.input.as_bytes();
+        let told = if let Some(words) = trial.strip_prefix("stop of ") {
+            over_stops(rt, &self.setting(), words, input)?
+        } else if let Some(words) = trial.strip_prefix("fault of ") {
+            over_faults(rt, &self.setting(), words, input)?
+        } else {
+            over_prefixes(rt, &self.setting(), input)?
+        };
+        self.input.clear();
+        self.out.push_str(told.as_str())
+    }
+
+    /// Notes the words of a run, what it wrote, its status and the line that says why.
+    fn note(&mut self, words: &str, played: &Played) -> Result<(), AllocError> {
+        self.out.push_str("$ ")?;
+        self.out.push_str(words)?;
+        self.out.push('\n')?;
+        if self.whole {
+            show_whole(self.alloc, &mut self.out, played.output.bytes())?;
+        } else {
+            show_answers(self.alloc, &mut self.out, played.output.bytes())?;
+        }
+        let status = played.status;
+        let line = format!(in self.alloc; "status {status}\n")?;
+        self.out.push_str(line.as_str())?;
+        show_answers(self.alloc, &mut self.out, played.faults.bytes())
+    }
+}

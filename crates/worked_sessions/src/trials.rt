@@ -1,0 +1,159 @@
+//! Many runs of the program, which are told by counts.
+
+use crate::playing::{Played, Setting};
+use crate::show::last_answer;
+use std::alloc::{AllocError, Global};
+
+/// Runs `pipe` over each proper prefix of the requests: how many ended with status 0 and with 9,
+/// and how many left another file.
+pub fn over_prefixes(
+    rt: &impl AllocGlobal,
+    setting: &Setting,
+    input: &[u8],
+) -> Result<String, AllocError> {
+    let mut done = 0u32;
+    let mut cut = 0u32;
+    let mut changed = 0u32;
+    for count in 0..input.len() {
+        let played = setting.play(rt, "pipe", &input[..count])?;
+        done = done.saturating_add(u32::from(played.status == 0));
+        cut = cut.saturating_add(u32::from(played.status == 9));
+        changed = changed.saturating_add(u32::from(played.disk.bytes() != setting.file));
+    }
+    format!(in rt.alloc(); "prefixes: {done} done, {cut} cut, {changed} changed\n")
+}
+
+/// How second runs compared with the run that nothing stopped.
+#[derive(Clone, Copy)]
+struct Tally {
+    runs: u32,
+    no_journal: u32,
+    same: u32,
+}
+
+/// The tally before the first of them.
+const NOTHING: Tally = Tally {
+    runs: 0,
+    no_journal: 0,
+    same: 0,
+};
+
+/// How many files are tried of all that a stop may leave: each where one byte isn't synced, as a
+/// gate, and some of those where several aren't.
+const MOST_FILES: usize = 300;
+
+/// Bytes that differ by their number: below 256 each is the number itself, and from there on each
+/// is some more than the one before it.
+fn pattern(alloc: Global, length: usize, number: usize) -> Result<Vec<u8>, AllocError> {
+    let mut bytes: Vec<u8> = Vec::new(alloc);
+    let mut byte = (number % 256) as u8;
+    let step = (number / 256 * 37 % 256) as u8;
+    for _ in 0..length {
+        bytes.push(byte)?;
+        byte = byte.wrapping_add(step);
+    }
+    Ok(bytes)
+}
+
+/// Runs `pipe` again over what a stop or a fault left, and compares the last answer.
+fn again(
+    rt: &impl AllocGlobal,
+    setting: &Setting,
+    file: &[u8],
+    input: &[u8],
+    whole: &Played,
+    tally: Tally,
+) -> Result<Tally, AllocError> {
+    let left = Setting {
+        file,
+        readings: setting.readings,
+        failing: "",
+        piece: setting.piece,
+    };
+    let played = left.play(rt, "pipe", input)?;
+    let alloc = rt.alloc();
+    let last = last_answer(alloc, played.output.bytes())?;
+    let wanted = last_answer(alloc, whole.output.bytes())?;
+    let is_same = last.as_str() == wanted.as_str();
+    Ok(Tally {
+        runs: tally.runs.saturating_add(1),
+        no_journal: tally
+            .no_journal
+            .saturating_add(u32::from(played.status == 3)),
+        same: tally.same.saturating_add(u32::from(is_same)),
+    })
+}
+
+/// Tries files that a stop after so many calls may leave: of all that may, the one nearest to the
+/// file as it reads at the end, and those nearest to patterns of bytes.
+fn after_stop(
+    rt: &impl AllocGlobal,
+    setting: &Setting,
+    input: &[u8],
+    whole: &Played,
+    calls: usize,
+    tally: Tally,
+) -> Result<Tally, AllocError> {
+    let file = whole.disk.after_stop(calls, whole.disk.bytes())?;
+    let mut tally = again(rt, setting, &file, input, whole, tally)?;
+    for number in 1..MOST_FILES {
+        let wanted = pattern(rt.alloc(), whole.disk.bytes().len(), number - 1)?;
+        let file = whole.disk.after_stop(calls, &wanted)?;
+        tally = again(rt, setting, &file, input, whole, tally)?;
+    }
+    Ok(tally)
+}
+
+/// Stops a run after each of its disk calls in turn, runs `pipe` over files that may be left, with
+/// the same requests, and tells how many files were no journal, and how many gave the same last
+/// answer.
+pub fn over_stops(
+    rt: &impl AllocGlobal,
+    setting: &Setting,
+    words: &str,
+    input: &[u8],
+) -> Result<String, AllocError> {
+    let whole = setting.play(rt, words, input)?;
+    let calls = whole.disk.calls().len();
+    let mut tally = NOTHING;
+    for count in 0..calls {
+        tally = after_stop(rt, setting, input, &whole, count, tally)?;
+    }
+    tell(rt.alloc(), "stops", tally)
+}
+
+/// Lets each disk call of a run fail in turn, runs `pipe` over what it left, and tells the same.
+pub fn over_faults(
+    rt: &impl AllocGlobal,
+    setting: &Setting,
+    words: &str,
+    input: &[u8],
+) -> Result<String, AllocError> {
+    let whole = setting.play(rt, words, input)?;
+    let calls = whole.disk.calls().len();
+    let mut tally = NOTHING;
+    for count in 0..calls {
+        let failing = format!(in rt.alloc(); "disk {count}")?;
+        let faulty = Setting {
+            file: setting.file,
+            readings: setting.readings,
+            failing: failing.as_str(),
+            piece: setting.piece,
+        };
+        let played = faulty.play(rt, words, input)?;
+        tally = again(rt, setting, played.disk.bytes(), input, &whole, tally)?;
+    }
+    tell(rt.alloc(), "faults", tally)
+}
+
+/// A line of a tally.
+fn tell(alloc: Global, what: &str, tally: Tally) -> Result<String, AllocError> {
+    let Tally {
+        runs,
+        no_journal,
+        same,
+    } = tally;
+    format!(in alloc;
+        "{what}: {runs} runs, {no_journal} without a journal, {same} with the same end\n"
+    )
+}
