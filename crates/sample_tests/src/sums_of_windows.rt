@@ -44,6 +44,18 @@ fn filled<R: Abort>(rt: &R, alloc: Global, method: Method) -> WindowSums
     sums
 }
 
+// The sums over these ranges have to be these, each the good part and the whole.
+fn compare<R: Abort>(rt: &R, sums: &WindowSums, ranges: &[(u32, u32)], wants: &[(u64, u64)]) {
+    assert!(rt; ranges.len() == wants.len());
+    for ((from, to), (num, den)) in ranges.iter().zip(wants) {
+        let want = Leaf {
+            num: *num,
+            den: *den,
+        };
+        assert_eq!(rt; sum(sums, *from, *to), want, "from {from} to {to}");
+    }
+}
+
 #[test]
 fn sums_of_every_method(rt: HostRuntime) {
     let ranges = [
@@ -78,9 +90,7 @@ fn sums_of_every_method(rt: HostRuntime) {
     ];
     for (width, target, wants) in cases {
         let sums = filled(&rt, rt.alloc(), method_of(width, target));
-        for ((from, to), (num, den)) in ranges.into_iter().zip(wants) {
-            assert_eq!(rt; sum(&sums, from, to), Leaf { num, den });
-        }
+        compare(&rt, &sums, &ranges, &wants);
     }
 }
 
@@ -91,37 +101,34 @@ fn ratios_of_every_width(rt: HostRuntime) {
         (
             1,
             [
-                (2_233_333_333, 4),
-                (4_649_999_999, 7),
-                (3_399_999_999, 6),
-                (6_149_999_999, 10),
+                (2_233_333_333, 4_000_000_000),
+                (4_649_999_999, 7_000_000_000),
+                (3_399_999_999, 6_000_000_000),
+                (6_149_999_999, 10_000_000_000),
             ],
         ),
         (
             5,
             [
-                (900_000_000, 2),
-                (3_200_000_000, 5),
-                (2_000_000_000, 4),
-                (3_700_000_000, 7),
+                (900_000_000, 2_000_000_000),
+                (3_200_000_000, 5_000_000_000),
+                (2_000_000_000, 4_000_000_000),
+                (3_700_000_000, 7_000_000_000),
             ],
         ),
         (
             60,
             [
                 (0, 0),
-                (2_264_705_882, 3),
-                (2_000_000_000, 4),
-                (2_764_705_882, 5),
+                (2_264_705_882, 3_000_000_000),
+                (2_000_000_000, 4_000_000_000),
+                (2_764_705_882, 5_000_000_000),
             ],
         ),
     ];
     for (width, wants) in cases {
         let sums = filled(&rt, rt.alloc(), method_of(width, None));
-        for ((from, to), (num, slices)) in ranges.into_iter().zip(wants) {
-            let found = sum(&sums, from, to);
-            assert_eq!(rt; (found.num, found.den / 1_000_000_000), (num, slices));
-        }
+        compare(&rt, &sums, &ranges, &wants);
     }
 }
 
