@@ -1,1 +1,1 @@
-mod CatalogLemmas
+mod DocumentLemmas

@@ -1,8 +1,8 @@
 //! Catalogs under definitions and removals, one after another.
 
-use crate::catalog_tables::wrong_in;
-use crate::expectations::expect_none_wrong;
-use std::alloc::{AllocError, Global};
+use crate::catalog_tables::expect_ends;
+use std::alloc::Global;
+use std::process::Abort;
 
 /// A shop's objective, and what it refers to except for the targets of its alerts.
 const SHOP: &str = r#"+ Service shop
@@ -51,10 +51,10 @@ const SHOP: &str = r#"+ Service shop
   - alertPolicyRef: shop-alerts
   - workbook-page"#;
 
-/// The first wrong case of a table in whose cases `@shop` stands for the shop's objects; empty if
-/// there is none.
-fn wrong_in_shop(alloc: Global, table: &str) -> Result<String, AllocError> {
-    wrong_in(alloc, &table.replace(alloc, "@shop", SHOP)?)
+/// Each case of a table ends as it says, where `@shop` stands for the shop's objects.
+fn expect_ends_in_shop(rt: &impl Abort, alloc: Global, table: &str) {
+    let table = table.replace(alloc, "@shop", SHOP).expect(rt, "memory");
+    expect_ends(rt, alloc, &table);
 }
 
 /// A shop's objective and what it refers to, and then a step or more.
@@ -121,7 +121,7 @@ shop-slo 0 workbook-page"
 
 #[test]
 fn a_catalog_is_changed_step_by_step(rt: HostRuntime) {
-    expect_none_wrong(&rt, wrong_in_shop(rt.alloc(), steps()));
+    expect_ends_in_shop(&rt, rt.alloc(), steps());
 }
 
 /// One text each: references to nothing and to what stands behind, a built-in name, and copies.
@@ -169,5 +169,5 @@ AlertNotificationTarget on-call"#
 
 #[test]
 fn a_text_defines_its_objects_or_has_a_first_fault(rt: HostRuntime) {
-    expect_none_wrong(&rt, wrong_in_shop(rt.alloc(), alone()));
+    expect_ends_in_shop(&rt, rt.alloc(), alone());
 }

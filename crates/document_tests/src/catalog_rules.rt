@@ -1,9 +1,10 @@
 //! Rules of a catalog: references, objectives over values, bindings and limits.
 
-use crate::catalog_tables::{SLO, after_definition, document, text_of, wrong_in};
-use crate::expectations::{expect, expect_none_wrong};
+use crate::catalog_tables::{after_definition, document, expect_ends, text_of};
+use crate::expectations::expect_text;
 use slo_catalog::Catalog;
-use std::alloc::{AllocError, Global};
+use std::alloc::Global;
+use std::process::Abort;
 
 /// The first reference that names no member: of an object, in the order of its fields.
 fn references() -> &'static str {
@@ -93,7 +94,7 @@ fn references() -> &'static str {
 
 #[test]
 fn the_first_reference_to_nothing_is_named(rt: HostRuntime) {
-    expect_none_wrong(&rt, wrong_in(rt.alloc(), references()));
+    expect_ends(&rt, rt.alloc(), references());
 }
 
 /// The first objective that no value can be compared with: of the SLOs of the text, then of the
@@ -224,7 +225,7 @@ Slo fast
 
 #[test]
 fn objectives_over_values_need_op_and_value(rt: HostRuntime) {
-    expect_none_wrong(&rt, wrong_in(rt.alloc(), objectives()));
+    expect_ends(&rt, rt.alloc(), objectives());
 }
 
 /// Bindings stand by SLO, objective and policy, and the first of those that refer to an object is
@@ -373,120 +374,131 @@ b 0 pages"
 
 #[test]
 fn bindings_and_referrers_stand_in_order(rt: HostRuntime) {
-    expect_none_wrong(&rt, wrong_in(rt.alloc(), bindings()));
-}
-
-/// So many documents of one kind, each with a name of its own.
-fn many(alloc: Global, kind: &str, spec: &str, count: u32) -> Result<String, AllocError> {
-    let mut text = String::new(alloc);
-    for number in 0..count {
-        let name = format!(in alloc; "n{number}")?;
-        text.push_str(&document(alloc, kind, &name, spec)?)?;
-    }
-    Ok(text)
+    expect_ends(&rt, rt.alloc(), bindings());
 }
 
 /// The fault of a text in a catalog of its own; empty if it has none.
-fn fault_of(alloc: Global, text: &str) -> Option<String> {
-    match after_definition(alloc, &Catalog::new(alloc), text)? {
-        Ok(_catalog) => Some(String::new(alloc)),
-        Err(fault) => Some(fault),
+fn fault_of(rt: &impl Abort, alloc: Global, text: &str) -> String {
+    match after_definition(rt, alloc, &Catalog::new(alloc), text) {
+        Ok(_catalog) => String::new(alloc),
+        Err(fault) => fault,
     }
 }
 
-/// Whether a text has no fault, and one that is longer passes that limit.
-fn ends_between(alloc: Global, within: &str, above: &str, limit: &str) -> Option<bool> {
-    let fault = fault_of(alloc, above)?;
-    Some(fault_of(alloc, within)?.is_empty() && fault.strip_suffix("\n") == Some(limit))
+/// A limit: its name, the kind and the `spec` of the documents that are counted, what stands before
+/// them, and how many of them are within it.
+struct Limit {
+    name: &'static str,
+    kind: &'static str,
+    spec: &'static str,
+    before: &'static str,
+    most: u32,
 }
 
-/// Whether so many documents of a kind are taken beside others, and one more isn't.
-fn ends_at(alloc: Global, limit: &str, most: u32) -> Option<bool> {
-    let (limit, rest) = limit.split_once("\n")?;
-    let (kind, rest) = rest.split_once("\n")?;
-    let (spec, others) = rest.split_once("\n+ ").unwrap_or((rest, ""));
-    let others = text_of(alloc, others).ok()?;
-    let spec = spec.replace(alloc, "@slo\n", SLO).ok()?;
-    let within = many(alloc, kind, &spec, most).ok()?;
-    let above = document(alloc, kind, "above", &spec).ok()?;
-    let within = format!(in alloc; "{others}{within}").ok()?;
-    let above = format!(in alloc; "{within}{above}").ok()?;
-    ends_between(alloc, &within, &above, limit)
-}
-
-/// Limits, the kind and the `spec` of the documents that are counted, and what stands before
-/// them. An SLO of the last has ten bindings.
-fn limits() -> &'static str {
-    "Limit(Objects)
-Service
-  {}
-====
-Limit(Slis)
-SLI
-  ratioMetric:
-    total:
-      metricSource: {}
-    good:
-      metricSource: {}
-====
-Limit(Slos)
-SLO
-@slo
-  objectives:
-  - target: 0.9
-+ Service shop
+/// What an SLO refers to.
+const SHOP: &str = "+ Service shop
   {}
 + SLI speed
   ratioMetric:
     total:
       metricSource: {}
     good:
+      metricSource: {}";
+
+/// The limits of a catalog. An SLO of the last has ten bindings.
+const LIMITS: [Limit; 4] = [
+    Limit {
+        name: "Limit(Objects)",
+        kind: "Service",
+        spec: "  {}",
+        before: "",
+        most: 2_000,
+    },
+    Limit {
+        name: "Limit(Slis)",
+        kind: "SLI",
+        spec: "  ratioMetric:
+    total:
       metricSource: {}
-====
-Limit(Bindings)
-SLO
-@slo
+    good:
+      metricSource: {}",
+        before: "",
+        most: 200,
+    },
+    Limit {
+        name: "Limit(Slos)",
+        kind: "SLO",
+        spec: "@slo
+  objectives:
+  - target: 0.9",
+        before: SHOP,
+        most: 200,
+    },
+    Limit {
+        name: "Limit(Bindings)",
+        kind: "SLO",
+        spec: "@slo
   objectives:
   - target: 0.9
   - target: 0.8
   - target: 0.7
   - target: 0.6
   - target: 0.5
-  alertPolicies: [workbook-page, workbook-ticket]
-+ Service shop
-  {}
-+ SLI speed
-  ratioMetric:
-    total:
-      metricSource: {}
-    good:
-      metricSource: {}"
+  alertPolicies: [workbook-page, workbook-ticket]",
+        before: SHOP,
+        most: 40,
+    },
+];
+
+/// A text with as many documents as are within a limit.
+fn text_within(rt: &impl Abort, alloc: Global, limit: &Limit) -> String {
+    let mut text = text_of(rt, alloc, limit.before);
+    for number in 0..limit.most {
+        let name = format!(in alloc; "n{number}").expect(rt, "memory");
+        let next = document(rt, alloc, limit.kind, &name, limit.spec);
+        text.push_str(&next).expect(rt, "memory");
+    }
+    text
+}
+
+/// So many documents are taken, and one more is not.
+fn expect_limit(rt: &impl Abort, alloc: Global, limit: &Limit) {
+    let mut text = text_within(rt, alloc, limit);
+    expect_text(rt, limit.name, &fault_of(rt, alloc, &text), "");
+    let above = document(rt, alloc, limit.kind, "above", limit.spec);
+    text.push_str(&above).expect(rt, "memory");
+    expect_text(rt, limit.name, &fault_of(rt, alloc, &text), limit.name);
 }
 
 #[test]
 fn a_catalog_has_limits(rt: HostRuntime) {
-    let counts = [2_000, 200, 200, 40];
-    for (limit, most) in limits().split("\n====\n").zip(counts) {
-        expect(&rt, ends_at(rt.alloc(), limit, most) == Some(true), limit);
+    for limit in &LIMITS {
+        expect_limit(&rt, rt.alloc(), limit);
     }
 }
 
-/// A data source whose details are a list, as deep as may be, of so many items, and whose type
-/// has so many letters.
-fn deep(alloc: Global, items: usize, letters: usize) -> Result<String, AllocError> {
-    let dashes = "- ".repeat(alloc, 29)?;
-    let items = "a,".repeat(alloc, items)?;
-    let letters = "x".repeat(alloc, letters)?;
-    let spec = format!(in alloc; "  type: {letters}\n  connectionDetails:\n    {dashes}[{items}]")?;
-    document(alloc, "DataSource", "deep", &spec)
+/// A data source whose details are a list, as deep as may be, of 254,190 items, and whose type has
+/// so many letters. Each item is written in a line of 66 bytes, and what stands before them in 103
+/// bytes and the letters.
+fn deep_text(rt: &impl Abort, alloc: Global, letters: usize) -> String {
+    let dashes = "- ".repeat(alloc, 29).expect(rt, "memory");
+    let items = "a,".repeat(alloc, 254_190).expect(rt, "memory");
+    let letters = "x".repeat(alloc, letters).expect(rt, "memory");
+    let spec = format!(in alloc;
+        "  type: {letters}\n  connectionDetails:\n    {dashes}[{items}]"
+    ).expect(rt, "memory");
+    document(rt, alloc, "DataSource", "deep", &spec)
 }
 
-/// Each item is written in a line of 66 bytes, and what stands before them in 103 bytes and the
-/// letters.
 #[test]
 fn a_catalog_has_at_most_16777216_bytes(rt: HostRuntime) {
-    let within = deep(rt.alloc(), 254_190, 573).expect(&rt, "memory");
-    let above = deep(rt.alloc(), 254_190, 574).expect(&rt, "memory");
-    let ends = ends_between(rt.alloc(), &within, &above, "Limit(Catalog)");
-    expect(&rt, ends == Some(true), "the bytes of a catalog");
+    let within = deep_text(&rt, rt.alloc(), 573);
+    expect_text(&rt, "573", &fault_of(&rt, rt.alloc(), &within), "");
+    let above = deep_text(&rt, rt.alloc(), 574);
+    expect_text(
+        &rt,
+        "574",
+        &fault_of(&rt, rt.alloc(), &above),
+        "Limit(Catalog)",
+    );
 }

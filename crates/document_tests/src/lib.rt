@@ -10,6 +10,8 @@ mod catalog_rules;
 #[cfg(test)]
 mod catalog_tables;
 #[cfg(test)]
+mod documents;
+#[cfg(test)]
 mod expectations;
 #[cfg(test)]
 mod object_faults;

@@ -1,8 +1,6 @@
 //! OpenSLO documents at fault, each with the field and the rule that OpenSLO's words name first.
 
-use crate::expectations::expect_none_wrong;
-use crate::object_tables::{unless_read, wrong_in};
-use std::test::Fail;
+use crate::object_tables::{expect_lines, expect_table};
 
 /// Fields that are missing, or of another form.
 fn forms() -> &'static str {
@@ -162,7 +160,7 @@ spec:
 
 #[test]
 fn a_field_of_another_form_is_named(rt: HostRuntime) {
-    expect_none_wrong(&rt, wrong_in(rt.alloc(), forms()));
+    expect_table(&rt, rt.alloc(), forms());
 }
 
 /// Values that may not stand, and fields and items that are too many or too few.
@@ -321,7 +319,7 @@ spec:
 
 #[test]
 fn a_value_that_may_not_stand_is_named(rt: HostRuntime) {
-    expect_none_wrong(&rt, wrong_in(rt.alloc(), values()));
+    expect_table(&rt, rt.alloc(), values());
 }
 
 /// Several faults: the first in the order of the fields is named, depth first, and unknown
@@ -420,7 +418,7 @@ spec:
 
 #[test]
 fn the_first_of_several_faults_is_named(rt: HostRuntime) {
-    expect_none_wrong(&rt, wrong_in(rt.alloc(), several()));
+    expect_table(&rt, rt.alloc(), several());
 }
 
 /// Documents that aren't whole, or whose head is at fault. A name has at most 63 characters.
@@ -566,12 +564,12 @@ spec: {}
 
 #[test]
 fn the_first_fault_of_a_head_is_named(rt: HostRuntime) {
-    expect_none_wrong(&rt, wrong_in(rt.alloc(), heads()));
+    expect_table(&rt, rt.alloc(), heads());
 }
 
 #[test]
-fn a_description_has_at_most_1050_characters(rt: HostRuntime) -> Result<(), Fail> {
-    let longest = "é".repeat(rt.alloc(), 1_050)?;
+fn a_description_has_at_most_1050_characters(rt: HostRuntime) {
+    let longest = "é".repeat(rt.alloc(), 1_050).expect(&rt, "memory");
     for (more, wanted) in [("", "Service shop"), ("x", "description TooLong")] {
         let text = format!(in rt.alloc();
             "apiVersion: openslo/v1
@@ -581,8 +579,8 @@ metadata:
 spec:
   description: {longest}{more}
 "
-        )?;
-        expect_none_wrong(&rt, unless_read(rt.alloc(), &text, wanted));
+        )
+        .expect(&rt, "memory");
+        expect_lines(&rt, rt.alloc(), &text, wanted);
     }
-    Ok(())
 }

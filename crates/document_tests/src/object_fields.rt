@@ -1,8 +1,7 @@
 //! What the fields of objects stand for: those that may be omitted, fixed words, booleans and the
 //! ends of ranges.
 
-use crate::expectations::expect_none_wrong;
-use crate::object_tables::wrong_in;
+use crate::object_tables::expect_table;
 
 /// Each optional field of the seven kinds: present, omitted and null.
 fn optional() -> &'static str {
@@ -366,7 +365,7 @@ spec:
 
 #[test]
 fn a_null_field_is_as_omitted(rt: HostRuntime) {
-    expect_none_wrong(&rt, wrong_in(rt.alloc(), optional()));
+    expect_table(&rt, rt.alloc(), optional());
 }
 
 /// What stands in the metadata.
@@ -396,7 +395,7 @@ annotations: Some(Part { node: Map([]) }),
 
 #[test]
 fn null_metadata_are_as_omitted(rt: HostRuntime) {
-    expect_none_wrong(&rt, wrong_in(rt.alloc(), metadata()));
+    expect_table(&rt, rt.alloc(), metadata());
 }
 
 /// Each fixed word, each form of a boolean, each unit of a duration, numbers in quotes, and the
@@ -646,5 +645,5 @@ time_slice_window: None }] }, alert_policies: Some(Names { items: [Label(a), Lab
 
 #[test]
 fn values_are_what_their_words_say(rt: HostRuntime) {
-    expect_none_wrong(&rt, wrong_in(rt.alloc(), values()));
+    expect_table(&rt, rt.alloc(), values());
 }

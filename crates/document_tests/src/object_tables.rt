@@ -4,89 +4,65 @@
 //! and name of each object, or with the fault) or on `~> ` (what the objects show, whose lines may
 //! be broken).
 
+use crate::expectations::{expect, expect_text};
 use slo_objects::{Object, ReadError, read_object};
-use std::alloc::{AllocError, Global};
+use std::alloc::Global;
+use std::process::Abort;
 use yaml_subset::{Node, read_documents};
 
-/// A line with the kind and name of each object.
-fn names(alloc: Global, objects: &[Object]) -> Result<String, AllocError> {
-    let mut out = String::new(alloc);
+/// Appends a line with the kind and name of each object.
+fn show_names(rt: &impl Abort, alloc: Global, out: &mut String, objects: &[Object]) {
     for object in objects {
         let (kind, name) = (object.kind, object.name);
-        out.push_str(&format!(in alloc; "{kind:?} {name}\n")?)?;
+        let line = format!(in alloc; "{kind:?} {name}\n").expect(rt, "memory");
+        out.push_str(&line).expect(rt, "memory");
     }
-    Ok(out)
 }
 
-/// These lines for the objects of a document, or one with its fault.
-fn document_lines(alloc: Global, node: &Node) -> Result<String, AllocError> {
+/// Appends these lines for the objects of a document, or one with its fault.
+fn show_document(rt: &impl Abort, alloc: Global, out: &mut String, node: &Node) {
     match read_object(alloc, node) {
-        Ok(objects) => names(alloc, objects.as_slice()),
+        Ok(objects) => show_names(rt, alloc, out, objects.as_slice()),
         Err(ReadError::Fault(fault)) => {
             let (field, rule) = (fault.field.as_str(), fault.rule);
-            format!(in alloc; "{field} {rule:?}\n")
+            let line = format!(in alloc; "{field} {rule:?}\n").expect(rt, "memory");
+            out.push_str(&line).expect(rt, "memory");
         }
-        Err(ReadError::NoMemory) => String::from_str(alloc, "no memory\n"),
+        Err(ReadError::NoMemory) => {}
     }
 }
 
-/// These lines for the documents of a text.
-fn lines(alloc: Global, text: &str) -> Result<String, AllocError> {
-    let mut out = String::new(alloc);
-    if let Ok(nodes) = read_documents(alloc, text.as_bytes()) {
-        for node in &nodes {
-            out.push_str(&document_lines(alloc, node)?)?;
-        }
+/// The documents of a text are read as these lines.
+pub(crate) fn expect_lines(rt: &impl Abort, alloc: Global, text: &str, wanted: &str) {
+    let nodes = read_documents(alloc, text.as_bytes()).expect(rt, "documents");
+    let mut lines = String::new(alloc);
+    for node in &nodes {
+        show_document(rt, alloc, &mut lines, node);
     }
-    Ok(out)
+    expect_text(rt, text, lines.strip_suffix("\n").unwrap_or(""), wanted);
 }
 
-/// The objects of a text's first document with all their fields; none where there is a fault.
-fn first_objects(alloc: Global, text: &str) -> Option<String> {
-    let nodes = read_documents(alloc, text.as_bytes()).ok()?;
-    let objects = read_object(alloc, nodes.first()?).ok()?;
-    format!(in alloc; "{objects:?}").ok()
+/// The objects of a text's first document show this with all their fields.
+fn expect_fields(rt: &impl Abort, alloc: Global, text: &str, wanted: &str) {
+    let nodes = read_documents(alloc, text.as_bytes()).expect(rt, "documents");
+    let node = nodes.first().expect(rt, "a document");
+    let objects = read_object(alloc, node).expect(rt, "objects");
+    let found = format!(in alloc; "{objects:?}").expect(rt, "memory");
+    let wanted = wanted.replace(alloc, "\n", " ").expect(rt, "memory");
+    expect(rt, found.contains(wanted.as_str()), text);
 }
 
-/// Empty where a text is read as these lines; else the text, and how it is read.
-pub(crate) fn unless_read(alloc: Global, text: &str, wanted: &str) -> Result<String, AllocError> {
-    let read = lines(alloc, text)?;
-    if read.as_str().strip_suffix("\n") == Some(wanted) {
-        return Ok(String::new(alloc));
-    }
-    format!(in alloc; "{text}{read}")
-}
-
-/// Empty where a text's first document shows this; else the text.
-fn unless_shown(alloc: Global, text: &str, wanted: &str) -> Result<String, AllocError> {
-    let wanted = wanted.replace(alloc, "\n", " ")?;
-    match first_objects(alloc, text) {
-        Some(read) if read.contains(wanted.as_str()) => Ok(String::new(alloc)),
-        _ => String::from_str(alloc, text),
-    }
-}
-
-/// Empty where a case behind that head is as it says.
-fn wrong_case(alloc: Global, head: &str, case: &str) -> Result<String, AllocError> {
-    if let Some((rest, wanted)) = case.split_once("\n=> ") {
-        let text = format!(in alloc; "{head}\n{rest}\n")?;
-        return unless_read(alloc, &text, wanted);
-    }
-    if let Some((rest, wanted)) = case.split_once("\n~> ") {
-        let text = format!(in alloc; "{head}\n{rest}\n")?;
-        return unless_shown(alloc, &text, wanted);
-    }
-    format!(in alloc; "no case: {case}")
-}
-
-/// The first case of a table that isn't as it says, with what is read; empty if each is.
-pub(crate) fn wrong_in(alloc: Global, table: &str) -> Result<String, AllocError> {
+/// Each case of a table is read as it says behind `=> ` or `~> `.
+pub(crate) fn expect_table(rt: &impl Abort, alloc: Global, table: &str) {
     let (head, cases) = table.split_once("\n####\n").unwrap_or(("", table));
     for case in cases.split("\n====\n") {
-        let wrong = wrong_case(alloc, head, case)?;
-        if !wrong.is_empty() {
-            return Ok(wrong);
+        let (lines, names) = case.split_once("\n=> ").unwrap_or((case, ""));
+        let (lines, fields) = lines.split_once("\n~> ").unwrap_or((lines, ""));
+        let text = format!(in alloc; "{head}\n{lines}\n").expect(rt, "memory");
+        if fields.is_empty() {
+            expect_lines(rt, alloc, &text, names);
+        } else {
+            expect_fields(rt, alloc, &text, fields);
         }
     }
-    Ok(String::new(alloc))
 }

@@ -1,41 +1,20 @@
 //! OpenSLO objects and their canonical texts. Each expected text was written by hand.
 
-ghost use Rattle.std.specs.List.{All};
-ghost use Rattle.slo_objects.specs.Document.{IsOfDocument};
-
+use crate::documents::objects_of;
 use crate::expectations::expect;
-use slo_objects::{Object, read_object, write_object};
-use std::alloc::{AllocError, Global};
-use yaml_subset::{Node, can_be_written, read_documents, spelled};
+use slo_objects::write_object;
+use std::alloc::Global;
+use std::process::Abort;
 
-/// Appends the texts of objects, as documents of one text.
-fn write_all(out: &mut Vec<u8>, objects: &[Object]) -> Result<(), AllocError>
-    requires { All IsOfDocument objects.now }
-{
-    for object in objects {
-        out.extend_from_slice(b"---\n")?;
-        write_object(out, object)?;
-    }
-    Ok(())
-}
-
-/// Appends the texts of a document's objects.
-fn write_document(alloc: Global, out: &mut Vec<u8>, node: &Node) -> Option<()> {
-    if !can_be_written(&spelled(alloc, node).ok()?) {
-        return None;
-    }
-    let objects = read_object(alloc, node).ok()?;
-    write_all(out, objects.as_slice()).ok()
-}
-
-/// The objects of a text's documents as they are written; none where there is a fault.
-fn text_of(alloc: Global, text: &str) -> Option<Vec<u8>> {
-    let nodes = read_documents(alloc, text.as_bytes()).ok()?;
+/// The objects of a text as they are written, as documents of one text.
+fn writing_of(rt: &impl Abort, alloc: Global, text: &str) -> Vec<u8> {
+    let objects = objects_of(rt, alloc, text);
     let mut out = Vec::new(alloc);
-    for node in &nodes {
-        write_document(alloc, &mut out, node)?;
+    for object in objects.as_slice() {
+        out.extend_from_slice(b"---\n").expect(rt, "memory");
+        write_object(&mut out, object).expect(rt, "memory");
     }
-    Some(out)
+    out
 }
 
 /// Documents, and what their objects are written as.
@@ -493,18 +472,19 @@ spec:
     - alertPolicyRef: "workbook-page""#
 }
 
-/// Whether a text is written as its case says, and what is written is written so again.
-fn is_written(alloc: Global, case: &str) -> Result<bool, AllocError> {
+/// A text is written as its case says, and what is written is written so again.
+fn expect_writing(rt: &impl Abort, alloc: Global, case: &str) {
     let (text, wanted) = case.split_once("\n=> ").unwrap_or((case, ""));
-    let wanted = format!(in alloc; "{wanted}\n")?;
-    let first = text_of(alloc, &format!(in alloc; "{text}\n")?);
-    let again = text_of(alloc, &wanted);
-    Ok(first.as_deref() == Some(wanted.as_bytes()) && again.as_deref() == Some(wanted.as_bytes()))
+    let wanted = format!(in alloc; "{wanted}\n").expect(rt, "memory");
+    let first = writing_of(rt, alloc, text);
+    expect(rt, first.as_slice() == wanted.as_bytes(), text);
+    let again = writing_of(rt, alloc, &wanted);
+    expect(rt, again.as_slice() == wanted.as_bytes(), &wanted);
 }
 
 #[test]
 fn objects_are_written_in_one_form(rt: HostRuntime) {
     for case in writings().split("\n====\n") {
-        expect(&rt, is_written(rt.alloc(), case) == Ok(true), case);
+        expect_writing(&rt, rt.alloc(), case);
     }
 }

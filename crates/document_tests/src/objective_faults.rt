@@ -1,7 +1,6 @@
 //! Faults of SLOs: of what they refer to, their windows, methods, objectives and policies.
 
-use crate::expectations::expect_none_wrong;
-use crate::object_tables::wrong_in;
+use crate::object_tables::expect_table;
 
 /// What stands in an SLO up to its window, in one of many forms.
 fn heads() -> &'static str {
@@ -120,7 +119,7 @@ spec:
 
 #[test]
 fn the_first_fault_before_the_method_is_named(rt: HostRuntime) {
-    expect_none_wrong(&rt, wrong_in(rt.alloc(), heads()));
+    expect_table(&rt, rt.alloc(), heads());
 }
 
 /// What stands from the method on.
@@ -288,5 +287,5 @@ spec:
 
 #[test]
 fn the_first_fault_from_the_method_on_is_named(rt: HostRuntime) {
-    expect_none_wrong(&rt, wrong_in(rt.alloc(), objectives()));
+    expect_table(&rt, rt.alloc(), objectives());
 }

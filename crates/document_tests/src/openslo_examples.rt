@@ -1,8 +1,8 @@
 //! The texts of the folder `examples/openslo`, and what their documents stand for.
 
-use crate::expectations::expect_none_wrong;
-use crate::object_tables::unless_read;
-use std::alloc::{AllocError, Global};
+use crate::object_tables::expect_lines;
+use std::alloc::Global;
+use std::process::Abort;
 
 /// The texts of the examples without their comments, each with a line for each object or fault, and
 /// behind `-- ` changes: a part, what is put in its place, and the lines then.
@@ -335,30 +335,28 @@ Slo inline
 => kind BadKind"
 }
 
-/// Empty where a changed text is read as the change says.
-fn wrong_change(alloc: Global, text: &str, change: &str) -> Result<String, AllocError> {
+/// A changed text is read as the change says.
+fn expect_change(rt: &impl Abort, alloc: Global, text: &str, change: &str) {
     let (part, rest) = change.split_once("\n-> ").unwrap_or((change, ""));
     let (changed, wanted) = rest.split_once("\n=> ").unwrap_or((rest, "no change"));
-    unless_read(alloc, &text.replace(alloc, part, changed)?, wanted)
+    let text = text.replace(alloc, part, changed).expect(rt, "memory");
+    expect_lines(rt, alloc, &text, wanted);
 }
 
-/// The first wrong reading of an example and of its changes; empty if there is none.
-fn wrong_example(alloc: Global, example: &str) -> Result<String, AllocError> {
+/// An example and its changes are read as they say.
+fn expect_example(rt: &impl Abort, alloc: Global, example: &str) {
     let (text, rest) = example.split_once("\n=> ").unwrap_or((example, ""));
     let (wanted, changes) = rest.split_once("\n-- ").unwrap_or((rest, ""));
+    expect_lines(rt, alloc, text, wanted);
     for change in changes.split_terminator("\n-- ") {
-        let wrong = wrong_change(alloc, text, change)?;
-        if !wrong.is_empty() {
-            return Ok(wrong);
-        }
+        expect_change(rt, alloc, text, change);
     }
-    unless_read(alloc, text, wanted)
 }
 
 #[test]
 fn the_examples_are_read_as_they_say(rt: HostRuntime) {
     for example in examples().split("\n====\n") {
-        expect_none_wrong(&rt, wrong_example(rt.alloc(), example));
+        expect_example(&rt, rt.alloc(), example);
     }
-    expect_none_wrong(&rt, wrong_example(rt.alloc(), inline_example()));
+    expect_example(&rt, rt.alloc(), inline_example());
 }

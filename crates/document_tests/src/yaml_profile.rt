@@ -1,7 +1,7 @@
 //! Examples of YAML 1.2.2, texts for each sentence of the profile, and a map with many keys.
 
-use crate::expectations::{expect, expect_none_wrong};
-use crate::yaml_tables::{answer, wrong_in};
+use crate::expectations::expect;
+use crate::yaml_tables::{answer, expect_read};
 use std::alloc::{AllocError, Global};
 use yaml_subset::read_documents;
 
@@ -90,7 +90,7 @@ Document¶---¶# Empty¶...¶---¶matches %: 20¶ => Document.{matches %=20;}."
 
 #[test]
 fn examples_of_the_specification(rt: HostRuntime) {
-    expect_none_wrong(&rt, wrong_in(rt.alloc(), examples()));
+    expect_read(&rt, rt.alloc(), examples());
 }
 
 /// Examples of YAML 1.2.2 with a construct that the profile leaves out: 2.6, 2.10, 2.11, 2.13, 2.17
@@ -127,7 +127,7 @@ Document¶---¶# Empty¶...¶%YAML 1.2¶---¶matches %: 20¶ => 5 LeftOut"
 
 #[test]
 fn examples_with_what_is_left_out(rt: HostRuntime) {
-    expect_none_wrong(&rt, wrong_in(rt.alloc(), examples_left_out()));
+    expect_read(&rt, rt.alloc(), examples_left_out());
 }
 
 /// More texts of the profile.
@@ -163,7 +163,7 @@ a:¶  b: 1¶c:¶  b: 2¶ => {a={b=1;};c={b=2;};}.
 
 #[test]
 fn more_texts_of_the_profile(rt: HostRuntime) {
-    expect_none_wrong(&rt, wrong_in(rt.alloc(), profile_texts()));
+    expect_read(&rt, rt.alloc(), profile_texts());
 }
 
 /// More texts that are none. From the fifteenth on two rows are broken, and the first of the table
@@ -195,7 +195,7 @@ a: 1¶a: b: c¶ => 2 Colon"
 
 #[test]
 fn more_texts_that_are_none(rt: HostRuntime) {
-    expect_none_wrong(&rt, wrong_in(rt.alloc(), other_texts()));
+    expect_read(&rt, rt.alloc(), other_texts());
 }
 
 /// How many keys a large map has, and the step from one to the next. Both are primes, so the keys

@@ -2,7 +2,9 @@
 //! text, since the proof of a test costs by its literals and not by their length: a line for each
 //! case, in which `¶` stands for a line feed, and behind ` => ` what is wanted.
 
+use crate::expectations::expect_text;
 use std::alloc::{AllocError, Global};
+use std::process::Abort;
 use yaml_subset::{Node, Nodes, YamlFault, read_documents};
 
 /// Appends a text, with line feeds and tabs as one writes them and `~` for a byte above 127.
@@ -77,14 +79,12 @@ pub(crate) fn answer(alloc: Global, text: &str) -> Result<String, AllocError> {
     }
 }
 
-/// The first case of a table that isn't read as it says, with what is read; empty if each is.
-pub(crate) fn wrong_in(alloc: Global, table: &str) -> Result<String, AllocError> {
+/// Each case of a table is read as it says.
+pub(crate) fn expect_read(rt: &impl Abort, alloc: Global, table: &str) {
     for case in table.split("\n") {
         let (text, wanted) = case.split_once(" => ").unwrap_or((case, "no case"));
-        let read = answer(alloc, &text.replace(alloc, "¶", "\n")?)?;
-        if read.as_str() != wanted {
-            return format!(in alloc; "{case}\n{read}");
-        }
+        let text = text.replace(alloc, "¶", "\n").expect(rt, "memory");
+        let found = answer(alloc, &text).expect(rt, "memory");
+        expect_text(rt, case, &found, wanted);
     }
-    Ok(String::new(alloc))
 }

@@ -1,7 +1,6 @@
 //! Texts of the YAML profile and others, with what YAML 1.2.2 and the profile's words make of them.
 
-use crate::expectations::expect_none_wrong;
-use crate::yaml_tables::wrong_in;
+use crate::yaml_tables::expect_read;
 
 /// Texts of the profile.
 fn profile_texts() -> &'static str {
@@ -96,7 +95,7 @@ k:¶                 k:¶                  k:¶                   k:¶          
 
 #[test]
 fn texts_of_the_profile(rt: HostRuntime) {
-    expect_none_wrong(&rt, wrong_in(rt.alloc(), profile_texts()));
+    expect_read(&rt, rt.alloc(), profile_texts());
 }
 
 /// Texts that are none, each with the line and the row that are named.
@@ -162,5 +161,5 @@ k:¶                 k:¶                  k:¶                   k:¶          
 
 #[test]
 fn texts_that_are_none(rt: HostRuntime) {
-    expect_none_wrong(&rt, wrong_in(rt.alloc(), other_texts()));
+    expect_read(&rt, rt.alloc(), other_texts());
 }

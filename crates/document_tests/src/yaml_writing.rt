@@ -1,62 +1,47 @@
 //! YAML nodes and their canonical writings. Each expected text was written by hand, and is read
 //! again.
 
-ghost use Rattle.std.specs.Prelude.{◌≡◌};
-
-use crate::expectations::{expect, expect_none_wrong};
+use crate::documents::documents_of;
+use crate::expectations::{expect, expect_text};
 use std::alloc::{AllocError, Global};
+use std::process::Abort;
 use std::test::Fail;
-use yaml_subset::{
-    FieldKey, Node, Nodes, Spelling, Text, can_be_written, read_documents, spelled, write_node,
-    write_spelling,
-};
+use yaml_subset::{FieldKey, Spelling, Text, can_be_written, spelled, write_node, write_spelling};
 
-/// A node's writing, where it can be written.
-fn writing_of(alloc: Global, node: &Node, indent: u32) -> Result<Option<Vec<u8>>, AllocError> {
-    let value = spelled(alloc, node)?;
-    if !can_be_written(&value) {
-        return Ok(None);
-    }
+/// The writing of a text's documents behind so many spaces.
+fn writing_of(rt: &impl Abort, alloc: Global, text: &str, indent: u32) -> Vec<u8> {
+    let nodes = documents_of(rt, alloc, text);
     let mut out = Vec::new(alloc);
-    write_node(&mut out, node, indent)?;
-    Ok(Some(out))
+    for node in nodes.as_slice() {
+        let value = spelled(alloc, node).expect(rt, "memory");
+        expect(rt, can_be_written(&value), text);
+        write_node(&mut out, node, indent).expect(rt, "memory");
+    }
+    out
 }
 
-/// The writing of a value, where it can be written.
-fn text_of(alloc: Global, value: &Spelling) -> Result<Option<Vec<u8>>, AllocError> {
-    if !can_be_written(value) {
-        return Ok(None);
-    }
-    let mut out = Vec::new(alloc);
-    write_spelling(&mut out, value, 0)?;
-    Ok(Some(out))
+/// The documents of a text, as they are shown.
+fn documents_shown(rt: &impl Abort, alloc: Global, text: &str) -> String {
+    let nodes = documents_of(rt, alloc, text);
+    format!(in alloc; "{nodes:?}").expect(rt, "memory")
 }
 
-/// Whether the documents of a text have this writing.
-fn has_writing(alloc: Global, nodes: &Nodes, indent: u32, want: &str) -> Result<bool, AllocError> {
-    let mut out = Vec::new(alloc);
-    for node in nodes {
-        match writing_of(alloc, node, indent)? {
-            Some(text) => out.extend_from_slice(&text)?,
-            None => return Ok(false),
-        }
-    }
-    Ok(out.as_slice() == want.as_bytes())
+/// The documents of a text have this writing behind so many spaces, and are read back from it.
+fn expect_writing(rt: &impl Abort, alloc: Global, indent: u32, text: &str, wanted: &str) {
+    let found = writing_of(rt, alloc, text, indent);
+    expect(rt, found.as_slice() == wanted.as_bytes(), text);
+    let again = documents_shown(rt, alloc, wanted);
+    expect_text(rt, text, &again, &documents_shown(rt, alloc, text));
 }
 
-/// Whether the document of a text has this writing, and is read back from it.
-fn is_written_as(alloc: Global, source: &str, indent: u32, want: &str) -> Result<bool, AllocError> {
-    match read_documents(alloc, source.as_bytes()) {
-        Err(_) => Ok(false),
-        Ok(nodes) => match read_documents(alloc, want.as_bytes()) {
-            Err(_) => Ok(false),
-            Ok(again) => {
-                let before = format!(in alloc; "{nodes:?}")?;
-                let after = format!(in alloc; "{again:?}")?;
-                let same = before.as_str() == after.as_str();
-                Ok(has_writing(alloc, &nodes, indent, want)? && same)
-            }
-        },
+/// Each case of a table is written as it says.
+fn expect_writings(rt: &impl Abort, alloc: Global, indent: u32, table: &str) {
+    for case in table.split("\n") {
+        let case = case.replace(alloc, "¶", "\n").expect(rt, "memory");
+        let (text, wanted) = case
+            .split_once(" => ")
+            .unwrap_or((case.as_str(), "no case"));
+        expect_writing(rt, alloc, indent, text, wanted);
     }
 }
 
@@ -78,19 +63,6 @@ a: b\tc¶d: -e¶f: g:h¶ => \"a\": b\tc¶\"d\": -e¶\"f\": g:h¶
 - é: 'ü'¶ => - \"é\": \"ü\"¶"
 }
 
-/// The first case that is written otherwise behind so many spaces; empty if there is none.
-fn wrong_in(alloc: Global, indent: u32, table: &str) -> Result<String, AllocError> {
-    for case in table.split("\n") {
-        let (text, wanted) = case.split_once(" => ").unwrap_or((case, "no case"));
-        let text = text.replace(alloc, "¶", "\n")?;
-        let wanted = wanted.replace(alloc, "¶", "\n")?;
-        if !is_written_as(alloc, &text, indent, &wanted)? {
-            return String::from_str(alloc, case);
-        }
-    }
-    Ok(String::new(alloc))
-}
-
 /// A text whose document is written behind three spaces.
 fn indented_writing() -> &'static str {
     "a:¶ - b:¶   - c¶   d: e¶f:¶  g:¶ =>    \"a\":¶     - \"b\":¶         \
@@ -99,8 +71,18 @@ fn indented_writing() -> &'static str {
 
 #[test]
 fn nodes_are_written_canonically(rt: HostRuntime) {
-    expect_none_wrong(&rt, wrong_in(rt.alloc(), 0, writings()));
-    expect_none_wrong(&rt, wrong_in(rt.alloc(), 3, indented_writing()));
+    expect_writings(&rt, rt.alloc(), 0, writings());
+    expect_writings(&rt, rt.alloc(), 3, indented_writing());
+}
+
+/// The writing of a value, where it can be written.
+fn text_of(alloc: Global, value: &Spelling) -> Result<Option<Vec<u8>>, AllocError> {
+    if !can_be_written(value) {
+        return Ok(None);
+    }
+    let mut out = Vec::new(alloc);
+    write_spelling(&mut out, value, 0)?;
+    Ok(Some(out))
 }
 
 fn text(alloc: Global, bytes: &str) -> Result<Text, AllocError> {

@@ -1,5 +1,4 @@
--- The tests of catalogs know that nodes read from a text can be written, and so give objects that
--- a document may hold; and that such objects behind others are such objects.
+-- What the tests know of the nodes of a text, and of objects of documents behind others.
 use Rattle.std.proofs.Common.{List, [], ◌∷◌, ◌++◌}
 use Rattle.std.specs.List.{All, AllByRecursion}
 use Rattle.std.proofs.lemmas.List.Elements.{All-from_recursion, All-append}

@@ -1,0 +1,52 @@
+//! The documents of a text and their objects, with what writers and catalogs ask of them: that a
+//! node can be written, and that an object is of some document.
+
+ghost use Rattle.std.specs.List.{All};
+ghost use Rattle.yaml_subset.specs.NodeView.{node_view};
+ghost use Rattle.yaml_subset.specs.Fits.{IsWritable};
+ghost use Rattle.slo_objects.specs.Document.{IsOfDocument};
+
+use slo_objects::{Objects, read_object};
+use std::alloc::Global;
+use std::process::Abort;
+use yaml_subset::{Node, Nodes, read_documents, standing_nodes_are_writable};
+
+/// The documents of a text.
+#[tactic(auto, using(crate::proofs::DocumentLemmas::each_node))]
+pub(crate) fn documents_of(rt: &impl Abort, alloc: Global, text: &str) -> Nodes
+    ensures { All (λ node. IsWritable (node_view node)) result.items }
+{
+    standing_nodes_are_writable();
+    read_documents(alloc, text.as_bytes()).expect(rt, "documents")
+}
+
+/// The objects of a document.
+fn objects_of_document(rt: &impl Abort, alloc: Global, node: &Node) -> Objects
+    requires { IsWritable (node_view node.now) }
+    ensures { All IsOfDocument result }
+{
+    read_object(alloc, node).expect(rt, "objects")
+}
+
+/// Objects behind others.
+#[tactic(auto, using(crate::proofs::DocumentLemmas::all_of_both))]
+fn append_all(rt: &impl Abort, mut objects: Objects, more: Objects) -> Objects
+    requires first { All IsOfDocument objects }
+    requires second { All IsOfDocument more }
+    ensures { All IsOfDocument result }
+{
+    objects.append(more).expect(rt, "memory");
+    objects
+}
+
+/// The objects of a text, in order.
+pub(crate) fn objects_of(rt: &impl Abort, alloc: Global, text: &str) -> Objects
+    ensures { All IsOfDocument result }
+{
+    let nodes = documents_of(rt, alloc, text);
+    let mut objects = Objects::new(alloc);
+    for node in nodes.as_slice() {
+        objects = append_all(rt, objects, objects_of_document(rt, alloc, node));
+    }
+    objects
+}
