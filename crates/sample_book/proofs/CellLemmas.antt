@@ -3,7 +3,8 @@ use Rattle.std.proofs.Common.{◌≡◌, ℕ, zero, suc, ◌<◌, List, [], ◌�
 use Rattle.std.specs.List.{position, list_any, IsDistinct, AllByRecursion}
 use Rattle.std.specs.Option.{option_map}
 use Rattle.std.specs.Str.{bytes_eq}
-use Rattle.std.specs.Prelude.{Result, Ok, Err, OnErr}
+use Rattle.std.specs.Prelude.{Result, Ok, Err, IfOk, OnErr}
+use Rattle.std.specs.Result.{IsErrAnd}
 use Rattle.std.proofs.lemmas.Slice.Eq.{bytes_eq-Decides}
 use Rattle.indexmap.specs.IndexSet.{insert_key}
 use Rattle.std.proofs.lemmas.List.{map-append}
@@ -211,3 +212,8 @@ cells_added slis slis' sources sources' keys keys' cell key g h n k e =
 pub always_err : {A E P : Type 0} (r : Result A E) → P → OnErr r P
 always_err (Ok a) p = tt
 always_err (Err e) p = p
+
+-- what is said of the value of a call that has failed
+pub never_ok : {A E : Type 0} (Q : E → Type 0) (P : A → Type 0) (r : Result A E) → IsErrAnd r Q → IfOk r P
+never_ok Q P (Ok a) h = absurd h
+never_ok Q P (Err e) h = tt

@@ -19,7 +19,7 @@ use std::marker::Model;
 const MOST_CELLS: usize = 4_294_967_295;
 
 // What a row says of its cell.
-#[derive(Clone, Copy, PartialEq, Eq)]
+#[derive(Clone, Copy)]
 pub(crate) struct Stored {
     pub(crate) revision: u32,
     pub(crate) amount: Amount,

@@ -25,6 +25,8 @@ pub mod SpellingLemmas
 pub mod WriteLemmas
 pub mod TrimLemmas
 pub mod FlowLemmas
+pub mod FlowSteps
 pub mod FlowItemLemmas
 pub mod FlowListLemmas
 pub mod FitsLemmas
+pub mod Failures

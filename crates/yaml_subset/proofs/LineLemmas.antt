@@ -1,7 +1,8 @@
 -- What stands on a line, one byte after another.
-use Rattle.std.proofs.Common.{◌≡◌, ℕ, suc, ◌+◌, ◌<◌, Bool, true, false, List, [], ◌∷◌, Option, Some, None, cond, length, drop, get_or, refl, sym, ap, ◌∙◌, append_assoc, append-nil, arith}
+use Rattle.std.proofs.Common.{◌≡◌, ℕ, suc, ◌+◌, ◌-◌, ◌^◌, ◌<◌, ◌≤◌, Bool, true, false, List, [], ◌∷◌, Option, Some, None, cond, length, drop, get_or, refl, sym, ap, ◌∙◌, append_assoc, append-nil, arith}
 use Rattle.std.specs.Prelude.{nat_le, ◌&&◌, ◌==◌}
 use Rattle.std.proofs.lemmas.Bool.Decides.{nat_tests}
+use Rattle.std.proofs.lemmas.List.{drop_all}
 use Rattle.yaml_subset.specs.Mark.{dash}
 use Rattle.yaml_subset.specs.Block.{is_blank_byte}
 use Rattle.yaml_subset.specs.Rows.{place, earlier}
@@ -91,3 +92,30 @@ module _ (l : Line) (bytes : List ℕ) (column at : ℕ) (within : at < length b
       → joined l (content (column + at) (drop at bytes)) ≡ joined l (entry_or_value (column + at) (drop at bytes) (key_of (drop at bytes)))
   unfolding by_ahead
   content_entry e = there Entry e ∙ ap (λ (cs : List ℕ). joined l (entry_or_value (column + at) cs (key_of cs))) (sym (step_at bytes at within))
+
+-- what stands behind the last byte
+pub content_end : (l m : Line) (bytes : List ℕ) (column at : ℕ) → length bytes ≤ at → joined l (content (column + at) (drop at bytes)) ≡ m → l ≡ m
+content_end l m bytes column at h e = sym (ap (λ (cs : List ℕ). joined l (content (column + at) cs)) (drop_all at bytes h) ∙ joined_none l) ∙ e
+
+pub entry_fits : (column at n m : ℕ) → column + n < 2 ^ 64 → at < n → m ≡ n - at → column + at + m < 2 ^ 64
+entry_fits column at n m h i e = omega arith
+
+-- the scalar ends at a byte, or goes on
+pub plain_stops : (bytes : List ℕ) (at n : ℕ) → at < length bytes → stops_plain (get_or bytes at 0) (drop (at + 1) bytes) ≡ true → at + plain_len (drop at bytes) ≡ n → at ≡ n
+plain_stops bytes at n h e i =
+    let z : plain_len (drop at bytes) ≡ 0 = plain_len_more bytes at h ∙ ap (λ (b : Bool). cond b 0 (suc (plain_len (drop (at + 1) bytes)))) e in
+    omega (arith, z, i)
+
+pub plain_goes : (bytes : List ℕ) (at n : ℕ) → at < length bytes → stops_plain (get_or bytes at 0) (drop (at + 1) bytes) ≡ false → at + plain_len (drop at bytes) ≡ n → (at + 1) + plain_len (drop (at + 1) bytes) ≡ n
+plain_goes bytes at n h e i =
+    let z : plain_len (drop at bytes) ≡ suc (plain_len (drop (at + 1) bytes)) = plain_len_more bytes at h ∙ ap (λ (b : Bool). cond b 0 (suc (plain_len (drop (at + 1) bytes)))) e in
+    omega (arith, z, i)
+
+pub plain_ends : (bytes : List ℕ) (at n : ℕ) → length bytes ≤ at → at ≤ length bytes → at + plain_len (drop at bytes) ≡ n → length bytes ≡ n
+plain_ends bytes at n h j i =
+    let z : plain_len (drop at bytes) ≡ 0 = ap plain_len (drop_all at bytes h) in
+    omega (arith, z, i)
+
+-- a colon behind a quoted key stands within the line
+pub key_within : (q b n m byte : ℕ) → q ≤ n → m ≡ n - q → byte ≡ 58 → ((byte ≡ 0 → ⊥) → b < m) → q + b + 2 ≤ n + 1
+key_within q b n m byte h e f inside = let within : b < m = inside (λ (z : byte ≡ 0). omega (arith, f, z)) in omega (arith, h, e, within)

@@ -5,7 +5,7 @@ use Rattle.std.proofs.lemmas.Bool.Decides.{nat_tests}
 use Rattle.std.specs.Prelude.{nat_lt}
 use Rattle.yaml_subset.specs.declared.which.Which.TheVariants.{Indent, Colon, DuplicateKey, TooDeep}
 use Rattle.std.proofs.Math.Seq.{drop-cons}
-use Rattle.std.proofs.lemmas.List.{drop-append-le, take-append-le, take-take, take_all, take-append-drop}
+use Rattle.std.proofs.lemmas.List.{drop_all, drop-append-le, take-append-le, take-take, take_all, take-append-drop}
 use Rattle.std.proofs.lemmas.List.Folds.{list_any-append}
 use Rattle.yaml_subset.specs.Tree.{Tree, mapping, sequence, scalar}
 use Rattle.yaml_subset.specs.Mark.{Mark, start, dash, key, value, header, raw, Child}
@@ -324,3 +324,41 @@ raw_refused docs fs k l other = (
     row lasts.Nothing = rw (raw_room l (last_head start fs), none_at fs) refl
     row (lasts.Inline x) = rw (none_at fs) refl
     row (lasts.Block b) = rw (none_at fs) refl
+
+-- a frame stands at the column, or the search goes on behind it
+any_here : (c : Option ℕ) (fs : List Frame) (at : ℕ) (f : Frame) → at < length fs → f ≡ get_or fs at f
+    → any_at c (drop at fs) ≡ (same_column (column (head_of f)) c || any_at c (drop (at + 1) fs))
+any_here c fs at f h is = any_at_more c fs at f h ∙ ap (λ (g : Frame). same_column (column (head_of g)) c || any_at c (drop (at + 1) fs)) (sym is)
+
+pub any_found : (c : Option ℕ) (fs : List Frame) (at : ℕ) (f : Frame) (all : Bool) → at < length fs → f ≡ get_or fs at f → same_column (column (head_of f)) c ≡ true
+    → any_at c (drop at fs) ≡ all → true ≡ all
+any_found c fs at f all h is e i = sym (any_here c fs at f h is ∙ ap (λ (b : Bool). b || any_at c (drop (at + 1) fs)) e) ∙ i
+
+pub any_passed : (c : Option ℕ) (fs : List Frame) (at : ℕ) (f : Frame) (all : Bool) → at < length fs → f ≡ get_or fs at f → same_column (column (head_of f)) c ≡ false
+    → any_at c (drop at fs) ≡ all → any_at c (drop (at + 1) fs) ≡ all
+any_passed c fs at f all h is e i = sym (any_here c fs at f h is ∙ ap (λ (b : Bool). b || any_at c (drop (at + 1) fs)) e) ∙ i
+
+pub any_none : (c : Option ℕ) (fs : List Frame) (at : ℕ) (all : Bool) → length fs ≤ at → any_at c (drop at fs) ≡ all → false ≡ all
+any_none c fs at all h i = sym (ap (any_at c) (drop_all at fs h)) ∙ i
+
+-- the mark is a frame's next one, or the search goes on behind it
+next_here : (m : Mark) (fs : List Frame) (at : ℕ) (f : Frame) → at < length fs → f ≡ get_or fs at f
+    → next_place m (drop at fs) ≡ cond (is_next (head_of f) m) 0 (suc (next_place m (drop (at + 1) fs)))
+next_here m fs at f h is = next_place_more m fs at f h ∙ ap (λ (g : Frame). cond (is_next (head_of g) m) 0 (suc (next_place m (drop (at + 1) fs)))) (sym is)
+
+pub next_stops : (m : Mark) (fs : List Frame) (at : ℕ) (f : Frame) (n : ℕ) → at < length fs → f ≡ get_or fs at f → is_next (head_of f) m ≡ true
+    → at + next_place m (drop at fs) ≡ n → at ≡ n
+next_stops m fs at f n h is e i =
+    let z : next_place m (drop at fs) ≡ 0 = next_here m fs at f h is ∙ ap (λ (b : Bool). cond b 0 (suc (next_place m (drop (at + 1) fs)))) e in
+    omega (arith, z, i)
+
+pub next_goes : (m : Mark) (fs : List Frame) (at : ℕ) (f : Frame) (n : ℕ) → at < length fs → f ≡ get_or fs at f → is_next (head_of f) m ≡ false
+    → at + next_place m (drop at fs) ≡ n → (at + 1) + next_place m (drop (at + 1) fs) ≡ n
+next_goes m fs at f n h is e i =
+    let z : next_place m (drop at fs) ≡ suc (next_place m (drop (at + 1) fs)) = next_here m fs at f h is ∙ ap (λ (b : Bool). cond b 0 (suc (next_place m (drop (at + 1) fs)))) e in
+    omega (arith, z, i)
+
+pub next_ends : (m : Mark) (fs : List Frame) (at n : ℕ) → length fs ≤ at → at ≤ length fs → at + next_place m (drop at fs) ≡ n → length fs ≡ n
+next_ends m fs at n h j i =
+    let z : next_place m (drop at fs) ≡ 0 = ap (next_place m) (drop_all at fs h) in
+    omega (arith, z, i)

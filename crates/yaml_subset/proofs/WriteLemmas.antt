@@ -1,13 +1,14 @@
 -- What the writer writes, step by step.
-use Rattle.std.proofs.Common.{◌≡◌, ℕ, zero, suc, ◌+◌, ◌-◌, ◌<◌, ◌≤◌, Bool, false, List, [], ◌∷◌, ◌++◌, length, cond, Result, Ok, Err, OnOk, subst, refl, append_assoc, arith}
+use Rattle.std.proofs.Common.{◌≡◌, ℕ, zero, suc, ◌+◌, ◌-◌, ◌*◌, ◌^◌, get_or, drop, append-nil, sym, ap, ◌∙◌, ◌<◌, ◌≤◌, Bool, false, List, [], ◌∷◌, ◌++◌, length, cond, Result, Ok, Err, OnOk, subst, refl, append_assoc, arith}
 use Rattle.std.specs.Prelude.{◌==◌, not}
 use Rattle.std.proofs.lemmas.Bool.Decides.{nat_tests}
+use Rattle.std.proofs.lemmas.List.{drop_all, drop_more}
 use Rattle.yaml_subset.specs.Spelling.{Spelling, word, quoted, fields, items, Fields, no_fields, field, Items, no_items, one_item, key_text, spaces, step, gap_at_colon, gap_at_dash, written, written_fields, written_items, writing, is_word, meant, spelled}
 use Rattle.yaml_subset.specs.Tree.{Tree}
 use Rattle.yaml_subset.specs.Profile.{max_depth}
 use Rattle.yaml_subset.specs.Text.{StandsFor, max_bytes}
 use Rattle.yaml_subset.specs.Fits.{Fits, FitFields, FitItems, IsWritable}
-use Rattle.yaml_subset.specs.SpellingView.{is_no_text, has_lines, fields_view, items_view}
+use Rattle.yaml_subset.specs.SpellingView.{spelling_view, is_quoted, text_of, is_no_text, has_lines, fields_view, items_view}
 use Rattle.yaml_subset.specs.declared.spelling.FieldKey.{FieldKey}
 use Rattle.yaml_subset.specs.declared.spelling.Spelling.{Spelling as Written}
 use Rattle.yaml_subset.proofs.WritingLines.{lead_first}
@@ -88,3 +89,60 @@ stands_alone n s f z e small = rw z (reads_back s f e (rw z at small))
 
 pub node_stands : (n : ℕ) (x : Tree) → IsWritable x → n ≡ 0 → is_word (spelled x) ≡ false → length (writing n (spelled x)) ≤ max_bytes → StandsFor (writing n (spelled x)) (x ∷ [])
 node_stands n x f z e small = subst (λ (y : Tree). StandsFor (writing n (spelled x)) (y ∷ [])) (spelled_meant x) (stands_alone n (spelled x) f z e small)
+
+-- the fields from a place on, and the items
+next_fields : (ps : List (FieldKey × Written)) (i : ℕ) (p : FieldKey × Written) → i < length ps → p ≡ get_or ps i p → fields_view (drop i ps) ≡ fields_view (p ∷ drop (i + 1) ps)
+next_fields ps i p h e = ap fields_view (drop_more ps i p h ∙ ap (λ (x : FieldKey × Written). x ∷ drop (i + 1) ps) (sym e))
+
+next_items : (ss : List Written) (i : ℕ) (s : Written) → i < length ss → s ≡ get_or ss i s → items_view (drop i ss) ≡ items_view (s ∷ drop (i + 1) ss)
+next_items ss i s h e = ap items_view (drop_more ss i s h ∙ ap (λ (x : Written). x ∷ drop (i + 1) ss) (sym e))
+
+pub fit_field : (d : ℕ) (ps : List (FieldKey × Written)) (i : ℕ) (p : FieldKey × Written) → i < length ps → p ≡ get_or ps i p → FitFields d (fields_view (drop i ps))
+    → Fits d (spelling_view p.1) × FitFields d (fields_view (drop (i + 1) ps))
+fit_field d ps i p h e f = let all = subst (FitFields d) (next_fields ps i p h e) f in (all.2, all.3)
+
+pub fit_item : (d : ℕ) (ss : List Written) (i : ℕ) (s : Written) → i < length ss → s ≡ get_or ss i s → FitItems d (items_view (drop i ss))
+    → Fits d (spelling_view s) × FitItems d (items_view (drop (i + 1) ss))
+fit_item d ss i s h e f = subst (FitItems d) (next_items ss i s h e) f
+
+-- one field is written after those before it
+pub field_written : (o a b c e f all : List ℕ) (lead n : ℕ) (ps : List (FieldKey × Written)) (i : ℕ) (p : FieldKey × Written) → i < length ps → p ≡ get_or ps i p
+    → o ++ written_fields (spaces lead) n (fields_view (drop i ps)) ≡ all → a ≡ o ++ spaces lead → b ≡ a ++ key_text (is_quoted p.0) (text_of p.0) → c ≡ b ++ (58 ∷ [])
+    → e ≡ c ++ gap_at_colon n (spelling_view p.1) → f ≡ e ++ written [] (n + step) (spelling_view p.1) → f ++ written_fields (spaces n) n (fields_view (drop (i + 1) ps)) ≡ all
+field_written o a b c e f all lead n ps i p h is so to_a to_b to_c to_e to_f =
+    let s = spelling_view p.1 in
+    let to_end : f ≡ ((((o ++ spaces lead) ++ key_text (is_quoted p.0) (text_of p.0)) ++ (58 ∷ [])) ++ gap_at_colon n s) ++ written [] (n + step) s =
+    to_f ∙ ap (λ (t : List ℕ). t ++ written [] (n + step) s) (to_e ∙ ap (λ (t : List ℕ). t ++ gap_at_colon n s) (to_c ∙ ap (λ (t : List ℕ). t ++ (58 ∷ [])) (to_b ∙ ap (λ (t : List ℕ). t ++ key_text (is_quoted p.0) (text_of p.0)) to_a))) in
+    ap (λ (t : List ℕ). t ++ written_fields (spaces n) n (fields_view (drop (i + 1) ps))) to_end
+    ∙ field_more o lead n (is_quoted p.0) (text_of p.0) s (fields_view (drop (i + 1) ps))
+    ∙ ap (λ (fs : Fields). o ++ written_fields (spaces lead) n fs) (sym (next_fields ps i p h is)) ∙ so
+
+pub item_written : (o a b c e all : List ℕ) (lead n : ℕ) (ss : List Written) (i : ℕ) (w : Written) → i < length ss → w ≡ get_or ss i w
+    → o ++ written_items (spaces lead) n (items_view (drop i ss)) ≡ all → a ≡ o ++ spaces lead → b ≡ a ++ (45 ∷ []) → c ≡ b ++ gap_at_dash (spelling_view w)
+    → e ≡ c ++ written [] (n + step) (spelling_view w) → e ++ written_items (spaces n) n (items_view (drop (i + 1) ss)) ≡ all
+item_written o a b c e all lead n ss i w h is so to_a to_b to_c to_e =
+    let s = spelling_view w in
+    let to_end : e ≡ (((o ++ spaces lead) ++ (45 ∷ [])) ++ gap_at_dash s) ++ written [] (n + step) s =
+    to_e ∙ ap (λ (t : List ℕ). t ++ written [] (n + step) s) (to_c ∙ ap (λ (t : List ℕ). t ++ gap_at_dash s) (to_b ∙ ap (λ (t : List ℕ). t ++ (45 ∷ [])) to_a)) in
+    ap (λ (t : List ℕ). t ++ written_items (spaces n) n (items_view (drop (i + 1) ss))) to_end
+    ∙ item_more o lead n s (items_view (drop (i + 1) ss))
+    ∙ ap (λ (is : Items). o ++ written_items (spaces lead) n is) (sym (next_items ss i w h is)) ∙ so
+
+pub no_fields_left : (o all : List ℕ) (lead n : ℕ) (ps qs : List (FieldKey × Written)) (i : ℕ) → length ps ≤ i → ps ≡ qs
+    → o ++ written_fields (spaces lead) n (fields_view (drop i ps)) ≡ all ++ written_fields [] n (fields_view ps) → o ≡ all ++ written_fields [] n (fields_view qs)
+no_fields_left o all lead n ps qs i h same so =
+    sym (append-nil o) ∙ ap (λ (l : List (FieldKey × Written)). o ++ written_fields (spaces lead) n (fields_view l)) (sym (drop_all i ps h)) ∙ so
+    ∙ ap (λ (l : List (FieldKey × Written)). all ++ written_fields [] n (fields_view l)) same
+
+pub no_items_left : (o all : List ℕ) (lead n : ℕ) (ss rs : List Written) (i : ℕ) → length ss ≤ i → ss ≡ rs
+    → o ++ written_items (spaces lead) n (items_view (drop i ss)) ≡ all ++ written_items [] n (items_view ss) → o ≡ all ++ written_items [] n (items_view rs)
+no_items_left o all lead n ss rs i h same so =
+    sym (append-nil o) ∙ ap (λ (l : List Written). o ++ written_items (spaces lead) n (items_view l)) (sym (drop_all i ss h)) ∙ so
+    ∙ ap (λ (l : List Written). all ++ written_items [] n (items_view l)) same
+
+-- two columns deeper there is room for one level fewer
+pub two_deeper : (column levels : ℕ) → column + 2 * levels + 2 ≤ 2 ^ 33 → column + 2 + 2 * levels ≤ 2 ^ 33
+two_deeper column levels h = omega arith
+
+pub column_below : (column levels : ℕ) → column + 2 * levels + 2 ≤ 2 ^ 33 → column ≤ 2 ^ 33
+column_below column levels h = omega arith

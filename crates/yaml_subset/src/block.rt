@@ -12,7 +12,7 @@ use std::alloc::{AllocError, Global};
 
 /// A block scalar so far: its text up to its last line that isn't blank, and the blank lines after
 /// it.
-#[derive(Debug, Drop)]
+#[derive(Drop)]
 pub(crate) struct Block {
     pub(crate) style: Style,
     /// The content's indentation, once a line has set it.
@@ -22,7 +22,6 @@ pub(crate) struct Block {
 }
 
 /// The text with line feeds at its end.
-#[tactic(auto, using(std::proofs::lemmas::List::replicate_more))]
 fn with_line_feeds(text: Vec<u8>, count: usize) -> Result<Vec<u8>, AllocError>
     ensures { IfOk result (λ t. t.items ≡ text.items ++ replicate count 10) }
 {

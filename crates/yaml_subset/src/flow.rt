@@ -25,7 +25,7 @@ use crate::which::{Which, earlier};
 use std::alloc::{AllocError, Global};
 
 /// Where the reading of a one-line list stands.
-#[derive(Clone, Copy, Debug, PartialEq, Eq, Drop)]
+#[derive(Clone, Copy, Drop)]
 pub(crate) enum Part {
     /// An item, or the closing bracket, may begin.
     Want,
@@ -51,7 +51,7 @@ pub(crate) enum Part {
 
 /// A one-line list so far: the text of the item where the reading stands, the finished items, and
 /// the first row met.
-#[derive(Debug, Drop)]
+#[derive(Drop)]
 pub(crate) struct Flow {
     pub(crate) part: Part,
     pub(crate) text: Vec<u8>,

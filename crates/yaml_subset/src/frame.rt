@@ -31,7 +31,7 @@ pub(crate) enum Frame {
 }
 
 /// What stands within the innermost frame.
-#[derive(Debug, Drop)]
+#[derive(Drop)]
 pub(crate) enum Last {
     Nothing,
     Inline(Node),
@@ -224,6 +224,7 @@ impl Frame {
                 _ => unreachable!(),
             },
             Frame::List(column, items) => {
+                drop(mark);
                 let items = more_items(alloc, column, items, value)?;
                 Ok(Frame::List(column, items))
             }

@@ -35,7 +35,7 @@ use crate::which::{Which, earlier};
 use std::alloc::{AllocError, Global};
 
 /// A key: its text, the bytes that it takes with its colon, and the row that it meets.
-#[derive(Debug, Drop)]
+#[derive(Drop)]
 pub(crate) struct Key {
     pub(crate) text: Text,
     pub(crate) length: usize,
@@ -56,7 +56,6 @@ fn stops_plain(byte: u8, rest: &[u8]) -> bool
 }
 
 /// How many bytes a plain scalar takes.
-#[tactic(auto, using(crate::proofs::LineLemmas::plain_len_more))]
 pub(crate) fn plain_len(bytes: &[u8]) -> usize
     ensures value { result ≡ plain_len_lem bytes.now }
     ensures within { result ≤ length bytes.now }

@@ -107,7 +107,7 @@ fn entry(alloc: Global, column: usize, bytes: &[u8]) -> Result<Line, AllocError>
 }
 
 /// What a byte from which the rest of a line stands begins.
-#[derive(Clone, Copy, Debug, PartialEq, Eq, Drop)]
+#[derive(Clone, Copy, Drop)]
 pub(crate) enum Ahead {
     Blank,
     Comment,

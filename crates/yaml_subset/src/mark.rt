@@ -7,7 +7,7 @@ use crate::which::{Which, earlier};
 use std::alloc::{AllocError, Global};
 
 /// One thing on a line.
-#[derive(Debug, Drop)]
+#[derive(Drop)]
 pub(crate) enum Mark {
     /// `---` or `...`.
     Start,
@@ -22,7 +22,7 @@ pub(crate) enum Mark {
 }
 
 /// The marks of a line, and the first row that it meets by itself.
-#[derive(Debug, Drop)]
+#[derive(Drop)]
 pub(crate) struct Line {
     pub(crate) marks: Vec<Mark>,
     pub(crate) fault: Option<Which>,

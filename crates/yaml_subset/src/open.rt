@@ -1,10 +1,12 @@
 //! The nodes that are open after some marks.
 
 ghost use Rattle.std.specs.Prelude.{◌≡◌, ℕ, cond, [], true, false, ◌+◌, ◌-◌, ◌==◌, ◌<◌, ◌≤◌};
-ghost use Rattle.std.specs.Prelude.{Option, Some, None, IfOk, IfErr, length, take, drop, vec_len};
+ghost use Rattle.std.specs.Prelude.{Option, Some, None, IfOk, IfErr, OnOk, List, is_none, length};
+ghost use Rattle.std.specs.Prelude.{take, drop, vec_len};
 ghost use Rattle.std.specs.Prelude.{option_map, map};
 ghost use Rattle.yaml_subset.specs.Mark as marks;
 ghost use Rattle.yaml_subset.specs.Profile.{max_depth, is_next, has_room as has_room_lem};
+ghost use Rattle.yaml_subset.specs.Profile.{with_child};
 ghost use Rattle.yaml_subset.specs.OpenNodes.{closed, add as add_lem, begun};
 ghost use Rattle.yaml_subset.specs.OpenNodes.{finished as finished_lem, nothing, within};
 ghost use Rattle.yaml_subset.specs.Fault.{row_of_mark, column as column_lem};
@@ -13,7 +15,7 @@ ghost use Rattle.yaml_subset.specs.LineView.{mark_view};
 ghost use Rattle.yaml_subset.specs.OpenView.{head_of, done_of, open_of, last_view, stream_of};
 ghost use Rattle.yaml_subset.specs.OpenView.{next_place as next_place_lem, last_head};
 ghost use Rattle.yaml_subset.specs.OpenView.{any_at as any_at_lem, is_nothing as is_nothing_lem};
-ghost use Rattle.yaml_subset.specs.OpenView.{ClosesOne, BeginsAs};
+ghost use Rattle.yaml_subset.specs.OpenView.{ClosesOne, BeginsAs, child};
 ghost use Rattle.yaml_subset.specs.StopView.{Refuses, nodes_open};
 
 use crate::block::Block;
@@ -29,7 +31,7 @@ use std::alloc::{AllocError, AllocFailed, Global};
 pub(crate) const MAX_DEPTH: usize = 32;
 
 /// Why a mark wasn't taken.
-#[derive(Debug, Drop)]
+#[derive(Drop)]
 pub(crate) enum Stop {
     Row(Which),
     NoMemory,
@@ -66,15 +68,7 @@ pub(crate) struct OpenNodes {
     pub(crate) last: Last,
 }
 
-/// The frames that are left, and the value that the others are.
-#[derive(Drop)]
-struct Closed {
-    frames: Vec<Frame>,
-    value: Option<Node>,
-}
-
 /// The place of the outermost frame whose next entry or item a mark begins, or their number.
-#[tactic(auto, using(crate::proofs::OpenViewLemmas::next_place_more))]
 fn next_place(frames: &[Frame], mark: &Mark) -> usize
     ensures value { result ≡ next_place_lem (mark_view mark.now) frames.now }
     ensures within { result ≤ length frames.now }
@@ -89,47 +83,41 @@ fn next_place(frames: &[Frame], mark: &Mark) -> usize
 }
 
 /// Closes the innermost frame.
-fn close_one(alloc: Global, frames: Vec<Frame>, value: Option<Node>) -> Result<Closed, AllocError>
-    requires { 0 < vec_len frames }
-    ensures fewer { IfOk result (λ c. vec_len c.frames + 1 ≡ vec_len frames) }
-    ensures closes { IfOk result (λ c. ClosesOne frames.items (option_map node_view value)
-        c.frames.items (option_map node_view c.value)) }
+fn close_one(
+    alloc: Global,
+    frames: &mut Vec<Frame>,
+    value: Option<Node>,
+) -> Result<Node, AllocError>
+    requires { 0 < vec_len frames.old }
+    ensures fewer { vec_len frames.new + 1 ≡ vec_len frames.old }
+    ensures closes { IfOk result (λ node. ClosesOne frames.old.items (option_map node_view value)
+        frames.new.items (Some (node_view node))) }
 {
-    let mut frames = frames;
     match frames.pop() {
         None => unreachable!(),
-        Some(frame) => {
-            let node = frame.closed(alloc, value)?;
-            Ok(Closed {
-                frames,
-                value: Some(node),
-            })
-        }
+        Some(frame) => frame.closed(alloc, value),
     }
 }
 
-/// Closes all frames but the outermost few.
+/// Closes all frames but the outermost few: the value that they are.
 fn close_above(
     alloc: Global,
-    frames: Vec<Frame>,
+    frames: &mut Vec<Frame>,
     last: Last,
     keep: usize,
-) -> Result<Closed, AllocError>
-    requires { keep ≤ vec_len frames }
-    ensures kept { IfOk result (λ c. c.frames.items ≡ take keep frames.items) }
-    ensures value { IfOk result (λ c. option_map node_view c.value
-        ≡ closed (open_of (drop keep frames.items) (last_view last))) }
+) -> Result<Option<Node>, AllocError>
+    requires { keep ≤ vec_len frames.old }
+    ensures kept { OnOk result (frames.new.items ≡ take keep frames.old.items) }
+    ensures value { IfOk result (λ v. option_map node_view v
+        ≡ closed (open_of (drop keep frames.old.items) (last_view last))) }
 {
     let end = frames.len();
-    let mut closed = Closed {
-        frames,
-        value: last.closed(alloc)?,
-    };
+    let mut value = last.closed(alloc)?;
     for done in keep..end {
-        let Closed { frames, value } = closed;
-        closed = close_one(alloc, frames, value)?;
+        let node = close_one(alloc, frames, value)?;
+        value = Some(node);
     }
-    Ok(closed)
+    Ok(value)
 }
 
 /// Whether nothing stands yet in the innermost map or list.
@@ -157,7 +145,6 @@ fn has_room(frames: &[Frame], mark: &Mark) -> bool
 }
 
 /// Whether an open map or list stands at a column, if it is one.
-#[tactic(auto, using(crate::proofs::OpenViewLemmas::any_at_more))]
 fn any_at(frames: &[Frame], at: Option<usize>) -> bool
     ensures { result ≡ any_at_lem at frames.now }
 {
@@ -211,52 +198,106 @@ fn with_frame(documents: Nodes, frames: Vec<Frame>, frame: Frame) -> Result<Open
     })
 }
 
-/// A node begins with a mark, within the innermost frame, where nothing stands there.
+/// Whether a node that begins with a mark is one level too many within these frames.
 #[tactic(auto, using(crate::proofs::OpenViewLemmas::begun_lemmas))]
+fn is_too_deep(frames: &[Frame], mark: &Mark) -> bool
+    ensures { result ≡ is_none (begun (max_depth - length frames.now) (mark_view mark.now)) }
+{
+    let is_full = frames.len() >= MAX_DEPTH;
+    match mark {
+        Mark::Start => true,
+        Mark::Dash(_) => is_full,
+        Mark::Key(_, _) => is_full,
+        Mark::Value(_, node) => is_full && !is_scalar(node),
+        Mark::Header(_, _) => false,
+    }
+}
+
+/// A node begins with a mark, within the innermost frame, where nothing stands there.
 fn begin(alloc: Global, documents: Nodes, frames: Vec<Frame>, mark: Mark) -> Result<OpenNodes, Stop>
-    requires { is_next marks.start (mark_view mark) ≡ false }
     ensures ok { IfOk result (λ o. BeginsAs documents.items frames.items
         (begun (max_depth - length frames.items) (mark_view mark)) (nodes_open o)) }
     ensures refused { IfErr result (λ s. Refuses s
         (λ w. (begun (max_depth - length frames.items) (mark_view mark) ≡ None)
         × (w ≡ Which.TooDeep))) }
 {
-    let is_full = frames.len() >= MAX_DEPTH;
+    if is_too_deep(&frames, &mark) {
+        drop(mark);
+        return Err(Stop::Row(Which::TooDeep));
+    }
+    match begin_there(alloc, documents, frames, mark) {
+        Ok(nodes) => Ok(nodes),
+        Err(_) => Err(Stop::NoMemory),
+    }
+}
+
+/// The same for a mark whose node isn't too deep.
+fn begin_there(
+    alloc: Global,
+    documents: Nodes,
+    frames: Vec<Frame>,
+    mark: Mark,
+) -> Result<OpenNodes, AllocError>
+    requires { is_none (begun (max_depth - length frames.items) (mark_view mark)) ≡ false }
+    ensures { IfOk result (λ o. BeginsAs documents.items frames.items
+        (begun (max_depth - length frames.items) (mark_view mark)) (nodes_open o)) }
+{
     match mark {
         Mark::Start => unreachable!(),
         Mark::Dash(column) => {
-            if is_full {
-                return Err(Stop::Row(Which::TooDeep));
-            }
-            let nodes = with_frame(documents, frames, Frame::List(column, Vec::new(alloc)))?;
-            Ok(nodes)
+            with_frame(documents, frames, Frame::List(column, Vec::new(alloc)))
         }
         Mark::Key(column, key) => {
-            if is_full {
-                return Err(Stop::Row(Which::TooDeep));
-            }
-            let nodes = with_frame(
+            with_frame(
                 documents,
                 frames,
                 Frame::Map(column, OpenEntries::new(alloc), key),
-            )?;
-            Ok(nodes)
+            )
         }
-        Mark::Value(_, node) => {
-            if is_full && !is_scalar(&node) {
-                return Err(Stop::Row(Which::TooDeep));
-            }
-            Ok(OpenNodes {
-                documents,
-                frames,
-                last: Last::Inline(node),
-            })
-        }
+        Mark::Value(_, node) => Ok(OpenNodes {
+            documents,
+            frames,
+            last: Last::Inline(node),
+        }),
         Mark::Header(_, style) => Ok(OpenNodes {
             documents,
             frames,
             last: Last::Block(Block::new(alloc, style)),
         }),
+    }
+}
+
+/// A mark begins the next entry or item of the frame at a place, and those behind it are closed.
+fn next_frames(
+    alloc: Global,
+    frames: &mut Vec<Frame>,
+    last: Last,
+    at: usize,
+    mark: Mark,
+) -> Result<(), Stop>
+    requires place { next_place_lem (mark_view mark) frames.old.items ≡ at }
+    requires inside { at < vec_len frames.old }
+    requires no_start { is_next marks.start (mark_view mark) ≡ false }
+    ensures ok { OnOk result ((docs : List Node)
+        → add_lem (mark_view mark) (stream_of docs frames.old.items (last_view last))
+        ≡ Some (stream_of docs frames.new.items nothing)) }
+    ensures refused { IfErr result (λ s. Refuses s (λ w. (docs : List Node)
+        → (add_lem (mark_view mark) (stream_of docs frames.old.items (last_view last)) ≡ None)
+        × (row_of_mark (mark_view mark) (stream_of docs frames.old.items (last_view last)) ≡ w))) }
+{
+    let value = close_above(alloc, frames, last, at + 1)?;
+    match frames.pop() {
+        None => unreachable!(),
+        Some(frame) => {
+            if frame.is_repeated_by(&mark) {
+                drop(frame);
+                drop(mark);
+                return Err(Stop::Row(Which::DuplicateKey));
+            }
+            let frame = frame.next(alloc, value, mark)?;
+            frames.push(frame)?;
+            Ok(())
+        }
     }
 }
 
@@ -276,23 +317,31 @@ fn go_on(alloc: Global, nodes: OpenNodes, at: usize, mark: Mark) -> Result<OpenN
         frames,
         last,
     } = nodes;
-    let Closed { frames, value } = close_above(alloc, frames, last, at + 1)?;
     let mut frames = frames;
-    match frames.pop() {
-        None => unreachable!(),
-        Some(frame) => {
-            if frame.is_repeated_by(&mark) {
-                return Err(Stop::Row(Which::DuplicateKey));
-            }
-            let frame = frame.next(alloc, value, mark)?;
-            frames.push(frame)?;
-            Ok(OpenNodes {
-                documents,
-                frames,
-                last: Last::Nothing,
-            })
-        }
+    match next_frames(alloc, &mut frames, last, at, mark) {
+        Ok(_) => Ok(OpenNodes {
+            documents,
+            frames,
+            last: Last::Nothing,
+        }),
+        Err(stop) => Err(stop),
     }
+}
+
+/// The documents, if the text ends here.
+fn all_documents(alloc: Global, nodes: OpenNodes) -> Result<Nodes, AllocError>
+    ensures { IfOk result (λ xs. map (child marks.start) xs.items
+        ≡ with_child (map (child marks.start) nodes.documents.items) marks.start
+        (closed (open_of nodes.frames.items (last_view nodes.last)))) }
+{
+    let OpenNodes {
+        documents,
+        frames,
+        last,
+    } = nodes;
+    let mut frames = frames;
+    let value = close_above(alloc, &mut frames, last, 0)?;
+    more_documents(documents, value)
 }
 
 /// A document ends, and the next one begins.
@@ -300,16 +349,10 @@ fn next_document(alloc: Global, nodes: OpenNodes) -> Result<OpenNodes, Stop>
     ensures ok { IfOk result (λ o. add_lem marks.start (nodes_open nodes) ≡ Some (nodes_open o)) }
     ensures refused { IfErr result (λ s. s ≡ Stop.NoMemory) }
 {
-    let OpenNodes {
-        documents,
-        frames,
-        last,
-    } = nodes;
-    let Closed { frames, value } = close_above(alloc, frames, last, 0)?;
-    let documents = more_documents(documents, value)?;
+    let documents = all_documents(alloc, nodes)?;
     Ok(OpenNodes {
         documents,
-        frames,
+        frames: Vec::new(alloc),
         last: Last::Nothing,
     })
 }
@@ -329,6 +372,8 @@ fn begin_or_refuse(alloc: Global, nodes: OpenNodes, mark: Mark) -> Result<OpenNo
         begin(alloc, nodes.documents, nodes.frames, mark)
     } else {
         let row = row_of(&nodes.frames, &nodes.last, &mark);
+        drop(mark);
+        drop(nodes);
         Err(Stop::Row(row))
     }
 }
@@ -354,6 +399,7 @@ impl OpenNodes {
             × (row_of_mark (mark_view mark) (nodes_open self) ≡ w))) }
     {
         if mark.is_start() {
+            drop(mark);
             return next_document(alloc, self);
         }
         let at = next_place(&self.frames, &mark);
@@ -395,13 +441,6 @@ impl OpenNodes {
     pub(crate) fn finished(self, alloc: Global) -> Result<Nodes, AllocError>
         ensures { IfOk result (λ xs. nodes_view xs.items ≡ finished_lem (nodes_open self)) }
     {
-        let OpenNodes {
-            documents,
-            frames,
-            last,
-        } = self;
-        let closed = close_above(alloc, frames, last, 0)?;
-        let documents = more_documents(documents, closed.value)?;
-        Ok(documents)
+        all_documents(alloc, self)
     }
 }

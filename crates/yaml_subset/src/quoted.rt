@@ -11,7 +11,7 @@ use std::alloc::{AllocError, Global};
 
 /// A quoted scalar: its text, the bytes that it takes behind its first quote, and whether an escape
 /// in it is none.
-#[derive(Debug, Drop)]
+#[derive(Drop)]
 pub(crate) struct Quoted {
     pub(crate) text: Vec<u8>,
     pub(crate) length: usize,
@@ -19,7 +19,7 @@ pub(crate) struct Quoted {
 }
 
 /// Where the reading of a quoted scalar stands.
-#[derive(Clone, Copy, Debug, PartialEq, Eq, Drop)]
+#[derive(Clone, Copy, Drop)]
 pub(crate) enum Place {
     Inside,
     /// Before the second byte of two that stand for one.
@@ -28,7 +28,7 @@ pub(crate) enum Place {
 }
 
 /// What a byte does inside a quoted scalar.
-#[derive(Clone, Copy, Debug, PartialEq, Eq, Drop)]
+#[derive(Clone, Copy, Drop)]
 pub(crate) enum Step {
     /// It ends the scalar.
     Stop,
@@ -39,7 +39,7 @@ pub(crate) enum Step {
 }
 
 /// A quoted scalar so far.
-#[derive(Debug, Drop)]
+#[derive(Drop)]
 pub(crate) struct Scan {
     pub(crate) place: Place,
     pub(crate) quoted: Quoted,

@@ -119,7 +119,10 @@ fn read_raw(reader: Reader, scalar: Scalar, line: &[u8]) -> Result<Reader, Stop>
                 parent: None,
                 scalar: Some(scalar_with(line, scalar)),
             }),
-            Some(which) => Err(Stop::Row(which)),
+            Some(which) => {
+                drop(nodes);
+                Err(Stop::Row(which))
+            }
         },
         Err(Stop::NoMemory) => Err(Stop::NoMemory),
         Err(Stop::Row(which)) => Err(Stop::Row(first_of(fault, which))),
@@ -133,7 +136,10 @@ fn read_own(alloc: Global, reader: Reader, line: &[u8]) -> Result<Reader, Stop>
     ensures refused { IfErr result (λ s. Refuses s
         (λ w. row_of reader.scalar (nodes_open reader.nodes) line.now ≡ Some w)) }
 {
-    let Line { marks, fault } = line_of(alloc, line)?;
+    let Ok(Line { marks, fault }) = line_of(alloc, line) else {
+        drop(reader);
+        return Err(Stop::NoMemory);
+    };
     let parent = parent_after(reader.parent, &marks);
     let scalar = header_scalar(reader.parent, &marks);
     match add_all(alloc, reader.nodes, marks) {
@@ -143,7 +149,10 @@ fn read_own(alloc: Global, reader: Reader, line: &[u8]) -> Result<Reader, Stop>
                 parent,
                 scalar,
             }),
-            Some(which) => Err(Stop::Row(which)),
+            Some(which) => {
+                drop(nodes);
+                Err(Stop::Row(which))
+            }
         },
         Err(Stop::NoMemory) => Err(Stop::NoMemory),
         Err(Stop::Row(which)) => Err(Stop::Row(first_of(fault, which))),

@@ -15,7 +15,7 @@ use crate::which::Which;
 
 /// A block scalar: the column of the key or dash behind which it stands, none at the root,
 /// and the indentation of its content once a line has set it.
-#[derive(Clone, Copy, Debug, PartialEq, Eq, Drop)]
+#[derive(Clone, Copy, Drop)]
 pub(crate) struct Scalar {
     pub(crate) parent: Option<usize>,
     pub(crate) indent: Option<usize>,

@@ -13,7 +13,7 @@ use crate::text::Text;
 use std::alloc::{AllocError, Global};
 
 /// The key of a field as it is written.
-#[derive(Debug, Drop)]
+#[derive(Drop)]
 pub enum FieldKey {
     /// A word of letters that stands plain.
     Plain(Text),
@@ -22,7 +22,7 @@ pub enum FieldKey {
 }
 
 /// A value as it is written.
-#[derive(Debug, Drop)]
+#[derive(Drop)]
 pub enum Spelling {
     /// A scalar that is written plain.
     Word(Text),

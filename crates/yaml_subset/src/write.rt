@@ -24,7 +24,6 @@ use std::alloc::AllocError;
 const STEP: usize = 2;
 
 /// Writes so many spaces.
-#[tactic(auto, using(std::proofs::lemmas::List::replicate_more))]
 fn write_spaces(out: &mut Vec<u8>, count: usize) -> Result<(), AllocError>
     ensures { OnOk result (out.new.items ≡ out.old.items ++ spaces_lem count) }
 {

@@ -2,6 +2,7 @@ use Rattle.std.proofs.Common.{◌∙◌, ◌++◌, ◌∷◌, [], ap, sym, take}
 use Rattle.std.proofs.lemmas.List.{take_more}
 use Rattle.sample_book.specs.declared.row.Row.{Row}
 use Rattle.sample_book.specs.Rows.{new_cells, with_cell}
+use Rattle.sample_book.proofs.CellLemmas.{never_ok}
 use Rattle.sample_book.proofs.StandingLemmas.{new_cells-step}
 use Rattle.sample_book.proofs.current_rows.add_cells.Goals as goal
 
@@ -13,3 +14,6 @@ loop-row-preserved c =
     new_cells-step c.args.cells.now c.loop-row.cells c.add_new.new.cells (take n rows) c.row-item.result c.loop-row.invariant
     (c.in_ok-add_new.ensures.ok ∙ ap (with_cell c.loop-row.cells) c.cell.ensures)
     ∙ ap (λ came. c.args.cells.now ++ new_cells c.args.cells.now came) (sym more)
+
+pub returns-in_err-add_new-clause-ok : goal.returns-in_err-add_new-clause-ok
+returns-in_err-add_new-clause-ok c = never_ok _ _ c.from_residual.result c.from_residual.ensures.1

@@ -1,8 +1,9 @@
-use Rattle.std.proofs.Common.{◌≡◌, ◌+◌, drop, get_or, sym, ap, ◌∙◌}
+use Rattle.std.proofs.Common.{◌≡◌, ◌+◌, length, length-drop, drop, get_or, sym, ap, ◌∙◌}
 use Rattle.yaml_subset.specs.Line.{Line, content, entry_or_value, key_of}
 use Rattle.yaml_subset.specs.LineView.{line_view, joined, ahead_of, blank_seen, dash_seen}
 use Rattle.yaml_subset.specs.declared.line.Ahead.TheVariants.{Blank, Comment, Dash, Entry}
-use Rattle.yaml_subset.proofs.LineLemmas.{content_blank, content_comment, content_dash, content_entry}
+use Rattle.yaml_subset.proofs.LineLemmas.{content_blank, content_comment, content_dash, content_end, content_entry, entry_fits}
+use Rattle.yaml_subset.proofs.Failures.{no_ok}
 use Rattle.yaml_subset.proofs.line.content.Goals as goal
 use Rattle.yaml_subset.proofs.line.content.Goals.{in-Blank, in-Dash+in_ok-line-in-Dash}
 
@@ -38,3 +39,17 @@ loop-at-preserved c =
           let seen : line_view c.match-begun_by.line ≡ dash_seen (line_view c.loop-at.line) (c.args.column + at) = ap line_view w.line-is ∙ w.in_ok-line-in-Dash.ensures in
           ap (λ (x : Line). joined x (content (c.args.column + (at + 1)) (drop (at + 1) bytes))) seen ∙ sym more ∙ c.loop-at.invariant
     ]
+
+pub entry-requires : goal.entry-requires
+entry-requires c =
+    entry_fits c.args.column c.loop-at.at (length c.args.bytes.now) (length c.from-in-Entry.result.now) c.requires c.loop-at-test.true
+    (ap length c.from-in-Entry.ensures ∙ length-drop c.loop-at.at c.args.bytes.now)
+
+pub returns-in_err-line-in-Dash : goal.returns-in_err-line-in-Dash
+returns-in_err-line-in-Dash c = no_ok _ _ c.from_residual.result c.from_residual.ensures.1
+
+pub returns-in_err-rest-in-Entry : goal.returns-in_err-rest-in-Entry
+returns-in_err-rest-in-Entry c = no_ok _ _ c.from_residual-in_err-rest-in-Entry.result c.from_residual-in_err-rest-in-Entry.ensures.1
+
+pub returns : goal.returns
+returns c = content_end (line_view c.loop-at.line) (content c.args.column c.args.bytes.now) c.args.bytes.now c.args.column c.loop-at.at c.loop-at-test.false c.loop-at.invariant

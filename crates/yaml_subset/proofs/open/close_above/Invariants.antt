@@ -7,7 +7,7 @@ use Rattle.yaml_subset.proofs.open.close_above.Given as goal
 -- the frames that are left, closed with the value so far, are all frames, closed
 abbrev pub invariant-loop-done : goal.invariant-loop-done
 invariant-loop-done l = record {
-  number : vec_len l.closed.frames + l.done ≡ l.keep + vec_len l.fn.frames;
-  frames : l.closed.frames.items ≡ take (vec_len l.closed.frames) l.fn.frames.items;
-  value : closed_with (drop l.keep l.closed.frames.items) (option_map node_view l.closed.value) ≡ closed (open_of (drop l.keep l.fn.frames.items) (last_view l.fn.last));
+  number : vec_len l.frames + l.done ≡ l.keep + vec_len l.initial.frames;
+  frames : l.frames.items ≡ take (vec_len l.frames) l.initial.frames.items;
+  value : closed_with (drop l.keep l.frames.items) (option_map node_view l.value) ≡ closed (open_of (drop l.keep l.initial.frames.items) (last_view l.fn.last));
 }

@@ -10,6 +10,7 @@ use Rattle.yaml_subset.specs.declared.spelling.FieldKey.{FieldKey}
 use Rattle.yaml_subset.specs.declared.spelling.FieldKey.TheVariants.{Quoted as InQuotes}
 use Rattle.yaml_subset.specs.declared.spelling.Spelling.{Spelling as Written}
 use Rattle.yaml_subset.proofs.SpellingLemmas.{take_one, fields_more, items_more}
+use Rattle.yaml_subset.proofs.Failures.{no_ok}
 use Rattle.yaml_subset.proofs.spelling.+spelled.Goals as goal
 
 pub spelled_fields-returns : goal.spelled_fields-returns
@@ -36,3 +37,18 @@ spelled_items-loop-node-preserved t c =
     let xs = c.deref-node-items.result.now in
     ap items_view c.in_ok-push.ensures.items ∙ items_more l.items.items (take l.node-index xs) c.in_ok-item.item c.node-item.result l.invariant c.in_ok-item.ensures
     ∙ ap (λ (ns : List Node). items_spelled (trees (map node_view ns))) (sym (take_one xs l.node-index c.node-item.result c.loop-node-test.true c.node-item.is))
+
+pub spelled_fields-returns-in_err-copy_text : goal.spelled_fields-returns-in_err-copy_text
+spelled_fields-returns-in_err-copy_text t c = no_ok _ _ c.from_residual.result c.from_residual.ensures.1
+
+pub spelled_fields-returns-in_err-value : goal.spelled_fields-returns-in_err-value
+spelled_fields-returns-in_err-value t c = no_ok _ _ c.from_residual-in_err-value.result c.from_residual-in_err-value.ensures.1
+
+pub spelled_fields-returns-in_err-push : goal.spelled_fields-returns-in_err-push
+spelled_fields-returns-in_err-push t c = no_ok _ _ c.from_residual-in_err-push.result c.from_residual-in_err-push.ensures.1
+
+pub spelled_items-returns-in_err-item : goal.spelled_items-returns-in_err-item
+spelled_items-returns-in_err-item t c = no_ok _ _ c.from_residual.result c.from_residual.ensures.1
+
+pub spelled_items-returns-in_err-push : goal.spelled_items-returns-in_err-push
+spelled_items-returns-in_err-push t c = no_ok _ _ c.from_residual-in_err-push.result c.from_residual-in_err-push.ensures.1

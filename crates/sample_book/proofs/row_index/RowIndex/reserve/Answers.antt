@@ -1,3 +1,5 @@
+use Rattle.std.proofs.Common.{map}
+use Rattle.sample_book.specs.Chains.{day_group, sli_group}
 use Rattle.sample_book.proofs.row_index.RowIndex.reserve.Goals as goal
 
 pub returns-in_err-reserve-clause-stays : goal.returns-in_err-reserve-clause-stays
@@ -5,3 +7,9 @@ returns-in_err-reserve-clause-stays c fewer ready = record { days = c.reserve.en
 
 pub returns-clause-stays : goal.returns-clause-stays
 returns-clause-stays c fewer ready = record { days = c.reserve.ensures.stays fewer ready.days; slis = c.reserve-2.ensures.stays fewer ready.slis }
+
+pub returns-in_err-reserve-clause-indexed : goal.returns-in_err-reserve-clause-indexed
+returns-in_err-reserve-clause-indexed c rows indexed = record { days = c.reserve.ensures.linked (map day_group rows) indexed.days; slis = indexed.slis }
+
+pub returns-clause-indexed : goal.returns-clause-indexed
+returns-clause-indexed c rows indexed = record { days = c.reserve.ensures.linked (map day_group rows) indexed.days; slis = c.reserve-2.ensures.linked (map sli_group rows) indexed.slis }

@@ -1,11 +1,8 @@
-use Rattle.std.proofs.Common.{List, Option, map, sym, ap, ◌∙◌}
-use Rattle.yaml_subset.specs.Tree.{Tree}
+use Rattle.std.proofs.Common.{List, map, sym, ap, ◌∙◌}
+use Rattle.std.proofs.lemmas.Result.{IfOk-weaker}
 use Rattle.yaml_subset.specs.Mark.{Child, start}
-use Rattle.yaml_subset.specs.Profile.{with_child}
-use Rattle.yaml_subset.specs.OpenView.{child}
 use Rattle.yaml_subset.proofs.FrameLemmas.{trees-map}
 use Rattle.yaml_subset.proofs.open.OpenNodes.finished.Goals as goal
 
 pub returns : goal.returns
-returns c = sym (trees-map start c.in_ok-documents.documents.items)
-    ∙ ap (λ (cs : List Child). map (λ x. x.tree) cs) (c.in_ok-documents.ensures ∙ ap (λ (v : Option Tree). with_child (map (child start) c.args.self.documents.items) start v) c.in_ok-closed.ensures.value)
+returns c = IfOk-weaker c.all_documents.result _ _ (λ xs e. sym (trees-map start xs.items) ∙ ap (λ (cs : List Child). map (λ x. x.tree) cs) e) c.all_documents.ensures

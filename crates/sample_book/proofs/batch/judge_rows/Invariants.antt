@@ -1,6 +1,6 @@
 use Rattle.std.proofs.Common.{take, drop}
 use Rattle.sample_book.proofs.BatchLemmas.{AreJudged}
-use Rattle.sample_book.proofs.batch.check_batch.Given as goal
+use Rattle.sample_book.proofs.batch.judge_rows.Given as goal
 
 -- the rows so far are judged and taken
 abbrev pub invariant-loop-row : goal.invariant-loop-row
