@@ -1,5 +1,6 @@
 -- A line: the alert it is about, and what it remembers of the condition, minute by minute.
 use Rattle.std.specs.Prelude.{ℕ, Bool, ◌+◌, ◌-◌, ◌*◌, ◌^◌, ◌<◌, ◌≤◌, ◌≡◌, nat_lt, List, length, Option, Some, None, if◌then◌else◌}
+use Rattle.slo_limits.specs.declared.TheConstants.{RANGE_MINUTES}
 use Rattle.burn_core.specs.declared.alert.AlertRule.{AlertRule}
 use Rattle.burn_core.specs.Alert.{IsRule, lookback_of, wait_of}
 use Rattle.burn_core.specs.Condition.{condition}
@@ -17,11 +18,11 @@ pub record Line : Type 0 where
 pub record IsLine (line : Line) : Type 0 where
   pub rule : IsRule line.rule
   pub target : line.target < 10 ^ 9
-  pub whole : 4 * length line.bytes ≡ 2097152
+  pub whole : 4 * length line.bytes ≡ RANGE_MINUTES
 
--- a line is about the minutes from its origin on, 2^21 of them
+-- a line is about the minutes of an office's range, from its origin on
 abbrev pub IsMinute : Line → ℕ → Type 0
-IsMinute line minute = (line.origin ≤ minute) × (minute < line.origin + 2097152)
+IsMinute line minute = (line.origin ≤ minute) × (minute < line.origin + RANGE_MINUTES)
 
 -- what the line remembers of a minute; nothing outside of its range
 abbrev pub known : Line → ℕ → Option Bool

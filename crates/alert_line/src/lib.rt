@@ -12,5 +12,5 @@ mod spans;
 mod window;
 
 pub use laws::marked_lines_agree;
-pub use line::{AlertLine, LINE_MINUTES};
+pub use line::AlertLine;
 pub use spans::Spans;

@@ -17,13 +17,11 @@ use crate::spans::{Spans, note_minute};
 use burn_core::{AlertRule, State};
 use counted_steps::Steps;
 use exact_fraction::Decimal;
+use slo_limits::RANGE_MINUTES;
 use std::alloc::{AllocError, Global};
 use std::marker::Model;
 use std::sync::ledger::Ledger;
 use window_sums::WindowSums;
-
-/// How many minutes a line is about: almost four years, as long as an office runs.
-pub const LINE_MINUTES: u32 = 2_097_152;
 
 // Over how many minutes that were known windows are moved on. Over more it is cheaper to sum anew.
 const MOST_MOVES: u32 = 32;
@@ -74,7 +72,7 @@ impl AlertLine {
         ensures unknown { IfOk result (λ line. (minute : ℕ) → known line minute ≡ None) }
         ensures agrees { IfOk result (λ line. (sums : CountedDays) → Agrees line sums) }
     {
-        let bytes = zeros(alloc, (LINE_MINUTES / 4) as usize)?;
+        let bytes = zeros(alloc, (RANGE_MINUTES / 4) as usize)?;
         Ok(AlertLine {
             rule,
             target,
@@ -88,7 +86,7 @@ impl AlertLine {
     pub fn known_at(&self, minute: u32) -> Option<bool>
         ensures { result ≡ known self.now minute }
     {
-        if minute < self.origin || minute - self.origin >= LINE_MINUTES {
+        if minute < self.origin || minute - self.origin >= RANGE_MINUTES {
             return None;
         }
         kept_at(&self.bytes, (minute - self.origin) as usize)
@@ -100,8 +98,8 @@ impl AlertLine {
         ensures forgotten { HasForgotten self.old self.new from to }
         ensures agrees { (sums : CountedDays) → Agrees self.old sums → Agrees self.new sums }
     {
-        let first = from.saturating_sub(self.origin).min(LINE_MINUTES) as usize;
-        let end = to.saturating_sub(self.origin).min(LINE_MINUTES) as usize;
+        let first = from.saturating_sub(self.origin).min(RANGE_MINUTES) as usize;
+        let end = to.saturating_sub(self.origin).min(RANGE_MINUTES) as usize;
         if first < end {
             forget_in(&mut self.bytes, first, end);
         }
@@ -146,7 +144,7 @@ impl AlertLine {
     ) -> Result<Spans, AllocError>
         requires order { from ≤ to }
         requires begin { self.old.origin ≤ from }
-        requires end { to ≤ self.old.origin + 2097152 }
+        requires end { to ≤ self.old.origin + RANGE_MINUTES }
         requires agrees { Agrees self.old sums.now }
         ensures value { IfOk result (λ spans. AreSpansOf
             (λ minute. active_on self.old sums.now minute ≡ true) from to spans.items) }

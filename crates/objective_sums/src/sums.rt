@@ -1,8 +1,9 @@
 //! The sums of an objective, made from the rows of the book.
-ghost use Rattle.std.specs.Prelude.{◌≡◌, ◌*◌, ◌^◌, ◌<◌, ◌≤◌, ◌∷◌, List, Some, IfOk, IsTrue, OnOk};
+ghost use Rattle.std.specs.Prelude.{◌≡◌, ◌<◌, ◌≤◌, ◌∷◌, List, Some, IfOk, IsTrue, OnOk};
 ghost use Rattle.std.specs.Prelude.{length, slice_get};
 ghost use Rattle.std.specs.Int.{◌∣◌};
 ghost use Rattle.std.specs.List.{All};
+ghost use Rattle.slo_limits.specs.declared.TheConstants.{MAX_ACCEPTED_ROWS};
 ghost use Rattle.slice_method.specs.Readings.{HasForm, IsSmall};
 ghost use Rattle.window_sums.specs.Slices.{day_of, has_day, width_of};
 ghost use Rattle.window_sums.specs.Shares.{IsSumOf, Share};
@@ -30,7 +31,7 @@ pub fn sums_of(
 ) -> Result<WindowSums, AllocError>
     requires width { width_of measure.now.method ∣ 60 }
     requires forms { All (Fits measure.now) book.now.rows }
-    requires few { length book.now.rows ≤ 4 * 10 ^ 6 }
+    requires few { length book.now.rows ≤ MAX_ACCEPTED_ROWS }
     ensures { IfOk result (AreSums (samples_of book.now) measure.now) }
 {
     let mut sums = WindowSums::new(alloc, measure.method);

@@ -1,6 +1,7 @@
 -- What a history of entries says of the present, of rows, exclusions and zones.
 use Rattle.std.specs.Prelude.{ℕ, Bool, List, [], ◌∷◌, ◌++◌, fold, max, map, length, filter, ◌+◌}
 use Rattle.std.specs.List.{flat_map}
+use Rattle.slo_limits.specs.declared.TheConstants.{RANGE_MINUTES}
 use Rattle.sample_book.specs.declared.Row.{Row}
 use Rattle.sample_book.specs.declared.Exclusion.{Exclusion}
 use Rattle.sample_book.specs.Exclusions.{Change, Excluded, Lifted}
@@ -30,7 +31,7 @@ moment_of o reading = max (present o) reading
 
 -- the first minute after the office's range
 abbrev pub end_of : ℕ → ℕ
-end_of origin = origin + 2097152
+end_of origin = origin + RANGE_MINUTES
 
 abbrev pub rows_of : Command → List Row
 rows_of (Samples rows) = rows

@@ -2,6 +2,7 @@
 ghost use Rattle.std.specs.Prelude.{◌/◌, take, ℕ, List, ◌||◌, ◌≡◌, ◌≢◌, ◌+◌, ◌*◌, ◌^◌, ◌<◌, ◌≤◌};
 ghost use Rattle.std.specs.Prelude.{◌++◌, ◌∷◌, [], true, false, Some, None, OnOk, OnErr, IfOk};
 ghost use Rattle.std.specs.Prelude.{length, slice_get};
+ghost use Rattle.slo_limits.specs.declared.TheConstants.{MAX_ACCEPTED_ROWS};
 ghost use Rattle.sample_book.specs.Book.{Book};
 ghost use Rattle.std.specs.List.{AllByRecursion};
 ghost use Rattle.sample_book.specs.Chains.{below, is_on, last_place};
@@ -33,6 +34,7 @@ pub struct SampleBook {
 }
 
 impl Model for SampleBook {
+    ghost use Rattle.slo_limits.specs.declared.TheConstants.{MAX_ACCEPTED_ROWS};
     ghost use Rattle.sample_book.specs.Book.{Book};
     ghost use Rattle.sample_book.specs.Chains.{IsInOrder};
 
@@ -270,7 +272,7 @@ impl SampleBook {
         minute: u32,
     ) -> Counts
         requires form { HaveForm reading self.now.rows sli minute }
-        requires few { length self.now.rows ≤ 4 * 10 ^ 6 }
+        requires few { length self.now.rows ≤ MAX_ACCEPTED_ROWS }
         ensures counts { result ≡ counts_of_minute reading op value self.now.rows sli minute }
         ensures part { result.good ≤ result.total }
         ensures few { AllByRecursion IsSmallRow self.now.rows
@@ -291,7 +293,7 @@ impl SampleBook {
         minute: u32,
     ) -> Counts
         requires form { HaveForm reading self.now.rows sli minute }
-        requires few { length self.now.rows ≤ 4 * 10 ^ 6 }
+        requires few { length self.now.rows ≤ MAX_ACCEPTED_ROWS }
         ensures counts { result ≡ counted_in_minute reading op value self.now.exclusions
             self.now.rows slo sli minute }
         ensures part { result.good ≤ result.total }

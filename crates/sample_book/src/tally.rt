@@ -1,5 +1,6 @@
 // What the current rows of an indicator count for.
-ghost use Rattle.std.specs.Prelude.{◌≡◌, ◌^◌, ◌*◌, ◌<◌, ◌≤◌, [], ◌∷◌, true, length};
+ghost use Rattle.std.specs.Prelude.{◌≡◌, ◌^◌, ◌<◌, ◌≤◌, [], ◌∷◌, true, length};
+ghost use Rattle.slo_limits.specs.declared.TheConstants.{MAX_ACCEPTED_ROWS};
 ghost use Rattle.slice_method.specs.Readings.{HasForm};
 ghost use Rattle.sample_book.specs.Chains.{IsIndexed};
 ghost use Rattle.sample_book.specs.Counting.{HaveForm, counts_of_minute, first_of, is_of};
@@ -35,7 +36,7 @@ pub(crate) fn counts_at(
 ) -> Counts
     requires indexed { IsIndexed rows.now.rows index.now }
     requires form { HaveForm reading rows.now.rows sli minute }
-    requires few { length rows.now.rows ≤ 4 * 10 ^ 6 }
+    requires few { length rows.now.rows ≤ MAX_ACCEPTED_ROWS }
     ensures counts { result ≡ counts_of_minute reading op value rows.now.rows sli minute }
     ensures part { result.good ≤ result.total }
 {

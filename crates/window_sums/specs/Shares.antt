@@ -1,6 +1,7 @@
 -- Slices whose counts are the sums of what rows count for.
 use Rattle.std.specs.Prelude.{ℕ, ◌≤◌, ◌≡◌, List, length}
 use Rattle.std.specs.List.{AllByRecursion}
+use Rattle.slo_limits.specs.declared.TheConstants.{MAX_ACCEPTED_ROWS}
 use Rattle.slice_method.specs.declared.amount.Counts.{Counts}
 use Rattle.slice_method.specs.declared.method.Method.{Method}
 use Rattle.slo_terms.specs.Sums.{amount_at}
@@ -30,4 +31,4 @@ pub record IsSmall (share : Share) : Type 0 where
 -- shares of at most four million rows, which is the limit of the rows that an office accepts
 pub record AreSmall (shares : List Share) : Type 0 where
   pub each : AllByRecursion IsSmall shares
-  pub few : length shares ≤ 4000000
+  pub few : length shares ≤ MAX_ACCEPTED_ROWS
