@@ -2,3 +2,5 @@ pub mod CurrentLemmas
 pub mod TableLemmas
 pub mod EventLemmas
 pub mod BudgetLemmas
+pub mod JudgingLemmas
+pub mod InputLemmas

@@ -7,7 +7,8 @@ use Rattle.sample_book.specs.declared.Row.{Row}
 use Rattle.sample_book.specs.Rows.{current_rows}
 use Rattle.slo_terms.specs.Sums.{amount_at, sum_of_slices}
 use Rattle.slo_terms.specs.Budget.{burn_of, remaining_of}
-use Rattle.budget_command.specs.Records.{good_of, is_newer, is_repeated, is_superseded, total_of, verdicts}
+use Rattle.budget_command.specs.Records.{good_of, is_newer, is_repeated, is_superseded, total_of}
+use Rattle.budget_command.specs.Records.{verdicts}
 use Rattle.budget_command.specs.declared.order.BudgetOrder.{BudgetOrder}
 
 -- a word, a text and a line feed, and then more lines

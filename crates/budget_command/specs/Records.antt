@@ -1,5 +1,6 @@
 -- The rows that records stand for, and what is wrong with a record.
-use Rattle.std.specs.Prelude.{ℕ, Bool, true, false, List, [], ◌∷◌, ◌++◌, Option, Some, None, Result, Ok, Err, codes, nat_le, ◌≤◌, ◌&&◌, if◌then◌else◌}
+use Rattle.std.specs.Prelude.{ℕ, Bool, true, false, List, [], ◌∷◌, ◌++◌, Option, Some, None, Result}
+use Rattle.std.specs.Prelude.{Ok, Err, codes, length, nat_le, nat_lt, ◌≤◌, if◌then◌else◌}
 use Rattle.csv_records.specs.Records.{Fields}
 use Rattle.csv_records.specs.Columns.{five_fields}
 use Rattle.exact_fraction.specs.Digits.{number_within}
@@ -8,10 +9,11 @@ use Rattle.slice_method.specs.declared.Amount.{Amount}
 use Rattle.slice_method.specs.declared.Amount.TheVariants.{Counts, Value}
 use Rattle.sample_book.specs.declared.Row.{Row}
 use Rattle.sample_book.specs.declared.RowVerdict.{RowVerdict}
-use Rattle.sample_book.specs.declared.RowVerdict.TheVariants.{New, Newer, Repeated, Superseded, Conflict}
+use Rattle.sample_book.specs.declared.RowVerdict.TheVariants.{New, Newer, Repeated, Superseded}
+use Rattle.sample_book.specs.declared.RowVerdict.TheVariants.{Conflict}
 use Rattle.sample_book.specs.Rows.{current_rows, verdict_of}
 use Rattle.budget_command.specs.Order.{◌>>=◌}
-use Rattle.slo_limits.specs.declared.TheConstants.{MAX_AMOUNT, MAX_MINUTE, MAX_REVISION}
+use Rattle.slo_limits.specs.declared.TheConstants.{MAX_AMOUNT, MAX_CELLS, MAX_MINUTE, MAX_REVISION}
 use Rattle.budget_command.specs.declared.fault.RecordFault.{RecordFault}
 use Rattle.budget_command.specs.declared.fault.RecordFault.TheVariants as fault
 
@@ -19,42 +21,54 @@ use Rattle.budget_command.specs.declared.fault.RecordFault.TheVariants as fault
 abbrev pub BUDGET : List ℕ
 BUDGET = codes "budget"
 
--- revisions count from 1, and the good events are among the total
-abbrev pub row_with : List ℕ → ℕ → ℕ → ℕ → ℕ → Option Row
-row_with source minute revision good total =
-    if nat_le 1 revision && nat_le good total
-    then Some (record {
+-- the revision of a text: revisions count from 1
+abbrev pub revision_of : List ℕ → Option ℕ
+revision_of text = do
+  revision ← number_within MAX_REVISION text
+  if nat_le 1 revision then Some revision else None
+
+-- the good and total events of two texts: the good ones are among the total
+abbrev pub counts_of : List ℕ → List ℕ → Option Amount
+counts_of good_text total_text = do
+  good ← number_within MAX_AMOUNT good_text
+  total ← number_within MAX_AMOUNT total_text
+  if nat_le good total then Some (Counts good total) else None
+
+-- what a rule gives, or its fault where it is broken; and then the rules behind it
+abbrev pub by_rule : {A B : Type 0} → RecordFault → Option A → (A → Result B RecordFault) →
+    Result B RecordFault
+by_rule fault None behind = Err fault
+by_rule fault (Some value) behind = behind value
+
+-- The row that five fields stand for, or the first rule that they break: the source is a label, the
+-- minute is one of the clock, the revision is from 1 to 10^9, good and total are at most 10^9, and
+-- good is at most total. A number is written in digits alone.
+abbrev pub row_of : List ℕ × List ℕ × List ℕ × List ℕ × List ℕ → Result Row RecordFault
+row_of fields =
+    by_rule fault.Source (label_of fields.0) (λ source.
+    by_rule fault.Minute (number_within MAX_MINUTE fields.1) (λ minute.
+    by_rule fault.Revision (revision_of fields.2) (λ revision.
+    by_rule fault.Counts (counts_of fields.3 fields.4) (λ amount.
+    Ok (record {
       sli = BUDGET;
       source = source;
       minute = minute;
       revision = revision;
-      amount = Counts good total;
-    })
-    else None
+      amount = amount;
+    })))))
 
--- The row that five fields stand for, where each keeps its rule: the source is a label, the minute
--- is one of the clock, the revision is from 1 to 10^9, good and total are at most 10^9, and good is
--- at most total.
-abbrev pub row_of : List ℕ × List ℕ × List ℕ × List ℕ × List ℕ → Option Row
-row_of fields = do
-  source ← label_of fields.0
-  minute ← number_within MAX_MINUTE fields.1
-  revision ← number_within MAX_REVISION fields.2
-  good ← number_within MAX_AMOUNT fields.3
-  total ← number_within MAX_AMOUNT fields.4
-  row_with source minute revision good total
+-- A row is taken, unless the kept row of its cell has the same revision and another amount, or it
+-- would make one cell more than there may be.
+abbrev pub taken_as : ℕ → RowVerdict → Row → Result Row RecordFault
+taken_as cells New row = if nat_lt cells MAX_CELLS then Ok row else Err fault.Limit
+taken_as cells (Newer old) row = Ok row
+taken_as cells Repeated row = Ok row
+taken_as cells (Superseded revision) row = Ok row
+taken_as cells (Conflict kept) row = Err (fault.Conflict kept.amount)
 
--- a row whose kept row hasn't the same revision with another amount
-abbrev pub unless_conflict : RowVerdict → Row → Result Row RecordFault
-unless_conflict New row = Ok row
-unless_conflict (Newer old) row = Ok row
-unless_conflict Repeated row = Ok row
-unless_conflict (Superseded revision) row = Ok row
-unless_conflict (Conflict kept) row = Err (fault.Conflict kept.amount)
-
-abbrev pub of_row : List Row → Option Row → Result Row RecordFault
-of_row current None = Err fault.Field
-of_row current (Some row) = unless_conflict (verdict_of current row) row
+abbrev pub of_row : List Row → Result Row RecordFault → Result Row RecordFault
+of_row current (Err fault) = Err fault
+of_row current (Ok row) = taken_as (length current) (verdict_of current row) row
 
 abbrev pub of_five : List Row → Option (List ℕ × List ℕ × List ℕ × List ℕ × List ℕ) →
     Result Row RecordFault
@@ -66,8 +80,8 @@ abbrev pub judge_over : List Row → Fields → Result Row RecordFault
 judge_over current fields = of_five current (five_fields fields)
 
 -- What a record comes to behind the rows that came before it: a row, or the first rule that it
--- breaks, in the order: five fields, each field's rule, no conflict with the current row of its
--- cell.
+-- breaks, in the order: five fields, the source, the minute, the revision, the counts, no conflict
+-- with the current row of its cell, and not too many cells.
 abbrev pub judge : List Row → Fields → Result Row RecordFault
 judge before fields = judge_over (current_rows before) fields
 
@@ -96,21 +110,25 @@ is_superseded (Superseded revision) = true
 is_superseded _ = false
 
 -- the good and the total events of a row
+abbrev pub good_in : Amount → ℕ
+good_in (Counts good total) = good
+good_in (Value value) = 0
+
 abbrev pub good_of : Row → ℕ
 good_of row = good_in row.amount
-  where
-    good_in : Amount → ℕ
-    good_in (Counts good total) = good
-    good_in (Value value) = 0
+
+abbrev pub total_in : Amount → ℕ
+total_in (Counts good total) = total
+total_in (Value value) = 0
 
 abbrev pub total_of : Row → ℕ
 total_of row = total_in row.amount
-  where
-    total_in : Amount → ℕ
-    total_in (Counts good total) = total
-    total_in (Value value) = 0
 
--- a row's events are few enough to be added up, and the good ones among them
-pub record IsCounted (row : Row) : Type 0 where
-  pub part : good_of row ≤ total_of row
-  pub few : total_of row ≤ MAX_AMOUNT
+-- events are few enough to be added up, and the good ones among them
+pub record IsCountedAmount (amount : Amount) : Type 0 where
+  pub part : good_in amount ≤ total_in amount
+  pub few : total_in amount ≤ MAX_AMOUNT
+
+-- a row's events are so
+abbrev pub IsCounted : Row → Type 0
+IsCounted row = IsCountedAmount row.amount

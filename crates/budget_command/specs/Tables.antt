@@ -1,14 +1,19 @@
 -- What is kept of the rows that came, while the records of a text are judged one after another.
-use Rattle.std.specs.Prelude.{◌≡◌, ◌+◌, ◌≤◌, ℕ, Bool, List, [], ◌∷◌, ◌++◌, Result, Ok, Err, count_by}
+use Rattle.std.specs.Prelude.{◌≡◌, ◌+◌, ◌≤◌, ℕ, Bool, List, [], ◌∷◌, ◌++◌, Option, Some, None}
+use Rattle.std.specs.Prelude.{Result, Ok, Err, All, count_by}
 use Rattle.std.specs.Prelude.{length, if◌then◌else◌}
-use Rattle.csv_records.specs.Records.{Fields}
+use Rattle.csv_pieces.specs.Parts.{IsRead}
+use Rattle.csv_records.specs.Records.{Fields, csv_records}
+use Rattle.slo_limits.specs.declared.TheConstants.{MAX_CELLS}
 use Rattle.slo_terms.specs.Judged.{judged_from}
 use Rattle.sample_book.specs.declared.Row.{Row}
 use Rattle.sample_book.specs.declared.RowVerdict.{RowVerdict}
 use Rattle.sample_book.specs.History.{is_put}
 use Rattle.sample_book.specs.Rows.{current_rows, verdict_of}
-use Rattle.budget_command.specs.Records.{IsCounted, is_newer, is_repeated, is_superseded, judge, judge_over, verdicts}
+use Rattle.budget_command.specs.Records.{IsCounted, is_newer, is_repeated, is_superseded, judge}
+use Rattle.budget_command.specs.Records.{judge_over, verdicts}
 use Rattle.budget_command.specs.declared.fault.RecordFault.{RecordFault}
+use Rattle.budget_command.specs.declared.judging.Judging.{Judging}
 use Rattle.budget_command.specs.declared.table.Table.{Table}
 
 -- what a record comes to over the current rows: a row and how it stands to them, or a fault
@@ -22,6 +27,10 @@ IsJudged current fields (Err fault) = judge_over current fields ≡ Err fault
 abbrev pub rows_after : List Row → Row → List Row
 rows_after current row =
     if is_put (verdict_of current row) then current_rows (current ++ row ∷ []) else current
+
+-- how many rows corrected, repeated or were superseded by another
+abbrev pub tallies_in : Table → ℕ
+tallies_in table = table.corrected + table.repeated + table.superseded
 
 -- one where it is so
 abbrev pub one_if : Bool → ℕ
@@ -68,9 +77,43 @@ pub record IsSoFar (records left : List Fields) (number : ℕ) (rows : List Row)
   pub numbered : number ≡ length came + 1
   pub shorter : corrected + repeated + superseded ≤ length came
 
--- All records keep the rules, and their rows are kept.
-pub record AreAll (records : List Fields) (rows : List Row) (corrected repeated superseded : ℕ) :
-    Type 0 where
-  pub came : List Row
-  pub kept : AreKeptAs rows corrected repeated superseded came
-  pub judged : judged_from judge [] 1 records ≡ Ok came
+-- the events of rows are few enough to be added up: those of each, and how many rows there are
+pub record IsFit (rows : List Row) : Type 0 where
+  pub counted : All IsCounted rows
+  pub few : length rows ≤ MAX_CELLS
+
+-- More records can be judged: the events of the rows fit, and the counts leave room.
+pub record CanGoOn (table : Table) (number : ℕ) : Type 0 where
+  pub fit : IsFit table.book.rows
+  pub tallied : tallies_in table + 1 ≤ number
+
+-- All of these records keep the rules, and their rows are kept.
+abbrev pub AreAll : List Fields → ℕ → Table → Type 0
+AreAll records next table =
+    IsSoFar records [] next table.book.rows table.corrected table.repeated table.superseded
+
+-- Behind records that keep the rules, whose rows are kept, the record of this number is the first
+-- of all that breaks one.
+abbrev pub IsBroken : List ℕ → ℕ → Table → ℕ → RecordFault → Type 0
+IsBroken part number table at fault =
+    ((before : List Fields) → AreAll before number table →
+    judged_from judge [] 1 (before ++ csv_records part) ≡ Err (at, fault))
+    × (at ≤ number + length (csv_records part))
+
+-- What came of records: all keep the rules, or the one of this number is the first that breaks one.
+abbrev pub ComesTo : List Fields → Option RecordFault → ℕ → Table → Type 0
+ComesTo records None number table = AreAll records number table
+ComesTo records (Some fault) number table =
+    judged_from judge [] 1 records ≡ Err (number, fault)
+
+-- These records were judged, and this is what came of them.
+pub record HasJudged (records : List Fields) (judging : Judging) : Type 0 where
+  pub comes : ComesTo records judging.fault judging.number judging.table
+  pub going : judging.fault ≡ None → CanGoOn judging.table judging.number
+  pub numbered : judging.number ≤ length records + 1
+
+-- Of the bytes seen so far all records were judged but those of the bytes that wait.
+pub record HasJudgedTo (seen waiting : List ℕ) (judging : Judging) : Type 0 where
+  pub records : List Fields
+  pub read : IsRead seen records waiting
+  pub judged : HasJudged records judging

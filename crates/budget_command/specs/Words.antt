@@ -5,7 +5,7 @@ use Rattle.exact_fraction.specs.DecimalText.{decimal_text}
 use Rattle.slice_method.specs.declared.Amount.{Amount}
 use Rattle.slice_method.specs.declared.Amount.TheVariants.{Counts, Value}
 use Rattle.budget_command.specs.declared.fault.RecordFault.{RecordFault}
-use Rattle.budget_command.specs.declared.fault.RecordFault.TheVariants.{Fields, Field, Conflict}
+use Rattle.budget_command.specs.declared.fault.RecordFault.TheVariants as fault
 use Rattle.budget_command.specs.declared.fault.BudgetFault.{BudgetFault}
 use Rattle.budget_command.specs.declared.fault.BudgetFault.TheVariants.{TooLarge, BadRecord}
 
@@ -17,9 +17,13 @@ words_of_amount (Value value) = codes "conflict " ++ decimal_text value
 
 -- the words for what is wrong with a record
 abbrev pub words_of_record : RecordFault → List ℕ
-words_of_record Fields = codes "fields"
-words_of_record Field = codes "row"
-words_of_record (Conflict kept) = words_of_amount kept
+words_of_record fault.Fields = codes "fields"
+words_of_record fault.Source = codes "source"
+words_of_record fault.Minute = codes "minute"
+words_of_record fault.Revision = codes "revision"
+words_of_record fault.Counts = codes "counts"
+words_of_record (fault.Conflict kept) = words_of_amount kept
+words_of_record fault.Limit = codes "limit"
 
 -- the words for an input that is refused
 abbrev pub words_of_fault : BudgetFault → List ℕ

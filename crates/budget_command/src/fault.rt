@@ -10,16 +10,24 @@ use std::alloc::{AllocError, Global};
 pub enum RecordFault {
     /// It hasn't five fields.
     Fields,
-    /// A field breaks its rule.
-    Field,
+    /// The source is no label.
+    Source,
+    /// The minute is none of the clock.
+    Minute,
+    /// The revision isn't from 1 to 10^9.
+    Revision,
+    /// Good or total is above 10^9, or good above total.
+    Counts,
     /// The current row of its cell has its revision and this other amount.
     Conflict(Amount),
+    /// It would make one cell more than a table of samples may have.
+    Limit,
 }
 
 /// Why an input is refused.
 #[derive(Clone, Copy, Debug, PartialEq, Eq)]
 pub enum BudgetFault {
-    /// It has more bytes than a table of samples may have.
+    /// It has more than `MAX_INPUT_BYTES` bytes.
     TooLarge,
     /// The record of this number, counted from 1, is the first that breaks a rule.
     BadRecord { number: u64, fault: RecordFault },
@@ -29,6 +37,7 @@ pub enum BudgetFault {
 #[derive(Clone, Copy, Debug, PartialEq, Eq)]
 pub enum BudgetError {
     Fault(BudgetFault),
+    ReadFault,
     NoMemory,
 }
 
@@ -48,8 +57,12 @@ fn record_words(alloc: Global, fault: RecordFault) -> Result<String, AllocError>
 {
     match fault {
         RecordFault::Fields => String::from_str(alloc, "fields"),
-        RecordFault::Field => String::from_str(alloc, "row"),
+        RecordFault::Source => String::from_str(alloc, "source"),
+        RecordFault::Minute => String::from_str(alloc, "minute"),
+        RecordFault::Revision => String::from_str(alloc, "revision"),
+        RecordFault::Counts => String::from_str(alloc, "counts"),
         RecordFault::Conflict(kept) => amount_words(alloc, kept),
+        RecordFault::Limit => String::from_str(alloc, "limit"),
     }
 }
 

@@ -14,8 +14,8 @@ pub struct BudgetOrder {
     pub to: u32,
 }
 
-/// What the three words behind `budget` ask for.
-fn read_order(target: &[u8], from: &[u8], to: &[u8]) -> Option<BudgetOrder>
+/// What the three words behind `budget` ask for; None where one of them breaks its rule.
+pub fn read_order(target: &[u8], from: &[u8], to: &[u8]) -> Option<BudgetOrder>
     ensures order { result ≡ order_of target.now from.now to.now }
     ensures below_one { IfSome result (λ order. order.target < WHOLE) }
     ensures range { IfSome result (λ order. order.from ≤ order.to) }

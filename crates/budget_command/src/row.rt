@@ -1,21 +1,53 @@
 //! The rows of `budget`: the good and total events of one source's minute.
-ghost use Rattle.std.specs.Prelude.{◌≡◌, IfSome};
-ghost use Rattle.budget_command.specs.Records.{BUDGET, IsCounted, good_of, row_of, total_of};
+ghost use Rattle.std.specs.Prelude.{◌≡◌, IfOk, IfSome};
+ghost use Rattle.budget_command.specs.Records.{BUDGET, IsCounted, IsCountedAmount, counts_of};
+ghost use Rattle.budget_command.specs.Records.{good_of, revision_of, row_of, total_of};
 
+use crate::fault::RecordFault;
 use exact_fraction::{Label, Leaf, read_label, read_number};
 use sample_book::{Amount, Row};
 use slo_limits::{MAX_AMOUNT, MAX_MINUTE, MAX_REVISION};
 
 /// The one indicator under which the rows of an input are kept.
-fn indicator() -> Label
+pub fn indicator() -> Label
     ensures { result ≡ BUDGET }
 {
     read_label(b"budget").unwrap()
 }
 
-/// The row that the fields `source,minute,revision,good,total` stand for; None where one of them
-/// breaks its rule.
-pub fn read_row(fields: (&[u8], &[u8], &[u8], &[u8], &[u8])) -> Option<Row>
+// Revisions count from 1.
+fn read_revision(text: &[u8]) -> Option<u32>
+    ensures { result ≡ revision_of text.now }
+{
+    let revision = read_number(text, u64::from(MAX_REVISION))?;
+    if 1 <= revision {
+        Some(revision as u32)
+    } else {
+        None
+    }
+}
+
+// The good events are among the total.
+fn read_counts(good: &[u8], total: &[u8]) -> Option<Amount>
+    ensures counts { result ≡ counts_of good.now total.now }
+    ensures counted { IfSome result IsCountedAmount }
+{
+    let good = read_number(good, u64::from(MAX_AMOUNT))?;
+    let total = read_number(total, u64::from(MAX_AMOUNT))?;
+    if good <= total {
+        Some(Amount::Counts {
+            part: good as u32,
+            total: total as u32,
+        })
+    } else {
+        None
+    }
+}
+
+/// The row that the fields `source,minute,revision,good,total` stand for, or the first rule that
+/// they break. The indicator is handed in, so that it isn't read anew for each row.
+pub fn read_row(sli: Label, fields: (&[u8], &[u8], &[u8], &[u8], &[u8])) -> Result<Row, RecordFault>
+    requires { sli ≡ BUDGET }
     ensures row { result ≡ row_of (
       fields.entry.0.now,
       fields.entry.1.now,
@@ -23,27 +55,19 @@ pub fn read_row(fields: (&[u8], &[u8], &[u8], &[u8], &[u8])) -> Option<Row>
       fields.entry.3.now,
       fields.entry.4.now,
     ) }
-    ensures counted { IfSome result IsCounted }
+    ensures counted { IfOk result IsCounted }
 {
-    let source = read_label(fields.0)?;
-    let minute = read_number(fields.1, u64::from(MAX_MINUTE))?;
-    let revision = read_number(fields.2, u64::from(MAX_REVISION))?;
-    let good = read_number(fields.3, u64::from(MAX_AMOUNT))?;
-    let total = read_number(fields.4, u64::from(MAX_AMOUNT))?;
-    if 1 <= revision && good <= total {
-        Some(Row {
-            sli: indicator(),
-            source,
-            minute: minute as u32,
-            revision: revision as u32,
-            amount: Amount::Counts {
-                part: good as u32,
-                total: total as u32,
-            },
-        })
-    } else {
-        None
-    }
+    let source = read_label(fields.0).ok_or(RecordFault::Source)?;
+    let minute = read_number(fields.1, u64::from(MAX_MINUTE)).ok_or(RecordFault::Minute)?;
+    let revision = read_revision(fields.2).ok_or(RecordFault::Revision)?;
+    let amount = read_counts(fields.3, fields.4).ok_or(RecordFault::Counts)?;
+    Ok(Row {
+        sli,
+        source,
+        minute: minute as u32,
+        revision,
+        amount,
+    })
 }
 
 /// The good and total events of a row.

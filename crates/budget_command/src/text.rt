@@ -8,7 +8,7 @@ use crate::row::events_of;
 use burn_core::{burn, remaining};
 use exact_fraction::{Decimal, Leaf};
 use sample_book::{Row, SampleBook};
-use slo_limits::{MAX_AMOUNT, MAX_SUM, MAX_TABLE_BYTES, WHOLE};
+use slo_limits::{MAX_AMOUNT, MAX_CELLS, MAX_SUM, WHOLE};
 use std::alloc::{AllocError, Global};
 
 /// A row's events, where its minute lies in [from, to), and else none.
@@ -35,7 +35,7 @@ pub struct Events {
 
 /// The cells, and the events of the rows whose minutes lie in [from, to).
 pub fn events_within(book: &SampleBook, from: u32, to: u32) -> Events
-    requires few { length book.now.rows ≤ MAX_TABLE_BYTES }
+    requires few { length book.now.rows ≤ MAX_CELLS }
     requires counted { All IsCounted book.now.rows }
     ensures cells { result.cells ≡ length book.now.rows }
     ensures good { result.sum.num ≡ sum_by (share_within (λ r. r.minute) good_of from to)

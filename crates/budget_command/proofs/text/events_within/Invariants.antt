@@ -8,8 +8,10 @@ use Rattle.budget_command.proofs.text.events_within.Given as goal
 abbrev pub invariant-rows : goal.invariant-rows
 invariant-rows l = record {
   place : l.place ≤ length l.book.rows;
-  good : l.good ≡ sum_by (share_within (λ r. r.minute) good_of l.from l.to) (take l.place l.book.rows);
-  total : l.total ≡ sum_by (share_within (λ r. r.minute) total_of l.from l.to) (take l.place l.book.rows);
+  good : l.good ≡ sum_by (share_within (λ r. r.minute) good_of l.from l.to)
+      (take l.place l.book.rows);
+  total : l.total ≡ sum_by (share_within (λ r. r.minute) total_of l.from l.to)
+      (take l.place l.book.rows);
   part : l.good ≤ l.total;
   bound : l.total ≤ l.place * MAX_AMOUNT;
 }
