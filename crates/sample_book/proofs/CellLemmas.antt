@@ -11,6 +11,7 @@ use Rattle.std.proofs.lemmas.List.{map-append}
 use Rattle.std.specs.Cmp.Lexicographic.{nat_list_eq_equiv}
 use Rattle.std.proofs.lemmas.Bool.Decides.{nat_tests}
 use Rattle.std.proofs.lemmas.List.{get_or_append_left}
+use Rattle.std.proofs.lemmas.Option.{get_or_from_slice_get, slice_get_within}
 use Rattle.sample_book.specs.declared.cells.Key.{Key}
 use Rattle.sample_book.specs.declared.row.Cell.{Cell}
 use Rattle.sample_book.specs.Keys.{key_eq, cell_named, IsNamed, AreNamed, IsKeyOf, HasNoKey}
@@ -217,3 +218,15 @@ always_err (Err e) p = p
 pub never_ok : {A E : Type 0} (Q : E → Type 0) (P : A → Type 0) (r : Result A E) → IsErrAnd r Q → IfOk r P
 never_ok Q P (Ok a) h = absurd h
 never_ok Q P (Err e) h = tt
+
+-- a name that stands at a place has that number
+pub position_at : (names : List (List ℕ)) (name : List ℕ) (i : ℕ) → IsDistinct bytes_eq names → slice_get names i ≡ Some name → position (bytes_eq name) names ≡ Some i
+position_at names name i apart there =
+    let within = slice_get_within names i name there in
+    let at : named names i ≡ name = get_or_from_slice_get names i name [] there in
+    let same : bytes_eq name (named names i) ≡ true = rw at (nat_list_eq_equiv.refl name) in
+    position-first (bytes_eq name) names ∙ by (first (bytes_eq name) names) refl within same
+  where
+    by : (o : Option ℕ) → first (bytes_eq name) names ≡ o → i < length names → bytes_eq name (named names i) ≡ true → o ≡ Some i
+    by None e within same = (let no = fails_at (bytes_eq name) names i [] (none-first (bytes_eq name) names e) within in cc (no, same))
+    by (Some k) e within same = (let eq = same_number names name k i apart e within ∙ same in let k_is : k ≡ i = grind (arith, nat_tests, eq) in ap (λ (n : ℕ). Some n) k_is)

@@ -10,5 +10,7 @@ pub mod HistoryLemmas
 pub mod RoomLemmas
 pub mod IdLemmas
 pub mod BatchLemmas
+pub mod BucketLemmas
+pub mod PlaceLemmas
 pub mod PutLemmas
 pub mod ChainLemmas

@@ -15,7 +15,7 @@ use Rattle.slo_terms.specs.Rows.{newer, first_of_each}
 use Rattle.sample_book.specs.declared.row.Cell.{Cell}
 use Rattle.sample_book.specs.declared.row.Row.{Row}
 use Rattle.sample_book.specs.declared.row.RowVerdict.TheVariants.{New, Newer, Repeated, Superseded, Conflict}
-use Rattle.sample_book.specs.declared.current_rows.Stored.{Stored}
+use Rattle.sample_book.specs.declared.stored.Stored.{Stored}
 use Rattle.sample_book.specs.Rows.{cell_of, cell_eq, same_cell, current_rows, same_amount, verdict_on, verdict_where, MayPutAs, new_cells, with_cell}
 use Rattle.std.specs.List.{position}
 use Rattle.std.proofs.lemmas.List.{length-map}

@@ -1,7 +1,9 @@
 pub mod Rows
 pub mod Names
+pub mod Places
 pub mod Keys
 pub mod Standing
+pub mod Stored
 pub mod Exclusions
 pub mod Book
 pub mod Counting

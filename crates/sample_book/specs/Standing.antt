@@ -3,7 +3,7 @@ use Rattle.std.specs.Prelude.{ℕ, ◌≤◌, List, length, map, drop, zip}
 use Rattle.std.specs.List.{IsDistinct}
 use Rattle.sample_book.specs.declared.row.Cell.{Cell}
 use Rattle.sample_book.specs.declared.row.Row.{Row}
-use Rattle.sample_book.specs.declared.current_rows.Stored.{Stored}
+use Rattle.sample_book.specs.declared.stored.Stored.{Stored}
 use Rattle.sample_book.specs.Rows.{same_cell}
 
 pub record Standing : Type 0 where

@@ -8,8 +8,8 @@ ghost use Rattle.sample_book.specs.Names.{IsGrown};
 ghost use Rattle.sample_book.specs.Rows.{cell_eq};
 
 use crate::names::Names;
+use crate::places::Places;
 use crate::row::Cell;
-use indexmap::IndexSet;
 use std::alloc::{AllocError, Global};
 use std::marker::Model;
 
@@ -25,7 +25,7 @@ pub(crate) struct Key {
 pub(crate) struct Cells {
     slis: Names,
     sources: Names,
-    keys: IndexSet<Key>,
+    keys: Places,
 }
 
 impl Model for Cells {
@@ -35,9 +35,9 @@ impl Model for Cells {
 
     ghost Value = { List Cell };
 
-    ghost view = { λ a. map (cell_named a.slis a.sources) a.keys.keys };
+    ghost view = { λ a. map (cell_named a.slis a.sources) a.keys };
 
-    ghost invariant = { λ a. AreNamed a.slis a.sources a.keys.keys };
+    ghost invariant = { λ a. AreNamed a.slis a.sources a.keys };
 }
 
 impl Cells {
@@ -47,7 +47,7 @@ impl Cells {
         Cells {
             slis: Names::new(alloc),
             sources: Names::new(alloc),
-            keys: IndexSet::new(alloc),
+            keys: Places::new(alloc),
         }
     }
 
@@ -62,7 +62,7 @@ impl Cells {
         ensures { result ≡ position (cell_eq cell.now) self.now }
     {
         match key_of(&self.slis, &self.sources, cell) {
-            Some(key) => self.keys.get_index_of(&key),
+            Some(key) => self.keys.find(&key),
             None => None,
         }
     }
@@ -72,8 +72,8 @@ impl Cells {
         requires { place < length self.now }
         ensures { slice_get self.now place ≡ Some result }
     {
-        let key = self.keys.get_index(place).unwrap();
-        named_cell(&self.slis, &self.sources, key)
+        let key = self.keys.at(place);
+        named_cell(&self.slis, &self.sources, &key)
     }
 
     // Forgets the cells from a place on.
@@ -90,7 +90,7 @@ impl Cells {
         ensures err { OnErr result (self.new ≡ self.old) }
     {
         let key = number_of(&mut self.slis, &mut self.sources, cell)?;
-        self.keys.insert(key)?;
+        self.keys.add(&key)?;
         Ok(())
     }
 }

@@ -11,19 +11,12 @@ ghost use Rattle.sample_book.specs.Standing.{row_stored};
 
 use crate::cells::Cells;
 use crate::row::{Cell, Row, RowVerdict};
-use slice_method::Amount;
+use crate::stored::{SmallAmount, Stored};
 use std::alloc::{AllocError, Global};
 use std::marker::Model;
 
 // A place in the list is a `u32`.
 const MOST_CELLS: usize = 4_294_967_295;
-
-// What a row says of its cell.
-#[derive(Clone, Copy)]
-pub(crate) struct Stored {
-    pub(crate) revision: u32,
-    pub(crate) amount: Amount,
-}
 
 #[derive(Drop)]
 pub(crate) struct CurrentRows {
@@ -71,7 +64,7 @@ impl CurrentRows {
         requires { place < length self.now.rows }
         ensures { slice_get self.now.rows place ≡ Some result }
     {
-        row_stored(&self.cells.at(place), self.stored[place])
+        row_stored(&self.cells.at(place), &self.stored[place])
     }
 
     // The row that is kept of a row's cell.
@@ -79,7 +72,7 @@ impl CurrentRows {
         ensures { result ≡ kept_of self.now.rows row.now }
     {
         match kept_place(&self.cells, self.stored.len(), &row.cell()) {
-            Some(place) => Some(row_stored(&self.cells.at(place), self.stored[place])),
+            Some(place) => Some(row_stored(&self.cells.at(place), &self.stored[place])),
             None => None,
         }
     }
@@ -128,7 +121,7 @@ impl CurrentRows {
     {
         let stored = Stored {
             revision: row.revision,
-            amount: row.amount,
+            amount: SmallAmount::of(&row.amount),
         };
         match kept_place(&self.cells, self.stored.len(), &row.cell()) {
             Some(place) => self.stored[place] = stored,
@@ -257,14 +250,14 @@ fn is_put(verdict: &RowVerdict) -> bool
     }
 }
 
-fn row_stored(cell: &Cell, stored: Stored) -> Row
-    ensures { result ≡ row_stored cell.now stored }
+fn row_stored(cell: &Cell, stored: &Stored) -> Row
+    ensures { result ≡ row_stored cell.now stored.now }
 {
     Row {
         sli: cell.sli,
         source: cell.source,
         minute: cell.minute,
         revision: stored.revision,
-        amount: stored.amount,
+        amount: stored.amount.amount(),
     }
 }

@@ -5,14 +5,17 @@
 
 mod batch;
 mod book;
+mod buckets;
 mod cells;
 mod chains;
 mod current_rows;
 mod exclusions;
 mod laws;
 mod names;
+mod places;
 mod row;
 mod row_index;
+mod stored;
 mod tally;
 
 pub use book::SampleBook;

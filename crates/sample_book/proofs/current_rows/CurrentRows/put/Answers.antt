@@ -1,8 +1,9 @@
-use Rattle.std.proofs.Common.{List, ◌≡◌, ◌∙◌, ◌++◌, ◌∷◌, [], suc, ap, sym, subst, arith, length, drop, take, Some, false, add-one}
+use Rattle.std.proofs.Common.{List, ◌≡◌, ◌∙◌, ◌++◌, ◌∷◌, [], suc, ap, sym, subst, arith, length, drop, set, take, Some, false, add-one}
 use Rattle.std.specs.List.{IsDistinct, position, list_any}
 use Rattle.std.proofs.lemmas.List.{length-set, length-append}
+use Rattle.slice_method.specs.declared.Amount.{Amount}
 use Rattle.sample_book.specs.declared.row.Cell.{Cell}
-use Rattle.sample_book.specs.declared.current_rows.Stored.{Stored}
+use Rattle.sample_book.specs.declared.stored.Stored.{Stored}
 use Rattle.sample_book.specs.Rows.{MayPutAs, cell_eq, cell_of, current_rows, same_cell, verdict_of}
 use Rattle.sample_book.specs.Standing.{Standing, rows_stored, standing_of}
 use Rattle.sample_book.specs.declared.row.Row.{Row}
@@ -20,6 +21,14 @@ in_place c =
     (omega (arith, c.in-Some.ensures.within, c.len.ensures, c.self.inside.stored.ok.0))
     (subst (λ (s : Standing). MayPutAs (verdict_of s.rows row) c.args.self.now.room (cell_of row)) (sym c.self.view_is) c.requires)
 
+-- the rows with this one in the place of the kept one
+swapped : (c : goal.After-self-1) →
+    rows_stored c.self.inside.cells (set c.self.inside.stored.items c.in-Some.place (record { revision = c.args.row.now.revision; amount = c.of.result }))
+    ≡ current_rows (rows_stored c.self.inside.cells c.self.inside.stored.items ++ c.args.row.now ∷ [])
+swapped c =
+    ap (λ (amount : Amount). rows_stored c.self.inside.cells (set c.self.inside.stored.items c.in-Some.place (record { revision = c.args.row.now.revision; amount = amount }))) c.of.ensures
+    ∙ (in_place c).rows
+
 behind : (c : goal.After-extend_from_slice) → PutBehind c.self.inside.cells c.self.inside.stored.items c.args.row.now
 behind c =
     let cells = c.self.inside.cells in
@@ -36,11 +45,11 @@ invariant_of-self c =
       within = omega (arith, c.self.invariant.within, length-set {A = Stored});
       ready = c.self.invariant.ready;
       few = c.self.invariant.few;
-      apart = put_apart (rows_stored c.self.inside.cells stored) _ c.args.row.now (in_place c).rows;
+      apart = put_apart (rows_stored c.self.inside.cells stored) _ c.args.row.now (swapped c);
     }
 
 pub returns-in-Some-clause-rows : goal.returns-in-Some-clause-rows
-returns-in-Some-clause-rows c = (in_place c).rows ∙ ap (λ (s : Standing). current_rows (s.rows ++ c.args.row.now ∷ [])) c.self.view_is
+returns-in-Some-clause-rows c = swapped c ∙ ap (λ (s : Standing). current_rows (s.rows ++ c.args.row.now ∷ [])) c.self.view_is
 
 pub returns-in-Some-clause-new : goal.returns-in-Some-clause-new
 returns-in-Some-clause-new c = λ new. absurd ((in_place c).newer (ap (λ (s : Standing). verdict_of s.rows c.args.row.now) c.self.view_is ∙ new))
@@ -60,7 +69,9 @@ put c =
 
 -- what is stored grew by the row
 grown : (c : goal.After-unwrap) → c.extend_from_slice.new.self.items ≡ c.self.inside.stored.items ++ record { revision = c.args.row.now.revision; amount = c.args.row.now.amount } ∷ []
-grown c = rw c.unwrap.ensures at c.extend_from_slice.ensures.items
+grown c =
+    (rw c.unwrap.ensures at c.extend_from_slice.ensures.items)
+    ∙ ap (λ (amount : Amount). c.self.inside.stored.items ++ record { revision = c.args.row.now.revision; amount = amount } ∷ []) c.of.ensures
 
 longer : (c : goal.After-unwrap) → length c.extend_from_slice.new.self.items ≡ suc (length c.self.inside.stored.items)
 longer c = ap length (grown c) ∙ length-append c.self.inside.stored.items (record { revision = c.args.row.now.revision; amount = c.args.row.now.amount } ∷ []) ∙ add-one (length c.self.inside.stored.items)
@@ -96,7 +107,7 @@ placed cells stored s row rows apart view may is =
 
 pub returns-in-Some-clause-placed : goal.returns-in-Some-clause-placed
 returns-in-Some-clause-placed c =
-    placed c.self.inside.cells c.self.inside.stored.items c.args.self.now c.args.row.now _ c.self.invariant.apart c.self.view_is c.requires (in_place c).rows
+    placed c.self.inside.cells c.self.inside.stored.items c.args.self.now c.args.row.now _ c.self.invariant.apart c.self.view_is c.requires (swapped c)
 
 pub returns-in-None-clause-placed : goal.returns-in-None-clause-placed
 returns-in-None-clause-placed c =

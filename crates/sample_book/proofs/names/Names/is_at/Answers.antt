@@ -1,0 +1,13 @@
+use Rattle.std.proofs.Common.{◌≡◌, ◌∙◌, List, ℕ, Some, ap, subst, sym}
+use Rattle.std.specs.List.{position}
+use Rattle.std.specs.Str.{bytes_eq}
+use Rattle.std.proofs.lemmas.Slice.Eq.{bytes_eq-Decides}
+use Rattle.sample_book.proofs.CellLemmas.{position_at}
+use Rattle.sample_book.proofs.names.Names.is_at.Goals as goal
+
+pub returns-in-Some-clause-number : goal.returns-in-Some-clause-number
+returns-in-Some-clause-number c told =
+    let names = c.self.inside.set.keys in
+    let same = (bytes_eq-Decides c.in-Some.there.now c.args.name).0 (sym c.eq.ensures ∙ told) in
+    subst (λ (names : List (List ℕ)). position (bytes_eq c.args.name) names ≡ Some c.args.number) c.self.view_is
+    (position_at names c.args.name c.args.number c.self.invariant.distinct (sym c.in-Some.ensures.key ∙ ap Some same))
