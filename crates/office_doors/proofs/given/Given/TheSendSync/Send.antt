@@ -1,0 +1,7 @@
+-- A list that exists in proofs alone may go to another thread.
+use denote.RattleType.{RattleType}
+use denote.Param.Send.{IsSend, owning_send, sendable}
+use Rattle.office_doors.specs.contracts.given.Given.{the_row, the_type}
+
+pub send : (V : RattleType) → IsSend V → IsSend (the_row V)
+send V v = owning_send (the_type V) (search sendable, tt) (λ d. tt) (λ k x w. tt)

@@ -1,0 +1,85 @@
+//! Doors at a port of this machine. They tell nothing of what comes and goes.
+ghost use Rattle.std.specs.Prelude.{◌≡◌, None, length, All, IfOk};
+
+use crate::tcp_door::TcpDoor;
+use crate::{Doors, DoorsFault};
+use std::alloc::Global;
+use std::net::{Ipv4Addr, Net, SocketAddr, SocketAddrV4, TcpListener, TcpStream};
+use std::time;
+
+/// Doors at a port of 127.0.0.1: only programs of this machine come in. One listener is shared by
+/// all doors, so that a link goes to whichever worker is free.
+#[derive(Drop)]
+pub struct TcpDoors<R: Drop> {
+    rt: R,
+    alloc: Global,
+    faults: u64,
+}
+
+impl<R: Drop> TcpDoors<R> {
+    /// Doors that touch nothing before they are opened.
+    pub fn new(rt: R, alloc: Global) -> TcpDoors<R>
+        ensures { result.faults ≡ 0 }
+    {
+        TcpDoors {
+            rt,
+            alloc,
+            faults: 0,
+        }
+    }
+}
+
+/// Listens at the port, once for all doors.
+fn open_all<R: Net<Listener = TcpListener, Stream = TcpStream> + Copy + Drop>(
+    rt: R,
+    alloc: Global,
+    port: u16,
+    workers: usize,
+) -> Result<Vec<TcpDoor<R>>, DoorsFault>
+    ensures count { IfOk result (λ doors. length doors.items ≡ workers) }
+    ensures quiet { IfOk result (λ doors. All (λ d. d.faults ≡ 0) doors.items) }
+{
+    let Ok(mut doors) = Vec::with_capacity(alloc, workers) else {
+        return Err(DoorsFault::NoMemory);
+    };
+    let here = SocketAddr::V4(SocketAddrV4::new(Ipv4Addr::LOCALHOST, port));
+    let Ok(listener) = TcpListener::bind(&rt, here) else {
+        return Err(DoorsFault::Failed);
+    };
+    for _ in 0..workers {
+        let Ok(shared) = listener.try_clone() else {
+            return Err(DoorsFault::Failed);
+        };
+        let door = TcpDoor::new(rt, shared);
+        doors.push_reserved(door);
+    }
+    Ok(doors)
+}
+
+impl<R> Doors for TcpDoors<R>
+where
+    R: Net<Listener = TcpListener, Stream = TcpStream> + time::Clock + Copy + Send + Drop,
+{
+    type One = TcpDoor<R>;
+
+    ghost told = { λ d. None };
+
+    ghost faults = { λ d. d.faults };
+
+    /// Fails where the port can't be had, as one that another program listens at.
+    fn open(&mut self, port: u16, workers: usize) -> Result<Vec<TcpDoor<R>>, DoorsFault> {
+        match open_all(self.rt, self.alloc, port, workers) {
+            Err(DoorsFault::Failed) => {
+                self.faults = self.faults.saturating_add(1);
+                Err(DoorsFault::Failed)
+            }
+            outcome => outcome,
+        }
+    }
+
+    fn close(&mut self, door: TcpDoor<R>) {
+        self.faults = self.faults.saturating_add(door.faults());
+    }
+
+    ghost within = { λ d. tt };
+}
