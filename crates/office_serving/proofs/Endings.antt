@@ -1,0 +1,225 @@
+-- How the serving of an office ends, from what its parts say.
+use Rattle.std.proofs.Common.{◌≡◌, ◌<◌, ◌≤◌, ◌+◌, ℕ, Bool, true, false, List, [], ◌∷◌, ◌++◌, length}
+use Rattle.std.proofs.Common.{refl, sym, ap, subst, ◌∙◌, arith, append-nil, inl, inr, Some, None}
+use Rattle.std.specs.Prelude.{All, flat_map, slice_index_or}
+use Rattle.std.specs.declared.option.Option.{Option}
+use Rattle.atomic_table.specs.Seated.{TableId}
+use Rattle.slo_limits.specs.declared.TheConstants.{MAX_MINUTE}
+use Rattle.office_outside.specs.Disk as disks
+use Rattle.office_outside.specs.Told.{Gained, GainedPrefix}
+use Rattle.turn_desk.specs.Histories.{Distinct}
+use Rattle.turn_desk.specs.Histories.{Extends as Begins}
+use Rattle.turn_desk.specs.Passes.{PassState, newcomer}
+use Rattle.office_doors.specs.Books.{Moves}
+use Rattle.office_doors.specs.Entrances.{Entrance, Opens, Stays, left_at}
+use Rattle.office_doors.specs.declared.Visit.{Visit}
+use Rattle.office_history.specs.History.{Office}
+use Rattle.office_counter.specs.Laws.{Extends, IsOwned}
+use Rattle.office_counter.proofs.Steps.{extends_both, extends_still}
+use Rattle.office_keep.specs.Files.{IsWhole}
+use Rattle.office_keep.specs.Office.{OfficeOn, StandsSettled}
+use Rattle.turn_counter.specs.Holding.{NewPassesSeeAll, PassesSeeBeginnings}
+use Rattle.turn_counter.specs.Seen.{ledger_of, office_seen, standing_of}
+use Rattle.office_serving.specs.Serving.{AreOpened, EndsServing, Front, IsServed, Ran, SaidNotReady}
+use Rattle.office_serving.specs.Serving.{WereOpen, front, ready_line}
+use Rattle.office_serving.specs.Workers.{AreClosed, GoesOn, RanWorkers, Site, WorkersServe}
+use Rattle.office_serving.specs.Workers.{WorksEach}
+use Rattle.office_serving.specs.declared.serving.ServeEnd.{ServeEnd}
+use Rattle.office_serving.specs.declared.serving.ServeEnd.TheVariants.{Done, DoorsFault}
+use Rattle.office_serving.specs.declared.serving.ServeEnd.TheVariants.{NoMemory, WriteFault}
+use Rattle.office_serving.specs.declared.workers.TheConstants.{WORKERS}
+use Rattle.office_serving.proofs.Chains.{moves_both, moves_still}
+use Rattle.office_serving.proofs.Lists.{all_more}
+
+module _ {A I O C : Type 0} (site : Site A I O C) where
+  open_book : (opened closed : List A) → length opened ≡ WORKERS
+      → (a b c : Entrance A (Visit I O C)) → Opens site.told opened a b → AreClosed closed b c
+      → WereOpen site.told opened closed a c
+  open_book opened closed count a b c opens closes =
+      let none : b.held ≡ [] = opens.whole (omega (arith, count)) in
+      record {
+        shared = opens.shared
+            ∙ ap (λ (l : List (Visit I O C)). flat_map (λ d. left_at (site.told d)) opened ++ l)
+            none
+            ∙ append-nil (flat_map (λ d. left_at (site.told d)) opened);
+        none_held = ap (λ (e : Entrance A (Visit I O C)). e.held) closes ∙ none;
+        count = ap (λ (e : Entrance A (Visit I O C)). e.opened) closes ∙ opens.opened;
+        closed_are = ap (λ (e : Entrance A (Visit I O C)). e.closed) closes
+            ∙ ap (λ (l : List A). l ++ closed) opens.closed;
+      }
+
+  were_open : (opened closed : List A) → length opened ≡ WORKERS
+      → (a b c : Option (Entrance A (Visit I O C))) → Moves (Opens site.told opened) a b
+      → Moves (AreClosed closed) b c → Moves (WereOpen site.told opened closed) a c
+  were_open opened closed count a b c opens closes =
+      moves_both (Opens site.told opened) (AreClosed closed) (WereOpen site.told opened closed)
+      (open_book opened closed count) a b c opens closes
+
+  pub not_ready : (opened : List A) (a b c : Option (Entrance A (Visit I O C)))
+      (held held_after : Option (List ℕ)) → AreOpened site opened a
+      → GainedPrefix ready_line held held_after → Moves (Opens site.told opened) a b
+      → Moves (AreClosed opened) b c → SaidNotReady site (front a held) (front c held_after)
+  not_ready opened a b c held held_after are part opens closes = record {
+    opened = opened;
+    are_opened = are;
+    part = part;
+    were_open = were_open opened opened are.count a b c opens closes;
+  }
+
+  abbrev ran : (start : PassState) (opened : List A) (a b c : Option (Entrance A (Visit I O C)))
+      (held held_after : Option (List ℕ)) (ends : List PassState) (well : Bool)
+      → AreOpened site opened a → Gained ready_line held held_after
+      → Moves (Opens site.told opened) a b → RanWorkers site start opened b c ends well
+      → Ran site (λ o d. WorksEach site start o d ends) (front a held) (front c held_after)
+  ran start opened a b c held held_after ends well are ready opens r = record {
+    opened = opened;
+    closed = r.closed;
+    are_opened = are;
+    ready = ready;
+    serve = r.works;
+    were_open = were_open opened r.closed are.count a b c opens r.were_closed;
+    back = r.back;
+  }
+
+  pub after_work : (start : PassState) (opened : List A)
+      (a b c : Option (Entrance A (Visit I O C))) (held held_after : Option (List ℕ))
+      (ends : List PassState) (well : Bool) (end : ServeEnd)
+      → (well ≡ true → end ≡ Done) → (well ≡ false → end ≡ DoorsFault)
+      → AreOpened site opened a → Gained ready_line held held_after
+      → Moves (Opens site.told opened) a b → RanWorkers site start opened b c ends well
+      → EndsServing site (λ o d. WorksEach site start o d ends) end (front a held)
+      (front c held_after)
+  after_work start opened a b c held held_after ends true end if_well if_not are ready opens r =
+      subst (λ (e : ServeEnd). EndsServing site (λ o d. WorksEach site start o d ends) e
+      (front a held) (front c held_after)) (sym (if_well refl))
+      (record {
+        ran = ran start opened a b c held held_after ends true are ready opens r;
+        ended = r.ended refl;
+      })
+  after_work start opened a b c held held_after ends false end if_well if_not are ready opens r =
+      subst (λ (e : ServeEnd). EndsServing site (λ o d. WorksEach site start o d ends) e
+      (front a held) (front c held_after)) (sym (if_not refl))
+      (inl (ran start opened a b c held held_after ends false are ready opens r))
+
+  module _ (Serve Other : List A → List A → Type 0)
+      (more : (o d : List A) → Serve o d → Other o d) (old new : Front A (Visit I O C)) where
+    abbrev ran_more : Ran site Serve old new → Ran site Other old new
+    ran_more r = record {
+      opened = r.opened;
+      closed = r.closed;
+      are_opened = r.are_opened;
+      ready = r.ready;
+      serve = more r.opened r.closed r.serve;
+      were_open = r.were_open;
+      back = r.back;
+    }
+
+    ends_more : (end : ServeEnd) → EndsServing site Serve end old new
+        → EndsServing site Other end old new
+    ends_more Done e = record { ran = ran_more e.ran; ended = e.ended }
+    ends_more WriteFault e = e
+    ends_more DoorsFault (inl r) = inl (ran_more r)
+    ends_more DoorsFault (inr none) = inr none
+    ends_more NoMemory e = e
+
+-- the passes are those of the desk
+pub at_desk : (start : PassState) (passes : List PassState) → All (λ p. GoesOn start p) passes
+    → All (λ p. p.desk ≡ start.desk) passes
+at_desk start passes go =
+    all_more (λ p. GoesOn start p) (λ p. p.desk ≡ start.desk) passes (λ p goes. goes.stays.desk) go
+
+-- an office before its first visit
+pub not_served : {D A I O C : Type 0} (images : D → List ℕ → Type 0) (site : Site A I O C)
+    (office back : OfficeOn D) (entrance : Option (Entrance A (Visit I O C)))
+    (held : Option (List ℕ)) (disk : D) → back ≡ office → disk ≡ back.disk
+    → IsWhole office.office
+    → disks.All (StandsSettled office.office office.doubt) (images office.disk)
+    → IsServed images site office NoMemory (front entrance held) (front entrance held) disk
+not_served {D} images site office back entrance held disk same handed whole stands =
+    let is : disk ≡ office.disk = handed ∙ ap (λ (o : OfficeOn D). o.disk) same in
+    record {
+      last = office;
+      handed_back = is;
+      grows = extends_still office.office;
+      whole = whole;
+      stands = subst (λ (d : D). disks.All (StandsSettled office.office office.doubt) (images d))
+          (sym is) stands;
+      ends = record { entrance = moves_still Stays (λ e. refl) entrance; held = refl };
+    }
+
+-- what the closing of the desk says of the passes, told of the office
+module _ {D A I O C : Type 0} (beginnings : PassesSeeBeginnings) (all : NewPassesSeeAll)
+    (images : D → List ℕ → Type 0) (faults : D → ℕ) (site : Site A I O C)
+    (first last : OfficeOn D) (desk : TableId) (passes : List PassState) where
+  abbrev pub begin : PassState
+  begin = newcomer desk (ledger_of faults first).root (ledger_of faults first).history
+
+  abbrev AllGo : Type 0
+  AllGo = All (λ p. GoesOn begin p) passes
+
+  extended : IsWhole last.office → last.office.origin ≤ MAX_MINUTE
+      → All (λ p. p.root ≡ (ledger_of faults last).root) passes
+      → All (λ p. Begins p.seen (ledger_of faults last).history) passes
+      → All (λ p. Extends (office_seen p) last.office) passes
+  extended whole low roots seen k d lt =
+      beginnings (slice_index_or passes k d) last.office whole low (roots k d lt) (seen k d lt)
+
+  sees_first : IsWhole first.office → first.office.origin ≤ MAX_MINUTE
+      → office_seen begin ≡ first.office
+  sees_first whole low = all desk first.office whole low
+
+  grows : office_seen begin ≡ first.office → 0 < length passes → AllGo
+      → All (λ p. Extends (office_seen p) last.office) passes
+      → Extends first.office last.office
+  grows is some go extends =
+      let p = slice_index_or passes 0 begin in
+      subst (λ (o : Office). Extends o last.office) is
+      (extends_both (office_seen begin) (office_seen p) last.office (go 0 begin some).seen
+      (extends 0 begin some))
+
+  new_owns : IsOwned (standing_of begin)
+  new_owns = record { rise = tt; within = tt }
+
+  workers_serve : office_seen begin ≡ first.office → AllGo
+      → All (λ p. Extends (office_seen p) last.office) passes
+      → Distinct (flat_map (λ p. p.own) passes) → (o d : List A)
+      → WorksEach site begin o d passes
+      → WorkersServe site first.office last.office o d
+  workers_serve is go extends apart o d works = record {
+    start = begin;
+    begins = is;
+    none_own = refl;
+    none_failed = refl;
+    ends = passes;
+    works = works;
+    extended = extends;
+    owned = all_more (λ p. GoesOn begin p) (λ p. IsOwned (standing_of p)) passes
+        (λ p g. g.owned new_owns) go;
+    apart = apart;
+  }
+
+  pub served : (end : ServeEnd) (old new : Front A (Visit I O C)) (disk : D)
+      → IsWhole first.office → first.office.origin ≤ MAX_MINUTE → IsWhole last.office
+      → last.office.origin ≤ MAX_MINUTE → disk ≡ last.disk
+      → disks.All (StandsSettled last.office last.doubt) (images last.disk)
+      → length passes ≡ WORKERS → AllGo
+      → All (λ p. p.root ≡ (ledger_of faults last).root) passes
+      → All (λ p. Begins p.seen (ledger_of faults last).history) passes
+      → Distinct (flat_map (λ p. p.own) passes)
+      → EndsServing site (λ o d. WorksEach site begin o d passes) end old new
+      → IsServed images site first end old new disk
+  served end old new disk was_whole was_low whole low handed stands count go roots seen apart
+      ends =
+      let is = sees_first was_whole was_low in
+      let extends = extended whole low roots seen in
+      record {
+        last = last;
+        handed_back = handed;
+        grows = grows is (omega (arith, count)) go extends;
+        whole = whole;
+        stands = subst (λ (d : D). disks.All (StandsSettled last.office last.doubt) (images d))
+            (sym handed) stands;
+        ends = ends_more site (λ o d. WorksEach site begin o d passes)
+            (WorkersServe site first.office last.office)
+            (workers_serve is go extends apart) old new end ends;
+      }

@@ -1,0 +1,52 @@
+-- What a pass has seen grows through visits.
+use Rattle.std.proofs.Common.{◌≡◌, ℕ, List, [], ◌∷◌, refl, sym, subst}
+use Rattle.record_form.specs.declared.Outcome.{Outcome}
+use Rattle.record_form.specs.declared.Request.{Request}
+use Rattle.turn_desk.specs.Passes.{PassState}
+use Rattle.office_doors.specs.declared.Visit.{Visit}
+use Rattle.office_counter.specs.Laws.{Extends}
+use Rattle.office_counter.proofs.Steps.{extends_both, extends_still}
+use Rattle.wire_session.specs.Treats.{refusal_text}
+use Rattle.wire_session.proofs.Owning.{end_extends, end_owned}
+use Rattle.turn_counter.specs.Seen.{office_seen, standing_of}
+use Rattle.turn_counter.specs.Stepping.{turn_steps}
+use Rattle.turn_counter.specs.Turns.{TurnAsks}
+use Rattle.turn_counter.proofs.Staying.{end_stays, stays_both, stays_still}
+use Rattle.office_serving.specs.Visits.{Chain, Looks, Service, ServesVisit, scene_at}
+use Rattle.office_serving.specs.Workers.{GoesOn}
+
+pub goes_still : (p : PassState) → GoesOn p p
+goes_still p = record {
+  stays = stays_still p;
+  seen = extends_still (office_seen p);
+  owned = λ owned. owned;
+}
+
+pub goes_both : (a b c : PassState) → GoesOn a b → GoesOn b c → GoesOn a c
+goes_both a b c first second = record {
+  stays = stays_both a b c first.stays second.stays;
+  seen = extends_both (office_seen a) (office_seen b) (office_seen c) first.seen second.seen;
+  owned = λ owned. second.owned (first.owned owned);
+}
+
+module _ {D I O C : Type 0} (images : D → List ℕ → Type 0) (moment : D → ℕ)
+    (images_since : D → ℕ → List ℕ → Type 0) (faults : D → ℕ) (look : Looks I O C) where
+  visit_goes : (visit given : Visit I O C) (old new : PassState)
+      → ServesVisit (TurnAsks images moment images_since faults) look visit given old new
+      → GoesOn old new
+  visit_goes visit given old new serves = record {
+    stays = end_stays images moment images_since faults refusal_text serves.end
+        (scene_at look visit old) (scene_at look given new) serves.ends;
+    seen = end_extends (TurnAsks images moment images_since faults) standing_of
+        (turn_steps images moment images_since faults) serves.end (scene_at look visit old)
+        (scene_at look given new) serves.ends;
+    owned = end_owned (TurnAsks images moment images_since faults) standing_of
+        (turn_steps images moment images_since faults) serves.end (scene_at look visit old)
+        (scene_at look given new) serves.ends;
+  }
+
+  pub chain_goes : (old : PassState) (services : List (Service (Visit I O C))) (new : PassState)
+      → Chain (TurnAsks images moment images_since faults) look old services new → GoesOn old new
+  chain_goes old [] new chain = subst (λ (p : PassState). GoesOn old p) (sym chain) (goes_still old)
+  chain_goes old (s ∷ ss) new (mid, served, rest) =
+      goes_both old mid new (visit_goes s.visit s.given old mid served) (chain_goes mid ss new rest)

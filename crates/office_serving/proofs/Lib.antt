@@ -1,0 +1,7 @@
+pub mod Chains
+pub mod Closing
+pub mod Employing
+pub mod Endings
+pub mod Growing
+pub mod Lists
+pub mod Sending

@@ -1,0 +1,47 @@
+use Rattle.std.proofs.Common.{◌≤◌, rules}
+use Rattle.slo_limits.specs.declared.TheConstants.{MAX_MINUTE}
+use Rattle.turn_desk.specs.Passes.{newcomer}
+use Rattle.turn_counter.specs.Seen.{ledger_of}
+use Rattle.turn_counter.specs.Turns.{TurnAsks}
+use Rattle.office_serving.specs.Visits.{looks}
+use Rattle.office_serving.specs.Workers.{site}
+use Rattle.office_serving.proofs.Endings.{at_desk, not_served, served}
+use Rattle.office_serving.proofs.serving.serve.Goals as goal
+
+pub close_desk-office-requires-clause-desk : goal.close_desk-office-requires-clause-desk
+close_desk-office-requires-clause-desk g c =
+    let kept = ledger_of g.D.Disk.faults c.args.office in
+    let start = newcomer c.in-Ok.desk kept.root kept.history in
+    at_desk start c.serve_at-end.new.passes.items
+    (c.serve_at-end.ensures.goes_on start c.in-Ok.ensures.passes)
+
+pub returns-in-Ok-clause-served : goal.returns-in-Ok-clause-served
+returns-in-Ok-clause-served g c =
+    let D = g.D.Disk in
+    let A = g.S.One in
+    let s = site (TurnAsks D.images D.moment D.images_since D.faults)
+    (looks A.In.Source.left A.In.Source.faults A.Out.Sink.held A.Out.Sink.faults
+    A.Time.Clock.to_come) (λ d. A.Door.told d) (λ d. A.Door.faults d) in
+    let seen = c.what_a_pass_has_seen.ensures in
+    let was_low : c.args.office.office.origin ≤ MAX_MINUTE = search rules in
+    let low : c.close_desk-office.result.office.origin ≤ MAX_MINUTE = search rules in
+    let closed = c.close_desk-office.ensures in
+    let kept = ledger_of D.faults c.args.office in
+    let start = newcomer c.in-Ok.desk kept.root kept.history in
+    served seen.beginnings seen.all D.images D.faults s c.args.office c.close_desk-office.result
+    c.in-Ok.desk c.serve_at-end.new.passes.items c.serve_at-end.result _ _ c.into_disk.result
+    c.disk_stands.ensures.whole was_low c.disk_stands-in-Ok.ensures.whole low c.into_disk.ensures
+    c.disk_stands-in-Ok.ensures.stands c.serve_at-end.ensures.count
+    (c.serve_at-end.ensures.goes_on start c.in-Ok.ensures.passes) closed.root closed.seen closed.apart
+    (c.serve_at-end.ensures.ends start c.in-Ok.ensures.passes)
+
+pub returns-in-Err-clause-served : goal.returns-in-Err-clause-served
+returns-in-Err-clause-served g c =
+    let D = g.D.Disk in
+    let A = g.S.One in
+    let s = site (TurnAsks D.images D.moment D.images_since D.faults)
+    (looks A.In.Source.left A.In.Source.faults A.Out.Sink.held A.Out.Sink.faults
+    A.Time.Clock.to_come) (λ d. A.Door.told d) (λ d. A.Door.faults d) in
+    not_served D.images s c.args.office c.in-Err.office _ _ c.into_disk-in-Err.result
+    c.in-Err.ensures.err c.into_disk-in-Err.ensures c.disk_stands.ensures.whole
+    c.disk_stands.ensures.stands

@@ -1,0 +1,51 @@
+use Rattle.std.proofs.Common.{◌≡◌, ◌≤◌, ◌∙◌, sym, ap, subst, length, map, rules}
+use Rattle.std.specs.Prelude.{All}
+use Rattle.turn_counter.specs.Turns.{TurnAsks}
+use Rattle.office_doors.specs.Books.{Moves}
+use Rattle.office_serving.specs.Visits.{looks}
+use Rattle.office_serving.specs.Workers.{AreClosed, site}
+use Rattle.office_serving.specs.declared.visits.WorkEnd.TheVariants.{Done, DoorFault}
+use Rattle.office_serving.proofs.Employing.{all_faulty, paired, ran_workers}
+use Rattle.office_serving.proofs.Lists.{written}
+use Rattle.office_serving.proofs.workers.run_workers.Goals as goal
+
+pub returns-clause-ran : goal.returns-clause-ran
+returns-clause-ran g c = λ v begins.
+    let D = g.D.Disk in
+    let A = g.S.One in
+    let s = site (TurnAsks D.images D.moment D.images_since D.faults)
+    (looks A.In.Source.left A.In.Source.faults A.Out.Sink.held A.Out.Sink.faults
+    A.Time.Clock.to_come) (λ d. A.Door.told d) (λ d. A.Door.faults d) in
+    let ws = c.post.new.workers.items in
+    let behind = c.run_all.new.workers in
+    let same : c.post.new.workers.len ≡ length behind = search rules in
+    let whole = written c.post.new.workers.len behind _ same in
+    let pairs = paired s (λ w. w.counter) (λ w. w.door) (λ w. w.end) ws
+    c.as_mut_slice.result.now behind (search rules) c.run_all.ensures.same
+    c.run_all.ensures.worked in
+    ran_workers s (λ w. w.counter) (λ w. w.door) (λ w. w.end) v ws behind c.args.opened.items
+    c.dismiss.new.passes.items (g.S.Doors.told c.args.doors.now)
+    (g.S.Doors.told c.dismiss.new.doors) c.dismiss.result pairs (c.post.ensures.passes v begins)
+    c.post.ensures.doors (c.dismiss.ensures.passes ∙ ap (map (λ w. w.counter)) whole)
+    (λ yes. subst (All (λ w. w.end ≡ Done)) whole (c.dismiss.ensures.well yes))
+    (subst (λ l. Moves (AreClosed (map (λ w. w.door) l)) (g.S.Doors.told c.args.doors.now)
+    (g.S.Doors.told c.dismiss.new.doors)) whole c.dismiss.ensures.closed)
+
+pub returns-clause-cause : goal.returns-clause-cause
+returns-clause-cause g c = λ bad.
+    let D = g.D.Disk in
+    let A = g.S.One in
+    let s = site (TurnAsks D.images D.moment D.images_since D.faults)
+    (looks A.In.Source.left A.In.Source.faults A.Out.Sink.held A.Out.Sink.faults
+    A.Time.Clock.to_come) (λ d. A.Door.told d) (λ d. A.Door.faults d) in
+    let ws = c.post.new.workers.items in
+    let behind = c.run_all.new.workers in
+    let same : c.post.new.workers.len ≡ length behind = search rules in
+    let whole = written c.post.new.workers.len behind _ same in
+    let pairs = paired s (λ w. w.counter) (λ w. w.door) (λ w. w.end) ws
+    c.as_mut_slice.result.now behind (search rules) c.run_all.ensures.same
+    c.run_all.ensures.worked in
+    c.dismiss.ensures.cause bad
+    (subst (All (λ w. w.end ≡ DoorFault → 1 ≤ A.Door.faults w.door)) (sym whole)
+    (all_faulty s (λ w. w.counter) (λ w. w.door) (λ w. w.end) ws behind c.args.opened.items pairs
+    c.post.ensures.doors c.requires.quiet))

@@ -1,0 +1,96 @@
+-- How the serving of an office ends.
+use Rattle.std.specs.Prelude.{◌≡◌, ◌⊎◌, ℕ, ◌+◌, List, [], ◌++◌, length, flat_map, All, codes}
+use Rattle.std.specs.Prelude.{Option, is_some, true}
+use Rattle.office_outside.specs.Disk as disks
+use Rattle.office_outside.specs.Told.{Gained, GainedPrefix}
+use Rattle.office_doors.specs.Books.{Book, HasAllBack, IsFresh, Moves, Tells}
+use Rattle.office_doors.specs.Entrances.{Entrance, Stays, left_at}
+use Rattle.office_doors.specs.declared.Visit.{Visit}
+use Rattle.office_history.specs.History.{Office}
+use Rattle.office_counter.specs.Laws.{Extends}
+use Rattle.office_keep.specs.Files.{IsWhole}
+use Rattle.office_keep.specs.Office.{OfficeOn, StandsSettled}
+use Rattle.office_serving.specs.Visits.{HasEnded}
+use Rattle.office_serving.specs.Workers.{Site, WorkersServe}
+use Rattle.office_serving.specs.declared.serving.ServeEnd.{ServeEnd}
+use Rattle.office_serving.specs.declared.serving.ServeEnd.TheVariants.{Done, DoorsFault}
+use Rattle.office_serving.specs.declared.serving.ServeEnd.TheVariants.{NoMemory, WriteFault}
+use Rattle.office_serving.specs.declared.workers.TheConstants.{WORKERS}
+
+-- These doors were opened, with all visits that were held shared out among them, and closed again.
+pub record WereOpen {A V : Type 0} (told : A → Option (Book V)) (opened closed : List A)
+    (old new : Entrance A V) : Type 0 where
+  pub shared : old.held ≡ flat_map (λ d. left_at (told d)) opened
+  pub none_held : new.held ≡ []
+  pub count : new.opened ≡ old.opened + length opened
+  pub closed_are : new.closed ≡ old.closed ++ closed
+
+-- what the serving speaks to beside the office: what its doors tell, and what `ready` holds
+pub record Front (A V : Type 0) : Type 0 where
+  pub entrance : Option (Entrance A V)
+  pub held : Option (List ℕ)
+
+abbrev pub front : {A V : Type 0} → Option (Entrance A V) → Option (List ℕ) → Front A V
+front entrance held = record { entrance = entrance; held = held }
+
+-- the bytes that say that visitors may come
+abbrev pub ready_line : List ℕ
+ready_line = codes "ready\n"
+
+-- A door for each worker was opened just now; each tells where the doors together do.
+pub record AreOpened {A I O C : Type 0} (site : Site A I O C) (opened : List A)
+    (old : Option (Entrance A (Visit I O C))) : Type 0 where
+  pub count : length opened ≡ WORKERS
+  pub fresh : All (λ d. Tells IsFresh (site.told d)) opened
+  pub tell : Tells (λ _. All (λ d. is_some (site.told d) ≡ true) opened) old
+
+-- Doors were opened, `ready` was said, and then workers served them as `Serve` says. The doors were
+-- closed again, each when all visits that it had handed out had come back.
+pub record Ran {A I O C : Type 0} (site : Site A I O C) (Serve : List A → List A → Type 0)
+    (old new : Front A (Visit I O C)) : Type 0 where
+  pub opened : List A
+  pub closed : List A
+  pub are_opened : AreOpened site opened old.entrance
+  pub ready : Gained ready_line old.held new.held
+  pub serve : Serve opened closed
+  pub were_open : Moves (WereOpen site.told opened closed) old.entrance new.entrance
+  pub back : All (λ d. Tells HasAllBack (site.told d)) closed
+
+-- It ended well: each door has handed out all visits that it had.
+pub record RanToEnd {A I O C : Type 0} (site : Site A I O C) (Serve : List A → List A → Type 0)
+    (old new : Front A (Visit I O C)) : Type 0 where
+  pub ran : Ran site Serve old new
+  pub ended : All (λ d. Tells HasEnded (site.told d)) ran.closed
+
+-- No visit was taken: the doors that were opened are closed as they were.
+pub record SaidNotReady {A I O C : Type 0} (site : Site A I O C)
+    (old new : Front A (Visit I O C)) : Type 0 where
+  pub opened : List A
+  pub are_opened : AreOpened site opened old.entrance
+  pub part : GainedPrefix ready_line old.held new.held
+  pub were_open : Moves (WereOpen site.told opened opened) old.entrance new.entrance
+
+-- no door was opened
+pub record NoneOpened {A V : Type 0} (old new : Front A V) : Type 0 where
+  pub entrance : Moves Stays old.entrance new.entrance
+  pub held : new.held ≡ old.held
+
+-- what each end says
+abbrev pub EndsServing : {A I O C : Type 0} → Site A I O C → (List A → List A → Type 0)
+    → ServeEnd → Front A (Visit I O C) → Front A (Visit I O C) → Type 0
+EndsServing site Serve Done old new = RanToEnd site Serve old new
+EndsServing site Serve WriteFault old new = SaidNotReady site old new
+EndsServing site Serve DoorsFault old new = Ran site Serve old new ⊎ NoneOpened old new
+EndsServing site Serve NoMemory old new = NoneOpened old new
+
+-- An office was served, and its disk is handed back: the history extends the one that was handed
+-- in, and is legal. Each image of the disk stands for it, or for it with the one entry in doubt.
+pub record IsServed {D A I O C : Type 0} (images : D → List ℕ → Type 0) (site : Site A I O C)
+    (office : OfficeOn D) (end : ServeEnd) (old new : Front A (Visit I O C)) (disk : D) :
+    Type 0 where
+  pub last : OfficeOn D
+  pub handed_back : disk ≡ last.disk
+  pub grows : Extends office.office last.office
+  pub whole : IsWhole last.office
+  pub stands : disks.All (StandsSettled last.office last.doubt) (images disk)
+  pub ends : EndsServing site (WorkersServe site office.office last.office) end old new

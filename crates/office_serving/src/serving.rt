@@ -1,0 +1,149 @@
+//! The serving of an office over doors.
+ghost use Rattle.std.specs.Prelude.{◌≡◌, ◌≤◌, ◌⊎◌, Ok, Err, true, false, ℕ, All, length};
+ghost use Rattle.office_outside.specs.Faults.{Rose};
+ghost use Rattle.turn_desk.specs.Passes.{PassState};
+ghost use Rattle.turn_counter.specs.Turns.{TurnAsks};
+ghost use Rattle.office_doors.specs.Books.{IsFresh, Moves, Tells};
+ghost use Rattle.office_doors.specs.declared.DoorsFault.TheVariants.{Failed as DoorsFailed};
+ghost use Rattle.office_serving.specs.Visits.{looks};
+ghost use Rattle.office_serving.specs.Workers.{AreClosed, GoesOn, HasRoom, WorksEach, site};
+ghost use Rattle.office_serving.specs.Serving.{EndsServing, IsServed, front};
+
+use crate::ready::say_ready;
+use crate::workers::{WORKERS, run_workers};
+use office_doors::{Door, Doors, DoorsFault};
+use office_keep::Office;
+use office_outside::{Disk, Sink};
+use std::alloc::Global;
+use std::sync::Wait;
+use std::thread::Threads;
+use turn_counter::{DeskOffice, close_desk, open_desk, what_a_pass_has_seen};
+use turn_desk::{Desk, Pass};
+
+/// How the serving of an office ended.
+#[derive(Clone, Copy, Debug, Drop, PartialEq, Eq)]
+pub enum ServeEnd {
+    /// Each door had no more visits.
+    Done,
+    /// The count of faults of `ready` rose. No visit was taken.
+    WriteFault,
+    /// The doors' count of faults rose: they weren't opened, or one of them failed.
+    DoorsFault,
+    /// Memory was refused before a door was opened.
+    NoMemory,
+}
+
+/// How it ends where the doors aren't opened.
+fn end_of_fault(fault: DoorsFault) -> ServeEnd
+    ensures failed { result ≡ ServeEnd.DoorsFault → fault ≡ DoorsFailed }
+    ensures unopened { (result ≡ ServeEnd.DoorsFault) ⊎ (result ≡ ServeEnd.NoMemory) }
+{
+    match fault {
+        DoorsFault::Failed => ServeEnd::DoorsFault,
+        DoorsFault::NoMemory => ServeEnd::NoMemory,
+    }
+}
+
+/// How it ends where the workers ran.
+fn end_of_work(well: bool) -> ServeEnd
+    ensures yes { well ≡ true → result ≡ ServeEnd.Done }
+    ensures no { well ≡ false → result ≡ ServeEnd.DoorsFault }
+{
+    if well {
+        ServeEnd::Done
+    } else {
+        ServeEnd::DoorsFault
+    }
+}
+
+/// Closes doors at which nobody worked.
+fn shut<S: Doors>(opened: Vec<S::One>, doors: &mut S)
+    requires open { Tells (HasRoom (length opened.items)) (S.told doors.old) }
+    ensures closed { Moves (AreClosed opened.items) (S.told doors.old) (S.told doors.new) }
+{
+    for door in opened {
+        doors.close(door);
+    }
+}
+
+/// Serves visits at a desk, and leaves the passes where they were taken from.
+fn serve_at<R: Wait + Threads + Sync, D: Disk + Send + Drop, S: Doors, K: Sink>(
+    rt: &R,
+    alloc: Global,
+    desk: &Desk<DeskOffice<D>>,
+    passes: &mut Vec<Pass<DeskOffice<D>>>,
+    doors: &mut S,
+    port: u16,
+    ready: &mut K,
+) -> ServeEnd
+    requires desk { All (λ p. p.desk ≡ desk.now) passes.old.items }
+    requires count { length passes.old.items ≡ WORKERS }
+    ensures count { length passes.new.items ≡ WORKERS }
+    ensures goes_on { (v : PassState) → All (λ p. p ≡ v) passes.old.items
+        → All (λ p. GoesOn v p) passes.new.items }
+    ensures ends { (v : PassState) → All (λ p. p ≡ v) passes.old.items → EndsServing
+        (site (TurnAsks D.images D.moment D.images_since D.faults)
+        (looks S.One.In.left S.One.In.faults S.One.Out.held S.One.Out.faults S.One.Time.to_come)
+        (λ d. S.One.told d) (λ d. S.One.faults d))
+        (λ opened closed. WorksEach
+        (site (TurnAsks D.images D.moment D.images_since D.faults)
+        (looks S.One.In.left S.One.In.faults S.One.Out.held S.One.Out.faults S.One.Time.to_come)
+        (λ d. S.One.told d) (λ d. S.One.faults d)) v opened closed passes.new.items) result
+        (front (S.told doors.old) (K.held ready.old)) (front (S.told doors.new)
+        (K.held ready.new)) }
+    ensures write { result ≡ ServeEnd.WriteFault →
+        Rose (K.faults ready.old) (K.faults ready.new) }
+    ensures doors { result ≡ ServeEnd.DoorsFault →
+        Rose (S.faults doors.old) (S.faults doors.new) }
+{
+    let mut workers = Vec::new(alloc);
+    if workers.reserve(WORKERS as usize).is_err() {
+        return ServeEnd::NoMemory;
+    }
+    let opened = match doors.open(port, WORKERS as usize) {
+        Ok(opened) => opened,
+        Err(fault) => return end_of_fault(fault),
+    };
+    if say_ready(ready).is_err() {
+        shut(opened, doors);
+        return ServeEnd::WriteFault;
+    }
+    let well = run_workers(rt, alloc, desk, passes, opened, workers, doors);
+    end_of_work(well)
+}
+
+/// Serves an office to the visitors of four doors, by four workers that take turns, and hands its
+/// disk back. `ready` is told when the doors are open, before any visit is taken. The doors are
+/// closed one by one after all workers have ended.
+pub fn serve<R: Wait + Threads + Sync, D: Disk + Send + Drop, S: Doors, K: Sink>(
+    rt: &R,
+    alloc: Global,
+    office: Office<D>,
+    doors: &mut S,
+    port: u16,
+    ready: &mut K,
+) -> (ServeEnd, D)
+    ensures served { IsServed D.images (site (TurnAsks D.images D.moment D.images_since D.faults)
+        (looks S.One.In.left S.One.In.faults S.One.Out.held S.One.Out.faults S.One.Time.to_come)
+        (λ d. S.One.told d) (λ d. S.One.faults d)) office result.0
+        (front (S.told doors.old) (K.held ready.old)) (front (S.told doors.new)
+        (K.held ready.new)) result.1 }
+    ensures write { result.0 ≡ ServeEnd.WriteFault →
+        Rose (K.faults ready.old) (K.faults ready.new) }
+    ensures doors { result.0 ≡ ServeEnd.DoorsFault →
+        Rose (S.faults doors.old) (S.faults doors.new) }
+{
+    what_a_pass_has_seen();
+    office.disk_stands();
+    office.core().is_legal();
+    match open_desk(alloc, office, WORKERS) {
+        Ok((desk, mut passes)) => {
+            let end = serve_at(rt, alloc, &desk, &mut passes, doors, port, ready);
+            let office = close_desk(rt, desk, passes);
+            office.disk_stands();
+            office.core().is_legal();
+            (end, office.into_disk())
+        }
+        Err(office) => (ServeEnd::NoMemory, office.into_disk()),
+    }
+}

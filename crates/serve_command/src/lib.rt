@@ -1,0 +1,8 @@
+//! The command that serves a journal to many visitors at once.
+//! Stands on the office that keeps its history, and on the serving of an office over doors.
+//! Promises that what is served is the journal's history, and what the file holds at the end.
+#![tactic(auto)]
+
+mod serving;
+
+pub use serving::{ServerEnd, serve_journal};

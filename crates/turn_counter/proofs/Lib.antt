@@ -1,0 +1,6 @@
+pub mod Reading
+pub mod Sending
+pub mod Going
+pub mod Taking
+pub mod Holding
+pub mod Staying

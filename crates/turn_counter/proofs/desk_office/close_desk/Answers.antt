@@ -1,0 +1,11 @@
+use Rattle.std.proofs.Common.{All, sym, subst}
+use Rattle.turn_desk.specs.Histories.{Extends}
+use Rattle.office_keep.specs.Office.{OfficeOn}
+use Rattle.turn_counter.specs.Seen.{ledger_of}
+use Rattle.turn_counter.proofs.desk_office.close_desk.Goals as goal
+
+pub returns-clause-seen : goal.returns-clause-seen
+returns-clause-seen g c =
+    subst (λ (o : OfficeOn g.row.D.Denot).
+    All (λ p. Extends p.seen (ledger_of g.D.Disk.faults o).history) c.args.passes.items)
+    (sym c.result.view_is) c.close.ensures.seen

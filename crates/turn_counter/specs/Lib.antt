@@ -1,0 +1,4 @@
+pub mod Holding
+pub mod Seen
+pub mod Stepping
+pub mod Turns

@@ -1,0 +1,54 @@
+-- What one asking in a turn does.
+use Rattle.std.specs.Prelude.{◌≡◌, ℕ, ◌≤◌, List, Option}
+use Rattle.slo_limits.specs.declared.TheConstants.{MAX_MINUTE}
+use Rattle.turn_desk.specs.Ledgers.{has_risen}
+use Rattle.turn_desk.specs.Passes.{PassState, faults_after}
+use Rattle.office_outside.specs.Disk.{All, LeavesOnly}
+use Rattle.record_form.specs.declared.Outcome.{Outcome}
+use Rattle.record_form.specs.declared.Request.{Request}
+use Rattle.office_counter.specs.Laws.{Extends}
+use Rattle.office_keep.specs.Files.{IsWhole}
+use Rattle.office_keep.specs.Office.{IsBlamed, LeavesBy, OfficeOn, Performs, SettlesBy}
+use Rattle.office_keep.specs.Office.{StandsSettled}
+use Rattle.own_counter.specs.Own.{noted}
+use Rattle.turn_counter.specs.Seen.{office_seen}
+
+-- a request, and the reading of the clock for it
+pub record Asked : Type 0 where
+  pub reading : ℕ
+  pub request : Request
+
+-- What the office does in a turn, from the office that was taken out to the one that is put back:
+-- how the request ended, what a stop may leave before the turn, at each moment in it and after it,
+-- and when the disk is blamed.
+pub record Acts {D : Type 0} (images : D → List ℕ → Type 0) (moment : D → ℕ)
+    (images_since : D → ℕ → List ℕ → Type 0) (faults : D → ℕ) (old : OfficeOn D) (reading : ℕ)
+    (request : Request) (outcome : Outcome) (place : Option ℕ) (new : OfficeOn D) : Type 0 where
+  pub ended : Performs old reading request outcome place new
+  pub stood : All (StandsSettled old.office old.doubt) (images old.disk)
+  pub any_moment : LeavesOnly moment images_since old.disk new.disk
+      (LeavesBy old reading request new)
+  pub stands : All (StandsSettled new.office new.doubt) (images new.disk)
+  pub after_settling : SettlesBy moment images_since old reading request new
+  pub cause : IsBlamed (faults old.disk) (faults new.disk) outcome
+  pub origin : old.office.origin ≤ MAX_MINUTE
+  pub was_whole : IsWhole old.office
+  pub whole : IsWhole new.office
+
+-- One asking by a pass. The office that was taken out goes on from what the pass had seen, and the
+-- pass has then seen the office that was put back. The place of the entry that the request added
+-- joins the pass's own. The pass counts the turn as a fault exactly where the disk's count rose.
+pub record TurnAsks {D : Type 0} (images : D → List ℕ → Type 0) (moment : D → ℕ)
+    (images_since : D → ℕ → List ℕ → Type 0) (faults : D → ℕ) (old : PassState) (reading : ℕ)
+    (request : Request) (outcome : Outcome) (new : PassState) : Type 0 where
+  pub taken : OfficeOn D
+  pub put : OfficeOn D
+  pub place : Option ℕ
+  pub goes_on : Extends (office_seen old) taken.office
+  pub acts : Acts images moment images_since faults taken reading request outcome place put
+  pub seen : office_seen new ≡ put.office
+  pub own : new.own ≡ noted place old.own
+  pub counted : new.faults ≡ faults_after old.faults
+      (has_risen (faults taken.disk) (faults put.disk))
+  pub desk : new.desk ≡ old.desk
+  pub root : new.root ≡ old.root

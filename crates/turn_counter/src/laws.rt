@@ -1,0 +1,39 @@
+//! Laws of passes at an office's desk.
+ghost use Rattle.std.specs.Prelude.{ℕ, List};
+ghost use Rattle.office_session.specs.declared.SessionEnd.{SessionEnd};
+ghost use Rattle.office_session.specs.Sessions.{EndsSo, Scene, Trace, Turn};
+ghost use Rattle.turn_desk.specs.Passes.{PassState};
+ghost use Rattle.wire_session.specs.Treats.{Treats};
+ghost use Rattle.turn_counter.specs.Holding.{NewPassesSeeAll, OwnEntriesStay, PassesSeeBeginnings};
+ghost use Rattle.turn_counter.specs.Holding.{QueriesOwnNothing, StaysAtDesk};
+ghost use Rattle.turn_counter.specs.Turns.{TurnAsks};
+
+use office_outside::Disk;
+use record_form::an_entry_is_read_back;
+
+/// After each turn of a session, and when it has ended, the pass by which it asked is one of the
+/// same desk.
+pub fn a_pass_stays_at_its_desk<D: Disk + Drop>()
+    ensures turns { (count : ℕ) (old : PassState) (turns : List Turn) (new : PassState)
+        → Trace (Treats (TurnAsks D.images D.moment D.images_since D.faults)) count old turns new
+        → StaysAtDesk old new }
+    ensures end { (refusal : PassState → ℕ → List ℕ) (end : SessionEnd)
+        (old new : Scene PassState)
+        → EndsSo (Treats (TurnAsks D.images D.moment D.images_since D.faults)) refusal end old new
+        → StaysAtDesk old.handler new.handler }
+{}
+
+/// What a pass has seen of an office's records is the beginning of the office's history, and for a
+/// new pass all of it.
+pub fn what_a_pass_has_seen()
+    ensures beginnings { PassesSeeBeginnings }
+    ensures all { NewPassesSeeAll }
+{
+    an_entry_is_read_back();
+}
+
+/// The place of an own entry holds the very entry that the asking made, whatever others add later.
+pub fn an_own_entry_stays()
+    ensures changes { OwnEntriesStay }
+    ensures queries { QueriesOwnNothing }
+{}
