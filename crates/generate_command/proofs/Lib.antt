@@ -1,0 +1,5 @@
+mod Nowhere
+mod Plays
+mod Steps
+mod Seeing
+mod Sessions
