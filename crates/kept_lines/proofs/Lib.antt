@@ -1,0 +1,4 @@
+pub mod NearLemmas
+pub mod RunLemmas
+pub mod ForgetLemmas
+pub mod FollowingLemmas

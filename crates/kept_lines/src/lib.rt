@@ -1,0 +1,11 @@
+//! What the lines of alerts forget before the sums of their objective change.
+//! Stands on `alert_line` for lines, and on `kept_sums` for the slices that rows touch.
+//! Promises that a line agrees with the new sums, and that it forgets nothing else.
+#![tactic(auto)]
+
+mod batch;
+mod laws;
+mod run;
+
+pub use batch::forget_rows;
+pub use laws::{lines_agree_again, lines_follow_their_sums};

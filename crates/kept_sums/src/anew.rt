@@ -1,0 +1,41 @@
+//! The sums of an objective, made from the rows of the book.
+ghost use Rattle.std.specs.Prelude.{◌≡◌, ◌≤◌, IfOk, length};
+ghost use Rattle.std.specs.Int.{◌∣◌};
+ghost use Rattle.std.specs.List.{AllByRecursion};
+ghost use Rattle.slo_limits.specs.declared.TheConstants.{MAX_ACCEPTED_ROWS};
+ghost use Rattle.window_sums.specs.Slices.{width_of};
+ghost use Rattle.kept_sums.specs.Sums.{Fits, IsKept};
+
+use crate::counting::{NOTHING, row_at, row_counts};
+use crate::exchange::exchange;
+use office_history::Measure;
+use sample_book::SampleBook;
+use std::alloc::{AllocError, Global};
+use window_sums::WindowSums;
+
+/// The sums of an objective, from the rows of its indicator alone.
+///
+/// # Errors
+///
+/// Memory ran out.
+pub fn sums_over(
+    alloc: Global,
+    measure: &Measure,
+    book: &SampleBook,
+) -> Result<WindowSums, AllocError>
+    requires width { width_of measure.now.method ∣ 60 }
+    requires forms { AllByRecursion (Fits measure.now) book.now.rows }
+    requires few { length book.now.rows ≤ MAX_ACCEPTED_ROWS }
+    ensures { IfOk result (IsKept measure.now book.now.exclusions book.now.rows) }
+{
+    let mut sums = WindowSums::new(alloc, measure.method);
+    let mut next = book.last_row(measure.sli);
+    while let Some(place) = next {
+        let row = row_at(book, place);
+        sums.reserve(row.minute)?;
+        let counts = row_counts(measure, book, &row);
+        exchange(&mut sums, row.minute, NOTHING, counts);
+        next = book.row_before(place);
+    }
+    Ok(sums)
+}

@@ -1,0 +1,91 @@
+// What rows count for in an objective.
+ghost use Rattle.std.specs.Prelude.{◌≡◌, ◌<◌, Some, length, slice_get, true};
+ghost use Rattle.sample_book.specs.Exclusions.{excludes};
+ghost use Rattle.sample_book.specs.History.{is_put as is_put_lem};
+ghost use Rattle.kept_sums.specs.Replacing.{FitsReplaced, moves as moves_lem};
+ghost use Rattle.kept_sums.specs.Replacing.{replaced_counts as replaced_counts_lem};
+ghost use Rattle.kept_sums.specs.Sums.{Fits, row_counts as row_counts_lem};
+ghost use Rattle.kept_sums.specs.Walks.{made_on};
+
+use exact_fraction::Label;
+use office_history::Measure;
+use sample_book::{Exclusion, Row, RowVerdict, SampleBook};
+use slice_method::{Counts, counts_of};
+
+pub(crate) const NOTHING: Counts = Counts { good: 0, total: 0 };
+
+// The row at a place of the book.
+pub(crate) fn row_at(book: &SampleBook, place: u32) -> Row
+    requires { place < length book.now.rows }
+    ensures { slice_get book.now.rows place ≡ Some result }
+{
+    match book.row_at(place) {
+        Some(row) => row,
+        None => unreachable!(),
+    }
+}
+
+// What a row counts for in an objective.
+pub(crate) fn row_counts(measure: &Measure, book: &SampleBook, row: &Row) -> Counts
+    requires { Fits measure.now row.now }
+    ensures { result ≡ row_counts_lem measure.now book.now.exclusions row.now }
+{
+    if row.sli == measure.sli && !book.is_excluded(measure.slo, row.minute) {
+        counts_of(measure.reading, measure.op, measure.value, row.amount)
+    } else {
+        NOTHING
+    }
+}
+
+// What the row counts for whose place another takes.
+pub(crate) fn replaced_counts(measure: &Measure, book: &SampleBook, verdict: &RowVerdict) -> Counts
+    requires { FitsReplaced measure.now verdict.now }
+    ensures { result ≡ replaced_counts_lem measure.now book.now.exclusions verdict.now }
+{
+    match verdict {
+        RowVerdict::Newer(kept) => row_counts(measure, book, kept),
+        _ => NOTHING,
+    }
+}
+
+fn is_put(verdict: &RowVerdict) -> bool
+    ensures { result ≡ is_put_lem verdict.now }
+{
+    match verdict {
+        RowVerdict::New => true,
+        RowVerdict::Newer(_) => true,
+        _ => false,
+    }
+}
+
+/// Whether a row is of the objective's indicator and is put, where this becomes of it.
+pub fn moves(measure: &Measure, row: &Row, verdict: &RowVerdict) -> bool
+    ensures { result ≡ moves_lem measure.now row.now verdict.now }
+{
+    row.sli == measure.sli && is_put(verdict)
+}
+
+// Whether an exclusion takes this minute from an objective of an SLO.
+fn takes(value: &Exclusion, slo: Label, minute: u32) -> bool
+    ensures { result ≡ excludes slo minute (value.now, true) }
+{
+    value.slo == slo && value.from <= minute && minute < value.to
+}
+
+// What a row counts for with an exclusion beside those of the book, or without it.
+pub(crate) fn counts_on(
+    measure: &Measure,
+    book: &SampleBook,
+    value: &Exclusion,
+    taken: bool,
+    row: &Row,
+) -> Counts
+    requires { Fits measure.now row.now }
+    ensures { result
+        ≡ row_counts_lem measure.now (made_on book.now.exclusions value.now taken) row.now }
+{
+    if taken && takes(value, measure.slo, row.minute) {
+        return NOTHING;
+    }
+    row_counts(measure, book, row)
+}

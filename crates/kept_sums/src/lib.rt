@@ -1,0 +1,17 @@
+//! The sums of each objective, kept while rows and exclusions come.
+//! Stands on `window_sums` for sums, `sample_book` for rows, `office_history` for what is measured.
+//! Promises that the counts of each slice stay those of the rows that are current.
+#![tactic(auto)]
+
+mod anew;
+mod batch;
+mod counting;
+mod exchange;
+mod laws;
+mod range;
+
+pub use anew::sums_over;
+pub use batch::{follow_rows, reserve_rows};
+pub use counting::moves;
+pub use laws::kept_counts_are_those_of_the_minutes;
+pub use range::follow_exclusion;
