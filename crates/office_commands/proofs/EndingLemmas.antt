@@ -3,7 +3,7 @@ use Rattle.std.proofs.Common.{◌≡◌, ℕ, List, arith, refl, inl, inr}
 use Rattle.std.specs.Prelude.{Option, Some, Ok, Err}
 use Rattle.office_commands.specs.Answer.{Answers}
 use Rattle.office_commands.specs.Runs.{IsStatus, Settled, TellsRefusal}
-use Rattle.office_commands.specs.declared.command.Command.{Command}
+use Rattle.command_words.specs.declared.Command.{Command}
 use Rattle.office_commands.specs.declared.ending.RunRefusal.{RunRefusal}
 use Rattle.office_commands.specs.declared.ending.Ending.{Ending}
 use Rattle.office_commands.specs.declared.ending.Ending.TheVariants.{Done, Usage, ReadFault}

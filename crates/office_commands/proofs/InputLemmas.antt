@@ -4,7 +4,7 @@ use Rattle.std.proofs.Common.{◌∙◌, append_assoc, length-append}
 use Rattle.std.specs.declared.option.Option.{Option}
 use Rattle.std.proofs.lemmas.List.{length-take}
 use Rattle.office_outside.specs.Told.{Lost}
-use Rattle.office_commands.specs.Inputs.{TakesAtMost}
+use Rattle.budget_command.specs.Input.{TakesAtMost}
 
 pub lost_more : (a b : List ℕ) (x y z : Option (List ℕ)) → Lost a x y → Lost b y z →
     Lost (a ++ b) x z

@@ -1,4 +1,5 @@
 pub mod InputLemmas
+pub mod AnswerLemmas
 pub mod EndingLemmas
 pub mod WorldLemmas
 pub mod StatusLemmas

@@ -1,4 +1,4 @@
--- What the statuses of `init`, `pipe` and `report` say.
+-- What the statuses of `generate`, `init`, `pipe` and `report` say.
 use Rattle.std.proofs.Common.{◌≡◌, ◌<◌, ◌≤◌, ℕ, List, arith, inl, inr}
 use Rattle.std.specs.Prelude.{Option, Some}
 use Rattle.office_outside.specs.Told.{Gained}
@@ -13,10 +13,25 @@ use Rattle.journal_commands.specs.declared.PipeEnd.{PipeEnd}
 use Rattle.journal_commands.specs.declared.PipeEnd.TheVariants as pipe
 use Rattle.journal_commands.specs.declared.ReportEnd.{ReportEnd}
 use Rattle.journal_commands.specs.declared.ReportEnd.TheVariants as report
+use Rattle.office_commands.specs.Generate.{EndsGenerating, PrintsSummary, SettledGenerate}
 use Rattle.office_commands.specs.Init.{SettledInit}
 use Rattle.office_commands.specs.Pipe.{SettledPipe, SettledSession}
 use Rattle.office_commands.specs.Report.{SettledReport}
 use Rattle.office_commands.specs.declared.ending.TheConstants.{BAD_FILE, DONE, REFUSED}
+use Rattle.office_commands.specs.declared.generate.GenerateEnd.{GenerateEnd}
+use Rattle.office_commands.specs.declared.generate.GenerateEnd.TheVariants as generate
+
+pub generate_done : (number status : ℕ) (end : GenerateEnd) (said said_after : Option (List ℕ))
+    (told told_after : ℕ) (held held_after : Option (List ℕ)) (writes writes_after : ℕ) →
+    SettledGenerate end status said said_after told told_after →
+    EndsGenerating number end held held_after writes writes_after → status ≡ DONE →
+    PrintsSummary Gained number held held_after
+generate_done number status generate.Done said said_after told told_after held held_after writes
+    writes_after s ends e = ends
+generate_done number status generate.WriteFault said said_after told told_after held held_after
+    writes writes_after s ends e = absurd (omega (arith, s.0, e))
+generate_done number status generate.NoMemory said said_after told told_after held held_after
+    writes writes_after s ends e = absurd (omega (arith, s.0, e))
 
 module _ {D : Type 0} (content : D → Option (List ℕ)) (images : D → List ℕ → Type 0)
     (moment : D → ℕ) (since : D → ℕ → List ℕ → Type 0) (status origin reading : ℕ)

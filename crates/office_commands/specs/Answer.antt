@@ -2,8 +2,8 @@
 use Rattle.std.specs.Prelude.{◌≡◌, ℕ, List, Option, Some, None, Result, Ok, Err, ⊤}
 use Rattle.budget_command.specs.Answer.{IsBudgetAnswer}
 use Rattle.check_command.specs.Answer.{IsCheckAnswer}
-use Rattle.office_commands.specs.declared.command.Command.{Command}
-use Rattle.office_commands.specs.declared.command.Command.TheVariants.{Budget, Check}
+use Rattle.command_words.specs.declared.Command.{Command}
+use Rattle.command_words.specs.declared.Command.TheVariants.{Budget, Check}
 use Rattle.office_commands.specs.declared.ending.RunRefusal.{RunRefusal}
 use Rattle.office_commands.specs.declared.ending.RunRefusal.TheVariants as refusals
 

@@ -1,8 +1,6 @@
 -- The line for each ending on the faults sink.
 use Rattle.std.specs.Prelude.{ℕ, List, [], ◌++◌, codes, ◌==◌, if◌then◌else◌}
 use Rattle.budget_command.specs.Words as budget
-use Rattle.budget_command.specs.declared.BudgetError.{BudgetError}
-use Rattle.budget_command.specs.declared.BudgetError.TheVariants as budget_error
 use Rattle.check_command.specs.Words as check
 use Rattle.check_command.specs.declared.CheckError.{CheckError}
 use Rattle.check_command.specs.declared.CheckError.TheVariants as check_error
@@ -11,13 +9,9 @@ use Rattle.office_commands.specs.declared.ending.Stop.TheVariants as stops
 use Rattle.office_commands.specs.declared.ending.RunRefusal.{RunRefusal}
 use Rattle.office_commands.specs.declared.ending.RunRefusal.TheVariants.{Budget, Check}
 use Rattle.office_commands.specs.declared.ending.TheConstants.{USAGE, DISK_FAULT, READ_FAULT}
-use Rattle.office_commands.specs.declared.ending.TheConstants.{WRITE_FAULT, NO_MEMORY}
+use Rattle.office_commands.specs.declared.ending.TheConstants.{DOORS_FAULT, WRITE_FAULT, NO_MEMORY}
 
 -- a command's error as the stop of a run
-abbrev pub stop_of_budget : BudgetError → Stop
-stop_of_budget (budget_error.Fault fault) = stops.Refused (Budget fault)
-stop_of_budget budget_error.NoMemory = stops.NoMemory
-
 abbrev pub stop_of_check : CheckError → Stop
 stop_of_check (check_error.Fault refusal) = stops.Refused (Check refusal)
 stop_of_check check_error.NoMemory = stops.NoMemory
@@ -39,4 +33,5 @@ line_of_status status =
     else if status == READ_FAULT then codes "slo_office: read fault\n"
     else if status == WRITE_FAULT then codes "slo_office: write fault\n"
     else if status == NO_MEMORY then codes "slo_office: no memory\n"
+    else if status == DOORS_FAULT then codes "slo_office: doors fault\n"
     else []

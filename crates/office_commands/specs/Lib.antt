@@ -3,7 +3,9 @@ pub mod Inputs
 pub mod Endings
 pub mod Answer
 pub mod Runs
+pub mod Generate
 pub mod Init
 pub mod Pipe
 pub mod Report
 pub mod Worlds
+pub mod Serve

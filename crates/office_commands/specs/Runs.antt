@@ -7,7 +7,7 @@ use Rattle.office_commands.specs.Endings.{line_of_status, refusal_line_of}
 use Rattle.office_commands.specs.declared.ending.Ending.{Ending}
 use Rattle.office_commands.specs.declared.ending.Ending.TheVariants.{Done, Usage, ReadFault}
 use Rattle.office_commands.specs.declared.ending.Ending.TheVariants.{WriteFault, NoMemory, Refused}
-use Rattle.office_commands.specs.declared.command.Command.{Command}
+use Rattle.command_words.specs.declared.Command.{Command}
 use Rattle.office_commands.specs.declared.ending.RunRefusal.{RunRefusal}
 use Rattle.office_commands.specs.declared.ending.TheConstants.{DONE, USAGE, READ_FAULT}
 use Rattle.office_commands.specs.declared.ending.TheConstants.{WRITE_FAULT, NO_MEMORY, REFUSED}

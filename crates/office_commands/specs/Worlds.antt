@@ -1,7 +1,8 @@
 -- What a run does to all that it speaks to, by what its words ask for.
-use Rattle.std.specs.Prelude.{◌≡◌, ◌≢◌, ℕ, List, Option, Some, None}
+use Rattle.std.specs.Prelude.{◌≡◌, ◌≢◌, ◌⊎◌, ℕ, List, Option, Some, None}
 use Rattle.office_outside.specs.Faults.{Rose}
 use Rattle.office_outside.specs.Told.{HasNothingLeft}
+use Rattle.budget_command.specs.Input.{TakesAtMost}
 use Rattle.journal_commands.specs.Making.{Makes, bench}
 use Rattle.journal_commands.specs.Reporting.{Reports}
 use Rattle.journal_commands.specs.Serving.{EndsServing, outside}
@@ -10,16 +11,17 @@ use Rattle.journal_commands.specs.declared.PipeEnd.{PipeEnd}
 use Rattle.journal_commands.specs.declared.ReportEnd.{ReportEnd}
 use Rattle.office_commands.specs.Commands.{most_taken}
 use Rattle.office_commands.specs.Endings.{line_of_status}
+use Rattle.office_commands.specs.Generate.{EndsGenerating, SettledGenerate}
 use Rattle.office_commands.specs.Init.{SettledInit}
-use Rattle.office_commands.specs.Inputs.{TakesAtMost}
 use Rattle.office_commands.specs.Pipe.{SettledPipe}
 use Rattle.office_commands.specs.Report.{SettledReport}
 use Rattle.office_commands.specs.Runs.{IsStatus, Prints, PrintsPart, Tells, TellsRefusal}
-use Rattle.office_commands.specs.declared.command.Asked.{Asked}
-use Rattle.office_commands.specs.declared.command.Asked.TheVariants.{Answer, Init, Pipe, Report}
-use Rattle.office_commands.specs.declared.command.Command.{Command}
+use Rattle.command_words.specs.declared.Asked.{Asked}
+use Rattle.command_words.specs.declared.Asked.TheVariants.{Answer, Generate, Init, Pipe, Report, Serve}
+use Rattle.command_words.specs.declared.Command.{Command}
 use Rattle.office_commands.specs.declared.ending.TheConstants.{DONE, USAGE, READ_FAULT}
-use Rattle.office_commands.specs.declared.ending.TheConstants.{WRITE_FAULT, REFUSED}
+use Rattle.office_commands.specs.declared.ending.TheConstants.{WRITE_FAULT, NO_MEMORY, REFUSED}
+use Rattle.office_commands.specs.declared.generate.GenerateEnd.{GenerateEnd}
 
 -- All that a run speaks to, at one moment: the bytes that its input has left, what its output and
 -- its faults sink hold, how often each of these has failed, its clock's readings to come, and its
@@ -64,6 +66,12 @@ pub record RunsNothing {D : Type 0} (status : ℕ) (before after : World D) : Ty
   pub told : SaysLine (line_of_status USAGE) before after
   pub still : IsStill before after
 
+-- Memory ran out while the words were read.
+pub record RunsOutOfMemory {D : Type 0} (status : ℕ) (before after : World D) : Type 0 where
+  pub status_is : status ≡ NO_MEMORY
+  pub told : SaysLine (line_of_status NO_MEMORY) before after
+  pub still : IsStill before after
+
 -- A run of a command that is answered from the bytes of its input. Neither the clock nor the disk
 -- is touched.
 pub record RunsAnswer {D : Type 0} (command : Command) (status : ℕ) (before after : World D) :
@@ -86,6 +94,17 @@ pub record RunsAnswer {D : Type 0} (command : Command) (status : ℕ) (before af
   pub quiet : status ≢ DONE → status ≢ WRITE_FAULT → after.held ≡ before.held
   pub takes : TakesAtMost (most_taken (Some command)) before.left after.left
   -- the clock and the disk are as they were
+  pub unread : after.to_come ≡ before.to_come
+  pub untouched : after.disk ≡ before.disk
+
+-- A run of `generate`, by how the printing of the summary ended. Neither the input nor the clock nor
+-- the disk is touched.
+pub record RunsGenerate {D : Type 0} (number status : ℕ) (before after : World D) : Type 0 where
+  pub end : GenerateEnd
+  pub settled : SettledGenerate end status before.said after.said before.tellings after.tellings
+  pub generates :
+      EndsGenerating number end before.held after.held before.writes after.writes
+  pub untaken : after.left ≡ before.left
   pub unread : after.to_come ≡ before.to_come
   pub untouched : after.disk ≡ before.disk
 
@@ -119,23 +138,52 @@ pub record RunsReport {D : Type 0} (content : D → Option (List ℕ)) (images :
       (bench before.disk before.to_come before.held) (bench after.disk after.to_come after.held)
   pub untaken : after.left ≡ before.left
 
--- What a run does, by what its words ask for.
+-- A run of `serve` neither reads its input nor its clock: visits have their own. What it does to
+-- the doors, the output and the disk is said by `RunsServe`.
+pub record IsUnheard {D : Type 0} (before after : World D) : Type 0 where
+  pub left : after.left ≡ before.left
+  pub to_come : after.to_come ≡ before.to_come
+
+-- What a run does that has read its words, by what they ask for.
+abbrev pub Does : {D : Type 0} → (D → Option (List ℕ)) → (D → List ℕ → Type 0) → (D → ℕ) →
+    (D → ℕ → List ℕ → Type 0) → (D → ℕ) → Option Asked → ℕ → World D → World D → Type 0
+Does content images moment since faults None status before after = RunsNothing status before after
+Does content images moment since faults (Some (Answer command)) status before after =
+    RunsAnswer command status before after
+Does content images moment since faults (Some (Generate number)) status before after =
+    RunsGenerate number status before after
+Does content images moment since faults (Some (Init origin)) status before after =
+    RunsInit content images moment since origin status before after
+Does content images moment since faults (Some Pipe) status before after =
+    RunsPipe content images moment since faults status before after
+Does content images moment since faults (Some (Report at)) status before after =
+    RunsReport content images moment since at status before after
+Does content images moment since faults (Some (Serve port)) status before after =
+    IsUnheard before after
+
+-- What a run does: what its words ask for, or memory ran out while they were read.
 abbrev pub Runs : {D : Type 0} → (D → Option (List ℕ)) → (D → List ℕ → Type 0) → (D → ℕ) →
     (D → ℕ → List ℕ → Type 0) → (D → ℕ) → Option Asked → ℕ → World D → World D → Type 0
-Runs content images moment since faults None status before after = RunsNothing status before after
-Runs content images moment since faults (Some (Answer command)) status before after =
-    RunsAnswer command status before after
-Runs content images moment since faults (Some (Init origin)) status before after =
-    RunsInit content images moment since origin status before after
-Runs content images moment since faults (Some Pipe) status before after =
-    RunsPipe content images moment since faults status before after
-Runs content images moment since faults (Some (Report at)) status before after =
-    RunsReport content images moment since at status before after
+Runs content images moment since faults asked status before after =
+    RunsOutOfMemory status before after
+    ⊎ Does content images moment since faults asked status before after
 
 -- The clock and the disk belong to `init`, `pipe` and `report`.
 abbrev pub IsOffDisk : Option Asked → Type 0
 IsOffDisk None = Unit {0}
 IsOffDisk (Some (Answer command)) = Unit {0}
+IsOffDisk (Some (Generate number)) = Unit {0}
 IsOffDisk (Some (Init origin)) = ⊥
 IsOffDisk (Some Pipe) = ⊥
 IsOffDisk (Some (Report at)) = ⊥
+IsOffDisk (Some (Serve port)) = ⊥
+
+-- The doors belong to `serve`.
+abbrev pub IsOffDoors : Option Asked → Type 0
+IsOffDoors None = Unit {0}
+IsOffDoors (Some (Answer command)) = Unit {0}
+IsOffDoors (Some (Generate number)) = Unit {0}
+IsOffDoors (Some (Init origin)) = Unit {0}
+IsOffDoors (Some Pipe) = Unit {0}
+IsOffDoors (Some (Report at)) = Unit {0}
+IsOffDoors (Some (Serve port)) = ⊥

@@ -4,49 +4,73 @@ ghost use Rattle.std.specs.Prelude.{OnOk, length, string_bytes};
 ghost use Rattle.office_outside.specs.Faults.{Rose};
 ghost use Rattle.office_outside.specs.Told.{Gained, GainedPrefix, HasNothingLeft};
 ghost use Rattle.office_commands.specs.Answer.{Answers, IsAnswer};
-ghost use Rattle.office_commands.specs.Commands.{IsSound, most_bytes, most_taken};
+ghost use Rattle.command_words.specs.Commands.{IsSound};
+ghost use Rattle.office_commands.specs.Commands.{most_bytes, most_taken};
 ghost use Rattle.office_commands.specs.Endings.{line_of_status};
-ghost use Rattle.office_commands.specs.Inputs.{HasMore, TakesAtMost};
+ghost use Rattle.budget_command.specs.Input.{TakesAtMost};
 ghost use Rattle.office_commands.specs.Runs.{IsStatus, Prints, PrintsPart, Tells, TellsRefusal};
 
-use crate::command::Command;
 use crate::ending::{
     DISK_FAULT, DONE, Ending, READ_FAULT, REFUSED, RunRefusal, Stop, USAGE, WRITE_FAULT,
 };
 use crate::input::{InputFault, read_input};
 use crate::telling::settle;
-use budget_command::{BudgetFault, answer_budget};
+use budget_command::{BudgetError, BudgetOrder, MAX_INPUT_BYTES, answer_budget};
 use check_command::{answer_check, too_large_text};
+use command_words::Command;
 use office_outside::{Sink, Source, write_whole};
+use slo_limits::MAX_TEXT_BYTES;
 use std::alloc::Global;
 
-/// The lines for the bytes of an input.
-fn answer_bytes(alloc: Global, command: Command, bytes: &[u8]) -> Result<String, Stop>
-    requires few { length bytes.now ≤ most_bytes command }
-    requires sound { IsSound command }
-    ensures ok { IfOk result (λ text. IsAnswer command bytes.now (Ok (string_bytes text))) }
+/// The lines of `budget` for an input, which is judged while it is read.
+fn budget_input<S: Source>(alloc: Global, order: BudgetOrder, input: &mut S) -> Result<String, Stop>
+    requires { IsSound (Command.Budget order) }
+    ensures ok { IfOk result (λ text.
+        Answers (Command.Budget order) (S.left input.old) (Ok (string_bytes text))) }
     ensures refused { (refusal : RunRefusal) → result ≡ Err (Stop.Refused refusal) →
-        IsAnswer command bytes.now (Err refusal) }
-    ensures unread { result ≢ Err Stop.ReadFault }
+        Answers (Command.Budget order) (S.left input.old) (Err refusal) }
+    ensures read { result ≡ Err Stop.ReadFault → Rose (S.faults input.old) (S.faults input.new) }
+    ensures end { OnOk result (HasNothingLeft (S.left input.new)) }
+    ensures later { S.faults input.old ≤ S.faults input.new }
+    ensures takes { TakesAtMost (MAX_INPUT_BYTES + 1) (S.left input.old) (S.left input.new) }
 {
-    match command {
-        Command::Budget(order) => Ok(answer_budget(alloc, order, bytes)?),
-        Command::Check => Ok(answer_check(alloc, bytes)?),
+    match answer_budget(alloc, order, input) {
+        Ok(text) => Ok(text),
+        Err(BudgetError::Fault(fault)) => Err(Stop::Refused(RunRefusal::Budget(fault))),
+        Err(BudgetError::ReadFault) => Err(Stop::ReadFault),
+        Err(BudgetError::NoMemory) => Err(Stop::NoMemory),
     }
 }
 
-/// The refusal of an input of more bytes than the command takes.
-fn too_large(command: Command) -> RunRefusal
-    ensures { (bytes : List ℕ) → most_bytes command < length bytes →
-        IsAnswer command bytes (Err result) }
+/// The refusal of an input of more bytes than `check` takes.
+fn too_large() -> RunRefusal
+    ensures { (bytes : List ℕ) → MAX_TEXT_BYTES < length bytes →
+        IsAnswer Command.Check bytes (Err result) }
 {
-    match command {
-        Command::Budget(_) => RunRefusal::Budget(BudgetFault::TooLarge),
-        Command::Check => RunRefusal::Check(too_large_text()),
-    }
+    RunRefusal::Check(too_large_text())
 }
 
-/// The lines for an input, which is read to its end.
+/// The lines of `check` for an input, which is read to its end before it is judged.
+fn check_input<S: Source>(alloc: Global, input: &mut S) -> Result<String, Stop>
+    ensures ok { IfOk result (λ text.
+        Answers Command.Check (S.left input.old) (Ok (string_bytes text))) }
+    ensures refused { (refusal : RunRefusal) → result ≡ Err (Stop.Refused refusal) →
+        Answers Command.Check (S.left input.old) (Err refusal) }
+    ensures read { result ≡ Err Stop.ReadFault → Rose (S.faults input.old) (S.faults input.new) }
+    ensures end { OnOk result (HasNothingLeft (S.left input.new)) }
+    ensures later { S.faults input.old ≤ S.faults input.new }
+    ensures takes { TakesAtMost (MAX_TEXT_BYTES + 1) (S.left input.old) (S.left input.new) }
+{
+    let bytes = match read_input(alloc, input, MAX_TEXT_BYTES) {
+        Ok(bytes) => bytes,
+        Err(InputFault::TooLarge) => return Err(Stop::Refused(too_large())),
+        Err(InputFault::ReadFault) => return Err(Stop::ReadFault),
+        Err(InputFault::NoMemory) => return Err(Stop::NoMemory),
+    };
+    Ok(answer_check(alloc, &bytes)?)
+}
+
+/// The lines for an input, of which the command takes no more than it may have.
 fn answer_input<S: Source>(alloc: Global, command: Command, input: &mut S) -> Result<String, Stop>
     requires { IsSound command }
     ensures ok { IfOk result (λ text. Answers command (S.left input.old) (Ok (string_bytes text))) }
@@ -57,17 +81,14 @@ fn answer_input<S: Source>(alloc: Global, command: Command, input: &mut S) -> Re
     ensures later { S.faults input.old ≤ S.faults input.new }
     ensures takes { TakesAtMost (most_bytes command + 1) (S.left input.old) (S.left input.new) }
 {
-    let bytes = match read_input(alloc, input, command.most_bytes()) {
-        Ok(bytes) => bytes,
-        Err(InputFault::TooLarge) => return Err(Stop::Refused(too_large(command))),
-        Err(InputFault::ReadFault) => return Err(Stop::ReadFault),
-        Err(InputFault::NoMemory) => return Err(Stop::NoMemory),
-    };
-    answer_bytes(alloc, command, &bytes)
+    match command {
+        Command::Budget(order) => budget_input(alloc, order, input),
+        Command::Check => check_input(alloc, input),
+    }
 }
 
 /// Writes all lines, and then passes them on.
-fn write_lines<K: Sink>(output: &mut K, text: &str) -> Ending
+pub fn write_lines<K: Sink>(output: &mut K, text: &str) -> Ending
     ensures done { result ≡ Ending.Done → Gained text.now (K.held output.old) (K.held output.new) }
     ensures part { result ≡ Ending.WriteFault →
         GainedPrefix text.now (K.held output.old) (K.held output.new) }

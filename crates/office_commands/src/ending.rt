@@ -2,7 +2,7 @@
 ghost use Rattle.std.specs.Prelude.{◌≡◌, IfOk, string_bytes};
 ghost use Rattle.office_commands.specs.Endings.{line_of_status, refusal_line_of, refusal_words_of};
 
-use budget_command::{BudgetError, BudgetFault, budget_words};
+use budget_command::{BudgetFault, budget_words};
 use check_command::{CheckError, check_words};
 use record_form::Refusal;
 use std::alloc::{AllocError, Global};
@@ -28,6 +28,9 @@ pub const WRITE_FAULT: u8 = 6;
 /// Memory ran out.
 pub const NO_MEMORY: u8 = 7;
 
+/// The doors couldn't be opened, or one of them failed.
+pub const DOORS_FAULT: u8 = 8;
+
 /// The input is refused, for the reason that the line says.
 pub const REFUSED: u8 = 9;
 
@@ -44,20 +47,6 @@ pub enum Stop {
     Refused(RunRefusal),
     ReadFault,
     NoMemory,
-}
-
-impl From<BudgetError> for Stop {
-    ghost use Rattle.std.specs.Prelude.{◌≡◌};
-    ghost use Rattle.office_commands.specs.Endings.{stop_of_budget};
-
-    ghost from_gives = { λ error stop. stop ≡ stop_of_budget error };
-
-    fn from(error: BudgetError) -> Stop {
-        match error {
-            BudgetError::Fault(fault) => Stop::Refused(RunRefusal::Budget(fault)),
-            BudgetError::NoMemory => Stop::NoMemory,
-        }
-    }
 }
 
 impl From<CheckError> for Stop {
@@ -113,6 +102,7 @@ pub fn status_line(status: u8) -> &'static str
         READ_FAULT => "slo_office: read fault\n",
         WRITE_FAULT => "slo_office: write fault\n",
         NO_MEMORY => "slo_office: no memory\n",
+        DOORS_FAULT => "slo_office: doors fault\n",
         _ => "",
     }
 }

@@ -1,7 +1,8 @@
 //! The input of a command, read to its end.
 ghost use Rattle.std.specs.Prelude.{◌≡◌, ◌+◌, ◌≤◌, ◌<◌, length, IfOk};
 ghost use Rattle.office_outside.specs.Faults.{HasCause, Rose};
-ghost use Rattle.office_commands.specs.Inputs.{TakesAtMost, HasRead, HasMore};
+ghost use Rattle.budget_command.specs.Input.{HasMore, TakesAtMost};
+ghost use Rattle.office_commands.specs.Inputs.{HasRead};
 
 use office_outside::Source;
 use std::alloc::Global;

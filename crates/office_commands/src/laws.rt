@@ -1,14 +1,22 @@
-//! The laws of statuses: what a status of `init`, of `pipe` and of `report` says.
+//! The laws of statuses: what a status of `generate`, of `init`, of `pipe` and of `report` says.
 ghost use Rattle.std.specs.Prelude.{◌≡◌, ◌≢◌, ◌<◌, ◌≤◌, ℕ, List, Option, Some};
 ghost use Rattle.office_session.specs.Sessions.{Reads};
 ghost use Rattle.office_outside.specs.Told.{Gained};
 ghost use Rattle.journal_commands.specs.Making.{HasHeader, origin_by};
 ghost use Rattle.journal_commands.specs.Reporting.{IsPrinted, IsUnprinted, OpensTo};
 ghost use Rattle.journal_commands.specs.Serving.{IsBad};
-ghost use Rattle.office_commands.specs.Worlds.{RunsInit, RunsPipe, RunsReport, World};
+ghost use Rattle.office_commands.specs.Generate.{PrintsSummary};
+ghost use Rattle.office_commands.specs.Worlds.{RunsGenerate, RunsInit, RunsPipe, RunsReport, World};
 
 use crate::ending::{BAD_FILE, DONE, REFUSED};
 use office_outside::Disk;
+
+/// `generate` is done only where the summary of the stream was printed.
+pub fn statuses_of_generate<D: Disk + Drop>()
+    ensures { (number status : ℕ) (before after : World D) →
+        RunsGenerate number status before after → status ≡ DONE →
+        PrintsSummary Gained number before.held after.held }
+{}
 
 /// `init` ends with the status of a bad file only where a header stands in the file, and with that
 /// of a refusal exactly where the origin that was asked for is above the clock's reading.

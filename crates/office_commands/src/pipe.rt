@@ -24,7 +24,7 @@ fn damaged_line(alloc: Global, at: u64) -> Result<String, AllocError>
 }
 
 /// The status of a file that is damaged at a place, whose line the faults sink is told.
-fn settle_damaged<E: Sink>(alloc: Global, at: u64, faults: &mut E) -> u8
+pub(crate) fn settle_damaged<E: Sink>(alloc: Global, at: u64, faults: &mut E) -> u8
     ensures { SettledPipe (Damaged at) result (E.held faults.old) (E.held faults.new)
         (E.faults faults.old) (E.faults faults.new) }
 {

@@ -1,17 +1,28 @@
 //! The top call.
-ghost use Rattle.std.specs.Prelude.{◌≡◌, ◌↔◌, None, map, string_bytes};
+ghost use Rattle.std.specs.Prelude.{◌≡◌, ◌⊎◌, ℕ, Some, None, map, string_bytes};
 ghost use Rattle.office_outside.specs.Faults.{Rose};
-ghost use Rattle.office_commands.specs.Commands.{asked_of};
-ghost use Rattle.office_commands.specs.Worlds.{IsOffDisk, Runs, world};
+ghost use Rattle.command_words.specs.Commands.{asked_of};
+ghost use Rattle.command_words.specs.declared.Asked.TheVariants.{Serve};
+ghost use Rattle.turn_counter.specs.Turns.{TurnAsks};
+ghost use Rattle.office_serving.specs.Serving.{front};
+ghost use Rattle.office_serving.specs.Visits.{looks};
+ghost use Rattle.office_serving.specs.Workers.{site};
+ghost use Rattle.office_commands.specs.Serve.{RunsServe};
+ghost use Rattle.office_commands.specs.Worlds.{IsOffDisk, IsOffDoors, Runs, world};
 
 use crate::answer::run_answer;
-use crate::command::{Asked, read_words};
-use crate::ending::{DISK_FAULT, DONE, READ_FAULT, USAGE, WRITE_FAULT};
+use crate::ending::{DISK_FAULT, DONE, DOORS_FAULT, NO_MEMORY, READ_FAULT, USAGE, WRITE_FAULT};
+use crate::generate::run_generate;
 use crate::init::run_init;
 use crate::pipe::run_pipe;
 use crate::report::run_report;
+use crate::serve::run_serve;
 use crate::telling::tell_status;
+use command_words::{Asked, WordsFault, read_words};
+use office_doors::{Door, Doors};
 use office_outside::{Clock, Disk, Sink, Source};
+use std::sync::Wait;
+use std::thread::Threads;
 
 /// What a run ends with: its status, and the disk, which is handed back.
 #[derive(Drop)]
@@ -30,8 +41,18 @@ pub struct RunEnd<D: Drop> {
 /// history begins at the clock's reading or at ORIGIN, in minutes since 1970-01-01T00:00Z, and
 /// print this origin. `pipe` opens the journal, and serves one session over the input and the
 /// output. `report` and `report AT` open the journal, and print the report over its history at the
-/// moment or at AT. The disk is handed back.
-pub fn run<R: AllocGlobal, S: Source, K: Sink, E: Sink, D: Disk + Drop, C: Clock>(
+/// moment or at AT. `generate N` plays the sample stream of number N over an office in memory, and
+/// prints a summary. `serve PORT` opens the journal, and serves it to the visitors of the doors at
+/// this port, by four workers that take turns. The disk is handed back.
+pub fn run<
+    R: AllocGlobal + Wait + Threads + Sync,
+    S: Source,
+    K: Sink,
+    E: Sink,
+    D: Disk + Send + Drop,
+    C: Clock,
+    A: Doors,
+>(
     rt: &R,
     words: &[String],
     input: &mut S,
@@ -39,6 +60,7 @@ pub fn run<R: AllocGlobal, S: Source, K: Sink, E: Sink, D: Disk + Drop, C: Clock
     faults: &mut E,
     disk: D,
     clock: &mut C,
+    doors: &mut A,
 ) -> RunEnd<D>
     // What it does, by what the words ask for.
     ensures runs { Runs D.content D.images D.moment D.images_since
@@ -48,13 +70,30 @@ pub fn run<R: AllocGlobal, S: Source, K: Sink, E: Sink, D: Disk + Drop, C: Clock
         (world (S.left input.new) (S.faults input.new) (K.held output.new) (K.faults output.new)
         (E.held faults.new) (E.faults faults.new) (C.to_come clock.new) result.disk) }
 
-    // USAGE: exactly where the words are no form of a command. The input stays as it was.
-    ensures usage { (result.status ≡ USAGE) ↔ (asked_of (map string_bytes words.now) ≡ None) }
+    // `serve` serves the journal to the visitors of the doors; want of memory may come before.
+    ensures serves { (port : ℕ) → asked_of (map string_bytes words.now) ≡ Some (Serve port)
+        → ((result.status ≡ NO_MEMORY) × (doors.new ≡ doors.old) × (result.disk ≡ disk))
+        ⊎ RunsServe D.content D.images D.moment D.images_since
+        (site (TurnAsks D.images D.moment D.images_since D.faults)
+        (looks A.One.In.left A.One.In.faults A.One.Out.held A.One.Out.faults A.One.Time.to_come)
+        (λ d. A.One.told d) (λ d. A.One.faults d)) result.status (E.held faults.old)
+        (E.held faults.new) (E.faults faults.old) (E.faults faults.new)
+        (front (A.told doors.old) (K.held output.old)) (front (A.told doors.new)
+        (K.held output.new)) disk result.disk }
+
+    // USAGE: where the words are no form of a command, and only there; want of memory may come in
+    // its place. The input stays as it was.
+    ensures usage { result.status ≡ USAGE → asked_of (map string_bytes words.now) ≡ None }
+    ensures formless { asked_of (map string_bytes words.now) ≡ None →
+        (result.status ≡ USAGE) ⊎ (result.status ≡ NO_MEMORY) }
     ensures untouched { result.status ≡ USAGE → input.new ≡ input.old }
 
-    // `budget` and `check` make no call on the disk and don't read the clock.
+    // `budget`, `check` and `generate` make no call on the disk and don't read the clock.
     ensures off_disk { IsOffDisk (asked_of (map string_bytes words.now)) → result.disk ≡ disk }
     ensures clockless { IsOffDisk (asked_of (map string_bytes words.now)) → clock.new ≡ clock.old }
+
+    // The doors are for `serve` alone.
+    ensures doorless { IsOffDoors (asked_of (map string_bytes words.now)) → doors.new ≡ doors.old }
 
     // A run that is done tells nothing. A fault's status has that object's count as its cause.
     ensures silent { result.status ≡ DONE → E.held faults.new ≡ E.held faults.old }
@@ -62,19 +101,29 @@ pub fn run<R: AllocGlobal, S: Source, K: Sink, E: Sink, D: Disk + Drop, C: Clock
     ensures write { result.status ≡ WRITE_FAULT →
         Rose (K.faults output.old) (K.faults output.new) }
     ensures disk { result.status ≡ DISK_FAULT → Rose (D.faults disk) (D.faults result.disk) }
+    ensures doors { result.status ≡ DOORS_FAULT → Rose (A.faults doors.old) (A.faults doors.new) }
 {
     let alloc = rt.alloc();
-    match read_words(words) {
-        None => {
+    match read_words(alloc, words) {
+        Err(WordsFault::Usage) => {
             let status = tell_status(faults, USAGE);
             RunEnd { status, disk }
         }
-        Some(Asked::Answer(command)) => {
+        Err(WordsFault::NoMemory) => {
+            let status = tell_status(faults, NO_MEMORY);
+            RunEnd { status, disk }
+        }
+        Ok(Asked::Answer(command)) => {
             let status = run_answer(alloc, command, input, output, faults);
             RunEnd { status, disk }
         }
-        Some(Asked::Init(origin)) => run_init(alloc, origin, output, faults, disk, clock),
-        Some(Asked::Pipe) => run_pipe(alloc, input, output, faults, disk, clock),
-        Some(Asked::Report(at)) => run_report(alloc, at, output, faults, disk, clock),
+        Ok(Asked::Generate(number)) => {
+            let status = run_generate(alloc, number, output, faults);
+            RunEnd { status, disk }
+        }
+        Ok(Asked::Init(origin)) => run_init(alloc, origin, output, faults, disk, clock),
+        Ok(Asked::Pipe) => run_pipe(alloc, input, output, faults, disk, clock),
+        Ok(Asked::Report(at)) => run_report(alloc, at, output, faults, disk, clock),
+        Ok(Asked::Serve(port)) => run_serve(rt, alloc, port, output, faults, disk, doors),
     }
 }

@@ -1,9 +1,10 @@
 //! The error budget office: the program.
-//! Stands on its commands, and on the adapters over files, terminals and the clock.
+//! Stands on its commands, and on the adapters over files, terminals, sockets and the clock.
 //! Promises what `run` promises over these.
 #![tactic(auto)]
 
 use office_commands::{run, run_out_of_memory};
+use office_doors::TcpDoors;
 use office_outside::{FileDisk, StdSink, StdSource, WallClock};
 use std::alloc::AllocError;
 use std::env::{self, Env};
@@ -35,6 +36,7 @@ fn main(rt: HostRuntime) -> ExitCode {
     let mut faults = StdSink::new(rt.stderr());
     let disk = FileDisk::new(rt);
     let mut clock = WallClock::new(rt);
+    let mut doors = TcpDoors::new(rt, rt.alloc());
     let status = match words_of(&rt) {
         Ok(words) => {
             let end = run(
@@ -45,6 +47,7 @@ fn main(rt: HostRuntime) -> ExitCode {
                 &mut faults,
                 disk,
                 &mut clock,
+                &mut doors,
             );
             end.status
         }

@@ -1,16 +1,16 @@
-use Rattle.std.proofs.Common.{◌∙◌, ap, refl, sym}
+use Rattle.std.proofs.Common.{◌∙◌, ap, refl}
 use Rattle.std.specs.Prelude.{Some}
-use Rattle.office_commands.proofs.WorldLemmas.{answered}
+use Rattle.command_words.specs.declared.Asked.TheVariants.{Answer}
+use Rattle.office_commands.proofs.WorldLemmas.{done_as}
 use Rattle.office_commands.proofs.running.run.Goals as goal
 
-pub returns-in-Some-Answer-clause-runs : goal.returns-in-Some-Answer-clause-runs
-returns-in-Some-Answer-clause-runs g c =
+pub returns-in-Ok-Answer-clause-runs : goal.returns-in-Ok-Answer-clause-runs
+returns-in-Ok-Answer-clause-runs g c =
     let D = g.D.Disk in
-    let command = c.in-Some-Answer.command in
     let ran = c.run_answer-status.ensures in
-    answered D.content D.images D.moment D.images_since D.faults _ command
-    c.run_answer-status.result _ _
-    (ap Some (sym c.in-Some-Answer.field-0-is) ∙ c.in-Some-Answer.ensures.asked)
+    done_as D.content D.images D.moment D.images_since D.faults _ c.run_answer-status.result _ _
+    (Some (Answer c.in-Ok-Answer.command))
+    (c.in-Ok-Answer.ensures.asked ∙ ap Some c.in-Ok-Answer.field-0-is)
     (record {
       status_is = ran.status;
       done = ran.done;

@@ -1,0 +1,3 @@
+mod Walks
+mod Sorts
+mod Dashes

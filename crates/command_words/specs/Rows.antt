@@ -1,0 +1,57 @@
+-- What the command that `clap` found asks for, with the words that it holds.
+use Rattle.std.specs.Prelude.{ℕ, List, [], ◌∷◌, Option, Some, None, codes, if◌then◌else◌, option_map}
+use Rattle.std.specs.Str.{bytes_eq}
+use Rattle.clap.specs.Walk.{Row, Text, first_of}
+use Rattle.budget_command.specs.Order.{order_of}
+use Rattle.command_words.specs.Commands.{minute_asked, number_asked, port_asked}
+use Rattle.command_words.specs.declared.asked.Asked.{Asked}
+use Rattle.command_words.specs.declared.asked.Asked.TheVariants.{Answer, Init, Pipe, Report}
+use Rattle.command_words.specs.declared.asked.Asked.TheVariants.{Generate, Serve}
+use Rattle.command_words.specs.declared.asked.Command.{Command}
+use Rattle.command_words.specs.declared.asked.Command.TheVariants.{Budget, Check}
+
+-- the minute that a word asks for, where there is one
+abbrev pub minute_by : Option Text → Option (Option ℕ)
+minute_by None = minute_asked []
+minute_by (Some word) = minute_asked (word ∷ [])
+
+-- the number that a word asks for, where there is one
+abbrev pub number_by : Option Text → Option ℕ
+number_by None = None
+number_by (Some word) = number_asked (word ∷ [])
+
+-- the port that a word asks for, where there is one
+abbrev pub port_by : Option Text → Option ℕ
+port_by None = None
+port_by (Some word) = port_asked (word ∷ [])
+
+-- what the three words of `budget` ask for
+abbrev pub order_with : Option Text → Option Text → Option Text → Option Command
+order_with (Some target) (Some from) (Some to) = option_map Budget (order_of target from to)
+order_with _ _ _ = None
+
+abbrev pub order_by : List Row → Option Command
+order_by rows =
+    order_with (first_of (codes "target") rows) (first_of (codes "from") rows)
+    (first_of (codes "to") rows)
+
+-- what a command asks for with the words that are held for it
+abbrev pub asked_in : Text → List Row → Option Asked
+asked_in name rows =
+    if bytes_eq name (codes "budget") then option_map Answer (order_by rows)
+    else if bytes_eq name (codes "check") then Some (Answer Check)
+    else if bytes_eq name (codes "init")
+    then option_map Init (minute_by (first_of (codes "origin") rows))
+    else if bytes_eq name (codes "pipe") then Some Pipe
+    else if bytes_eq name (codes "report")
+    then option_map Report (minute_by (first_of (codes "at") rows))
+    else if bytes_eq name (codes "serve")
+    then option_map Serve (port_by (first_of (codes "port") rows))
+    else if bytes_eq name (codes "generate")
+    then option_map Generate (number_by (first_of (codes "number") rows))
+    else None
+
+-- what the command that was found asks for
+abbrev pub asked_by : Option (Text × List Row) → Option Asked
+asked_by None = None
+asked_by (Some found) = asked_in found.0 found.1

@@ -1,0 +1,29 @@
+//! What the program is asked for.
+
+use budget_command::BudgetOrder;
+
+/// A command that is answered from the bytes of its input alone.
+#[derive(Clone, Copy, Debug)]
+pub enum Command {
+    /// The budget of the samples of the input.
+    Budget(BudgetOrder),
+    /// Whether the documents of the input can be defined together, and how many there are.
+    Check,
+}
+
+/// What the program is asked for.
+#[derive(Clone, Copy, Debug)]
+pub enum Asked {
+    /// The answer of a command on the bytes of its input.
+    Answer(Command),
+    /// A new journal, whose history begins at this minute, or else at the clock's reading.
+    Init(Option<u32>),
+    /// A session over the journal.
+    Pipe,
+    /// The report at this minute, or else at the moment.
+    Report(Option<u32>),
+    /// Sessions over the journal, for all that come to this port.
+    Serve(u16),
+    /// A session of the sample stream of this number, over an office in memory.
+    Generate(u32),
+}

@@ -1,0 +1,11 @@
+//! The words of the program: which command they ask for, and with what.
+//! Stands on `clap`, which parts the words of a command, and on the readers of numbers.
+//! Promises that a command is asked for exactly where the words are of its form.
+#![tactic(auto)]
+
+mod asked;
+mod forms;
+mod reading;
+
+pub use asked::{Asked, Command};
+pub use reading::{WordsFault, read_words};

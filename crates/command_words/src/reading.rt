@@ -1,0 +1,173 @@
+//! The reading of the words.
+ghost use Rattle.std.specs.Prelude.{◌≡◌, false, Err, IfOk, IfSome, None, Some, map, option_map};
+ghost use Rattle.std.specs.Prelude.{string_bytes};
+ghost use Rattle.std.specs.List.{list_any};
+ghost use Rattle.clap.specs.Matches.{found_of};
+ghost use Rattle.clap.specs.Simple.{subcommand_rows_of};
+ghost use Rattle.clap.specs.Walk.{first_of, rows_of};
+ghost use Rattle.command_words.specs.Commands.{IsSound, IsSoundAsked, asked_of};
+ghost use Rattle.command_words.specs.Commands.{is_dashed as dashed};
+ghost use Rattle.command_words.specs.Rows.{asked_by, asked_in, minute_by, number_by, order_by};
+ghost use Rattle.command_words.specs.Rows.{port_by};
+
+use crate::asked::{Asked, Command};
+use crate::forms::forms;
+use budget_command::{BudgetOrder, read_order};
+use clap::ArgMatches;
+use clap::error::ErrorKind;
+use exact_fraction::read_plain_number;
+use sample_stream::MAX_NUMBER;
+use slo_limits::MAX_MINUTE;
+use std::alloc::Global;
+
+/// Why the words ask for no command.
+#[derive(Clone, Copy, Debug, PartialEq, Eq)]
+pub enum WordsFault {
+    /// They are no form of a command.
+    Usage,
+    /// Memory ran out.
+    NoMemory,
+}
+
+fn is_dashed(word: &String) -> bool
+    ensures { result ≡ dashed (string_bytes word.now) }
+{
+    match word.as_bytes().first() {
+        Some(byte) => *byte == b'-',
+        None => false,
+    }
+}
+
+/// Whether a word begins with a hyphen.
+fn has_dashes(words: &[String]) -> bool
+    ensures { result ≡ list_any (λ word. dashed (string_bytes word)) words.now }
+{
+    words.iter().any(|word| is_dashed(word))
+}
+
+/// The command that the words ask for, and its own words, by `clap`.
+fn parse<'a>(alloc: Global, words: &'a [String]) -> Result<ArgMatches<'a>, WordsFault>
+    requires { list_any (λ word. dashed (string_bytes word)) words.now ≡ false }
+    ensures ok { IfOk result (λ m. asked_by (subcommand_rows_of m)
+        ≡ asked_of (map string_bytes words.entry.now)) }
+    ensures usage { result ≡ Err WordsFault.Usage →
+        asked_of (map string_bytes words.entry.now) ≡ None }
+{
+    let Ok(forms) = forms(alloc) else {
+        return Err(WordsFault::NoMemory);
+    };
+    match forms.try_get_matches_from(words) {
+        Ok(matches) => Ok(matches),
+        Err(error) => {
+            if error.kind() == ErrorKind::OutOfMemory {
+                return Err(WordsFault::NoMemory);
+            }
+            Err(WordsFault::Usage)
+        }
+    }
+}
+
+/// A word of a command.
+fn word<'a>(words: &ArgMatches<'a>, id: &str) -> Option<&'a str>
+    ensures { option_map (λ s. s.now) result ≡ first_of id.now (rows_of (found_of words.now)) }
+{
+    words.get_str(id)
+}
+
+/// The minute that a word asks for: None leaves it to the clock's reading. None in all where it is
+/// no minute of the clock.
+fn read_minute(words: &ArgMatches, id: &str) -> Option<Option<u32>>
+    ensures { result ≡ minute_by (first_of id.now (rows_of (found_of words.now))) }
+{
+    match word(words, id) {
+        Some(text) => {
+            let minute = read_plain_number(text.as_bytes(), u64::from(MAX_MINUTE))?;
+            Some(Some(minute as u32))
+        }
+        None => Some(None),
+    }
+}
+
+/// The number of a sample stream.
+fn read_number(words: &ArgMatches, id: &str) -> Option<u32>
+    ensures { result ≡ number_by (first_of id.now (rows_of (found_of words.now))) }
+{
+    let text = word(words, id)?;
+    let number = read_plain_number(text.as_bytes(), u64::from(MAX_NUMBER))?;
+    if number == 0 {
+        return None;
+    }
+    Some(number as u32)
+}
+
+/// The number of a port.
+fn read_port(words: &ArgMatches, id: &str) -> Option<u16>
+    ensures { result ≡ port_by (first_of id.now (rows_of (found_of words.now))) }
+{
+    let text = word(words, id)?;
+    let port = read_plain_number(text.as_bytes(), u64::from(u16::MAX))?;
+    if port == 0 {
+        return None;
+    }
+    Some(port as u16)
+}
+
+/// What the words of `budget` ask for.
+fn read_budget(words: &ArgMatches) -> Option<Command>
+    ensures order { result ≡ order_by (rows_of (found_of words.now)) }
+    ensures sound { IfSome result IsSound }
+{
+    let target = word(words, "target")?;
+    let from = word(words, "from")?;
+    let to = word(words, "to")?;
+    let order = read_order(target.as_bytes(), from.as_bytes(), to.as_bytes())?;
+    Some(Command::Budget(order))
+}
+
+/// What the words of the command of this name ask for.
+fn read_command(name: &str, words: &ArgMatches) -> Option<Asked>
+    ensures asked { result ≡ asked_in name.now (rows_of (found_of words.now)) }
+    ensures sound { IfSome result IsSoundAsked }
+{
+    match name {
+        "budget" => Some(Asked::Answer(read_budget(words)?)),
+        "check" => Some(Asked::Answer(Command::Check)),
+        "init" => Some(Asked::Init(read_minute(words, "origin")?)),
+        "pipe" => Some(Asked::Pipe),
+        "report" => Some(Asked::Report(read_minute(words, "at")?)),
+        "serve" => Some(Asked::Serve(read_port(words, "port")?)),
+        "generate" => Some(Asked::Generate(read_number(words, "number")?)),
+        _ => None,
+    }
+}
+
+/// What the words ask for, of which `clap` has made these matches.
+fn read_matches(matches: &ArgMatches) -> Option<Asked>
+    ensures asked { result ≡ asked_by (subcommand_rows_of matches.now) }
+    ensures sound { IfSome result IsSoundAsked }
+{
+    let (name, words) = matches.subcommand()?;
+    read_command(name, words)
+}
+
+/// What the words ask for. A word that begins with a hyphen belongs to no form.
+///
+/// # Errors
+///
+/// The words are no form of a command, or memory ran out.
+pub fn read_words(alloc: Global, words: &[String]) -> Result<Asked, WordsFault>
+    ensures asked { IfOk result (λ asked. asked_of (map string_bytes words.now) ≡ Some asked) }
+    ensures sound { IfOk result IsSoundAsked }
+    ensures usage { result ≡ Err WordsFault.Usage → asked_of (map string_bytes words.now) ≡ None }
+{
+    if has_dashes(words) {
+        return Err(WordsFault::Usage);
+    }
+    match parse(alloc, words) {
+        Ok(matches) => match read_matches(&matches) {
+            Some(asked) => Ok(asked),
+            None => Err(WordsFault::Usage),
+        },
+        Err(fault) => Err(fault),
+    }
+}

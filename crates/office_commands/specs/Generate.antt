@@ -1,0 +1,34 @@
+-- How `generate` ends, in statuses and lines.
+use Rattle.std.specs.Prelude.{◌≡◌, ℕ, List, Option}
+use Rattle.office_outside.specs.Faults.{Rose}
+use Rattle.office_outside.specs.Told.{Gained, GainedPrefix}
+use Rattle.generate_command.specs.Generated.{IsGenerated}
+use Rattle.office_commands.specs.Endings.{line_of_status}
+use Rattle.office_commands.specs.Runs.{Tells}
+use Rattle.office_commands.specs.declared.generate.GenerateEnd.{GenerateEnd}
+use Rattle.office_commands.specs.declared.generate.GenerateEnd.TheVariants.{Done, WriteFault}
+use Rattle.office_commands.specs.declared.generate.GenerateEnd.TheVariants.{NoMemory}
+use Rattle.office_commands.specs.declared.ending.TheConstants as statuses
+
+-- The output gained so much of the summary of the stream of this number.
+pub record PrintsSummary (Gains : List ℕ → Option (List ℕ) → Option (List ℕ) → Type 0) (number : ℕ)
+    (old new : Option (List ℕ)) : Type 0 where
+  pub text : List ℕ
+  pub exact : IsGenerated number text
+  pub gained : Gains text old new
+
+-- What each end says of the output, which counted its faults so before and after.
+abbrev pub EndsGenerating : ℕ → GenerateEnd → Option (List ℕ) → Option (List ℕ) → ℕ → ℕ → Type 0
+EndsGenerating number Done old new before now = PrintsSummary Gained number old new
+EndsGenerating number WriteFault old new before now =
+    PrintsSummary GainedPrefix number old new × Rose before now
+EndsGenerating number NoMemory old new before now = new ≡ old
+
+-- Each end has its status, and the faults sink tells its line; where the summary was printed, it
+-- tells nothing.
+abbrev pub SettledGenerate : GenerateEnd → ℕ → Option (List ℕ) → Option (List ℕ) → ℕ → ℕ → Type 0
+SettledGenerate Done status old new before now = (status ≡ statuses.DONE) × (new ≡ old)
+SettledGenerate WriteFault status old new before now =
+    (status ≡ statuses.WRITE_FAULT) × Tells (line_of_status statuses.WRITE_FAULT) old new before now
+SettledGenerate NoMemory status old new before now =
+    (status ≡ statuses.NO_MEMORY) × Tells (line_of_status statuses.NO_MEMORY) old new before now

@@ -1,0 +1,76 @@
+//! `serve`: opens the journal, and serves it to the visitors of doors.
+ghost use Rattle.std.specs.Prelude.{◌≡◌, ◌≢◌};
+ghost use Rattle.office_outside.specs.Faults.{Rose};
+ghost use Rattle.turn_counter.specs.Turns.{TurnAsks};
+ghost use Rattle.office_serving.specs.Serving.{front};
+ghost use Rattle.office_serving.specs.Visits.{looks};
+ghost use Rattle.office_serving.specs.Workers.{site};
+ghost use Rattle.office_commands.specs.Serve.{RunsServe, SettledServer, SettledServing};
+
+use crate::ending::{BAD_FILE, DISK_FAULT, DONE, DOORS_FAULT, NO_MEMORY, USAGE, WRITE_FAULT};
+use crate::pipe::settle_damaged;
+use crate::running::RunEnd;
+use crate::telling::{tell_as, tell_status};
+use office_doors::{Door, Doors};
+use office_outside::{Disk, Sink};
+use office_serving::ServeEnd;
+use serve_command::{ServerEnd, serve_journal};
+use std::alloc::Global;
+use std::sync::Wait;
+use std::thread::Threads;
+
+/// The status of a serving's end, whose line the faults sink is told.
+fn settle_serving<E: Sink>(end: ServeEnd, faults: &mut E) -> u8
+    ensures { SettledServing end result (E.held faults.old) (E.held faults.new)
+        (E.faults faults.old) (E.faults faults.new) }
+{
+    match end {
+        ServeEnd::Done => DONE,
+        ServeEnd::WriteFault => tell_status(faults, WRITE_FAULT),
+        ServeEnd::DoorsFault => tell_status(faults, DOORS_FAULT),
+        ServeEnd::NoMemory => tell_status(faults, NO_MEMORY),
+    }
+}
+
+/// The status of an end, whose line the faults sink is told.
+fn settle_server<E: Sink>(alloc: Global, end: ServerEnd, faults: &mut E) -> u8
+    ensures { SettledServer end result (E.held faults.old) (E.held faults.new) (E.faults faults.old)
+        (E.faults faults.new) }
+{
+    match end {
+        ServerEnd::Served(end) => settle_serving(end, faults),
+        ServerEnd::NotAJournal => tell_as(faults, "slo_office: file not a journal\n", BAD_FILE),
+        ServerEnd::Damaged { at } => settle_damaged(alloc, at, faults),
+        ServerEnd::DiskFault => tell_status(faults, DISK_FAULT),
+        ServerEnd::NoMemory => tell_status(faults, NO_MEMORY),
+    }
+}
+
+/// Runs `serve`.
+pub fn run_serve<R: Wait + Threads + Sync, K: Sink, E: Sink, D: Disk + Send + Drop, S: Doors>(
+    rt: &R,
+    alloc: Global,
+    port: u16,
+    output: &mut K,
+    faults: &mut E,
+    disk: D,
+    doors: &mut S,
+) -> RunEnd<D>
+    ensures served { RunsServe D.content D.images D.moment D.images_since
+        (site (TurnAsks D.images D.moment D.images_since D.faults)
+        (looks S.One.In.left S.One.In.faults S.One.Out.held S.One.Out.faults S.One.Time.to_come)
+        (λ d. S.One.told d) (λ d. S.One.faults d)) result.status (E.held faults.old)
+        (E.held faults.new) (E.faults faults.old) (E.faults faults.new)
+        (front (S.told doors.old) (K.held output.old)) (front (S.told doors.new)
+        (K.held output.new)) disk result.disk }
+    ensures silent { result.status ≡ DONE → E.held faults.new ≡ E.held faults.old }
+    ensures write { result.status ≡ WRITE_FAULT →
+        Rose (K.faults output.old) (K.faults output.new) }
+    ensures disk { result.status ≡ DISK_FAULT → Rose (D.faults disk) (D.faults result.disk) }
+    ensures doors { result.status ≡ DOORS_FAULT → Rose (S.faults doors.old) (S.faults doors.new) }
+    ensures usable { result.status ≢ USAGE }
+{
+    let (end, disk) = serve_journal(rt, alloc, disk, doors, port, output);
+    let status = settle_server(alloc, end, faults);
+    RunEnd { status, disk }
+}
