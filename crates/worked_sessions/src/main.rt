@@ -3,7 +3,10 @@
 //! Promises only to end well: what comes out is compared with the answers worked out by hand.
 #![tactic(auto)]
 
+mod mixtures;
 mod playing;
+mod sampling;
+mod series;
 mod show;
 mod stage;
 mod trials;
@@ -12,6 +15,8 @@ use office_outside::{Failed, Source, StdSink, StdSource, write_whole};
 use stage::Stage;
 use std::alloc::{AllocError, Global};
 use std::process::ExitCode;
+use std::sync::Wait;
+use std::thread::Threads;
 
 /// Why a script isn't played to its end.
 #[derive(Drop)]
@@ -51,7 +56,10 @@ fn read_script<S: Source>(alloc: Global, input: &mut S) -> Result<String, Fault>
 }
 
 /// Plays a script, and gives what comes of it.
-fn play(rt: &impl AllocGlobal, script: &str) -> Result<String, AllocError> {
+fn play(
+    rt: &(impl AllocGlobal + Wait + Threads + Sync),
+    script: &str,
+) -> Result<String, AllocError> {
     let mut stage = Stage::new(rt.alloc());
     for line in script.lines() {
         stage.take_line(rt, line)?;

@@ -1,8 +1,11 @@
 //! One run of the program over memory.
 
 use office_commands::{RunEnd, run};
+use office_doors::MemoryDoors;
 use office_outside::{MemoryClock, MemoryDisk, MemorySink, MemorySource, Plan};
 use std::alloc::{AllocError, Global};
+use std::sync::Wait;
+use std::thread::Threads;
 
 /// What came of a run.
 #[derive(Drop)]
@@ -56,7 +59,7 @@ fn sizes_of(alloc: Global, bytes: usize, piece: usize) -> Result<Vec<usize>, All
 
 /// Runs the program over these objects.
 fn play_over(
-    rt: &impl AllocGlobal,
+    rt: &(impl AllocGlobal + Wait + Threads + Sync),
     words: &[String],
     mut input: MemorySource,
     mut output: MemorySink,
@@ -65,6 +68,12 @@ fn play_over(
 ) -> Played {
     let alloc = rt.alloc();
     let mut faults = MemorySink::new(alloc, Plan::smooth(alloc));
+    let mut doors: MemoryDoors<MemorySink> = MemoryDoors::new(
+        alloc,
+        Vec::new(alloc),
+        Vec::new(alloc),
+        Vec::new(alloc),
+    );
     let RunEnd { status, disk } = run(
         rt,
         words,
@@ -73,6 +82,7 @@ fn play_over(
         &mut faults,
         disk,
         &mut clock,
+        &mut doors,
     );
     Played {
         status,
@@ -86,7 +96,7 @@ impl Setting<'_> {
     /// Runs the program on these words, over this input.
     pub fn play(
         &self,
-        rt: &impl AllocGlobal,
+        rt: &(impl AllocGlobal + Wait + Threads + Sync),
         words: &str,
         input: &[u8],
     ) -> Result<Played, AllocError> {

@@ -18,6 +18,26 @@ pub fn show_answers(alloc: Global, out: &mut String, bytes: &[u8]) -> Result<(),
     Ok(())
 }
 
+/// Appends how many answers an output holds, how many of them are 200, and the last one.
+pub fn show_count(alloc: Global, out: &mut String, bytes: &[u8]) -> Result<(), AllocError> {
+    let text = String::from_utf8_lossy(alloc, bytes)?;
+    let mut count = 0u32;
+    let mut fine = 0u32;
+    for answer in text.as_str().split("HTTP/1.1 ") {
+        count = count.saturating_add(u32::from(answer.contains("\r\n\r\n")));
+        fine = fine.saturating_add(u32::from(answer.starts_with("200 ")));
+    }
+    let line = format!(in alloc; "{count} answers, {fine} of them 200, the last one:\n")?;
+    out.push_str(line.as_str())?;
+    if let Some((_, last)) = text.as_str().rsplit_once("HTTP/1.1 ") {
+        if let Some((head, body)) = last.split_once("\r\n\r\n") {
+            show_head(out, head)?;
+            out.push_str(body)?;
+        }
+    }
+    out.push('\n')
+}
+
 /// Appends what a line tells of an answer's head.
 fn show_head(out: &mut String, head: &str) -> Result<(), AllocError> {
     if let Some((status, _)) = head.split_once(" ") {

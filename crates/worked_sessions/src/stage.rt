@@ -1,9 +1,13 @@
 //! What the next run is made from, and what the runs so far came to.
 
 use crate::playing::{Played, Setting};
-use crate::show::{show_answers, show_file, show_whole};
-use crate::trials::{over_faults, over_prefixes, over_stops};
+use crate::sampling::push_stream;
+use crate::series::{push_request, push_requests, push_series};
+use crate::show::{show_answers, show_count, show_file, show_whole};
+use crate::trials::{over_faults, over_mixtures, over_prefixes, over_stops};
 use std::alloc::{AllocError, Global};
+use std::sync::Wait;
+use std::thread::Threads;
 
 /// A stage: the file as it stands, what the next run reads, and the text of all that came out.
 #[derive(Drop)]
@@ -15,6 +19,8 @@ pub struct Stage {
     failing: String,
     piece: usize,
     whole: bool,
+    brief: bool,
+    times: Option<(u32, u32)>,
     request: String,
     body: String,
     input: String,
@@ -40,17 +46,10 @@ fn push_raw(input: &mut String, text: &str) -> Result<(), AllocError> {
     Ok(())
 }
 
-/// Appends as many rows as the second number says, of one minute after another from the first on.
-fn push_rows(alloc: Global, body: &mut String, numbers: &str) -> Result<(), AllocError> {
-    if let Some((first, count)) = numbers.split_once(" ") {
-        let first = first.parse::<u32>().unwrap_or(0);
-        for place in 0..count.parse::<u32>().unwrap_or(0) {
-            let minute = first.saturating_add(place);
-            let row = format!(in alloc; "shop-good,web,{minute},1,1,1\n")?;
-            body.push_str(row.as_str())?;
-        }
-    }
-    Ok(())
+/// The two numbers of a line.
+fn two_numbers(line: &str) -> Option<(u32, u32)> {
+    let (first, second) = line.split_once(" ")?;
+    Some((first.parse::<u32>().ok()?, second.parse::<u32>().ok()?))
 }
 
 /// Puts bytes in the place of others.
@@ -80,6 +79,8 @@ impl Stage {
             failing: String::new(alloc),
             piece: usize::MAX,
             whole: false,
+            brief: false,
+            times: None,
             request: String::new(alloc),
             body: String::new(alloc),
             input: String::new(alloc),
@@ -87,15 +88,24 @@ impl Stage {
         }
     }
 
-    /// Takes one line of the script. A line of a body begins with `|`, and `rows FIRST COUNT` stands
-    /// for lines of samples; each other one ends the request before it.
-    pub fn take_line(&mut self, rt: &impl AllocGlobal, line: &str) -> Result<(), AllocError> {
+    /// Takes one line of the script. A line of a body begins with `|`; `rows FIRST COUNT` stands
+    /// for lines of samples, and `series FIRST COUNT TEXT` for the text with each number in the
+    /// place of its `@`. Each other line ends the request before it.
+    pub fn take_line(
+        &mut self,
+        rt: &(impl AllocGlobal + Wait + Threads + Sync),
+        line: &str,
+    ) -> Result<(), AllocError> {
         if let Some(text) = line.strip_prefix("|") {
             self.body.push_str(text)?;
             return self.body.push('\n');
         }
         if let Some(numbers) = line.strip_prefix("rows ") {
-            return push_rows(self.alloc, &mut self.body, numbers);
+            let line = format!(in self.alloc; "{numbers} shop-good,web,@,1,1,1")?;
+            return push_series(self.alloc, &mut self.body, line.as_str());
+        }
+        if let Some(series) = line.strip_prefix("series ") {
+            return push_series(self.alloc, &mut self.body, series);
         }
         self.end_request()?;
         if let Some(title) = line.strip_prefix("== ") {
@@ -128,12 +138,14 @@ impl Stage {
         self.failing.clear();
         self.piece = usize::MAX;
         self.whole = false;
+        self.brief = false;
         self.out.push_str("== ")?;
         self.out.push_str(title)?;
         self.out.push('\n')
     }
 
-    /// Sends a request line, or the bytes that stand behind `raw`, where `\` is a line's end.
+    /// Sends a request line, or the bytes that stand behind `raw`, where `\` is a line's end, or the
+    /// sample stream of a number.
     fn send(&mut self, text: &str) -> Result<(), AllocError> {
         if let Some(bytes) = text.strip_prefix("raw ") {
             return push_raw(&mut self.input, bytes);
@@ -141,19 +153,25 @@ impl Stage {
         if let Some(repeated) = text.strip_prefix("many ") {
             return push_many(&mut self.input, repeated);
         }
+        if let Some(number) = text.strip_prefix("stream ") {
+            return push_stream(self.alloc, &mut self.input, number);
+        }
         self.request.push_str(text)
     }
 
-    /// Appends the request that is being made to the input, with the length of its body. Lines of a
-    /// body without a request are the input itself.
+    /// Appends the request that is being made to the input, with the length of its body, as often
+    /// as a line `times` says. Lines of a body without a request are the input itself.
     fn end_request(&mut self) -> Result<(), AllocError> {
-        if !self.request.is_empty() {
-            let length = self.body.len();
-            self.input.push_str(self.request.as_str())?;
-            let head = format!(in self.alloc; " HTTP/1.1\r\nContent-Length: {length}\r\n\r\n")?;
-            self.input.push_str(head.as_str())?;
+        let request = self.request.as_str();
+        let body = self.body.as_str();
+        if request.is_empty() {
+            self.input.push_str(body)?;
+        } else if let Some(numbers) = self.times {
+            push_requests(self.alloc, &mut self.input, request, body, numbers)?;
+            self.times = None;
+        } else {
+            push_request(self.alloc, &mut self.input, request, body)?;
         }
-        self.input.push_str(self.body.as_str())?;
         self.request.clear();
         self.body.clear();
         Ok(())
@@ -175,8 +193,12 @@ impl Stage {
             self.file
                 .truncate(number.parse::<usize>().unwrap_or(usize::MAX));
         }
+        if let Some(numbers) = line.strip_prefix("times ") {
+            self.times = two_numbers(numbers);
+        }
         match line {
             "heads" => self.whole = true,
+            "brief" => self.brief = true,
             "file" => show_file(self.alloc, &mut self.out, &self.file)?,
             "save" => copy_over(&mut self.saved, &self.file)?,
             "load" => copy_over(&mut self.file, &self.saved)?,
@@ -186,12 +208,18 @@ impl Stage {
     }
 
     /// Runs the program on these words, and notes what it wrote and how it ended.
-    fn run(&mut self, rt: &impl AllocGlobal, words: &str) -> Result<(), AllocError> {
+    fn run(
+        &mut self,
+        rt: &(impl AllocGlobal + Wait + Threads + Sync),
+        words: &str,
+    ) -> Result<(), AllocError> {
         let played = self.setting().play(rt, words, self.input.as_bytes())?;
         self.input.clear();
         self.failing.clear();
         copy_over(&mut self.file, played.disk.bytes())?;
-        self.note(words, &played)
+        self.note(words, &played)?;
+        self.brief = false;
+        Ok(())
     }
 
     /// What the next run is made from.
@@ -204,11 +232,18 @@ impl Stage {
         }
     }
 
-    /// Tries the requests in many runs: `prefix`, or `stop of` or `fault of` these words.
-    fn run_trial(&mut self, rt: &impl AllocGlobal, trial: &str) -> Result<(), AllocError> {
+    /// Tries the requests in many runs: `prefix`, or `stop of`, `mixture of` or `fault of` these
+    /// words.
+    fn run_trial(
+        &mut self,
+        rt: &(impl AllocGlobal + Wait + Threads + Sync),
+        trial: &str,
+    ) -> Result<(), AllocError> {
         let input = self.input.as_bytes();
         let told = if let Some(words) = trial.strip_prefix("stop of ") {
             over_stops(rt, &self.setting(), words, input)?
+        } else if let Some(words) = trial.strip_prefix("mixture of ") {
+            over_mixtures(rt, &self.setting(), words, input)?
         } else if let Some(words) = trial.strip_prefix("fault of ") {
             over_faults(rt, &self.setting(), words, input)?
         } else {
@@ -225,6 +260,8 @@ impl Stage {
         self.out.push('\n')?;
         if self.whole {
             show_whole(self.alloc, &mut self.out, played.output.bytes())?;
+        } else if self.brief {
+            show_count(self.alloc, &mut self.out, played.output.bytes())?;
         } else {
             show_answers(self.alloc, &mut self.out, played.output.bytes())?;
         }

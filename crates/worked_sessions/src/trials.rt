@@ -1,13 +1,16 @@
 //! Many runs of the program, which are told by counts.
 
+use crate::mixtures::{FILLS, Mixtures, Torn};
 use crate::playing::{Played, Setting};
 use crate::show::last_answer;
 use std::alloc::{AllocError, Global};
+use std::sync::Wait;
+use std::thread::Threads;
 
 /// Runs `pipe` over each proper prefix of the requests: how many ended with status 0 and with 9,
 /// and how many left another file.
 pub fn over_prefixes(
-    rt: &impl AllocGlobal,
+    rt: &(impl AllocGlobal + Wait + Threads + Sync),
     setting: &Setting,
     input: &[u8],
 ) -> Result<String, AllocError> {
@@ -29,6 +32,7 @@ struct Tally {
     runs: u32,
     no_journal: u32,
     same: u32,
+    left_out: u32,
 }
 
 /// The tally before the first of them.
@@ -36,6 +40,7 @@ const NOTHING: Tally = Tally {
     runs: 0,
     no_journal: 0,
     same: 0,
+    left_out: 0,
 };
 
 /// How many files are tried of all that a stop may leave: each where one byte isn't synced, as a
@@ -57,7 +62,7 @@ fn pattern(alloc: Global, length: usize, number: usize) -> Result<Vec<u8>, Alloc
 
 /// Runs `pipe` again over what a stop or a fault left, and compares the last answer.
 fn again(
-    rt: &impl AllocGlobal,
+    rt: &(impl AllocGlobal + Wait + Threads + Sync),
     setting: &Setting,
     file: &[u8],
     input: &[u8],
@@ -81,13 +86,14 @@ fn again(
             .no_journal
             .saturating_add(u32::from(played.status == 3)),
         same: tally.same.saturating_add(u32::from(is_same)),
+        left_out: tally.left_out,
     })
 }
 
 /// Tries files that a stop after so many calls may leave: of all that may, the one nearest to the
 /// file as it reads at the end, and those nearest to patterns of bytes.
 fn after_stop(
-    rt: &impl AllocGlobal,
+    rt: &(impl AllocGlobal + Wait + Threads + Sync),
     setting: &Setting,
     input: &[u8],
     whole: &Played,
@@ -108,7 +114,7 @@ fn after_stop(
 /// the same requests, and tells how many files were no journal, and how many gave the same last
 /// answer.
 pub fn over_stops(
-    rt: &impl AllocGlobal,
+    rt: &(impl AllocGlobal + Wait + Threads + Sync),
     setting: &Setting,
     words: &str,
     input: &[u8],
@@ -122,9 +128,78 @@ pub fn over_stops(
     tell(rt.alloc(), "stops", tally)
 }
 
+/// Tries the mixtures of one end; too many are left out, and counted.
+fn over_mixtures_at(
+    rt: &(impl AllocGlobal + Wait + Threads + Sync),
+    setting: &Setting,
+    input: &[u8],
+    whole: &Played,
+    calls: usize,
+    mixtures: &Mixtures,
+    tally: Tally,
+) -> Result<Tally, AllocError> {
+    let Some(count) = mixtures.count() else {
+        return Ok(Tally {
+            left_out: tally.left_out.saturating_add(1),
+            ..tally
+        });
+    };
+    let mut tally = tally;
+    for number in 0..count {
+        let wanted = mixtures.at(rt.alloc(), number)?;
+        let file = whole.disk.after_stop(calls, &wanted)?;
+        tally = again(rt, setting, &file, input, whole, tally)?;
+    }
+    Ok(tally)
+}
+
+/// Tries each mixture that a stop after so many calls may leave, over this byte.
+fn mixed_after_stop(
+    rt: &(impl AllocGlobal + Wait + Threads + Sync),
+    setting: &Setting,
+    input: &[u8],
+    whole: &Played,
+    calls: usize,
+    fill: u8,
+    tally: Tally,
+) -> Result<Tally, AllocError> {
+    let alloc = rt.alloc();
+    let torn = Torn::after(alloc, setting.file, &whole.disk, calls)?;
+    let mut tally = tally;
+    for end in torn.ends() {
+        let mixtures = torn.ending(alloc, end, fill)?;
+        tally = over_mixtures_at(rt, setting, input, whole, calls, &mixtures, tally)?;
+    }
+    Ok(tally)
+}
+
+/// Stops a run after each of its disk calls in turn, and runs `pipe` over each file in which each
+/// byte that isn't synced is as it was or as it was written, and which ends at any place that the
+/// stop allows. Tells the same, and for how many ends there were too many such files.
+pub fn over_mixtures(
+    rt: &(impl AllocGlobal + Wait + Threads + Sync),
+    setting: &Setting,
+    words: &str,
+    input: &[u8],
+) -> Result<String, AllocError> {
+    let whole = setting.play(rt, words, input)?;
+    let calls = whole.disk.calls().len();
+    let mut tally = NOTHING;
+    for count in 0..calls {
+        for fill in FILLS {
+            tally = mixed_after_stop(rt, setting, input, &whole, count, fill, tally)?;
+        }
+    }
+    let left_out = tally.left_out;
+    let mut told = tell(rt.alloc(), "mixtures", tally)?;
+    let line = format!(in rt.alloc(); "mixtures: {left_out} ends left out\n")?;
+    told.push_str(line.as_str())?;
+    Ok(told)
+}
+
 /// Lets each disk call of a run fail in turn, runs `pipe` over what it left, and tells the same.
 pub fn over_faults(
-    rt: &impl AllocGlobal,
+    rt: &(impl AllocGlobal + Wait + Threads + Sync),
     setting: &Setting,
     words: &str,
     input: &[u8],
@@ -152,6 +227,7 @@ fn tell(alloc: Global, what: &str, tally: Tally) -> Result<String, AllocError> {
         runs,
         no_journal,
         same,
+        ..
     } = tally;
     format!(in alloc;
         "{what}: {runs} runs, {no_journal} without a journal, {same} with the same end\n"
