@@ -10,7 +10,7 @@ ghost use Rattle.slo_objects.specs.AlertCondition.{condition, alert_condition, c
 ghost use Rattle.slo_objects.specs.AlertCondition.{condition_kind, condition_kind_value};
 
 use crate::fault::{ReadError, Rule};
-use crate::fields::{close, fault_at, field};
+use crate::fields::{close_with, fault_at, field};
 use crate::inline::{object_with, required_metadata, take_out};
 use crate::kind::Kind;
 use crate::object::{Body, Object, Objects};
@@ -108,18 +108,19 @@ fn condition_of(alloc: Global, key: &str, node: &Node) -> Result<Condition, Read
     let threshold = required_number(alloc, fields, "threshold", 0, MOST_THRESHOLD)?;
     let lookback_window = required_duration(alloc, fields, "lookbackWindow", 1, MOST_LOOKBACK)?;
     let alert_after = optional_duration(alloc, fields, "alertAfter", 0, MOST_LOOKBACK)?;
-    close(
-        alloc,
-        fields,
-        &["kind", "op", "threshold", "lookbackWindow", "alertAfter"],
-    )?;
-    Ok(Condition {
+    let condition = Condition {
         kind,
         op,
         threshold,
         lookback_window,
         alert_after,
-    })
+    };
+    close_with(
+        alloc,
+        fields,
+        &["kind", "op", "threshold", "lookbackWindow", "alertAfter"],
+        condition,
+    )
 }
 
 fn required_condition(
@@ -149,14 +150,32 @@ pub(crate) fn alert_condition_of(
         return Err(ReadError::Fault(fault_at(alloc, key, Rule::NotMap)?));
     };
     let description = optional_description(alloc, fields, "description")?;
-    let severity = required_text(alloc, fields, "severity")?;
-    let condition = required_condition(alloc, fields, "condition")?;
-    close(alloc, fields, &["description", "severity", "condition"])?;
-    Ok(AlertCondition {
+    let severity = match required_text(alloc, fields, "severity") {
+        Ok(severity) => severity,
+        Err(error) => {
+            drop(description);
+            return Err(error);
+        }
+    };
+    let condition = match required_condition(alloc, fields, "condition") {
+        Ok(condition) => condition,
+        Err(error) => {
+            drop(description);
+            drop(severity);
+            return Err(error);
+        }
+    };
+    let condition = AlertCondition {
         description,
         severity,
         condition,
-    })
+    };
+    close_with(
+        alloc,
+        fields,
+        &["description", "severity", "condition"],
+        condition,
+    )
 }
 
 /// The body of a condition, which must stand.
@@ -183,9 +202,20 @@ fn inline_condition_object(alloc: Global, fields: &[(NodeText, Node)]) -> Result
     let _version = optional_version(alloc, fields, "apiVersion")?;
     let _kind = optional_only_kind(alloc, fields, "kind", Kind::AlertCondition)?;
     let metadata = required_metadata(alloc, fields, "metadata")?;
-    let body = required_condition_body(alloc, fields, "spec")?;
-    close(alloc, fields, &["apiVersion", "kind", "metadata", "spec"])?;
-    Ok(object_with(Kind::AlertCondition, metadata, body))
+    let body = match required_condition_body(alloc, fields, "spec") {
+        Ok(body) => body,
+        Err(error) => {
+            drop(metadata);
+            return Err(error);
+        }
+    };
+    let object = object_with(Kind::AlertCondition, metadata, body);
+    close_with(
+        alloc,
+        fields,
+        &["apiVersion", "kind", "metadata", "spec"],
+        object,
+    )
 }
 
 /// A condition that stands inline, and its name.

@@ -9,7 +9,7 @@ ghost use Rattle.slo_objects.specs.Reading.{Gives, alone, both, entries_view};
 ghost use Rattle.slo_objects.specs.AlertNotificationTarget.{alert_notification_target, target_body};
 
 use crate::fault::{ReadError, Rule};
-use crate::fields::{close, fault_at, field};
+use crate::fields::{close_with, fault_at, field};
 use crate::inline::{object_with, required_metadata, take_out};
 use crate::kind::Kind;
 use crate::object::{Body, Object, Objects};
@@ -40,12 +40,18 @@ pub(crate) fn target_of(
         return Err(ReadError::Fault(fault_at(alloc, key, Rule::NotMap)?));
     };
     let description = optional_description(alloc, fields, "description")?;
-    let target = required_text(alloc, fields, "target")?;
-    close(alloc, fields, &["description", "target"])?;
-    Ok(AlertNotificationTarget {
+    let target = match required_text(alloc, fields, "target") {
+        Ok(target) => target,
+        Err(error) => {
+            drop(description);
+            return Err(error);
+        }
+    };
+    let target = AlertNotificationTarget {
         description,
         target,
-    })
+    };
+    close_with(alloc, fields, &["description", "target"], target)
 }
 
 /// The body of a target, which must stand.
@@ -71,9 +77,20 @@ fn inline_target_object(alloc: Global, fields: &[(NodeText, Node)]) -> Result<Ob
     let _version = optional_version(alloc, fields, "apiVersion")?;
     let _kind = optional_only_kind(alloc, fields, "kind", Kind::AlertNotificationTarget)?;
     let metadata = required_metadata(alloc, fields, "metadata")?;
-    let body = required_target_body(alloc, fields, "spec")?;
-    close(alloc, fields, &["apiVersion", "kind", "metadata", "spec"])?;
-    Ok(object_with(Kind::AlertNotificationTarget, metadata, body))
+    let body = match required_target_body(alloc, fields, "spec") {
+        Ok(body) => body,
+        Err(error) => {
+            drop(metadata);
+            return Err(error);
+        }
+    };
+    let object = object_with(Kind::AlertNotificationTarget, metadata, body);
+    close_with(
+        alloc,
+        fields,
+        &["apiVersion", "kind", "metadata", "spec"],
+        object,
+    )
 }
 
 /// A target that stands inline, and its name.

@@ -13,7 +13,7 @@ ghost use Rattle.slo_objects.specs.AlertPolicy.{targets, policy_body};
 use crate::alert_condition::inline_condition;
 use crate::alert_notification_target::inline_target;
 use crate::fault::{ReadError, Rule};
-use crate::fields::{close, fault_at, field};
+use crate::fields::{close_with_both, close_with_objects, fault_at, field};
 use crate::inline::{object_with, reference_of, required_metadata, take_out};
 use crate::kind::Kind;
 use crate::names::Names;
@@ -164,9 +164,35 @@ pub(crate) fn alert_policy_of(
     let alert_when_no_data = optional_boolean(alloc, fields, "alertWhenNoData")?;
     let alert_when_resolved = optional_boolean(alloc, fields, "alertWhenResolved")?;
     let alert_when_breaching = optional_boolean(alloc, fields, "alertWhenBreaching")?;
-    let (mut objects, conditions) = optional_conditions(alloc, fields, "conditions")?;
-    let (more, notification_targets) = optional_targets(alloc, fields, "notificationTargets")?;
-    close(
+    let (objects, conditions) = match optional_conditions(alloc, fields, "conditions") {
+        Ok(taken) => taken,
+        Err(error) => {
+            drop(description);
+            return Err(error);
+        }
+    };
+    let (more, notification_targets) = match optional_targets(
+        alloc,
+        fields,
+        "notificationTargets",
+    ) {
+        Ok(taken) => taken,
+        Err(error) => {
+            drop(description);
+            drop(objects);
+            drop(conditions);
+            return Err(error);
+        }
+    };
+    let policy = AlertPolicy {
+        description,
+        alert_when_no_data,
+        alert_when_resolved,
+        alert_when_breaching,
+        conditions,
+        notification_targets,
+    };
+    close_with_both(
         alloc,
         fields,
         &[
@@ -177,17 +203,10 @@ pub(crate) fn alert_policy_of(
             "conditions",
             "notificationTargets",
         ],
-    )?;
-    objects.append(more)?;
-    let policy = AlertPolicy {
-        description,
-        alert_when_no_data,
-        alert_when_resolved,
-        alert_when_breaching,
-        conditions,
-        notification_targets,
-    };
-    Ok((objects, policy))
+        objects,
+        more,
+        policy,
+    )
 }
 
 /// The body of a policy, which must stand.
@@ -219,9 +238,21 @@ fn inline_policy_object(
     let _version = optional_version(alloc, fields, "apiVersion")?;
     let _kind = optional_only_kind(alloc, fields, "kind", Kind::AlertPolicy)?;
     let metadata = required_metadata(alloc, fields, "metadata")?;
-    let (objects, body) = required_policy_body(alloc, fields, "spec")?;
-    close(alloc, fields, &["apiVersion", "kind", "metadata", "spec"])?;
-    Ok((objects, object_with(Kind::AlertPolicy, metadata, body)))
+    let (objects, body) = match required_policy_body(alloc, fields, "spec") {
+        Ok(taken) => taken,
+        Err(error) => {
+            drop(metadata);
+            return Err(error);
+        }
+    };
+    let object = object_with(Kind::AlertPolicy, metadata, body);
+    close_with_objects(
+        alloc,
+        fields,
+        &["apiVersion", "kind", "metadata", "spec"],
+        objects,
+        object,
+    )
 }
 
 /// A policy that stands inline, behind what stands inline in it, and its name.

@@ -109,10 +109,16 @@ fn copy_ratio(alloc: Global, ratio: &Ratio) -> Result<Ratio, AllocError>
             raw: copy_source(alloc, raw)?,
             raw_type: *raw_type,
         }),
-        Ratio::Counts { total, events } => Ok(Ratio::Counts {
-            total: copy_source(alloc, total)?,
-            events: copy_events(alloc, events)?,
-        }),
+        Ratio::Counts { total, events } => {
+            let total = copy_source(alloc, total)?;
+            match copy_events(alloc, events) {
+                Ok(events) => Ok(Ratio::Counts { total, events }),
+                Err(error) => {
+                    drop(total);
+                    Err(error)
+                }
+            }
+        }
     }
 }
 
@@ -185,27 +191,59 @@ fn copy_objectives(alloc: Global, objectives: &Objectives) -> Result<Objectives,
 fn copy_slo(alloc: Global, slo: &Slo) -> Result<Slo, AllocError>
     ensures { IfOk result (λ s. s ≡ slo.now) }
 {
+    let description = copy_optional_text(alloc, &slo.description)?;
+    let objectives = match copy_objectives(alloc, &slo.objectives) {
+        Ok(objectives) => objectives,
+        Err(error) => {
+            drop(description);
+            return Err(error);
+        }
+    };
+    let alert_policies = match copy_optional_names(alloc, &slo.alert_policies) {
+        Ok(alert_policies) => alert_policies,
+        Err(error) => {
+            drop(description);
+            drop(objectives);
+            return Err(error);
+        }
+    };
     Ok(Slo {
-        description: copy_optional_text(alloc, &slo.description)?,
+        description,
         service: slo.service,
         indicator: slo.indicator,
         time_window: copy_window(&slo.time_window),
         budgeting_method: slo.budgeting_method,
-        objectives: copy_objectives(alloc, &slo.objectives)?,
-        alert_policies: copy_optional_names(alloc, &slo.alert_policies)?,
+        objectives,
+        alert_policies,
     })
 }
 
 fn copy_policy(alloc: Global, policy: &AlertPolicy) -> Result<AlertPolicy, AllocError>
     ensures { IfOk result (λ p. p ≡ policy.now) }
 {
+    let description = copy_optional_text(alloc, &policy.description)?;
+    let conditions = match copy_optional_names(alloc, &policy.conditions) {
+        Ok(conditions) => conditions,
+        Err(error) => {
+            drop(description);
+            return Err(error);
+        }
+    };
+    let notification_targets = match copy_optional_names(alloc, &policy.notification_targets) {
+        Ok(notification_targets) => notification_targets,
+        Err(error) => {
+            drop(description);
+            drop(conditions);
+            return Err(error);
+        }
+    };
     Ok(AlertPolicy {
-        description: copy_optional_text(alloc, &policy.description)?,
+        description,
         alert_when_no_data: policy.alert_when_no_data,
         alert_when_resolved: policy.alert_when_resolved,
         alert_when_breaching: policy.alert_when_breaching,
-        conditions: copy_optional_names(alloc, &policy.conditions)?,
-        notification_targets: copy_optional_names(alloc, &policy.notification_targets)?,
+        conditions,
+        notification_targets,
     })
 }
 
@@ -263,12 +301,37 @@ fn copy_body(alloc: Global, body: &Body) -> Result<Body, AllocError>
 pub fn copy_object(alloc: Global, object: &Object) -> Result<Object, AllocError>
     ensures { IfOk result (λ o. o ≡ object.now) }
 {
+    let display_name = copy_optional_text(alloc, &object.display_name)?;
+    let labels = match copy_optional_part(alloc, &object.labels) {
+        Ok(labels) => labels,
+        Err(error) => {
+            drop(display_name);
+            return Err(error);
+        }
+    };
+    let annotations = match copy_optional_part(alloc, &object.annotations) {
+        Ok(annotations) => annotations,
+        Err(error) => {
+            drop(display_name);
+            drop(labels);
+            return Err(error);
+        }
+    };
+    let body = match copy_body(alloc, &object.body) {
+        Ok(body) => body,
+        Err(error) => {
+            drop(display_name);
+            drop(labels);
+            drop(annotations);
+            return Err(error);
+        }
+    };
     Ok(Object {
         kind: object.kind,
         name: object.name,
-        display_name: copy_optional_text(alloc, &object.display_name)?,
-        labels: copy_optional_part(alloc, &object.labels)?,
-        annotations: copy_optional_part(alloc, &object.annotations)?,
-        body: copy_body(alloc, &object.body)?,
+        display_name,
+        labels,
+        annotations,
+        body,
     })
 }

@@ -6,7 +6,7 @@ ghost use Rattle.slo_objects.specs.Reading.{Gives, alone};
 ghost use Rattle.slo_objects.specs.DataSource.{data_source};
 
 use crate::fault::{ReadError, Rule};
-use crate::fields::{close, fault_at};
+use crate::fields::{close_with, fault_at};
 use crate::part::Part;
 use crate::rows::{optional_description, optional_free, required_text};
 use crate::shape::map_entries;
@@ -32,12 +32,30 @@ pub(crate) fn data_source_of(alloc: Global, key: &str, node: &Node) -> Result<Da
         return Err(ReadError::Fault(fault_at(alloc, key, Rule::NotMap)?));
     };
     let description = optional_description(alloc, fields, "description")?;
-    let type_text = required_text(alloc, fields, "type")?;
-    let connection_details = optional_free(alloc, fields, "connectionDetails")?;
-    close(alloc, fields, &["description", "type", "connectionDetails"])?;
-    Ok(DataSource {
+    let type_text = match required_text(alloc, fields, "type") {
+        Ok(type_text) => type_text,
+        Err(error) => {
+            drop(description);
+            return Err(error);
+        }
+    };
+    let connection_details = match optional_free(alloc, fields, "connectionDetails") {
+        Ok(connection_details) => connection_details,
+        Err(error) => {
+            drop(description);
+            drop(type_text);
+            return Err(error);
+        }
+    };
+    let source = DataSource {
         description,
         type_text,
         connection_details,
-    })
+    };
+    close_with(
+        alloc,
+        fields,
+        &["description", "type", "connectionDetails"],
+        source,
+    )
 }

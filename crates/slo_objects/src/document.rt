@@ -12,7 +12,7 @@ use crate::alert_notification_target::target_of;
 use crate::alert_policy::alert_policy_of;
 use crate::data_source::data_source_of;
 use crate::fault::{ReadError, Rule};
-use crate::fields::{close, fault_at, field};
+use crate::fields::{close_with_objects, fault_at, field};
 use crate::inline::{object_with, required_metadata};
 use crate::kind::Kind;
 use crate::object::{Body, Object, Objects};
@@ -29,27 +29,36 @@ use yaml_subset::{Node, Text as NodeText};
 fn body_of(alloc: Global, key: &str, node: &Node, kind: Kind) -> Result<(Objects, Body), ReadError>
     ensures { Gives both result ((body kind).read key.now (node_view node.now)) }
 {
-    let mut objects = Objects::new(alloc);
-    let body = match kind {
-        Kind::DataSource => Body::DataSource(data_source_of(alloc, key, node)?),
-        Kind::Service => Body::Service(service_of(alloc, key, node)?),
-        Kind::Sli => Body::Sli(sli_of(alloc, key, node)?),
+    match kind {
+        Kind::DataSource => {
+            let source = data_source_of(alloc, key, node)?;
+            Ok((Objects::new(alloc), Body::DataSource(source)))
+        }
+        Kind::Service => {
+            let service = service_of(alloc, key, node)?;
+            Ok((Objects::new(alloc), Body::Service(service)))
+        }
+        Kind::Sli => {
+            let sli = sli_of(alloc, key, node)?;
+            Ok((Objects::new(alloc), Body::Sli(sli)))
+        }
         Kind::Slo => {
-            let (taken, slo) = slo_of(alloc, key, node)?;
-            objects = taken;
-            Body::Slo(slo)
+            let (objects, slo) = slo_of(alloc, key, node)?;
+            Ok((objects, Body::Slo(slo)))
         }
         Kind::AlertPolicy => {
-            let (taken, policy) = alert_policy_of(alloc, key, node)?;
-            objects = taken;
-            Body::AlertPolicy(policy)
+            let (objects, policy) = alert_policy_of(alloc, key, node)?;
+            Ok((objects, Body::AlertPolicy(policy)))
         }
-        Kind::AlertCondition => Body::AlertCondition(alert_condition_of(alloc, key, node)?),
+        Kind::AlertCondition => {
+            let condition = alert_condition_of(alloc, key, node)?;
+            Ok((Objects::new(alloc), Body::AlertCondition(condition)))
+        }
         Kind::AlertNotificationTarget => {
-            Body::AlertNotificationTarget(target_of(alloc, key, node)?)
+            let target = target_of(alloc, key, node)?;
+            Ok((Objects::new(alloc), Body::AlertNotificationTarget(target)))
         }
-    };
-    Ok((objects, body))
+    }
 }
 
 fn required_body(
@@ -76,9 +85,21 @@ fn document_of(alloc: Global, key: &str, node: &Node) -> Result<(Objects, Object
     let _version = required_version(alloc, fields, "apiVersion")?;
     let kind = required_kind(alloc, fields, "kind")?;
     let metadata = required_metadata(alloc, fields, "metadata")?;
-    let (objects, body) = required_body(alloc, fields, "spec", kind)?;
-    close(alloc, fields, &["apiVersion", "kind", "metadata", "spec"])?;
-    Ok((objects, object_with(kind, metadata, body)))
+    let (objects, body) = match required_body(alloc, fields, "spec", kind) {
+        Ok(taken) => taken,
+        Err(error) => {
+            drop(metadata);
+            return Err(error);
+        }
+    };
+    let object = object_with(kind, metadata, body);
+    close_with_objects(
+        alloc,
+        fields,
+        &["apiVersion", "kind", "metadata", "spec"],
+        objects,
+        object,
+    )
 }
 
 /// The objects that a document stands for: those that stand inline, in order, and then its own.

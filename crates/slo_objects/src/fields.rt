@@ -2,12 +2,14 @@
 ghost use Rattle.std.specs.Prelude.{◌≡◌, ◌&&◌, ◌||◌, not, option_map, map, IfOk};
 ghost use Rattle.std.specs.Str.{bytes_eq};
 ghost use Rattle.yaml_subset.specs.NodeView.{node_view};
-ghost use Rattle.slo_objects.specs.Form.{closed, field_of, is_among as is_among_lem};
+ghost use Rattle.slo_objects.specs.Form.{after, and_then, closed, field_of};
+ghost use Rattle.slo_objects.specs.Form.{is_among as is_among_lem};
 ghost use Rattle.slo_objects.specs.Form.{is_null as is_null_lem, map_read, gives, shown, utf8_in};
 ghost use Rattle.slo_objects.specs.Form.{has_one_of as has_one_of_lem};
-ghost use Rattle.slo_objects.specs.Reading.{Gives, alone, entries_view};
+ghost use Rattle.slo_objects.specs.Reading.{Gives, alone, both, entries_view};
 
 use crate::fault::{ObjectFault, ReadError, Rule};
+use crate::object::Objects;
 use crate::shape::is_null;
 use exact_fraction::Text;
 use std::alloc::{AllocError, Global};
@@ -109,4 +111,67 @@ pub(crate) fn close(
         }
     }
     Ok(())
+}
+
+/// Closes a map behind the value that was read of it.
+pub(crate) fn close_with<T: Drop>(
+    alloc: Global,
+    fields: &[(NodeText, Node)],
+    known: &[&str],
+    value: T,
+) -> Result<T, ReadError>
+    ensures { Gives alone result (and_then (closed (map (λ k. k.now) known.now)
+        (entries_view fields.now)) (λ _. gives value)) }
+{
+    match close(alloc, fields, known) {
+        Ok(()) => Ok(value),
+        Err(error) => Err(error),
+    }
+}
+
+/// Closes a map behind the value that was read of it, and the objects that stood inline.
+pub(crate) fn close_with_objects<T: Drop>(
+    alloc: Global,
+    fields: &[(NodeText, Node)],
+    known: &[&str],
+    objects: Objects,
+    value: T,
+) -> Result<(Objects, T), ReadError>
+    ensures { Gives both result (after objects (and_then (closed (map (λ k. k.now) known.now)
+        (entries_view fields.now)) (λ _. gives value))) }
+{
+    match close(alloc, fields, known) {
+        Ok(()) => Ok((objects, value)),
+        Err(error) => {
+            drop(objects);
+            Err(error)
+        }
+    }
+}
+
+/// Closes a map behind the value that was read of it, and the objects that stood inline in two of
+/// its fields.
+pub(crate) fn close_with_both<T: Drop>(
+    alloc: Global,
+    fields: &[(NodeText, Node)],
+    known: &[&str],
+    mut objects: Objects,
+    more: Objects,
+    value: T,
+) -> Result<(Objects, T), ReadError>
+    ensures { Gives both result (after objects (after more (and_then
+        (closed (map (λ k. k.now) known.now) (entries_view fields.now)) (λ _. gives value)))) }
+{
+    if let Err(error) = close(alloc, fields, known) {
+        drop(objects);
+        drop(more);
+        return Err(error);
+    }
+    match objects.append(more) {
+        Ok(()) => Ok((objects, value)),
+        Err(_) => {
+            drop(objects);
+            Err(ReadError::NoMemory)
+        }
+    }
 }

@@ -7,7 +7,7 @@ ghost use Rattle.slo_objects.specs.Metadata.{metadata, object_with as object_wit
 ghost use Rattle.slo_objects.specs.Inline.{reference};
 
 use crate::fault::{ReadError, Rule};
-use crate::fields::{close, fault_at, field};
+use crate::fields::{close, close_with, fault_at, field};
 use crate::kind::Kind;
 use crate::object::{Body, Metadata, Object, Objects};
 use crate::rows::{optional_free_map, optional_text, required_name};
@@ -25,19 +25,33 @@ fn metadata_of(alloc: Global, key: &str, node: &Node) -> Result<Metadata, ReadEr
     };
     let name = required_name(alloc, fields, "name")?;
     let display_name = optional_text(alloc, fields, "displayName")?;
-    let labels = optional_free_map(alloc, fields, "labels")?;
-    let annotations = optional_free_map(alloc, fields, "annotations")?;
-    close(
-        alloc,
-        fields,
-        &["name", "displayName", "labels", "annotations"],
-    )?;
-    Ok(Metadata {
+    let labels = match optional_free_map(alloc, fields, "labels") {
+        Ok(labels) => labels,
+        Err(error) => {
+            drop(display_name);
+            return Err(error);
+        }
+    };
+    let annotations = match optional_free_map(alloc, fields, "annotations") {
+        Ok(annotations) => annotations,
+        Err(error) => {
+            drop(display_name);
+            drop(labels);
+            return Err(error);
+        }
+    };
+    let metadata = Metadata {
         name,
         display_name,
         labels,
         annotations,
-    })
+    };
+    close_with(
+        alloc,
+        fields,
+        &["name", "displayName", "labels", "annotations"],
+        metadata,
+    )
 }
 
 /// The metadata, which must stand.

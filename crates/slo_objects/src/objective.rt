@@ -14,7 +14,7 @@ ghost use Rattle.slo_objects.specs.Slo.{has_slices as has_slices_lem};
 
 use crate::durations::{duration_at, number_of, percent_of};
 use crate::fault::{ReadError, Rule};
-use crate::fields::{close, fault_at, field};
+use crate::fields::{close_with, fault_at, field};
 use crate::rows::{optional_number, optional_op, optional_text};
 use crate::shape::{map_entries, scalar_text};
 use crate::slo::{BudgetingMethod, Objective};
@@ -183,7 +183,15 @@ pub(crate) fn objective_of(
         ONE,
     )?;
     let time_slice_window = width_where(alloc, has_slices(method), fields, "timeSliceWindow")?;
-    close(
+    let objective = Objective {
+        display_name,
+        op,
+        value,
+        target,
+        time_slice_target,
+        time_slice_window,
+    };
+    close_with(
         alloc,
         fields,
         &[
@@ -195,13 +203,6 @@ pub(crate) fn objective_of(
             "timeSliceTarget",
             "timeSliceWindow",
         ],
-    )?;
-    Ok(Objective {
-        display_name,
-        op,
-        value,
-        target,
-        time_slice_target,
-        time_slice_window,
-    })
+        objective,
+    )
 }

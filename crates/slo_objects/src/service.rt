@@ -6,7 +6,7 @@ ghost use Rattle.slo_objects.specs.Reading.{Gives, alone};
 ghost use Rattle.slo_objects.specs.Service.{service};
 
 use crate::fault::{ReadError, Rule};
-use crate::fields::{close, fault_at};
+use crate::fields::{close_with, fault_at};
 use crate::rows::optional_description;
 use crate::shape::map_entries;
 use exact_fraction::Text;
@@ -28,6 +28,5 @@ pub(crate) fn service_of(alloc: Global, key: &str, node: &Node) -> Result<Servic
         return Err(ReadError::Fault(fault_at(alloc, key, Rule::NotMap)?));
     };
     let description = optional_description(alloc, fields, "description")?;
-    close(alloc, fields, &["description"])?;
-    Ok(Service { description })
+    close_with(alloc, fields, &["description"], Service { description })
 }

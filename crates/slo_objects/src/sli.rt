@@ -14,7 +14,7 @@ ghost use Rattle.slo_objects.specs.declared.sli.Events.TheVariants.{Good, Bad};
 ghost use Rattle.slo_objects.specs.declared.sli.Metric.TheVariants as metrics;
 
 use crate::fault::{ReadError, Rule};
-use crate::fields::{close, fault_at, field, has_one_of};
+use crate::fields::{close_with, fault_at, field, has_one_of};
 use crate::inline::{object_with, required_metadata, take_out};
 use crate::kind::Kind;
 use crate::object::{Body, Object, Objects};
@@ -102,13 +102,19 @@ fn metric_source_of(alloc: Global, key: &str, node: &Node) -> Result<MetricSourc
     };
     let metric_source_ref = optional_name(alloc, fields, "metricSourceRef")?;
     let type_text = optional_text(alloc, fields, "type")?;
-    let spec = optional_free(alloc, fields, "spec")?;
-    close(alloc, fields, &["metricSourceRef", "type", "spec"])?;
-    Ok(MetricSource {
+    let spec = match optional_free(alloc, fields, "spec") {
+        Ok(spec) => spec,
+        Err(error) => {
+            drop(type_text);
+            return Err(error);
+        }
+    };
+    let source = MetricSource {
         metric_source_ref,
         type_text,
         spec,
-    })
+    };
+    close_with(alloc, fields, &["metricSourceRef", "type", "spec"], source)
 }
 
 fn required_metric_source(
@@ -134,8 +140,7 @@ fn source_of(alloc: Global, key: &str, node: &Node) -> Result<MetricSource, Read
         return Err(ReadError::Fault(fault_at(alloc, key, Rule::NotMap)?));
     };
     let source = required_metric_source(alloc, fields, "metricSource")?;
-    close(alloc, fields, &["metricSource"])?;
-    Ok(source)
+    close_with(alloc, fields, &["metricSource"], source)
 }
 
 fn required_source(
@@ -237,12 +242,18 @@ fn raw_ratio_of(
     ensures { Gives alone result (run (raw_ratio counter raw) known_with_raw
         (entries_view fields.now)) }
 {
-    let raw_type = required_raw_type(alloc, fields, "rawType")?;
-    close(alloc, fields, &["counter", "raw", "rawType"])?;
-    Ok(RatioMetric {
+    let raw_type = match required_raw_type(alloc, fields, "rawType") {
+        Ok(raw_type) => raw_type,
+        Err(error) => {
+            drop(raw);
+            return Err(error);
+        }
+    };
+    let metric = RatioMetric {
         counter,
         ratio: Ratio::Raw { raw, raw_type },
-    })
+    };
+    close_with(alloc, fields, &["counter", "raw", "rawType"], metric)
 }
 
 /// What follows on `counter` where `raw` doesn't stand.
@@ -256,12 +267,23 @@ fn counted_ratio_of(
         (entries_view fields.now)) }
 {
     let total = required_source(alloc, fields, "total")?;
-    let events = one_of_events(alloc, fields, "good", "bad")?;
-    close(alloc, fields, &["counter", "raw", "total", "good", "bad"])?;
-    Ok(RatioMetric {
+    let events = match one_of_events(alloc, fields, "good", "bad") {
+        Ok(events) => events,
+        Err(error) => {
+            drop(total);
+            return Err(error);
+        }
+    };
+    let metric = RatioMetric {
         counter,
         ratio: Ratio::Counts { total, events },
-    })
+    };
+    close_with(
+        alloc,
+        fields,
+        &["counter", "raw", "total", "good", "bad"],
+        metric,
+    )
 }
 
 #[tactic(auto, unfolding(crate::specs::Sli::ratio_metric))]
@@ -307,16 +329,23 @@ pub(crate) fn sli_of(alloc: Global, key: &str, node: &Node) -> Result<Sli, ReadE
         return Err(ReadError::Fault(fault_at(alloc, key, Rule::NotMap)?));
     };
     let description = optional_description(alloc, fields, "description")?;
-    let metric = one_metric(alloc, fields, "thresholdMetric", "ratioMetric")?;
-    close(
+    let metric = match one_metric(alloc, fields, "thresholdMetric", "ratioMetric") {
+        Ok(metric) => metric,
+        Err(error) => {
+            drop(description);
+            return Err(error);
+        }
+    };
+    let sli = Sli {
+        description,
+        metric,
+    };
+    close_with(
         alloc,
         fields,
         &["description", "thresholdMetric", "ratioMetric"],
-    )?;
-    Ok(Sli {
-        description,
-        metric,
-    })
+        sli,
+    )
 }
 
 /// The body of an indicator, which must stand.
@@ -342,9 +371,20 @@ fn inline_sli_object(alloc: Global, fields: &[(NodeText, Node)]) -> Result<Objec
     let _version = optional_version(alloc, fields, "apiVersion")?;
     let _kind = optional_only_kind(alloc, fields, "kind", Kind::Sli)?;
     let metadata = required_metadata(alloc, fields, "metadata")?;
-    let body = required_sli_body(alloc, fields, "spec")?;
-    close(alloc, fields, &["apiVersion", "kind", "metadata", "spec"])?;
-    Ok(object_with(Kind::Sli, metadata, body))
+    let body = match required_sli_body(alloc, fields, "spec") {
+        Ok(body) => body,
+        Err(error) => {
+            drop(metadata);
+            return Err(error);
+        }
+    };
+    let object = object_with(Kind::Sli, metadata, body);
+    close_with(
+        alloc,
+        fields,
+        &["apiVersion", "kind", "metadata", "spec"],
+        object,
+    )
 }
 
 /// An indicator that stands inline, and its name.

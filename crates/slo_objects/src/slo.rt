@@ -12,7 +12,7 @@ ghost use Rattle.slo_objects.specs.Scalars.{name};
 
 use crate::alert_policy::inline_policy;
 use crate::fault::{ReadError, Rule};
-use crate::fields::{close, fault_at, field};
+use crate::fields::{close_with_both, fault_at, field};
 use crate::inline::reference_of;
 use crate::names::Names;
 use crate::object::Objects;
@@ -335,12 +335,38 @@ pub(crate) fn slo_of(alloc: Global, key: &str, node: &Node) -> Result<(Objects, 
     };
     let description = optional_description(alloc, fields, "description")?;
     let service = required_name(alloc, fields, "service")?;
-    let (mut objects, indicator) = one_indicator(alloc, fields, "indicator", "indicatorRef")?;
+    let (objects, indicator) = one_indicator(alloc, fields, "indicator", "indicatorRef")?;
     let time_window = required_window(alloc, fields, "timeWindow")?;
     let budgeting_method = required_method(alloc, fields, "budgetingMethod")?;
-    let objectives = required_objectives(alloc, fields, "objectives", budgeting_method)?;
-    let (more, alert_policies) = optional_policies(alloc, fields, "alertPolicies")?;
-    close(
+    let objectives = match required_objectives(alloc, fields, "objectives", budgeting_method) {
+        Ok(objectives) => objectives,
+        Err(error) => {
+            drop(description);
+            drop(objects);
+            drop(time_window);
+            return Err(error);
+        }
+    };
+    let (more, alert_policies) = match optional_policies(alloc, fields, "alertPolicies") {
+        Ok(taken) => taken,
+        Err(error) => {
+            drop(description);
+            drop(objects);
+            drop(time_window);
+            drop(objectives);
+            return Err(error);
+        }
+    };
+    let slo = Slo {
+        description,
+        service,
+        indicator,
+        time_window,
+        budgeting_method,
+        objectives,
+        alert_policies,
+    };
+    close_with_both(
         alloc,
         fields,
         &[
@@ -353,16 +379,8 @@ pub(crate) fn slo_of(alloc: Global, key: &str, node: &Node) -> Result<(Objects, 
             "objectives",
             "alertPolicies",
         ],
-    )?;
-    objects.append(more)?;
-    let slo = Slo {
-        description,
-        service,
-        indicator,
-        time_window,
-        budgeting_method,
-        objectives,
-        alert_policies,
-    };
-    Ok((objects, slo))
+        objects,
+        more,
+        slo,
+    )
 }

@@ -1,5 +1,5 @@
 //! Time windows and budgeting methods.
-ghost use Rattle.std.specs.Prelude.{◌≡◌, cond};
+ghost use Rattle.std.specs.Prelude.{◌≡◌, ◌||◌, cond};
 ghost use Rattle.yaml_subset.specs.NodeView.{node_view};
 ghost use Rattle.slo_objects.specs.Form.{map_with, required, required_unless, gives, refused};
 ghost use Rattle.slo_objects.specs.Reading.{Gives, alone, entries_view};
@@ -10,7 +10,7 @@ ghost use Rattle.slo_objects.specs.Slo.{is_calendar_unit as is_calendar_unit_lem
 ghost use Rattle.slo_objects.specs.Slo.{method_value};
 
 use crate::fault::{ReadError, Rule};
-use crate::fields::{close, fault_at, field};
+use crate::fields::{close_with, fault_at, field};
 use crate::moments::moment_of;
 use crate::rows::{optional_boolean, required_duration};
 use crate::scalars::{is_word, zone_name_of};
@@ -60,11 +60,11 @@ fn calendar_of(alloc: Global, key: &str, node: &Node) -> Result<Calendar, ReadEr
     };
     let start_time = required_moment(alloc, fields, "startTime")?;
     let time_zone = required_zone_name(alloc, fields, "timeZone")?;
-    close(alloc, fields, &["startTime", "timeZone"])?;
-    Ok(Calendar {
+    let calendar = Calendar {
         start_time,
         time_zone,
-    })
+    };
+    close_with(alloc, fields, &["startTime", "timeZone"], calendar)
 }
 
 /// A calendar, which must stand unless it is barred, where it may not.
@@ -108,6 +108,13 @@ fn is_calendar_unit(unit: Unit) -> bool
     }
 }
 
+/// Whether a window may have a duration of that unit.
+fn may_have_unit(rolling: bool, unit: Unit) -> bool
+    ensures { result ≡ (rolling || is_calendar_unit_lem unit) }
+{
+    rolling || is_calendar_unit(unit)
+}
+
 /// Refuses a duration that no calendar window can have.
 fn check_unit(alloc: Global, fits: bool, key: &str) -> Result<(), ReadError>
     ensures { Gives alone result (cond fits (gives tt) (refused key.now Rule.OutOfRange)) }
@@ -130,18 +137,20 @@ pub(crate) fn time_window_of(alloc: Global, key: &str, node: &Node) -> Result<Ti
     let duration = required_duration(alloc, fields, "duration", 1, MOST_WINDOW)?;
     let is_rolling_field = optional_boolean(alloc, fields, "isRolling")?;
     let rolling = is_rolling(is_rolling_field);
-    check_unit(
-        alloc,
-        rolling || is_calendar_unit(duration.unit),
-        "duration",
-    )?;
+    let fits = may_have_unit(rolling, duration.unit);
+    check_unit(alloc, fits, "duration")?;
     let calendar = calendar_unless(alloc, rolling, fields, "calendar")?;
-    close(alloc, fields, &["duration", "isRolling", "calendar"])?;
-    Ok(TimeWindow {
+    let window = TimeWindow {
         duration,
         is_rolling: is_rolling_field,
         calendar,
-    })
+    };
+    close_with(
+        alloc,
+        fields,
+        &["duration", "isRolling", "calendar"],
+        window,
+    )
 }
 
 #[tactic(auto, unfolding(crate::specs::Slo::method_value))]

@@ -1,0 +1,13 @@
+use Rattle.std.proofs.Common.{ap, ◌∙◌}
+use Rattle.yaml_subset.specs.Spelling.{fields, no_fields}
+use Rattle.slo_objects.specs.Form.{put}
+use Rattle.slo_objects.specs.Sli.{source_map}
+use Rattle.slo_objects.specs.Adding.{before}
+use Rattle.slo_objects.proofs.writing.sli.source_map.Goals as goal
+
+-- line by line, from the last to the first
+pub returns : goal.returns
+unfolding source_map
+returns c = c.map_of.ensures ∙ ap fields
+    ((rw c.in_ok-metric_source.ensures at c.in_ok-put.ensures) no_fields
+    ∙ ap (λ ps. before ps (put source_map c.args.value.now)) c.new-fields.ensures.items)
