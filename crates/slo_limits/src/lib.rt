@@ -54,9 +54,6 @@ pub const MAX_STARTS: u32 = 40_000;
 /// The most bytes of a text of documents, as many as the body of a message has.
 pub const MAX_TEXT_BYTES: usize = 1_048_576;
 
-/// The most bytes of a table of samples: those of some weeks of one source.
-pub const MAX_TABLE_BYTES: usize = 1_048_576;
-
 /// The most objects of a catalog: those of a company of some hundred teams.
 pub const MAX_OBJECTS: usize = 2_000;
 
