@@ -1,5 +1,8 @@
 -- What holds of all rows holds of the current ones, and they are no more.
-use Rattle.std.proofs.Common.{◌≤◌, ◌+◌, ℕ, List, [], ◌∷◌, ◌++◌, Bool, true, false, All, arith}
+use Rattle.std.proofs.Common.{◌≡◌, ◌≤◌, ◌<◌, ◌+◌, ◌∙◌, ℕ, List, [], ◌∷◌, ◌++◌, Bool, true, false}
+use Rattle.std.proofs.Common.{All, arith, ap, refl, sym}
+use Rattle.std.specs.Prelude.{Ok, Err}
+use Rattle.std.proofs.lemmas.Bool.Decides.{nat_tests}
 use Rattle.std.proofs.Common.{length, length-append, filter, fold, map, nat_lt, not, if◌then◌else◌}
 use Rattle.std.proofs.lemmas.List.Elements.{All-cons, All-filter, All-head, All-nil, All-push}
 use Rattle.std.proofs.lemmas.List.Elements.{All-tail}
@@ -8,7 +11,12 @@ use Rattle.sample_book.specs.declared.Row.{Row}
 use Rattle.sample_book.specs.Rows.{current_rows, same_cell, verdict_of}
 use Rattle.sample_book.specs.History.{is_put}
 use Rattle.sample_book.specs.declared.RowVerdict.{RowVerdict}
+use Rattle.sample_book.specs.declared.RowVerdict.TheVariants.{New, Newer, Repeated, Superseded}
+use Rattle.sample_book.specs.declared.RowVerdict.TheVariants.{Conflict}
 use Rattle.sample_book.specs.Puts.{IsPutInto, behind, in_place, is_new}
+use Rattle.slo_limits.specs.declared.TheConstants.{MAX_CELLS}
+use Rattle.budget_command.specs.declared.fault.RecordFault.TheVariants as fault
+use Rattle.budget_command.specs.Records.{taken_as}
 use Rattle.budget_command.specs.Tables.{one_if, rows_after}
 
 newer-holds : {A : Type 0} (P : A → Type 0) (revision_of : A → ℕ) (kept row : A) → P kept → P row
@@ -63,6 +71,36 @@ length-put _ _ _ _ (behind rows row) = omega (arith, length-append rows (row ∷
 length-put _ _ _ _ (in_place before after kept row same) = omega
     (arith, length-append before (kept ∷ after), length-append before (row ∷ after))
 
-pub one_if-most : (so : Bool) → one_if so ≤ 1
-one_if-most true = omega arith
-one_if-most false = omega arith
+-- a row that isn't put changes nothing
+unmoved : (rows after : List Row) (row : Row) (verdict : RowVerdict)
+    → verdict ≡ verdict_of rows row → after ≡ rows_after rows row → is_put verdict ≡ false →
+    length after ≡ length rows
+unmoved rows after row verdict v e passed =
+    ap (λ (rs : List Row). length rs) e
+    ∙ ap (λ (b : Bool). length (if b then current_rows (rows ++ row ∷ []) else rows))
+    (ap is_put (sym v) ∙ passed)
+
+-- A row that is taken leaves no more rows than there may be.
+pub few-after : (rows after : List Row) (row : Row) (verdict : RowVerdict)
+    → verdict ≡ verdict_of rows row → after ≡ rows_after rows row →
+    (is_put verdict ≡ true → IsPutInto rows row verdict after) →
+    taken_as (length rows) verdict row ≡ Ok row → length rows ≤ MAX_CELLS
+    → length after ≤ MAX_CELLS
+few-after rows after row New v e put taken few =
+    let more = length-put rows after row New (put refl) in
+    let room = room_left (nat_lt (length rows) MAX_CELLS) refl taken in
+    omega (arith, more, room)
+  where
+    room_left : (b : Bool) → nat_lt (length rows) MAX_CELLS ≡ b
+        → (if b then Ok row else Err fault.Limit) ≡ Ok row → length rows < MAX_CELLS
+    room_left true lt h = grind (arith, nat_tests, lt)
+    room_left false lt h = cc h
+few-after rows after row (Newer old) v e put taken few =
+    let more = length-put rows after row (Newer old) (put refl) in
+    omega (arith, more, few)
+few-after rows after row Repeated v e put taken few =
+    let same = unmoved rows after row Repeated v e refl in omega (arith, same, few)
+few-after rows after row (Superseded revision) v e put taken few =
+    let same = unmoved rows after row (Superseded revision) v e refl in omega (arith, same, few)
+few-after rows after row (Conflict kept) v e put taken few =
+    let same = unmoved rows after row (Conflict kept) v e refl in omega (arith, same, few)

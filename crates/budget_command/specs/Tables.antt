@@ -16,13 +16,6 @@ use Rattle.budget_command.specs.declared.fault.RecordFault.{RecordFault}
 use Rattle.budget_command.specs.declared.judging.Judging.{Judging}
 use Rattle.budget_command.specs.declared.table.Table.{Table}
 
--- what a record comes to over the current rows: a row and how it stands to them, or a fault
-abbrev pub IsJudged : List Row → Fields → Result (Row × RowVerdict) RecordFault → Type 0
-IsJudged current fields (Ok judged) =
-    (judge_over current fields ≡ Ok judged.0) × (judged.1 ≡ verdict_of current judged.0)
-    × IsCounted judged.0
-IsJudged current fields (Err fault) = judge_over current fields ≡ Err fault
-
 -- the current rows after a row came
 abbrev pub rows_after : List Row → Row → List Row
 rows_after current row =

@@ -112,9 +112,7 @@ pub fn answer_budget<S: Source>(
     ensures later { S.faults input.old ≤ S.faults input.new }
     ensures takes { TakesAtMost (MAX_INPUT_BYTES + 1) (S.left input.old) (S.left input.new) }
 {
-    let Ok(mut judging) = Judging::new(alloc) else {
-        return Err(BudgetError::NoMemory);
-    };
+    let mut judging = Judging::new(alloc);
     let answer = input_text(alloc, order, &mut judging, input);
     drop(judging);
     answer

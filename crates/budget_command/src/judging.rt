@@ -1,5 +1,5 @@
 //! The records of a text that comes in parts, judged one after another.
-ghost use Rattle.std.specs.Prelude.{◌≡◌, ◌+◌, ◌++◌, ◌≤◌, ℕ, List, [], None, IfOk};
+ghost use Rattle.std.specs.Prelude.{◌≡◌, ◌+◌, ◌++◌, ◌≤◌, ℕ, List, [], None};
 ghost use Rattle.std.specs.Prelude.{OnOk, length, take};
 ghost use Rattle.csv_records.specs.Records.{Fields, csv_records};
 ghost use Rattle.budget_command.specs.Tables.{CanGoOn, HasJudged, HasJudgedTo};
@@ -22,15 +22,15 @@ pub struct Judging {
 
 impl Judging {
     /// Before the first record.
-    pub(crate) fn new(alloc: Global) -> Result<Judging, AllocError>
-        ensures { IfOk result (λ judging. HasJudged [] judging) }
+    pub(crate) fn new(alloc: Global) -> Judging
+        ensures { HasJudged [] result }
     {
-        let table = Table::new(alloc)?;
-        Ok(Judging {
+        let table = Table::new(alloc);
+        Judging {
             table,
             number: 1,
             fault: None,
-        })
+        }
     }
 
     /// Judges the records of one more part, where none broke a rule before it.

@@ -5,11 +5,13 @@
 
 mod answer;
 mod fault;
+mod field_number;
 mod input;
 mod judging;
 mod laws;
 mod order;
 mod row;
+mod sources;
 mod table;
 mod text;
 

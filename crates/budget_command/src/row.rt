@@ -4,7 +4,9 @@ ghost use Rattle.budget_command.specs.Records.{BUDGET, IsCounted, IsCountedAmoun
 ghost use Rattle.budget_command.specs.Records.{good_of, revision_of, row_of, total_of};
 
 use crate::fault::RecordFault;
-use exact_fraction::{Label, Leaf, read_label, read_number};
+use crate::field_number::read_field;
+use crate::sources::Sources;
+use exact_fraction::{Label, Leaf, read_label};
 use sample_book::{Amount, Row};
 use slo_limits::{MAX_AMOUNT, MAX_MINUTE, MAX_REVISION};
 
@@ -19,12 +21,8 @@ pub fn indicator() -> Label
 fn read_revision(text: &[u8]) -> Option<u32>
     ensures { result ≡ revision_of text.now }
 {
-    let revision = read_number(text, u64::from(MAX_REVISION))?;
-    if 1 <= revision {
-        Some(revision as u32)
-    } else {
-        None
-    }
+    let revision = read_field(text, MAX_REVISION)?;
+    if 1 <= revision { Some(revision) } else { None }
 }
 
 // The good events are among the total.
@@ -32,21 +30,23 @@ fn read_counts(good: &[u8], total: &[u8]) -> Option<Amount>
     ensures counts { result ≡ counts_of good.now total.now }
     ensures counted { IfSome result IsCountedAmount }
 {
-    let good = read_number(good, u64::from(MAX_AMOUNT))?;
-    let total = read_number(total, u64::from(MAX_AMOUNT))?;
+    let good = read_field(good, MAX_AMOUNT)?;
+    let total = read_field(total, MAX_AMOUNT)?;
     if good <= total {
-        Some(Amount::Counts {
-            part: good as u32,
-            total: total as u32,
-        })
+        Some(Amount::Counts { part: good, total })
     } else {
         None
     }
 }
 
 /// The row that the fields `source,minute,revision,good,total` stand for, or the first rule that
-/// they break. The indicator is handed in, so that it isn't read anew for each row.
-pub fn read_row(sli: Label, fields: (&[u8], &[u8], &[u8], &[u8], &[u8])) -> Result<Row, RecordFault>
+/// they break. The indicator is handed in, so that it isn't read anew for each row, and so are the
+/// sources that came.
+pub(crate) fn read_row(
+    sli: Label,
+    sources: &mut Sources,
+    fields: (&[u8], &[u8], &[u8], &[u8], &[u8]),
+) -> Result<Row, RecordFault>
     requires { sli ≡ BUDGET }
     ensures row { result ≡ row_of (
       fields.entry.0.now,
@@ -57,14 +57,14 @@ pub fn read_row(sli: Label, fields: (&[u8], &[u8], &[u8], &[u8], &[u8])) -> Resu
     ) }
     ensures counted { IfOk result IsCounted }
 {
-    let source = read_label(fields.0).ok_or(RecordFault::Source)?;
-    let minute = read_number(fields.1, u64::from(MAX_MINUTE)).ok_or(RecordFault::Minute)?;
+    let source = sources.read(fields.0).ok_or(RecordFault::Source)?;
+    let minute = read_field(fields.1, MAX_MINUTE).ok_or(RecordFault::Minute)?;
     let revision = read_revision(fields.2).ok_or(RecordFault::Revision)?;
     let amount = read_counts(fields.3, fields.4).ok_or(RecordFault::Counts)?;
     Ok(Row {
         sli,
         source,
-        minute: minute as u32,
+        minute,
         revision,
         amount,
     })

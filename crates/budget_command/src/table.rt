@@ -1,19 +1,20 @@
 //! The rows of a CSV text, judged record by record and kept in a book.
-ghost use Rattle.std.specs.Prelude.{◌≡◌, ◌+◌, ◌++◌, ◌≤◌, ℕ, List, Err, IfOk, OnOk, length};
+ghost use Rattle.std.specs.Prelude.{◌≡◌, ◌+◌, ◌++◌, ◌≤◌, ℕ, List, Err, Ok, IfNone, IfOk, IfSome};
+ghost use Rattle.std.specs.Prelude.{OnOk, length};
 ghost use Rattle.csv_records.specs.Records.{Fields, csv_records};
-ghost use Rattle.sample_book.specs.Puts.{is_new};
-ghost use Rattle.sample_book.specs.Rows.{verdict_of};
 ghost use Rattle.budget_command.specs.Records.{BUDGET, is_newer as is_newer_lem};
 ghost use Rattle.budget_command.specs.Records.{is_repeated as is_repeated_lem};
 ghost use Rattle.budget_command.specs.Records.{is_superseded as is_superseded_lem, judge_over};
+ghost use Rattle.budget_command.specs.Records.{IsCounted, of_row, taken_as};
 ghost use Rattle.budget_command.specs.Tables.{AreAll, HasTaken, HasTakenRecord, IsBroken, IsEmpty};
-ghost use Rattle.budget_command.specs.Tables.{IsFit, IsJudged, one_if, rows_after, tallies_in};
+ghost use Rattle.budget_command.specs.Tables.{IsFit, tallies_in};
 
 use crate::fault::RecordFault;
 use crate::row::{indicator, read_row};
+use crate::sources::{PLACES, Sources};
 use csv_records::{Record, RecordReader};
 use exact_fraction::Label;
-use sample_book::{Row, RowVerdict, SampleBook};
+use sample_book::{CurrentRows, Row, RowVerdict};
 use slo_limits::MAX_CELLS;
 use std::alloc::{AllocError, Global};
 
@@ -28,34 +29,37 @@ pub enum TableFault {
 /// The current rows of all that came, and what became of those that came.
 #[derive(Drop)]
 pub struct Table {
-    pub book: SampleBook,
+    pub book: CurrentRows,
     pub corrected: u64,
     pub repeated: u64,
     pub superseded: u64,
 }
 
-/// What a record comes to over the current rows.
-fn judge(
-    book: &SampleBook,
-    sli: &Label,
-    record_fields: &Record,
-) -> Result<(Row, RowVerdict), RecordFault>
-    requires indicator { sli.now ≡ BUDGET }
-    requires few { length book.now.rows ≤ MAX_CELLS }
-    ensures { IsJudged book.now.rows record_fields.now result }
+/// The row that a record stands for, or the first rule that it breaks by itself.
+fn read_record(sli: &Label, sources: &mut Sources, fields: &Record) -> Result<Row, RecordFault>
+    requires { sli.now ≡ BUDGET }
+    ensures read { (current : List Row) → judge_over current fields.now ≡ of_row current result }
+    ensures counted { IfOk result IsCounted }
 {
-    let Some(fields) = record_fields.five() else {
-        return Err(RecordFault::Fields);
-    };
-    let row = read_row(*sli, fields)?;
-    let verdict = book.check(&row);
+    match fields.five() {
+        Some(five) => read_row(*sli, sources, five),
+        None => Err(RecordFault::Fields),
+    }
+}
+
+/// The rule that a row breaks by what becomes of it over so many cells.
+fn refusal(cells: u32, verdict: &RowVerdict) -> Option<RecordFault>
+    ensures taken { IfNone result ((row : Row) → taken_as cells verdict.now row ≡ Ok row) }
+    ensures refused { IfSome result (λ fault. (row : Row) →
+        taken_as cells verdict.now row ≡ Err fault) }
+{
     match verdict {
-        RowVerdict::New if book.cells() == MAX_CELLS => Err(RecordFault::Limit),
-        RowVerdict::New => Ok((row, verdict)),
-        RowVerdict::Newer(_) => Ok((row, verdict)),
-        RowVerdict::Repeated => Ok((row, verdict)),
-        RowVerdict::Superseded(_) => Ok((row, verdict)),
-        RowVerdict::Conflict(kept) => Err(RecordFault::Conflict(kept.amount)),
+        RowVerdict::New if cells < MAX_CELLS => None,
+        RowVerdict::New => Some(RecordFault::Limit),
+        RowVerdict::Newer(_) => None,
+        RowVerdict::Repeated => None,
+        RowVerdict::Superseded(_) => None,
+        RowVerdict::Conflict(kept) => Some(RecordFault::Conflict(kept.amount)),
     }
 }
 
@@ -86,68 +90,54 @@ fn is_superseded(verdict: &RowVerdict) -> bool
     }
 }
 
-/// Puts a row whose cell is new.
-fn put_new(book: &mut SampleBook, row: &Row) -> Result<(), AllocError>
-    requires { verdict_of book.old.rows row.now ≡ RowVerdict.New }
-    ensures rows { OnOk result (book.new.rows ≡ rows_after book.old.rows row.now) }
-    ensures few { OnOk result (length book.new.rows ≤ length book.old.rows + 1) }
-{
-    let rows = [*row];
-    book.make_room(&rows)?;
-    book.put(row);
-    Ok(())
-}
-
-/// Takes a row with its verdict into the book.
-fn take_row(book: &mut SampleBook, row: &Row, verdict: &RowVerdict) -> Result<(), AllocError>
-    requires { verdict.now ≡ verdict_of book.old.rows row.now }
-    ensures rows { OnOk result (book.new.rows ≡ rows_after book.old.rows row.now) }
-    ensures few { OnOk result (length book.new.rows
-        ≤ length book.old.rows + one_if (is_new verdict.now)) }
-{
-    match verdict {
-        RowVerdict::New => put_new(book, row),
-        RowVerdict::Newer(_) => {
-            book.put(row);
-            Ok(())
-        }
-        RowVerdict::Repeated => Ok(()),
-        RowVerdict::Superseded(_) => Ok(()),
-        RowVerdict::Conflict(_) => Ok(()),
-    }
-}
-
 impl Table {
     /// A table of nothing.
-    pub(crate) fn new(alloc: Global) -> Result<Table, AllocError>
-        ensures { IfOk result IsEmpty }
+    pub(crate) fn new(alloc: Global) -> Table
+        ensures { IsEmpty result }
     {
-        let book = SampleBook::new(alloc)?;
-        Ok(Table {
-            book,
+        Table {
+            book: CurrentRows::new(alloc),
             corrected: 0,
             repeated: 0,
             superseded: 0,
-        })
+        }
     }
 
-    /// Takes a row with its verdict, and counts what becomes of it.
-    fn take(&mut self, row: &Row, verdict: &RowVerdict) -> Result<(), AllocError>
-        requires verdict { verdict.now ≡ verdict_of self.old.book.rows row.now }
-        requires few { tallies_in self.old + 1 ≤ u64.MAX }
+    /// Takes a row, and counts what becomes of it; or finds the rule that it breaks over the
+    /// current rows, after which the table is of no use.
+    fn take(&mut self, number: u64, row: &Row) -> Result<(), TableFault>
+        requires tallied { tallies_in self.old + 1 ≤ number }
+        requires few { length self.old.book.rows ≤ MAX_CELLS }
+        ensures kept { OnOk result (of_row self.old.book.rows (Ok row.now) ≡ Ok row.now) }
         ensures taken { OnOk result (HasTaken row.now self.old self.new) }
-        ensures few { OnOk result (length self.new.book.rows
-            ≤ length self.old.book.rows + one_if (is_new verdict.now)) }
+        ensures few { OnOk result (length self.new.book.rows ≤ MAX_CELLS) }
+        ensures broken { (at : ℕ) (fault : RecordFault) →
+            result ≡ Err (TableFault.Broken at fault) →
+            (at ≡ number) × (of_row self.old.book.rows (Ok row.now) ≡ Err fault) }
     {
-        take_row(&mut self.book, row, verdict)?;
-        self.corrected += u64::from(is_newer(verdict));
-        self.repeated += u64::from(is_repeated(verdict));
-        self.superseded += u64::from(is_superseded(verdict));
-        Ok(())
+        let cells = self.book.len();
+        match self.book.arrive(row) {
+            Ok(verdict) => {
+                if let Some(fault) = refusal(cells, &verdict) {
+                    return Err(TableFault::Broken { number, fault });
+                }
+                self.corrected += u64::from(is_newer(&verdict));
+                self.repeated += u64::from(is_repeated(&verdict));
+                self.superseded += u64::from(is_superseded(&verdict));
+                Ok(())
+            }
+            Err(AllocError) => Err(TableFault::NoMemory),
+        }
     }
 
     /// Takes the record of this number, or finds the rule that it breaks.
-    fn take_record(&mut self, sli: &Label, number: u64, fields: &Record) -> Result<(), TableFault>
+    fn take_record(
+        &mut self,
+        sli: &Label,
+        sources: &mut Sources,
+        number: u64,
+        fields: &Record,
+    ) -> Result<(), TableFault>
         requires indicator { sli.now ≡ BUDGET }
         requires tallied { tallies_in self.old + 1 ≤ number }
         requires few { length self.old.book.rows ≤ MAX_CELLS }
@@ -157,11 +147,8 @@ impl Table {
             result ≡ Err (TableFault.Broken at fault) →
             (at ≡ number) × (judge_over self.old.book.rows fields.now ≡ Err fault) }
     {
-        match judge(&self.book, sli, fields) {
-            Ok((row, verdict)) => match self.take(&row, &verdict) {
-                Ok(()) => Ok(()),
-                Err(AllocError) => Err(TableFault::NoMemory),
-            },
+        match read_record(sli, sources, fields) {
+            Ok(row) => self.take(number, &row),
             Err(fault) => Err(TableFault::Broken { number, fault }),
         }
     }
@@ -187,6 +174,9 @@ pub(crate) fn fill(
         result ≡ Err (TableFault.Broken at fault) → IsBroken part.now number table.old at fault }
 {
     let sli = indicator();
+    let mut sources = Sources {
+        latest: [sli; PLACES],
+    };
     let mut reader = RecordReader::new(alloc, part);
     let mut record = Record::new(alloc);
     let mut next = number;
@@ -196,7 +186,7 @@ pub(crate) fn fill(
             Ok(false) => return Ok(next),
             Err(_) => return Err(TableFault::NoMemory),
         }
-        match table.take_record(&sli, next, &record) {
+        match table.take_record(&sli, &mut sources, next, &record) {
             Ok(()) => next += 1,
             Err(fault) => return Err(fault),
         }

@@ -7,7 +7,7 @@ ghost use Rattle.budget_command.specs.Lines.{lines_of, sum_lines};
 use crate::row::events_of;
 use burn_core::{burn, remaining};
 use exact_fraction::{Decimal, Leaf};
-use sample_book::{Row, SampleBook};
+use sample_book::{CurrentRows, Row};
 use slo_limits::{MAX_AMOUNT, MAX_CELLS, MAX_SUM, WHOLE};
 use std::alloc::{AllocError, Global};
 
@@ -34,7 +34,7 @@ pub struct Events {
 }
 
 /// The cells, and the events of the rows whose minutes lie in [from, to).
-pub fn events_within(book: &SampleBook, from: u32, to: u32) -> Events
+pub fn events_within(book: &CurrentRows, from: u32, to: u32) -> Events
     requires few { length book.now.rows ≤ MAX_CELLS }
     requires counted { All IsCounted book.now.rows }
     ensures cells { result.cells ≡ length book.now.rows }
@@ -48,7 +48,7 @@ pub fn events_within(book: &SampleBook, from: u32, to: u32) -> Events
     let mut good: u64 = 0;
     let mut total: u64 = 0;
     let mut place: u32 = 0;
-    'rows: while let Some(row) = book.row_at(place) {
+    'rows: while let Some(row) = book.at(place as usize) {
         let events = share(&row, from, to);
         good += events.num;
         total += events.den;

@@ -209,6 +209,14 @@ cells_added slis slis' sources sources' keys keys' cell key g h n k e =
     ∙ ap (λ cells. cells ++ cell_named slis' sources' key ∷ []) (cells-grown slis slis' sources sources' keys g h n)
     ∙ ap (λ (c : Cell). map (cell_named slis sources) keys ++ c ∷ []) (cell_named-key slis' sources' cell key k)
 
+-- where the key of a cell stands among keys whose names came before, the cell stands among theirs
+pub position-grown : (slis slis' sources sources' : List (List ℕ)) (keys : List Key) (cell : Cell) (key : Key) (cells : List Cell) →
+    IsGrown slis slis' → IsGrown sources sources' → AreNamed slis sources keys → IsKeyOf slis' sources' cell key → map (cell_named slis sources) keys ≡ cells →
+    position (key_eq key) keys ≡ position (cell_eq cell) cells
+position-grown slis slis' sources sources' keys cell key cells g h n k e =
+    position-named slis' sources' cell key keys k (AreNamed-grown slis slis' sources sources' keys g h n)
+    ∙ ap (position (cell_eq cell)) (cells-grown slis slis' sources sources' keys g h n ∙ e)
+
 -- what holds anyway holds after a refusal
 pub always_err : {A E P : Type 0} (r : Result A E) → P → OnErr r P
 always_err (Ok a) p = tt

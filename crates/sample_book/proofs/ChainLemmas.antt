@@ -2,13 +2,15 @@
 use Rattle.std.proofs.Common.{◌≡◌, ◌≢◌, ℕ, zero, suc, ◌+◌, ◌-◌, ◌/◌, ◌<◌, ◌≤◌, ◌&&◌, Bool, true, false, cond, nat_eq, refl, ap, sym, ◌∙◌, arith, subst, List, [], ◌∷◌, ◌++◌, length, length-append, map, take, slice_get, Option, Some, append_assoc}
 use Rattle.std.specs.Prelude.{Result, Ok, Err, OnOk, OnErr}
 use Rattle.std.specs.Str.{bytes_eq}
+use Rattle.std.specs.Cmp.{IsEquivalence}
 use Rattle.std.specs.Cmp.Lexicographic.{nat_list_eq_equiv}
+use Rattle.std.proofs.lemmas.Slice.Eq.{bytes_eq-Decides}
 use Rattle.std.proofs.lemmas.Bool.Decides.{nat_tests}
 use Rattle.std.proofs.lemmas.List.{append-nil, length-map}
 use Rattle.sample_book.specs.Chains.{AreLinked, HasRoomFor, IsInOrder, IsIndexed, IsLastPlace, IsReadyFor, below, day_group, group_eq, is_on, last, later, link_of, links_after, sli_group}
 use Rattle.sample_book.specs.Counting.{is_of}
 use Rattle.sample_book.specs.Rows.{cell_of, room_for}
-use Rattle.sample_book.proofs.StandingLemmas.{length-new_cells}
+use Rattle.sample_book.proofs.StandingLemmas.{eq-itself, length-new_cells}
 use Rattle.sample_book.specs.Puts.{IsPutInto, behind, in_place}
 use Rattle.sample_book.specs.declared.chains.Chains.{Chains}
 use Rattle.sample_book.specs.declared.chains.Group.{Group}
@@ -110,6 +112,26 @@ eq-symm m n = grind (arith, nat_tests)
 
 pub group_eq-symm : (a b : Group) → group_eq a b ≡ group_eq b a
 group_eq-symm a b = rw (nat_list_eq_equiv.symm a.sli b.sli, eq-symm a.day b.day) refl
+
+-- equal groups are one
+pub group_same : (a b : Group) → group_eq a b ≡ true → a ≡ b
+group_same a b e = by (bytes_eq a.sli b.sli) (nat_eq a.day b.day) refl refl e
+  where
+    by : (m n : Bool) → bytes_eq a.sli b.sli ≡ m → nat_eq a.day b.day ≡ n → (m && n) ≡ true → a ≡ b
+    by true true m n e =
+        let sli = (bytes_eq-Decides a.sli b.sli).0 m in
+        let day : a.day ≡ b.day = grind (arith, nat_tests, n) in
+        λ i. record { sli = sli i; day = day i }
+    by true false m n e = cc e
+    by false true m n e = cc e
+    by false false m n e = cc e
+
+pub group_laws : IsEquivalence group_eq
+group_laws = record {
+  refl = λ x. rw (nat_list_eq_equiv.refl x.sli, eq-itself x.day) refl;
+  symm = group_eq-symm;
+  congr = λ x y z h. ap (λ (g : Group). group_eq g z) (group_same x y h);
+}
 
 -- a group's test of a row
 pub day-test : (sli : List ℕ) (day : ℕ) (row : Row) → group_eq (record { sli = sli; day = day }) (day_group row) ≡ is_on sli day row

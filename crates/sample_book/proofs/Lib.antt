@@ -1,3 +1,4 @@
+pub mod ArriveLemmas
 pub mod FirstPlaces
 pub mod CellLemmas
 pub mod CurrentLemmas
@@ -11,6 +12,7 @@ pub mod RoomLemmas
 pub mod IdLemmas
 pub mod BatchLemmas
 pub mod BucketLemmas
+pub mod NumberLemmas
 pub mod PlaceLemmas
 pub mod PutLemmas
 pub mod ChainLemmas

@@ -12,7 +12,7 @@ use Rattle.sample_book.specs.Rows.{MayPutAs, cell_of, current_rows, kept_of, sam
 use Rattle.sample_book.proofs.CurrentLemmas.{settle}
 use Rattle.sample_book.proofs.StandingLemmas.{cell_same, put_current}
 
-newer_on : (kept row : Row) → is_put (verdict_on kept row) ≡ true → nat_lt kept.revision row.revision ≡ true
+pub newer_on : (kept row : Row) → is_put (verdict_on kept row) ≡ true → nat_lt kept.revision row.revision ≡ true
 newer_on kept row h = by (nat_lt kept.revision row.revision) (nat_lt row.revision kept.revision) (same_amount kept.amount row.amount) h
   where
     by : (a b d : Bool) → is_put (if a then Newer kept else if b then Superseded kept.revision else if d then Repeated else Conflict kept) ≡ true → a ≡ true
@@ -25,7 +25,7 @@ under : (k : Row) (rows rows' : List Row) (row : Row) (verdict : RowVerdict) →
 under k _ _ _ _ (behind rows row) = behind (k ∷ rows) row
 under k _ _ _ _ (in_place before after kept row same) = in_place (k ∷ before) after kept row same
 
-placed_settled : (rows : List Row) (row : Row) → is_put (verdict_of rows row) ≡ true → IsPutInto rows row (verdict_of rows row) (settle same_cell (λ row. row.revision) rows row)
+pub placed_settled : (rows : List Row) (row : Row) → is_put (verdict_of rows row) ≡ true → IsPutInto rows row (verdict_of rows row) (settle same_cell (λ row. row.revision) rows row)
 placed_settled [] row h = behind [] row
 placed_settled (k ∷ ks) row h = by (same_cell row k) refl h (placed_settled ks row)
   where

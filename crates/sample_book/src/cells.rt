@@ -1,11 +1,11 @@
 // Cells in the order in which they came, small for many cells: a name is kept once, and a cell is
 // three numbers.
-ghost use Rattle.std.specs.Prelude.{◌≡◌, ◌<◌, ◌++◌, ◌∷◌, [], None, Some, false, IfSome, IfNone};
+ghost use Rattle.std.specs.Prelude.{◌≡◌, ◌<◌, ◌≤◌, [], None, Some, IfSome, IfNone};
 ghost use Rattle.std.specs.Prelude.{IfOk, OnOk, OnErr, length, slice_get, take};
-ghost use Rattle.std.specs.List.{list_any, position};
-ghost use Rattle.sample_book.specs.Keys.{HasNoKey, IsKeyOf, IsNamed, cell_named};
+ghost use Rattle.std.specs.List.{position};
+ghost use Rattle.sample_book.specs.Keys.{AreNumbered, HasNoKey, IsKeyOf, IsNamed, cell_named};
 ghost use Rattle.sample_book.specs.Names.{IsGrown};
-ghost use Rattle.sample_book.specs.Rows.{cell_eq};
+ghost use Rattle.sample_book.specs.Rows.{cell_eq, with_cell};
 
 use crate::names::Names;
 use crate::places::Places;
@@ -26,18 +26,24 @@ pub(crate) struct Cells {
     slis: Names,
     sources: Names,
     keys: Places,
+    // So many cells had these numbers of names when the others were forgotten last: where what was
+    // added since is forgotten again, its names are too.
+    settled: usize,
+    settled_slis: usize,
+    settled_sources: usize,
 }
 
 impl Model for Cells {
     ghost use Rattle.std.specs.Prelude.{List, map};
-    ghost use Rattle.sample_book.specs.Keys.{AreNamed, cell_named};
+    ghost use Rattle.sample_book.specs.Keys.{AreKnown, cell_named};
     ghost use Rattle.sample_book.specs.declared.row.Cell.{Cell};
 
     ghost Value = { List Cell };
 
     ghost view = { λ a. map (cell_named a.slis a.sources) a.keys };
 
-    ghost invariant = { λ a. AreNamed a.slis a.sources a.keys };
+    ghost invariant = { λ a. AreKnown a.slis a.sources a.keys a.settled a.settled_slis
+        a.settled_sources };
 }
 
 impl Cells {
@@ -48,6 +54,9 @@ impl Cells {
             slis: Names::new(alloc),
             sources: Names::new(alloc),
             keys: Places::new(alloc),
+            settled: 0,
+            settled_slis: 0,
+            settled_sources: 0,
         }
     }
 
@@ -76,22 +85,40 @@ impl Cells {
         named_cell(&self.slis, &self.sources, &key)
     }
 
-    // Forgets the cells from a place on.
+    // Forgets the cells from a place on, with the names that only they have.
     pub(crate) fn truncate(&mut self, count: usize)
         ensures { self.new ≡ take count self.old }
     {
+        let count = count.min(self.keys.len());
+        let (slis, sources) = names_of(
+            &self.keys,
+            self.settled,
+            count,
+            self.settled_slis,
+            self.settled_sources,
+        );
         self.keys.truncate(count);
+        self.slis.truncate(slis);
+        self.sources.truncate(sources);
+        self.settled = count;
+        self.settled_slis = slis;
+        self.settled_sources = sources;
     }
 
-    // Adds a cell that isn't there behind the others.
-    pub(crate) fn add(&mut self, cell: &Cell) -> Result<(), AllocError>
-        requires { list_any (cell_eq cell.now) self.old ≡ false }
-        ensures ok { OnOk result (self.new ≡ self.old ++ cell.now ∷ []) }
+    // Adds a cell behind the others unless it is there, and answers where it was.
+    pub(crate) fn add_new(&mut self, cell: &Cell) -> Result<Option<usize>, AllocError>
+        ensures ok { OnOk result (self.new ≡ with_cell self.old cell.now) }
+        ensures place { IfOk result (λ place. place ≡ position (cell_eq cell.now) self.old) }
         ensures err { OnErr result (self.new ≡ self.old) }
     {
         let key = number_of(&mut self.slis, &mut self.sources, cell)?;
-        self.keys.add(&key)?;
-        Ok(())
+        match self.keys.find(&key) {
+            Some(place) => Ok(Some(place)),
+            None => {
+                self.keys.add(&key)?;
+                Ok(None)
+            }
+        }
     }
 }
 
@@ -133,4 +160,20 @@ fn named_cell(slis: &Names, sources: &Names, key: &Key) -> Cell
         source: sources.name(key.source),
         minute: key.minute,
     }
+}
+
+// How many of the names the first keys have, where the first of them have so many.
+fn names_of(keys: &Places, from: usize, count: usize, slis: usize, sources: usize) -> (usize, usize)
+    requires settled { AreNumbered slis sources (take from keys.now) }
+    requires within { count ≤ length keys.now }
+    ensures { AreNumbered result.0 result.1 (take count keys.now) }
+{
+    let mut slis = slis;
+    let mut sources = sources;
+    for place in from..count {
+        let key = keys.at(place);
+        slis = slis.max(key.sli as usize + 1);
+        sources = sources.max(key.source as usize + 1);
+    }
+    (slis, sources)
 }

@@ -1,6 +1,7 @@
 // Items in groups, each linked to the one before it of its group.
 ghost use Rattle.std.specs.Prelude.{◌≡◌, ◌<◌, ◌≤◌, ◌+◌, ◌++◌, ◌∷◌, [], ℕ, List, Some, OnOk, length};
-ghost use Rattle.std.specs.Prelude.{slice_get, take};
+ghost use Rattle.std.specs.Prelude.{slice_get, take, true, if◌then◌else◌};
+ghost use Rattle.indexmap.specs.IndexMap.{IsUnique, get, spare};
 ghost use Rattle.sample_book.specs.Chains.{AreLinked, HasRoomFor, group_eq, last, link_of};
 
 use exact_fraction::Label;
@@ -21,6 +22,9 @@ pub(crate) struct Group {
 pub(crate) struct Chains {
     // One more than the place of the last item of each group.
     pub(crate) lasts: IndexMap<Group, u32>,
+    // Where the group of the latest item is in that map: most items are of the group before them,
+    // so this is tried before a look-up. Nothing rests on it.
+    latest: usize,
     // Of each item one more than the place of the one before it of its group, or 0.
     pub(crate) links: Vec<u32>,
 }
@@ -32,6 +36,7 @@ impl Chains {
     {
         Chains {
             lasts: IndexMap::new(alloc),
+            latest: 0,
             links: Vec::new(alloc),
         }
     }
@@ -76,8 +81,42 @@ impl Chains {
         ensures room { (count : ℕ) → HasRoomFor (count + 1) self.old → HasRoomFor count self.new }
     {
         let place = self.links.len() as u32;
-        let before = self.lasts.insert(group, place + 1).unwrap();
-        self.links.extend_from_slice(&[link_of(before)]).unwrap();
+        let (latest, before) = exchange(&mut self.lasts, self.latest, group, place + 1);
+        self.latest = latest;
+        self.links.extend_from_slice(&[before]).unwrap();
+    }
+}
+
+// Notes the last item of a group: where the group is in the map, and what was noted before.
+fn exchange(lasts: &mut IndexMap<Group, u32>, guess: usize, group: Group, link: u32) -> (usize, u32)
+    requires { 0 < spare lasts.old }
+    ensures before { result.1 ≡ link_of (get group_eq lasts.old group) }
+    ensures after { (other : Group) → get group_eq lasts.new other
+        ≡ (if group_eq group other then Some link else get group_eq lasts.old other) }
+    ensures spare { spare lasts.old ≤ spare lasts.new + 1 }
+{
+    if is_at(lasts, guess, &group) {
+        let before = lasts[guess];
+        lasts[guess] = link;
+        return (guess, before);
+    }
+    let (place, before) = lasts.insert_full(group, link).unwrap();
+    (place, link_of(before))
+}
+
+// Whether a group is at this place of the map.
+fn is_at(lasts: &IndexMap<Group, u32>, place: usize, group: &Group) -> bool
+    ensures there { result ≡ true → (link : ℕ)
+        × (slice_get lasts.now.entries place ≡ Some (group.now, link))
+        × (get group_eq lasts.now group.now ≡ Some link) }
+    ensures unique { IsUnique group_eq lasts.now }
+{
+    if lasts.len() <= place {
+        return false;
+    }
+    match lasts.get_index(place) {
+        Some((there, _)) => *there == *group,
+        None => false,
     }
 }
 

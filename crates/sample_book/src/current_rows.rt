@@ -1,13 +1,13 @@
 // The current rows, and room for the rows of further cells.
 ghost use Rattle.std.specs.Prelude.{List, ◌+◌, ◌≤◌, vec_capacity, ◌≡◌, ◌≢◌, ◌<◌, ◌++◌, ◌∷◌, []};
 ghost use Rattle.std.specs.Prelude.{false, Some, IfSome, IfNone, OnOk, OnErr, length, slice_get};
-ghost use Rattle.std.specs.Prelude.{take};
+ghost use Rattle.std.specs.Prelude.{IfOk, drop as drop_list, take, true};
 ghost use Rattle.std.specs.List.{list_any, position};
 ghost use Rattle.sample_book.specs.History.{MayComeAs, is_put, room_after, rows_after};
 ghost use Rattle.sample_book.specs.Puts.{IsPutInto, later_of};
 ghost use Rattle.sample_book.specs.Rows.{MayPutAs, cell_eq, cell_of, current_rows, kept_of};
-ghost use Rattle.sample_book.specs.Rows.{new_cells, room_for, verdict_of, verdict_where, with_cell};
-ghost use Rattle.sample_book.specs.Standing.{row_stored};
+ghost use Rattle.sample_book.specs.Rows.{new_cells, room_for, verdict_of, verdict_where};
+ghost use Rattle.sample_book.specs.Standing.{IsInStep, row_stored, rows_stored};
 
 use crate::cells::Cells;
 use crate::row::{Cell, Row, RowVerdict};
@@ -18,8 +18,10 @@ use std::marker::Model;
 // A place in the list is a `u32`.
 const MOST_CELLS: usize = 4_294_967_295;
 
+/// The current row of each cell alone, for a caller that takes rows one after another and asks for
+/// no day. Contracts see the rows, and the cells that have room for a row.
 #[derive(Drop)]
-pub(crate) struct CurrentRows {
+pub struct CurrentRows {
     // The cells with rows, and behind them those with room.
     cells: Cells,
     // What the rows say, in the order of their cells.
@@ -38,7 +40,8 @@ impl Model for CurrentRows {
 }
 
 impl CurrentRows {
-    pub(crate) fn new(alloc: Global) -> CurrentRows
+    /// No rows.
+    pub fn new(alloc: Global) -> CurrentRows
         ensures rows { result.rows ≡ [] }
         ensures room { result.room ≡ [] }
     {
@@ -48,8 +51,8 @@ impl CurrentRows {
         }
     }
 
-    // The row at a place of the list.
-    pub(crate) fn at(&self, place: usize) -> Option<Row>
+    /// The row at a place of the list, from 0.
+    pub fn at(&self, place: usize) -> Option<Row>
         ensures { result ≡ slice_get self.now.rows place }
     {
         if place < self.stored.len() {
@@ -93,8 +96,8 @@ impl CurrentRows {
         verdict_where(later_of(self.kept(row), others.kept(row)), row)
     }
 
-    // How many rows there are.
-    pub(crate) fn len(&self) -> u32
+    /// How many rows there are, one for each cell.
+    pub fn len(&self) -> u32
         ensures count { result ≡ length self.now.rows }
         ensures few { length self.now.rows ≤ MOST_CELLS }
     {
@@ -140,6 +143,31 @@ impl CurrentRows {
         }
     }
 
+    /// A row comes, and it is put where it is new or newer; what becomes of it. It is looked up
+    /// once. Nothing has room then.
+    ///
+    /// # Errors
+    ///
+    /// `AllocError` where memory runs out. The rows are what they were.
+    pub fn arrive(&mut self, row: &Row) -> Result<RowVerdict, AllocError>
+        ensures verdict { IfOk result (λ verdict. verdict ≡ verdict_of self.old.rows row.now) }
+        ensures rows { OnOk result (self.new.rows ≡ rows_after self.old.rows row.now) }
+        ensures placed { IfOk result (λ verdict. is_put verdict ≡ true
+            → IsPutInto self.old.rows row.now verdict self.new.rows) }
+        ensures err { OnErr result (self.new.rows ≡ self.old.rows) }
+    {
+        release(&mut self.cells, self.stored.len());
+        reserve(&mut self.stored, 1)?;
+        match self.cells.add_new(&row.cell()) {
+            Ok(Some(place)) => Ok(renew(&self.cells, &mut self.stored, place, row)),
+            Ok(None) => {
+                append(&self.cells, &mut self.stored, row);
+                Ok(RowVerdict::New)
+            }
+            Err(refused) => Err(refused),
+        }
+    }
+
     // Takes the room away.
     pub(crate) fn release_room(&mut self)
         ensures rows { self.new.rows ≡ self.old.rows }
@@ -165,6 +193,57 @@ impl CurrentRows {
             }
         }
     }
+}
+
+// Forgets the cells that have room.
+fn release(cells: &mut Cells, filled: usize)
+    ensures { cells.new ≡ take filled cells.old }
+{
+    if filled < cells.len() {
+        cells.truncate(filled);
+    }
+}
+
+fn stored_of(row: &Row) -> Stored
+    ensures revision { result.revision ≡ row.now.revision }
+    ensures amount { result.amount ≡ row.now.amount }
+{
+    Stored {
+        revision: row.revision,
+        amount: SmallAmount::of(&row.amount),
+    }
+}
+
+// A row comes whose cell has its row at this place.
+fn renew(cells: &Cells, stored: &mut Vec<Stored>, place: usize, row: &Row) -> RowVerdict
+    requires step { IsInStep cells.now stored.old.items (vec_capacity stored.old) }
+    requires within { place < length stored.old.items }
+    requires there { position (cell_eq (cell_of row.now)) cells.now ≡ Some place }
+    ensures verdict { result ≡ verdict_of (rows_stored cells.now stored.old.items) row.now }
+    ensures rows { rows_stored cells.now stored.new.items
+        ≡ rows_after (rows_stored cells.now stored.old.items) row.now }
+    ensures step { IsInStep cells.now stored.new.items (vec_capacity stored.new) }
+{
+    let kept = row_stored(&cells.at(place), &stored[place]);
+    let verdict = kept.verdict_on(row);
+    if is_put(&verdict) {
+        stored[place] = stored_of(row);
+    }
+    verdict
+}
+
+// A row comes whose cell is the last one, behind those that have rows.
+fn append(cells: &Cells, stored: &mut Vec<Stored>, row: &Row)
+    requires step { IsInStep cells.now stored.old.items (vec_capacity stored.old) }
+    requires last { drop_list (length stored.old.items) cells.now ≡ cell_of row.now ∷ [] }
+    requires absent { list_any (cell_eq (cell_of row.now))
+        (take (length stored.old.items) cells.now) ≡ false }
+    ensures new { verdict_of (rows_stored cells.now stored.old.items) row.now ≡ RowVerdict.New }
+    ensures rows { rows_stored cells.now stored.new.items
+        ≡ rows_after (rows_stored cells.now stored.old.items) row.now }
+    ensures step { IsInStep cells.now stored.new.items (vec_capacity stored.new) }
+{
+    stored.extend_from_slice(&[stored_of(row)]).unwrap();
 }
 
 // Makes room behind what is stored, where each place is a `u32`.
@@ -196,20 +275,9 @@ fn add_cells(cells: &mut Cells, rows: &[Row]) -> Result<(), AllocError>
     ensures err { take (length cells.old) cells.new ≡ cells.old }
 {
     for row in rows {
-        add_new(cells, &row.cell())?;
+        cells.add_new(&row.cell())?;
     }
     Ok(())
-}
-
-// Adds a cell unless it is there.
-fn add_new(cells: &mut Cells, cell: &Cell) -> Result<(), AllocError>
-    ensures ok { OnOk result (cells.new ≡ with_cell cells.old cell.now) }
-    ensures err { OnErr result (cells.new ≡ cells.old) }
-{
-    if cells.find(cell).is_some() {
-        return Ok(());
-    }
-    cells.add(cell)
 }
 
 fn verdict_where(kept: Option<Row>, row: &Row) -> RowVerdict

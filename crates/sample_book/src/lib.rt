@@ -19,6 +19,7 @@ mod stored;
 mod tally;
 
 pub use book::SampleBook;
+pub use current_rows::CurrentRows;
 pub use exclusions::Exclusion;
 pub use laws::{
     a_batch_is_judged_row_by_row, a_book_is_what_came, a_row_acts_once,

@@ -1,6 +1,6 @@
 // Names, numbered in the order in which they came.
 ghost use Rattle.std.specs.Prelude.{◌≡◌, ◌<◌, ◌++◌, List, ℕ, [], length, IfOk, OnErr, slice_get};
-ghost use Rattle.std.specs.Prelude.{Some, true};
+ghost use Rattle.std.specs.Prelude.{Some, take, true};
 ghost use Rattle.std.specs.List.{IsDistinct, position};
 ghost use Rattle.std.specs.Str.{bytes_eq};
 ghost use Rattle.sample_book.specs.Names.{IsGrown, named};
@@ -113,6 +113,16 @@ impl Names {
         };
         self.note(number);
         Ok(number)
+    }
+
+    // Forgets the names from a number on.
+    pub(crate) fn truncate(&mut self, count: usize)
+        ensures { self.new ≡ take count self.old }
+    {
+        if self.set.len() <= count {
+            return;
+        }
+        self.set.truncate(count);
     }
 
     // Gives a name a number, where it has none.

@@ -11,7 +11,7 @@ pub rows-preserved : goal.rows-preserved
 rows-preserved c =
     let rows = c.args.book.now.rows in
     let found : slice_get rows c.rows.place
-    ≡ Some c.in-Some.row = sym c.row_at.ensures ∙ c.in-Some.is in
+    ≡ Some c.in-Some.row = sym c.at.ensures ∙ c.in-Some.is in
     let within = slice_get_within rows c.rows.place c.in-Some.row found in
     record {
       place = omega (arith, within);
@@ -26,20 +26,20 @@ rows-preserved c =
 
 pub returns-clause-cells : goal.returns-clause-cells
 returns-clause-cells c =
-    let past = past c.args.book.now.rows c.rows.place (sym c.row_at.ensures ∙ c.in_default.is) in
+    let past = past c.args.book.now.rows c.rows.place (sym c.at.ensures ∙ c.in_default.is) in
     omega (arith, past, c.rows.invariant.place)
 
 pub returns-clause-good : goal.returns-clause-good
 returns-clause-good c =
     c.rows.invariant.good ∙ ap (sum_by (share_within (λ (r : Row). r.minute) good_of c.args.from
     c.args.to)) (take_all c.rows.place c.args.book.now.rows
-    (past c.args.book.now.rows c.rows.place (sym c.row_at.ensures ∙ c.in_default.is)))
+    (past c.args.book.now.rows c.rows.place (sym c.at.ensures ∙ c.in_default.is)))
 
 pub returns-clause-total : goal.returns-clause-total
 returns-clause-total c =
     c.rows.invariant.total ∙ ap (sum_by (share_within (λ (r : Row). r.minute) total_of c.args.from
     c.args.to)) (take_all c.rows.place c.args.book.now.rows
-    (past c.args.book.now.rows c.rows.place (sym c.row_at.ensures ∙ c.in_default.is)))
+    (past c.args.book.now.rows c.rows.place (sym c.at.ensures ∙ c.in_default.is)))
 
 -- as many rows as a table has, at the greatest amount, are within the greatest sum
 pub returns-clause-bound : goal.returns-clause-bound
