@@ -1,16 +1,14 @@
 -- What is kept after a definition, a removal and a zone.
-use Rattle.std.proofs.Common.{◌≡◌, ℕ, ◌+◌, ◌<◌, ◌≤◌, Bool, true, false, cond, nat_lt, nat_le, is_none, List, [], ◌∷◌, ◌++◌, Option, Some, None, Result, Ok, Err, IfOk, length, map, fold, bytes_eq, refl, sym, ap, ◌∙◌, subst, append-nil, arith}
-use Rattle.std.specs.List.{All, AllByRecursion}
+use Rattle.std.proofs.Common.{◌≡◌, ℕ, ◌+◌, ◌<◌, ◌≤◌, Bool, true, false, cond, nat_lt, List, [], ◌∷◌, ◌++◌, Option, Some, None, Result, Ok, Err, IfOk, length, map, fold, bytes_eq, refl, sym, ap, ◌∙◌, subst, append-nil, arith}
+use Rattle.std.specs.List.{All}
 use Rattle.std.proofs.lemmas.Bool.Decides.{nat_tests}
 use Rattle.slo_limits.specs.declared.TheConstants as most
 use Rattle.sample_book.specs.declared.Row.{Row}
-use Rattle.sample_book.specs.Counting.{first_of}
 use Rattle.sample_book.specs.declared.Exclusion.{Exclusion}
 use Rattle.notice_box.specs.declared.Notice.{Notice}
 use Rattle.zone_calendar.specs.Zone.{ZoneText}
 use Rattle.sample_book.specs.History as book
 use Rattle.slo_objects.specs.declared.kind.Kind.{Kind}
-use Rattle.slo_objects.specs.declared.kind.Kind.TheVariants as kinds
 use Rattle.slo_objects.specs.declared.Object.{Object}
 use Rattle.slo_catalog.specs.Catalog.{put_all, without}
 use Rattle.slo_catalog.specs.Keys.{find_in}
@@ -23,7 +21,6 @@ use Rattle.definition_verdict.specs.Readings.{first_read_anew}
 use Rattle.definition_verdict.specs.Verdict.{Known, known, IsDefinition}
 use Rattle.record_form.specs.declared.Command.{Command}
 use Rattle.record_form.specs.declared.Command.TheVariants.{Define, Remove, PutZone}
-use Rattle.record_form.specs.declared.Entry.{Entry}
 use Rattle.record_form.specs.declared.Refusal.{Refusal}
 use Rattle.record_form.specs.declared.Refusal.TheVariants as refusals
 use Rattle.record_form.specs.declared.LimitName.TheVariants as limits
@@ -44,11 +41,14 @@ use Rattle.office_derived.specs.declared.Judged.{Judged}
 use Rattle.office_derived.specs.declared.Judged.TheVariants as judged
 use Rattle.office_history.specs.Notices.{waiting}
 use Rattle.office_derived.specs.Zones.{KeptZones}
-use Rattle.office_derived.specs.Derived.{IsRead, IsPlaced, IsSound, Reflects, IsNext, IsFound, IsJudged, command_of, entry_of}
+use Rattle.kept_objectives.specs.declared.SumsPlan.{SumsPlan}
+use Rattle.kept_objectives.specs.Objectives.{KeepsSums, KeptObjectives}
+use Rattle.kept_objectives.specs.Plans.{IsPlan}
+use Rattle.office_derived.specs.Derived.{HasPlan, IsRead, IsPlaced, IsSound, Reflects, IsNext, IsFound, IsJudged, command_of, entry_of}
 use Rattle.office_derived.proofs.More.{catalog_more}
 use Rattle.office_derived.proofs.Still.{IsStill, reflects_still}
-use Rattle.catalog_changes.specs.Judging.{known_by, IsJudgedBy, IsTextWork, IsRemoval, IsZoneWork}
-use Rattle.catalog_changes.specs.Kinds.{HasBody, BodiesOfKinds}
+use Rattle.catalog_changes.specs.Judging.{known_by, IsJudgedBy, IsPlanOver, IsTextWork, IsRemoval, IsZoneWork}
+use Rattle.catalog_changes.specs.Kinds.{BodiesOfKinds}
 use Rattle.catalog_changes.proofs.DefineLemmas.{made_of_text, bodies_of_text, events_put}
 use Rattle.catalog_changes.proofs.ReadingLemmas.{define_read, remove_read}
 
@@ -69,18 +69,35 @@ known_over d o r i = known (r.catalog i) (map (λ (kept : List ℕ × List ℕ).
 pub text_over : (d : Derived) (o : Office) (moment : ℕ) (text : List ℕ) → Reflects d o → (j : Judgement) → JudgesText (known_by d) d.entries text j → Judges o moment (Define text) j
 text_over d o moment text r j h = subst (λ (p : Known × ℕ). JudgesText p.0 p.1 text j) (λ i. (known_over d o r i, r.entries i)) h
 
-pub text_found : (d : Derived) (o : Office) (moment : ℕ) (text : List ℕ) → Reflects d o → (w : Work) → IsTextWork d.catalog text w → (command_of w ≡ Define text) × IsFound o moment w
-text_found d o moment text r (works.Define copy catalog applied) h = (
+-- a plan over what is kept is one over the history
+plan_over : (d : Derived) (o : Office) → Reflects d o → (catalog : List Object) (plan : SumsPlan) →
+    IsPlanOver d catalog plan → HasPlan o catalog plan
+plan_over d o r catalog plan h =
+    subst (λ (p : List Object × List (Exclusion × Bool) × List Row). IsPlan p.0 catalog p.1 p.2 plan)
+    (λ i. (r.catalog i, r.exclusions i, r.rows i)) h
+
+-- a plan over the history is one over what is kept
+plan_here : (d : Derived) (o : Office) → Reflects d o → (catalog : List Object) (plan : SumsPlan) →
+    HasPlan o catalog plan → IsPlanOver d catalog plan
+plan_here d o r catalog plan h =
+    subst (λ (p : List Object × List (Exclusion × Bool) × List Row). IsPlan p.0 catalog p.1 p.2 plan)
+    (λ i. (sym r.catalog i, sym r.exclusions i, sym r.rows i)) h
+
+pub text_found : (d : Derived) (o : Office) (moment : ℕ) (text : List ℕ) → Reflects d o →
+    (w : Work) → IsTextWork d text w → (command_of w ≡ Define text) × IsFound o moment w
+text_found d o moment text r (works.Define copy catalog applied plan) h = (
   ap Define h.0,
   (
-    h.1 ∙ (λ i. put_all (text_objects (sym h.0 i)) (r.catalog i)) ∙ sym (events_put (text_objects copy) (catalog_in o.history))
-        ∙ sym (catalog_more o.history (entry_of moment (works.Define copy catalog applied))),
+    h.1 ∙ (λ i. put_all (text_objects (sym h.0 i)) (r.catalog i))
+        ∙ sym (events_put (text_objects copy) (catalog_in o.history))
+        ∙ sym (catalog_more o.history (entry_of moment (works.Define copy catalog applied plan))),
     h.2 ∙ ap (λ (t : List ℕ). length (text_objects t)) (sym h.0),
+    plan_over d o r catalog plan h.3,
   ),
 )
-text_found d o moment text r (works.Remove kind name catalog) h = absurd h
+text_found d o moment text r (works.Remove kind name catalog plan) h = absurd h
 text_found d o moment text r (works.PutZone name bytes zone) h = absurd h
-text_found d o moment text r (works.Samples rows tally) h = absurd h
+text_found d o moment text r (works.Samples rows tally becomes) h = absurd h
 text_found d o moment text r (works.Exclude value) h = absurd h
 text_found d o moment text r (works.Lift id) h = absurd h
 text_found d o moment text r (works.Tick states told) h = absurd h
@@ -90,15 +107,20 @@ pub removal_over : (d : Derived) (o : Office) (moment : ℕ) (kind : Kind) (name
     j ≡ remove_verdict d.catalog d.book.rows d.entries kind name → Judges o moment (Remove kind name) j
 removal_over d o moment kind name r j h = h ∙ (λ i. remove_verdict (r.catalog i) (r.rows i) (r.entries i) kind name)
 
-pub removal_found : (d : Derived) (o : Office) (moment : ℕ) (kind : Kind) (name : List ℕ) → Reflects d o → (w : Work) → IsRemoval d.catalog kind name w →
+pub removal_found : (d : Derived) (o : Office) (moment : ℕ) (kind : Kind) (name : List ℕ) →
+    Reflects d o → (w : Work) → IsRemoval d kind name w →
     (command_of w ≡ Remove kind name) × IsFound o moment w
-removal_found d o moment kind name r (works.Remove k n catalog) h = (
+removal_found d o moment kind name r (works.Remove k n catalog plan) h = (
   (λ i. Remove (h.0 i) (h.1 i)),
-  h.2 ∙ (λ i. without (sym h.0 i) (sym h.1 i) (r.catalog i)) ∙ sym (catalog_more o.history (entry_of moment (works.Remove k n catalog))),
+  (
+    h.2 ∙ (λ i. without (sym h.0 i) (sym h.1 i) (r.catalog i))
+        ∙ sym (catalog_more o.history (entry_of moment (works.Remove k n catalog plan))),
+    plan_over d o r catalog plan h.3,
+  ),
 )
-removal_found d o moment kind name r (works.Define copy catalog applied) h = absurd h
+removal_found d o moment kind name r (works.Define copy catalog applied plan) h = absurd h
 removal_found d o moment kind name r (works.PutZone n bytes zone) h = absurd h
-removal_found d o moment kind name r (works.Samples rows tally) h = absurd h
+removal_found d o moment kind name r (works.Samples rows tally becomes) h = absurd h
 removal_found d o moment kind name r (works.Exclude value) h = absurd h
 removal_found d o moment kind name r (works.Lift id) h = absurd h
 removal_found d o moment kind name r (works.Tick states told) h = absurd h
@@ -110,9 +132,9 @@ zone_over d o moment name bytes r j h = h ∙ (λ i. zone_verdict (r.zones i) (r
 
 pub zone_found : (o : Office) (moment : ℕ) (name bytes : List ℕ) → (w : Work) → IsZoneWork name bytes w → (command_of w ≡ PutZone name bytes) × IsFound o moment w
 zone_found o moment name bytes (works.PutZone n copy zone) h = ((λ i. PutZone (h.0 i) (h.1 i)), ap zone_of h.1 ∙ h.2)
-zone_found o moment name bytes (works.Define copy catalog applied) h = absurd h
-zone_found o moment name bytes (works.Remove kind n catalog) h = absurd h
-zone_found o moment name bytes (works.Samples rows tally) h = absurd h
+zone_found o moment name bytes (works.Define copy catalog applied plan) h = absurd h
+zone_found o moment name bytes (works.Remove kind n catalog plan) h = absurd h
+zone_found o moment name bytes (works.Samples rows tally becomes) h = absurd h
 zone_found o moment name bytes (works.Exclude value) h = absurd h
 zone_found o moment name bytes (works.Lift id) h = absurd h
 zone_found o moment name bytes (works.Tick states told) h = absurd h
@@ -188,18 +210,29 @@ accepted_zone zones entries name bytes e =
 
 -- WHAT IS KEPT
 
--- what is kept with one entry more agrees in itself where the rows are read
-pub sound_with : (d d' : Derived) → IsSound d → d.entries < most.MAX_ENTRIES → d'.origin ≡ d.origin → d'.entries ≡ d.entries + 1 → d'.book.rows ≡ d.book.rows → d'.accepted ≡ d.accepted →
-    d'.notices.made ≡ d.notices.made → All (IsRead d'.catalog) d.book.rows → IsSound d'
-sound_with d d' s few origin entries rows puts notices read = record {
+-- what is kept with one entry more agrees in itself where the rows are read, and the sums are those
+-- of the objectives
+pub sound_with : (d d' : Derived) → IsSound d → d.entries < most.MAX_ENTRIES →
+    d'.origin ≡ d.origin → d'.entries ≡ d.entries + 1 → d'.book.rows ≡ d.book.rows →
+    d'.accepted ≡ d.accepted → d'.notices.made ≡ d.notices.made →
+    All (IsRead d'.catalog) d.book.rows →
+    KeepsSums d'.catalog d'.book.exclusions d'.book.rows d'.sums.kept → IsSound d'
+sound_with d d' s few origin entries rows puts notices read sums = record {
   origin = subst (λ n. n < 67108864) (sym origin) s.origin;
   entries = omega (arith, entries, few);
   cells = subst (λ (rs : List Row). length rs ≤ most.MAX_CELLS) (sym rows) s.cells;
   accepted = subst (λ n. n ≤ most.MAX_ACCEPTED_ROWS) (sym puts) s.accepted;
-  few_waiting = subst (λ (made : List (Notice × Bool)). waiting made ≤ most.MAX_NOTICES) (sym notices) s.few_waiting;
-  made = subst (λ (made : List (Notice × Bool)). length made ≤ waiting made + d'.entries) (sym notices) (let whole = s.made in omega (arith, entries, whole));
+  few_waiting =
+      subst (λ (made : List (Notice × Bool)). waiting made ≤ most.MAX_NOTICES) (sym notices)
+      s.few_waiting;
+  made =
+      subst (λ (made : List (Notice × Bool)). length made ≤ waiting made + d'.entries)
+      (sym notices) (let whole = s.made in omega (arith, entries, whole));
   read = subst (All (IsRead d'.catalog)) (sym rows) read;
-  placed = subst (λ (p : ℕ × List Row). All (IsPlaced p.0) p.1) (λ i. (sym origin i, sym rows i)) s.placed;
+  placed =
+      subst (λ (p : ℕ × List Row). All (IsPlaced p.0) p.1) (λ i. (sym origin i, sym rows i))
+      s.placed;
+  sums = sums;
 }
 
 -- an entry that brings no rows and no exclusions
@@ -216,51 +249,130 @@ unsampled d d' o m w r later still no_events no_rows origin entries now notices 
 no_zones : (d : Derived) → d.zones.kept ≡ d.zones.kept ++ []
 no_zones d = sym (append-nil d.zones.kept)
 
--- what is kept with one entry more, and with this catalog
-abbrev pub with_catalog : Derived → ℕ → List Object → Derived
-with_catalog d m catalog = record d { entries = d.entries + 1; present = m; catalog = catalog }
+-- what is kept with one entry more, and with this catalog and these sums
+abbrev pub with_catalog : Derived → ℕ → List Object → KeptObjectives → Derived
+with_catalog d m catalog sums =
+    record d { entries = d.entries + 1; present = m; catalog = catalog; sums = sums }
 
-pub define_reflects : (d : Derived) (o : Office) (m : ℕ) (text : List ℕ) (catalog : List Object) (applied : ℕ) → IsNext d o m (works.Define text catalog applied) →
-    Reflects (with_catalog d m catalog) (with_entry o (entry_of m (works.Define text catalog applied)))
-define_reflects d o m text catalog applied n =
-    unsampled d (with_catalog d m catalog) o m (works.Define text catalog applied) n.reflects n.later (record { no_tick = refl; no_taking = λ number. refl }) refl refl
+pub define_reflects : (d : Derived) (o : Office) (m : ℕ) (text : List ℕ) (catalog : List Object)
+    (applied : ℕ) (plan : SumsPlan) (sums : KeptObjectives) →
+    IsNext d o m (works.Define text catalog applied plan) →
+    Reflects (with_catalog d m catalog sums)
+    (with_entry o (entry_of m (works.Define text catalog applied plan)))
+define_reflects d o m text catalog applied plan sums n =
+    unsampled d (with_catalog d m catalog sums) o m (works.Define text catalog applied plan)
+    n.reflects n.later (record { no_tick = refl; no_taking = λ number. refl }) refl refl
     refl refl refl refl refl
-    (n.found.0 ∙ catalog_more o.history (entry_of m (works.Define text catalog applied)) ∙ ap (λ ms. fold members_after ms (definitions_of (Define text))) (sym n.reflects.catalog))
+    (n.found.0 ∙ catalog_more o.history (entry_of m (works.Define text catalog applied plan))
+    ∙ ap (λ ms. fold members_after ms (definitions_of (Define text))) (sym n.reflects.catalog))
     (no_zones d) refl refl refl
 
-pub define_sound : BodiesOfKinds → (d : Derived) (o : Office) (m : ℕ) (text : List ℕ) (catalog : List Object) (applied : ℕ) → IsSound d → IsNext d o m (works.Define text catalog applied) →
-    IsSound (with_catalog d m catalog)
-define_sound law d o m text catalog applied s n =
+-- each row is read as before by the catalog of a text that is defined
+pub text_read : BodiesOfKinds → (d : Derived) (text : List ℕ) (made : Definition) → IsSound d →
+    IsDefinition (known_by d) text made → All (IsRead made.catalog) d.book.rows
+text_read law d text made s is =
+    let m = made_of_text (known_by d) text made is in
+    subst (λ (members : List Object). All (IsRead members) d.book.rows) (sym m.put)
+    (define_read d.catalog d.book.rows (text_objects text) s.read
+    (bodies_of_text law (known_by d) text made is) m.same_readings)
+
+pub texts_read : {E : Type 0} → BodiesOfKinds → (d : Derived) (text : List ℕ)
+    (r : Result Definition E) → IsSound d → IfOk r (λ made. IsDefinition (known_by d) text made) →
+    IfOk r (λ made. All (IsRead made.catalog) d.book.rows)
+texts_read law d text (Ok made) s h = text_read law d text made s h
+texts_read law d text (Err e) s h = tt
+
+pub define_sound : BodiesOfKinds → (d : Derived) (o : Office) (m : ℕ) (text : List ℕ)
+    (catalog : List Object) (applied : ℕ) (plan : SumsPlan) (sums : KeptObjectives) → IsSound d →
+    IsNext d o m (works.Define text catalog applied plan) →
+    (IsPlanOver d catalog plan → KeepsSums catalog d.book.exclusions d.book.rows sums.kept) →
+    IsSound (with_catalog d m catalog sums)
+define_sound law d o m text catalog applied plan sums s n keeps =
     let r = n.reflects in
     let a = accepted_text (known_of o) (length o.history) text Accepted n.accepted refl in
     let made = made_of_text (known_of o) text a.made a.is in
     let is : catalog ≡ put_all (text_objects text) d.catalog =
-    n.found.0 ∙ catalog_more o.history (entry_of m (works.Define text catalog applied)) ∙ events_put (text_objects text) (catalog_in o.history) ∙ ap (put_all (text_objects text)) (sym r.catalog) in
-    let anew : first_read_anew d.catalog d.book.rows (text_objects text) ≡ None = (λ i. first_read_anew (r.catalog i) (r.rows i) (text_objects text)) ∙ made.same_readings in
+    n.found.0 ∙ catalog_more o.history (entry_of m (works.Define text catalog applied plan))
+    ∙ events_put (text_objects text) (catalog_in o.history)
+    ∙ ap (put_all (text_objects text)) (sym r.catalog) in
+    let anew : first_read_anew d.catalog d.book.rows (text_objects text) ≡ None =
+    (λ i. first_read_anew (r.catalog i) (r.rows i) (text_objects text)) ∙ made.same_readings in
     let read : All (IsRead catalog) d.book.rows =
     subst (λ (members : List Object). All (IsRead members) d.book.rows) (sym is)
-    (define_read d.catalog d.book.rows (text_objects text) s.read (bodies_of_text law (known_of o) text a.made a.is) anew) in
-    sound_with d (with_catalog d m catalog) s (let few = a.fits in omega (arith, few, r.entries)) refl refl refl refl refl read
+    (define_read d.catalog d.book.rows (text_objects text) s.read
+    (bodies_of_text law (known_of o) text a.made a.is) anew) in
+    sound_with d (with_catalog d m catalog sums) s
+    (let few = a.fits in omega (arith, few, r.entries)) refl refl refl refl refl read
+    (keeps (plan_here d o r catalog plan n.found.2))
 
-pub remove_reflects : (d : Derived) (o : Office) (m : ℕ) (kind : Kind) (name : List ℕ) (catalog : List Object) → IsNext d o m (works.Remove kind name catalog) →
-    Reflects (with_catalog d m catalog) (with_entry o (entry_of m (works.Remove kind name catalog)))
-remove_reflects d o m kind name catalog n =
-    unsampled d (with_catalog d m catalog) o m (works.Remove kind name catalog) n.reflects n.later (record { no_tick = refl; no_taking = λ number. refl }) refl refl
+pub remove_reflects : (d : Derived) (o : Office) (m : ℕ) (kind : Kind) (name : List ℕ)
+    (catalog : List Object) (plan : SumsPlan) (sums : KeptObjectives) →
+    IsNext d o m (works.Remove kind name catalog plan) →
+    Reflects (with_catalog d m catalog sums)
+    (with_entry o (entry_of m (works.Remove kind name catalog plan)))
+remove_reflects d o m kind name catalog plan sums n =
+    unsampled d (with_catalog d m catalog sums) o m (works.Remove kind name catalog plan)
+    n.reflects n.later (record { no_tick = refl; no_taking = λ number. refl }) refl refl
     refl refl refl refl refl
-    (n.found ∙ catalog_more o.history (entry_of m (works.Remove kind name catalog)) ∙ ap (λ ms. fold members_after ms (definitions_of (Remove kind name))) (sym n.reflects.catalog))
+    (n.found.0 ∙ catalog_more o.history (entry_of m (works.Remove kind name catalog plan))
+    ∙ ap (λ ms. fold members_after ms (definitions_of (Remove kind name))) (sym n.reflects.catalog))
     (no_zones d) refl refl refl
 
-pub remove_sound : (d : Derived) (o : Office) (m : ℕ) (kind : Kind) (name : List ℕ) (catalog : List Object) → IsSound d → IsNext d o m (works.Remove kind name catalog) →
-    IsSound (with_catalog d m catalog)
-remove_sound d o m kind name catalog s n =
+-- each row is read as before without an object that has no rows
+pub removal_read : (d : Derived) (kind : Kind) (name : List ℕ) → IsSound d →
+    first_row_of d.book.rows kind name ≡ None →
+    All (IsRead (without kind name d.catalog)) d.book.rows
+removal_read d kind name s none =
+    remove_read d.catalog d.book.rows kind name s.read
+    (λ sli. sym (ap (λ (k : Kind). first_row_of d.book.rows k name) sli) ∙ none)
+
+what_is_left : (old catalog : List Object) (kind : Kind) (name : List ℕ) →
+    removed old kind name ≡ Ok catalog → without kind name old ≡ catalog
+what_is_left old catalog kind name e =
+    by (find_in old kind name) (first_referrer old kind name) e
+  where
+    by : (found user : Option Object) →
+        where_found found (unless_used user (without kind name old)) ≡ Ok catalog →
+        without kind name old ≡ catalog
+    by None user e = cc e
+    by (Some o) (Some p) e = cc e
+    by (Some o) None e = cc e
+
+no_first_row : (first : Option Row) (otherwise : Judgement) →
+    Accepted ≡ unless_sampled first otherwise → first ≡ None
+no_first_row None otherwise e = refl
+no_first_row (Some row) otherwise e = cc e
+
+-- each row is read as before by the catalog of a removal that is accepted
+pub left_read : (d : Derived) (kind : Kind) (name : List ℕ) (catalog : List Object) (j : Judgement) →
+    IsSound d → removed d.catalog kind name ≡ Ok catalog →
+    j ≡ unless_sampled (first_row_of d.book.rows kind name) (accepted d.entries) → j ≡ Accepted →
+    All (IsRead catalog) d.book.rows
+left_read d kind name catalog j s left verdict is =
+    subst (λ (members : List Object). All (IsRead members) d.book.rows)
+    (what_is_left d.catalog catalog kind name left)
+    (removal_read d kind name s
+    (no_first_row (first_row_of d.book.rows kind name) (accepted d.entries) (sym is ∙ verdict)))
+
+pub remove_sound : (d : Derived) (o : Office) (m : ℕ) (kind : Kind) (name : List ℕ)
+    (catalog : List Object) (plan : SumsPlan) (sums : KeptObjectives) → IsSound d →
+    IsNext d o m (works.Remove kind name catalog plan) →
+    (IsPlanOver d catalog plan → KeepsSums catalog d.book.exclusions d.book.rows sums.kept) →
+    IsSound (with_catalog d m catalog sums)
+remove_sound d o m kind name catalog plan sums s n keeps =
     let r = n.reflects in
     let a = accepted_removal (catalog_in o.history) (current_in o.history) (length o.history) kind name n.accepted in
     let is : catalog ≡ without kind name d.catalog =
-    n.found ∙ catalog_more o.history (entry_of m (works.Remove kind name catalog)) ∙ ap (without kind name) (sym r.catalog) in
-    let none : kind ≡ kinds.Sli → first_of d.book.rows name ≡ None = λ sli. ap (λ (rows : List Row). first_of rows name) r.rows ∙ sym (ap (λ (k : Kind). first_row_of (current_in o.history) k name) sli) ∙ a.no_rows in
+    n.found.0 ∙ catalog_more o.history (entry_of m (works.Remove kind name catalog plan))
+    ∙ ap (without kind name) (sym r.catalog) in
+    let none : first_row_of d.book.rows kind name ≡ None =
+    ap (λ (rows : List Row). first_row_of rows kind name) r.rows ∙ a.no_rows in
     let read : All (IsRead catalog) d.book.rows =
-    subst (λ (members : List Object). All (IsRead members) d.book.rows) (sym is) (remove_read d.catalog d.book.rows kind name s.read none) in
-    sound_with d (with_catalog d m catalog) s (let few = a.fits in omega (arith, few, r.entries)) refl refl refl refl refl read
+    subst (λ (members : List Object). All (IsRead members) d.book.rows) (sym is)
+    (removal_read d kind name s none) in
+    sound_with d (with_catalog d m catalog sums) s
+    (let few = a.fits in omega (arith, few, r.entries)) refl refl refl refl refl read
+    (keeps (plan_here d o r catalog plan n.found.1))
 
 -- what is kept with one entry more, and with these zones
 abbrev pub with_zones : Derived → ℕ → KeptZones → Derived
@@ -275,4 +387,4 @@ zone_reflects d o m name bytes zone zones n kept =
 pub zone_sound : (d : Derived) (o : Office) (m : ℕ) (name bytes : List ℕ) (zone : ZoneText) (zones : KeptZones) → IsSound d → IsNext d o m (works.PutZone name bytes zone) → IsSound (with_zones d m zones)
 zone_sound d o m name bytes zone zones s n =
     let few = accepted_zone (zones_in o.history) (length o.history) name bytes n.accepted in
-    sound_with d (with_zones d m zones) s (omega (arith, few, n.reflects.entries)) refl refl refl refl refl s.read
+    sound_with d (with_zones d m zones) s (omega (arith, few, n.reflects.entries)) refl refl refl refl refl s.read s.sums

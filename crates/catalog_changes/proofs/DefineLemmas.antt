@@ -1,5 +1,5 @@
 -- What a text that is defined makes of the members.
-use Rattle.std.proofs.Common.{◌≡◌, ℕ, ◌+◌, Bool, true, false, cond, List, [], ◌∷◌, ◌++◌, Option, Some, None, Result, Ok, Err, length, map, flat_map, fold, refl, sym, ap, ◌∙◌, subst, append_assoc, append-nil}
+use Rattle.std.proofs.Common.{◌≡◌, ℕ, ◌+◌, Bool, true, false, List, [], ◌∷◌, ◌++◌, Option, Some, None, Result, Ok, Err, length, map, flat_map, fold, refl, sym, ap, ◌∙◌, subst, append_assoc, append-nil}
 use Rattle.std.specs.List.{AllByRecursion}
 use Rattle.std.specs.Str.Lines.{lines}
 use Rattle.yaml_subset.specs.Tree.{Tree}
@@ -7,9 +7,8 @@ use Rattle.yaml_subset.specs.Text.{nodes_of, without_mark}
 use Rattle.slo_objects.specs.declared.Object.{Object}
 use Rattle.slo_objects.specs.declared.ObjectFault.{ObjectFault}
 use Rattle.slo_objects.specs.Document.{objects_of}
-use Rattle.sample_book.specs.declared.Row.{Row}
 use Rattle.slo_catalog.specs.declared.CatalogFault.{CatalogFault}
-use Rattle.slo_catalog.specs.Catalog.{Event, Defined, put, put_all}
+use Rattle.slo_catalog.specs.Catalog.{Defined, put, put_all}
 use Rattle.slo_catalog.specs.References.{first_unresolved}
 use Rattle.slo_catalog.specs.NeedsOp.{first_needing_op}
 use Rattle.slo_catalog.specs.Limits.{first_limit}

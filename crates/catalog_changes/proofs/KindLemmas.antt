@@ -1,5 +1,5 @@
 -- The objects of a document have the body of their kind.
-use Rattle.std.proofs.Common.{◌≡◌, ℕ, List, [], ◌∷◌, ◌++◌, Option, Some, None, Result, Ok, Err, refl, sym, ap, ◌∙◌, subst}
+use Rattle.std.proofs.Common.{◌≡◌, List, [], ◌∷◌, ◌++◌, Option, Some, None, Ok, Err, refl, sym, ◌∙◌, subst}
 use Rattle.std.specs.Prelude.{codes}
 use Rattle.std.specs.List.{AllByRecursion}
 use Rattle.yaml_subset.specs.Tree.{Tree, mapping, sequence, scalar, Entries}
@@ -10,11 +10,8 @@ use Rattle.slo_objects.specs.declared.object.Body.TheVariants as bodies
 use Rattle.slo_objects.specs.declared.sli.Sli.{Sli}
 use Rattle.slo_objects.specs.declared.kind.Kind.{Kind}
 use Rattle.slo_objects.specs.declared.kind.Kind.TheVariants as kinds
-use Rattle.slo_objects.specs.declared.fault.ObjectFault.{ObjectFault}
 use Rattle.slo_objects.specs.declared.fault.Rule.TheVariants as rules
 use Rattle.slo_objects.specs.Form.{Key, Answer, after, and_then, mapped, refused, on_some, gives, closed, field_of, Rows, done, row, run, map_with}
-use Rattle.slo_objects.specs.Scalars.{version, kind}
-use Rattle.slo_objects.specs.Metadata.{metadata}
 use Rattle.slo_objects.specs.Sli.{sli}
 use Rattle.slo_objects.specs.Document.{body, document, with_own, objects_of, written}
 use Rattle.catalog_changes.specs.Kinds.{HasBody, BodiesOfKinds}

@@ -1,28 +1,23 @@
 -- Legal histories: their beginnings, and that a zone acts once.
-use Rattle.std.proofs.Common.{◌≡◌, ℕ, ◌+◌, ◌≤◌, Bool, true, false, cond, nat_lt, nat_le, is_none, List, [], ◌∷◌, ◌++◌, Option, Some, None, length, bytes_eq, refl, sym, ap, ◌∙◌, subst, append_assoc, append-nil}
+use Rattle.std.proofs.Common.{◌≡◌, ℕ, Bool, true, false, cond, nat_lt, List, [], ◌∷◌, ◌++◌, Option, Some, None, length, bytes_eq, refl, sym, ap, ◌∙◌, subst, append_assoc, append-nil}
 use Rattle.std.specs.Prelude.{option_map}
-use Rattle.std.specs.List.{find, flat_map}
+use Rattle.std.specs.List.{find}
 use Rattle.std.specs.Option.{option_or}
 use Rattle.std.proofs.lemmas.Grind.{flat_map-append}
 use Rattle.std.proofs.lemmas.List.Folds.{find-append}
 use Rattle.std.proofs.lemmas.Slice.Eq.{bytes_eq-Decides}
 use Rattle.slo_limits.specs.declared.TheConstants as most
-use Rattle.zone_calendar.specs.ZoneBytes.{zone_of}
 use Rattle.record_form.specs.declared.Command.{Command}
-use Rattle.record_form.specs.declared.Command.TheVariants.{PutZone}
 use Rattle.record_form.specs.declared.Entry.{Entry}
 use Rattle.record_form.specs.declared.Outcome.TheVariants.{Changed}
-use Rattle.record_form.specs.declared.Refusal.{Refusal}
 use Rattle.record_form.specs.declared.Refusal.TheVariants as refusals
 use Rattle.record_form.specs.declared.LimitName.TheVariants as limits
-use Rattle.office_history.specs.declared.Judgement.{Judgement}
 use Rattle.office_history.specs.declared.Judgement.TheVariants.{Accepted, Same, Refused}
 use Rattle.office_history.specs.Batches.{when}
 use Rattle.office_history.specs.Lists.{first_some}
-use Rattle.office_history.specs.History.{Office, present}
 use Rattle.office_history.specs.Judges.{Judges}
 use Rattle.office_history.specs.Legal.{IsLegal, empty, followed, MayFollow, office}
-use Rattle.office_history.specs.Verdicts.{unless_refused, accepted, zone_where, zone_verdict}
+use Rattle.office_history.specs.Verdicts.{unless_refused, zone_where, zone_verdict}
 use Rattle.office_history.specs.Zones.{utc, zones_of, zones_in, bytes_named}
 use Rattle.catalog_changes.specs.Laws.{BeginsLegally, EachMayFollow, ZoneActsOnce}
 

@@ -2,5 +2,6 @@ pub mod KindLemmas
 pub mod MemberLemmas
 pub mod DefineLemmas
 pub mod ReadingLemmas
+pub mod PlanLemmas
 pub mod ChangeLemmas
 pub mod LegalLemmas

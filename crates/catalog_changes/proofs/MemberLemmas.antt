@@ -1,5 +1,5 @@
 -- Looking for a member among those that an object was put to, or taken out of.
-use Rattle.std.proofs.Common.{◌≡◌, ℕ, Bool, true, false, not, ◌&&◌, ◌==◌, ◌<◌, cond, List, [], ◌∷◌, Option, Some, None, refl, sym, ap, ◌∙◌, arith, nat_cmp, is_eq, Ordering, Less, Equal, Greater, bytes_eq}
+use Rattle.std.proofs.Common.{◌≡◌, ℕ, Bool, true, false, not, ◌&&◌, ◌==◌, ◌<◌, cond, List, [], ◌∷◌, Some, refl, sym, ap, ◌∙◌, arith, nat_cmp, is_eq, Ordering, Less, Equal, Greater, bytes_eq}
 use Rattle.std.specs.Ordering.{ordering_then, MatchOrdering, match_ordering}
 use Rattle.std.specs.Cmp.{IsEquivalence}
 use Rattle.std.specs.Cmp.Lexicographic.{slice_cmp}

@@ -1,6 +1,6 @@
 -- The rows' indicators keep their readings: where objects are defined that read none of them otherwise, and where another object is
 -- removed.
-use Rattle.std.proofs.Common.{◌≡◌, ℕ, zero, suc, ◌<◌, ◌+◌, Bool, true, false, not, ◌==◌, cond, List, [], ◌∷◌, Option, Some, None, length, slice_index_or, bytes_eq, refl, sym, ap, ◌∙◌, subst, arith}
+use Rattle.std.proofs.Common.{◌≡◌, ℕ, zero, suc, ◌<◌, Bool, true, false, not, ◌==◌, cond, List, [], ◌∷◌, Option, Some, None, length, slice_index_or, bytes_eq, refl, sym, ap, ◌∙◌, subst, arith}
 use Rattle.std.specs.List.{All, AllByRecursion, find}
 use Rattle.std.specs.Option.{option_or}
 use Rattle.std.specs.Prelude.{option_map, option_and_then}
@@ -11,8 +11,6 @@ use Rattle.sample_book.specs.declared.Row.{Row}
 use Rattle.sample_book.specs.Counting.{is_of, first_of}
 use Rattle.slo_objects.specs.declared.kind.Kind.{Kind}
 use Rattle.slo_objects.specs.declared.kind.Kind.TheVariants as kinds
-use Rattle.slo_objects.specs.declared.Body.{Body}
-use Rattle.slo_objects.specs.declared.Body.TheVariants as bodies
 use Rattle.slo_objects.specs.declared.Object.{Object}
 use Rattle.slo_objects.specs.declared.Sli.{Sli}
 use Rattle.slo_objects.specs.Sli.{sli_in}

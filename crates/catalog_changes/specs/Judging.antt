@@ -1,10 +1,12 @@
 -- What is found out about a definition, a removal and a zone, over what is kept.
-use Rattle.std.specs.Prelude.{◌≡◌, ℕ, List, length, map, Option, Some}
+use Rattle.std.specs.Prelude.{◌≡◌, ℕ, List, length, map, Some}
 use Rattle.definition_verdict.specs.Verdict.{Known, known}
 use Rattle.slo_objects.specs.declared.kind.Kind.{Kind}
 use Rattle.slo_objects.specs.declared.Object.{Object}
 use Rattle.slo_catalog.specs.Catalog.{put_all, without}
 use Rattle.zone_calendar.specs.ZoneBytes.{zone_of}
+use Rattle.kept_objectives.specs.declared.SumsPlan.{SumsPlan}
+use Rattle.kept_objectives.specs.Plans.{IsPlan}
 use Rattle.office_history.specs.declared.Judgement.{Judgement}
 use Rattle.office_history.specs.declared.Judgement.TheVariants.{Accepted, Same, Refused}
 use Rattle.office_history.specs.History.{end_of}
@@ -26,18 +28,25 @@ IsJudgedBy IsJudgement IsWork (judged.Same outcome) = IsJudgement (Same outcome)
 IsJudgedBy IsJudgement IsWork (judged.Refused refusal) = IsJudgement (Refused refusal)
 IsJudgedBy IsJudgement IsWork judged.NoMemory = Unit {0}
 
--- the work of a text: its objects, each put in its place among the members
-abbrev pub IsTextWork : List Object → List ℕ → Work → Type 0
-IsTextWork members text (works.Define copy catalog applied) =
-    (copy ≡ text) × (catalog ≡ put_all (text_objects text) members) × (applied ≡ length (text_objects text))
-IsTextWork members text _ = ⊥
+-- the plan is what becomes of the kept sums as this catalog takes the place of the one that is kept
+abbrev pub IsPlanOver : Derived → List Object → SumsPlan → Type 0
+IsPlanOver d catalog plan = IsPlan d.catalog catalog d.book.exclusions d.book.rows plan
 
--- the work of a removal: the members but for one
-abbrev pub IsRemoval : List Object → Kind → List ℕ → Work → Type 0
-IsRemoval members kind name (works.Remove k n catalog) = (k ≡ kind) × (n ≡ name) × (catalog ≡ without kind name members)
-IsRemoval members kind name _ = ⊥
+-- the work of a text: its objects, each put in its place among the members, with a plan of the sums
+abbrev pub IsTextWork : Derived → List ℕ → Work → Type 0
+IsTextWork d text (works.Define copy catalog applied plan) =
+    (copy ≡ text) × (catalog ≡ put_all (text_objects text) d.catalog)
+    × (applied ≡ length (text_objects text)) × IsPlanOver d catalog plan
+IsTextWork d text _ = ⊥
+
+-- the work of a removal: the members but for one, with a plan of the sums
+abbrev pub IsRemoval : Derived → Kind → List ℕ → Work → Type 0
+IsRemoval d kind name (works.Remove k n catalog plan) =
+    (k ≡ kind) × (n ≡ name) × (catalog ≡ without kind name d.catalog) × IsPlanOver d catalog plan
+IsRemoval d kind name _ = ⊥
 
 -- the work of a zone: what its bytes say
 abbrev pub IsZoneWork : List ℕ → List ℕ → Work → Type 0
-IsZoneWork name bytes (works.PutZone n copy zone) = (n ≡ name) × (copy ≡ bytes) × (zone_of bytes ≡ Some zone)
+IsZoneWork name bytes (works.PutZone n copy zone) = (n ≡ name) × (copy ≡ bytes)
+    × (zone_of bytes ≡ Some zone)
 IsZoneWork name bytes _ = ⊥

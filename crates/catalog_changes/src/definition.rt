@@ -1,5 +1,6 @@
 //! Definitions.
 ghost use Rattle.std.specs.Prelude.{◌≡◌, Err, IfOk, length};
+ghost use Rattle.std.specs.List.{All};
 ghost use Rattle.record_form.specs.declared.Command.TheVariants.{Define};
 ghost use Rattle.record_form.specs.declared.Refusal.{Refusal};
 ghost use Rattle.definition_verdict.specs.Verdict.{IsDefinition, IsRefused};
@@ -8,21 +9,24 @@ ghost use Rattle.office_history.specs.Catalog.{text_objects};
 ghost use Rattle.office_history.specs.History.{Office, with_entry};
 ghost use Rattle.office_history.specs.Judges.{JudgesText, defined_verdict};
 ghost use Rattle.office_history.specs.Outcomes.{outcome_of};
-ghost use Rattle.office_derived.specs.Derived.{IsJudged, IsNext, IsSound, Reflects, entry_of};
+ghost use Rattle.office_derived.specs.Derived.{HasRoom, IsJudged, IsNext, IsRead, IsSound};
+ghost use Rattle.office_derived.specs.Derived.{Reflects, entry_of};
 ghost use Rattle.office_derived.specs.declared.Work.TheVariants as works;
-ghost use Rattle.catalog_changes.specs.Judging.{IsJudgedBy, IsTextWork, known_by};
+ghost use Rattle.catalog_changes.specs.Judging.{IsJudgedBy, IsPlanOver, IsTextWork, known_by};
 
 use crate::days::passes_days;
 use crate::entries::{accepted, copy_of};
 use crate::kinds::bodies_are_of_their_kinds;
 use definition_verdict::{Definition, VerdictError, judge_definition};
 use exact_fraction::Bytes;
+use kept_objectives::SumsPlan;
 use office_derived::{Derived, Judged, Work};
 use office_history::Judgement;
 use record_form::{LimitName, Outcome, Refusal};
 use slo_catalog::Catalog;
 use slo_limits::RANGE_MINUTES;
 use std::alloc::{AllocError, Global};
+use sums_plan::plan_sums;
 
 /// What a text defines over what is kept.
 fn definition_over(
@@ -35,9 +39,12 @@ fn definition_over(
     ensures catalog { IfOk result
         (λ made. made.catalog ≡ put_all (text_objects text.now) derived.now.catalog) }
     ensures objects { IfOk result (λ made. made.objects ≡ length (text_objects text.now)) }
+    ensures read { IfOk result (λ made. All (IsRead made.catalog) derived.now.book.rows) }
     ensures refused { (refusal : Refusal) → result ≡ Err (VerdictError.Refused refusal) →
         IsRefused (known_by derived.now) text.now refusal }
 {
+    // So each indicator that has samples keeps its reading.
+    bodies_are_of_their_kinds();
     let Ok(zones) = derived.zones.names(alloc) else {
         return Err(VerdictError::NoMemory);
     };
@@ -87,11 +94,28 @@ fn verdict_on(
     Ok(accepted(derived.entries))
 }
 
+/// A copy of an accepted text, and what becomes of the sums as its catalog is kept.
+fn text_and_plan(
+    alloc: Global,
+    derived: &Derived,
+    text: &Bytes,
+    catalog: &Catalog,
+) -> Result<(Bytes, SumsPlan), AllocError>
+    requires sound { IsSound derived.now }
+    requires read { All (IsRead catalog.now) derived.now.book.rows }
+    ensures text { IfOk result (λ found. found.0 ≡ text.now) }
+    ensures plan { IfOk result (λ found. IsPlanOver derived.now catalog.now found.1) }
+{
+    let text = copy_of(alloc, text)?;
+    let plan = plan_sums(alloc, derived, catalog)?;
+    Ok((text, plan))
+}
+
 /// What becomes of a text over what is kept.
 fn judged_text(alloc: Global, derived: &Derived, text: &Bytes) -> Judged
     requires { IsSound derived.now }
     ensures { IsJudgedBy (JudgesText (known_by derived.now) derived.now.entries text.now)
-        (IsTextWork derived.now.catalog text.now) result }
+        (IsTextWork derived.now text.now) result }
 {
     let made = match definition_over(alloc, derived, text.as_bytes()) {
         Ok(made) => made,
@@ -102,11 +126,12 @@ fn judged_text(alloc: Global, derived: &Derived, text: &Bytes) -> Judged
         return Judged::NoMemory;
     };
     match verdict_on(alloc, derived, &made, applied) {
-        Ok(Judgement::Accepted) => match copy_of(alloc, text) {
-            Ok(text) => Judged::Ready(Work::Define {
+        Ok(Judgement::Accepted) => match text_and_plan(alloc, derived, text, &made.catalog) {
+            Ok((text, plan)) => Judged::Ready(Work::Define {
                 text,
                 catalog: made.catalog,
                 applied,
+                plan,
             }),
             Err(AllocError) => Judged::NoMemory,
         },
@@ -127,22 +152,27 @@ pub fn judge_define(alloc: Global, derived: &Derived, moment: u32, text: &Bytes)
 }
 
 /// Defines the objects of an accepted text at a moment, in minutes since 1970-01-01T00:00Z: its
-/// catalog is kept, and it is one entry more. Takes no memory.
+/// catalog is kept with the sums of its objectives, and it is one entry more. Takes no memory:
+/// there is room for the sums.
 pub fn apply_define(
     derived: &mut Derived,
     moment: u32,
     text: Bytes,
     catalog: Catalog,
     applied: u32,
+    plan: SumsPlan,
 ) -> Outcome
     requires sound { IsSound derived.old }
-    requires next { (o : Office) × IsNext derived.old o moment (works.Define text catalog applied) }
+    requires room { HasRoom derived.old (works.Define text catalog applied plan) }
+    requires next { (o : Office)
+        × IsNext derived.old o moment (works.Define text catalog applied plan) }
     ensures reflects { (o : Office) →
-        IsNext derived.old o moment (works.Define text catalog applied) →
-        Reflects derived.new (with_entry o (entry_of moment (works.Define text catalog applied))) }
+        IsNext derived.old o moment (works.Define text catalog applied plan) →
+        Reflects derived.new
+        (with_entry o (entry_of moment (works.Define text catalog applied plan))) }
     ensures sound { IsSound derived.new }
     ensures outcome { (o : Office) →
-        IsNext derived.old o moment (works.Define text catalog applied) →
+        IsNext derived.old o moment (works.Define text catalog applied plan) →
         result ≡ outcome_of o moment (Define text) }
 {
     // So each indicator that has samples keeps its reading.
@@ -151,6 +181,7 @@ pub fn apply_define(
     derived.entries = entry + 1;
     derived.present = moment;
     derived.catalog = catalog;
+    derived.sums.take(plan);
     Outcome::Defined {
         applied,
         entry: Some(entry),

@@ -1,6 +1,7 @@
 //! The changes of what is defined: of the catalog by definitions and removals, and of the zones.
 //! Stands on the definitions over a history, on what is kept beside it, and on the catalog below.
-//! Promises each verdict, what is kept after each change, and that a zone is put once.
+//! Promises each verdict, what is kept after each change, the sums with it, and that a zone is put
+//! once.
 #![tactic(auto)]
 
 mod days;
@@ -8,10 +9,12 @@ mod definition;
 mod entries;
 mod kinds;
 mod laws;
+mod plans;
 mod removal;
 mod zone;
 
 pub use definition::{apply_define, judge_define};
 pub use laws::{a_history_begins_legally, a_zone_acts_once};
+pub use plans::room_for_plan;
 pub use removal::{apply_remove, judge_remove};
 pub use zone::{apply_put_zone, judge_put_zone, room_for_put_zone};

@@ -6,19 +6,22 @@ ghost use Rattle.office_history.specs.Outcomes.{outcome_of};
 ghost use Rattle.office_history.specs.Verdicts.{accepted as accepted_lem, first_row_of};
 ghost use Rattle.office_history.specs.Verdicts.{is_sli as is_sli_lem, remove_verdict};
 ghost use Rattle.office_history.specs.Verdicts.{removal_fault as removal_fault_lem, unless_sampled};
-ghost use Rattle.office_derived.specs.Derived.{IsJudged, IsNext, IsSound, Reflects, entry_of};
+ghost use Rattle.office_derived.specs.Derived.{HasRoom, IsJudged, IsNext, IsSound, Reflects};
+ghost use Rattle.office_derived.specs.Derived.{entry_of};
 ghost use Rattle.office_derived.specs.declared.Work.TheVariants as works;
 ghost use Rattle.catalog_changes.specs.Judging.{IsJudgedBy, IsRemoval};
 
 use crate::entries::accepted;
 use exact_fraction::Label;
+use kept_objectives::SumsPlan;
 use office_derived::{Derived, Judged, Work};
 use office_history::Judgement;
 use record_form::{Outcome, Refusal};
 use sample_book::{Row, SampleBook};
 use slo_catalog::{Catalog, RemoveError, RemoveFault, remove};
 use slo_objects::Kind;
-use std::alloc::Global;
+use std::alloc::{AllocError, Global};
+use sums_plan::plan_sums;
 
 fn removal_fault(fault: RemoveFault) -> Refusal
     ensures { result ≡ removal_fault_lem fault }
@@ -71,9 +74,10 @@ fn verdict_on(book: &SampleBook, entries: u32, kind: Kind, name: Label) -> Judge
 
 /// What becomes of a removal over what is kept.
 fn judged_removal(alloc: Global, derived: &Derived, kind: Kind, name: Label) -> Judged
+    requires { IsSound derived.now }
     ensures { IsJudgedBy
         (λ j. j ≡ remove_verdict derived.now.catalog derived.now.book.rows derived.now.entries kind
-        name) (IsRemoval derived.now.catalog kind name) result }
+        name) (IsRemoval derived.now kind name) result }
 {
     let catalog = match remove(alloc, &derived.catalog, kind, name) {
         Ok(catalog) => catalog,
@@ -81,11 +85,15 @@ fn judged_removal(alloc: Global, derived: &Derived, kind: Kind, name: Label) -> 
         Err(RemoveError::NoMemory) => return Judged::NoMemory,
     };
     match verdict_on(&derived.book, derived.entries, kind, name) {
-        Judgement::Accepted => Judged::Ready(Work::Remove {
-            kind,
-            name,
-            catalog,
-        }),
+        Judgement::Accepted => match plan_sums(alloc, derived, &catalog) {
+            Ok(plan) => Judged::Ready(Work::Remove {
+                kind,
+                name,
+                catalog,
+                plan,
+            }),
+            Err(AllocError) => Judged::NoMemory,
+        },
         Judgement::Same(outcome) => Judged::Same(outcome),
         Judgement::Refused(refusal) => Judged::Refused(refusal),
     }
@@ -108,25 +116,33 @@ pub fn judge_remove(
 }
 
 /// Removes an object at a moment, in minutes since 1970-01-01T00:00Z: the catalog without it is
-/// kept, and it is one entry more. Takes no memory.
+/// kept with the sums of its objectives, and it is one entry more. Takes no memory: there is room
+/// for the sums.
 pub fn apply_remove(
     derived: &mut Derived,
     moment: u32,
     kind: Kind,
     name: Label,
     catalog: Catalog,
+    plan: SumsPlan,
 ) -> Outcome
     requires sound { IsSound derived.old }
-    requires next { (o : Office) × IsNext derived.old o moment (works.Remove kind name catalog) }
-    ensures reflects { (o : Office) → IsNext derived.old o moment (works.Remove kind name catalog) →
-        Reflects derived.new (with_entry o (entry_of moment (works.Remove kind name catalog))) }
+    requires room { HasRoom derived.old (works.Remove kind name catalog plan) }
+    requires next { (o : Office)
+        × IsNext derived.old o moment (works.Remove kind name catalog plan) }
+    ensures reflects { (o : Office) →
+        IsNext derived.old o moment (works.Remove kind name catalog plan) →
+        Reflects derived.new
+        (with_entry o (entry_of moment (works.Remove kind name catalog plan))) }
     ensures sound { IsSound derived.new }
-    ensures outcome { (o : Office) → IsNext derived.old o moment (works.Remove kind name catalog) →
+    ensures outcome { (o : Office) →
+        IsNext derived.old o moment (works.Remove kind name catalog plan) →
         result ≡ outcome_of o moment (Remove kind name) }
 {
     let entry = derived.entries;
     derived.entries = entry + 1;
     derived.present = moment;
     derived.catalog = catalog;
+    derived.sums.take(plan);
     Outcome::Changed { entry: Some(entry) }
 }

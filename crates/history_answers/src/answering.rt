@@ -34,7 +34,7 @@ fn answered(
             objective,
             lookback,
             at,
-        } => burn_rate(alloc, derived, moment, slo, objective, lookback, at),
+        } => Ok(burn_rate(derived, moment, slo, objective, lookback, at)),
         Query::Timeline {
             slo,
             objective,

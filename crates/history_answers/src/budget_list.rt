@@ -1,5 +1,7 @@
 //! The error budgets of an SLO.
 ghost use Rattle.std.specs.Prelude.{◌≡◌, ◌≤◌, ◌<◌, All, IfOk, Some, length};
+ghost use Rattle.std.specs.List.{AllByRecursion};
+ghost use Rattle.kept_objectives.specs.Objectives.{IsObjective};
 ghost use Rattle.object_ranges.specs.Measures.{IsMeasure};
 ghost use Rattle.object_ranges.specs.Ranges.{IsWindow};
 ghost use Rattle.record_form.specs.declared.Query.TheVariants.{Budgets};
@@ -11,14 +13,14 @@ ghost use Rattle.office_history.specs.Answers.{Answers, AnswersBudgets};
 ghost use Rattle.office_history.specs.Answers.{budgets_from as budgets_from_lem};
 ghost use Rattle.office_history.specs.Answers.{budget_rows as budget_rows_lem};
 ghost use Rattle.office_derived.specs.Derived.{IsSound, Reflects};
-ghost use Rattle.objective_sums.specs.Sums.{IsNamed, samples_of};
+ghost use Rattle.objective_sums.specs.Sums.{samples_of};
 
 use crate::asked::{asked_at, is_outside};
 use crate::sums::sum_between;
 use crate::window_start::window_start;
 use burn_core::{burn, error_rate, remaining};
+use catalog_measures::{measures_named, slo_named};
 use exact_fraction::Label;
-use objective_sums::{measures_named, slo_named};
 use office_derived::Derived;
 use office_history::Measure;
 use record_form::{BudgetRow, Listed, Outcome, Refusal};
@@ -36,7 +38,7 @@ fn budget_rows(
 ) -> Result<Vec<BudgetRow>, AllocError>
     requires sound { IsSound derived.now }
     requires ranges { All IsMeasure measures.now }
-    requires named { All (IsNamed derived.now.catalog) measures.now }
+    requires objectives { AllByRecursion (IsObjective derived.now.catalog) measures.now }
     requires order { from ≤ at }
     requires few { length measures.now ≤ MAX_OBJECTIVES }
     ensures { IfOk result (λ rows. rows.items
@@ -45,7 +47,7 @@ fn budget_rows(
     let mut rows = Vec::new(alloc);
     let mut number = 0;
     for measure in measures {
-        let sum = sum_between(alloc, derived, measure, from, at)?;
+        let sum = sum_between(derived, measure, from, at);
         rows.push(BudgetRow {
             burn: burn(sum, measure.target),
             den: sum.den,

@@ -1,18 +1,17 @@
 //! The sum of an objective over a stretch of minutes.
-ghost use Rattle.std.specs.Prelude.{◌≡◌, ◌≤◌, ◌<◌, IfOk};
+ghost use Rattle.std.specs.Prelude.{◌≡◌, ◌≤◌, ◌<◌};
 ghost use Rattle.slo_terms.specs.Sums.{most_events, sum_of_slices};
 ghost use Rattle.window_sums.specs.Slices.{leaf_at, width_of};
 ghost use Rattle.office_history.specs.Counts.{sum_between as sum_between_lem};
-ghost use Rattle.object_ranges.specs.Measures.{IsMeasure};
+ghost use Rattle.kept_objectives.specs.Objectives.{IsObjective};
 ghost use Rattle.office_derived.specs.Derived.{IsSound};
-ghost use Rattle.objective_sums.specs.Sums.{IsNamed, samples_of};
+ghost use Rattle.objective_sums.specs.Sums.{samples_of};
 
 use counted_steps::Steps;
 use exact_fraction::Leaf;
 use objective_sums::objective_sums;
 use office_derived::Derived;
 use office_history::Measure;
-use std::alloc::{AllocError, Global};
 use std::marker::Brand;
 use std::sync::ledger::{Blank, Ledger};
 use window_sums::WindowSums;
@@ -29,23 +28,15 @@ fn sum_of<L: Ledger>(sums: &WindowSums, from: u32, to: u32, blank: Blank) -> Lea
     sums.sum(from, to, &mut steps)
 }
 
-/// What an objective counts in [from, to).
-pub(crate) fn sum_between(
-    alloc: Global,
-    derived: &Derived,
-    measure: &Measure,
-    from: u32,
-    to: u32,
-) -> Result<Leaf, AllocError>
+/// What an objective counts in [from, to). Takes no memory.
+pub(crate) fn sum_between(derived: &Derived, measure: &Measure, from: u32, to: u32) -> Leaf
     requires sound { IsSound derived.now }
-    requires ranges { IsMeasure measure.now }
-    requires named { IsNamed derived.now.catalog measure.now }
+    requires objective { IsObjective derived.now.catalog measure.now }
     requires order { from ≤ to }
-    ensures value { IfOk result (λ sum. sum
-        ≡ sum_between_lem (samples_of derived.now.book) measure.now from to) }
-    ensures part { IfOk result (λ sum. sum.num ≤ sum.den) }
-    ensures few { IfOk result (λ sum. sum.den ≤ most_events) }
+    ensures value { result ≡ sum_between_lem (samples_of derived.now.book) measure.now from to }
+    ensures part { result.num ≤ result.den }
+    ensures few { result.den ≤ most_events }
 {
-    let sums = objective_sums(alloc, derived, measure)?;
-    Ok(sum_of::<Brand>(&sums, from, to, Blank::new(1)))
+    let sums = objective_sums(derived, measure);
+    sum_of::<Brand>(sums, from, to, Blank::new(1))
 }

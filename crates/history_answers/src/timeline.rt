@@ -9,8 +9,9 @@ ghost use Rattle.office_history.specs.History.{Office, end_of};
 ghost use Rattle.office_history.specs.Counts.{Samples};
 ghost use Rattle.office_history.specs.Alerts.{is_watch_active};
 ghost use Rattle.office_history.specs.Answers.{Answers, AnswersTimeline};
+ghost use Rattle.kept_objectives.specs.Objectives.{IsObjective};
 ghost use Rattle.office_derived.specs.Derived.{IsSound, Reflects};
-ghost use Rattle.objective_sums.specs.Sums.{AreSums, IsNamed, samples_of};
+ghost use Rattle.objective_sums.specs.Sums.{AreSums, samples_of};
 ghost use Rattle.history_answers.specs.States.{binding_state};
 
 use alert_line::{AlertLine, Spans};
@@ -77,12 +78,12 @@ fn is_timeline(derived: &Derived, moment: u32, from: u32, to: u32) -> bool
 }
 
 // The sums of a watched objective.
-fn sums_of_watch(alloc: Global, derived: &Derived, watch: &Watch) -> Result<WindowSums, AllocError>
+fn sums_of_watch<'a>(derived: &'a Derived, watch: &Watch) -> &'a WindowSums
     requires sound { IsSound derived.now }
-    requires named { IsNamed derived.now.catalog watch.now.measure }
-    ensures { IfOk result (AreSums (samples_of derived.now.book) watch.now.measure) }
+    requires objective { IsObjective derived.now.catalog watch.now.measure }
+    ensures { AreSums (samples_of derived.now.book) watch.now.measure result.now }
 {
-    objective_sums(alloc, derived, watch.measure())
+    objective_sums(derived, watch.measure())
 }
 
 fn timeline_of(
@@ -96,16 +97,16 @@ fn timeline_of(
     requires sound { IsSound derived.now }
     requires begun { derived.now.origin ≤ moment }
     requires in_range { moment < end_of derived.now.origin }
-    requires named { IsNamed derived.now.catalog watch.now.measure }
+    requires objective { IsObjective derived.now.catalog watch.now.measure }
     ensures { (o : Office) → Reflects derived.now o
         → IfOk result (AnswersTimeline o moment from to (Some watch.now)) }
 {
     if !is_timeline(derived, moment, from, to) {
         return Ok(Outcome::Refused(Refusal::Range));
     }
-    let sums = sums_of_watch(alloc, derived, watch)?;
-    let intervals = intervals_of(alloc, derived.origin, &sums, watch, from, to)?;
-    let state = state_of_watch(alloc, derived.origin, &sums, watch, moment)?;
+    let sums = sums_of_watch(derived, watch);
+    let intervals = intervals_of(alloc, derived.origin, sums, watch, from, to)?;
+    let state = state_of_watch(alloc, derived.origin, sums, watch, moment)?;
     Ok(Outcome::Timeline {
         entries: derived.entries,
         intervals,
@@ -165,8 +166,8 @@ pub fn state_of(
     let found = watched(alloc, &derived.catalog, &binding)?;
     match found {
         Some(watch) => {
-            let sums = sums_of_watch(alloc, derived, &watch)?;
-            let state = state_of_watch(alloc, derived.origin, &sums, &watch, at)?;
+            let sums = sums_of_watch(derived, &watch);
+            let state = state_of_watch(alloc, derived.origin, sums, &watch, at)?;
             Ok(Some(state))
         }
         None => Ok(None),

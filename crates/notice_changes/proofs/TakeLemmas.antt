@@ -1,6 +1,5 @@
 -- What a taking finds and leaves.
 use Rattle.std.proofs.Common.{◌≡◌, ◌≢◌, ◌⊎◌, inl, inr, ℕ, ◌+◌, ◌<◌, ◌≤◌, ◌&&◌, ◌||◌, ◌==◌, nat_eq, nat_lt, Bool, true, false, not, cond, refl, ap, sym, ◌∙◌, subst, arith, List, [], ◌∷◌, ◌++◌, map, max, length, length-append, None}
-use Rattle.std.specs.List.{All}
 use Rattle.std.proofs.lemmas.Bool.Decides.{eqb_tells}
 use Rattle.std.proofs.lemmas.List.{append-nil, length-map}
 use Rattle.slo_limits.specs.declared.TheConstants as most
@@ -13,7 +12,6 @@ use Rattle.record_form.specs.declared.Command.TheVariants.{Take}
 use Rattle.record_form.specs.declared.Entry.{Entry}
 use Rattle.record_form.specs.declared.Outcome.TheVariants.{Changed}
 use Rattle.record_form.specs.declared.Refusal.TheVariants as refusals
-use Rattle.office_history.specs.declared.Judgement.{Judgement}
 use Rattle.office_history.specs.declared.Judgement.TheVariants.{Accepted, Same, Refused}
 use Rattle.office_history.specs.History.{Office, with_entry, present, rows_in, changes_in, events_in, accepted_rows}
 use Rattle.office_history.specs.Zones.{zones_in}
@@ -21,25 +19,15 @@ use Rattle.office_history.specs.Judges.{Judges}
 use Rattle.office_history.specs.Notices.{is_taken, notices_in, numbered, told_in, waiting}
 use Rattle.office_history.specs.Verdicts.{accepted, is_waiting, take_verdict}
 use Rattle.office_derived.specs.declared.Derived.{Derived}
-use Rattle.office_derived.specs.declared.Work.TheVariants as works
-use Rattle.office_derived.specs.Derived.{IsJudged, IsPlaced, IsRead, IsSound, Reflects}
+use Rattle.office_derived.specs.Derived.{IsSound, Reflects}
 use Rattle.office_derived.proofs.More.{rows_more, changes_more, events_more, zones_more, catalog_more, present_more, taken_more}
+use Rattle.office_derived.proofs.Sound.{sound_still}
 use Rattle.office_derived.proofs.Still.{told_still, states_still}
-use Rattle.notice_changes.specs.Works.{judged_as}
 use Rattle.notice_changes.proofs.BoxLemmas.{length_numbered, length_taken, waiting_fewer}
 use Rattle.notice_changes.proofs.TickLemmas.{entries_below}
 
 abbrev pub take_at : ℕ → ℕ → Entry
 take_at moment number = record { moment = moment; command = Take number }
-
--- a judgement of a taking
-pub judged_take : (d : Derived) (o : Office) (moment number : ℕ) → Reflects d o → IsJudged o moment (Take number) (judged_as (take_verdict d.notices.made d.entries number) (works.Take number))
-judged_take d o moment number r = by (take_verdict d.notices.made d.entries number) (λ i. take_verdict (r.notices i) (r.entries i) number)
-  where
-    by : (j : Judgement) → j ≡ take_verdict (notices_in o) (length o.history) number → IsJudged o moment (Take number) (judged_as j (works.Take number))
-    by Accepted e = (e, refl, tt)
-    by (Same outcome) e = e
-    by (Refused refusal) e = e
 
 -- A taking that is accepted is of a notice that was made.
 pub take_within : (made : List (Notice × Bool)) (n number : ℕ) → take_verdict made n number ≡ Accepted → (0 < number) × (number ≤ length made) × (n < most.MAX_ENTRIES)
@@ -116,18 +104,15 @@ reflects_take d d' o moment number r later within origin entries now catalog zon
 
 -- What a taking leaves is sound.
 pub sound_take : (d d' : Derived) (number : ℕ) → IsSound d →
-    d'.origin ≡ d.origin → d'.entries ≡ d.entries + 1 → d'.catalog ≡ d.catalog → d'.book.rows ≡ d.book.rows → d'.accepted ≡ d.accepted →
-    d'.notices.made ≡ taken d.notices.made number → waiting d.notices.made ≤ waiting d'.notices.made + 1 → d.entries < most.MAX_ENTRIES → IsSound d'
-sound_take d d' number s origin entries catalog rows accepted notices one below =
+    d'.origin ≡ d.origin → d'.entries ≡ d.entries + 1 → d'.catalog ≡ d.catalog →
+    d'.book.rows ≡ d.book.rows → d'.book.exclusions ≡ d.book.exclusions →
+    d'.sums.kept ≡ d.sums.kept → d'.accepted ≡ d.accepted →
+    d'.notices.made ≡ taken d.notices.made number →
+    waiting d.notices.made ≤ waiting d'.notices.made + 1 → d.entries < most.MAX_ENTRIES → IsSound d'
+sound_take d d' number s origin entries catalog rows exclusions kept accepted notices one below =
     let many : length d'.notices.made ≡ length d.notices.made = ap length notices ∙ length_taken d.notices.made number in
     let wait : waiting d'.notices.made ≡ waiting (taken d.notices.made number) = ap waiting notices in
-    record {
-      origin = omega (arith, origin, s.origin);
-      entries = omega (arith, entries, below);
-      cells = omega (arith, ap length rows, s.cells);
-      accepted = omega (arith, accepted, s.accepted);
-      few_waiting = omega (arith, wait, waiting_fewer d.notices.made number, s.few_waiting);
-      made = omega (arith, many, one, entries, s.made);
-      read = subst (λ rs. All (IsRead d'.catalog) rs) (sym rows) (subst (λ os. All (IsRead os) d.book.rows) (sym catalog) s.read);
-      placed = subst (λ rs. All (IsPlaced d'.origin) rs) (sym rows) (subst (λ k. All (IsPlaced k) d.book.rows) (sym origin) s.placed);
-    }
+    sound_still d d' s origin catalog exclusions rows kept accepted
+    (omega (arith, entries, below))
+    (omega (arith, wait, waiting_fewer d.notices.made number, s.few_waiting))
+    (omega (arith, many, one, entries, s.made))

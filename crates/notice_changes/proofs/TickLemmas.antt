@@ -1,6 +1,5 @@
 -- What a tick finds and leaves.
 use Rattle.std.proofs.Common.{◌≡◌, ℕ, ◌+◌, ◌<◌, ◌≤◌, nat_lt, Bool, true, false, not, cond, refl, ap, sym, ◌∙◌, subst, arith, List, [], ◌∷◌, ◌++◌, map, max, length, length-append}
-use Rattle.std.specs.List.{All}
 use Rattle.std.proofs.lemmas.List.{append-nil, length-map, map-append}
 use Rattle.slo_limits.specs.declared.TheConstants as most
 use Rattle.burn_core.specs.declared.State.{State}
@@ -25,13 +24,16 @@ use Rattle.office_history.specs.Batches.{when}
 use Rattle.office_history.specs.Judges.{Judges}
 use Rattle.office_history.specs.Verdicts.{accepted, tick_verdict, unless_refused}
 use Rattle.office_derived.specs.declared.Derived.{Derived}
+use Rattle.office_derived.specs.declared.Judged.{Judged}
+use Rattle.office_derived.specs.declared.Judged.TheVariants as judged
 use Rattle.office_derived.specs.declared.Work.{Work}
-use Rattle.office_derived.specs.Derived.{IsFound, IsJudged, IsPlaced, IsRead, IsSound, Reflects, command_of}
+use Rattle.office_derived.specs.Derived.{IsFound, IsJudged, IsSound, Reflects, command_of}
 use Rattle.office_derived.proofs.Lists.{last-push, map_ext}
 use Rattle.office_derived.proofs.More.{rows_more, changes_more, events_more, zones_more, catalog_more, present_more, told_more, ticks_more}
+use Rattle.office_derived.proofs.Sound.{sound_still}
 use Rattle.office_derived.proofs.Still.{taken_still}
 use Rattle.objective_sums.specs.Sums.{samples_of}
-use Rattle.notice_changes.specs.Works.{judged_as, new_notices}
+use Rattle.notice_changes.specs.Works.{new_notices}
 use Rattle.notice_changes.proofs.BoxLemmas.{length_new, length_numbered, numbered_more, waiting_more, waiting_new}
 
 abbrev pub tick_at : ℕ → Entry
@@ -66,10 +68,18 @@ pub found_changes : (d : Derived) (o : Office) (moment : ℕ) (states : List (Bi
     changes d.catalog d.states.items states ≡ tick_changes (last_states o) o moment
 found_changes d o moment states r e = λ i. changes (r.catalog i) (r.states i) (e i)
 
+-- what a judgement comes to, where it is accepted as this work
+abbrev pub judged_as : Judgement → Work → Judged
+judged_as Accepted work = judged.Ready work
+judged_as (Same outcome) work = judged.Same outcome
+judged_as (Refused refusal) work = judged.Refused refusal
+
 -- a judgement of a tick, where the states and changes are the history's
-pub judged_tick : (d : Derived) (o : Office) (moment told : ℕ) (work : Work) → Reflects d o → IsFound o moment work → command_of work ≡ Tick →
-    told ≡ length (tick_changes (last_states o) o moment) → IsJudged o moment Tick (judged_as (tick_verdict d.notices.made d.entries told) work)
-judged_tick d o moment told work r found command count = by (tick_verdict d.notices.made d.entries told) same
+pub judged_tick : (d : Derived) (o : Office) (moment told : ℕ) (work : Work) → Reflects d o →
+    IsFound o moment work → command_of work ≡ Tick →
+    told ≡ length (tick_changes (last_states o) o moment) → (j : Judgement) →
+    j ≡ tick_verdict d.notices.made d.entries told → IsJudged o moment Tick (judged_as j work)
+judged_tick d o moment told work r found command count j e = by j (e ∙ same)
   where
     same : tick_verdict d.notices.made d.entries told ≡ tick_verdict (notices_in o) (length o.history) (length (told_at o (tick_at moment)))
     same = λ i. tick_verdict (r.notices i) (r.entries i) ((count ∙ sym (count_told o moment)) i)
@@ -173,24 +183,19 @@ reflects_tick d d' o moment states told r later are_states are_told origin entri
 
 -- What a tick leaves is sound.
 pub sound_tick : (d d' : Derived) (moment : ℕ) (told : List (Binding × State)) → IsSound d →
-    d'.origin ≡ d.origin → d'.entries ≡ d.entries + 1 → d'.catalog ≡ d.catalog → d'.book.rows ≡ d.book.rows → d'.accepted ≡ d.accepted →
+    d'.origin ≡ d.origin → d'.entries ≡ d.entries + 1 → d'.catalog ≡ d.catalog →
+    d'.book.rows ≡ d.book.rows → d'.book.exclusions ≡ d.book.exclusions →
+    d'.sums.kept ≡ d.sums.kept → d'.accepted ≡ d.accepted →
     d'.notices.made ≡ d.notices.made ++ new_notices moment (length d.notices.made + 1) told →
-    waiting d.notices.made + length told ≤ most.MAX_NOTICES → d.entries < most.MAX_ENTRIES → IsSound d'
-sound_tick d d' moment told s origin entries catalog rows accepted notices few below =
+    waiting d.notices.made + length told ≤ most.MAX_NOTICES → d.entries < most.MAX_ENTRIES →
+    IsSound d'
+sound_tick d d' moment told s origin entries catalog rows exclusions kept accepted notices few below =
     let new = new_notices moment (length d.notices.made + 1) told in
     let many : length d'.notices.made ≡ length d.notices.made + length told =
     ap length notices ∙ length-append d.notices.made new ∙ ap (λ n. length d.notices.made + n) (length_new moment (length d.notices.made + 1) told) in
     let wait : waiting d'.notices.made ≡ waiting d.notices.made + length told =
     ap waiting notices ∙ waiting_more d.notices.made new ∙ ap (λ n. waiting d.notices.made + n) (waiting_new moment (length d.notices.made + 1) told) in
-    record {
-      origin = omega (arith, origin, s.origin);
-      entries = omega (arith, entries, below);
-      cells = omega (arith, ap length rows, s.cells);
-      accepted = omega (arith, accepted, s.accepted);
-      few_waiting = omega (arith, wait, few);
-      made = omega (arith, many, wait, entries, s.made);
-      read = subst (λ rs. All (IsRead d'.catalog) rs) (sym rows)
-          (subst (λ os. All (IsRead os) d.book.rows) (sym catalog) s.read);
-      placed = subst (λ rs. All (IsPlaced d'.origin) rs) (sym rows)
-          (subst (λ k. All (IsPlaced k) d.book.rows) (sym origin) s.placed);
-    }
+    sound_still d d' s origin catalog exclusions rows kept accepted
+    (omega (arith, entries, below))
+    (omega (arith, wait, few))
+    (omega (arith, many, wait, entries, s.made))

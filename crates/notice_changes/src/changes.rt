@@ -5,7 +5,8 @@ ghost use Rattle.office_history.specs.Notices.{state_among as state_among_lem};
 ghost use Rattle.office_history.specs.Notices.{state_eq as state_eq_lem};
 
 use burn_core::State;
-use objective_sums::{flags_named, same_binding};
+use catalog_measures::flags_named;
+use objective_sums::same_binding;
 use slo_catalog::{Binding, Catalog};
 use std::alloc::{AllocError, Global};
 

@@ -1,9 +1,7 @@
-//! Judgements that ticks and takings share.
+//! The judgement that ticks and takings share.
 ghost use Rattle.std.specs.Prelude.{◌≡◌};
 ghost use Rattle.office_history.specs.Verdicts.{accepted as accepted_lem};
-ghost use Rattle.notice_changes.specs.Works.{judged_as as judged_as_lem};
 
-use office_derived::{Judged, Work};
 use office_history::Judgement;
 use record_form::{LimitName, Refusal};
 use slo_limits::MAX_ENTRIES;
@@ -18,16 +16,5 @@ pub(crate) fn accepted(entries: u32) -> Judgement
         Judgement::Refused(Refusal::Limit {
             which: LimitName::Entries,
         })
-    }
-}
-
-// What a judgement comes to, where it is accepted as this work.
-pub(crate) fn judged_as(judgement: Judgement, work: Work) -> Judged
-    ensures { result ≡ judged_as_lem judgement work }
-{
-    match judgement {
-        Judgement::Accepted => Judged::Ready(work),
-        Judgement::Same(outcome) => Judged::Same(outcome),
-        Judgement::Refused(refusal) => Judged::Refused(refusal),
     }
 }

@@ -8,7 +8,7 @@ ghost use Rattle.office_history.specs.Verdicts.{is_waiting as is_waiting_lem, ta
 ghost use Rattle.office_derived.specs.declared.Work.TheVariants as works;
 ghost use Rattle.office_derived.specs.Derived.{IsJudged, IsNext, IsSound, Reflects, entry_of};
 
-use crate::judgement::{accepted, judged_as};
+use crate::judgement::accepted;
 use notice_box::{NoticeBox, UnknownNotice};
 use office_derived::{Derived, Judged, Work};
 use office_history::Judgement;
@@ -46,8 +46,11 @@ pub fn judge_take(derived: &Derived, number: u32) -> Judged
     ensures { (o : Office) (moment : ℕ) → Reflects derived.now o
         → IsJudged o moment (Take number) result }
 {
-    let judgement = take_judgement(&derived.notices, derived.entries, number);
-    judged_as(judgement, Work::Take(number))
+    match take_judgement(&derived.notices, derived.entries, number) {
+        Judgement::Accepted => Judged::Ready(Work::Take(number)),
+        Judgement::Same(outcome) => Judged::Same(outcome),
+        Judgement::Refused(refusal) => Judged::Refused(refusal),
+    }
 }
 
 // Takes a notice that was made.

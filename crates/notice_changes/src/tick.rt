@@ -13,7 +13,7 @@ ghost use Rattle.office_derived.specs.Derived.{entry_of};
 ghost use Rattle.objective_sums.specs.Sums.{samples_of};
 
 use crate::changes::changes;
-use crate::judgement::{accepted, judged_as};
+use crate::judgement::accepted;
 use crate::telling::tell;
 use burn_core::State;
 use notice_box::NoticeBox;
@@ -77,8 +77,11 @@ pub fn judge_tick(alloc: Global, derived: &Derived, moment: u32) -> Judged
 {
     match states_and_changes(alloc, derived, moment) {
         Ok((states, told)) => {
-            let judgement = tick_judgement(&derived.notices, derived.entries, &told);
-            judged_as(judgement, Work::Tick { states, told })
+            match tick_judgement(&derived.notices, derived.entries, &told) {
+                Judgement::Accepted => Judged::Ready(Work::Tick { states, told }),
+                Judgement::Same(outcome) => Judged::Same(outcome),
+                Judgement::Refused(refusal) => Judged::Refused(refusal),
+            }
         }
         Err(_) => Judged::NoMemory,
     }

@@ -1,4 +1,2 @@
-mod ShareLemmas
-mod MinuteLemmas
+mod KeptLemmas
 mod WatchLemmas
-mod CatalogLemmas

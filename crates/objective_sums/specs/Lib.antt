@@ -1,3 +1,2 @@
 pub mod Sums
-pub mod Shares
-pub mod Kept
+pub mod Bindings

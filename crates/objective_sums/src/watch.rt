@@ -2,18 +2,18 @@
 ghost use Rattle.std.specs.Prelude.{◌≡◌, ◌≤◌, ◌<◌, ◌+◌, IfOk, IfSome};
 ghost use Rattle.burn_core.specs.Alert.{IsRule};
 ghost use Rattle.burn_core.specs.Timeline.{state_of};
+ghost use Rattle.kept_objectives.specs.Objectives.{IsObjective};
 ghost use Rattle.object_ranges.specs.Measures.{IsMeasure};
 ghost use Rattle.alert_line.specs.Line.{Agrees, IsMinute, active_on, den_before};
 ghost use Rattle.office_history.specs.Counts.{Samples};
 ghost use Rattle.office_history.specs.Alerts.{same_binding as same_binding_lem, state_at};
 ghost use Rattle.office_history.specs.Alerts.{watch_of as watch_of_lem, watched as watched_lem};
 ghost use Rattle.std.specs.List.{list_any};
-ghost use Rattle.objective_sums.specs.Sums.{AreSums, IsNamed};
+ghost use Rattle.objective_sums.specs.Sums.{AreSums};
 
-use crate::measures::measure_at;
-use crate::rules::rule_named;
 use alert_line::AlertLine;
 use burn_core::{AlertRule, State};
+use catalog_measures::{measure_at, rule_named};
 use counted_steps::Steps;
 use office_history::Measure;
 use slo_catalog::{Binding, Catalog};
@@ -61,7 +61,7 @@ impl Watch {
 /// What a binding watches: none where its objective isn't there, or its policy has no condition.
 pub fn watch_of(catalog: &Catalog, binding: &Binding) -> Option<Watch>
     ensures value { result ≡ watch_of_lem catalog.now binding.now }
-    ensures named { IfSome result (λ watch. IsNamed catalog.now watch.measure) }
+    ensures objective { IfSome result (λ watch. IsObjective catalog.now watch.measure) }
 {
     let measure = measure_at(catalog, binding.slo, binding.objective)?;
     let rule = rule_named(catalog, binding.policy)?;
@@ -92,8 +92,8 @@ pub fn watched(
     binding: &Binding,
 ) -> Result<Option<Watch>, AllocError>
     ensures value { IfOk result (λ watch. watch ≡ watched_lem catalog.now binding.now) }
-    ensures named { IfOk result (λ watch. IfSome watch
-        (λ found. IsNamed catalog.now found.measure)) }
+    ensures objective { IfOk result (λ watch. IfSome watch
+        (λ found. IsObjective catalog.now found.measure)) }
 {
     let bindings = catalog.bindings(alloc)?;
     if !is_among(&bindings, binding) {

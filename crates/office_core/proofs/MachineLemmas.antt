@@ -4,6 +4,7 @@ use Rattle.std.specs.List.{All, AllByRecursion}
 use Rattle.std.proofs.lemmas.List.Elements.{All-from_recursion}
 use Rattle.slo_limits.specs.declared.TheConstants as most
 use Rattle.slo_objects.specs.declared.Object.{Object}
+use Rattle.sample_book.specs.declared.Exclusion.{Exclusion}
 use Rattle.sample_book.specs.declared.Row.{Row}
 use Rattle.notice_box.specs.declared.Notice.{Notice}
 use Rattle.sample_book.specs.History.{Holds}
@@ -18,8 +19,11 @@ use Rattle.office_history.specs.History.{Office, with_entry, events_in, present,
 use Rattle.office_history.specs.Judges.{Judges}
 use Rattle.office_history.specs.Notices.{waiting}
 use Rattle.office_history.specs.Legal.{IsLegal, MayFollow, empty, followed}
+use Rattle.kept_objectives.specs.declared.ObjectiveSums.{ObjectiveSums}
+use Rattle.kept_objectives.specs.Objectives.{KeepsSums}
 use Rattle.office_derived.specs.declared.Derived.{Derived}
 use Rattle.office_derived.specs.Derived.{HasRoom, IsFound, IsNext, IsPlaced, IsRead, IsSound, Reflects, Stays, command_of, entry_of}
+use Rattle.office_derived.proofs.Sound.{sound_stays}
 use Rattle.office_core.specs.declared.machine.Pending.{Pending}
 use Rattle.office_core.specs.Machine.{IsKept, IsReady, IsReadyIf, office_of, pending_of}
 
@@ -93,27 +97,6 @@ pending_fits d o spare None ready = tt
 pending_fits d o spare (Some p) ready = ready.fits
 
 -- more room changes nothing else
-pub stays_sound : (d d' : Derived) → Stays d d' → IsSound d → IsSound d'
-stays_sound d d' s k = record {
-  origin = subst (λ n. n < 67108864) (sym s.origin) k.origin;
-  entries = subst (λ n. n ≤ most.MAX_ENTRIES) (sym s.entries) k.entries;
-  cells = subst (λ (rows : List Row). length rows ≤ most.MAX_CELLS) (sym s.rows) k.cells;
-  accepted = subst (λ n. n ≤ most.MAX_ACCEPTED_ROWS) (sym s.accepted) k.accepted;
-  few_waiting = subst (λ (made : List (Notice × Bool)). waiting made ≤ most.MAX_NOTICES) (sym s.notices) k.few_waiting;
-  made = both (d'.entries) s.notices s.entries;
-  read = read_still;
-  placed = placed_still;
-}
-  where
-    both : (n : ℕ) → d'.notices.made ≡ d.notices.made → d'.entries ≡ d.entries → length d'.notices.made ≤ waiting d'.notices.made + d'.entries
-    both n e f = subst (λ (made : List (Notice × Bool)). length made ≤ waiting made + d'.entries) (sym e) (subst (λ m. length d.notices.made ≤ waiting d.notices.made + m) (sym f) k.made)
-
-    read_still : All (IsRead d'.catalog) d'.book.rows
-    read_still = subst (λ (os : List Object). All (IsRead os) d'.book.rows) (sym s.catalog) (subst (All (IsRead d.catalog)) (sym s.rows) k.read)
-
-    placed_still : All (IsPlaced d'.origin) d'.book.rows
-    placed_still = subst (λ n. All (IsPlaced n) d'.book.rows) (sym s.origin) (subst (All (IsPlaced d.origin)) (sym s.rows) k.placed)
-
 pub stays_reflects : (d d' : Derived) (o : Office) → Stays d d' → Reflects d o → Reflects d' o
 stays_reflects d d' o s r = record {
   origin = s.origin ∙ r.origin;
@@ -143,7 +126,7 @@ pub kept_stays : (d d' : Derived) (bytes bytes' : List ℕ) (spare spare' : ℕ)
 kept_stays d d' bytes bytes' spare spare' pending pending' k s is none =
     subst (λ (bs : List ℕ). IsKept d' bs spare' pending') (sym is) (record {
       records = k.records;
-      sound = stays_sound d d' s k.sound;
+      sound = sound_stays d d' s k.sound;
       reflects = subst (Reflects d') (office_stays d d' bytes s) (stays_reflects d d' (office_of d bytes) s k.reflects);
       legal = subst (λ n. IsLegal n (history_of bytes)) (sym s.origin) k.legal;
       ready = subst (IsReadyIf d' (office_of d' bytes) spare') (sym none) tt;
@@ -160,7 +143,7 @@ kept_ready d d' bytes bytes' spare spare' pending pending' p k s is some later i
     let ready : IsReady d' (office_of d' bytes) spare' p = record { next = subst (λ (o : Office). IsNext d' o p.moment p.work) same next; room = room; fits = fits; bytes = few } in
     subst (λ (bs : List ℕ). IsKept d' bs spare' pending') (sym is) (record {
       records = k.records;
-      sound = stays_sound d d' s k.sound;
+      sound = sound_stays d d' s k.sound;
       reflects = subst (Reflects d') same reflects;
       legal = subst (λ n. IsLegal n (history_of bytes)) (sym s.origin) k.legal;
       ready = subst (IsReadyIf d' (office_of d' bytes) spare') (sym some) ready;
@@ -184,12 +167,23 @@ empty_reflects d entries now catalog zones held accepted notices states = record
   numbers = λ number above. refl;
 }
 
+-- an empty catalog has no objectives
+none_kept : (members : List Object) (made : List (Exclusion × Bool)) (rows : List Row)
+    (kept : List ObjectiveSums) → members ≡ [] → kept ≡ [] → KeepsSums members made rows kept
+none_kept members made rows kept none no_sums =
+    subst (λ (os : List Object). KeepsSums os made rows kept) (sym none)
+    (subst (KeepsSums [] made rows) (sym no_sums) (record {
+      sums = tt;
+      only = tt;
+      all = λ m is. cc is.there;
+    }))
+
 none_of : (P : Row → Type 0) (rows : List Row) → rows ≡ [] → All P rows
 none_of P rows is = subst (All P) (sym is) (All-from_recursion P [] tt)
 
 pub kept_new : NoBytesAreNoHistory → (d : Derived) (bytes : List ℕ) (spare : ℕ) → bytes ≡ [] → d.origin ≤ most.MAX_MINUTE → d.entries ≡ 0 → d.present ≡ d.origin → d.catalog ≡ [] → d.zones.kept ≡ [] →
-    Holds [] d.book.rows d.book.exclusions → d.accepted ≡ 0 → d.notices.made ≡ [] → d.states.items ≡ [] → IsKept d bytes spare None
-kept_new law d bytes spare is origin entries now catalog zones held accepted notices states =
+    Holds [] d.book.rows d.book.exclusions → d.sums.kept ≡ [] → d.accepted ≡ 0 → d.notices.made ≡ [] → d.states.items ≡ [] → IsKept d bytes spare None
+kept_new law d bytes spare is origin entries now catalog zones held sums accepted notices states =
     let rows : d.book.rows ≡ [] = rows-held [] d.book.rows d.book.exclusions held in
     subst (λ (bs : List ℕ). IsKept d bs spare None) (sym is) (record {
       records = law.0;
@@ -202,6 +196,7 @@ kept_new law d bytes spare is origin entries now catalog zones held accepted not
         made = omega (arith, ap length notices);
         read = none_of (IsRead d.catalog) d.book.rows rows;
         placed = none_of (IsPlaced d.origin) d.book.rows rows;
+        sums = none_kept d.catalog d.book.exclusions d.book.rows d.sums.kept catalog sums;
       };
       reflects = subst (λ (h : List Entry). Reflects d (record { origin = d.origin; history = h })) (sym law.1)
           (empty_reflects d entries now catalog zones held accepted notices states);

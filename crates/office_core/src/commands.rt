@@ -7,7 +7,7 @@ ghost use Rattle.office_derived.specs.Derived.{command_of, entry_of};
 
 use catalog_changes::{
     apply_define, apply_put_zone, apply_remove, judge_define, judge_put_zone, judge_remove,
-    room_for_put_zone,
+    room_for_plan, room_for_put_zone,
 };
 use notice_changes::{apply_take, apply_tick, judge_take, judge_tick, room_for_tick};
 use office_derived::{Derived, Judged, Work};
@@ -43,6 +43,8 @@ pub(crate) fn make_room(derived: &mut Derived, work: &Work) -> Result<(), AllocE
     ensures stays { Stays derived.old derived.new }
 {
     match work {
+        Work::Define { plan, .. } => room_for_plan(derived, plan),
+        Work::Remove { plan, .. } => room_for_plan(derived, plan),
         Work::PutZone { .. } => room_for_put_zone(derived),
         Work::Samples { rows, .. } => room_for_samples(derived, rows),
         Work::Exclude(_) => room_for_exclude(derived),
@@ -67,14 +69,20 @@ pub(crate) fn apply(derived: &mut Derived, moment: u32, work: Work) -> Outcome
             text,
             catalog,
             applied,
-        } => apply_define(derived, moment, text, catalog, applied),
+            plan,
+        } => apply_define(derived, moment, text, catalog, applied, plan),
         Work::Remove {
             kind,
             name,
             catalog,
-        } => apply_remove(derived, moment, kind, name, catalog),
+            plan,
+        } => apply_remove(derived, moment, kind, name, catalog, plan),
         Work::PutZone { name, bytes, zone } => apply_put_zone(derived, moment, name, bytes, zone),
-        Work::Samples { rows, tally } => apply_samples(derived, moment, rows, tally),
+        Work::Samples {
+            rows,
+            tally,
+            verdicts,
+        } => apply_samples(derived, moment, rows, tally, verdicts),
         Work::Exclude(value) => apply_exclude(derived, moment, value),
         Work::Lift(id) => apply_lift(derived, moment, id),
         Work::Tick { states, told } => apply_tick(derived, moment, states, told),

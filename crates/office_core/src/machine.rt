@@ -25,6 +25,7 @@ use crate::commands::{apply, judge, make_room};
 use burn_core::State;
 use exact_fraction::Label;
 use history_answers::{answer, state_of};
+use kept_objectives::KeptSums;
 use notice_box::NoticeBox;
 use office_derived::{Derived, Judged, Work, Zones};
 use record_form::{
@@ -119,6 +120,7 @@ impl Core {
                 catalog: Catalog::new(alloc),
                 zones: Zones::new(alloc),
                 book,
+                sums: KeptSums::new(alloc),
                 accepted: 0,
                 notices: NoticeBox::new(alloc),
                 states: Vec::new(alloc),

@@ -8,8 +8,11 @@ use Rattle.sample_book.specs.declared.Row.{Row}
 use Rattle.sample_book.specs.Rows.{room_for}
 use Rattle.sample_book.specs.History.{Holds}
 use Rattle.sample_book.specs.Puts.{verdicts}
+use Rattle.kept_objectives.specs.Objectives.{HaveDays, KeepsSums}
+use Rattle.kept_objectives.specs.Plans.{IsPlan}
 use Rattle.slo_objects.specs.declared.Object.{Object}
 use Rattle.zone_calendar.specs.ZoneBytes.{zone_of}
+use Rattle.kept_objectives.specs.declared.SumsPlan.{SumsPlan}
 use Rattle.record_form.specs.declared.Command.{Command}
 use Rattle.record_form.specs.declared.Command.TheVariants.{Define, Remove, PutZone, Samples, Exclude, Lift, Tick, Take}
 use Rattle.record_form.specs.declared.Entry.{Entry}
@@ -45,6 +48,7 @@ pub record IsSound (d : Derived) : Type 0 where
   pub made : length d.notices.made ≤ waiting d.notices.made + d.entries
   pub read : All (IsRead d.catalog) d.book.rows
   pub placed : All (IsPlaced d.origin) d.book.rows
+  pub sums : KeepsSums d.catalog d.book.exclusions d.book.rows d.sums.kept
 
 -- what is kept is what the history says
 pub record Reflects (d : Derived) (o : Office) : Type 0 where
@@ -73,13 +77,15 @@ pub record Stays (a b : Derived) : Type 0 where
   pub accepted : b.accepted ≡ a.accepted
   pub notices : b.notices.made ≡ a.notices.made
   pub states : b.states.items ≡ a.states.items
+  pub sums : KeepsSums a.catalog a.book.exclusions a.book.rows a.sums.kept
+      → KeepsSums b.catalog b.book.exclusions b.book.rows b.sums.kept
 
 -- the command that a work does
 abbrev pub command_of : Work → Command
-command_of (works.Define text catalog applied) = Define text
-command_of (works.Remove kind name catalog) = Remove kind name
+command_of (works.Define text catalog applied plan) = Define text
+command_of (works.Remove kind name catalog plan) = Remove kind name
 command_of (works.PutZone name bytes zone) = PutZone name bytes
-command_of (works.Samples rows tally) = Samples rows
+command_of (works.Samples rows tally becomes) = Samples rows
 command_of (works.Exclude value) = Exclude value
 command_of (works.Lift id) = Lift id
 command_of (works.Tick states told) = Tick
@@ -89,20 +95,33 @@ command_of (works.Take number) = Take number
 abbrev pub entry_of : ℕ → Work → Entry
 entry_of moment work = record { moment = moment; command = command_of work }
 
+-- the plan is what becomes of the sums as this catalog takes the place of the one of the history
+abbrev pub HasPlan : Office → List Object → SumsPlan → Type 0
+HasPlan o catalog plan =
+    IsPlan (catalog_in o.history) catalog (exclusions_in o.history) (current_in o.history) plan
+
 -- what was found out of a work is right over a history
 abbrev pub IsFound : Office → ℕ → Work → Type 0
-IsFound o moment (works.Define text catalog applied) =
-    (catalog ≡ catalog_in (o.history ++ entry_of moment (works.Define text catalog applied) ∷ [])) × (applied ≡ length (text_objects text))
-IsFound o moment (works.Remove kind name catalog) = catalog ≡ catalog_in (o.history ++ entry_of moment (works.Remove kind name catalog) ∷ [])
+IsFound o moment (works.Define text catalog applied plan) =
+    (catalog ≡ catalog_in (o.history ++ entry_of moment (works.Define text catalog applied plan) ∷ []))
+    × (applied ≡ length (text_objects text)) × HasPlan o catalog plan
+IsFound o moment (works.Remove kind name catalog plan) =
+    (catalog ≡ catalog_in (o.history ++ entry_of moment (works.Remove kind name catalog plan) ∷ []))
+    × HasPlan o catalog plan
 IsFound o moment (works.PutZone name bytes zone) = zone_of bytes ≡ Some zone
-IsFound o moment (works.Samples rows tally) = tally ≡ tally_of (verdicts (rows_in o.history) rows)
+IsFound o moment (works.Samples rows tally becomes) =
+    (tally ≡ tally_of (verdicts (rows_in o.history) rows))
+    × (becomes.items ≡ verdicts (current_in o.history) rows)
 IsFound o moment (works.Tick states told) =
     (states.items ≡ states_over o moment) × (told.items ≡ tick_changes (last_states o) o moment)
 IsFound o moment _ = Unit {0}
 
 -- a work can be done with no memory
 abbrev pub HasRoom : Derived → Work → Type 0
-HasRoom d (works.Samples rows tally) = d.book.room ≡ room_for d.book.rows rows
+HasRoom d (works.Define text catalog applied plan) = length plan.made.items ≤ d.sums.spare
+HasRoom d (works.Remove kind name catalog plan) = length plan.made.items ≤ d.sums.spare
+HasRoom d (works.Samples rows tally becomes) =
+    (d.book.room ≡ room_for d.book.rows rows) × HaveDays rows d.sums.kept
 HasRoom d (works.Exclude value) = 0 < d.book.spare
 HasRoom d (works.Tick states told) = length told.items ≤ d.notices.spare
 HasRoom d (works.PutZone name bytes zone) = 0 < d.zones.spare

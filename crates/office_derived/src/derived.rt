@@ -2,6 +2,7 @@
 
 use crate::zones::Zones;
 use burn_core::State;
+use kept_objectives::KeptSums;
 use notice_box::NoticeBox;
 use sample_book::SampleBook;
 use slo_catalog::{Binding, Catalog};
@@ -18,6 +19,8 @@ pub struct Derived {
     pub catalog: Catalog,
     pub zones: Zones,
     pub book: SampleBook,
+    /// The sums of each objective of the catalog.
+    pub sums: KeptSums,
     /// How many rows were new to their cell or newer than its row when they came.
     pub accepted: u32,
     pub notices: NoticeBox,

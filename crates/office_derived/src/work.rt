@@ -3,8 +3,9 @@
 use crate::tally::Tally;
 use burn_core::State;
 use exact_fraction::{Bytes, Label, ZoneName};
+use kept_objectives::SumsPlan;
 use record_form::{Outcome, Refusal, Rows};
-use sample_book::Exclusion;
+use sample_book::{Exclusion, RowVerdict};
 use slo_catalog::{Binding, Catalog};
 use slo_objects::Kind;
 use zone_calendar::Zone;
@@ -12,17 +13,20 @@ use zone_calendar::Zone;
 /// An accepted command, with what was found out about it.
 #[derive(Drop)]
 pub enum Work {
-    /// The catalog with the objects of the text, of which there are `applied`.
+    /// The catalog with the objects of the text, of which there are `applied`, and the sums that
+    /// are kept with it.
     Define {
         text: Bytes,
         catalog: Catalog,
         applied: u32,
+        plan: SumsPlan,
     },
-    /// The catalog without the object.
+    /// The catalog without the object, and the sums that are kept with it.
     Remove {
         kind: Kind,
         name: Label,
         catalog: Catalog,
+        plan: SumsPlan,
     },
     /// The zone that the bytes are.
     PutZone {
@@ -30,10 +34,11 @@ pub enum Work {
         bytes: Bytes,
         zone: Zone,
     },
-    /// What becomes of the rows, counted.
+    /// What becomes of the rows, counted and one by one.
     Samples {
         rows: Rows,
         tally: Tally,
+        verdicts: Vec<RowVerdict>,
     },
     Exclude(Exclusion),
     Lift(Label),

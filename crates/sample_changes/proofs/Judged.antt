@@ -17,7 +17,7 @@ use Rattle.record_form.specs.declared.LimitName.TheVariants as limits
 use Rattle.office_history.specs.declared.Judgement.{Judgement}
 use Rattle.office_history.specs.declared.Judgement.TheVariants.{Accepted, Same, Refused}
 use Rattle.office_history.specs.Lists.{first_some}
-use Rattle.office_history.specs.History.{Office, accepted_rows, rows_in}
+use Rattle.office_history.specs.History.{Office, accepted_rows, current_in, rows_in}
 use Rattle.office_history.specs.Catalog.{catalog_in}
 use Rattle.office_history.specs.Batches.{when, batch_fault, count, objective_days, rows_faults, sampled}
 use Rattle.office_history.specs.Verdicts.{accepted, samples_verdict, unless_refused}
@@ -181,9 +181,13 @@ faultless_by vs tally n e =
     ∙ ap (λ b. cond b (accepted n) (Same (sampled vs None))) (sym (any_put vs))
 
 -- what the judging comes to is what the history says
-pub comes_to : (d : Derived) (o : Office) (m : ℕ) (rows batch : List Row) (j : Judgement) (tally : Tally) (x : Judged) → Reflects d o → batch ≡ rows → length batch ≤ most.MAX_BATCH_ROWS →
-    j ≡ rows_verdict d.origin m d.catalog d.book.rows d.accepted d.entries batch → tally ≡ tally_of (verdicts d.book.rows batch) → ComesTo j batch tally x → IsJudged o m (commands.Samples rows) x
-comes_to d o m rows batch j tally x r same few is counted h = by x h
+pub comes_to : (d : Derived) (o : Office) (m : ℕ) (rows batch : List Row) (j : Judgement)
+    (tally : Tally) (each : List RowVerdict) (x : Judged) → Reflects d o → batch ≡ rows →
+    length batch ≤ most.MAX_BATCH_ROWS → j ≡ rows_verdict d.origin m d.catalog d.book.rows
+    d.accepted d.entries batch → tally ≡ tally_of (verdicts d.book.rows batch) →
+    each ≡ verdicts d.book.rows batch → ComesTo j batch tally each x →
+    IsJudged o m (commands.Samples rows) x
+comes_to d o m rows batch j tally each x r same few is counted judged_each h = by x h
   where
     seen : samples_verdict o.origin m (catalog_in o.history) (rows_in o.history) (length o.history) rows ≡ j
     seen =
@@ -193,10 +197,18 @@ comes_to d o m rows batch j tally x r same few is counted h = by x h
     all : (copy : List Row) → copy ≡ batch → verdicts d.book.rows batch ≡ verdicts (rows_in o.history) copy
     all copy e = (λ i. verdicts (r.rows i) batch) ∙ verdicts-over (rows_in o.history) batch ∙ ap (verdicts (rows_in o.history)) (sym e)
 
-    by : (x : Judged) → ComesTo j batch tally x → IsJudged o m (commands.Samples rows) x
-    by (judged.Ready (works.Samples copy found)) h = (sym (seen ∙ h.0), ap commands.Samples (h.1 ∙ same), h.2 ∙ counted ∙ ap tally_of (all copy h.1))
-    by (judged.Ready (works.Define text catalog applied)) h = absurd h
-    by (judged.Ready (works.Remove kind name catalog)) h = absurd h
+    over : (copy : List Row) → copy ≡ batch → verdicts d.book.rows batch ≡ verdicts
+        (current_in o.history) copy
+    over copy e = (λ i. verdicts (r.rows i) batch) ∙ ap (verdicts (current_in o.history)) (sym e)
+
+    by : (x : Judged) → ComesTo j batch tally each x → IsJudged o m (commands.Samples rows) x
+    by (judged.Ready (works.Samples copy found becomes)) h = (
+      sym (seen ∙ h.0),
+      ap commands.Samples (h.1 ∙ same),
+      (h.2 ∙ counted ∙ ap tally_of (all copy h.1), h.3 ∙ judged_each ∙ over copy h.1),
+    )
+    by (judged.Ready (works.Define text catalog applied plan)) h = absurd h
+    by (judged.Ready (works.Remove kind name catalog plan)) h = absurd h
     by (judged.Ready (works.PutZone name bytes zone)) h = absurd h
     by (judged.Ready (works.Exclude value)) h = absurd h
     by (judged.Ready (works.Lift id)) h = absurd h

@@ -5,7 +5,9 @@ use Rattle.std.specs.List.{All, AllByRecursion}
 use Rattle.std.proofs.lemmas.List.{append-nil}
 use Rattle.std.proofs.lemmas.List.Elements.{All-from_recursion, recursion_from_All}
 use Rattle.slo_limits.specs.declared.TheConstants as most
+use Rattle.std.specs.Global.{Vec}
 use Rattle.sample_book.specs.declared.Row.{Row}
+use Rattle.sample_book.specs.declared.RowVerdict.{RowVerdict}
 use Rattle.sample_book.specs.Rows.{current_rows, room_for, same_cell}
 use Rattle.sample_book.specs.History.{MayComeAll}
 use Rattle.sample_book.specs.Puts.{verdicts}
@@ -25,6 +27,7 @@ use Rattle.office_history.specs.declared.Judgement.TheVariants.{Accepted, Same, 
 use Rattle.office_history.specs.Verdicts.{accepted, exclude_where, lift_where, new_exclusion_fault, same_content, unless_refused}
 use Rattle.office_history.specs.Catalog.{catalog_in}
 use Rattle.office_history.specs.History.{Office, accepted_rows, exclusions_in, rows_in, with_entry}
+use Rattle.kept_objectives.specs.Objectives.{KeepsSums}
 use Rattle.office_derived.specs.declared.Derived.{Derived}
 use Rattle.office_derived.specs.declared.Tally.{Tally}
 use Rattle.office_derived.specs.declared.Work.TheVariants as works
@@ -52,31 +55,37 @@ all_current P came (x ∷ more) old new =
     (all_current P (came ++ x ∷ []) more
     (subst (AllByRecursion P) (sym (current-push same_cell (λ row. row.revision) cell_laws came x)) (all_settled P (current_rows came) x old new.0)) new.1)
 
-each : {A : Type 0} (P Q : A → Type 0) → ((x : A) → P x → Q x) → (xs : List A) → AllByRecursion P xs → AllByRecursion Q xs
+pub each : {A : Type 0} (P Q : A → Type 0) → ((x : A) → P x → Q x) → (xs : List A) →
+    AllByRecursion P xs → AllByRecursion Q xs
 each P Q f [] h = tt
 each P Q f (x ∷ xs) h = (f x h.0, each P Q f xs h.1)
 
 -- what an accepted batch keeps, over what is kept
-pub batch_keeps : (d : Derived) (o : Office) (m : ℕ) (rows : List Row) (tally : Tally) → IsNext d o m (works.Samples rows tally) →
+pub batch_keeps : (d : Derived) (o : Office) (m : ℕ) (rows : List Row) (tally : Tally)
+    (becomes : Vec RowVerdict) → IsNext d o m (works.Samples rows tally becomes) →
     IsAccepted o.origin m (catalog_in o.history) (rows_in o.history) (length o.history) rows
-batch_keeps d o m rows tally n = accepted_keeps o.origin m (catalog_in o.history) (rows_in o.history) (length o.history) rows (sym n.accepted)
+batch_keeps d o m rows tally becomes n = accepted_keeps o.origin m (catalog_in o.history)
+    (rows_in o.history) (length o.history) rows (sym n.accepted)
 
 -- so many rows are accepted then
-pub samples_taken : (d : Derived) (o : Office) (m : ℕ) (rows : List Row) (tally : Tally) → IsNext d o m (works.Samples rows tally) →
+pub samples_taken : (d : Derived) (o : Office) (m : ℕ) (rows : List Row) (tally : Tally)
+    (becomes : Vec RowVerdict) → IsNext d o m (works.Samples rows tally becomes) →
     d.accepted + (tally.new + tally.newer) ≡ accepted_rows (rows_in o.history ++ rows)
-samples_taken d o m rows tally n =
-    (λ i. n.reflects.accepted i + ((ap (λ (t : Tally). t.new + t.newer) n.found ∙ sym (count_put (verdicts (rows_in o.history) rows))) i))
+samples_taken d o m rows tally becomes n =
+    (λ i. n.reflects.accepted i + ((ap (λ (t : Tally). t.new + t.newer) n.found.0 ∙ sym
+    (count_put (verdicts (rows_in o.history) rows))) i))
     ∙ sym (accepted-more (rows_in o.history) rows)
 
 pub record Few (d : Derived) (tally : Tally) : Type 0 where
   pub taken : d.accepted + (tally.new + tally.newer) ≤ most.MAX_ACCEPTED_ROWS
   pub entries : d.entries < most.MAX_ENTRIES
 
-pub samples_few : (d : Derived) (o : Office) (m : ℕ) (rows : List Row) (tally : Tally) → IsNext d o m (works.Samples rows tally) → Few d tally
-samples_few d o m rows tally n =
-    let keeps = batch_keeps d o m rows tally n in
+pub samples_few : (d : Derived) (o : Office) (m : ℕ) (rows : List Row) (tally : Tally)
+    (becomes : Vec RowVerdict) → IsNext d o m (works.Samples rows tally becomes) → Few d tally
+samples_few d o m rows tally becomes n =
+    let keeps = batch_keeps d o m rows tally becomes n in
     record {
-      taken = omega (arith, samples_taken d o m rows tally n, keeps.taken);
+      taken = omega (arith, samples_taken d o m rows tally becomes n, keeps.taken);
       entries = omega (arith, n.reflects.entries, keeps.room);
     }
 
@@ -89,8 +98,10 @@ may_come d o rows r room =
 -- What is kept stays sound, where its rows are good and few.
 pub sound_kept : (d d' : Derived) → IsSound d → d.entries < most.MAX_ENTRIES → d'.origin ≡ d.origin → d'.entries ≡ d.entries + 1 → d'.catalog ≡ d.catalog →
     d'.notices.made ≡ d.notices.made → length d'.book.rows ≤ most.MAX_CELLS → d'.accepted ≤ most.MAX_ACCEPTED_ROWS →
-    AllByRecursion (IsRead d.catalog) d'.book.rows → AllByRecursion (IsPlaced d.origin) d'.book.rows → IsSound d'
-sound_kept d d' s few origin entries catalog notices cells taken read placed = record {
+    AllByRecursion (IsRead d.catalog) d'.book.rows →
+    AllByRecursion (IsPlaced d.origin) d'.book.rows →
+    KeepsSums d'.catalog d'.book.exclusions d'.book.rows d'.sums.kept → IsSound d'
+sound_kept d d' s few origin entries catalog notices cells taken read placed sums = record {
   origin = omega (arith, s.origin, origin);
   entries = omega (arith, few, entries);
   cells = cells;
@@ -99,26 +110,34 @@ sound_kept d d' s few origin entries catalog notices cells taken read placed = r
   made = subst (λ (made : List (Notice × Bool)). length made ≤ waiting made + d'.entries) (sym notices) (omega (arith, s.made, entries));
   read = subst (λ (members : List Object). All (IsRead members) d'.book.rows) (sym catalog) (All-from_recursion (IsRead d.catalog) d'.book.rows read);
   placed = subst (λ (n : ℕ). All (IsPlaced n) d'.book.rows) (sym origin) (All-from_recursion (IsPlaced d.origin) d'.book.rows placed);
+  sums = sums;
 }
 
 -- the rows of an accepted batch are read, and lie in the range
-pub rows_good : (d : Derived) (o : Office) (m : ℕ) (rows : List Row) (tally : Tally) → IsNext d o m (works.Samples rows tally) → AllByRecursion (IsGood d.origin m d.catalog) rows
-rows_good d o m rows tally n =
+pub rows_good : (d : Derived) (o : Office) (m : ℕ) (rows : List Row) (tally : Tally)
+    (becomes : Vec RowVerdict) → IsNext d o m (works.Samples rows tally becomes) →
+    AllByRecursion (IsGood d.origin m d.catalog) rows
+rows_good d o m rows tally becomes n =
     subst (λ (origin : ℕ). AllByRecursion (IsGood origin m d.catalog) rows) (sym n.reflects.origin)
     (subst (λ (members : List Object). AllByRecursion (IsGood o.origin m members) rows) (sym n.reflects.catalog)
-    (good_rows o.origin m (catalog_in o.history) 1 rows (verdicts (rows_in o.history) rows) (verdicts_each (rows_in o.history) rows) (batch_keeps d o m rows tally n).clean))
+    (good_rows o.origin m (catalog_in o.history) 1 rows (verdicts (rows_in o.history) rows)
+    (verdicts_each (rows_in o.history) rows) (batch_keeps d o m rows tally becomes n).clean))
 
-pub samples_sound : (d d' : Derived) (o : Office) (m : ℕ) (rows : List Row) (tally : Tally) → IsSound d → IsNext d o m (works.Samples rows tally) →
-    Reflects d' (with_entry o (entry_of m (works.Samples rows tally))) → d'.origin ≡ d.origin → d'.entries ≡ d.entries + 1 → d'.catalog ≡ d.catalog →
-    d'.notices.made ≡ d.notices.made → IsSound d'
-samples_sound d d' o m rows tally s n r' origin entries catalog notices =
-    let keeps = batch_keeps d o m rows tally n in
-    let e = entry_of m (works.Samples rows tally) in
+pub samples_sound : (d d' : Derived) (o : Office) (m : ℕ) (rows : List Row) (tally : Tally)
+    (becomes : Vec RowVerdict) → IsSound d → IsNext d o m (works.Samples rows tally becomes) →
+    Reflects d' (with_entry o (entry_of m (works.Samples rows tally becomes))) →
+    d'.origin ≡ d.origin → d'.entries ≡ d.entries + 1 → d'.catalog ≡ d.catalog →
+    d'.notices.made ≡ d.notices.made → KeepsSums d'.catalog d'.book.exclusions d'.book.rows
+    d'.sums.kept → IsSound d'
+samples_sound d d' o m rows tally becomes s n r' origin entries catalog notices sums =
+    let keeps = batch_keeps d o m rows tally becomes n in
+    let e = entry_of m (works.Samples rows tally becomes) in
     let came = rows_in o.history in
     let is : d'.book.rows ≡ current_rows (came ++ rows) = r'.rows ∙ ap current_rows (rows_more o.history e) in
-    let good = rows_good d o m rows tally n in
+    let good = rows_good d o m rows tally becomes n in
     let placed : (row : Row) → IsGood d.origin m d.catalog row → IsPlaced d.origin row = λ row g. (g.begun, omega (arith, g.over, n.in_range, n.reflects.origin)) in
-    sound_kept d d' s (samples_few d o m rows tally n).entries origin entries catalog notices
+    sound_kept d d' s (samples_few d o m rows tally becomes n).entries origin entries catalog
+    notices
     (omega (arith, ap length is, keeps.cells))
     (omega (arith, r'.accepted ∙ ap accepted_rows (rows_more o.history e), keeps.taken))
     (subst (AllByRecursion (IsRead d.catalog)) (sym is)
@@ -127,14 +146,17 @@ samples_sound d d' o m rows tally s n r' origin entries catalog notices =
     (subst (AllByRecursion (IsPlaced d.origin)) (sym is)
     (all_current (IsPlaced d.origin) came rows (subst (AllByRecursion (IsPlaced d.origin)) n.reflects.rows (recursion_from_All (IsPlaced d.origin) d.book.rows s.placed))
     (each (IsGood d.origin m d.catalog) (IsPlaced d.origin) placed rows good)))
+    sums
 
 -- what is kept of rows stays
 pub sound_still : (d d' : Derived) → IsSound d → d.entries < most.MAX_ENTRIES → d'.origin ≡ d.origin → d'.entries ≡ d.entries + 1 → d'.catalog ≡ d.catalog →
-    d'.notices.made ≡ d.notices.made → d'.book.rows ≡ d.book.rows → d'.accepted ≡ d.accepted → IsSound d'
-sound_still d d' s few origin entries catalog notices rows taken =
+    d'.notices.made ≡ d.notices.made → d'.book.rows ≡ d.book.rows → d'.accepted ≡ d.accepted →
+    KeepsSums d'.catalog d'.book.exclusions d'.book.rows d'.sums.kept → IsSound d'
+sound_still d d' s few origin entries catalog notices rows taken sums =
     sound_kept d d' s few origin entries catalog notices (omega (arith, ap length rows, s.cells)) (omega (arith, taken, s.accepted))
     (subst (AllByRecursion (IsRead d.catalog)) (sym rows) (recursion_from_All (IsRead d.catalog) d.book.rows s.read))
     (subst (AllByRecursion (IsPlaced d.origin)) (sym rows) (recursion_from_All (IsPlaced d.origin) d.book.rows s.placed))
+    sums
 
 room_for_one : (n : ℕ) → accepted n ≡ Accepted → n < most.MAX_ENTRIES
 room_for_one n h = by (nat_lt n most.MAX_ENTRIES) refl h

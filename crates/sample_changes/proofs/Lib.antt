@@ -2,5 +2,6 @@ pub mod Tallies
 pub mod GoodRows
 pub mod Judged
 pub mod Kept
+pub mod Following
 pub mod OnceExclusions
 pub mod OnceBatches

@@ -6,7 +6,6 @@ use Rattle.sample_book.specs.declared.RowVerdict.TheVariants.{New, Newer, Repeat
 use Rattle.office_history.specs.declared.Judgement.{Judgement}
 use Rattle.office_history.specs.declared.Judgement.TheVariants.{Accepted, Same, Refused}
 use Rattle.office_derived.specs.declared.Tally.{Tally}
-use Rattle.office_derived.specs.declared.Work.{Work}
 use Rattle.office_derived.specs.declared.Work.TheVariants as works
 use Rattle.office_derived.specs.declared.Judged.{Judged}
 use Rattle.office_derived.specs.declared.Judged.TheVariants as judged
@@ -19,16 +18,11 @@ tallied tally Repeated = record { new = tally.new; newer = tally.newer; repeated
 tallied tally (Superseded revision) = record { new = tally.new; newer = tally.newer; repeated = tally.repeated; superseded = tally.superseded + 1 }
 tallied tally (Conflict kept) = tally
 
--- a judgement, where it is accepted as this work
-abbrev pub judged_as : Judgement → Work → Judged
-judged_as Accepted work = judged.Ready work
-judged_as (Same outcome) work = judged.Same outcome
-judged_as (Refused refusal) work = judged.Refused refusal
-
 -- what the judging of rows comes to: where they are accepted, the work of a copy of them
-abbrev pub ComesTo : Judgement → List Row → Tally → Judged → Type 0
-ComesTo judgement rows tally (judged.Ready (works.Samples copy counted)) = (judgement ≡ Accepted) × (copy ≡ rows) × (counted ≡ tally)
-ComesTo judgement rows tally (judged.Ready work) = ⊥
-ComesTo judgement rows tally (judged.Same outcome) = judgement ≡ Same outcome
-ComesTo judgement rows tally (judged.Refused refusal) = judgement ≡ Refused refusal
-ComesTo judgement rows tally judged.NoMemory = Unit {0}
+abbrev pub ComesTo : Judgement → List Row → Tally → List RowVerdict → Judged → Type 0
+ComesTo judgement rows tally each (judged.Ready (works.Samples copy counted becomes)) =
+    (judgement ≡ Accepted) × (copy ≡ rows) × (counted ≡ tally) × (becomes.items ≡ each)
+ComesTo judgement rows tally each (judged.Ready work) = ⊥
+ComesTo judgement rows tally each (judged.Same outcome) = judgement ≡ Same outcome
+ComesTo judgement rows tally each (judged.Refused refusal) = judgement ≡ Refused refusal
+ComesTo judgement rows tally each judged.NoMemory = Unit {0}

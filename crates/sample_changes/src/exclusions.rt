@@ -1,6 +1,7 @@
 //! Exclusions and their liftings.
-ghost use Rattle.std.specs.Prelude.{◌≡◌, ◌<◌, ℕ, OnOk, is_none, is_some, length};
+ghost use Rattle.std.specs.Prelude.{◌≡◌, ◌<◌, ℕ, true, OnOk, Some, is_none, is_some, length};
 ghost use Rattle.sample_book.specs.declared.Exclusion.{Exclusion};
+ghost use Rattle.sample_book.specs.Exclusions.{IsLive, exclusion_of};
 ghost use Rattle.slo_objects.specs.Slo.{slo_in};
 ghost use Rattle.record_form.specs.declared.Command.TheVariants as commands;
 ghost use Rattle.office_history.specs.History.{Office, with_entry};
@@ -15,7 +16,7 @@ ghost use Rattle.office_derived.specs.declared.Work.TheVariants as works;
 ghost use Rattle.office_derived.specs.Derived.{HasRoom, IsJudged, IsNext, IsSound, Reflects, Stays};
 ghost use Rattle.office_derived.specs.Derived.{entry_of};
 
-use crate::judgement::{accepted, judged_as, limit};
+use crate::judgement::{accepted, limit};
 use exact_fraction::Label;
 use office_derived::{Derived, Judged, Work};
 use office_history::Judgement;
@@ -119,7 +120,11 @@ pub fn judge_exclude(derived: &Derived, value: &Exclusion) -> Judged
     ensures { (o : Office) (moment : ℕ) → Reflects derived.now o → IsJudged o moment
         (commands.Exclude value.now) result }
 {
-    judged_as(exclude_verdict(derived, value), Work::Exclude(*value))
+    match exclude_verdict(derived, value) {
+        Judgement::Accepted => Judged::Ready(Work::Exclude(*value)),
+        Judgement::Same(outcome) => Judged::Same(outcome),
+        Judgement::Refused(refusal) => Judged::Refused(refusal),
+    }
 }
 
 /// Takes all memory that an exclusion needs. After an error nothing changes but the room.
@@ -142,6 +147,7 @@ pub fn apply_exclude(derived: &mut Derived, moment: u32, value: Exclusion) -> Ou
         outcome_of o moment (commands.Exclude value) }
 {
     let entry = derived.entries;
+    derived.sums.follow_exclusion(&derived.book, &value, true);
     derived.book.exclude(value);
     derived.entries = entry + 1;
     derived.present = moment;
@@ -164,10 +170,22 @@ pub fn judge_lift(derived: &Derived, id: Label) -> Judged
     ensures { (o : Office) (moment : ℕ) → Reflects derived.now o → IsJudged o moment (commands.Lift
         id) result }
 {
-    judged_as(
-        lift_verdict(&derived.book, derived.entries, id),
-        Work::Lift(id),
-    )
+    match lift_verdict(&derived.book, derived.entries, id) {
+        Judgement::Accepted => Judged::Ready(Work::Lift(id)),
+        Judgement::Same(outcome) => Judged::Same(outcome),
+        Judgement::Refused(refusal) => Judged::Refused(refusal),
+    }
+}
+
+/// The exclusion of an id, which is live.
+fn live_exclusion(book: &SampleBook, id: Label) -> Exclusion
+    requires { IsLive book.now.exclusions id }
+    ensures { exclusion_of book.now.exclusions id ≡ Some (result, true) }
+{
+    match book.exclusion(id) {
+        Some((value, true)) => value,
+        _ => unreachable!(),
+    }
 }
 
 /// Lifts an exclusion, with no memory.
@@ -181,7 +199,9 @@ pub fn apply_lift(derived: &mut Derived, moment: u32, id: Label) -> Outcome
         outcome_of o moment (commands.Lift id) }
 {
     let entry = derived.entries;
+    let value = live_exclusion(&derived.book, id);
     derived.book.lift(id);
+    derived.sums.follow_exclusion(&derived.book, &value, false);
     derived.entries = entry + 1;
     derived.present = moment;
     Outcome::Changed { entry: Some(entry) }

@@ -2,9 +2,7 @@
 ghost use Rattle.std.specs.Prelude.{◌≡◌};
 ghost use Rattle.record_form.specs.declared.Refusal.TheVariants as refusals;
 ghost use Rattle.office_history.specs.Verdicts.{accepted as accepted_lem};
-ghost use Rattle.sample_changes.specs.Works.{judged_as as judged_as_lem};
 
-use office_derived::{Judged, Work};
 use office_history::Judgement;
 use record_form::{LimitName, Refusal};
 use slo_limits::MAX_ENTRIES;
@@ -24,16 +22,5 @@ pub(crate) fn accepted(entries: u32) -> Judgement
         Judgement::Accepted
     } else {
         Judgement::Refused(limit(LimitName::Entries))
-    }
-}
-
-/// What a judgement comes to, where it is accepted as this work.
-pub(crate) fn judged_as(judgement: Judgement, work: Work) -> Judged
-    ensures { result ≡ judged_as_lem judgement work }
-{
-    match judgement {
-        Judgement::Accepted => Judged::Ready(work),
-        Judgement::Same(outcome) => Judged::Same(outcome),
-        Judgement::Refused(refusal) => Judged::Refused(refusal),
     }
 }

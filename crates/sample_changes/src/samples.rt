@@ -1,7 +1,9 @@
 //! Samples: rows that are taken, all of them or none.
 ghost use Rattle.std.specs.Prelude.{◌≡◌, ◌+◌, ◌<◌, ◌≤◌, ◌++◌, ◌∷◌, [], List, Some, None, IfOk};
 ghost use Rattle.std.specs.Prelude.{OnOk, cond, length, map};
+ghost use Rattle.std.specs.Global.{Vec};
 ghost use Rattle.slo_limits.specs.declared.TheConstants.{MAX_BATCH_ROWS as most_rows};
+ghost use Rattle.sample_book.specs.declared.RowVerdict.{RowVerdict};
 ghost use Rattle.sample_book.specs.Rows.{cell_of, current_rows, verdict_of};
 ghost use Rattle.sample_book.specs.History.{Came, Event, Gains, Holds, MayComeAll, MayComeAs};
 ghost use Rattle.sample_book.specs.History.{is_put as is_put_lem, room_after};
@@ -94,29 +96,64 @@ fn faultless_verdict(tally: Tally, entries: u32) -> Judgement
     }
 }
 
-/// What becomes of rows, and of each of them, counted.
+/// What becomes of rows that became this over those of the book.
+fn judgement_of(
+    alloc: Global,
+    derived: &Derived,
+    moment: u32,
+    rows: &[Row],
+    verdicts: &[RowVerdict],
+    tally: Tally,
+) -> Result<Judgement, AllocError>
+    requires sound { IsSound derived.now }
+    requires few { length rows.now ≤ most_rows }
+    requires judged { verdicts.now ≡ verdicts_lem derived.now.book.rows rows.now }
+    requires counted { tally ≡ tally_of_lem verdicts.now }
+    requires small { tally.new + tally.newer ≤ most_rows }
+    ensures { IfOk result (λ judgement. judgement ≡ rows_verdict derived.now.origin moment
+        derived.now.catalog derived.now.book.rows derived.now.accepted derived.now.entries
+        rows.now) }
+{
+    let fault = rows_fault(alloc, derived, moment, rows, verdicts, tally)?;
+    match fault {
+        Some(refusal) => Ok(Judgement::Refused(refusal)),
+        None => Ok(faultless_verdict(tally, derived.entries)),
+    }
+}
+
+/// What becomes of a batch, and of its rows, counted and one by one.
+#[derive(Drop)]
+struct BatchFound {
+    judgement: Judgement,
+    tally: Tally,
+    verdicts: Vec<RowVerdict>,
+}
+
+/// What becomes of rows, and of each of them.
 fn rows_judgement(
     alloc: Global,
     derived: &Derived,
     moment: u32,
     rows: &[Row],
-) -> Result<(Judgement, Tally), AllocError>
+) -> Result<BatchFound, AllocError>
     requires sound { IsSound derived.now }
     requires few { length rows.now ≤ most_rows }
-    ensures judged { IfOk result (λ found. found.0 ≡ rows_verdict derived.now.origin moment
+    ensures judged { IfOk result (λ found. found.judgement ≡ rows_verdict derived.now.origin moment
         derived.now.catalog derived.now.book.rows derived.now.accepted derived.now.entries
         rows.now) }
-    ensures counted { IfOk result (λ found. found.1 ≡ tally_of_lem (verdicts_lem
+    ensures counted { IfOk result (λ found. found.tally ≡ tally_of_lem (verdicts_lem
         derived.now.book.rows rows.now)) }
+    ensures each { IfOk result (λ found. found.verdicts.items ≡ verdicts_lem
+        derived.now.book.rows rows.now) }
 {
     let verdicts = derived.book.check_batch(alloc, rows)?;
     let tally = tally_of(&verdicts);
-    let fault = rows_fault(alloc, derived, moment, rows, &verdicts, tally)?;
-    match fault {
-        Some(refusal) => return Ok((Judgement::Refused(refusal), tally)),
-        None => {}
-    }
-    Ok((faultless_verdict(tally, derived.entries), tally))
+    let judgement = judgement_of(alloc, derived, moment, rows, &verdicts, tally)?;
+    Ok(BatchFound {
+        judgement,
+        tally,
+        verdicts,
+    })
 }
 
 /// A copy of rows.
@@ -129,15 +166,23 @@ fn copy_of(alloc: Global, rows: &[Row]) -> Result<Rows, AllocError>
 }
 
 /// What the judging of rows comes to, with a copy of them where they are accepted.
-fn judged_rows(alloc: Global, rows: &[Row], found: (Judgement, Tally)) -> Judged
-    ensures { ComesTo found.0 rows.now found.1 result }
+fn judged_rows(alloc: Global, rows: &[Row], found: BatchFound) -> Judged
+    ensures { ComesTo found.judgement rows.now found.tally found.verdicts.items result }
 {
-    let (judgement, tally) = found;
+    let BatchFound {
+        judgement,
+        tally,
+        verdicts,
+    } = found;
     match judgement {
         Judgement::Same(outcome) => Judged::Same(outcome),
         Judgement::Refused(refusal) => Judged::Refused(refusal),
         Judgement::Accepted => match copy_of(alloc, rows) {
-            Ok(rows) => Judged::Ready(Work::Samples { rows, tally }),
+            Ok(rows) => Judged::Ready(Work::Samples {
+                rows,
+                tally,
+                verdicts,
+            }),
             Err(_) => Judged::NoMemory,
         },
     }
@@ -161,11 +206,13 @@ pub fn judge_samples(alloc: Global, derived: &Derived, moment: u32, rows: &Rows)
 
 /// Takes all memory that samples need. After an error nothing changes but the room.
 pub fn room_for_samples(derived: &mut Derived, rows: &Rows) -> Result<(), AllocError>
-    ensures room { (tally : Tally) → OnOk result (HasRoom derived.new (works.Samples rows.now
-        tally)) }
+    ensures room { (tally : Tally) (becomes : Vec RowVerdict) → OnOk result (HasRoom derived.new
+        (works.Samples rows.now tally becomes)) }
     ensures stays { Stays derived.old derived.new }
 {
-    derived.book.make_room(rows.as_slice())
+    let batch = rows.as_slice();
+    derived.book.make_room(batch)?;
+    derived.sums.reserve_rows(batch)
 }
 
 fn is_put(verdict: &RowVerdict) -> bool
@@ -184,6 +231,7 @@ fn put_row(book: &mut SampleBook, row: &Row)
     ensures rows { book.new.rows ≡ cond (is_put_lem (verdict_of book.old.rows row.now))
         (current_rows (book.old.rows ++ row.now ∷ [])) book.old.rows }
     ensures room { book.new.room ≡ room_after (verdict_of book.old.rows row.now) book.old.room }
+    ensures exclusions { book.new.exclusions ≡ book.old.exclusions }
     ensures history { Gains book.old (Came row.now) book.new }
 {
     let verdict = book.check(row);
@@ -195,8 +243,9 @@ fn put_row(book: &mut SampleBook, row: &Row)
 /// Puts the rows of a batch, in order.
 fn put_rows(book: &mut SampleBook, rows: &[Row])
     requires { MayComeAll book.old.rows book.old.room rows.now }
-    ensures { (events : List Event) → Holds events book.old.rows book.old.exclusions → Holds
-        (events ++ map Came rows.now) book.new.rows book.new.exclusions }
+    ensures history { (events : List Event) → Holds events book.old.rows book.old.exclusions →
+        Holds (events ++ map Came rows.now) book.new.rows book.new.exclusions }
+    ensures exclusions { book.new.exclusions ≡ book.old.exclusions }
 {
     for row in rows {
         put_row(book, row);
@@ -204,18 +253,28 @@ fn put_rows(book: &mut SampleBook, rows: &[Row])
 }
 
 /// Takes accepted samples, with no memory.
-pub fn apply_samples(derived: &mut Derived, moment: u32, rows: Rows, tally: Tally) -> Outcome
+pub fn apply_samples(
+    derived: &mut Derived,
+    moment: u32,
+    rows: Rows,
+    tally: Tally,
+    verdicts: Vec<RowVerdict>,
+) -> Outcome
     requires sound { IsSound derived.old }
-    requires room { HasRoom derived.old (works.Samples rows tally) }
-    requires next { (o : Office) × IsNext derived.old o moment (works.Samples rows tally) }
-    ensures reflects { (o : Office) → IsNext derived.old o moment (works.Samples rows tally) →
-        Reflects derived.new (with_entry o (entry_of moment (works.Samples rows tally))) }
+    requires room { HasRoom derived.old (works.Samples rows tally verdicts) }
+    requires next { (o : Office) × IsNext derived.old o moment (works.Samples rows tally
+        verdicts) }
+    ensures reflects { (o : Office) → IsNext derived.old o moment (works.Samples rows tally
+        verdicts) → Reflects derived.new (with_entry o (entry_of moment (works.Samples rows tally
+        verdicts))) }
     ensures sound { IsSound derived.new }
-    ensures outcome { (o : Office) → IsNext derived.old o moment (works.Samples rows tally) →
-        result ≡ outcome_of o moment (commands.Samples rows) }
+    ensures outcome { (o : Office) → IsNext derived.old o moment (works.Samples rows tally
+        verdicts) → result ≡ outcome_of o moment (commands.Samples rows) }
 {
     let entry = derived.entries;
-    put_rows(&mut derived.book, rows.as_slice());
+    let batch = rows.as_slice();
+    derived.sums.follow_rows(&derived.book, batch, &verdicts);
+    put_rows(&mut derived.book, batch);
     derived.accepted += tally.new + tally.newer;
     derived.entries = entry + 1;
     derived.present = moment;

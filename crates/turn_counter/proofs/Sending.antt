@@ -31,6 +31,10 @@ use Rattle.sample_book.proofs.book.SampleBook.TheSendSync as book
 use Rattle.notice_box.proofs.notice_box.NoticeBox.TheSendSync as notices
 use Rattle.zone_calendar.proofs.zone.Zone.TheSendSync as zone
 use Rattle.exact_fraction.proofs.text.Bytes.TheSendSync as bytes
+use Rattle.kept_objectives.specs.contracts.kept.ObjectiveSums as objective
+use Rattle.kept_objectives.specs.contracts.plan.SumsPlan as plan
+use Rattle.kept_objectives.proofs.kept.KeptSums.TheSendSync as sums
+use Rattle.window_sums.proofs.window_sums.WindowSums.TheSendSync as window
 
 pub text_send : IsSend text.the_row
 text_send = search (sendable, crosses, maps.crosses) depth 40
@@ -110,11 +114,28 @@ member_send = search (whole_object_send, whole_object_sync, sendable, crosses) d
 pub catalog_send : IsSend catalog.the_row
 catalog_send = search (member_send, sendable, crosses) depth 40 fits 100000
 
+pub objective_send : IsSend objective.the_field.row
+objective_send = search (window.the_send, sendable, crosses) depth 40 fits 100000
+
+pub plan_send : IsSend plan.the_field.row
+plan_send = search (objective_send, sendable, crosses) depth 40 fits 100000
+
 pub work_send : IsSend work.the_field.row
-work_send = search (catalog_send, zone.the_send, bytes.the_send, sendable, crosses) depth 40 fits 100000
+work_send =
+    search (catalog_send, plan_send, zone.the_send, bytes.the_send, sendable, crosses) depth 40
+    fits 100000
 
 pub derived_send : IsSend derived.the_field.row
-derived_send = search (catalog_send, zones.the_send, book.the_send, notices.the_send, sendable, crosses) depth 40 fits 100000
+derived_send =
+    search (
+      catalog_send,
+      zones.the_send,
+      book.the_send,
+      sums.the_send,
+      notices.the_send,
+      sendable,
+      crosses,
+    ) depth 40 fits 100000
 
 pub pending_send : IsSend pending.the_field.row
 pending_send = search (work_send, sendable, crosses) depth 40 fits 100000
@@ -122,7 +143,8 @@ pending_send = search (work_send, sendable, crosses) depth 40 fits 100000
 pub core_send : IsSend core.the_row
 core_send = search (pending_send, derived_send, sendable, crosses) depth 40 fits 100000
 
-pub office_send : (D : RattleType) (disk : Ghosts D.Denot) → IsSend D → IsSend (office.the_row D disk)
+pub office_send : (D : RattleType) (disk : Ghosts D.Denot) → IsSend D →
+    IsSend (office.the_row D disk)
 office_send D disk sent = search (core_send, sendable, crosses) depth 40 fits 100000
 
 pub held_send : (D : RattleType) (disk : Ghosts D.Denot) → IsSend D → IsSend (held.the_row D disk)

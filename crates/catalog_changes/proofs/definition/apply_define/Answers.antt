@@ -1,9 +1,17 @@
 use Rattle.catalog_changes.proofs.ChangeLemmas.{define_reflects, define_sound}
+use Rattle.catalog_changes.proofs.PlanLemmas.{plan_taken}
 use Rattle.catalog_changes.proofs.definition.apply_define.Goals as goal
 
 pub returns-clause-reflects : goal.returns-clause-reflects
-returns-clause-reflects c o next = define_reflects c.args.derived.now o c.args.moment c.args.text c.args.catalog c.args.applied next
+returns-clause-reflects c o next =
+    define_reflects c.args.derived.now o c.args.moment c.args.text c.args.catalog c.args.applied
+    c.args.plan c.take.new.self next
 
 pub returns-clause-sound : goal.returns-clause-sound
 returns-clause-sound c =
-    define_sound c.bodies_are_of_their_kinds.ensures c.args.derived.now c.requires.next.0 c.args.moment c.args.text c.args.catalog c.args.applied c.requires.sound c.requires.next.1
+    let d = c.args.derived.now in
+    define_sound c.bodies_are_of_their_kinds.ensures d c.requires.next.0 c.args.moment c.args.text
+    c.args.catalog c.args.applied c.args.plan c.take.new.self c.requires.sound c.requires.next.1
+    (λ is. plan_taken d.catalog c.args.catalog d.book.exclusions d.book.rows c.args.plan d.sums.kept
+    c.take.new.self.kept c.requires.sound.sums is
+    (c.take.ensures.sums d.book.exclusions d.book.rows) c.take.ensures.wanted c.take.ensures.there)

@@ -1,4 +1,4 @@
-use Rattle.std.proofs.Common.{◌≡◌, ◌∙◌, ℕ, List, Err, length, sym, ap, subst, rules}
+use Rattle.std.proofs.Common.{◌≡◌, ◌∙◌, ℕ, List, Err, length, sym, ap, subst}
 use Rattle.definition_verdict.specs.declared.Definition.{Definition}
 use Rattle.definition_verdict.specs.Verdict.{IsDefinition, IsRefused}
 use Rattle.slo_catalog.specs.Catalog.{put_all}
@@ -24,13 +24,14 @@ returns-in-Err-Refused c =
     (c.in-Err-Refused.ensures.refused c.in-Err-Refused.refusal (ap Err c.in-Err-Refused.field-0-is))) in
     rw c.in-Err-Refused.field-0-is told
 
-pub returns-in-Ok-copy_of : goal.returns-in-Ok-copy_of
-returns-in-Ok-copy_of c = (
+pub returns-in-Ok-text_and_plan : goal.returns-in-Ok-text_and_plan
+returns-in-Ok-text_and_plan c = (
   seen c.args.derived.now c.args.text.now c.as_bytes.result.now c.in-Ok.made c.in-Ok-Accepted.field-0 _ c.as_bytes.ensures c.in-Ok.ensures.defined c.in-Ok-Accepted.ensures c.in-Ok-Accepted.field-0-is,
   (
-    c.in-Ok-copy_of.ensures,
+    c.in-Ok-text_and_plan.ensures.text,
     c.in-Ok.ensures.catalog ∙ ap (λ (t : List ℕ). put_all (text_objects t) c.args.derived.now.catalog) c.as_bytes.ensures,
     c.in-Ok-applied_of.ensures ∙ c.in-Ok.ensures.objects ∙ ap (λ (t : List ℕ). length (text_objects t)) c.as_bytes.ensures,
+    c.in-Ok-text_and_plan.ensures.plan,
   ),
 )
 

@@ -6,4 +6,4 @@ pub returns-in_ok-state-in-Some : goal.returns-in_ok-state-in-Some
 returns-in_ok-state-in-Some c = λ o r.
     one_state c.args.derived.now o r (record { slo = c.args.slo; objective = c.args.objective; policy = c.args.policy }) c.args.at
     c.in_ok-found.found c.in-Some.watch c.in_ok-state-in-Some.state c.in_ok-found.ensures.value c.in-Some.is
-    (c.in_ok-state-in-Some.ensures (samples_of c.args.derived.now.book) c.in_ok-sums-in-Some.ensures)
+    (c.in_ok-state-in-Some.ensures (samples_of c.args.derived.now.book) c.sums_of_watch-sums.ensures)

@@ -16,5 +16,5 @@ returns-clause-sound c =
     let o = c.requires.next.0 in
     let next = c.requires.next.1 in
     let d' : Derived = record d { notices = c.take.new.notices; entries = d.entries + 1; present = c.args.moment } in
-    sound_take d d' c.args.number c.requires.sound refl refl refl refl refl c.take.ensures.made c.take.ensures.one
+    sound_take d d' c.args.number c.requires.sound refl refl refl refl refl refl refl c.take.ensures.made c.take.ensures.one
     (next_within d o c.args.moment c.args.number next.reflects next.accepted).2

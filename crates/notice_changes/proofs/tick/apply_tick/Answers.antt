@@ -31,7 +31,7 @@ returns-clause-sound c =
     let next = c.requires.next.1 in
     let few = next_few d c.requires.next.0 c.args.moment c.args.told.items next.reflects next.accepted next.found.1 in
     let d' : Derived = record d { notices = c.tell.new.notices; states = c.args.states; entries = d.entries + 1; present = c.args.moment } in
-    sound_tick d d' c.args.moment c.args.told.items c.requires.sound refl refl refl refl refl
+    sound_tick d d' c.args.moment c.args.told.items c.requires.sound refl refl refl refl refl refl refl
     (c.tell.ensures ∙ ap (λ told. d.notices.made ++ new_notices c.args.moment (length d.notices.made + 1) told) c.deref-2.ensures.value) few.0 few.1
 
 pub returns-clause-outcome : goal.returns-clause-outcome

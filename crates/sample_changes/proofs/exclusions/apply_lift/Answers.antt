@@ -1,21 +1,54 @@
-use Rattle.std.proofs.Common.{◌+◌, refl, sym}
+use Rattle.std.proofs.Common.{◌+◌, ◌++◌, ◌∷◌, [], refl, sym, subst, true, List}
 use Rattle.std.proofs.lemmas.List.{append-nil}
+use Rattle.sample_book.specs.declared.Row.{Row}
+use Rattle.kept_objectives.specs.Objectives.{HaveForms}
 use Rattle.office_history.specs.History.{events_in}
 use Rattle.office_derived.specs.declared.Derived.{Derived}
 use Rattle.office_derived.specs.declared.Work.TheVariants as works
+use Rattle.office_derived.proofs.ObjectiveLemmas.{sound_forms}
 use Rattle.office_derived.proofs.Still.{reflects_still}
+use Rattle.sample_changes.proofs.Following.{change_followed, kept_alike, kept_over, made_anew}
 use Rattle.sample_changes.proofs.Kept.{accepted_still, lift_entries, sound_still}
 use Rattle.sample_changes.proofs.exclusions.apply_lift.Goals as goal
+
+pub follow_exclusion-requires-clause-kept : goal.follow_exclusion-requires-clause-kept
+follow_exclusion-requires-clause-kept c =
+    let d = c.args.derived.now in
+    let value = c.live_exclusion-value.result in
+    let anew = c.lift.new.self.exclusions ++ (value, true) ∷ [] in
+    kept_over anew anew d.book.rows c.lift.new.self.rows d.sums.kept refl c.lift.ensures.rows
+    (kept_alike d.book.exclusions anew d.book.rows d.sums.kept
+    (made_anew d.book.exclusions c.lift.new.self.exclusions value
+    (λ slo minute. c.lift.ensures.minutes value slo minute c.live_exclusion-value.ensures))
+    c.requires.sound.sums.sums)
+
+pub follow_exclusion-requires-clause-forms : goal.follow_exclusion-requires-clause-forms
+follow_exclusion-requires-clause-forms c =
+    let d = c.args.derived.now in
+    subst (λ (rows : List Row). HaveForms rows d.sums.kept) (sym c.lift.ensures.rows)
+    (sound_forms d c.requires.sound)
 
 pub returns-clause-reflects : goal.returns-clause-reflects
 returns-clause-reflects c o next =
     let d = c.args.derived.now in
-    let d' : Derived = record d { book = c.lift.new.self; entries = d.entries + 1; present = c.args.moment } in
+    let d' : Derived = record d {
+      book = c.lift.new.self;
+      sums = c.follow_exclusion.new.self;
+      entries = d.entries + 1;
+      present = c.args.moment;
+    } in
     reflects_still d d' o c.args.moment (works.Lift c.args.id) next.reflects next.later (record { no_tick = refl; no_taking = λ number. refl }) refl refl refl refl refl refl
     (sym (append-nil d.zones.kept)) (c.lift.ensures.history (events_in o.history) next.reflects.held) (accepted_still d o next.reflects)
 
 pub returns-clause-sound : goal.returns-clause-sound
 returns-clause-sound c =
     let d = c.args.derived.now in
-    let d' : Derived = record d { book = c.lift.new.self; entries = d.entries + 1; present = c.args.moment } in
+    let d' : Derived = record d {
+      book = c.lift.new.self;
+      sums = c.follow_exclusion.new.self;
+      entries = d.entries + 1;
+      present = c.args.moment;
+    } in
     sound_still d d' c.requires.sound (lift_entries d c.requires.next.0 c.args.moment c.args.id c.requires.next.1) refl refl refl refl c.lift.ensures.rows refl
+    (change_followed d d' c.requires.sound refl c.lift.ensures.rows
+    c.follow_exclusion.ensures.measures c.follow_exclusion.ensures.kept)

@@ -5,5 +5,18 @@ use Rattle.office_core.proofs.machine.Core.new.Goals as goal
 
 pub invariant_of-result : goal.invariant_of-result
 invariant_of-result c =
-    let d : Derived = record { origin = c.args.origin; entries = 0; present = c.args.origin; catalog = c.new-3.result; zones = c.new-4.result; book = c.in_ok-book.book; accepted = 0; notices = c.new-5.result; states = c.new-6.result } in
-    kept_new c.no_bytes_are_no_history.ensures d c.new-2.result.items _ c.new-2.ensures.items c.requires refl refl c.new-3.ensures c.new-4.ensures c.in_ok-book.ensures.history refl c.new-5.ensures c.new-6.ensures.items
+    let d : Derived = record {
+      origin = c.args.origin;
+      entries = 0;
+      present = c.args.origin;
+      catalog = c.new-3.result;
+      zones = c.new-4.result;
+      book = c.in_ok-book.book;
+      sums = c.new-5.result;
+      accepted = 0;
+      notices = c.new-6.result;
+      states = c.new-7.result;
+    } in
+    kept_new c.no_bytes_are_no_history.ensures d c.new-2.result.items _ c.new-2.ensures.items
+    c.requires refl refl c.new-3.ensures c.new-4.ensures c.in_ok-book.ensures.history
+    c.new-5.ensures refl c.new-6.ensures c.new-7.ensures.items

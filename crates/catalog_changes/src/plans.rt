@@ -1,0 +1,25 @@
+//! Room for the sums that come with another catalog.
+ghost use Rattle.std.specs.Prelude.{ℕ, List, OnOk};
+ghost use Rattle.slo_objects.specs.declared.Kind.{Kind};
+ghost use Rattle.slo_objects.specs.declared.Object.{Object};
+ghost use Rattle.office_derived.specs.Derived.{HasRoom, Stays};
+ghost use Rattle.office_derived.specs.declared.Work.TheVariants as works;
+
+use kept_objectives::SumsPlan;
+use office_derived::Derived;
+use std::alloc::AllocError;
+
+/// Makes room for the sums of a plan. After an error all is as before.
+///
+/// # Errors
+///
+/// Memory ran out.
+pub fn room_for_plan(derived: &mut Derived, plan: &SumsPlan) -> Result<(), AllocError>
+    ensures define { (text : List ℕ) (catalog : List Object) (applied : ℕ) →
+        OnOk result (HasRoom derived.new (works.Define text catalog applied plan.now)) }
+    ensures remove { (kind : Kind) (name : List ℕ) (catalog : List Object) →
+        OnOk result (HasRoom derived.new (works.Remove kind name catalog plan.now)) }
+    ensures stays { Stays derived.old derived.new }
+{
+    derived.sums.reserve(plan.made.len())
+}

@@ -1,0 +1,40 @@
+use Rattle.std.proofs.Common.{rules, ◌≡◌, ◌++◌, List, if◌then◌else◌, ap, subst, sym, ◌∙◌}
+use Rattle.std.specs.Prelude.{is_ok}
+use Rattle.std.specs.List.{Contains}
+use Rattle.kept_sums.specs.Sums.{IsKept}
+use Rattle.kept_objectives.specs.Objectives.{AreKept, KeptObjectives, measures_of}
+use Rattle.kept_objectives.specs.declared.kept.ObjectiveSums.{ObjectiveSums}
+use Rattle.kept_objectives.proofs.TakeLemmas.{all_append, one_of_both, retained_each}
+use Rattle.kept_objectives.proofs.TakeLemmas.{retained_there, retained_wanted}
+use Rattle.kept_objectives.proofs.kept.KeptSums.take.Goals as goal
+
+-- both lists stand together before those that aren't wanted go
+together : (c : goal.After-drop-wanted) →
+    c.append.new.self.items ≡ c.args.self.now.kept ++ c.args.plan.made.items
+together c =
+    let old = c.self.inside.objectives.items in
+    let brought = c.args.plan.made.items in
+    c.append.ensures.items
+    ∙ ap (λ r. if is_ok r then old ++ brought else old) c.unwrap.ensures
+    ∙ ap (λ (k : KeptObjectives). k.kept ++ brought) c.self.view_is
+
+pub returns-clause-sums : goal.returns-clause-sums
+returns-clause-sums c = λ made rows old new.
+    retained_each _ _ (λ (k : ObjectiveSums). IsKept k.measure made rows k.sums) _
+    c.retain.new.self.items c.retain.ensures.filtered
+    (subst (AreKept made rows) (sym (together c))
+    (all_append (λ (k : ObjectiveSums). IsKept k.measure made rows k.sums) c.args.self.now.kept
+    c.args.plan.made.items old new))
+
+pub returns-clause-wanted : goal.returns-clause-wanted
+returns-clause-wanted c =
+    retained_wanted _ c.args.plan.wanted.items _ (λ x b g k. search rules) _
+    c.retain.new.self.items c.retain.ensures.filtered
+
+pub returns-clause-there : goal.returns-clause-there
+returns-clause-there c = λ m want at.
+    retained_there _ c.args.plan.wanted.items _ (λ x b g k. search rules) _
+    c.retain.new.self.items c.retain.ensures.filtered m want
+    (subst (λ (os : List ObjectiveSums). Contains (measures_of os) m)
+    (sym (together c))
+    (one_of_both c.args.self.now.kept c.args.plan.made.items m at))

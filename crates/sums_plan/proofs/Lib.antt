@@ -1,0 +1,2 @@
+mod WantedLemmas
+mod PlanLemmas

@@ -1,0 +1,145 @@
+-- What is known of the objectives of a catalog, one SLO after another.
+use Rattle.std.proofs.Common.{◌≡◌, ℕ, zero, suc, ◌<◌, ◌==◌, ◌&&◌, Bool, true, false, cond, List, []}
+use Rattle.std.proofs.Common.{◌∷◌, ◌++◌, length}
+use Rattle.std.proofs.Common.{map, filter, slice_index_or, bytes_eq, Option, Some, None, refl, sym}
+use Rattle.std.proofs.Common.{subst, arith}
+use Rattle.std.specs.List.{All, AllByRecursion, Contains, flat_map}
+use Rattle.std.specs.Prelude.{option_and_then, slice_get}
+use Rattle.std.proofs.lemmas.List.Elements.{recursion_from_All, All-from_recursion}
+use Rattle.std.proofs.lemmas.List.Elements.{Contains-append_left, Contains-append_right}
+use Rattle.std.proofs.lemmas.Slice.Eq.{bytes_eq-Decides}
+use Rattle.sample_book.specs.declared.Row.{Row}
+use Rattle.slo_objects.specs.declared.kind.Kind.{Kind}
+use Rattle.slo_objects.specs.declared.kind.Kind.TheVariants as kinds
+use Rattle.slo_objects.specs.declared.Object.{Object}
+use Rattle.slo_objects.specs.Slo.{slo_in}
+use Rattle.slo_catalog.specs.Keys.{find_in, is_key, kind_rank}
+use Rattle.catalog_measures.specs.Names.{is_slo, slo_names}
+use Rattle.kept_sums.specs.Sums.{Fits}
+use Rattle.kept_objectives.specs.Objectives.{IsObjective}
+use Rattle.office_history.specs.declared.Measure.{Measure}
+use Rattle.office_history.specs.Objectives.{measures_named, measures_of}
+use Rattle.office_derived.specs.Derived.{IsRead}
+use Rattle.office_derived.proofs.ObjectiveLemmas.{all_fit, all_objectives, objective_among}
+use Rattle.sums_plan.specs.Wanted.{objectives_in}
+
+-- LISTS
+
+all_joined : {A : Type 0} (P : A → Type 0) (a b : List A) → AllByRecursion P a →
+    AllByRecursion P b → AllByRecursion P (a ++ b)
+all_joined P [] b h k = k
+all_joined P (x ∷ xs) b h k = (h.0, all_joined P xs b h.1 k)
+
+all_flat : {A B : Type 0} (P : B → Type 0) (f : A → List B) →
+    ((x : A) → AllByRecursion P (f x)) → (xs : List A) → AllByRecursion P (flat_map f xs)
+all_flat P f each [] = tt
+all_flat P f each (x ∷ xs) = all_joined P (f x) (flat_map f xs) (each x) (all_flat P f each xs)
+
+flat_at : {A B : Type 0} (f : A → List B) (xs : List A) (k : ℕ) (x : A) (y : B) →
+    k < length xs → slice_index_or xs k x ≡ x → Contains (f x) y → Contains (flat_map f xs) y
+flat_at f [] k x y less e has = absurd (omega arith)
+flat_at f (a ∷ more) zero x y less e has =
+    Contains-append_left (f a) (flat_map f more) y
+    (subst (λ z. Contains (f z) y) (sym e) has)
+flat_at f (a ∷ more) (suc k) x y less e has =
+    Contains-append_right (f a) (flat_map f more) y (flat_at f more k x y (omega arith) e has)
+
+-- an item of the list that is made of a member is one of all of them
+flat_contains : {A B : Type 0} (f : A → List B) (xs : List A) (x : A) (y : B) → Contains xs x →
+    Contains (f x) y → Contains (flat_map f xs) y
+flat_contains f xs x y within has = flat_at f xs within.0 x y within.1 within.2 has
+
+-- NAMES
+
+both : (a b : Bool) → a && b ≡ true → (a ≡ true) × (b ≡ true)
+both true true h = (refl, refl)
+both true false h = cc h
+both false b h = cc h
+
+slo_kind : (k : Kind) → (kind_rank k == kind_rank kinds.Slo) ≡ true → is_slo k ≡ true
+slo_kind kinds.Slo e = refl
+slo_kind kinds.Sli e = cc e
+slo_kind kinds.DataSource e = cc e
+slo_kind kinds.Service e = cc e
+slo_kind kinds.AlertPolicy e = cc e
+slo_kind kinds.AlertCondition e = cc e
+slo_kind kinds.AlertNotificationTarget e = cc e
+
+here : (xs : List (List ℕ)) (x : List ℕ) → Contains (x ∷ xs) x
+here xs x = (0, omega arith, refl)
+
+there : (xs : List (List ℕ)) (y x : List ℕ) → Contains xs x → Contains (y ∷ xs) x
+there xs y x h = Contains-append_right (y ∷ []) xs x h
+
+-- an SLO's name stands before those of the others
+abbrev with_name : Bool → Object → List Object → List (List ℕ)
+with_name b o others =
+    let slos = filter (λ (p : Object). is_slo p.kind) others in
+    map (λ (p : Object). p.name) (cond b (o ∷ slos) slos)
+
+-- the name of an SLO that is found is one of the catalog's
+slo_among : (members : List Object) (name : List ℕ) (o : Object) →
+    find_in members kinds.Slo name ≡ Some o → Contains (slo_names members) name
+slo_among [] name o e = cc e
+slo_among (p ∷ ps) name o e =
+    by (is_key kinds.Slo name p) refl e (slo_among ps name o)
+  where
+    rest : (b : Bool) → Contains (slo_names ps) name → Contains (with_name b p ps) name
+    rest true h = there (slo_names ps) p.name name h
+    rest false h = h
+
+    first : (b : Bool) → b ≡ true → p.name ≡ name → Contains (with_name b p ps) name
+    first true h same =
+        subst (λ n. Contains (n ∷ slo_names ps) name) (sym same) (here (slo_names ps) name)
+    first false h same = cc h
+
+    by : (b : Bool) → is_key kinds.Slo name p ≡ b →
+        cond b (Some p) (find_in ps kinds.Slo name) ≡ Some o →
+        (find_in ps kinds.Slo name ≡ Some o → Contains (slo_names ps) name) →
+        Contains (slo_names (p ∷ ps)) name
+    by true key e more =
+        let k = both (kind_rank p.kind == kind_rank kinds.Slo) (bytes_eq p.name name) key in
+        first (is_slo p.kind) (slo_kind p.kind k.0) ((bytes_eq-Decides p.name name).0 k.1)
+    by false key e more = rest (is_slo p.kind) (more e)
+
+-- OBJECTIVES
+
+pub only_objectives : (members : List Object) →
+    AllByRecursion (IsObjective members) (objectives_in members)
+only_objectives members =
+    all_flat (IsObjective members) (measures_named members)
+    (λ name. recursion_from_All (IsObjective members) (measures_named members name)
+    (all_objectives members name))
+    (slo_names members)
+
+-- an SLO that has an objective is there
+named_there : (members : List Object) (name : List ℕ) (m : Measure) (number : ℕ) →
+    slice_get (measures_named members name) number ≡ Some m → Contains (slo_names members) name
+named_there members name m number e = by (find_in members kinds.Slo name) refl e
+  where
+    by : (found : Option Object) → find_in members kinds.Slo name ≡ found →
+        slice_get (measures_of members name (option_and_then (λ o. slo_in o.body) found)) number
+        ≡ Some m → Contains (slo_names members) name
+    by None is e = cc e
+    by (Some o) is e = slo_among members name o is
+
+pub each_objective : (members : List Object) (m : Measure) → IsObjective members m →
+    Contains (objectives_in members) m
+each_objective members m is =
+    flat_contains (measures_named members) (slo_names members) m.slo m
+    (named_there members m.slo m is.number is.there) (objective_among members m is)
+
+-- each row that the catalog reads has the form that each of these wants
+pub all_forms : (members : List Object) (rows : List Row) (wanted : List Measure) →
+    AllByRecursion (IsObjective members) wanted → All (IsRead members) rows →
+    All (λ (m : Measure). AllByRecursion (Fits m) rows) wanted
+all_forms members rows wanted only read =
+    All-from_recursion (λ (m : Measure). AllByRecursion (Fits m) rows) wanted (by wanted only)
+  where
+    read_so : AllByRecursion (IsRead members) rows
+    read_so = recursion_from_All (IsRead members) rows read
+
+    by : (wanted : List Measure) → AllByRecursion (IsObjective members) wanted →
+        AllByRecursion (λ (m : Measure). AllByRecursion (Fits m) rows) wanted
+    by [] h = tt
+    by (m ∷ ms) h = (all_fit members m rows h.0 read_so, by ms h.1)

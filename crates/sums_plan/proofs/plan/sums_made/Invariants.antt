@@ -1,0 +1,11 @@
+use Rattle.std.proofs.Common.{All, take}
+use Rattle.kept_objectives.specs.Objectives.{AreKept}
+use Rattle.sums_plan.specs.Wanted.{HasSums}
+use Rattle.sums_plan.proofs.plan.sums_made.Given as goal
+
+-- the sums that are made so far are those of the objectives so far
+abbrev pub invariant-loop-measure : goal.invariant-loop-measure
+invariant-loop-measure l = record {
+  made : AreKept l.derived.book.exclusions l.derived.book.rows l.made.items;
+  there : All (HasSums l.derived.catalog l.made.items) (take l.measure-index l.wanted);
+}
