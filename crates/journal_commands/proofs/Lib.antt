@@ -1,3 +1,2 @@
 pub mod Sessions
-pub mod Endings
-pub mod Reports
+pub mod Findings

@@ -1,3 +1,4 @@
 pub mod Making
+pub mod Opening
 pub mod Serving
 pub mod Reporting

@@ -4,15 +4,15 @@ use Rattle.office_outside.specs.Disk.{All, IsQuiet}
 use Rattle.office_outside.specs.Told.{Gained, GainedPrefix}
 use Rattle.office_session.specs.Sessions.{Reads}
 use Rattle.office_history.specs.History.{Office, end_of, moment_of}
-use Rattle.slo_journal.specs.Front.{HasNoHeader}
-use Rattle.office_keep.specs.Files.{IsDamagedAt, IsWhole, StandsFor}
+use Rattle.office_keep.specs.Files.{IsWhole, StandsFor}
 use Rattle.office_report.specs.Report.{IsReport}
 use Rattle.journal_commands.specs.Making.{Bench}
+use Rattle.journal_commands.specs.Opening.{IsFoundOn}
+use Rattle.journal_commands.specs.declared.reporting.PrintEnd.{PrintEnd}
+use Rattle.journal_commands.specs.declared.reporting.PrintEnd.TheVariants.{Done, OutOfRange}
+use Rattle.journal_commands.specs.declared.reporting.PrintEnd.TheVariants.{WriteFault, NoMemory}
 use Rattle.journal_commands.specs.declared.reporting.ReportEnd.{ReportEnd}
-use Rattle.journal_commands.specs.declared.reporting.ReportEnd.TheVariants.{Done, OutOfRange}
-use Rattle.journal_commands.specs.declared.reporting.ReportEnd.TheVariants.{NotAJournal, Damaged}
-use Rattle.journal_commands.specs.declared.reporting.ReportEnd.TheVariants.{DiskFault, WriteFault}
-use Rattle.journal_commands.specs.declared.reporting.ReportEnd.TheVariants.{NoMemory}
+use Rattle.journal_commands.specs.declared.reporting.ReportEnd.TheVariants.{Opened, Unopened}
 
 -- The minute that was asked for, or else the moment of what is read at the clock's reading.
 abbrev pub minute_by : Option ℕ → Office → ℕ → ℕ
@@ -45,15 +45,12 @@ pub record IsUnprinted (asked : Option ℕ) (reading : ℕ) (old new : Option (L
   pub out_of_range : IsOutOfRange o reading (minute_by asked o reading)
   pub silent : new ≡ old
 
--- what an end says of the office that was opened
-abbrev pub EndsOver : Option ℕ → ℕ → ReportEnd → Option (List ℕ) → Option (List ℕ) → Office → Type 0
+-- what each end of the printing says of the office that was opened
+abbrev pub EndsOver : Option ℕ → ℕ → PrintEnd → Option (List ℕ) → Option (List ℕ) → Office → Type 0
 EndsOver asked reading Done old new o = IsPrinted Gained asked reading old new o
 EndsOver asked reading WriteFault old new o = IsPrinted GainedPrefix asked reading old new o
 EndsOver asked reading OutOfRange old new o = IsUnprinted asked reading old new o
 EndsOver asked reading NoMemory old new o = new ≡ old
-EndsOver asked reading NotAJournal old new o = ⊥
-EndsOver asked reading (Damaged at) old new o = ⊥
-EndsOver asked reading DiskFault old new o = ⊥
 
 -- The file was opened: where the disk tells it, it stands for an office that is whole, as does each
 -- image of the disk that is handed back. Of this office this is so.
@@ -65,29 +62,14 @@ pub record OpensTo {D : Type 0} (content : D → Option (List ℕ)) (images : D 
   pub stands : All (StandsFor office) (images new)
   pub so : Is office
 
--- The file wasn't opened: this is what it was found to be, where the disk tells it, and the output
+-- What each end says, where the clock gave this reading. Where the file wasn't opened, the output
 -- gained nothing.
-pub record IsUnread {D : Type 0} (content : D → Option (List ℕ)) (Is : List ℕ → Type 0)
-    (old new : Bench D) : Type 0 where
-  pub found : (file : List ℕ) → content old.disk ≡ Some file → Is file
-  pub silent : new.held ≡ old.held
-
--- What each end says, where the clock gave this reading.
 abbrev pub EndsReporting : {D : Type 0} → (D → Option (List ℕ)) → (D → List ℕ → Type 0) →
     Option ℕ → ℕ → ReportEnd → Bench D → Bench D → Type 0
-EndsReporting content images asked reading Done old new =
-    OpensTo content images (IsPrinted Gained asked reading old.held new.held) old.disk new.disk
-EndsReporting content images asked reading WriteFault old new =
-    OpensTo content images (IsPrinted GainedPrefix asked reading old.held new.held)
-    old.disk new.disk
-EndsReporting content images asked reading OutOfRange old new =
-    OpensTo content images (IsUnprinted asked reading old.held new.held) old.disk new.disk
-EndsReporting content images asked reading NotAJournal old new =
-    IsUnread content HasNoHeader old new
-EndsReporting content images asked reading (Damaged at) old new =
-    IsUnread content (IsDamagedAt at) old new
-EndsReporting content images asked reading DiskFault old new = new.held ≡ old.held
-EndsReporting content images asked reading NoMemory old new = new.held ≡ old.held
+EndsReporting content images asked reading (Opened end) old new =
+    OpensTo content images (EndsOver asked reading end old.held new.held) old.disk new.disk
+EndsReporting content images asked reading (Unopened why) old new =
+    IsFoundOn content why old.disk × (new.held ≡ old.held)
 
 -- A report is printed, or not: the clock gave one reading, and by it and by how it ended this is
 -- so.
@@ -99,13 +81,3 @@ pub record Reports {D : Type 0} (content : D → Option (List ℕ)) (images : D 
   pub ends : EndsReporting content images asked reading end old new
   -- no image came up, however it ended
   pub quiet : IsQuiet images moment since old.disk new.disk
-
--- the file wasn't opened
-abbrev pub IsUnopened : ReportEnd → Type 0
-IsUnopened Done = ⊥
-IsUnopened OutOfRange = ⊥
-IsUnopened NotAJournal = Unit {0}
-IsUnopened (Damaged at) = Unit {0}
-IsUnopened DiskFault = Unit {0}
-IsUnopened WriteFault = ⊥
-IsUnopened NoMemory = Unit {0}

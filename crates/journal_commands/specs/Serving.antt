@@ -1,8 +1,7 @@
 -- What a session over a journal's file does.
-use Rattle.std.specs.Prelude.{◌≡◌, ◌⊎◌, ℕ, List, [], Option, Some, None}
+use Rattle.std.specs.Prelude.{◌≡◌, ℕ, List, [], Option}
 use Rattle.office_outside.specs.Disk.{All, IsQuiet, LeavesOnly}
-use Rattle.slo_journal.specs.Front.{HasNoHeader}
-use Rattle.office_keep.specs.Files.{IsDamagedAt, IsWhole, StandsFor}
+use Rattle.office_keep.specs.Files.{IsWhole, StandsFor}
 use Rattle.office_keep.specs.Office.{OfficeOn, StandsSettled}
 use Rattle.office_session.specs.Sessions.{EndsSo, Scene}
 use Rattle.office_session.specs.declared.SessionEnd.{SessionEnd}
@@ -10,10 +9,9 @@ use Rattle.office_counter.specs.Laws.{Extends, IsOwned}
 use Rattle.wire_session.specs.Treats.{Treats, refusal_text}
 use Rattle.own_counter.specs.Own.{OwnAsks, OwnOn, own_on, standing_of}
 use Rattle.own_counter.specs.Runs.{IsBetween}
+use Rattle.journal_commands.specs.Opening.{IsFoundOn, Opens}
 use Rattle.journal_commands.specs.declared.serving.PipeEnd.{PipeEnd}
-use Rattle.journal_commands.specs.declared.serving.PipeEnd.TheVariants.{Served, NotAJournal}
-use Rattle.journal_commands.specs.declared.serving.PipeEnd.TheVariants.{Damaged, DiskFault}
-use Rattle.journal_commands.specs.declared.serving.PipeEnd.TheVariants.{NoMemory}
+use Rattle.journal_commands.specs.declared.serving.PipeEnd.TheVariants.{Served, Unopened}
 
 -- What a session speaks to beside its counter, at one moment: the bytes that its source has left,
 -- its clock's readings to come, and the bytes that its sink holds.
@@ -48,56 +46,12 @@ pub record IsServed {D : Type 0} (images : D → List ℕ → Type 0) (moment : 
   pub stands : All (StandsSettled last.kept.office last.kept.doubt) (images disk)
   pub moments : LeavesOnly moment since office.disk disk (IsBetween office.office last.kept.office)
 
--- The file was opened: where the disk tells it, it stands for this office, which is whole, with
--- nothing in doubt, and no image came up till then. Then the session was served over it.
-pub record Opens {D : Type 0} (content : D → Option (List ℕ)) (images : D → List ℕ → Type 0)
-    (moment : D → ℕ) (since : D → ℕ → List ℕ → Type 0) (faults : D → ℕ) (end : SessionEnd)
-    (old new : Outside) (before after : D) : Type 0 where
-  pub office : OfficeOn D
-  pub none : office.doubt ≡ None
-  pub whole : IsWhole office.office
-  pub read : (file : List ℕ) → content before ≡ Some file → StandsFor office.office file
-  pub quiet : IsQuiet images moment since before office.disk
-  pub served : IsServed images moment since faults office end old new after
-
--- The file has no header, or is damaged at some place.
-abbrev pub IsBad : List ℕ → Type 0
-IsBad file = HasNoHeader file ⊎ ((at : ℕ) × IsDamagedAt at file)
-
--- the file isn't opened: what it was found to be, where the disk tells it
-abbrev pub IsFound : PipeEnd → List ℕ → Type 0
-IsFound (Served end) file = Unit {0}
-IsFound NotAJournal file = HasNoHeader file
-IsFound (Damaged at) file = IsDamagedAt at file
-IsFound DiskFault file = Unit {0}
-IsFound NoMemory file = Unit {0}
-
--- The file wasn't opened: no image came up, and the session's outside is as it was.
-pub record IsRefused {D : Type 0} (content : D → Option (List ℕ)) (images : D → List ℕ → Type 0)
-    (moment : D → ℕ) (since : D → ℕ → List ℕ → Type 0) (end : PipeEnd) (old new : Outside)
-    (before after : D) : Type 0 where
-  pub still : new ≡ old
-  pub found : (file : List ℕ) → content before ≡ Some file → IsFound end file
-  pub quiet : IsQuiet images moment since before after
-
--- What each end says.
+-- What each end says: a session was served over the office that was opened, or nothing was touched
+-- but the disk, on which no image came up.
 abbrev pub EndsServing : {D : Type 0} → (D → Option (List ℕ)) → (D → List ℕ → Type 0) → (D → ℕ) →
     (D → ℕ → List ℕ → Type 0) → (D → ℕ) → PipeEnd → Outside → Outside → D → D → Type 0
 EndsServing content images moment since faults (Served end) old new before after =
-    Opens content images moment since faults end old new before after
-EndsServing content images moment since faults NotAJournal old new before after =
-    IsRefused content images moment since NotAJournal old new before after
-EndsServing content images moment since faults (Damaged at) old new before after =
-    IsRefused content images moment since (Damaged at) old new before after
-EndsServing content images moment since faults DiskFault old new before after =
-    IsRefused content images moment since DiskFault old new before after
-EndsServing content images moment since faults NoMemory old new before after =
-    IsRefused content images moment since NoMemory old new before after
-
--- no session was served
-abbrev pub IsUnserved : PipeEnd → Type 0
-IsUnserved (Served end) = ⊥
-IsUnserved NotAJournal = Unit {0}
-IsUnserved (Damaged at) = Unit {0}
-IsUnserved DiskFault = Unit {0}
-IsUnserved NoMemory = Unit {0}
+    Opens content images moment since
+    (λ office. IsServed images moment since faults office end old new after) before
+EndsServing content images moment since faults (Unopened why) old new before after =
+    IsFoundOn content why before × IsQuiet images moment since before after × (new ≡ old)

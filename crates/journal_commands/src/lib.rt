@@ -4,11 +4,13 @@
 #![tactic(auto)]
 
 mod making;
+mod opening;
 mod reporting;
 mod serving;
 mod writing;
 
 pub use making::{InitEnd, make_journal};
 pub use office_session::SessionEnd;
-pub use reporting::{ReportEnd, print_report};
+pub use opening::{OpenFailed, Unopened, open_journal};
+pub use reporting::{PrintEnd, ReportEnd, print_report};
 pub use serving::{PipeEnd, run_session};

@@ -1,55 +1,39 @@
 //! The printing of a report over a journal's file.
-ghost use Rattle.std.specs.Prelude.{◌≡◌, ◌≢◌, ◌≤◌, ℕ, true, false};
+ghost use Rattle.std.specs.Prelude.{◌≡◌, ◌≤◌, true, false};
 ghost use Rattle.office_outside.specs.Faults.{Rose};
-ghost use Rattle.office_keep.specs.declared.KeepFault.TheVariants.{AlreadyThere, Damaged};
-ghost use Rattle.office_keep.specs.declared.KeepFault.TheVariants.{DiskFault, NotAJournal};
 ghost use Rattle.journal_commands.specs.Making.{bench};
-ghost use Rattle.journal_commands.specs.Reporting.{EndsOver, IsInRange, IsOutOfRange, IsUnopened};
+ghost use Rattle.journal_commands.specs.Reporting.{EndsOver, IsInRange, IsOutOfRange};
 ghost use Rattle.journal_commands.specs.Reporting.{Reports, minute_by};
 
+use crate::opening::{Unopened, open_journal};
 use crate::writing::write_out;
 use office_core::Core;
-use office_keep::{KeepFault, Office, let_go};
+use office_keep::let_go;
 use office_outside::{Clock, Disk, Failed, Sink};
 use office_report::report;
-use std::alloc::{AllocError, Global};
+use std::alloc::Global;
 
-/// How the printing of a report ends.
-#[derive(Clone, Copy, Debug, PartialEq, Eq)]
-pub enum ReportEnd {
+/// How the printing of a report over an office ends.
+#[derive(Clone, Copy, Debug, Drop, PartialEq, Eq)]
+pub enum PrintEnd {
     /// The report was printed.
     Done,
     /// The report's minute is below the origin, above the moment, or not below the end of the
     /// office's range.
     OutOfRange,
-    /// No header stands in the file.
-    NotAJournal,
-    /// The file stands for no legal history: up to the gate at this place it does, and nothing that
-    /// may follow stands there.
-    Damaged { at: u64 },
-    /// The disk's count of faults rose while the journal was opened.
-    DiskFault,
     /// The output's count of faults rose while the report was written.
     WriteFault,
     /// Memory was refused before the report was written.
     NoMemory,
 }
 
-/// How it ends where the office isn't opened.
-fn end_of_fault(fault: KeepFault) -> ReportEnd
-    requires { fault ≡ AlreadyThere → ⊥ }
-    ensures disk { result ≡ ReportEnd.DiskFault → fault ≡ DiskFault }
-    ensures header { result ≡ ReportEnd.NotAJournal → fault ≡ NotAJournal }
-    ensures damaged { (at : ℕ) → result ≡ ReportEnd.Damaged at → fault ≡ Damaged at }
-    ensures unopened { IsUnopened result }
-{
-    match fault {
-        KeepFault::DiskFault => ReportEnd::DiskFault,
-        KeepFault::NotAJournal => ReportEnd::NotAJournal,
-        KeepFault::Damaged { at } => ReportEnd::Damaged { at },
-        KeepFault::NoMemory => ReportEnd::NoMemory,
-        KeepFault::AlreadyThere => ReportEnd::NoMemory,
-    }
+/// How the printing of a report over a journal ends.
+#[derive(Clone, Copy, Debug, Drop, PartialEq, Eq)]
+pub enum ReportEnd {
+    /// The journal was opened, and the printing over it ended so.
+    Opened(PrintEnd),
+    /// The journal wasn't opened.
+    Unopened(Unopened),
 }
 
 /// The minute of the report: the one that is asked for, or the moment.
@@ -77,24 +61,23 @@ fn print_over<K: Sink>(
     asked: Option<u32>,
     reading: u32,
     output: &mut K,
-) -> ReportEnd
+) -> PrintEnd
     ensures ends { EndsOver asked reading result (K.held output.old) (K.held output.new)
         core.old.office }
-    ensures diskless { result ≢ ReportEnd.DiskFault }
-    ensures write { result ≡ ReportEnd.WriteFault →
+    ensures write { result ≡ PrintEnd.WriteFault →
         Rose (K.faults output.old) (K.faults output.new) }
     ensures later { K.faults output.old ≤ K.faults output.new }
 {
     let at = minute_of(core, asked, reading);
     if !is_in_range(core, reading, at) {
-        return ReportEnd::OutOfRange;
+        return PrintEnd::OutOfRange;
     }
     let Ok(text) = report(alloc, core, at) else {
-        return ReportEnd::NoMemory;
+        return PrintEnd::NoMemory;
     };
     match write_out(output, text.as_bytes()) {
-        Ok(()) => ReportEnd::Done,
-        Err(Failed) => ReportEnd::WriteFault,
+        Ok(()) => PrintEnd::Done,
+        Err(Failed) => PrintEnd::WriteFault,
     }
 }
 
@@ -111,21 +94,22 @@ pub fn print_report<D: Disk + Drop, C: Clock, K: Sink>(
     ensures reports { Reports D.content D.images D.moment D.images_since at result.0
         (bench disk (C.to_come clock.old) (K.held output.old))
         (bench result.1 (C.to_come clock.new) (K.held output.new)) }
-    ensures disk { result.0 ≡ ReportEnd.DiskFault → Rose (D.faults disk) (D.faults result.1) }
-    ensures write { result.0 ≡ ReportEnd.WriteFault →
+    ensures disk { result.0 ≡ ReportEnd.Unopened Unopened.DiskFault →
+        Rose (D.faults disk) (D.faults result.1) }
+    ensures write { result.0 ≡ ReportEnd.Opened PrintEnd.WriteFault →
         Rose (K.faults output.old) (K.faults output.new) }
     ensures later { D.faults disk ≤ D.faults result.1 }
     ensures later_output { K.faults output.old ≤ K.faults output.new }
 {
     let reading = clock.minute();
-    match Office::open(alloc, disk) {
+    match open_journal(alloc, disk) {
         Ok(office) => {
             office.disk_stands();
             let (mut core, disk) = office.give_back();
             let end = print_over(alloc, &mut core, at, reading, output);
             let_go(core);
-            (end, disk)
+            (ReportEnd::Opened(end), disk)
         }
-        Err(failed) => (end_of_fault(failed.fault), failed.disk),
+        Err(failed) => (ReportEnd::Unopened(failed.why), failed.disk),
     }
 }

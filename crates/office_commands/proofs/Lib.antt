@@ -3,3 +3,4 @@ pub mod AnswerLemmas
 pub mod EndingLemmas
 pub mod WorldLemmas
 pub mod StatusLemmas
+pub mod ServerLemmas

@@ -6,17 +6,22 @@ use Rattle.office_session.specs.declared.SessionEnd.{SessionEnd}
 use Rattle.office_session.specs.declared.SessionEnd.TheVariants as session
 use Rattle.journal_commands.specs.Making.{Bench, EndsMaking, HasHeader}
 use Rattle.journal_commands.specs.Reporting.{EndsReporting, IsPrinted, IsUnprinted, OpensTo}
-use Rattle.journal_commands.specs.Serving.{EndsServing, IsBad, Outside}
+use Rattle.journal_commands.specs.Opening.{IsBad, IsFoundOn}
+use Rattle.journal_commands.specs.Serving.{EndsServing, Outside}
 use Rattle.journal_commands.specs.declared.InitEnd.{InitEnd}
 use Rattle.journal_commands.specs.declared.InitEnd.TheVariants as init
 use Rattle.journal_commands.specs.declared.PipeEnd.{PipeEnd}
 use Rattle.journal_commands.specs.declared.PipeEnd.TheVariants as pipe
+use Rattle.journal_commands.specs.declared.PrintEnd.TheVariants as printing
 use Rattle.journal_commands.specs.declared.ReportEnd.{ReportEnd}
 use Rattle.journal_commands.specs.declared.ReportEnd.TheVariants as report
+use Rattle.journal_commands.specs.declared.Unopened.{Unopened}
+use Rattle.journal_commands.specs.declared.Unopened.TheVariants as unopened
 use Rattle.office_commands.specs.Generate.{EndsGenerating, PrintsSummary, SettledGenerate}
 use Rattle.office_commands.specs.Init.{SettledInit}
 use Rattle.office_commands.specs.Pipe.{SettledPipe, SettledSession}
 use Rattle.office_commands.specs.Report.{SettledReport}
+use Rattle.office_commands.specs.Unopened.{SettledUnopened}
 use Rattle.office_commands.specs.declared.ending.TheConstants.{BAD_FILE, DONE, REFUSED}
 use Rattle.office_commands.specs.declared.generate.GenerateEnd.{GenerateEnd}
 use Rattle.office_commands.specs.declared.generate.GenerateEnd.TheVariants as generate
@@ -76,6 +81,31 @@ module _ (status : ℕ) (old new : Option (List ℕ)) (before now : ℕ) where
   session_bad session.WriteFault s e = omega (arith, s.0, e)
   session_bad session.NoMemory s e = omega (arith, s.0, e)
 
+module _ (status : ℕ) (old new : Option (List ℕ)) (before now : ℕ) where
+  pub unopened_bad : {D : Type 0} (content : D → Option (List ℕ)) (disk : D) (why : Unopened) →
+      SettledUnopened why status old new before now → IsFoundOn content why disk →
+      status ≡ BAD_FILE → (file : List ℕ) → content disk ≡ Some file → IsBad file
+  unopened_bad content disk unopened.NotAJournal s found e file read = inl (found file read)
+  unopened_bad content disk (unopened.Damaged at) s found e file read = inr (at, found file read)
+  unopened_bad content disk unopened.DiskFault s found e file read = absurd (omega (arith, s.0, e))
+  unopened_bad content disk unopened.NoMemory s found e file read = absurd (omega (arith, s.0, e))
+
+  pub unopened_not_done : (why : Unopened) → SettledUnopened why status old new before now →
+      status ≡ DONE → ⊥
+  unopened_not_done unopened.NotAJournal s e = omega (arith, s.0, e)
+  unopened_not_done (unopened.Damaged at) (inl s) e = omega (arith, s.0, e)
+  unopened_not_done (unopened.Damaged at) (inr s) e = omega (arith, s.0, e)
+  unopened_not_done unopened.DiskFault s e = omega (arith, s.0, e)
+  unopened_not_done unopened.NoMemory s e = omega (arith, s.0, e)
+
+  pub unopened_not_refused : (why : Unopened) → SettledUnopened why status old new before now →
+      status ≡ REFUSED → ⊥
+  unopened_not_refused unopened.NotAJournal s e = omega (arith, s.0, e)
+  unopened_not_refused (unopened.Damaged at) (inl s) e = omega (arith, s.0, e)
+  unopened_not_refused (unopened.Damaged at) (inr s) e = omega (arith, s.0, e)
+  unopened_not_refused unopened.DiskFault s e = omega (arith, s.0, e)
+  unopened_not_refused unopened.NoMemory s e = omega (arith, s.0, e)
+
 module _ {D : Type 0} (content : D → Option (List ℕ)) (images : D → List ℕ → Type 0)
     (moment : D → ℕ) (since : D → ℕ → List ℕ → Type 0) (faults : D → ℕ) (status : ℕ)
     (old new : Option (List ℕ)) (before now : ℕ) (first last : Outside) (disk after : D) where
@@ -85,10 +115,8 @@ module _ {D : Type 0} (content : D → Option (List ℕ)) (images : D → List �
       IsBad file
   pipe_bad (pipe.Served end) s ends e file read =
       absurd (session_bad status old new before now end s e)
-  pipe_bad pipe.NotAJournal s ends e file read = inl (ends.found file read)
-  pipe_bad (pipe.Damaged at) s ends e file read = inr (at, ends.found file read)
-  pipe_bad pipe.DiskFault s ends e file read = absurd (omega (arith, s.0, e))
-  pipe_bad pipe.NoMemory s ends e file read = absurd (omega (arith, s.0, e))
+  pipe_bad (pipe.Unopened why) s ends e file read =
+      unopened_bad status old new before now content disk why s ends.0 e file read
 
 module _ {D : Type 0} (content : D → Option (List ℕ)) (images : D → List ℕ → Type 0)
     (asked : Option ℕ) (reading status : ℕ) (old new : Option (List ℕ)) (before now : ℕ)
@@ -97,35 +125,32 @@ module _ {D : Type 0} (content : D → Option (List ℕ)) (images : D → List �
       EndsReporting content images asked reading end first last →
       status ≡ BAD_FILE → (file : List ℕ) → content first.disk ≡ Some file →
       IsBad file
-  report_bad report.Done s ends e file read = absurd (omega (arith, s.0, e))
-  report_bad report.OutOfRange s ends e file read = absurd (omega (arith, s.0, e))
-  report_bad report.NotAJournal s ends e file read = inl (ends.found file read)
-  report_bad (report.Damaged at) s ends e file read = inr (at, ends.found file read)
-  report_bad report.DiskFault s ends e file read = absurd (omega (arith, s.0, e))
-  report_bad report.WriteFault s ends e file read = absurd (omega (arith, s.0, e))
-  report_bad report.NoMemory s ends e file read = absurd (omega (arith, s.0, e))
+  report_bad (report.Opened printing.Done) s ends e file read = absurd (omega (arith, s.0, e))
+  report_bad (report.Opened printing.OutOfRange) s ends e file read =
+      absurd (omega (arith, s.0, e))
+  report_bad (report.Opened printing.WriteFault) s ends e file read =
+      absurd (omega (arith, s.0, e))
+  report_bad (report.Opened printing.NoMemory) s ends e file read = absurd (omega (arith, s.0, e))
+  report_bad (report.Unopened why) s ends e file read =
+      unopened_bad status old new before now content first.disk why s ends.0 e file read
 
   pub report_refused : (end : ReportEnd) → SettledReport end status old new before now →
       EndsReporting content images asked reading end first last → status ≡ REFUSED →
       OpensTo content images (IsUnprinted asked reading first.held last.held) first.disk last.disk
-  report_refused report.Done s ends e = absurd (omega (arith, s.0, e))
-  report_refused report.OutOfRange s ends e = ends
-  report_refused report.NotAJournal s ends e = absurd (omega (arith, s.0, e))
-  report_refused (report.Damaged at) (inl s) ends e = absurd (omega (arith, s.0, e))
-  report_refused (report.Damaged at) (inr s) ends e = absurd (omega (arith, s.0, e))
-  report_refused report.DiskFault s ends e = absurd (omega (arith, s.0, e))
-  report_refused report.WriteFault s ends e = absurd (omega (arith, s.0, e))
-  report_refused report.NoMemory s ends e = absurd (omega (arith, s.0, e))
+  report_refused (report.Opened printing.Done) s ends e = absurd (omega (arith, s.0, e))
+  report_refused (report.Opened printing.OutOfRange) s ends e = ends
+  report_refused (report.Opened printing.WriteFault) s ends e = absurd (omega (arith, s.0, e))
+  report_refused (report.Opened printing.NoMemory) s ends e = absurd (omega (arith, s.0, e))
+  report_refused (report.Unopened why) s ends e =
+      absurd (unopened_not_refused status old new before now why s e)
 
   pub report_done : (end : ReportEnd) → SettledReport end status old new before now →
       EndsReporting content images asked reading end first last → status ≡ DONE →
       OpensTo content images (IsPrinted Gained asked reading first.held last.held)
       first.disk last.disk
-  report_done report.Done s ends e = ends
-  report_done report.OutOfRange s ends e = absurd (omega (arith, s.0, e))
-  report_done report.NotAJournal s ends e = absurd (omega (arith, s.0, e))
-  report_done (report.Damaged at) (inl s) ends e = absurd (omega (arith, s.0, e))
-  report_done (report.Damaged at) (inr s) ends e = absurd (omega (arith, s.0, e))
-  report_done report.DiskFault s ends e = absurd (omega (arith, s.0, e))
-  report_done report.WriteFault s ends e = absurd (omega (arith, s.0, e))
-  report_done report.NoMemory s ends e = absurd (omega (arith, s.0, e))
+  report_done (report.Opened printing.Done) s ends e = ends
+  report_done (report.Opened printing.OutOfRange) s ends e = absurd (omega (arith, s.0, e))
+  report_done (report.Opened printing.WriteFault) s ends e = absurd (omega (arith, s.0, e))
+  report_done (report.Opened printing.NoMemory) s ends e = absurd (omega (arith, s.0, e))
+  report_done (report.Unopened why) s ends e =
+      absurd (unopened_not_done status old new before now why s e)

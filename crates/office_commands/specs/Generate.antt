@@ -3,8 +3,7 @@ use Rattle.std.specs.Prelude.{◌≡◌, ℕ, List, Option}
 use Rattle.office_outside.specs.Faults.{Rose}
 use Rattle.office_outside.specs.Told.{Gained, GainedPrefix}
 use Rattle.generate_command.specs.Generated.{IsGenerated}
-use Rattle.office_commands.specs.Endings.{line_of_status}
-use Rattle.office_commands.specs.Runs.{Tells}
+use Rattle.office_commands.specs.Runs.{EndsWith}
 use Rattle.office_commands.specs.declared.generate.GenerateEnd.{GenerateEnd}
 use Rattle.office_commands.specs.declared.generate.GenerateEnd.TheVariants.{Done, WriteFault}
 use Rattle.office_commands.specs.declared.generate.GenerateEnd.TheVariants.{NoMemory}
@@ -29,6 +28,6 @@ EndsGenerating number NoMemory old new before now = new ≡ old
 abbrev pub SettledGenerate : GenerateEnd → ℕ → Option (List ℕ) → Option (List ℕ) → ℕ → ℕ → Type 0
 SettledGenerate Done status old new before now = (status ≡ statuses.DONE) × (new ≡ old)
 SettledGenerate WriteFault status old new before now =
-    (status ≡ statuses.WRITE_FAULT) × Tells (line_of_status statuses.WRITE_FAULT) old new before now
+    EndsWith statuses.WRITE_FAULT status old new before now
 SettledGenerate NoMemory status old new before now =
-    (status ≡ statuses.NO_MEMORY) × Tells (line_of_status statuses.NO_MEMORY) old new before now
+    EndsWith statuses.NO_MEMORY status old new before now

@@ -4,8 +4,7 @@ use Rattle.journal_commands.specs.declared.InitEnd.{InitEnd}
 use Rattle.journal_commands.specs.declared.InitEnd.TheVariants.{Done, OriginAboveClock}
 use Rattle.journal_commands.specs.declared.InitEnd.TheVariants.{AlreadyThere, DiskFault}
 use Rattle.journal_commands.specs.declared.InitEnd.TheVariants.{WriteFault, NoMemory}
-use Rattle.office_commands.specs.Endings.{line_of_status}
-use Rattle.office_commands.specs.Runs.{Tells}
+use Rattle.office_commands.specs.Runs.{EndsSaying, EndsWith}
 use Rattle.office_commands.specs.declared.ending.TheConstants as statuses
 
 -- Each end has its status, and the faults sink tells its line; where the journal was made and its
@@ -13,14 +12,13 @@ use Rattle.office_commands.specs.declared.ending.TheConstants as statuses
 abbrev pub SettledInit : InitEnd → ℕ → Option (List ℕ) → Option (List ℕ) → ℕ → ℕ → Type 0
 SettledInit Done status old new before now = (status ≡ statuses.DONE) × (new ≡ old)
 SettledInit OriginAboveClock status old new before now =
-    (status ≡ statuses.REFUSED)
-    × Tells (codes "slo_office: origin above clock\n") old new before now
+    EndsSaying statuses.REFUSED (codes "slo_office: origin above clock\n") status old new before now
 SettledInit AlreadyThere status old new before now =
-    (status ≡ statuses.BAD_FILE)
-    × Tells (codes "slo_office: file already there\n") old new before now
+    EndsSaying statuses.BAD_FILE (codes "slo_office: file already there\n") status old new before
+    now
 SettledInit DiskFault status old new before now =
-    (status ≡ statuses.DISK_FAULT) × Tells (line_of_status statuses.DISK_FAULT) old new before now
+    EndsWith statuses.DISK_FAULT status old new before now
 SettledInit WriteFault status old new before now =
-    (status ≡ statuses.WRITE_FAULT) × Tells (line_of_status statuses.WRITE_FAULT) old new before now
+    EndsWith statuses.WRITE_FAULT status old new before now
 SettledInit NoMemory status old new before now =
-    (status ≡ statuses.NO_MEMORY) × Tells (line_of_status statuses.NO_MEMORY) old new before now
+    EndsWith statuses.NO_MEMORY status old new before now

@@ -5,6 +5,7 @@ pub mod Answer
 pub mod Runs
 pub mod Generate
 pub mod Init
+pub mod Unopened
 pub mod Pipe
 pub mod Report
 pub mod Worlds

@@ -33,6 +33,16 @@ pub record PrintsPart (asked : Option Command) (left old new : Option (List ℕ)
 abbrev pub Tells : List ℕ → Option (List ℕ) → Option (List ℕ) → ℕ → ℕ → Type 0
 Tells line old new before now = Gained line old new ⊎ (Rose before now × GainedPrefix line old new)
 
+-- The run ends with this status, and the faults sink tells this line.
+abbrev pub EndsSaying : ℕ → List ℕ → ℕ → Option (List ℕ) → Option (List ℕ) → ℕ → ℕ → Type 0
+EndsSaying ending line status old new before now =
+    (status ≡ ending) × Tells line old new before now
+
+-- The run ends with this status, and the faults sink tells its line.
+abbrev pub EndsWith : ℕ → ℕ → Option (List ℕ) → Option (List ℕ) → ℕ → ℕ → Type 0
+EndsWith ending status old new before now =
+    EndsSaying ending (line_of_status ending) status old new before now
+
 -- The answer is a refusal, and the faults sink tells it.
 pub record TellsRefusal (asked : Option Command) (left old new : Option (List ℕ)) (before now : ℕ)
     : Type 0 where
@@ -59,13 +69,9 @@ IsStatus (Some command) left read write status =
 abbrev pub Settled : Ending → ℕ → Option (List ℕ) → Option (List ℕ) → ℕ → ℕ → Type 0
 Settled Done status old new before now = (status ≡ DONE) × (new ≡ old) × (now ≡ before)
 Settled (Refused refusal) status old new before now =
-    ((status ≡ REFUSED) × Tells (refusal_line_of refusal) old new before now)
-    ⊎ ((status ≡ NO_MEMORY) × Tells (line_of_status NO_MEMORY) old new before now)
-Settled Usage status old new before now =
-    (status ≡ USAGE) × Tells (line_of_status USAGE) old new before now
-Settled ReadFault status old new before now =
-    (status ≡ READ_FAULT) × Tells (line_of_status READ_FAULT) old new before now
-Settled WriteFault status old new before now =
-    (status ≡ WRITE_FAULT) × Tells (line_of_status WRITE_FAULT) old new before now
-Settled NoMemory status old new before now =
-    (status ≡ NO_MEMORY) × Tells (line_of_status NO_MEMORY) old new before now
+    EndsSaying REFUSED (refusal_line_of refusal) status old new before now
+    ⊎ EndsWith NO_MEMORY status old new before now
+Settled Usage status old new before now = EndsWith USAGE status old new before now
+Settled ReadFault status old new before now = EndsWith READ_FAULT status old new before now
+Settled WriteFault status old new before now = EndsWith WRITE_FAULT status old new before now
+Settled NoMemory status old new before now = EndsWith NO_MEMORY status old new before now

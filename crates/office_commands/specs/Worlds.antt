@@ -17,7 +17,8 @@ use Rattle.office_commands.specs.Pipe.{SettledPipe}
 use Rattle.office_commands.specs.Report.{SettledReport}
 use Rattle.office_commands.specs.Runs.{IsStatus, Prints, PrintsPart, Tells, TellsRefusal}
 use Rattle.command_words.specs.declared.Asked.{Asked}
-use Rattle.command_words.specs.declared.Asked.TheVariants.{Answer, Generate, Init, Pipe, Report, Serve}
+use Rattle.command_words.specs.declared.Asked.TheVariants.{Answer, Generate, Init, Pipe}
+use Rattle.command_words.specs.declared.Asked.TheVariants.{Report, Serve}
 use Rattle.command_words.specs.declared.Command.{Command}
 use Rattle.office_commands.specs.declared.ending.TheConstants.{DONE, USAGE, READ_FAULT}
 use Rattle.office_commands.specs.declared.ending.TheConstants.{WRITE_FAULT, NO_MEMORY, REFUSED}
@@ -97,8 +98,8 @@ pub record RunsAnswer {D : Type 0} (command : Command) (status : ℕ) (before af
   pub unread : after.to_come ≡ before.to_come
   pub untouched : after.disk ≡ before.disk
 
--- A run of `generate`, by how the printing of the summary ended. Neither the input nor the clock nor
--- the disk is touched.
+-- A run of `generate`, by how the printing of the summary ended. Neither the input nor the clock
+-- nor the disk is touched.
 pub record RunsGenerate {D : Type 0} (number status : ℕ) (before after : World D) : Type 0 where
   pub end : GenerateEnd
   pub settled : SettledGenerate end status before.said after.said before.tellings after.tellings

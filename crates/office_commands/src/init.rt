@@ -4,7 +4,6 @@ ghost use Rattle.office_outside.specs.Faults.{Rose};
 ghost use Rattle.journal_commands.specs.Making.{Makes, bench};
 ghost use Rattle.journal_commands.specs.declared.InitEnd.{InitEnd};
 ghost use Rattle.office_commands.specs.Init.{SettledInit};
-ghost use Rattle.office_commands.specs.Worlds.{RunsInit, world};
 
 use crate::ending::{
     BAD_FILE, DISK_FAULT, DONE, NO_MEMORY, READ_FAULT, REFUSED, USAGE, WRITE_FAULT,

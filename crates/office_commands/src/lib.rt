@@ -14,8 +14,11 @@ mod report;
 mod running;
 mod serve;
 mod telling;
+mod unopened;
 
 pub use generate::GenerateEnd;
-pub use laws::{statuses_of_generate, statuses_of_init, statuses_of_pipe, statuses_of_report};
+pub use laws::{
+    statuses_of_generate, statuses_of_init, statuses_of_pipe, statuses_of_report, statuses_of_serve,
+};
 pub use running::{RunEnd, run};
 pub use telling::run_out_of_memory;

@@ -4,15 +4,28 @@ ghost use Rattle.office_outside.specs.Faults.{Rose};
 ghost use Rattle.journal_commands.specs.Making.{bench};
 ghost use Rattle.journal_commands.specs.Reporting.{Reports};
 ghost use Rattle.journal_commands.specs.declared.ReportEnd.{ReportEnd};
-ghost use Rattle.office_commands.specs.Report.{SettledReport};
+ghost use Rattle.office_commands.specs.Report.{SettledPrinting, SettledReport};
 
-use crate::ending::{DISK_FAULT, DONE, READ_FAULT, REFUSED, USAGE, WRITE_FAULT};
-use crate::pipe::settle_pipe;
+use crate::ending::{DISK_FAULT, DONE, NO_MEMORY, READ_FAULT, REFUSED, USAGE, WRITE_FAULT};
 use crate::running::RunEnd;
 use crate::telling::{tell_as, tell_status};
-use journal_commands::{PipeEnd, ReportEnd, print_report};
+use crate::unopened::settle_unopened;
+use journal_commands::{PrintEnd, ReportEnd, print_report};
 use office_outside::{Clock, Disk, Sink};
 use std::alloc::Global;
+
+/// The status of a printing's end, whose line the faults sink is told.
+fn settle_printing<E: Sink>(end: PrintEnd, faults: &mut E) -> u8
+    ensures { SettledPrinting end result (E.held faults.old) (E.held faults.new)
+        (E.faults faults.old) (E.faults faults.new) }
+{
+    match end {
+        PrintEnd::Done => DONE,
+        PrintEnd::OutOfRange => tell_as(faults, "slo_office: AT out of range\n", REFUSED),
+        PrintEnd::WriteFault => tell_status(faults, WRITE_FAULT),
+        PrintEnd::NoMemory => tell_status(faults, NO_MEMORY),
+    }
+}
 
 /// The status of an end, whose line the faults sink is told.
 fn settle_report<E: Sink>(alloc: Global, end: ReportEnd, faults: &mut E) -> u8
@@ -20,13 +33,8 @@ fn settle_report<E: Sink>(alloc: Global, end: ReportEnd, faults: &mut E) -> u8
         (E.faults faults.old) (E.faults faults.new) }
 {
     match end {
-        ReportEnd::Done => DONE,
-        ReportEnd::OutOfRange => tell_as(faults, "slo_office: AT out of range\n", REFUSED),
-        ReportEnd::NotAJournal => settle_pipe(alloc, PipeEnd::NotAJournal, faults),
-        ReportEnd::Damaged { at } => settle_pipe(alloc, PipeEnd::Damaged { at }, faults),
-        ReportEnd::DiskFault => settle_pipe(alloc, PipeEnd::DiskFault, faults),
-        ReportEnd::WriteFault => tell_status(faults, WRITE_FAULT),
-        ReportEnd::NoMemory => settle_pipe(alloc, PipeEnd::NoMemory, faults),
+        ReportEnd::Opened(end) => settle_printing(end, faults),
+        ReportEnd::Unopened(why) => settle_unopened(alloc, why, faults),
     }
 }
 

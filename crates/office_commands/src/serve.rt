@@ -7,10 +7,10 @@ ghost use Rattle.office_serving.specs.Visits.{looks};
 ghost use Rattle.office_serving.specs.Workers.{site};
 ghost use Rattle.office_commands.specs.Serve.{RunsServe, SettledServer, SettledServing};
 
-use crate::ending::{BAD_FILE, DISK_FAULT, DONE, DOORS_FAULT, NO_MEMORY, USAGE, WRITE_FAULT};
-use crate::pipe::settle_damaged;
+use crate::ending::{DISK_FAULT, DONE, DOORS_FAULT, NO_MEMORY, USAGE, WRITE_FAULT};
 use crate::running::RunEnd;
-use crate::telling::{tell_as, tell_status};
+use crate::telling::tell_status;
+use crate::unopened::settle_unopened;
 use office_doors::{Door, Doors};
 use office_outside::{Disk, Sink};
 use office_serving::ServeEnd;
@@ -39,10 +39,7 @@ fn settle_server<E: Sink>(alloc: Global, end: ServerEnd, faults: &mut E) -> u8
 {
     match end {
         ServerEnd::Served(end) => settle_serving(end, faults),
-        ServerEnd::NotAJournal => tell_as(faults, "slo_office: file not a journal\n", BAD_FILE),
-        ServerEnd::Damaged { at } => settle_damaged(alloc, at, faults),
-        ServerEnd::DiskFault => tell_status(faults, DISK_FAULT),
-        ServerEnd::NoMemory => tell_status(faults, NO_MEMORY),
+        ServerEnd::Unopened(why) => settle_unopened(alloc, why, faults),
     }
 }
 

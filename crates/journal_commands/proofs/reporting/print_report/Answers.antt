@@ -4,7 +4,6 @@ use Rattle.office_history.specs.History.{Office}
 use Rattle.office_keep.specs.Files.{StandsFor}
 use Rattle.journal_commands.specs.Making.{Bench, bench}
 use Rattle.journal_commands.specs.Reporting.{EndsOver}
-use Rattle.journal_commands.proofs.Reports.{as_told, as_unopened}
 use Rattle.journal_commands.proofs.Sessions.{as_opened}
 use Rattle.journal_commands.proofs.reporting.print_report.Goals as goal
 
@@ -14,7 +13,7 @@ returns-in-Ok-clause-reports g c =
     let read = c.minute-reading in
     let printed = c.print_over-end in
     let office = c.in-Ok.office in
-    let opened = c.in-Ok.ensures in
+    let opened = c.in-Ok.ensures.opened in
     let given = c.give_back-core.ensures in
     let old : Bench g.row.D.Denot =
     bench c.args.disk (g.C.Clock.to_come c.args.clock.now) (g.K.Sink.held c.args.output.now) in
@@ -29,33 +28,23 @@ returns-in-Ok-clause-reports g c =
     record {
       reading = read.result;
       reads = record { first = read.ensures.first; later = read.ensures.rest };
-      ends = as_told D.content D.images c.args.at read.result old new printed.result (record {
+      ends = record {
         office = office.office;
         whole = opened.whole;
-        read = opened.stands;
+        read = opened.read;
         stands = subst Stands (sym given.disk)
-            (as_opened D.images office opened.settled c.disk_stands.ensures.stands);
+            (as_opened D.images office opened.none c.disk_stands.ensures.stands);
         so = subst Over given.office printed.ensures.ends;
-      });
+      };
       quiet = subst Quiet (sym given.disk) opened.quiet;
     }
 
 pub returns-in-Err-clause-reports : goal.returns-in-Err-clause-reports
 returns-in-Err-clause-reports g c =
-    let D = g.D.Disk in
     let read = c.minute-reading in
-    let ends = c.end_of_fault.ensures in
-    let refused = c.in-Err.ensures in
-    let old : Bench g.row.D.Denot =
-    bench c.args.disk (g.C.Clock.to_come c.args.clock.now) (g.K.Sink.held c.args.output.now) in
-    let new : Bench g.row.D.Denot =
-    bench c.in-Err.failed.disk (g.C.Clock.to_come read.new.self) old.held in
     record {
       reading = read.result;
       reads = record { first = read.ensures.first; later = read.ensures.rest };
-      ends = as_unopened D.content D.images c.args.at read.result old new refl
-          c.end_of_fault.result ends.unopened
-          (λ e file is. refused.not_a_journal (ends.header e) file is)
-          (λ at e file is. refused.damaged at (ends.damaged at e) file is);
-      quiet = refused.quiet_err;
+      ends = (c.in-Err.ensures.found, refl);
+      quiet = c.in-Err.ensures.quiet;
     }

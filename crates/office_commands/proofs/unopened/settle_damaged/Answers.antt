@@ -1,7 +1,7 @@
 use Rattle.std.proofs.Common.{◌≡◌, inl, rules, subst}
-use Rattle.office_commands.specs.Pipe.{damaged_line}
+use Rattle.office_commands.specs.Unopened.{damaged_line}
 use Rattle.office_commands.specs.Runs.{Tells}
-use Rattle.office_commands.proofs.pipe.settle_damaged.Goals as goal
+use Rattle.office_commands.proofs.unopened.settle_damaged.Goals as goal
 
 -- the line that was written is the one for this place
 pub returns-in-Ok : goal.returns-in-Ok

@@ -1,0 +1,20 @@
+use Rattle.journal_commands.proofs.Findings.{as_found}
+use Rattle.journal_commands.proofs.opening.open_journal.Goals as goal
+
+pub returns-in-Ok-clause-opened : goal.returns-in-Ok-clause-opened
+returns-in-Ok-clause-opened g c =
+    let opened = c.in-Ok.ensures in
+    record {
+      none = opened.settled;
+      whole = opened.whole;
+      read = opened.stands;
+      quiet = opened.quiet;
+    }
+
+pub returns-in-Err-clause-found : goal.returns-in-Err-clause-found
+returns-in-Err-clause-found g c =
+    let why = c.why_unopened.ensures in
+    let refused = c.in-Err.ensures in
+    as_found g.D.Disk.content c.args.disk c.why_unopened.result
+    (λ e file read. refused.not_a_journal (why.header e) file read)
+    (λ at e file read. refused.damaged at (why.damaged at e) file read)

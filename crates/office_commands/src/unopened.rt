@@ -1,0 +1,42 @@
+//! A journal that couldn't be opened: how it ends the commands that open one.
+ghost use Rattle.std.specs.Prelude.{◌≡◌, IfOk, string_bytes};
+ghost use Rattle.journal_commands.specs.declared.Unopened.TheVariants.{Damaged};
+ghost use Rattle.office_commands.specs.Unopened.{SettledUnopened};
+ghost use Rattle.office_commands.specs.Unopened.{damaged_line as damaged_line_lem};
+
+use crate::ending::{BAD_FILE, DISK_FAULT, NO_MEMORY};
+use crate::telling::{tell_as, tell_status};
+use journal_commands::Unopened;
+use office_outside::Sink;
+use std::alloc::{AllocError, Global};
+
+/// The line for a file that is damaged at a place.
+fn damaged_line(alloc: Global, at: u64) -> Result<String, AllocError>
+    ensures { IfOk result (λ line. string_bytes line ≡ damaged_line_lem at) }
+{
+    format!(in alloc; "slo_office: file damaged at {at}\n")
+}
+
+/// The status of a file that is damaged at a place, whose line the faults sink is told.
+fn settle_damaged<E: Sink>(alloc: Global, at: u64, faults: &mut E) -> u8
+    ensures { SettledUnopened (Damaged at) result (E.held faults.old) (E.held faults.new)
+        (E.faults faults.old) (E.faults faults.new) }
+{
+    match damaged_line(alloc, at) {
+        Ok(line) => tell_as(faults, line.as_str(), BAD_FILE),
+        Err(_) => tell_status(faults, NO_MEMORY),
+    }
+}
+
+/// The status of a journal that wasn't opened, whose line the faults sink is told.
+pub fn settle_unopened<E: Sink>(alloc: Global, why: Unopened, faults: &mut E) -> u8
+    ensures { SettledUnopened why result (E.held faults.old) (E.held faults.new)
+        (E.faults faults.old) (E.faults faults.new) }
+{
+    match why {
+        Unopened::NotAJournal => tell_as(faults, "slo_office: file not a journal\n", BAD_FILE),
+        Unopened::Damaged { at } => settle_damaged(alloc, at, faults),
+        Unopened::DiskFault => tell_status(faults, DISK_FAULT),
+        Unopened::NoMemory => tell_status(faults, NO_MEMORY),
+    }
+}
