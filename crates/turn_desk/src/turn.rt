@@ -10,6 +10,7 @@ use crate::ledgered::{Call, Ledgered};
 use crate::rule::{Did, Free, Grow, Take, Turns};
 use crate::view::View;
 use atomic_table::{Seat, Shared};
+use std::hint::spin_loop;
 use std::snapshot::Snapshot;
 use std::sync::Wait;
 
@@ -25,6 +26,10 @@ pub(crate) const PLACE: usize = 0;
 const FREE: u64 = 0;
 
 const TAKEN: u64 = 1;
+
+/// How often a pass looks at a turn that is taken before it sleeps. Most turns take some
+/// microseconds, as so many looks do; to sleep and to be woken takes longer.
+const LOOKS: u32 = 100;
 
 /// The table of a desk: two words, and one slot.
 pub(crate) type Board<T> = Shared<Option<T>, View, Snapshot<T>, Turns>;
@@ -43,7 +48,27 @@ fn try_turn<T: Ledgered>(board: &Board<T>, seat: &mut Seat<Option<T>, View>) -> 
     board.compare_exchange::<Take>(seat, MARK, FREE, TAKEN) == FREE
 }
 
-/// Waits for the turn.
+/// Takes the turn, if it is free now or soon.
+fn try_for_a_while<T: Ledgered>(board: &Board<T>, seat: &mut Seat<Option<T>, View>) -> bool
+    requires board { (seat.old.table_id ≡ board.now.table_id) × IsDesk board.now.table_id }
+    requires idle { IsIdle seat.old.me }
+    ensures seat { (seat.new.table_id ≡ seat.old.table_id) × (seat.new.id ≡ seat.old.id) }
+    ensures won { result ≡ true → (y : T)
+        × (seat.new.me ≡ (taken seat.old.me.0 (T.ledger y).history, (0, Some y) ∷ []))
+        × Extends seat.old.me.0.seen (T.ledger y).history
+        × ((T.ledger y).root ≡ seat.old.me.0.root) }
+    ensures lost { result ≡ false → seat.new.me ≡ seat.old.me }
+{
+    for _ in 0..LOOKS {
+        if try_turn(board, seat) {
+            return true;
+        }
+        spin_loop();
+    }
+    false
+}
+
+/// Waits for the turn: for a while awake, and then asleep.
 fn take_turn<R: Wait, T: Ledgered>(
     rt: &R,
     board: &Board<T>,
@@ -58,7 +83,7 @@ fn take_turn<R: Wait, T: Ledgered>(
         × Extends seat.old.me.0.seen (T.ledger y).history
         × ((T.ledger y).root ≡ seat.old.me.0.root) }
 {
-    if try_turn(board, seat) {
+    if try_for_a_while(board, seat) {
         return;
     }
     for _ in rt.forever() {
