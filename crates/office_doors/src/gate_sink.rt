@@ -1,6 +1,8 @@
 //! Two sinks in memory, each of which waits until the other one is written to.
-ghost use Rattle.std.specs.Prelude.{◌≡◌, ◌<◌, ◌≤◌, ◌++◌, length, take, IfOk, OnErr, OnOk};
+ghost use Rattle.std.specs.Prelude.{◌≡◌, ◌<◌, ◌≤◌, ◌↔◌, ◌++◌, length, take, Contains, IsErr};
+ghost use Rattle.std.specs.Prelude.{IfOk, OnErr, OnOk};
 ghost use Rattle.office_outside.specs.Faults.{CountsFailure, HasCause};
+ghost use Rattle.office_outside.specs.Memory.{after_failure, after_flush};
 
 use office_outside::{Failed, MemorySink, Sink};
 use std::alloc::{AllocError, Global};
@@ -120,12 +122,18 @@ impl Sink for GateSink {
         counted(self.inner.write(piece), &mut self.faults)
     }
 
-    /// Fails where the sink in memory does.
+    /// Fails exactly where the sink in memory does: at the calls of its plan.
     fn flush(&mut self) -> Result<(), Failed>
         ensures kept { self.new.inner.held ≡ self.old.inner.held }
         ensures cause { HasCause self.old.faults self.new.faults result }
 
         ensures counted { CountsFailure self.old.faults self.new.faults result }
+        ensures failing { IsErr result
+            ↔ Contains self.old.inner.plan.failing self.old.inner.plan.calls }
+        ensures after { OnOk result (self.new.inner
+            ≡ record self.old.inner { plan = after_flush self.old.inner.plan }) }
+        ensures after_failure { OnErr result (self.new.inner
+            ≡ record self.old.inner { plan = after_failure self.old.inner.plan }) }
     {
         counted(self.inner.flush(), &mut self.faults)
     }

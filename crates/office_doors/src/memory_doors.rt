@@ -73,7 +73,7 @@ impl<K: Sink + Send + Drop> Doors for MemoryDoors<K> {
     ghost use Rattle.office_doors.specs.Books.{IsFresh};
     ghost use Rattle.office_doors.specs.Entrances.{Opens, HasOneOpen, Closes, Stays};
     ghost use Rattle.office_doors.specs.Entrances.{joined_count};
-    ghost use Rattle.office_doors.specs.Calls.{after_call, after_failure, with_faults};
+    ghost use Rattle.office_doors.specs.Calls.{after_call, after_failure};
     ghost use Rattle.office_doors.specs.DoorMemory.{book_of, calls_of};
     ghost use Rattle.office_doors.specs.DoorsMemory.{entrance_of, openings_of};
     ghost use Rattle.office_doors.specs.declared.doors.DoorsFault.TheVariants.{Failed};
