@@ -103,30 +103,22 @@ fn objectives() -> &'static str {
     "+ Service shop
   {}
 ~
-####
 + SLO fast
 @slo
   objectives:
   - target: 0.9
+####
 + SLI speed
   thresholdMetric:
     metricSource: {}
 => NeedsOp { slo: Label(fast), objective: 0 }
 ====
-+ SLO fast
-@slo
-  objectives:
-  - target: 0.9
     op: lt
 + SLI speed
   thresholdMetric:
     metricSource: {}
 => NeedsOp { slo: Label(fast), objective: 0 }
 ====
-+ SLO fast
-@slo
-  objectives:
-  - target: 0.9
     op: lt
     value: 1
   - target: 0.8
@@ -136,10 +128,6 @@ fn objectives() -> &'static str {
     metricSource: {}
 => NeedsOp { slo: Label(fast), objective: 1 }
 ====
-+ SLO fast
-@slo
-  objectives:
-  - target: 0.9
     op: lt
     value: 1
   - target: 0.8
@@ -151,10 +139,6 @@ fn objectives() -> &'static str {
     metricSource: {}
 => NeedsOp { slo: Label(fast), objective: 2 }
 ====
-+ SLO fast
-@slo
-  objectives:
-  - target: 0.9
 + SLI speed
   ratioMetric:
     total:
@@ -165,10 +149,6 @@ fn objectives() -> &'static str {
 Sli speed
 Slo fast
 ====
-+ SLO fast
-@slo
-  objectives:
-  - target: 0.9
     op: lt
     value: 1
 + SLI speed
@@ -177,7 +157,10 @@ Slo fast
 => Service shop
 Sli speed
 Slo fast
-====
+
++ Service shop
+  {}
+~
 + SLI speed
   ratioMetric:
     total:
@@ -195,26 +178,10 @@ Slo fast
 ~
 + SLI speed
   thresholdMetric:
+####
     metricSource: {}
 => NeedsOp { slo: Label(a), objective: 0 }
 ====
-+ SLI speed
-  ratioMetric:
-    total:
-      metricSource: {}
-    good:
-      metricSource: {}
-+ SLO b
-@slo
-  objectives:
-  - target: 0.9
-+ SLO a
-@slo
-  objectives:
-  - target: 0.9
-~
-+ SLI speed
-  thresholdMetric:
     metricSource: {}
 + SLO b
 @slo
@@ -255,7 +222,6 @@ fn bindings() -> &'static str {
         threshold: 2
         lookbackWindow: 1h
 ~
-####
 + SLO d
 @slo
   objectives:
@@ -276,6 +242,7 @@ fn bindings() -> &'static str {
 @slo
   objectives:
   - target: 0.9
+####
   alertPolicies: [pages, empty]
 => Service shop
 Sli speed
@@ -293,7 +260,31 @@ b 0 pages
 b 1 workbook-ticket
 b 1 pages
 c 0 workbook-page
-====
+
++ Service shop
+  {}
++ SLI speed
+  ratioMetric:
+    total:
+      metricSource: {}
+    good:
+      metricSource: {}
++ AlertPolicy empty
+  conditions: []
++ AlertPolicy bare
+  {}
++ AlertPolicy pages
+  conditions:
+  - metadata:
+      name: fast
+    spec:
+      severity: page
+      condition:
+        kind: burnrate
+        op: gt
+        threshold: 2
+        lookbackWindow: 1h
+~
 + SLO b
 @slo
   objectives:
@@ -305,62 +296,19 @@ c 0 workbook-page
   - target: 0.9
   alertPolicies: []
 ~
+####
 - Service shop
 => InUse { by_kind: Slo, by_name: Label(a) }
 ====
-+ SLO b
-@slo
-  objectives:
-  - target: 0.9
-  alertPolicies: [pages]
-+ SLO a
-@slo
-  objectives:
-  - target: 0.9
-  alertPolicies: []
-~
 - SLI speed
 => InUse { by_kind: Slo, by_name: Label(a) }
 ====
-+ SLO b
-@slo
-  objectives:
-  - target: 0.9
-  alertPolicies: [pages]
-+ SLO a
-@slo
-  objectives:
-  - target: 0.9
-  alertPolicies: []
-~
 - AlertPolicy pages
 => InUse { by_kind: Slo, by_name: Label(b) }
 ====
-+ SLO b
-@slo
-  objectives:
-  - target: 0.9
-  alertPolicies: [pages]
-+ SLO a
-@slo
-  objectives:
-  - target: 0.9
-  alertPolicies: []
-~
 - AlertCondition fast
 => InUse { by_kind: AlertPolicy, by_name: Label(pages) }
 ====
-+ SLO b
-@slo
-  objectives:
-  - target: 0.9
-  alertPolicies: [pages]
-+ SLO a
-@slo
-  objectives:
-  - target: 0.9
-  alertPolicies: []
-~
 - AlertPolicy empty
 => Service shop
 Sli speed

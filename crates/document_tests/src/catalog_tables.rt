@@ -1,10 +1,11 @@
 //! Tables of what definitions and removals leave in a catalog. A table is one text, since the proof
-//! of a test costs by its literals and not by their length: what stands before each case ends at
-//! `####`, cases stand apart by `====` and steps by `~`, and what is wanted follows on `=> `: a
-//! line for each member and each binding, or the first fault. A step is a removal behind `- `, else
-//! a definition of objects, each behind `+ `.
+//! of a test costs by its literals and not by their length. Its parts stand apart by an empty line.
+//! In each, what stands before each case ends at `####`, cases stand apart by `====` and steps by
+//! `~`, and what is wanted follows on `=> `: a line for each member and each binding, or the first
+//! fault. A step is a removal behind `- `, else a definition of objects, each behind `+ `, with the
+//! sample documents before them where the step begins by their name.
 
-use crate::documents::objects_of;
+use crate::documents::{objects_of, with_samples};
 use crate::expectations::expect_text;
 use exact_fraction::read_label;
 use slo_catalog::{Catalog, CatalogFault, DefineError, RemoveError, define, remove};
@@ -37,16 +38,20 @@ pub(crate) fn document(
 }
 
 /// A text of documents, each behind `+ ` with its kind, its name and the lines of its `spec`.
+/// Sample documents may stand before them, by the name that begins with `@`.
 pub(crate) fn text_of(rt: &impl Abort, alloc: Global, short: &str) -> String {
     let mut text = String::new(alloc);
     for part in short.split("+ ") {
-        let (head, spec) = part.split_once("\n").unwrap_or(("", ""));
+        let (head, spec) = part.split_once("\n").unwrap_or((part, ""));
         if let Some((kind, name)) = head.split_once(" ") {
             let document = document(rt, alloc, kind, name, spec);
             text.push_str(&document).expect(rt, "memory");
+        } else if head.starts_with("@") {
+            let samples = format!(in alloc; "{head}\n---\n").expect(rt, "memory");
+            text.push_str(&samples).expect(rt, "memory");
         }
     }
-    text
+    with_samples(rt, alloc, &text)
 }
 
 /// A fault as a table names it.
@@ -144,13 +149,20 @@ fn end_of(rt: &impl Abort, alloc: Global, steps: &str) -> String {
     out
 }
 
-/// Each case of a table ends as it says.
-pub(crate) fn expect_ends(rt: &impl Abort, alloc: Global, table: &str) {
-    let (head, cases) = table.split_once("\n####\n").unwrap_or(("", table));
+/// Each case of a table's part ends as it says.
+fn expect_part(rt: &impl Abort, alloc: Global, part: &str) {
+    let (head, cases) = part.split_once("####\n").unwrap_or(("", part));
     for case in cases.split("\n====\n") {
         let (rest, wanted) = case.split_once("\n=> ").unwrap_or((case, "no case"));
-        let steps = format!(in alloc; "{head}\n{rest}").expect(rt, "memory");
+        let steps = format!(in alloc; "{head}{rest}").expect(rt, "memory");
         let end = end_of(rt, alloc, &steps);
         expect_text(rt, rest, end.strip_suffix("\n").unwrap_or(&end), wanted);
+    }
+}
+
+/// Each case of a table ends as it says.
+pub(crate) fn expect_ends(rt: &impl Abort, alloc: Global, table: &str) {
+    for part in table.split("\n\n") {
+        expect_part(rt, alloc, part);
     }
 }

@@ -6,10 +6,19 @@ ghost use Rattle.yaml_subset.specs.NodeView.{node_view};
 ghost use Rattle.yaml_subset.specs.Fits.{IsWritable};
 ghost use Rattle.slo_objects.specs.Document.{IsOfDocument};
 
+use sample_stream::{ALERT_TARGETS, SHOP};
 use slo_objects::{Objects, read_object};
 use std::alloc::Global;
 use std::process::Abort;
 use yaml_subset::{Node, Nodes, read_documents, standing_nodes_are_writable};
+
+/// A text in which `@targets` and `@shop` stand for the documents of the sample stream.
+pub(crate) fn with_samples(rt: &impl Abort, alloc: Global, text: &str) -> String {
+    let text = text
+        .replace(alloc, "@targets\n", ALERT_TARGETS)
+        .expect(rt, "memory");
+    text.replace(alloc, "@shop\n", SHOP).expect(rt, "memory")
+}
 
 /// The documents of a text.
 #[tactic(auto, using(crate::proofs::DocumentLemmas::each_node))]

@@ -471,74 +471,48 @@ kind: Service
 metadata: {}
 spec: 5
 => name Missing
-====
+
 apiVersion: openslo/v1
 kind: Service
 metadata:
+####
   name: Shop
 => name BadName
 ====
-apiVersion: openslo/v1
-kind: Service
-metadata:
   name: ''
 => name BadName
 ====
-apiVersion: openslo/v1
-kind: Service
-metadata:
   name: shop-
 => name BadName
 ====
-apiVersion: openslo/v1
-kind: Service
-metadata:
   name: [a]
 => name BadName
 ====
-apiVersion: openslo/v1
-kind: Service
-metadata:
   name: a
   displayName: [x]
   labels: x
 => displayName NotText
 ====
-apiVersion: openslo/v1
-kind: Service
-metadata:
   name: a
   labels: x
 => labels NotMap
 ====
-apiVersion: openslo/v1
-kind: Service
-metadata:
   name: a
   annotations: []
 => annotations NotMap
 ====
-apiVersion: openslo/v1
-kind: Service
-metadata:
   name: a
   owner: x
 => owner UnknownField
 ====
-apiVersion: openslo/v1
-kind: Service
-metadata:
   name: a
 more: x
 => spec Missing
 ====
-apiVersion: openslo/v1
-kind: Service
-metadata:
   name: a
 spec: ~
 => spec Missing
-====
+
 more: x
 apiVersion: openslo/v1
 kind: Service

@@ -44,34 +44,29 @@ kind: Service
 spec:
   description: null
 ~> Service(Service { description: None })
-====
+
+apiVersion: openslo/v1
+metadata:
+  name: shop
 kind: SLI
 spec:
   thresholdMetric:
+####
     metricSource: {}
   description: x
 ~> Sli(Sli { description: Some(Text { string: "x" }), metric: Threshold(MetricSource {
 metric_source_ref: None, type_text: None, spec: None }) })
 ====
-kind: SLI
-spec:
-  thresholdMetric:
     metricSource: {}
 ~> Sli(Sli { description: None, metric: Threshold(MetricSource { metric_source_ref: None,
 type_text: None, spec: None }) })
 ====
-kind: SLI
-spec:
-  thresholdMetric:
     metricSource: {}
   description: Null
   ratioMetric: ~
 ~> Sli(Sli { description: None, metric: Threshold(MetricSource { metric_source_ref: None,
 type_text: None, spec: None }) })
 ====
-kind: SLI
-spec:
-  thresholdMetric:
     metricSource:
       metricSourceRef: prometheus
       type: Prometheus
@@ -79,51 +74,37 @@ spec:
 ~> Threshold(MetricSource { metric_source_ref: Some(Label(prometheus)), type_text: Some(Text {
 string: "Prometheus" }), spec: Some(Part { node: Map([]) }) })
 ====
-kind: SLI
-spec:
-  thresholdMetric:
     metricSource:
       {}
 ~> Threshold(MetricSource { metric_source_ref: None, type_text: None, spec: None })
 ====
-kind: SLI
-spec:
-  thresholdMetric:
     metricSource:
       metricSourceRef: NULL
       type: null
       spec: ~
 ~> Threshold(MetricSource { metric_source_ref: None, type_text: None, spec: None })
-====
+
+apiVersion: openslo/v1
+metadata:
+  name: shop
 kind: SLI
 spec:
   ratioMetric:
     total:
       metricSource: {}
     bad:
+####
       metricSource: {}
     counter: false
 ~> Ratio(RatioMetric { counter: Some(false), ratio: Counts { total: MetricSource {
 metric_source_ref: None, type_text: None, spec: None }, events: Bad(MetricSource {
 metric_source_ref: None, type_text: None, spec: None }) } })
 ====
-kind: SLI
-spec:
-  ratioMetric:
-    total:
-      metricSource: {}
-    bad:
       metricSource: {}
 ~> Ratio(RatioMetric { counter: None, ratio: Counts { total: MetricSource { metric_source_ref:
 None, type_text: None, spec: None }, events: Bad(MetricSource { metric_source_ref: None,
 type_text: None, spec: None }) } })
 ====
-kind: SLI
-spec:
-  ratioMetric:
-    total:
-      metricSource: {}
-    bad:
       metricSource: {}
     counter: ~
     raw: ~
@@ -132,7 +113,11 @@ spec:
 ~> Ratio(RatioMetric { counter: None, ratio: Counts { total: MetricSource { metric_source_ref:
 None, type_text: None, spec: None }, events: Bad(MetricSource { metric_source_ref: None,
 type_text: None, spec: None }) } })
-====
+
+apiVersion: openslo/v1
+metadata:
+  name: shop
+####
 kind: AlertPolicy
 spec:
   description: x
@@ -219,7 +204,10 @@ spec:
   description:
 ~> AlertNotificationTarget(AlertNotificationTarget { description: None, target: Text { string:
 "pager" } })
-====
+
+apiVersion: openslo/v1
+metadata:
+  name: shop
 kind: SLO
 spec:
   service: shop
@@ -229,6 +217,7 @@ spec:
     isRolling: true
   budgetingMethod: Occurrences
   objectives:
+####
   - target: 0.9
     displayName: Fast
     op: lt
@@ -245,15 +234,6 @@ value: Some(Decimal { billionths: 1500000000 }), target: Decimal { billionths: 9
 time_slice_target: Some(Decimal { billionths: 950000000 }), time_slice_window: Some(5) }] },
 alert_policies: Some(Names { items: [] }) })
 ====
-kind: SLO
-spec:
-  service: shop
-  indicatorRef: good
-  timeWindow:
-  - duration: 4w
-    isRolling: true
-  budgetingMethod: Occurrences
-  objectives:
   - target: 0.9
 ~> Slo(Slo { description: None, service: Label(shop), indicator: Label(good), time_window:
 TimeWindow { duration: Duration { count: 4, unit: Week }, is_rolling: Some(true), calendar:
@@ -261,15 +241,6 @@ None }, budgeting_method: Occurrences, objectives: Objectives { items: [Objectiv
 display_name: None, op: None, value: None, target: Decimal { billionths: 900000000 },
 time_slice_target: None, time_slice_window: None }] }, alert_policies: None })
 ====
-kind: SLO
-spec:
-  service: shop
-  indicatorRef: good
-  timeWindow:
-  - duration: 4w
-    isRolling: true
-  budgetingMethod: Occurrences
-  objectives:
   - target: 0.9
     displayName: ~
     op: ~
@@ -285,7 +256,10 @@ TimeWindow { duration: Duration { count: 4, unit: Week }, is_rolling: Some(true)
 None }, budgeting_method: Occurrences, objectives: Objectives { items: [Objective {
 display_name: None, op: None, value: None, target: Decimal { billionths: 900000000 },
 time_slice_target: None, time_slice_window: None }] }, alert_policies: None })
-====
+
+apiVersion: openslo/v1
+metadata:
+  name: shop
 kind: SLO
 spec:
   service: shop
@@ -297,65 +271,36 @@ spec:
   - duration: 1Q
     calendar:
       startTime: 2020-01-21 12:30:00
+####
       timeZone: America/New_York
     isRolling: false
 ~> is_rolling: Some(false), calendar: Some(Calendar {
 ====
-kind: SLO
-spec:
-  service: shop
-  indicatorRef: good
-  budgetingMethod: Occurrences
-  objectives:
-  - target: 0.9
-  timeWindow:
-  - duration: 1Q
-    calendar:
-      startTime: 2020-01-21 12:30:00
       timeZone: America/New_York
 ~> is_rolling: None, calendar: Some(Calendar {
 ====
-kind: SLO
-spec:
-  service: shop
-  indicatorRef: good
-  budgetingMethod: Occurrences
-  objectives:
-  - target: 0.9
-  timeWindow:
-  - duration: 1Q
-    calendar:
-      startTime: 2020-01-21 12:30:00
       timeZone: America/New_York
     isRolling: ~
 ~> is_rolling: None, calendar: Some(Calendar {
-====
+
+apiVersion: openslo/v1
+metadata:
+  name: shop
 kind: AlertPolicy
 spec:
   notificationTargets:
   - metadata:
       name: desk
     spec:
+####
       target: ticket
     apiVersion: openslo/v1
     kind: AlertNotificationTarget
 ~> kind: AlertNotificationTarget, name: Label(desk)
 ====
-kind: AlertPolicy
-spec:
-  notificationTargets:
-  - metadata:
-      name: desk
-    spec:
       target: ticket
 ~> kind: AlertNotificationTarget, name: Label(desk)
 ====
-kind: AlertPolicy
-spec:
-  notificationTargets:
-  - metadata:
-      name: desk
-    spec:
       target: ticket
     apiVersion: ~
     kind: ~
@@ -548,7 +493,10 @@ spec:
 ~> budgeting_method: RatioTimeslices, objectives: Objectives { items: [Objective {
 display_name: None, op: None, value: Some(Decimal { billionths: 1000000000000000000 }),
 target: Decimal { billionths: 0 }, time_slice_target: None, time_slice_window: Some(60) }] }
-====
+
+apiVersion: openslo/v1
+metadata:
+  name: shop
 kind: SLO
 spec:
   service: a
@@ -557,6 +505,7 @@ spec:
   objectives:
   - target: 0
   timeWindow:
+####
   - duration: 1d
     calendar:
       startTime: 1999-12-31 23:59:59
@@ -565,14 +514,6 @@ spec:
 Civil { year: 1999, month: 12, day: 31, hour: 23, minute: 59, second: 59 }, time_zone:
 ZoneName(UTC) })
 ====
-kind: SLO
-spec:
-  service: a
-  indicatorRef: b
-  budgetingMethod: Occurrences
-  objectives:
-  - target: 0
-  timeWindow:
   - duration: 52w
     calendar:
       startTime: 2024-02-29 00:00:00
@@ -581,48 +522,27 @@ spec:
 Civil { year: 2024, month: 2, day: 29, hour: 0, minute: 0, second: 0 }, time_zone:
 ZoneName(Etc/GMT+12) })
 ====
-kind: SLO
-spec:
-  service: a
-  indicatorRef: b
-  budgetingMethod: Occurrences
-  objectives:
-  - target: 0
-  timeWindow:
   - duration: 12M
     calendar:
       startTime: 2024-01-01 00:00:00
       timeZone: UTC
 ~> Duration { count: 12, unit: Month }, is_rolling: None, calendar: Some(
 ====
-kind: SLO
-spec:
-  service: a
-  indicatorRef: b
-  budgetingMethod: Occurrences
-  objectives:
-  - target: 0
-  timeWindow:
   - duration: 4Q
     calendar:
       startTime: 2024-01-01 00:00:00
       timeZone: UTC
 ~> Duration { count: 4, unit: Quarter }, is_rolling: None, calendar: Some(
 ====
-kind: SLO
-spec:
-  service: a
-  indicatorRef: b
-  budgetingMethod: Occurrences
-  objectives:
-  - target: 0
-  timeWindow:
   - duration: 1Y
     calendar:
       startTime: 2024-01-01 00:00:00
       timeZone: UTC
 ~> Duration { count: 1, unit: Year }, is_rolling: None, calendar: Some(
-====
+
+apiVersion: openslo/v1
+metadata:
+  name: shop
 kind: SLO
 spec:
   service: '0'
@@ -635,6 +555,7 @@ spec:
     isRolling: TRUE
   alertPolicies:
   - a
+####
   - alertPolicyRef: b
 ~> service: Label(0), indicator: Label(b-2), time_window: TimeWindow { duration: Duration {
 count: 1, unit: Week }, is_rolling: Some(true), calendar: None }, budgeting_method:

@@ -1,8 +1,8 @@
 //! Tables of OpenSLO texts, and what is wanted of each. A table is one text, since the proof of a
-//! test costs by its literals and not by their length: what stands before each case ends at
-//! `####`, cases stand apart by `====`, and what is wanted follows on `=> ` (a line with the kind
-//! and name of each object, or with the fault) or on `~> ` (what the objects show, whose lines may
-//! be broken).
+//! test costs by its literals and not by their length. Its parts stand apart by an empty line. In
+//! each, what stands before each case ends at `####`, cases stand apart by `====`, and what is
+//! wanted follows on `=> ` (a line with the kind and name of each object, or with the fault) or on
+//! `~> ` (what the objects show, whose lines may be broken).
 
 use crate::expectations::{expect, expect_text};
 use slo_objects::{Object, ReadError, read_object};
@@ -52,9 +52,9 @@ fn expect_fields(rt: &impl Abort, alloc: Global, text: &str, wanted: &str) {
     expect(rt, found.contains(wanted.as_str()), text);
 }
 
-/// Each case of a table is read as it says behind `=> ` or `~> `.
-pub(crate) fn expect_table(rt: &impl Abort, alloc: Global, table: &str) {
-    let (head, cases) = table.split_once("\n####\n").unwrap_or(("", table));
+/// Each case of a table's part is read as it says behind `=> ` or `~> `.
+fn expect_part(rt: &impl Abort, alloc: Global, part: &str) {
+    let (head, cases) = part.split_once("\n####\n").unwrap_or(("", part));
     for case in cases.split("\n====\n") {
         let (lines, names) = case.split_once("\n=> ").unwrap_or((case, ""));
         let (lines, fields) = lines.split_once("\n~> ").unwrap_or((lines, ""));
@@ -64,5 +64,12 @@ pub(crate) fn expect_table(rt: &impl Abort, alloc: Global, table: &str) {
         } else {
             expect_fields(rt, alloc, &text, fields);
         }
+    }
+}
+
+/// Each case of a table is read as it says.
+pub(crate) fn expect_table(rt: &impl Abort, alloc: Global, table: &str) {
+    for part in table.split("\n\n") {
+        expect_part(rt, alloc, part);
     }
 }

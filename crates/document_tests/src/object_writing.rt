@@ -1,6 +1,6 @@
 //! OpenSLO objects and their canonical texts. Each expected text was written by hand.
 
-use crate::documents::objects_of;
+use crate::documents::{objects_of, with_samples};
 use crate::expectations::expect;
 use slo_objects::write_object;
 use std::alloc::Global;
@@ -17,7 +17,7 @@ fn writing_of(rt: &impl Abort, alloc: Global, text: &str) -> Vec<u8> {
     out
 }
 
-/// Documents, and what their objects are written as.
+/// Documents, and what their objects are written as. The samples stand by their name.
 fn writings() -> &'static str {
     r#"apiVersion: openslo/v1
 kind: Service
@@ -302,19 +302,7 @@ spec:
     - alertPolicyRef: "shop-alerts"
     - alertPolicyRef: "slow-alerts"
 ====
-apiVersion: openslo/v1
-kind: AlertNotificationTarget
-metadata:
-  name: on-call
-spec:
-  target: pager
----
-apiVersion: openslo/v1
-kind: AlertNotificationTarget
-metadata:
-  name: desk
-spec:
-  target: ticket  # the service desk
+@targets
 => ---
 apiVersion: openslo/v1
 kind: AlertNotificationTarget
@@ -330,76 +318,7 @@ metadata:
 spec:
   target: "ticket"
 ====
-apiVersion: openslo/v1
-kind: Service
-metadata:
-  name: shop
-  displayName: Shop front
-spec:
-  description: The public shop.
----
-apiVersion: openslo/v1
-kind: SLI
-metadata:
-  name: shop-good
-spec:
-  ratioMetric:
-    counter: true
-    good:
-      metricSource:
-        type: Prometheus
-        spec:
-          query: |
-            sum(http_requests{code!~"5.."})
-    total:
-      metricSource:
-        type: Prometheus
-        spec:
-          query: sum(http_requests)
----
-apiVersion: openslo/v1
-kind: AlertCondition
-metadata:
-  name: fast-burn
-spec:
-  severity: page
-  condition:
-    kind: burnrate
-    op: gt
-    threshold: 2
-    lookbackWindow: 1h
-    alertAfter: 5m
----
-apiVersion: openslo/v1
-kind: AlertPolicy
-metadata:
-  name: shop-alerts
-spec:
-  alertWhenBreaching: true
-  alertWhenResolved: true
-  conditions:
-  - conditionRef: fast-burn
-  notificationTargets:
-  - targetRef: on-call
-  - targetRef: desk
----
-apiVersion: openslo/v1
-kind: SLO
-metadata:
-  name: shop-slo
-spec:
-  service: shop
-  indicatorRef: shop-good
-  timeWindow:
-  - duration: 30d
-    isRolling: true
-  budgetingMethod: Occurrences
-  objectives:
-  - displayName: Availability
-    target: 0.999
-  alertPolicies:
-  - alertPolicyRef: shop-alerts
-  - workbook-page
+@shop
 => ---
 apiVersion: openslo/v1
 kind: Service
@@ -474,10 +393,11 @@ spec:
 
 /// A text is written as its case says, and what is written is written so again.
 fn expect_writing(rt: &impl Abort, alloc: Global, case: &str) {
-    let (text, wanted) = case.split_once("\n=> ").unwrap_or((case, ""));
+    let (text, wanted) = case.split_once("=> ").unwrap_or((case, ""));
+    let text = with_samples(rt, alloc, text);
     let wanted = format!(in alloc; "{wanted}\n").expect(rt, "memory");
-    let first = writing_of(rt, alloc, text);
-    expect(rt, first.as_slice() == wanted.as_bytes(), text);
+    let first = writing_of(rt, alloc, &text);
+    expect(rt, first.as_slice() == wanted.as_bytes(), &text);
     let again = writing_of(rt, alloc, &wanted);
     expect(rt, again.as_slice() == wanted.as_bytes(), &wanted);
 }

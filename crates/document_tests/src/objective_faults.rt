@@ -49,68 +49,50 @@ spec:
   indicatorRef: a
   timeWindow: [a, b]
 => timeWindow ListLength
-====
+
+apiVersion: openslo/v1
+metadata:
+  name: shop
+kind: SLO
+spec:
   service: shop
   indicatorRef: a
   timeWindow:
+####
   - duration: 367d
 => duration OutOfRange
 ====
-  service: shop
-  indicatorRef: a
-  timeWindow:
   - duration: 0d
     isRolling: true
 => duration OutOfRange
 ====
-  service: shop
-  indicatorRef: a
-  timeWindow:
   - duration: 24h
 => duration OutOfRange
 ====
-  service: shop
-  indicatorRef: a
-  timeWindow:
   - duration: 24h
     isRolling: no
 => isRolling NotBool
 ====
-  service: shop
-  indicatorRef: a
-  timeWindow:
   - duration: 1d
 => calendar Missing
 ====
-  service: shop
-  indicatorRef: a
-  timeWindow:
   - duration: 1d
     calendar:
       startTime: 2020-01-21
 => startTime NotMoment
 ====
-  service: shop
-  indicatorRef: a
-  timeWindow:
   - duration: 1M
     calendar:
       startTime: 2023-02-29 00:00:00
       timeZone: UTC
 => startTime NotMoment
 ====
-  service: shop
-  indicatorRef: a
-  timeWindow:
   - duration: 1M
     calendar:
       startTime: 2024-02-29 00:00:00
       timeZone: New York
 => timeZone BadName
 ====
-  service: shop
-  indicatorRef: a
-  timeWindow:
   - duration: 1d
     isRolling: true
     calendar: {}
