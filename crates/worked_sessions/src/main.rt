@@ -10,6 +10,7 @@ mod series;
 mod show;
 mod stage;
 mod trials;
+mod visitors;
 
 use office_outside::{Failed, Source, StdSink, StdSource, write_whole};
 use stage::Stage;

@@ -26,19 +26,24 @@ pub struct Setting<'a> {
     pub piece: usize,
 }
 
-/// The plan of an object whose calls fail where the line names it, as in `disk 5 6`.
-fn plan_in(alloc: Global, line: &str, name: &str, sizes: Vec<usize>) -> Result<Plan, AllocError> {
+/// The numbers of the calls that fail of what the line names, as in `disk 5 6`.
+pub fn numbers_in(alloc: Global, line: &str, name: &str) -> Result<Vec<u64>, AllocError> {
     let mut failing: Vec<u64> = Vec::new(alloc);
     if let Some(numbers) = line.strip_prefix(name) {
         for word in numbers.split_ascii_whitespace() {
             failing.push(word.parse::<u64>().unwrap_or(u64::MAX))?;
         }
     }
-    Ok(Plan::new(failing, sizes))
+    Ok(failing)
+}
+
+/// The plan of an object whose calls fail where the line names it.
+fn plan_in(alloc: Global, line: &str, name: &str, sizes: Vec<usize>) -> Result<Plan, AllocError> {
+    Ok(Plan::new(numbers_in(alloc, line, name)?, sizes))
 }
 
 /// The words of a line.
-fn words_in(alloc: Global, line: &str) -> Result<Vec<String>, AllocError> {
+pub fn words_in(alloc: Global, line: &str) -> Result<Vec<String>, AllocError> {
     let mut words: Vec<String> = Vec::new(alloc);
     for word in line.split_ascii_whitespace() {
         words.push(String::from_str(alloc, word)?)?;
@@ -110,20 +115,20 @@ impl Setting<'_> {
     }
 
     /// The input of a run.
-    fn input(&self, alloc: Global, bytes: &[u8]) -> Result<MemorySource, AllocError> {
+    pub fn input(&self, alloc: Global, bytes: &[u8]) -> Result<MemorySource, AllocError> {
         let sizes = sizes_of(alloc, bytes.len(), self.piece)?;
         let plan = plan_in(alloc, self.failing, "input ", sizes)?;
         Ok(MemorySource::new(bytes.to_vec(alloc)?, plan))
     }
 
     /// The output of a run.
-    fn output(&self, alloc: Global) -> Result<MemorySink, AllocError> {
+    pub fn output(&self, alloc: Global) -> Result<MemorySink, AllocError> {
         let plan = plan_in(alloc, self.failing, "output ", Vec::new(alloc))?;
         Ok(MemorySink::new(alloc, plan))
     }
 
     /// The disk of a run.
-    fn disk(&self, alloc: Global) -> Result<MemoryDisk, AllocError> {
+    pub fn disk(&self, alloc: Global) -> Result<MemoryDisk, AllocError> {
         let plan = plan_in(alloc, self.failing, "disk ", Vec::new(alloc))?;
         MemoryDisk::new(alloc, self.file.to_vec(alloc)?, plan)
     }

@@ -5,6 +5,7 @@ use crate::sampling::push_stream;
 use crate::series::{push_request, push_requests, push_series};
 use crate::show::{show_answers, show_count, show_file, show_whole};
 use crate::trials::{over_faults, over_mixtures, over_prefixes, over_stops};
+use crate::visitors::serve_visitors;
 use std::alloc::{AllocError, Global};
 use std::sync::Wait;
 use std::thread::Threads;
@@ -24,6 +25,8 @@ pub struct Stage {
     request: String,
     body: String,
     input: String,
+    visitors: Vec<Vec<u8>>,
+    pairs: bool,
     out: String,
 }
 
@@ -68,6 +71,18 @@ fn push_many(input: &mut String, line: &str) -> Result<(), AllocError> {
     Ok(())
 }
 
+/// The lines of texts but their heads, in order.
+fn answer_lines(alloc: Global, texts: &[String]) -> Result<Vec<String>, AllocError> {
+    let mut lines: Vec<String> = Vec::new(alloc);
+    for text in texts {
+        for line in text.lines().skip(1) {
+            lines.push(format!(in alloc; "{line}\n")?)?;
+        }
+    }
+    lines.sort()?;
+    Ok(lines)
+}
+
 impl Stage {
     /// A stage without a file.
     pub fn new(alloc: Global) -> Stage {
@@ -84,6 +99,8 @@ impl Stage {
             request: String::new(alloc),
             body: String::new(alloc),
             input: String::new(alloc),
+            visitors: Vec::new(alloc),
+            pairs: false,
             out: String::new(alloc),
         }
     }
@@ -112,6 +129,9 @@ impl Stage {
             return self.begin(title);
         }
         if let Some(words) = line.strip_prefix("$ ") {
+            if words.starts_with("serve ") {
+                return self.serve(rt, words);
+            }
             return self.run(rt, words);
         }
         if let Some(text) = line.strip_prefix("> ") {
@@ -199,6 +219,8 @@ impl Stage {
         match line {
             "heads" => self.whole = true,
             "brief" => self.brief = true,
+            "visitor" => self.end_visitor()?,
+            "pairs" => self.pairs = true,
             "file" => show_file(self.alloc, &mut self.out, &self.file)?,
             "save" => copy_over(&mut self.saved, &self.file)?,
             "load" => copy_over(&mut self.file, &self.saved)?,
@@ -219,6 +241,42 @@ impl Stage {
         copy_over(&mut self.file, played.disk.bytes())?;
         self.note(words, &played)?;
         self.brief = false;
+        Ok(())
+    }
+
+    /// Takes the requests so far as those of a visitor of a server.
+    fn end_visitor(&mut self) -> Result<(), AllocError> {
+        let bytes = self.input.as_bytes().to_vec(self.alloc)?;
+        self.input.clear();
+        self.visitors.push(bytes)?;
+        Ok(())
+    }
+
+    /// Serves the visitors, and notes what came of the run and what each was answered: in the order
+    /// of doors, or where they are pairs, in the order of the texts.
+    fn serve(
+        &mut self,
+        rt: &(impl AllocGlobal + Wait + Threads + Sync),
+        words: &str,
+    ) -> Result<(), AllocError> {
+        let (played, mut answers) = serve_visitors(
+            rt,
+            &self.setting(),
+            words,
+            &self.visitors,
+            self.pairs,
+        )?;
+        self.visitors.clear();
+        self.failing.clear();
+        copy_over(&mut self.file, played.disk.bytes())?;
+        self.note(words, &played)?;
+        if self.pairs {
+            answers = answer_lines(self.alloc, &answers)?;
+            self.pairs = false;
+        }
+        for text in &answers {
+            self.out.push_str(text)?;
+        }
         Ok(())
     }
 
