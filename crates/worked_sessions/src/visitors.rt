@@ -62,11 +62,13 @@ fn gated_visits(
 ) -> Result<Vec<MemoryVisit<GateSink>>, AllocError> {
     let mut visits = Vec::new(alloc);
     for pair in sent.chunks_exact(2) {
-        let one = MemorySink::new(alloc, Plan::smooth(alloc));
-        let other = MemorySink::new(alloc, Plan::smooth(alloc));
-        let (one, other) = GateSink::pair(alloc, one, other)?;
-        visits.push(visit_of(alloc, setting, &pair[0], one)?)?;
-        visits.push(visit_of(alloc, setting, &pair[1], other)?)?;
+        if let (Some(first), Some(second)) = (pair.get(0), pair.get(1)) {
+            let one = MemorySink::new(alloc, Plan::smooth(alloc));
+            let other = MemorySink::new(alloc, Plan::smooth(alloc));
+            let (one, other) = GateSink::pair(alloc, one, other)?;
+            visits.push(visit_of(alloc, setting, first, one)?)?;
+            visits.push(visit_of(alloc, setting, second, other)?)?;
+        }
     }
     Ok(visits)
 }
