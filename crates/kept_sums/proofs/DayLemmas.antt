@@ -171,25 +171,29 @@ days_end m made value taken first end rows span =
         by true h = refl
         by false h = free h (is_of m.sli row) (excludes m.slo row.minute (value, true)) refl refl
 
+none_of_three : (a b d : Bool) → (a ≡ false) ⊎ ((b && d) ≡ false) → (a && b && d) ≡ false
+none_of_three true true true (inl h) = cc h
+none_of_three true true true (inr h) = cc h
+none_of_three true true false h = refl
+none_of_three true false d h = refl
+none_of_three false b d h = refl
+
+-- an exclusion doesn't take a minute outside its range
+pub outside_free : (slo : List ℕ) (minute : ℕ) (value : Exclusion) → (nat_le value.from minute && nat_lt minute value.to) ≡ false → excludes slo minute (value, true) ≡ false
+outside_free slo minute value outside = none_of_three (bytes_eq value.slo slo) (nat_le value.from minute) (nat_lt minute value.to) (inr outside)
+
 -- an exclusion of another SLO, or of no minute, takes nothing
 pub none_taken : (m : Measure) (made : List (Exclusion × Bool)) (value : Exclusion) (taken : Bool) (rows : List Row) → (bytes_eq value.slo m.slo ≡ false) ⊎ (value.to ≤ value.from) →
     shares_by (row_counts m (made_on made value (not taken))) rows ≡ shares_by (row_counts m (made_on made value taken)) rows
 none_taken m made value taken rows none =
     shares_same (row_counts m (made_on made value (not taken))) (row_counts m (made_on made value taken)) (λ row. same_on m made value taken row (free row none)) rows
   where
-    neither : (a b d : Bool) → (a ≡ false) ⊎ ((b && d) ≡ false) → (a && b && d) ≡ false
-    neither true true true (inl h) = cc h
-    neither true true true (inr h) = cc h
-    neither true true false h = refl
-    neither true false d h = refl
-    neither false b d h = refl
-
     empty : (from minute to : ℕ) → to ≤ from → (nat_le from minute && nat_lt minute to) ≡ false
     empty from minute to le = grind (arith, nat_tests, le)
 
     free : (row : Row) → (bytes_eq value.slo m.slo ≡ false) ⊎ (value.to ≤ value.from) → excludes m.slo row.minute (value, true) ≡ false
-    free row (inl other) = neither (bytes_eq value.slo m.slo) (nat_le value.from row.minute) (nat_lt row.minute value.to) (inl other)
-    free row (inr less) = neither (bytes_eq value.slo m.slo) (nat_le value.from row.minute) (nat_lt row.minute value.to) (inr (empty value.from row.minute value.to less))
+    free row (inl other) = none_of_three (bytes_eq value.slo m.slo) (nat_le value.from row.minute) (nat_lt row.minute value.to) (inl other)
+    free row (inr less) = outside_free m.slo row.minute value (empty value.from row.minute value.to less)
 
 -- a minute of a range lies on one of its days
 pub on_its_days : (from to minute : ℕ) → from ≤ minute → minute < to → (from / 1440 ≤ minute / 1440) × (minute / 1440 < (to - 1) / 1440 + 1)

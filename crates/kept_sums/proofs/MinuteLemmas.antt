@@ -168,7 +168,7 @@ total_seen m rows true u = refl
 total_seen m rows false u = refl
 
 -- the shares of a slice add up to its counts
-same_slices : (m : Measure) (made : List (Exclusion × Bool)) (rows : List Row) (k : ℕ) → 0 < width_of m.method →
+pub same_slices : (m : Measure) (made : List (Exclusion × Bool)) (rows : List Row) (k : ℕ) → 0 < width_of m.method →
     days.slice_counts m.method (shares_by (row_counts m made) rows) k ≡ slice_counts (record { rows = rows; exclusions = made }) m k
 same_slices m made rows k some = λ i. record {
   good = slice_minutes (λ c. c.good) refl m made rows k some (good_seen m rows) i;

@@ -1,19 +1,67 @@
 //! Exclusions and liftings, followed by the sums of an objective.
-ghost use Rattle.std.specs.Prelude.{◌≡◌, ◌+◌, ◌≤◌, ◌<◌, ℕ, not, length};
+ghost use Rattle.std.specs.Prelude.{◌≡◌, ◌≢◌, ◌+◌, ◌≤◌, ◌<◌, ◌&&◌, ℕ, List, not, length, nat_le};
+ghost use Rattle.std.specs.Prelude.{IsTrue, nat_lt};
 ghost use Rattle.std.specs.List.{AllByRecursion};
 ghost use Rattle.slo_limits.specs.declared.TheConstants.{MAX_ACCEPTED_ROWS};
-ghost use Rattle.window_sums.specs.Shares.{IsSumOf};
-ghost use Rattle.window_sums.specs.Slices.{counts_of, has_day};
+ghost use Rattle.window_sums.specs.Shares.{IsSumOf, Share};
+ghost use Rattle.window_sums.specs.Slices.{counts_of, day_of, has_day, slice_of};
+ghost use Rattle.kept_sums.specs.Replacing.{MayReplace, among};
 ghost use Rattle.kept_sums.specs.Sums.{Fits, HasItsDay, IsKept, row_counts, shares_by};
 ghost use Rattle.kept_sums.specs.Walks.{IsChanged, made_on, up_to};
 
 use crate::counting::{counts_on, row_at};
 use crate::exchange::exchange;
 use office_history::Measure;
-use sample_book::{Exclusion, SampleBook};
+use sample_book::{Exclusion, Row, SampleBook};
 use window_sums::WindowSums;
 
 const MINUTES_A_DAY: u32 = 1_440;
+
+// Whether a minute lies in the range of an exclusion.
+fn is_in_range(value: &Exclusion, minute: u32) -> bool
+    ensures { result ≡ (nat_le value.now.from minute && nat_lt minute value.now.to) }
+{
+    value.from <= minute && minute < value.to
+}
+
+// A row follows an exclusion that is made, or one that is lifted. Outside its range the row counts
+// as before, so it is passed over: whether it is excluded is asked of all exclusions.
+fn follow_on_row(
+    sums: &mut WindowSums,
+    measure: &Measure,
+    book: &SampleBook,
+    value: &Exclusion,
+    taken: bool,
+    row: &Row,
+)
+    requires fits { Fits measure.now row.now }
+    requires day { IsTrue (has_day sums.old (day_of row.now.minute)) }
+    requires may { (before : List Share) × (after : List Share)
+        × MayReplace sums.old row.now.minute
+        (row_counts measure.now (made_on book.now.exclusions value.now (not taken)) row.now)
+        (row_counts measure.now (made_on book.now.exclusions value.now taken) row.now)
+        before after }
+    ensures method { sums.new.method ≡ sums.old.method }
+    ensures counted { (before after : List Share) → IsSumOf sums.old (among before row.now.minute
+        (row_counts measure.now (made_on book.now.exclusions value.now (not taken)) row.now)
+        after)
+        → IsSumOf sums.new (among before row.now.minute
+        (row_counts measure.now (made_on book.now.exclusions value.now taken) row.now) after) }
+    ensures days { (day : ℕ) → has_day sums.new day ≡ has_day sums.old day }
+    ensures touched { (slice : ℕ) → slice ≢ slice_of sums.old.method row.now.minute
+        → counts_of sums.new slice ≡ counts_of sums.old slice }
+    ensures same { row_counts measure.now (made_on book.now.exclusions value.now (not taken))
+        row.now
+        ≡ row_counts measure.now (made_on book.now.exclusions value.now taken) row.now
+        → (slice : ℕ) → counts_of sums.new slice ≡ counts_of sums.old slice }
+{
+    if !is_in_range(value, row.minute) {
+        return;
+    }
+    let old = counts_on(measure, book, value, !taken, row);
+    let new = counts_on(measure, book, value, taken, row);
+    exchange(sums, row.minute, old, new);
+}
 
 // The rows of one day follow an exclusion that is made, or one that is lifted.
 fn follow_on_day(
@@ -44,9 +92,7 @@ fn follow_on_day(
     let mut next = book.last_row_on(measure.sli, day);
     while let Some(place) = next {
         let row = row_at(book, place);
-        let old = counts_on(measure, book, value, !taken, &row);
-        let new = counts_on(measure, book, value, taken, &row);
-        exchange(sums, row.minute, old, new);
+        follow_on_row(sums, measure, book, value, taken, &row);
         next = book.row_before_on(place);
     }
 }

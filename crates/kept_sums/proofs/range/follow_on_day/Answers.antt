@@ -29,14 +29,11 @@ loop-next-init c =
       touched = λ own slice none. refl;
     }
 
-pub counts_on-old-requires : goal.counts_on-old-requires
-counts_on-old-requires c = all_at (Fits c.args.measure.now) c.args.book.now.rows c.in-Some.place c.row_at-row.result c.row_at-row.ensures c.requires.forms
+pub follow_on_row-requires-clause-fits : goal.follow_on_row-requires-clause-fits
+follow_on_row-requires-clause-fits c = all_at (Fits c.args.measure.now) c.args.book.now.rows c.in-Some.place c.row_at-row.result c.row_at-row.ensures c.requires.forms
 
-pub counts_on-new-requires : goal.counts_on-new-requires
-counts_on-new-requires c = all_at (Fits c.args.measure.now) c.args.book.now.rows c.in-Some.place c.row_at-row.result c.row_at-row.ensures c.requires.forms
-
-pub exchange-requires-clause-day : goal.exchange-requires-clause-day
-exchange-requires-clause-day c = λ differ.
+pub follow_on_row-requires-clause-day : goal.follow_on_row-requires-clause-day
+follow_on_row-requires-clause-day c =
     let m = c.args.measure.now in
     let row = c.row_at-row.result in
     let a : Row → Counts = row_counts m (made_on c.args.book.now.exclusions c.args.value.now (not c.args.taken)) in
@@ -45,8 +42,8 @@ exchange-requires-clause-day c = λ differ.
     subst IsTrue (sym (c.loop-next.invariant.days (day_of row.minute)))
     (all_at (HasItsDay m c.args.sums.now) c.args.book.now.rows c.in-Some.place row c.row_at-row.ensures c.requires.days (day_own m.sli c.args.day row (w.place.1 row c.row_at-row.ensures)))
 
-pub exchange-requires-clause-may : goal.exchange-requires-clause-may
-exchange-requires-clause-may c =
+pub follow_on_row-requires-clause-may : goal.follow_on_row-requires-clause-may
+follow_on_row-requires-clause-may c =
     let m = c.args.measure.now in
     let row = c.row_at-row.result in
     let rows = c.args.book.now.rows in
@@ -57,15 +54,15 @@ exchange-requires-clause-may c =
     let h : Row → Counts = up_to m.sli c.args.first (c.args.day + 1) a b in
     let w = subst (λ n. IsWalking (is_on m.sli c.args.day) f h rows n sums) c.in-Some.is c.loop-next.invariant.walking in
     let key = w.place.1 row c.row_at-row.ensures in
-    let old : f row ≡ c.counts_on-old.result = before_day m.sli c.args.first c.args.day a b row key ∙ sym c.counts_on-old.ensures in
-    let new : h row ≡ c.counts_on-new.result = after_day m.sli c.args.first c.args.day a b row c.requires.days_before key ∙ sym c.counts_on-new.ensures in
+    let old : f row ≡ a row = before_day m.sli c.args.first c.args.day a b row key in
+    let new : h row ≡ b row = after_day m.sli c.args.first c.args.day a b row c.requires.days_before key in
     let small_a = small_rows m (made_on c.args.book.now.exclusions c.args.value.now (not c.args.taken)) rows c.requires.forms in
     let small_b = small_rows m (made_on c.args.book.now.exclusions c.args.value.now c.args.taken) rows c.requires.forms in
     let facts = walk_facts (is_on m.sli c.args.day) f h c.in-Some.place rows row sums c.row_at-row.ensures
     (small_days m.sli c.args.first c.args.day a b rows small_a small_b) (small_days m.sli c.args.first (c.args.day + 1) a b rows small_a small_b) c.requires.few w in (
       facts.before,
       facts.after,
-      subst (λ n. MayReplace sums row.minute c.counts_on-old.result n facts.before facts.after) new
+      subst (λ n. MayReplace sums row.minute (a row) n facts.before facts.after) new
           (subst (λ n. MayReplace sums row.minute n (h row) facts.before facts.after) old facts.may),
     )
 
@@ -87,34 +84,39 @@ loop-next-preserved c =
     let h : Row → Counts = up_to m.sli c.args.first (c.args.day + 1) a b in
     let w = subst (λ n. IsWalking (is_on m.sli c.args.day) f h rows n sums) c.in-Some.is c.loop-next.invariant.walking in
     let key = w.place.1 row c.row_at-row.ensures in
-    let old : f row ≡ c.counts_on-old.result = before_day m.sli c.args.first c.args.day a b row key ∙ sym c.counts_on-old.ensures in
-    let new : h row ≡ c.counts_on-new.result = after_day m.sli c.args.first c.args.day a b row c.requires.days_before key ∙ sym c.counts_on-new.ensures in
+    let old : f row ≡ a row = before_day m.sli c.args.first c.args.day a b row key in
+    let new : h row ≡ b row = after_day m.sli c.args.first c.args.day a b row c.requires.days_before key in
     let small_a = small_rows m (made_on c.args.book.now.exclusions c.args.value.now (not c.args.taken)) rows c.requires.forms in
     let small_b = small_rows m (made_on c.args.book.now.exclusions c.args.value.now c.args.taken) rows c.requires.forms in
     let facts = walk_facts (is_on m.sli c.args.day) f h c.in-Some.place rows row sums c.row_at-row.ensures
     (small_days m.sli c.args.first c.args.day a b rows small_a small_b) (small_days m.sli c.args.first (c.args.day + 1) a b rows small_a small_b) c.requires.few w in
-    let counted = subst (IsSumOf c.exchange.new.sums) (ap (λ n. among facts.before row.minute n facts.after) (sym new) ∙ facts.put)
-    (c.exchange.ensures.counted facts.before facts.after (subst (λ n. IsSumOf sums (among facts.before row.minute n facts.after)) old facts.may.counted)) in
+    let counted = subst (IsSumOf c.follow_on_row.new.sums) (ap (λ n. among facts.before row.minute n facts.after) (sym new) ∙ facts.put)
+    (c.follow_on_row.ensures.counted facts.before facts.after (subst (λ n. IsSumOf sums (among facts.before row.minute n facts.after)) old facts.may.counted)) in
     let same_sli : row.sli ≡ m.sli = (bytes_eq-Decides row.sli m.sli).0 (day_own m.sli c.args.day row key) in
     let here : c.row_before_on-next.result ≡ last_place (is_on m.sli c.args.day) (take c.in-Some.place rows) =
     c.row_before_on-next.ensures row c.row_at-row.ensures
     ∙ ap (λ (s : List ℕ). last_place (is_on s (row.minute / 1440)) (take c.in-Some.place rows)) same_sli
     ∙ ap (λ d. last_place (is_on m.sli d) (take c.in-Some.place rows)) (day_is m.sli c.args.day row key) in
     record {
-      walking = walk_goes (is_on m.sli c.args.day) f h rows c.in-Some.place c.row_before_on-next.result c.exchange.new.sums w.place.0 here (other_day m.sli c.args.first c.args.day a b) counted;
-      method = c.exchange.ensures.method ∙ c.loop-next.invariant.method;
-      touched = λ own slice none. step own slice none (same_or_other c.counts_on-old.result c.counts_on-new.result) ∙ c.loop-next.invariant.touched own slice none;
-      days = λ day. c.exchange.ensures.days day ∙ c.loop-next.invariant.days day;
+      walking = walk_goes (is_on m.sli c.args.day) f h rows c.in-Some.place c.row_before_on-next.result c.follow_on_row.new.sums w.place.0 here (other_day m.sli c.args.first c.args.day a b) counted;
+      method = c.follow_on_row.ensures.method ∙ c.loop-next.invariant.method;
+      touched = λ own slice none. step own slice none (same_or_other (a row) (b row)) ∙ c.loop-next.invariant.touched own slice none;
+      days = λ day. c.follow_on_row.ensures.days day ∙ c.loop-next.invariant.days day;
     }
   where
+    old_of : Row → Counts
+    old_of row = row_counts c.args.measure.now (made_on c.args.book.now.exclusions c.args.value.now (not c.args.taken)) row
+
+    new_of : Row → Counts
+    new_of row = row_counts c.args.measure.now (made_on c.args.book.now.exclusions c.args.value.now c.args.taken) row
+
     step : c.args.sums.now.method ≡ c.args.measure.now.method → (slice : ℕ) → (IsChanged c.args.measure.now c.args.book.now.exclusions c.args.value.now c.args.book.now.rows slice → ⊥) →
-        (c.counts_on-old.result ≡ c.counts_on-new.result) ⊎ (c.counts_on-old.result ≢ c.counts_on-new.result) → counts_of c.exchange.new.sums slice ≡ counts_of c.loop-next.sums slice
-    step own slice none (inl same) = c.exchange.ensures.same same slice
-    step own slice none (inr other) = c.exchange.ensures.touched slice (λ same. none (record {
+        (old_of c.row_at-row.result ≡ new_of c.row_at-row.result) ⊎ (old_of c.row_at-row.result ≢ new_of c.row_at-row.result) → counts_of c.follow_on_row.new.sums slice ≡ counts_of c.loop-next.sums slice
+    step own slice none (inl same) = c.follow_on_row.ensures.same same slice
+    step own slice none (inr other) = c.follow_on_row.ensures.touched slice (λ same. none (record {
       place = c.in-Some.place;
       row = c.row_at-row.result;
       here = c.row_at-row.ensures;
-      changed = changed_on c.args.measure.now c.args.book.now.exclusions c.args.value.now c.args.taken c.row_at-row.result
-          (λ e. other (c.counts_on-old.ensures ∙ e ∙ sym c.counts_on-new.ensures));
+      changed = changed_on c.args.measure.now c.args.book.now.exclusions c.args.value.now c.args.taken c.row_at-row.result other;
       lies = ap (λ (m : Method). slice_of m c.row_at-row.result.minute) (sym own ∙ sym c.loop-next.invariant.method) ∙ sym same;
     }))
