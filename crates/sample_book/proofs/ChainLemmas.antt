@@ -10,6 +10,7 @@ use Rattle.std.proofs.lemmas.List.{append-nil, length-map}
 use Rattle.sample_book.specs.Chains.{AreLinked, HasRoomFor, IsInOrder, IsIndexed, IsLastPlace, IsReadyFor, below, day_group, group_eq, is_on, last, later, link_of, links_after, sli_group}
 use Rattle.sample_book.specs.Counting.{is_of}
 use Rattle.sample_book.specs.Rows.{cell_of, room_for}
+use Rattle.sample_book.proofs.ExtentLemmas.{extents_alike}
 use Rattle.sample_book.proofs.StandingLemmas.{eq-itself, length-new_cells}
 use Rattle.sample_book.specs.Puts.{IsPutInto, behind, in_place}
 use Rattle.sample_book.specs.declared.chains.Chains.{Chains}
@@ -111,33 +112,33 @@ eq-symm : (m n : ℕ) → nat_eq m n ≡ nat_eq n m
 eq-symm m n = grind (arith, nat_tests)
 
 pub group_eq-symm : (a b : Group) → group_eq a b ≡ group_eq b a
-group_eq-symm a b = rw (nat_list_eq_equiv.symm a.sli b.sli, eq-symm a.day b.day) refl
+group_eq-symm a b = rw (nat_list_eq_equiv.symm a.name b.name, eq-symm a.day b.day) refl
 
 -- equal groups are one
 pub group_same : (a b : Group) → group_eq a b ≡ true → a ≡ b
-group_same a b e = by (bytes_eq a.sli b.sli) (nat_eq a.day b.day) refl refl e
+group_same a b e = by (bytes_eq a.name b.name) (nat_eq a.day b.day) refl refl e
   where
-    by : (m n : Bool) → bytes_eq a.sli b.sli ≡ m → nat_eq a.day b.day ≡ n → (m && n) ≡ true → a ≡ b
+    by : (m n : Bool) → bytes_eq a.name b.name ≡ m → nat_eq a.day b.day ≡ n → (m && n) ≡ true → a ≡ b
     by true true m n e =
-        let sli = (bytes_eq-Decides a.sli b.sli).0 m in
+        let name = (bytes_eq-Decides a.name b.name).0 m in
         let day : a.day ≡ b.day = grind (arith, nat_tests, n) in
-        λ i. record { sli = sli i; day = day i }
+        λ i. record { name = name i; day = day i }
     by true false m n e = cc e
     by false true m n e = cc e
     by false false m n e = cc e
 
 pub group_laws : IsEquivalence group_eq
 group_laws = record {
-  refl = λ x. rw (nat_list_eq_equiv.refl x.sli, eq-itself x.day) refl;
+  refl = λ x. rw (nat_list_eq_equiv.refl x.name, eq-itself x.day) refl;
   symm = group_eq-symm;
   congr = λ x y z h. ap (λ (g : Group). group_eq g z) (group_same x y h);
 }
 
 -- a group's test of a row
-pub day-test : (sli : List ℕ) (day : ℕ) (row : Row) → group_eq (record { sli = sli; day = day }) (day_group row) ≡ is_on sli day row
+pub day-test : (sli : List ℕ) (day : ℕ) (row : Row) → group_eq (record { name = sli; day = day }) (day_group row) ≡ is_on sli day row
 day-test sli day row = rw (nat_list_eq_equiv.symm sli row.sli, eq-symm day (row.minute / 1440)) refl
 
-pub sli-test : (sli : List ℕ) (row : Row) → group_eq (record { sli = sli; day = 0 }) (sli_group row) ≡ is_of sli row
+pub sli-test : (sli : List ℕ) (row : Row) → group_eq (record { name = sli; day = 0 }) (sli_group row) ≡ is_of sli row
 sli-test sli row = rw (nat_list_eq_equiv.symm sli row.sli) (by (bytes_eq row.sli sli))
   where
     by : (b : Bool) → (b && true) ≡ b
@@ -198,10 +199,10 @@ put_replaced _ _ _ _ (in_place before after kept row same) h = record {
 }
   where
     group_on : Cell → Group
-    group_on cell = record { sli = cell.sli; day = cell.minute / 1440 }
+    group_on cell = record { name = cell.sli; day = cell.minute / 1440 }
 
     group_in : Cell → Group
-    group_in cell = record { sli = cell.sli; day = 0 }
+    group_in cell = record { name = cell.sli; day = 0 }
 
     swapped : (f : Row → Group) (before after : List Row) (kept row : Row) → f row ≡ f kept → map f (before ++ row ∷ after) ≡ map f (before ++ kept ∷ after)
     swapped f [] after kept row e = ap (λ g. g ∷ map f after) e
@@ -211,13 +212,14 @@ pub room_fewer : (count fewer : ℕ) (chains : Chains) → fewer ≤ count → H
 room_fewer count fewer chains h room = record { links = omega (arith, h, room.links); lasts = omega (arith, h, room.lasts) }
 
 pub ready_fewer : (count fewer : ℕ) (index : RowIndex) → fewer ≤ count → IsReadyFor count index → IsReadyFor fewer index
-ready_fewer count fewer index h ready = record { days = room_fewer count fewer index.days h ready.days; slis = room_fewer count fewer index.slis h ready.slis }
+ready_fewer count fewer index h ready = record { days = room_fewer count fewer index.days h ready.days; slis = room_fewer count fewer index.slis h ready.slis; extents = omega (arith, h, ready.extents) }
 
 -- rows of the same groups are indexed alike
 pub indexed_same : (rows rows' : List Row) (index : RowIndex) → map day_group rows' ≡ map day_group rows → map sli_group rows' ≡ map sli_group rows → IsIndexed rows index → IsIndexed rows' index
 indexed_same rows rows' index days slis indexed = record {
   days = subst (λ groups. AreLinked groups index.days) (sym days) indexed.days;
   slis = subst (λ groups. AreLinked groups index.slis) (sym slis) indexed.slis;
+  extents = extents_alike rows rows' index.extents days indexed.extents;
 }
 
 pub in_order : (rows : List Row) (room : List Cell) (index : RowIndex) (count : ℕ) → length room ≤ count → IsIndexed rows index → IsReadyFor count index → IsInOrder rows room index

@@ -16,3 +16,5 @@ pub mod NumberLemmas
 pub mod PlaceLemmas
 pub mod PutLemmas
 pub mod ChainLemmas
+pub mod ExtentLemmas
+pub mod GroupLemmas

@@ -1,6 +1,6 @@
 -- Names that the first cells have, and the rest of them forgotten.
-use Rattle.std.proofs.Common.{◌≡◌, ◌∙◌, ◌+◌, ◌<◌, ◌≤◌, ◌++◌, ◌∷◌, ℕ, zero, suc, List, [], length, length-append, map, max, min, take, slice_get, get_or, Some, refl, ap, sym, subst, arith, add-one}
-use Rattle.std.proofs.lemmas.List.{get_or-take, length-take-le, take-append-le, take-take, take_all}
+use Rattle.std.proofs.Common.{◌≡◌, ◌∙◌, ◌+◌, ◌<◌, ◌≤◌, ◌++◌, ◌∷◌, ℕ, zero, suc, List, [], length, length-append, map, max, min, take, slice_get, Some, refl, ap, sym, subst, arith, add-one}
+use Rattle.std.proofs.lemmas.List.{get_or-take, length-take-le, take-append-le, take-take}
 use Rattle.sample_book.specs.Keys.{AreKnown, AreNamed, AreNumbered, IsNamed, cell_named}
 use Rattle.sample_book.specs.Names.{IsGrown}
 use Rattle.sample_book.specs.declared.cells.Key.{Key}

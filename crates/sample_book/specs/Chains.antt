@@ -3,6 +3,7 @@ use Rattle.std.specs.Prelude.{◌≡◌, ◌<◌, ◌≤◌, ◌+◌, ◌/◌, �
 use Rattle.std.specs.Str.{bytes_eq}
 use Rattle.indexmap.specs.IndexMap.{get, spare}
 use Rattle.sample_book.specs.Counting.{is_of}
+use Rattle.sample_book.specs.Extents.{AreExtents}
 use Rattle.sample_book.specs.declared.chains.Chains.{Chains}
 use Rattle.sample_book.specs.declared.chains.Group.{Group}
 use Rattle.sample_book.specs.declared.row.Cell.{Cell}
@@ -39,13 +40,13 @@ IsLastPlace p rows (Some found) =
     × (found < length rows)
 
 abbrev pub group_eq : Group → Group → Bool
-group_eq a b = bytes_eq a.sli b.sli && nat_eq a.day b.day
+group_eq a b = bytes_eq a.name b.name && nat_eq a.day b.day
 
 abbrev pub day_group : Row → Group
-day_group row = record { sli = row.sli; day = row.minute / 1440 }
+day_group row = record { name = row.sli; day = row.minute / 1440 }
 
 abbrev pub sli_group : Row → Group
-sli_group row = record { sli = row.sli; day = 0 }
+sli_group row = record { name = row.sli; day = 0 }
 
 -- a place and one more, or 0
 abbrev pub link_of : Option ℕ → ℕ
@@ -70,10 +71,12 @@ pub record HasRoomFor (count : ℕ) (chains : Chains) : Type 0 where
 pub record IsIndexed (rows : List Row) (index : RowIndex) : Type 0 where
   pub days : AreLinked (map day_group rows) index.days
   pub slis : AreLinked (map sli_group rows) index.slis
+  pub extents : AreExtents rows index.extents
 
 pub record IsReadyFor (count : ℕ) (index : RowIndex) : Type 0 where
   pub days : HasRoomFor count index.days
   pub slis : HasRoomFor count index.slis
+  pub extents : count ≤ spare index.extents.known
 
 pub record IsInOrder (rows : List Row) (room : List Cell) (index : RowIndex) : Type 0 where
   pub indexed : IsIndexed rows index

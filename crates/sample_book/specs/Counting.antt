@@ -1,11 +1,12 @@
 -- What the current rows of an indicator count for, minute by minute.
-use Rattle.std.specs.Prelude.{◌≡◌, ℕ, Bool, true, List, filter, Option, if◌then◌else◌}
+use Rattle.std.specs.Prelude.{◌≡◌, ◌/◌, ◌==◌, ℕ, Bool, true, List, filter, map, Option, if◌then◌else◌}
 use Rattle.std.specs.List.{find, All}
 use Rattle.std.specs.Str.{bytes_eq}
 use Rattle.exact_fraction.specs.declared.Op.{Op}
 use Rattle.slice_method.specs.declared.Counts.{Counts}
 use Rattle.slice_method.specs.declared.Reading.{Reading}
 use Rattle.slice_method.specs.Readings.{HasForm, IsSmall, counts}
+use Rattle.slo_terms.specs.Rows.{first_of_each}
 use Rattle.slo_terms.specs.Sums.{amount_at}
 use Rattle.sample_book.specs.declared.exclusions.Exclusion.{Exclusion}
 use Rattle.sample_book.specs.declared.row.Row.{Row}
@@ -18,6 +19,10 @@ is_of sli row = bytes_eq row.sli sli
 -- the first current row of an indicator
 abbrev pub first_of : List Row → List ℕ → Option Row
 first_of rows sli = find (is_of sli) rows
+
+-- the days that have a current row of an indicator, each once: day d is the minutes from d * 1440 on
+abbrev pub days_with_rows : List Row → List ℕ → List ℕ
+days_with_rows rows sli = first_of_each (λ a b. a == b) (map (λ (row : Row). row.minute / 1440) (filter (is_of sli) rows))
 
 -- the sums of good and total over the current rows of an indicator at a minute
 abbrev pub counts_of_minute : Reading → Op → ℕ → List Row → List ℕ → ℕ → Counts

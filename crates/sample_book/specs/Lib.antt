@@ -5,8 +5,10 @@ pub mod Keys
 pub mod Standing
 pub mod Stored
 pub mod Exclusions
+pub mod ExclusionGroups
 pub mod Book
 pub mod Counting
 pub mod History
 pub mod Puts
+pub mod Extents
 pub mod Chains

@@ -7,7 +7,7 @@ ghost use Rattle.sample_book.specs.Book.{Book};
 ghost use Rattle.std.specs.List.{AllByRecursion};
 ghost use Rattle.sample_book.specs.Chains.{below, is_on, last_place};
 ghost use Rattle.sample_book.specs.Counting.{HaveForm, IsSmallRow, is_of, counted_in_minute};
-ghost use Rattle.sample_book.specs.Counting.{counts_of_minute, first_of};
+ghost use Rattle.sample_book.specs.Counting.{counts_of_minute, days_with_rows, first_of};
 ghost use Rattle.sample_book.specs.Exclusions.{Excluded, HaveOwnIds, IsLive, Lifted, excludes};
 ghost use Rattle.sample_book.specs.Exclusions.{exclusion_of, is_excluded, lifted};
 ghost use Rattle.sample_book.specs.History.{Came, Changed, Gains, Holds, is_put};
@@ -213,18 +213,28 @@ impl SampleBook {
         self.exclusions.at(place as usize)
     }
 
-    /// Whether a live exclusion of the objective has the minute.
+    /// Whether a live exclusion of the objective has the minute. Where there are more than a few
+    /// exclusions, only those of the objective are looked at that are longer than a day, or begin
+    /// on the minute's day or the day before.
     pub fn is_excluded(&self, slo: Label, minute: u32) -> bool
         ensures { result ≡ is_excluded self.now.exclusions slo minute }
     {
         self.exclusions.is_excluded(slo, minute)
     }
 
-    /// The first current row of an indicator.
+    /// The first current row of an indicator, by a look-up.
     pub fn cell_of(&self, sli: Label) -> Option<Row>
         ensures { result ≡ first_of self.now.rows sli }
     {
-        first_of(&self.rows, sli)
+        first_of(&self.rows, &self.index, sli)
+    }
+
+    /// How many days have a current row of an indicator, by a look-up: day d is the minutes from
+    /// d * 1440 on.
+    pub fn days_of(&self, sli: Label) -> u32
+        ensures { result ≡ length (days_with_rows self.now.rows sli) }
+    {
+        self.index.days_of(sli)
     }
 
     /// The place of the last row of an indicator.

@@ -127,8 +127,8 @@ fn key_of(slis: &Names, sources: &Names, cell: &Cell) -> Option<Key>
     ensures known { IfSome result (IsKeyOf slis.now sources.now cell.now) }
     ensures unknown { IfNone result (HasNoKey slis.now sources.now cell.now) }
 {
-    let sli = slis.find(cell.sli)?;
-    let source = sources.find(cell.source)?;
+    let sli = slis.find(&cell.sli)?;
+    let source = sources.find(&cell.source)?;
     Some(Key {
         sli,
         source,
@@ -142,8 +142,8 @@ fn number_of(slis: &mut Names, sources: &mut Names, cell: &Cell) -> Result<Key, 
     ensures sources { IsGrown sources.old sources.new }
     ensures key { IfOk result (IsKeyOf slis.new sources.new cell.now) }
 {
-    let sli = slis.number(cell.sli)?;
-    let source = sources.number(cell.source)?;
+    let sli = slis.number(&cell.sli)?;
+    let source = sources.number(&cell.source)?;
     Ok(Key {
         sli,
         source,

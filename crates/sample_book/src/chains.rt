@@ -11,10 +11,10 @@ use std::alloc::{AllocError, Global};
 // A place and one more is a `u32`.
 const MOST_ITEMS: usize = 4_294_967_295;
 
-// What links items: an indicator, and a day where it counts.
+// What links items: the name of an indicator or an objective, and a day where it counts.
 #[derive(Clone, Copy, PartialEq, Eq, Hash)]
 pub(crate) struct Group {
-    pub(crate) sli: Label,
+    pub(crate) name: Label,
     pub(crate) day: u32,
 }
 
@@ -39,6 +39,14 @@ impl Chains {
             latest: 0,
             links: Vec::new(alloc),
         }
+    }
+
+    // How many items there are.
+    pub(crate) fn len(&self) -> u32
+        requires few { length self.now.links.items ≤ MOST_ITEMS }
+        ensures { result ≡ length self.now.links.items }
+    {
+        self.links.len() as u32
     }
 
     // One more than the place of the last item of a group, or 0.
@@ -72,10 +80,13 @@ impl Chains {
         self.links.reserve(count)
     }
 
-    // Adds an item behind the others, with no memory.
-    pub(crate) fn push(&mut self, group: Group)
+    // Adds an item behind the others, with no memory. It answers one more than the place of the
+    // item before it of its group, or 0.
+    pub(crate) fn push(&mut self, group: Group) -> u32
         requires room { HasRoomFor 1 self.old }
         requires few { length self.old.links.items < MOST_ITEMS }
+        ensures before { (groups : List Group) → AreLinked groups self.old
+            → result ≡ last (group_eq group) groups }
         ensures linked { (groups : List Group) → AreLinked groups self.old
             → AreLinked (groups ++ group ∷ []) self.new }
         ensures room { (count : ℕ) → HasRoomFor (count + 1) self.old → HasRoomFor count self.new }
@@ -84,6 +95,7 @@ impl Chains {
         let (latest, before) = exchange(&mut self.lasts, self.latest, group, place + 1);
         self.latest = latest;
         self.links.extend_from_slice(&[before]).unwrap();
+        before
     }
 }
 

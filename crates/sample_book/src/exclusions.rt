@@ -1,15 +1,23 @@
 // Stretches of time that are excluded afterwards.
 ghost use Rattle.std.specs.Prelude.{ℕ, List, ◌||◌, ◌≡◌, ◌+◌, ◌<◌, ◌≤◌, ◌++◌, ◌∷◌, [], true, Some};
-ghost use Rattle.std.specs.Prelude.{None, OnOk, length, slice_get};
+ghost use Rattle.std.specs.Prelude.{None, OnOk, length, map, slice_get};
+ghost use Rattle.std.specs.List.{list_any};
+ghost use Rattle.sample_book.specs.Chains.{AreLinked};
 ghost use Rattle.sample_book.specs.Exclusions.{HaveOwnIds, excludes, exclusion_of, is_excluded};
 ghost use Rattle.sample_book.specs.Exclusions.{lifted};
+ghost use Rattle.sample_book.specs.ExclusionGroups.{excludes_on, group_of, group_of_kept};
 
+use crate::chains::{Chains, Group};
+use crate::row_index::DAY_MINUTES;
 use exact_fraction::Label;
 use std::alloc::{AllocError, Global};
 use std::marker::Model;
 
 // A place in the list is a `u32`.
 const MOST_EXCLUSIONS: usize = 4_294_967_295;
+
+// To look at so many exclusions takes no longer than to look up their groups.
+const FEW: usize = 16;
 
 /// The minutes [from, to) of an objective don't count.
 #[derive(Clone, Copy, PartialEq, Eq)]
@@ -24,22 +32,24 @@ pub struct Exclusion {
 pub(crate) struct Exclusions {
     // Each with whether it is live, in the order in which they were made.
     made: Vec<(Exclusion, bool)>,
+    // Those of an objective that begin on one day, each linked to the one before it; and those of
+    // an objective that are longer than a day.
+    groups: Chains,
 }
 
 impl Model for Exclusions {
-    ghost use Rattle.std.specs.Prelude.{◌-◌, vec_capacity, vec_len};
-    ghost use Rattle.sample_book.specs.Exclusions.{AreExclusions, Kept, MOST_EXCLUSIONS};
-    ghost use Rattle.std.specs.Prelude.{min};
+    ghost use Rattle.std.specs.Prelude.{vec_capacity};
+    ghost use Rattle.sample_book.specs.Exclusions.{Kept};
+    ghost use Rattle.sample_book.specs.ExclusionGroups.{AreGrouped, room_left};
 
     ghost Value = { Kept };
 
     ghost view = { λ a. record {
       made = a.made.items;
-      spare = min (vec_capacity a.made)
-          MOST_EXCLUSIONS - vec_len a.made;
+      spare = room_left a.made.items (vec_capacity a.made) a.groups;
     } };
 
-    ghost invariant = { λ a. AreExclusions a.made.items };
+    ghost invariant = { λ a. AreGrouped a.made.items a.groups };
 }
 
 impl Exclusions {
@@ -48,6 +58,7 @@ impl Exclusions {
     {
         Exclusions {
             made: Vec::new(alloc),
+            groups: Chains::new(alloc),
         }
     }
 
@@ -84,13 +95,14 @@ impl Exclusions {
         self.made.get(place).copied()
     }
 
+    // Whether a live exclusion of the objective has the minute.
     pub(crate) fn is_excluded(&self, slo: Label, minute: u32) -> bool
         ensures { result ≡ is_excluded self.now.made slo minute }
     {
-        self.made.iter().any(|kept| kept.1
-            && kept.0.slo == slo
-            && kept.0.from <= minute
-            && minute < kept.0.to)
+        if self.made.len() <= FEW {
+            return self.made.iter().any(|kept| excludes(kept, slo, minute));
+        }
+        is_excluded(&self.made, &self.groups, slo, minute)
     }
 
     pub(crate) fn reserve(&mut self, places: usize) -> Result<(), AllocError>
@@ -100,6 +112,7 @@ impl Exclusions {
         if MOST_EXCLUSIONS - self.made.len() < places {
             return Err(AllocError);
         }
+        self.groups.reserve(places)?;
         self.made.reserve(places)
     }
 
@@ -110,6 +123,7 @@ impl Exclusions {
         ensures made { self.new.made ≡ self.old.made ++ (value, true) ∷ [] }
         ensures spare { self.old.spare ≤ self.new.spare + 1 }
     {
+        self.groups.push(group_of(&value));
         self.made.extend_from_slice(&[(value, true)]).unwrap();
     }
 
@@ -126,4 +140,62 @@ impl Exclusions {
             kept.1 &= kept.0.id != id;
         }
     }
+}
+
+// Whether an exclusion is live and takes the minute from the objective.
+fn excludes(kept: &(Exclusion, bool), slo: Label, minute: u32) -> bool
+    ensures { result ≡ excludes slo minute kept.now }
+{
+    kept.1 && kept.0.slo == slo && kept.0.from <= minute && minute < kept.0.to
+}
+
+// With which others an exclusion is linked: the longer ones have no day, and the days are counted
+// from 1.
+fn group_of(value: &Exclusion) -> Group
+    ensures { result ≡ group_of value.now }
+{
+    let day = if value.to.saturating_sub(value.from) <= DAY_MINUTES {
+        value.from / DAY_MINUTES + 1
+    } else {
+        0
+    };
+    Group {
+        name: value.slo,
+        day,
+    }
+}
+
+// Whether a live exclusion of the objective has the minute: it is longer than a day, or begins on
+// the minute's day or the day before.
+fn is_excluded(made: &[(Exclusion, bool)], groups: &Chains, slo: Label, minute: u32) -> bool
+    requires { AreLinked (map group_of_kept made.now) groups.now }
+    ensures { result ≡ is_excluded made.now slo minute }
+{
+    let day = minute / DAY_MINUTES;
+    let long = one_excludes(made, groups, slo, 0, minute);
+    let before = one_excludes(made, groups, slo, day, minute);
+    let own = one_excludes(made, groups, slo, day + 1, minute);
+    long | before | own
+}
+
+// Whether one of a group of exclusions has the minute, from the last of the group on.
+fn one_excludes(
+    made: &[(Exclusion, bool)],
+    groups: &Chains,
+    slo: Label,
+    day: u32,
+    minute: u32,
+) -> bool
+    requires { AreLinked (map group_of_kept made.now) groups.now }
+    ensures { result ≡ list_any (excludes_on slo day minute) made.now }
+{
+    let mut next = groups.last(Group { name: slo, day });
+    while 0 < next {
+        let place = next as usize - 1;
+        if excludes(&made[place], slo, minute) {
+            return true;
+        }
+        next = groups.before(place);
+    }
+    false
 }

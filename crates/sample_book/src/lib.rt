@@ -10,6 +10,7 @@ mod cells;
 mod chains;
 mod current_rows;
 mod exclusions;
+mod extents;
 mod laws;
 mod names;
 mod places;

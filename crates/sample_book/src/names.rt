@@ -16,7 +16,7 @@ const MOST_NAMES: usize = 4_294_967_296;
 #[derive(Drop)]
 pub(crate) struct Names {
     set: IndexSet<Label>,
-    // The number that was given last, and the one that came after each number last time. Rows come
+    // The number that was used last, and the one that came after each number last time. Rows come
     // source after source, so these are tried before a look-up; nothing rests on them.
     latest: u32,
     followers: Vec<u32>,
@@ -45,13 +45,13 @@ impl Names {
     }
 
     // Whether a name has this number.
-    fn is_at(&self, number: u32, name: Label) -> bool
-        ensures number { result ≡ true → position (bytes_eq name) self.now ≡ Some number }
+    fn is_at(&self, number: u32, name: &Label) -> bool
+        ensures number { result ≡ true → position (bytes_eq name.now) self.now ≡ Some number }
         ensures distinct { IsDistinct bytes_eq self.now }
     {
         let set = &self.set;
         match set.get_index(number as usize) {
-            Some(there) => *there == name,
+            Some(there) => *there == *name,
             None => false,
         }
     }
@@ -65,18 +65,18 @@ impl Names {
     }
 
     // The number of a name that came.
-    pub(crate) fn find(&self, name: Label) -> Option<u32>
-        ensures number { result ≡ position (bytes_eq name) self.now }
+    pub(crate) fn find(&self, name: &Label) -> Option<u32>
+        ensures number { result ≡ position (bytes_eq name.now) self.now }
         ensures distinct { IsDistinct bytes_eq self.now }
     {
-        if self.is_at(self.latest, name) {
-            return Some(self.latest);
-        }
         let guess = self.follower();
         if self.is_at(guess, name) {
             return Some(guess);
         }
-        let number = self.set.get_index_of(&name)?;
+        if self.is_at(self.latest, name) {
+            return Some(self.latest);
+        }
+        let number = self.set.get_index_of(name)?;
         Some(number as u32)
     }
 
@@ -84,9 +84,6 @@ impl Names {
     fn note(&mut self, number: u32)
         ensures { self.new ≡ self.old }
     {
-        if number == self.latest {
-            return;
-        }
         if let Some(follower) = self.followers.get_mut(self.latest as usize) {
             *follower = number;
         }
@@ -102,9 +99,10 @@ impl Names {
     }
 
     // The number of a name, which gets one where it has none.
-    pub(crate) fn number(&mut self, name: Label) -> Result<u32, AllocError>
+    pub(crate) fn number(&mut self, name: &Label) -> Result<u32, AllocError>
         ensures grown { IsGrown self.old self.new }
-        ensures number { IfOk result (λ number. position (bytes_eq name) self.new ≡ Some number) }
+        ensures number { IfOk result
+            (λ number. position (bytes_eq name.now) self.new ≡ Some number) }
         ensures distinct { IsDistinct bytes_eq self.new }
     {
         let number = match self.find(name) {
@@ -126,9 +124,10 @@ impl Names {
     }
 
     // Gives a name a number, where it has none.
-    fn add(&mut self, name: Label) -> Result<u32, AllocError>
+    fn add(&mut self, name: &Label) -> Result<u32, AllocError>
         ensures grown { IsGrown self.old self.new }
-        ensures number { IfOk result (λ number. position (bytes_eq name) self.new ≡ Some number) }
+        ensures number { IfOk result
+            (λ number. position (bytes_eq name.now) self.new ≡ Some number) }
         ensures distinct { IsDistinct bytes_eq self.new }
     {
         let count = self.set.len();
@@ -136,7 +135,7 @@ impl Names {
             return Err(AllocError);
         }
         make_follower(&mut self.followers, count)?;
-        let (number, _) = self.set.insert_full(name)?;
+        let (number, _) = self.set.insert_full(*name)?;
         Ok(number as u32)
     }
 }

@@ -1,10 +1,12 @@
 // Where the rows of an indicator stand, and those of an indicator on a day.
 ghost use Rattle.std.specs.Prelude.{◌/◌, ◌≡◌, ◌<◌, ◌≤◌, ◌+◌, ◌++◌, ◌∷◌, [], ℕ, List, Some, OnOk};
 ghost use Rattle.std.specs.Prelude.{length, slice_get, take};
+ghost use Rattle.std.specs.List.{position};
 ghost use Rattle.sample_book.specs.Chains.{IsIndexed, IsReadyFor, is_on, last};
-ghost use Rattle.sample_book.specs.Counting.{is_of};
+ghost use Rattle.sample_book.specs.Counting.{days_with_rows, is_of};
 
 use crate::chains::{Chains, Group};
+use crate::extents::Extents;
 use crate::row::Row;
 use exact_fraction::Label;
 use std::alloc::{AllocError, Global};
@@ -18,6 +20,8 @@ pub(crate) struct RowIndex {
     pub(crate) days: Chains,
     // By indicator alone: each group has the day 0.
     pub(crate) slis: Chains,
+    // Of each indicator its first row, and on how many days it has rows.
+    pub(crate) extents: Extents,
 }
 
 impl RowIndex {
@@ -28,6 +32,7 @@ impl RowIndex {
         RowIndex {
             days: Chains::new(alloc),
             slis: Chains::new(alloc),
+            extents: Extents::new(alloc),
         }
     }
 
@@ -35,7 +40,7 @@ impl RowIndex {
     pub(crate) fn last_on_day(&self, sli: Label, day: u32) -> u32
         ensures { (rows : List Row) → IsIndexed rows self.now → result ≡ last (is_on sli day) rows }
     {
-        self.days.last(Group { sli, day })
+        self.days.last(Group { name: sli, day })
     }
 
     // The same of the rows before a place, for the indicator and day of the row there.
@@ -52,7 +57,7 @@ impl RowIndex {
     pub(crate) fn last_of(&self, sli: Label) -> u32
         ensures { (rows : List Row) → IsIndexed rows self.now → result ≡ last (is_of sli) rows }
     {
-        self.slis.last(Group { sli, day: 0 })
+        self.slis.last(Group { name: sli, day: 0 })
     }
 
     // The same of the rows before a place, for the indicator of the row there.
@@ -64,13 +69,29 @@ impl RowIndex {
         self.slis.before(place)
     }
 
+    // The place of the first row of an indicator.
+    pub(crate) fn first_of(&self, sli: Label) -> Option<u32>
+        ensures { (rows : List Row) → IsIndexed rows self.now → result ≡ position (is_of sli) rows }
+    {
+        self.extents.first_of(sli)
+    }
+
+    // On how many days an indicator has rows.
+    pub(crate) fn days_of(&self, sli: Label) -> u32
+        ensures { (rows : List Row) → IsIndexed rows self.now
+            → result ≡ length (days_with_rows rows sli) }
+    {
+        self.extents.days_of(sli)
+    }
+
     pub(crate) fn reserve(&mut self, count: usize) -> Result<(), AllocError>
         ensures indexed { (rows : List Row) → IsIndexed rows self.old → IsIndexed rows self.new }
         ensures ready { OnOk result (IsReadyFor count self.new) }
         ensures stays { (fewer : ℕ) → IsReadyFor fewer self.old → IsReadyFor fewer self.new }
     {
         self.days.reserve(count)?;
-        self.slis.reserve(count)
+        self.slis.reserve(count)?;
+        self.extents.reserve(count)
     }
 
     // Adds a row behind the others, with no memory.
@@ -81,13 +102,17 @@ impl RowIndex {
             → IsIndexed (rows ++ row.now ∷ []) self.new }
         ensures ready { (count : ℕ) → IsReadyFor (count + 1) self.old → IsReadyFor count self.new }
     {
-        self.days.push(Group {
-            sli: row.sli,
+        let place = self.slis.len();
+        let before = self.days.push(Group {
+            name: row.sli,
             day: row.minute / DAY_MINUTES,
         });
         self.slis.push(Group {
-            sli: row.sli,
+            name: row.sli,
             day: 0,
         });
+        if before == 0 {
+            self.extents.add_day(row.sli, place);
+        }
     }
 }

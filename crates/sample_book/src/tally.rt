@@ -12,16 +12,14 @@ use exact_fraction::{Decimal, Label, Op};
 use slice_method::{Counts, Reading, counts_of};
 
 // The first row of an indicator.
-pub(crate) fn first_of(rows: &CurrentRows, sli: Label) -> Option<Row>
+pub(crate) fn first_of(rows: &CurrentRows, index: &RowIndex, sli: Label) -> Option<Row>
+    requires { IsIndexed rows.now.rows index.now }
     ensures { result ≡ first_of rows.now.rows sli }
 {
-    for place in 0..rows.len() {
-        let row = rows.row(place as usize);
-        if row.sli == sli {
-            return Some(row);
-        }
+    match index.first_of(sli) {
+        Some(place) => rows.at(place as usize),
+        None => None,
     }
-    None
 }
 
 // The sums over the rows of an indicator at a minute: only the rows of its day are looked at.

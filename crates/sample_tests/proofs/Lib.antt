@@ -1,1 +1,2 @@
 pub mod ExchangedCounts
+pub mod HeldEvents

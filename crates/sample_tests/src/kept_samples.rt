@@ -1,20 +1,24 @@
 //! Rows and exclusions that come to a book, and that each call succeeds, which no clause says.
+ghost use Rattle.std.specs.Prelude.{◌≡◌, []};
+
 use exact_fraction::{Label, read_label};
 use sample_book::{Amount, Exclusion, Row, RowVerdict, SampleBook};
 use std::alloc::{AllocError, Global};
 use std::process::Abort;
 use std::slice;
 
-fn label(rt: &impl Abort, text: &[u8]) -> Label {
+pub(crate) fn label(rt: &impl Abort, text: &[u8]) -> Label {
     read_label(text).expect(rt, "a label")
 }
 
-fn empty_book(rt: &impl Abort, alloc: Global) -> SampleBook {
+pub(crate) fn empty_book(rt: &impl Abort, alloc: Global) -> SampleBook
+    ensures { result.rows ≡ [] }
+{
     SampleBook::new(alloc).expect(rt, "memory")
 }
 
 // Ends a book. The proof that all of it is let go is long, so it stands once, for all tests.
-fn let_go(_book: SampleBook) {}
+pub(crate) fn let_go(_book: SampleBook) {}
 
 fn row(web: Label, revision: u32, part: u32) -> Row {
     Row {
@@ -142,7 +146,9 @@ fn rows_of_a_day_are_found(rt: HostRuntime) {
 }
 
 // Makes an exclusion as a caller does, where its id is unused.
-fn exclude(book: &mut SampleBook, id: Label, slo: Label, from: u32, to: u32) -> bool {
+pub(crate) fn exclude(book: &mut SampleBook, id: Label, slo: Label, from: u32, to: u32) -> bool
+    ensures { book.new.rows ≡ book.old.rows }
+{
     if book.exclusion(id).is_none() && book.reserve(1).is_ok() {
         book.exclude(Exclusion { id, slo, from, to });
         true
@@ -152,7 +158,9 @@ fn exclude(book: &mut SampleBook, id: Label, slo: Label, from: u32, to: u32) -> 
 }
 
 // Lifts an exclusion as a caller does, where it is live.
-fn lift(book: &mut SampleBook, id: Label) -> bool {
+pub(crate) fn lift(book: &mut SampleBook, id: Label) -> bool
+    ensures { book.new.rows ≡ book.old.rows }
+{
     match book.exclusion(id) {
         Some((_, true)) => {
             book.lift(id);
@@ -163,7 +171,7 @@ fn lift(book: &mut SampleBook, id: Label) -> bool {
 }
 
 // Whether exactly those of these minutes are excluded whose flag says so.
-fn agrees(book: &SampleBook, slo: Label, minutes: &[(u32, bool)]) -> bool {
+pub(crate) fn agrees(book: &SampleBook, slo: Label, minutes: &[(u32, bool)]) -> bool {
     minutes
         .iter()
         .all(|minute| book.is_excluded(slo, minute.0) == minute.1)
@@ -213,9 +221,14 @@ fn overlapping_exclusions_are_lifted_one_by_one(rt: HostRuntime) {
     let mut book = empty_book(&rt, rt.alloc());
     assert!(rt; exclude_both(&mut book, slo, other));
     assert!(rt; lifts_one_by_one(&mut book, slo, other));
-    assert!(rt;
-        book.exclusions() == 2 && book.exclusion_at(0).is_some() && book.exclusion_at(2).is_none()
-    );
+    let first = Exclusion {
+        id: slo,
+        slo,
+        from: 100,
+        to: 110,
+    };
+    assert!(rt; book.exclusion_at(0) == Some((first, false)) && book.exclusions() == 2);
+    assert!(rt; book.exclusion_at(2).is_none());
     let_go(book);
 }
 

@@ -10,6 +10,8 @@ mod alert_lines;
 #[cfg(test)]
 mod burn_rates;
 #[cfg(test)]
+mod counted_minutes;
+#[cfg(test)]
 mod kept_samples;
 #[cfg(test)]
 mod leaf_pages;

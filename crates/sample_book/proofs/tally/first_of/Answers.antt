@@ -1,12 +1,11 @@
 use Rattle.std.proofs.Common.{◌∙◌, sym}
 use Rattle.sample_book.specs.Counting.{is_of}
-use Rattle.sample_book.proofs.TallyLemmas.{found_at, passed_at}
+use Rattle.sample_book.proofs.ExtentLemmas.{find-position, none-position}
 use Rattle.sample_book.proofs.tally.first_of.Goals as goal
 
-pub returns-then-eq : goal.returns-then-eq
-returns-then-eq c =
-    sym (found_at (is_of c.args.sli) c.args.rows.now.rows c.loop-place.place c.row-row.result c.row-row.ensures (sym c.eq.ensures ∙ c.if-eq.true)) ∙ c.loop-place.invariant
+pub returns-in-Some : goal.returns-in-Some
+returns-in-Some c =
+    c.at.ensures ∙ find-position (is_of c.args.sli) c.args.rows.now.rows c.in-Some.place (sym c.in-Some.is ∙ c.first_of.ensures c.args.rows.now.rows c.requires)
 
-pub loop-place-preserved : goal.loop-place-preserved
-loop-place-preserved c =
-    passed_at (is_of c.args.sli) c.args.rows.now.rows c.loop-place.place c.row-row.result c.row-row.ensures (sym c.eq.ensures ∙ c.if-eq.false) ∙ c.loop-place.invariant
+pub returns-in-None : goal.returns-in-None
+returns-in-None c = sym (none-position (is_of c.args.sli) c.args.rows.now.rows (sym c.in-None.is ∙ c.first_of.ensures c.args.rows.now.rows c.requires))

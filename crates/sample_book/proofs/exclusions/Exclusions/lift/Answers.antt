@@ -3,6 +3,7 @@ use Rattle.std.proofs.lemmas.Grind.{common_steps}
 use Rattle.std.proofs.lemmas.List.Edits.{map_over_more}
 use Rattle.sample_book.specs.declared.exclusions.Exclusion.{Exclusion}
 use Rattle.sample_book.specs.Exclusions.{Kept, has_id, lifted}
+use Rattle.sample_book.proofs.GroupLemmas.{grouped_lifted}
 use Rattle.sample_book.proofs.IdLemmas.{exclusions_lifted, excluded_lifted}
 use Rattle.sample_book.proofs.exclusions.Exclusions.lift.Goals as goal
 
@@ -20,8 +21,9 @@ written : (c : goal.After-self-1) → take c.self.inside.made.len (c.loop-kept.k
 written c = grind (arith, common_steps)
 
 pub invariant_of-self : goal.invariant_of-self
-invariant_of-self c = exclusions_lifted c.self.inside.made.items _ c.args.id c.self.invariant (written c)
+invariant_of-self c =
+    grouped_lifted c.self.inside.made.items _ c.args.id c.self.inside.groups c.self.invariant (exclusions_lifted c.self.inside.made.items _ c.args.id c.self.invariant.exclusions (written c)) (written c)
 
 pub returns-clause-minutes : goal.returns-clause-minutes
 returns-clause-minutes c value slo minute found =
-    excluded_lifted c.args.self.now c.self.inside.made.items _ c.args.id value slo minute (ap (λ (k : Kept). k.made) c.self.view_is) c.self.invariant (written c) found
+    excluded_lifted c.args.self.now c.self.inside.made.items _ c.args.id value slo minute (ap (λ (k : Kept). k.made) c.self.view_is) c.self.invariant.exclusions (written c) found

@@ -7,7 +7,7 @@ use Rattle.sample_book.proofs.names.Names.add.Goals as goal
 
 pub returns-clause-number : goal.returns-clause-number
 returns-clause-number c =
-    let name = c.args.name in
+    let name = c.args.name.now in
     let before = c.self.inside.set.keys in
     let within = subst (λ (names : List (List ℕ)). c.in_ok-number.number < length names) c.in_ok-number.ensures.keys c.in_ok-number.ensures.within in
     ap (position (bytes_eq name)) c.in_ok-number.ensures.keys

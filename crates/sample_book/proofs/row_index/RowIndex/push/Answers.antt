@@ -1,26 +1,67 @@
-use Rattle.std.proofs.Common.{arith, map, subst, sym}
+use Rattle.std.proofs.Common.{◌≡◌, ◌∙◌, ◌/◌, ◌<◌, arith, map, subst, sym, refl, length}
 use Rattle.std.proofs.lemmas.List.{map_push}
-use Rattle.sample_book.specs.Chains.{AreLinked, day_group, sli_group}
-use Rattle.sample_book.proofs.ChainLemmas.{linked-length}
+use Rattle.sample_book.specs.Chains.{AreLinked, day_group, group_eq, is_on, last, sli_group}
+use Rattle.sample_book.proofs.ChainLemmas.{day-test, last-map, linked-length}
+use Rattle.sample_book.proofs.ExtentLemmas.{extents_same}
 use Rattle.sample_book.proofs.row_index.RowIndex.push.Goals as goal
 
+pub len-place-requires : goal.len-place-requires
+len-place-requires c = omega (arith, c.requires.few.2, linked-length c.requires.few.0 sli_group c.args.self.now.slis c.requires.few.1.slis)
+
+pub push-before-requires-clause-few : goal.push-before-requires-clause-few
+push-before-requires-clause-few c = omega (arith, c.requires.few.2, linked-length c.requires.few.0 day_group c.args.self.now.days c.requires.few.1.days)
+
 pub push-requires-clause-few : goal.push-requires-clause-few
-push-requires-clause-few c = omega (arith, c.requires.few.2, linked-length c.requires.few.0 day_group c.args.self.now.days c.requires.few.1.days)
+push-requires-clause-few c = omega (arith, c.requires.few.2, linked-length c.requires.few.0 sli_group c.args.self.now.slis c.requires.few.1.slis)
 
-pub push-requires-2-clause-few : goal.push-requires-2-clause-few
-push-requires-2-clause-few c = omega (arith, c.requires.few.2, linked-length c.requires.few.0 sli_group c.args.self.now.slis c.requires.few.1.slis)
+pub add_day-requires-clause-few : goal.add_day-requires-clause-few
+add_day-requires-clause-few c = omega (arith, c.len-place.ensures, c.requires.few.2, linked-length c.requires.few.0 sli_group c.args.self.now.slis c.requires.few.1.slis)
 
-pub returns-clause-ready : goal.returns-clause-ready
-returns-clause-ready c count ready = record { days = c.push.ensures.room count ready.days; slis = c.push-2.ensures.room count ready.slis }
+pub add_day-requires-clause-room : goal.add_day-requires-clause-room
+add_day-requires-clause-room c = omega (arith, c.requires.ready.extents)
+
+pub push-before-requires-clause-room : goal.push-before-requires-clause-room
+push-before-requires-clause-room c = c.requires.ready.days
 
 pub push-requires-clause-room : goal.push-requires-clause-room
-push-requires-clause-room c = c.requires.ready.days
+push-requires-clause-room c = c.requires.ready.slis
 
-pub push-requires-2-clause-room : goal.push-requires-2-clause-room
-push-requires-2-clause-room c = c.requires.ready.slis
-
-pub returns-clause-indexed : goal.returns-clause-indexed
-returns-clause-indexed c rows indexed = record {
-  days = subst (λ groups. AreLinked groups c.push.new.self) (sym (map_push day_group rows c.args.row.now)) (c.push.ensures.linked (map day_group rows) indexed.days);
-  slis = subst (λ groups. AreLinked groups c.push-2.new.self) (sym (map_push sli_group rows c.args.row.now)) (c.push-2.ensures.linked (map sli_group rows) indexed.slis);
+pub returns-then-before-eq0-clause-ready : goal.returns-then-before-eq0-clause-ready
+returns-then-before-eq0-clause-ready c count ready = record {
+  days = c.push-before.ensures.room count ready.days;
+  slis = c.push.ensures.room count ready.slis;
+  extents = omega (arith, c.add_day.ensures.room, ready.extents);
 }
+
+pub returns-else-before-eq0-clause-ready : goal.returns-else-before-eq0-clause-ready
+returns-else-before-eq0-clause-ready c count ready = record {
+  days = c.push-before.ensures.room count ready.days;
+  slis = c.push.ensures.room count ready.slis;
+  extents = omega (arith, ready.extents);
+}
+
+pub returns-then-before-eq0-clause-indexed : goal.returns-then-before-eq0-clause-indexed
+returns-then-before-eq0-clause-indexed c rows indexed =
+    let row = c.args.row.now in
+    let place : c.len-place.result ≡ length rows = c.len-place.ensures ∙ linked-length rows sli_group c.args.self.now.slis indexed.slis in
+    let before : c.push-before.result ≡ last (is_on row.sli (row.minute / 1440)) rows =
+    c.push-before.ensures.before (map day_group rows) indexed.days
+    ∙ last-map day_group (group_eq (day_group row)) (is_on row.sli (row.minute / 1440)) (day-test row.sli (row.minute / 1440)) rows in
+    record {
+      days = subst (λ groups. AreLinked groups c.push-before.new.self) (sym (map_push day_group rows row)) (c.push-before.ensures.linked (map day_group rows) indexed.days);
+      slis = subst (λ groups. AreLinked groups c.push.new.self) (sym (map_push sli_group rows row)) (c.push.ensures.linked (map sli_group rows) indexed.slis);
+      extents = c.add_day.ensures.known rows row indexed.extents refl place (sym before ∙ omega (arith, c.if-before-eq0.true));
+    }
+
+pub returns-else-before-eq0-clause-indexed : goal.returns-else-before-eq0-clause-indexed
+returns-else-before-eq0-clause-indexed c rows indexed =
+    let row = c.args.row.now in
+    let before : c.push-before.result ≡ last (is_on row.sli (row.minute / 1440)) rows =
+    c.push-before.ensures.before (map day_group rows) indexed.days
+    ∙ last-map day_group (group_eq (day_group row)) (is_on row.sli (row.minute / 1440)) (day-test row.sli (row.minute / 1440)) rows in
+    let some : 0 < c.push-before.result = omega (arith, c.if-before-eq0.false) in
+    record {
+      days = subst (λ groups. AreLinked groups c.push-before.new.self) (sym (map_push day_group rows row)) (c.push-before.ensures.linked (map day_group rows) indexed.days);
+      slis = subst (λ groups. AreLinked groups c.push.new.self) (sym (map_push sli_group rows row)) (c.push.ensures.linked (map sli_group rows) indexed.slis);
+      extents = extents_same rows row c.args.self.now.extents c.push-before.result indexed.extents before some;
+    }
