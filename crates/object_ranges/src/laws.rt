@@ -1,4 +1,4 @@
-//! The laws of ranges.
+//! The laws of ranges, and of kinds and bodies.
 ghost use Rattle.std.specs.Prelude.{◌≡◌, Some};
 ghost use Rattle.slo_objects.specs.declared.Object.{Object};
 ghost use Rattle.slo_objects.specs.declared.Slo.{Slo};
@@ -6,6 +6,7 @@ ghost use Rattle.slo_objects.specs.declared.AlertCondition.{AlertCondition};
 ghost use Rattle.slo_objects.specs.AlertCondition.{condition_in};
 ghost use Rattle.slo_objects.specs.Document.{IsOfDocument};
 ghost use Rattle.slo_objects.specs.Slo.{slo_in};
+ghost use Rattle.object_ranges.specs.Kinds.{kind_of};
 ghost use Rattle.object_ranges.specs.Ranges.{HasObjectives, IsCondition, IsWindow};
 
 use slo_objects::each_object_reads_back;
@@ -32,6 +33,13 @@ pub fn windows_are_in_range()
 pub fn conditions_are_in_range()
     ensures { (o : Object) (c : AlertCondition) → IsOfDocument o → condition_in o.body ≡ Some c
         → IsCondition c.condition }
+{
+    each_object_reads_back();
+}
+
+/// The body of an object of a document is of the object's kind.
+pub fn bodies_are_of_their_kinds()
+    ensures { (o : Object) → IsOfDocument o → kind_of o.body ≡ o.kind }
 {
     each_object_reads_back();
 }

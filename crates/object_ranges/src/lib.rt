@@ -6,7 +6,10 @@
 mod laws;
 mod named;
 
-pub use laws::{conditions_are_in_range, objectives_are_in_range, windows_are_in_range};
+pub use laws::{
+    bodies_are_of_their_kinds, conditions_are_in_range, objectives_are_in_range,
+    windows_are_in_range,
+};
 pub use named::{
     conditions_give_rules, measures_are_in_range, named_windows_are_in_range,
     objectives_give_measures, rules_are_in_range,

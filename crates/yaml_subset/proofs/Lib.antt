@@ -8,6 +8,7 @@ pub mod FrameLemmas
 pub mod OpenViewLemmas
 pub mod ReaderLemmas
 pub mod ReadLemmas
+pub mod FaultLemmas
 pub mod KeyLemmas
 pub mod StandingBytes
 pub mod PlaceLemmas

@@ -1,14 +1,38 @@
--- The open nodes: closing them gives the node, and one more mark at the end is one step.
-use Rattle.std.proofs.Common.{◌≡◌, ℕ, zero, suc, Bool, true, false, List, [], ◌∷◌, ◌++◌, Option, Some, None, cond, map, option_map, refl, sym, ap, ◌∙◌}
+-- The open nodes: closing them gives the nodes that the marks stand for.
+use Rattle.std.proofs.Common.{◌≡◌, ℕ, zero, suc, Bool, true, false, List, [], ◌∷◌, ◌++◌, Option, Some, None, cond, map, option_map, refl, sym, ap, ◌∙◌, append_assoc, append-nil}
 use Rattle.std.specs.Option.{option_and_then}
 use Rattle.std.specs.List.{fold}
 use Rattle.std.proofs.lemmas.List.Sums.{fold-append}
 use Rattle.yaml_subset.specs.Tree.{Tree, scalar}
 use Rattle.yaml_subset.specs.Mark.{Mark, start, dash, key, value, header, raw, Child}
-use Rattle.yaml_subset.specs.Block.{block_text}
+use Rattle.yaml_subset.specs.Block.{block_text, Block, no_lines, with_line}
 use Rattle.yaml_subset.specs.Profile.{max_depth, has_room, Pieces, last_piece, piece, is_next, with_first, pieces, with_child, is_repeated, children, collection, behind, raw_lines, is_shallow, leaf, node, documents}
-use Rattle.yaml_subset.specs.OpenNodes.{Block, no_lines, with_line, Open, nothing, inline, block, within, closed, open_leaf, open_pieces, open_behind, opened, open_nodes, finished, begun, added, add}
-use Rattle.yaml_subset.proofs.BlockLemmas.{ended-fold}
+use Rattle.yaml_subset.specs.OpenNodes.{Open, nothing, inline, block, within, closed, open_nodes, finished, begun, added, add, add_all}
+
+-- FROM THE OUTSIDE IN
+
+-- the open nodes of a node, read as the node is: all pieces but the last are finished
+abbrev open_leaf : ℕ → Mark → List Mark → Option Open
+open_leaf d (value n x) [] = cond (is_shallow d x) (Some (inline x)) None
+open_leaf d (header n s) ms = option_map (λ ls. block (fold with_line (no_lines s) ls)) (raw_lines ms)
+open_leaf d _ _ = None
+
+abbrev open_pieces : (Mark → List Mark → Option (Option Tree)) → (Mark → List Mark → Option Open) → List Child → Pieces → Option Open
+open_pieces inside last done (last_piece h ms) = cond (is_repeated h done) None (option_map (within h done) (last h ms))
+open_pieces inside last done (piece h ms ps) = cond (is_repeated h done) None (option_and_then (λ x. open_pieces inside last (with_child done h x) ps) (inside h ms))
+
+abbrev open_behind : (Mark → List Mark → Option Open) → Mark → List Mark → Option Open
+open_behind opened h [] = Some nothing
+open_behind opened h (m ∷ ms) = cond (has_room h m) (opened m ms) None
+
+abbrev opened : ℕ → Mark → List Mark → Option Open
+opened zero m ms = open_leaf zero m ms
+opened (suc d) (key n k) ms = open_pieces (behind (node d)) (open_behind (opened d)) [] (pieces (key n k) ms)
+opened (suc d) (dash n) ms = open_pieces (behind (node d)) (open_behind (opened d)) [] (pieces (dash n) ms)
+opened (suc d) m ms = open_leaf (suc d) m ms
+
+abbrev from_outside : List Mark → Option Open
+from_outside ms = open_pieces (behind (node max_depth)) (open_behind (opened max_depth)) [] (pieces start ms)
 
 -- one more mark at the end of the last piece, or a piece of its own
 abbrev snoc : Mark → Pieces → Pieces
@@ -63,7 +87,7 @@ leaf_closed d (header n s) ms = by_lines (raw_lines ms)
   where
     by_lines : (o : Option (List (List ℕ))) → option_map Some (option_map (λ ls. scalar (block_text s ls) false) o) ≡ option_map closed (option_map (λ ls. block (fold with_line (no_lines s) ls)) o)
     by_lines None = refl
-    by_lines (Some ls) = ap (λ (t : List ℕ). Some (Some (scalar t false))) (sym (ended-fold s ls))
+    by_lines (Some ls) = refl
 leaf_closed d (raw l) ms = refl
 
 behind_closed : (node_of : Mark → List Mark → Option Tree) (open_of : Mark → List Mark → Option Open)
@@ -85,8 +109,8 @@ node_closed (suc d) (header n s) ms = leaf_closed (suc d) (header n s) ms
 node_closed (suc d) (raw l) ms = refl
 
 -- the nodes of a text's documents are its open nodes, closed
-pub documents_closed : (ms : List Mark) → documents ms ≡ option_map finished (open_nodes ms)
-documents_closed ms = children_closed (behind (node max_depth)) (open_behind (opened max_depth)) (map (λ c. c.tree)) finished (behind_closed (node max_depth) (opened max_depth) (node_closed max_depth)) (λ h done i. refl) [] (pieces start ms)
+documents_outside : (ms : List Mark) → documents ms ≡ option_map finished (from_outside ms)
+documents_outside ms = children_closed (behind (node max_depth)) (open_behind (opened max_depth)) (map (λ c. c.tree)) finished (behind_closed (node max_depth) (opened max_depth) (node_closed max_depth)) (λ h done i. refl) [] (pieces start ms)
 
 -- ONE MORE MARK
 
@@ -203,6 +227,36 @@ opened-snoc (suc d) (header n s) ms h m = leaf-snoc (suc d) (header n s) ms h m
 opened-snoc (suc d) (raw l) ms h m = leaf-snoc (suc d) (raw l) ms h m
 
 -- the open nodes after one more mark
-pub open_nodes-snoc : (ms : List Mark) (m : Mark) → open_nodes (ms ++ (m ∷ [])) ≡ option_and_then (add m) (open_nodes ms)
-open_nodes-snoc ms m = rw (pieces-snoc start ms m)
+outside-snoc : (ms : List Mark) (m : Mark) → from_outside (ms ++ (m ∷ [])) ≡ option_and_then (add m) (from_outside ms)
+outside-snoc ms m = rw (pieces-snoc start ms m)
     (open_pieces-snoc (behind (node max_depth)) (open_behind (opened max_depth)) max_depth (behind_closed (node max_depth) (opened max_depth) (node_closed max_depth)) (λ g. refl) (behind-snoc (opened max_depth) max_depth (begun_is max_depth) (opened-snoc max_depth)) [] (pieces start ms) m start)
+
+option_and_then-assoc : {A B C : Type 0} (f : A → Option B) (g : B → Option C) (o : Option A) → option_and_then g (option_and_then f o) ≡ option_and_then (λ x. option_and_then g (f x)) o
+option_and_then-assoc f g None = refl
+option_and_then-assoc f g (Some x) = refl
+
+outside-append : (ms ns : List Mark) → from_outside (ms ++ ns) ≡ option_and_then (add_all ns) (from_outside ms)
+outside-append ms [] = rw append-nil (at_end (from_outside ms))
+  where
+    at_end : (o : Option Open) → o ≡ option_and_then (add_all []) o
+    at_end None = refl
+    at_end (Some x) = refl
+outside-append ms (n ∷ ns) = ap from_outside (sym (append_assoc ms (n ∷ []) ns)) ∙ outside-append (ms ++ (n ∷ [])) ns ∙ ap (option_and_then (add_all ns)) (outside-snoc ms n) ∙ option_and_then-assoc (add n) (add_all ns) (from_outside ms)
+
+-- MARK BY MARK
+
+-- the nodes of a text's documents are its open nodes, closed
+pub documents_closed : (ms : List Mark) → documents ms ≡ option_map finished (open_nodes ms)
+documents_closed ms = documents_outside ms ∙ ap (option_map finished) (outside-append [] ms)
+
+add_all-append : (ms ns : List Mark) (o : Open) → add_all (ms ++ ns) o ≡ option_and_then (add_all ns) (add_all ms o)
+add_all-append [] ns o = refl
+add_all-append (m ∷ ms) ns o = behind_one (add m o) (λ q. add_all-append ms ns q)
+  where
+    behind_one : (p : Option Open) → ((q : Open) → add_all (ms ++ ns) q ≡ option_and_then (add_all ns) (add_all ms q)) → option_and_then (add_all (ms ++ ns)) p ≡ option_and_then (add_all ns) (option_and_then (add_all ms) p)
+    behind_one None ih = refl
+    behind_one (Some q) ih = ih q
+
+-- the open nodes after more marks
+pub open_nodes-append : (ms ns : List Mark) → open_nodes (ms ++ ns) ≡ option_and_then (add_all ns) (open_nodes ms)
+open_nodes-append ms ns = add_all-append ms ns (within start [] nothing)

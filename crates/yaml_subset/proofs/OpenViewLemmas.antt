@@ -10,9 +10,10 @@ use Rattle.std.proofs.lemmas.List.Folds.{list_any-append}
 use Rattle.yaml_subset.specs.Tree.{Tree, mapping, sequence, scalar}
 use Rattle.yaml_subset.specs.Mark.{Mark, start, dash, key, value, header, raw, Child}
 use Rattle.yaml_subset.specs.Profile.{max_depth, is_next, has_room, with_child, is_repeated, is_key, is_shallow, collection}
-use Rattle.yaml_subset.specs.OpenNodes.{Open, nothing, Block, inline, block, within, with_raw, with_line, closed, begun, next_piece, added, add}
+use Rattle.yaml_subset.specs.Block.{Block, with_line}
+use Rattle.yaml_subset.specs.OpenNodes.{Open, nothing, inline, block, within, with_raw, closed, begun, next_piece, added, add}
 use Rattle.yaml_subset.specs.Fault.{repeats, begins, column, same_column, is_at_open, row_of_mark}
-use Rattle.yaml_subset.specs.OpenView.{head_of, done_of, open_of, closed_with, next_place, last_head, last_view, stream_of, child, entry_child, any_at, is_nothing, block_view, BeginsAs}
+use Rattle.yaml_subset.specs.OpenView.{head_of, done_of, open_of, next_place, last_head, last_view, stream_of, child, entry_child, any_at, is_nothing, block_view, BeginsAs}
 use Rattle.std.proofs.Common.{Result, Ok, Err, length-append}
 use Rattle.std.proofs.lemmas.List.{length-take-le}
 use Rattle.std.specs.Result.{IfOk, IfErr}
@@ -30,6 +31,11 @@ use Rattle.yaml_subset.specs.declared.frame.Frame.{Frame}
 use Rattle.yaml_subset.specs.declared.frame.Frame.TheVariants as frames
 use Rattle.yaml_subset.specs.declared.frame.Last.{Last}
 use Rattle.yaml_subset.specs.declared.frame.Last.TheVariants as lasts
+
+-- the value that frames are, closed, with this one within the innermost
+abbrev pub closed_with : List Frame → Option Tree → Option Tree
+closed_with [] v = v
+closed_with (f ∷ fs) v = Some (collection (with_child (done_of f) (head_of f) (closed_with fs v)))
 
 -- one frame more, where the mark isn't its next
 pub next_place_more : (m : Mark) (fs : List Frame) (at : ℕ) (d : Frame) → at < length fs

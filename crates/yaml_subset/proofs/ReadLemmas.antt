@@ -6,17 +6,15 @@ use Rattle.std.specs.List.{fold}
 use Rattle.std.proofs.lemmas.List.Sums.{fold-append}
 use Rattle.yaml_subset.specs.Tree.{Tree}
 use Rattle.yaml_subset.specs.Profile.{documents}
-use Rattle.yaml_subset.specs.OpenNodes.{Open, open_nodes, finished}
+use Rattle.yaml_subset.specs.OpenNodes.{Open, open_nodes, finished, add_all}
 use Rattle.yaml_subset.specs.Text.{Marked, line_at, parent_after, scalar_after, next_line, no_line, marked, nodes_of, StandsFor}
 use Rattle.yaml_subset.specs.Fault.{IsFault}
-use Rattle.yaml_subset.specs.Reader.{add_all}
 use Rattle.yaml_subset.specs.ReadView.{NamesFault}
 use Rattle.yaml_subset.specs.declared.scalar.Scalar.{Scalar}
 use Rattle.yaml_subset.specs.declared.which.Which.{Which}
 use Rattle.yaml_subset.specs.declared.read.YamlFault.{YamlFault}
 use Rattle.yaml_subset.specs.declared.read.YamlFault.TheVariants.{TooLarge, NotUtf8, Form, NoMemory}
-use Rattle.yaml_subset.proofs.OpenLemmas.{documents_closed}
-use Rattle.yaml_subset.proofs.TextLemmas.{open_nodes-append}
+use Rattle.yaml_subset.proofs.OpenLemmas.{documents_closed, open_nodes-append}
 
 -- a text has at most one list of nodes
 pub one_list : (text : List ℕ) (xs ys : List Tree) → StandsFor text xs → StandsFor text ys → xs ≡ ys

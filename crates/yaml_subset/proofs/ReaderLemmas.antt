@@ -3,9 +3,9 @@ use Rattle.std.proofs.Common.{◌≡◌, ℕ, suc, ◌+◌, ◌-◌, ◌<◌, Bo
 use Rattle.std.proofs.Math.Seq.{drop-cons}
 use Rattle.std.proofs.lemmas.List.{take-append-drop, drop_all, map_push}
 use Rattle.yaml_subset.specs.Mark as marks
-use Rattle.yaml_subset.specs.OpenNodes.{Open, add}
+use Rattle.yaml_subset.specs.OpenNodes.{Open, add, add_all}
 use Rattle.yaml_subset.specs.Fault.{misfit, row_of_mark}
-use Rattle.yaml_subset.specs.Reader.{add_all, header_folds}
+use Rattle.yaml_subset.specs.Reader.{header_folds}
 use Rattle.yaml_subset.specs.Text.{parent_at, parent_after, header_scalar}
 use Rattle.yaml_subset.specs.LineView.{mark_view}
 use Rattle.yaml_subset.specs.declared.mark.Mark.{Mark}

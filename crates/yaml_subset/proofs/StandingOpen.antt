@@ -8,10 +8,10 @@ use Rattle.std.proofs.lemmas.Str.{IsUtf8-nil}
 use lib.Pointwise.{bytes_decides}
 use Rattle.yaml_subset.specs.Tree.{Tree, trees}
 use Rattle.yaml_subset.specs.Mark.{Mark, start, dash, key, value, header, raw, Child}
-use Rattle.yaml_subset.specs.Block.{is_space, is_blank, indentation, joint}
+use Rattle.yaml_subset.specs.Block.{is_space, is_blank, indentation, joint, Block, content_of, indent_of, filled, with_line, ended}
 use Rattle.yaml_subset.specs.Profile.{has_room, is_next, with_child, or_no_text, is_key, is_repeated, entries, collection, is_shallow}
-use Rattle.yaml_subset.specs.OpenNodes.{Block, content_of, indent_with, filled, with_line, ended, Open, nothing, inline, block, within, closed, finished, begun, with_raw, next_piece, added}
-use Rattle.yaml_subset.specs.Text.{indent_of, scalar_with}
+use Rattle.yaml_subset.specs.OpenNodes.{Open, nothing, inline, block, within, closed, finished, begun, with_raw, next_piece, added}
+use Rattle.yaml_subset.specs.Text.{scalar_with}
 use Rattle.yaml_subset.specs.Spelling.{spelled, fields_spelled, items_spelled}
 use Rattle.yaml_subset.specs.Fits.{Fits, FitFields, FitItems, has_field}
 use Rattle.yaml_subset.specs.declared.scalar.Scalar.{Scalar}
@@ -266,10 +266,6 @@ no_raw : (d : ℕ) (l : List ℕ) → begun d (raw l) ≡ None
 no_raw zero l = refl
 no_raw (suc d) l = refl
 
-same_indent : (o : Option ℕ) (l : List ℕ) → indent_with o l ≡ indent_of o l
-same_indent None l = refl
-same_indent (Some i) l = refl
-
 under_indents : (j : Option ℕ) (h : Mark) (done : List Child) (o : Option Open) → OnIndents j o → OnIndents j (option_map (within h done) o)
 under_indents j h done None v = tt
 under_indents j h done (Some i) v = v
@@ -289,7 +285,7 @@ raw_indents d h l s (block b) i = by (is_blank l)
   where
     by : (t : Bool) → (cond t (record b { blanks = suc b.blanks }) (filled b l)).indent ≡ (cond t s (record { parent = s.parent; indent = Some (indent_of s.indent l); folded = s.folded })).indent
     by true = i
-    by false = ap Some (ap (λ o. indent_with o l) i ∙ same_indent s.indent l)
+    by false = ap Some (ap (λ o. indent_of o l) i)
 raw_indents d h l s (within f done o) i = rw (next_raw f l) (under_indents (scalar_with l s).indent f done (added (pred d) f (raw l) o) (raw_indents (pred d) f l s o i))
 
 -- a header opens a block scalar with no line yet

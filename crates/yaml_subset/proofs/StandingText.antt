@@ -11,17 +11,15 @@ use Rattle.yaml_subset.specs.Mark.{Mark, start, dash, key, value, header, raw}
 use Rattle.yaml_subset.specs.Block.{is_blank, indentation}
 use Rattle.yaml_subset.specs.Line.{has_control, is_marker, line_of}
 use Rattle.yaml_subset.specs.Profile.{max_depth, documents}
-use Rattle.yaml_subset.specs.OpenNodes.{Open, nothing, within, open_nodes, finished, add}
+use Rattle.yaml_subset.specs.OpenNodes.{Open, nothing, within, open_nodes, finished, add, add_all}
 use Rattle.yaml_subset.specs.Text.{Marked, is_content, takes, is_more_indented, has_early_tab, raw_fault, line_at, parent_at, parent_after, header_scalar, scalar_with, scalar_after, no_line, without_mark, StandsFor}
-use Rattle.yaml_subset.specs.Reader.{add_all}
 use Rattle.yaml_subset.specs.Spelling.{Spelling, word, quoted, fields, items, Fields, no_fields, field, Items, no_items, one_item, spelled, fields_spelled, items_spelled}
 use Rattle.yaml_subset.specs.Fits.{Fits, FitFields, FitItems, IsWritable}
 use Rattle.yaml_subset.specs.Standing.{IsIn, itself, in_map, in_list, IsInEntries, first_entry, later_entry, IsInItems, first_item, later_item, StandsIn}
 use Rattle.yaml_subset.specs.declared.scalar.Scalar.{Scalar}
 use Rattle.yaml_subset.specs.declared.which.Which.{Which}
 use Rattle.yaml_subset.specs.declared.which.Which.TheVariants.{Control, Tab, LeftOut}
-use Rattle.yaml_subset.proofs.OpenLemmas.{documents_closed}
-use Rattle.yaml_subset.proofs.TextLemmas.{open_nodes-append}
+use Rattle.yaml_subset.proofs.OpenLemmas.{documents_closed, open_nodes-append}
 use Rattle.yaml_subset.proofs.ReadLemmas.{step, none_stays, never_text}
 use Rattle.yaml_subset.proofs.StandingBytes.{pick, lines_utf8}
 use Rattle.yaml_subset.proofs.StandingLine.{IsGood, line_good}

@@ -1,5 +1,5 @@
 -- Lines after lines: the first lines of a text are a text, and the open nodes after them are known.
-use Rattle.std.proofs.Common.{◌≡◌, ℕ, zero, suc, ◌+◌, false, List, [], ◌∷◌, ◌++◌, Option, Some, None, length, option_map, refl, sym, ap, ◌∙◌, take, drop, get_or, map, ◌<◌, ◌≤◌, arith, add-one, append_assoc, append-nil}
+use Rattle.std.proofs.Common.{◌≡◌, ℕ, zero, suc, ◌+◌, false, List, [], ◌∷◌, ◌++◌, Option, Some, None, length, option_map, refl, sym, ap, ◌∙◌, take, drop, get_or, map, ◌<◌, ◌≤◌, arith, add-one}
 use Rattle.std.specs.Option.{option_and_then, option_map_or, is_none, is_some}
 use Rattle.std.proofs.lemmas.List.Sums.{fold-append}
 use Rattle.std.proofs.lemmas.List.{take-append-drop, length-take-le, length-map}
@@ -9,26 +9,13 @@ use Rattle.yaml_subset.specs.Mark.{Mark, start}
 use Rattle.yaml_subset.specs.Rows.{earlier}
 use Rattle.yaml_subset.specs.Profile.{documents}
 use Rattle.yaml_subset.specs.Text.{Marked, line_at, next_line, no_line, marked, nodes_of}
-use Rattle.yaml_subset.specs.OpenNodes.{Open, nothing, within, open_nodes, finished, add}
+use Rattle.yaml_subset.specs.OpenNodes.{Open, nothing, within, open_nodes, finished, add, add_all}
 use Rattle.yaml_subset.specs.Fault.{row_of_mark, misfit, row_of, IsFault}
-use Rattle.yaml_subset.specs.Reader.{add_all, IsRead, Reading, Follows}
+use Rattle.yaml_subset.specs.Reader.{IsRead, Reading, Follows}
 use Rattle.std.proofs.lemmas.Bool.{false≢true}
 use Rattle.yaml_subset.specs.declared.scalar.Scalar.{Scalar}
 use Rattle.yaml_subset.specs.declared.which.Which.{Which}
-use Rattle.yaml_subset.proofs.OpenLemmas.{open_nodes-snoc, documents_closed}
-
-option_and_then-assoc : {A B C : Type 0} (f : A → Option B) (g : B → Option C) (o : Option A) → option_and_then g (option_and_then f o) ≡ option_and_then (λ x. option_and_then g (f x)) o
-option_and_then-assoc f g None = refl
-option_and_then-assoc f g (Some x) = refl
-
--- the open nodes after more marks
-pub open_nodes-append : (ms ns : List Mark) → open_nodes (ms ++ ns) ≡ option_and_then (add_all ns) (open_nodes ms)
-open_nodes-append ms [] = rw append-nil (at_end (open_nodes ms))
-  where
-    at_end : (o : Option Open) → o ≡ option_and_then (add_all []) o
-    at_end None = refl
-    at_end (Some x) = refl
-open_nodes-append ms (n ∷ ns) = ap open_nodes (sym (append_assoc ms (n ∷ []) ns)) ∙ open_nodes-append (ms ++ (n ∷ [])) ns ∙ ap (option_and_then (add_all ns)) (open_nodes-snoc ms n) ∙ option_and_then-assoc (add n) (add_all ns) (open_nodes ms)
+use Rattle.yaml_subset.proofs.OpenLemmas.{open_nodes-append, documents_closed}
 
 -- marks that all have a place meet no row, and else the first that has none meets one
 pub misfit_of_add : (ms : List Mark) (o : Open) → is_none (misfit ms o) ≡ is_some (add_all ms o)

@@ -1,5 +1,5 @@
 -- Block scalars (YAML 1.2.2, sections 8.1.2 and 8.1.3): what text their lines stand for.
-use Rattle.std.specs.Prelude.{ℕ, zero, suc, ◌-◌, ◌==◌, ◌||◌, Bool, true, false, List, [], ◌∷◌, ◌++◌, cond, drop, take, length, reverse, replicate}
+use Rattle.std.specs.Prelude.{ℕ, zero, suc, ◌-◌, ◌==◌, ◌||◌, Bool, true, false, List, [], ◌∷◌, ◌++◌, Option, Some, None, cond, drop, take, length, reverse, replicate, fold}
 use Rattle.std.specs.List.{list_all, prefix_len}
 use Rattle.yaml_subset.specs.declared.style.Style.{Style}
 use Rattle.yaml_subset.specs.declared.style.Chomping.{Chomping}
@@ -37,24 +37,47 @@ joint false blanks = replicate (suc blanks) 10
 joint true zero = 32 ∷ []
 joint true (suc blanks) = replicate (suc blanks) 10
 
--- what follows a line, whose content is indented so far: so many blank lines, and these lines.
--- READS OTHERWISE than YAML 1.2.2: the last line counts as ended by a line feed also where the text ends without one.
-abbrev pub text_after : Style → ℕ → ℕ → List (List ℕ) → List ℕ
-text_after s indent blanks [] = ending s.chomping blanks
-text_after s indent blanks (l ∷ ls) = cond (is_blank l) (text_after s indent (suc blanks) ls)
-    (joint s.folded blanks ++ (drop indent l ++ text_after s indent 0 ls))
+-- A block scalar so far: its text up to its last line that isn't blank, and the blank lines after it.
+-- The content's indentation is that of its first line that isn't blank; blank lines before that give a line feed each.
+pub record Block : Type 0 where
+  pub style : Style
+  pub indent : Option ℕ
+  pub text : List ℕ
+  pub blanks : ℕ
 
--- The text of these lines, after so many blank ones: the first line that isn't blank sets the indentation.
--- Blank lines before it give a line feed each; without it the text is empty, and with `+` it has the blank lines.
-abbrev pub text_from : Style → ℕ → List (List ℕ) → List ℕ
-text_from s blanks [] = without_lines s.chomping blanks
+abbrev pub no_lines : Style → Block
+no_lines s = record { style = s; indent = None; text = []; blanks = 0 }
+
+-- what a line that isn't blank adds to a scalar's text
+abbrev pub content_of : Block → List ℕ → List ℕ
+content_of b l = content_at b.indent
   where
-    without_lines : Chomping → ℕ → List ℕ
-    without_lines Keep n = replicate n 10
-    without_lines _ n = []
-text_from s blanks (l ∷ ls) = cond (is_blank l) (text_from s (suc blanks) ls)
-    (replicate blanks 10 ++ (drop (indentation l) l ++ text_after s (indentation l) 0 ls))
+    content_at : Option ℕ → List ℕ
+    content_at None = replicate b.blanks 10 ++ drop (indentation l) l
+    content_at (Some indent) = joint b.style.folded b.blanks ++ drop indent l
+
+-- the indentation of a scalar's content, which the line sets where no line has set it
+abbrev pub indent_of : Option ℕ → List ℕ → ℕ
+indent_of None l = indentation l
+indent_of (Some indent) l = indent
+
+-- the scalar with a line that isn't blank
+abbrev pub filled : Block → List ℕ → Block
+filled b l = record { style = b.style; indent = Some (indent_of b.indent l); text = b.text ++ content_of b l; blanks = 0 }
+
+abbrev pub with_line : Block → List ℕ → Block
+with_line b l = cond (is_blank l) (record b { blanks = suc b.blanks }) (filled b l)
+
+-- The text, once the scalar has ended; without a line that isn't blank it is empty, and with `+` it has the blank lines.
+-- READS OTHERWISE than YAML 1.2.2: the last line counts as ended by a line feed also where the text ends without one.
+abbrev pub ended : Block → List ℕ
+ended b = ended_at b.indent b.style.chomping
+  where
+    ended_at : Option ℕ → Chomping → List ℕ
+    ended_at (Some indent) c = b.text ++ ending c b.blanks
+    ended_at None Keep = replicate b.blanks 10
+    ended_at None _ = []
 
 -- the text of a block scalar with these lines
 abbrev pub block_text : Style → List (List ℕ) → List ℕ
-block_text s ls = text_from s 0 ls
+block_text s ls = ended (fold with_line (no_lines s) ls)

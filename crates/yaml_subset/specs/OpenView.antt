@@ -3,7 +3,8 @@ use Rattle.std.specs.Prelude.{ℕ, suc, Bool, ◌||◌, true, false, ◌≡◌, 
 use Rattle.yaml_subset.specs.Tree.{Tree}
 use Rattle.yaml_subset.specs.Mark.{Mark, start, dash, key, Child}
 use Rattle.yaml_subset.specs.Profile.{is_next, with_child, collection}
-use Rattle.yaml_subset.specs.OpenNodes.{Block, Open, nothing, inline, block, within}
+use Rattle.yaml_subset.specs.Block.{Block}
+use Rattle.yaml_subset.specs.OpenNodes.{Open, nothing, inline, block, within}
 use Rattle.yaml_subset.specs.Fault.{column, same_column}
 use Rattle.yaml_subset.specs.NodeView.{node_view}
 use Rattle.yaml_subset.specs.declared.text.Text.{Text}
@@ -43,11 +44,6 @@ done_of (frames.List n items) = map (child (dash n)) items.items
 abbrev pub open_of : List Frame → Open → Open
 open_of [] o = o
 open_of (f ∷ fs) o = within (head_of f) (done_of f) (open_of fs o)
-
--- the value that frames are, closed, with this one within the innermost
-abbrev pub closed_with : List Frame → Option Tree → Option Tree
-closed_with [] v = v
-closed_with (f ∷ fs) v = Some (collection (with_child (done_of f) (head_of f) (closed_with fs v)))
 
 -- the place of the outermost frame whose next piece the mark begins
 abbrev pub next_place : Mark → List Frame → ℕ

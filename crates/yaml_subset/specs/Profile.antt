@@ -5,10 +5,11 @@ use Rattle.std.specs.Str.{bytes_eq}
 use Rattle.yaml_subset.specs.Tree.{Tree, mapping, sequence, scalar, Entries, no_entries, entry, no_trees, trees}
 use Rattle.yaml_subset.specs.Mark.{Mark, start, dash, key, value, header, raw, Child}
 use Rattle.yaml_subset.specs.Block.{block_text}
+use Rattle.yaml_subset.specs.declared.open.TheConstants.{MAX_DEPTH}
 
 -- How deep maps and lists are nested at most, the root's node being 1.
 abbrev pub max_depth : ℕ
-max_depth = 32
+max_depth = MAX_DEPTH
 
 -- a node that begins at column n may stand behind this mark: at the root anywhere, else deeper than its key or dash
 abbrev pub is_deeper : Mark → ℕ → Bool

@@ -1,14 +1,9 @@
 -- The reading of a text, line by line: what the reader keeps after some lines, and that it is theirs.
-use Rattle.std.specs.Prelude.{◌≡◌, ℕ, Bool, List, [], ◌∷◌, Option, Some, None, option_map, option_and_then}
+use Rattle.std.specs.Prelude.{◌≡◌, ℕ, Bool, List, Option, Some, None, option_map}
 use Rattle.yaml_subset.specs.Mark.{Mark, header}
 use Rattle.yaml_subset.specs.Text.{marked, line_at, parent_after, scalar_after}
 use Rattle.yaml_subset.specs.declared.scalar.Scalar.{Scalar}
-use Rattle.yaml_subset.specs.OpenNodes.{Open, open_nodes, add}
-
--- the open nodes after more marks, none where one has no place
-abbrev pub add_all : List Mark → Open → Option Open
-add_all [] o = Some o
-add_all (m ∷ ms) o = option_and_then (add_all ms) (add m o)
+use Rattle.yaml_subset.specs.OpenNodes.{Open, open_nodes, add_all}
 
 -- what the reader keeps: the open nodes, the column of the last mark where it is a key or dash, the block scalar that may go on
 pub record Reading : Type 0 where

@@ -5,9 +5,10 @@ use Rattle.std.specs.Str.{IsUtf8}
 use Rattle.std.specs.Str.Lines.{lines}
 use Rattle.yaml_subset.specs.Tree.{Tree}
 use Rattle.yaml_subset.specs.Mark.{Mark, dash, key, header, raw}
-use Rattle.yaml_subset.specs.Block.{is_blank, is_blank_byte, indentation}
+use Rattle.yaml_subset.specs.Block.{is_blank, is_blank_byte, indentation, indent_of}
 use Rattle.yaml_subset.specs.Line.{Line, has_control, is_marker, line_of}
 use Rattle.yaml_subset.specs.Profile.{documents}
+use Rattle.yaml_subset.specs.declared.read.TheConstants.{MAX_BYTES}
 use Rattle.yaml_subset.specs.declared.scalar.Scalar.{Scalar}
 use Rattle.yaml_subset.specs.declared.which.Which.{Which}
 use Rattle.yaml_subset.specs.declared.which.Which.TheVariants.{Control, Tab, LeftOut}
@@ -28,10 +29,6 @@ takes None line = false
 takes (Some s) line = not (is_marker line) && (is_blank line || is_content s (indentation line))
 
 -- what is left of a line of a block scalar, behind the indentation of its content
-abbrev pub indent_of : Option ℕ → List ℕ → ℕ
-indent_of (Some indent) line = indent
-indent_of None line = indentation line
-
 abbrev pub behind_indent : Scalar → List ℕ → List ℕ
 behind_indent s line = drop (indent_of s.indent line) line
 
@@ -100,9 +97,9 @@ nodes_of ls = option_and_then (λ s. documents s.marks) (marked ls)
 abbrev pub without_mark : List ℕ → List ℕ
 without_mark text = cond (starts_with nat_eq text (239 ∷ 187 ∷ 191 ∷ [])) (drop 3 text) text
 
--- the most bytes of a text: the body of a message has no more
+-- the most bytes of a text
 abbrev pub max_bytes : ℕ
-max_bytes = 1048576
+max_bytes = MAX_BYTES
 
 -- A text stands for these nodes, one for each document that has one.
 pub record StandsFor (text : List ℕ) (xs : List Tree) : Type 0 where

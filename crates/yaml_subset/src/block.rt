@@ -2,8 +2,8 @@
 
 ghost use Rattle.std.specs.Prelude.{◌≡◌, ℕ, suc, ◌++◌, replicate, IfOk, Some};
 ghost use Rattle.yaml_subset.specs.Block.{joint as joint_lem, ending as ending_lem};
-ghost use Rattle.yaml_subset.specs.OpenNodes.{with_line as with_line_lem, no_lines, filled};
-ghost use Rattle.yaml_subset.specs.OpenNodes.{ended as ended_lem};
+ghost use Rattle.yaml_subset.specs.Block.{ended as ended_lem, with_line as with_line_lem};
+ghost use Rattle.yaml_subset.specs.Block.{filled, no_lines};
 ghost use Rattle.yaml_subset.specs.OpenView.{block_view};
 
 use crate::bytes::{from, is_blank, spaces};

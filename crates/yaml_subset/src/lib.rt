@@ -7,6 +7,7 @@ mod block;
 mod bytes;
 mod copy;
 mod entries;
+mod fault_laws;
 mod fits;
 mod flow;
 mod flow_laws;
@@ -28,6 +29,7 @@ mod which;
 mod write;
 
 pub use copy::copy_node;
+pub use fault_laws::{a_text_has_nodes_or_a_fault, lines_are_a_text_or_have_one_fault};
 pub use fits::can_be_written;
 pub use flow_laws::one_line_lists;
 pub use laws::{one_bad_place, standing_nodes_are_writable, written_text_reads_back};

@@ -2,7 +2,7 @@
 
 ghost use Rattle.std.specs.Prelude.{◌≡◌, Some};
 ghost use Rattle.yaml_subset.specs.Text.{is_content as is_content_lem, takes as takes_lem};
-ghost use Rattle.yaml_subset.specs.Text.{indent_of as indent_of_lem};
+ghost use Rattle.yaml_subset.specs.Block.{indent_of as indent_of_lem};
 ghost use Rattle.yaml_subset.specs.Text.{behind_indent as behind_indent_lem};
 ghost use Rattle.yaml_subset.specs.Text.{is_more_indented as is_more_indented_lem};
 ghost use Rattle.yaml_subset.specs.Text.{has_early_tab as has_early_tab_lem};

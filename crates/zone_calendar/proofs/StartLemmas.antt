@@ -17,7 +17,7 @@ use Rattle.std.specs.List.{range_with_len}
 use Rattle.std.specs.List.Sorted.{IsNonDecreasing}
 use Rattle.std.proofs.lemmas.List.Sorted.{length_permutation}
 use Rattle.std.proofs.lemmas.List.FromFn.{length-map-range_with_len}
-use Rattle.zone_calendar.specs.Zone.{ZoneText}
+use Rattle.zone_calendar.specs.Zone.{ZoneText, instant_at}
 use Rattle.zone_calendar.specs.Starts.{IsCalendarStep, AreStarts, start_at, year_of_month, clamped_day, date_after, civil_second, is_counted}
 use Rattle.zone_calendar.specs.Moments.{IsMomentOf}
 use Rattle.zone_calendar.specs.declared.civil.Civil.{Civil}
@@ -135,3 +135,16 @@ are_starts zone first step horizon count list calendar below all end made sorted
 pub unsigned_below : (m : ℤ) (n : ℕ) → pos 0 ≤ℤ m → m <ℤ pos n → unsigned_abs m < n
 unsigned_below (pos m) n low high = omega (arith, signed_arith)
 unsigned_below (negsuc m) n low high = absurd (omega (arith, signed_arith))
+
+unsigned_least : (m : ℤ) (n : ℕ) → pos n ≤ℤ m → n ≤ unsigned_abs m
+unsigned_least (pos m) n low = omega (arith, signed_arith)
+unsigned_least (negsuc m) n low = absurd (omega (arith, signed_arith))
+
+minute_later : (instant second : ℤ) (horizon : ℕ) → IsWithin 93_599 (instant -ℤ second) → pos ((horizon + 1_560) * 60) ≤ℤ second → pos horizon ≤ℤ int_div_euclid instant (pos 60)
+minute_later instant second horizon near late = omega (arith, signed_arith)
+
+-- a start that doesn't count lies at the horizon or after it
+pub uncounted_later : (zone : ZoneText) (first : Civil) (step : Duration) (horizon k : ℕ) → IsWithin 93_599 (instant_at zone (civil_second first step k) -ℤ civil_second first step k) → is_counted first step horizon k ≡ false → horizon ≤ start_at zone first step k
+uncounted_later zone first step horizon k near over =
+    unsigned_least (int_div_euclid (instant_at zone (civil_second first step k)) (pos 60)) horizon
+    (minute_later (instant_at zone (civil_second first step k)) (civil_second first step k) horizon near (above (civil_second first step k) (pos ((horizon + 1_560) * 60)) over))

@@ -14,7 +14,7 @@ mod zone;
 pub use calendar::{StartsFault, has_too_many_starts, is_calendar_step, starts};
 pub use civil::Civil;
 pub use civil_text::{read_civil, write_civil};
-pub use laws::starts_are_one_list;
+pub use laws::{an_uncounted_start_is_at_the_horizon_or_after, starts_are_one_list};
 pub use read::{ZoneFault, read_zone};
 pub use windows::window_at;
 pub use zone::Zone;

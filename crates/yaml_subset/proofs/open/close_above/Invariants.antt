@@ -1,7 +1,8 @@
 use Rattle.std.proofs.Common.{◌≡◌, ◌+◌, drop, take, vec_len, option_map}
 use Rattle.yaml_subset.specs.NodeView.{node_view}
 use Rattle.yaml_subset.specs.OpenNodes.{closed}
-use Rattle.yaml_subset.specs.OpenView.{open_of, closed_with, last_view}
+use Rattle.yaml_subset.specs.OpenView.{open_of, last_view}
+use Rattle.yaml_subset.proofs.OpenViewLemmas.{closed_with}
 use Rattle.yaml_subset.proofs.open.close_above.Given as goal
 
 -- the frames that are left, closed with the value so far, are all frames, closed

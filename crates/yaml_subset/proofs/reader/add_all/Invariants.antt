@@ -1,7 +1,7 @@
 use Rattle.std.proofs.Common.{◌≡◌, map}
 use Rattle.std.specs.Vec.Iter.{into_iter_items}
 use Rattle.yaml_subset.specs.Fault.{misfit}
-use Rattle.yaml_subset.specs.Reader.{add_all}
+use Rattle.yaml_subset.specs.OpenNodes.{add_all}
 use Rattle.yaml_subset.specs.LineView.{mark_view}
 use Rattle.yaml_subset.specs.StopView.{nodes_open}
 use Rattle.yaml_subset.proofs.reader.add_all.Given as goal

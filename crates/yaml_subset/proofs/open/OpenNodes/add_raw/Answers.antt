@@ -1,6 +1,7 @@
 use Rattle.std.proofs.Common.{Some, map, sym, ap, ◌∙◌}
 use Rattle.yaml_subset.specs.Mark.{start, raw}
-use Rattle.yaml_subset.specs.OpenNodes.{Block, add, block, within}
+use Rattle.yaml_subset.specs.Block.{Block}
+use Rattle.yaml_subset.specs.OpenNodes.{add, block, within}
 use Rattle.yaml_subset.specs.OpenView.{child, open_of, last_view, block_view}
 use Rattle.yaml_subset.specs.declared.frame.Last.{Last}
 use Rattle.yaml_subset.proofs.OpenViewLemmas.{raw_taken, raw_refused}

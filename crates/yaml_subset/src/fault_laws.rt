@@ -1,0 +1,30 @@
+//! Laws of texts and their faults.
+
+ghost use Rattle.std.specs.Prelude.{◌≡◌, ◌≤◌, ◌++◌, ℕ, List, Some, ◌⊎◌, length};
+ghost use Rattle.std.specs.Str.{IsUtf8};
+ghost use Rattle.std.specs.Str.Lines.{lines};
+ghost use Rattle.yaml_subset.specs.Tree.{Tree};
+ghost use Rattle.yaml_subset.specs.Text.{StandsFor, nodes_of, without_mark, max_bytes};
+ghost use Rattle.yaml_subset.specs.Fault.{IsFault};
+ghost use Rattle.yaml_subset.specs.declared.which.Which.{Which};
+
+/// Lines stand for nodes or have a fault, and never both. They have one fault alone: the least
+/// number of lines that are no text, and one row of the table. The first lines of a text are a
+/// text.
+pub fn lines_are_a_text_or_have_one_fault()
+    ensures either { (ls : List (List ℕ)) → ((xs : List Tree) × (nodes_of ls ≡ Some xs))
+        ⊎ ((line : ℕ) × (which : Which) × IsFault ls line which) }
+    ensures never_both { (ls : List (List ℕ)) (xs : List Tree) (line : ℕ) (which : Which)
+        → nodes_of ls ≡ Some xs → IsFault ls line which → ⊥ }
+    ensures one { (ls : List (List ℕ)) (line other : ℕ) (which row : Which)
+        → IsFault ls line which → IsFault ls other row → (line ≡ other) × (which ≡ row) }
+    ensures first { (ls more : List (List ℕ)) (xs : List Tree) → nodes_of (ls ++ more) ≡ Some xs
+        → (ys : List Tree) × (nodes_of ls ≡ Some ys) }
+{}
+
+/// A text that is small enough and UTF-8 stands for nodes, or one of its lines is at fault.
+pub fn a_text_has_nodes_or_a_fault()
+    ensures { (text : List ℕ) → length text ≤ max_bytes → IsUtf8 (without_mark text)
+        → ((xs : List Tree) × StandsFor text xs)
+        ⊎ ((line : ℕ) × (which : Which) × IsFault (lines (without_mark text)) line which) }
+{}
