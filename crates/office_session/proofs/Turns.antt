@@ -7,8 +7,10 @@ use Rattle.slo_limits.specs.declared.TheConstants.{MAX_REQUESTS}
 use Rattle.office_outside.specs.Told.{Lost, Gained, GainedPrefix, HasNothingLeft}
 use Rattle.office_outside.proofs.Gains.{lost_both, lost_nothing, gained_both, gained_nothing}
 use Rattle.message_heads.specs.Hearing.{Hears}
-use Rattle.message_heads.specs.Streams.{AreMessages}
-use Rattle.message_heads.specs.declared.message.Heard.TheVariants.{Bad, More}
+use Rattle.message_heads.specs.Streams.{AreMessages, said_in}
+use Rattle.message_heads.specs.declared.message.Message.{Message}
+use Rattle.message_heads.specs.declared.message.Heard.TheVariants.{Whole, Bad, More}
+use Rattle.message_heads.proofs.StreamLemmas.{heard_whole}
 use Rattle.office_session.specs.Fillings.{Fills}
 use Rattle.office_session.specs.Sessions.{Answering, Scene, scene, Turn, said_of_turns, Readings, Reads, Trace, Takes, Serves, is_last, EndsSo, EndsAt, EndsWriting, EndsByTurn, HasTurn}
 use Rattle.office_session.specs.declared.serving.SessionEnd.{SessionEnd}
@@ -23,6 +25,32 @@ gained_all bytes old new gained = record {
   within = omega arith;
   gained = subst (λ (l : List ℕ). Gained l old new) (sym (take_all (length bytes) bytes (omega arith))) gained;
 }
+
+-- a message that was answered over the next reading to come is one turn
+pub answered_over : {H : Type 0} (answers : Answering H)
+    (Got : List ℕ → Option (List ℕ) → Option (List ℕ) → Type 0) (last : Bool) (message : Message)
+    (count size reading : ℕ) (waiting : List ℕ) (left : Option (List ℕ)) (old new : ℕ → Option ℕ)
+    (before after : H) (held_before held_after : Option (List ℕ))
+    → Hears waiting (Whole message size)
+    → last ≡ (message.close || nat_le MAX_REQUESTS (count + 1))
+    → IfSome (old 0) (λ c. reading ≡ c)
+    → ((k : ℕ) → new k ≡ old (k + 1))
+    → ((text : List ℕ) × answers before (said_in waiting message) last reading text after
+    × Got text held_before held_after)
+    → HasTurn answers Got last count size waiting (scene left old before held_before)
+    (scene left new after held_after)
+answered_over answers Got last message count size reading waiting left old new before after
+    held_before held_after heard which first later (text, treated, answered) = record {
+      turn = record { said = said_in waiting message; reading = reading; answer = text };
+      which = sym which;
+      takes = record {
+        message = heard_whole waiting message size heard;
+        unread = refl;
+        reading = record { first = first; later = later };
+        treated = treated;
+        answered = answered;
+      };
+    }
 
 -- one more reading
 readings_more : (old : ℕ → Option ℕ) (turns : List Turn) (mid new : ℕ → Option ℕ) (turn : Turn) → Readings old turns mid → Reads turn.reading mid new → Readings old (turns ++ turn ∷ []) new
