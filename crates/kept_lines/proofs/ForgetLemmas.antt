@@ -1,18 +1,16 @@
--- A line that forgets once more, and a batch of rows.
-use Rattle.std.proofs.Common.{◌≡◌, ◌⊎◌, ℕ, suc, ◌+◌, ◌*◌, ◌/◌, ◌≤◌, ◌<◌, Bool, true, false, Option, Some, None, inl, inr, refl, arith, ap, sym, subst, ◌∙◌, List, slice_get, length}
-use Rattle.sample_book.specs.declared.Row.{Row}
-use Rattle.sample_book.specs.declared.RowVerdict.{RowVerdict}
+-- A line that forgets once more, on a way from slice to slice.
+use Rattle.std.proofs.Common.{◌≡◌, ◌⊎◌, ℕ, false, Option, Some, None, inl, inr, refl, sym, subst}
+use Rattle.std.proofs.Common.{◌∙◌}
 use Rattle.burn_core.specs.declared.AlertRule.{AlertRule}
 use Rattle.burn_core.specs.Alert.{reach_of}
-use Rattle.window_sums.specs.Slices.{slice_of, width_of}
 use Rattle.alert_line.specs.Line.{Line}
-use Rattle.office_history.specs.declared.Measure.{Measure}
-use Rattle.kept_sums.specs.Replacing.{HasMoved, moves}
-use Rattle.kept_lines.specs.Touched.{Forgets, ForgetsOnly, HasMovedBefore, IsClear, IsForgetting, IsInIf, IsInRun, IsRun, is_near}
+use Rattle.kept_lines.specs.Touched.{Forgets, ForgetsOnly, IsClear, IsForgetting, IsInIf, IsInRun}
+use Rattle.kept_lines.specs.Touched.{IsRun, IsRunIf, Touches, is_near}
 use Rattle.kept_lines.specs.declared.run.Run.{Run}
 
 -- to forget nothing
-pub only-none : (touched : ℕ → Type 0) (width : ℕ) (line : Line) → ForgetsOnly touched width line line
+pub only-none : (touched : ℕ → Type 0) (width : ℕ) (line : Line) →
+    ForgetsOnly touched width line line
 only-none touched width line = record {
   alert = record { rule = refl; target = refl; origin = refl };
   kept = λ minute holds e apart. e;
@@ -21,105 +19,131 @@ only-none touched width line = record {
 }
 
 -- to forget near some slices, and then near more of the same
-pub only-trans : (few all : ℕ → Type 0) (width : ℕ) (a b c : Line) → ((slice : ℕ) → few slice → all slice) → ForgetsOnly all width a b → ForgetsOnly few width b c → ForgetsOnly all width a c
+pub only-trans : (few all : ℕ → Type 0) (width : ℕ) (a b c : Line) →
+    ((slice : ℕ) → few slice → all slice) → ForgetsOnly all width a b →
+    ForgetsOnly few width b c → ForgetsOnly all width a c
 only-trans few all width a b c wider first then = record {
-  alert = record { rule = then.alert.rule ∙ first.alert.rule; target = then.alert.target ∙ first.alert.target; origin = then.alert.origin ∙ first.alert.origin };
+  alert = record {
+    rule = then.alert.rule ∙ first.alert.rule;
+    target = then.alert.target ∙ first.alert.target;
+    origin = then.alert.origin ∙ first.alert.origin;
+  };
   kept = λ minute holds e apart. then.kept minute holds (first.kept minute holds e apart)
-      (λ slice is. subst (λ (rule : AlertRule). is_near width (reach_of rule) slice minute ≡ false) (sym first.alert.rule) (apart slice (wider slice is)));
-  learnt_nothing = λ minute holds e. first.learnt_nothing minute holds (then.learnt_nothing minute holds e);
+      (λ slice is. subst (λ (rule : AlertRule). is_near width (reach_of rule) slice minute ≡ false)
+      (sym first.alert.rule) (apart slice (wider slice is)));
+  learnt_nothing = λ minute holds e.
+      first.learnt_nothing minute holds (then.learnt_nothing minute holds e);
   agrees = λ sums h. then.agrees sums (first.agrees sums h);
 }
 
 -- what is clear stays clear
-pub clear-stays : (touched : ℕ → Type 0) (width : ℕ) (a b : Line) (slice : ℕ) → ForgetsOnly touched width a b → IsClear a width slice → IsClear b width slice
+pub clear-stays : (touched : ℕ → Type 0) (width : ℕ) (a b : Line) (slice : ℕ) →
+    ForgetsOnly touched width a b → IsClear a width slice → IsClear b width slice
 clear-stays touched width a b slice only clear minute holds e =
-    subst (λ (rule : AlertRule). is_near width (reach_of rule) slice minute ≡ false) (sym only.alert.rule) (clear minute holds (only.learnt_nothing minute holds e))
+    subst (λ (rule : AlertRule). is_near width (reach_of rule) slice minute ≡ false)
+    (sym only.alert.rule) (clear minute holds (only.learnt_nothing minute holds e))
 
--- no row came yet
-pub forgetting-begins : (m : Measure) (rows : List Row) (verdicts : List RowVerdict) (width : ℕ) (line : Line) → IsForgetting m rows verdicts width 0 None line line
-forgetting-begins m rows verdicts width line = record {
-  only = only-none (HasMoved m rows verdicts) width line;
+-- nothing is touched yet
+pub forgetting-begins : (touched so_far : ℕ → Type 0) (width : ℕ) (line : Line) →
+    ((slice : ℕ) → so_far slice → ⊥) → IsForgetting touched so_far width None line line
+forgetting-begins touched so_far width line none = record {
+  only = only-none touched width line;
   runs = tt;
   own = λ slice no. absurd no;
-  clear = λ slice is. absurd (none is.before);
+  clear = λ slice is. absurd (none slice is);
 }
-  where
-    none : {n : ℕ} → n < 0 → ⊥
-    none h = omega (arith, h)
 
--- the row of the place is the one that moved there
-same_row : {A : Type 0} (xs : List A) (n k : ℕ) (x y : A) → slice_get xs n ≡ Some x → slice_get xs k ≡ Some y → k ≡ n → y ≡ x
-same_row xs n k x y a b e =
-    let both : ◌≡◌ {A = Option _} (Some y) (Some x) = sym b ∙ ap (slice_get xs) e ∙ a in
-    cc both
-
--- a row that moved up to a place and at it moved before it, or is the one at it
-split : (at k : ℕ) → k < at + 1 → (k < at) ⊎ (k ≡ at)
-split at k h = turn (Rattle.std.proofs.lemmas.Bool.Decides.leb_tells (suc k) at)
-  where
-    turn : ((Rattle.std.proofs.Common.nat_le (suc k) at ≡ true) × (suc k ≤ at)) ⊎ ((Rattle.std.proofs.Common.nat_le (suc k) at ≡ false) × (at < suc k)) → (k < at) ⊎ (k ≡ at)
-    turn (inl a) = inl a.1
-    turn (inr b) = inr (omega (arith, h, b.1))
-
--- a row that doesn't move leaves all as it is
-pub forgetting-passes : (m : Measure) (rows : List Row) (verdicts : List RowVerdict) (width at : ℕ) (run : Option Run) (before line : Line) (row : Row) (verdict : RowVerdict) →
-    slice_get rows at ≡ Some row → slice_get verdicts at ≡ Some verdict → moves m row verdict ≡ false → IsForgetting m rows verdicts width at run before line → IsForgetting m rows verdicts width (at + 1) run before line
-forgetting-passes m rows verdicts width at run before line row verdict here judged still so = record {
+-- more is passed, in which nothing is touched
+pub forgetting-passes : (touched so_far by_now : ℕ → Type 0) (width : ℕ) (run : Option Run)
+    (before line : Line) → ((slice : ℕ) → by_now slice → so_far slice) →
+    IsForgetting touched so_far width run before line →
+    IsForgetting touched by_now width run before line
+forgetting-passes touched so_far by_now width run before line less so = record {
   only = so.only;
   runs = so.runs;
   own = so.own;
-  clear = λ slice is. by slice is (split at is.moved.place is.before);
+  clear = λ slice is. so.clear slice (less slice is);
 }
-  where
-    by : (slice : ℕ) → (is : HasMovedBefore m rows verdicts (at + 1) slice) → (is.moved.place < at) ⊎ (is.moved.place ≡ at) → IsInIf run slice ⊎ IsClear line width slice
-    by slice is (inl less) = so.clear slice (record { moved = is.moved; before = less })
-    by slice is (inr e) =
-        let r = same_row rows at is.moved.place row is.moved.row here is.moved.here e in
-        let v = same_row verdicts at is.moved.place verdict is.moved.verdict judged is.moved.judged e in
-        let no : true ≡ false = sym is.moved.moved ∙ ap (λ x. moves m x is.moved.verdict) r ∙ ap (moves m row) v ∙ still in
-        cc no
 
--- a row that moves joins the run that waits, or what is near that is forgotten
-pub forgetting-touches : (m : Measure) (rows : List Row) (verdicts : List RowVerdict) (width at : ℕ) (run : Option Run) (next : Run) (before line line' : Line) (row : Row) (verdict : RowVerdict) →
-    width ≡ width_of m.method → slice_get rows at ≡ Some row → slice_get verdicts at ≡ Some verdict → moves m row verdict ≡ true → IsForgetting m rows verdicts width at run before line →
-    IsRun width (reach_of before.rule) next → IsInRun next.first next.last (row.minute / width) → ((other : ℕ) → IsInRun next.first next.last other → IsInIf run other ⊎ (other ≡ row.minute / width)) →
-    ((other : ℕ) → IsInIf run other → IsInRun next.first next.last other ⊎ IsClear line' width other) → ForgetsOnly (IsInIf run) width line line' → IsForgetting m rows verdicts width (at + 1) (Some next) before line'
-forgetting-touches m rows verdicts width at run next before line line' row verdict widths here judged is so shape has own all only = record {
-  only = only-trans (IsInIf run) (HasMoved m rows verdicts) width before line line' so.own so.only only;
-  runs = shape;
-  own = λ slice inside. mine slice (own slice inside);
-  clear = λ slice moved. by slice moved (split at moved.moved.place moved.before);
-}
+-- some slices more are touched
+pub forgetting-goes : (touched so_far by_now more : ℕ → Type 0) (width : ℕ) (run next : Option Run)
+    (before line after : Line) → ((slice : ℕ) → more slice → touched slice) →
+    ((slice : ℕ) → by_now slice → so_far slice ⊎ more slice) →
+    Touches more width (reach_of before.rule) run next line after →
+    IsForgetting touched so_far width run before line →
+    IsForgetting touched by_now width next before after
+forgetting-goes touched so_far by_now more width run next before line after own parts step so =
+    record {
+      only = only-trans (IsInIf run) touched width before line after so.own so.only step.only;
+      runs = step.runs;
+      own = λ slice inside. mine slice (step.own slice inside);
+      clear = λ slice is. by slice (parts slice is);
+    }
   where
-    lies : row.minute / width ≡ slice_of m.method row.minute
-    lies = ap (λ w. row.minute / w) widths
-
-    mine : (slice : ℕ) → IsInIf run slice ⊎ (slice ≡ row.minute / width) → HasMoved m rows verdicts slice
+    mine : (slice : ℕ) → IsInIf run slice ⊎ more slice → touched slice
     mine slice (inl a) = so.own slice a
-    mine slice (inr e) = record { place = at; row = row; verdict = verdict; here = here; judged = judged; moved = is; lies = sym (e ∙ lies) }
+    mine slice (inr b) = own slice b
 
-    joins : (slice : ℕ) → IsInIf run slice ⊎ IsClear line width slice → IsInIf (Some next) slice ⊎ IsClear line' width slice
-    joins slice (inl a) = all slice a
-    joins slice (inr clear) = inr (clear-stays (IsInIf run) width line line' slice only clear)
+    joins : (slice : ℕ) → IsInIf run slice ⊎ IsClear line width slice →
+        IsInIf next slice ⊎ IsClear after width slice
+    joins slice (inl a) = step.all slice a
+    joins slice (inr clear) =
+        inr (clear-stays (IsInIf run) width line after slice step.only clear)
 
-    by : (slice : ℕ) → (moved : HasMovedBefore m rows verdicts (at + 1) slice) → (moved.moved.place < at) ⊎ (moved.moved.place ≡ at) → IsInIf (Some next) slice ⊎ IsClear line' width slice
-    by slice moved (inl less) = joins slice (so.clear slice (record { moved = moved.moved; before = less }))
-    by slice moved (inr e) =
-        let r = same_row rows at moved.moved.place row moved.moved.row here moved.moved.here e in
-        let there : row.minute / width ≡ slice = lies ∙ ap (λ (x : Row). slice_of m.method x.minute) (sym r) ∙ moved.moved.lies in
-        inl (subst (IsInRun next.first next.last) there has)
+    by : (slice : ℕ) → so_far slice ⊎ more slice → IsInIf next slice ⊎ IsClear after width slice
+    by slice (inl a) = joins slice (so.clear slice a)
+    by slice (inr b) = inl (step.has slice b)
 
-place_within : {A : Type 0} (xs : List A) (n : ℕ) (x : A) → slice_get xs n ≡ Some x → n < length xs
-place_within = Rattle.kept_sums.proofs.ListLemmas.place_within
-
--- all rows came, and what is near the run that waits is forgotten
-pub forgetting-ends : (m : Measure) (rows : List Row) (verdicts : List RowVerdict) (width at : ℕ) (run : Option Run) (before line line' : Line) → length rows ≤ at → IsForgetting m rows verdicts width at run before line →
-    Forgets (IsInIf run) width line line' → Forgets (HasMoved m rows verdicts) width before line'
-forgetting-ends m rows verdicts width at run before line line' all so last = record {
-  only = only-trans (IsInIf run) (HasMoved m rows verdicts) width before line line' so.own so.only last.only;
-  clear = λ slice moved. by slice (so.clear slice (record { moved = moved; before = omega (arith, all, place_within rows moved.place moved.row moved.here) }));
+-- all is passed, and what is near the run that waits is forgotten
+pub forgetting-ends : (touched so_far : ℕ → Type 0) (width : ℕ) (run : Option Run)
+    (before line after : Line) → ((slice : ℕ) → touched slice → so_far slice) →
+    IsForgetting touched so_far width run before line → Forgets (IsInIf run) width line after →
+    Forgets touched width before after
+forgetting-ends touched so_far width run before line after all so last = record {
+  only = only-trans (IsInIf run) touched width before line after so.own so.only last.only;
+  clear = λ slice is. by slice (so.clear slice (all slice is));
 }
   where
-    by : (slice : ℕ) → IsInIf run slice ⊎ IsClear line width slice → IsClear line' width slice
+    by : (slice : ℕ) → IsInIf run slice ⊎ IsClear line width slice → IsClear after width slice
     by slice (inl a) = last.clear slice a
-    by slice (inr clear) = clear-stays (IsInIf run) width line line' slice last.only clear
+    by slice (inr clear) = clear-stays (IsInIf run) width line after slice last.only clear
+
+-- where nothing is touched, nothing has to be forgotten
+pub forgets-none : (touched : ℕ → Type 0) (width : ℕ) (line : Line) →
+    ((slice : ℕ) → touched slice → ⊥) → Forgets touched width line line
+forgets-none touched width line none = record {
+  only = only-none touched width line;
+  clear = λ slice is. absurd (none slice is);
+}
+
+-- One slice is touched: it joins the run that waits, or what is near that is forgotten.
+pub touches-one : (more : ℕ → Type 0) (width reach at : ℕ) (run : Option Run) (next : Run)
+    (line after : Line) → ((slice : ℕ) → more slice → slice ≡ at) → more at →
+    IsRun width reach next → IsInRun next.first next.last at →
+    ((other : ℕ) → IsInRun next.first next.last other → IsInIf run other ⊎ (other ≡ at)) →
+    ((other : ℕ) → IsInIf run other →
+    IsInRun next.first next.last other ⊎ IsClear after width other) →
+    ForgetsOnly (IsInIf run) width line after → Touches more width reach run (Some next) line after
+touches-one more width reach at run next line after one is shape has own all only = record {
+  runs = shape;
+  has = λ slice b. subst (IsInRun next.first next.last) (sym (one slice b)) has;
+  own = λ slice inside. by slice (own slice inside);
+  all = all;
+  only = only;
+}
+  where
+    by : (slice : ℕ) → IsInIf run slice ⊎ (slice ≡ at) → IsInIf run slice ⊎ more slice
+    by slice (inl a) = inl a
+    by slice (inr e) = inr (subst more (sym e) is)
+
+-- nothing more is touched
+pub touches-none : (more : ℕ → Type 0) (width reach : ℕ) (run : Option Run) (line : Line) →
+    ((slice : ℕ) → more slice → ⊥) → IsRunIf width reach run →
+    Touches more width reach run run line line
+touches-none more width reach run line none runs = record {
+  runs = runs;
+  has = λ slice is. absurd (none slice is);
+  own = λ slice inside. inl inside;
+  all = λ slice inside. inl inside;
+  only = only-none (IsInIf run) width line;
+}

@@ -1,13 +1,16 @@
 -- What a line has to forget where the counts of some slices change, and no more.
-use Rattle.std.specs.Prelude.{◌≡◌, ℕ, ◌+◌, ◌*◌, ◌<◌, ◌≤◌, ◌&&◌, nat_le, nat_lt, Bool, true, false}
-use Rattle.std.specs.Prelude.{Option, Some, None, List, ◌⊎◌}
-use Rattle.slo_limits.specs.declared.TheConstants.{MAX_MINUTE}
+use Rattle.std.specs.Prelude.{◌≡◌, ◌≢◌, ℕ, ◌+◌, ◌*◌, ◌/◌, ◌<◌, ◌≤◌, ◌&&◌, nat_le, nat_lt}
+use Rattle.std.specs.Prelude.{Bool, true, false, Option, Some, None, List, ◌⊎◌}
+use Rattle.slo_limits.specs.declared.TheConstants.{MAX_MINUTE, RANGE_MINUTES}
+use Rattle.sample_book.specs.declared.Exclusion.{Exclusion}
 use Rattle.sample_book.specs.declared.Row.{Row}
 use Rattle.sample_book.specs.declared.RowVerdict.{RowVerdict}
 use Rattle.burn_core.specs.Alert.{reach_of}
-use Rattle.window_sums.specs.Slices.{CountedDays, leaf_at, width_of}
+use Rattle.window_sums.specs.Slices.{CountedDays, leaf_at, slice_of, width_of}
 use Rattle.office_history.specs.declared.Measure.{Measure}
 use Rattle.kept_sums.specs.Replacing.{HasMoved}
+use Rattle.kept_sums.specs.Sums.{row_counts}
+use Rattle.kept_sums.specs.Walks.{IsChanged, made_on}
 use Rattle.kept_lines.specs.declared.run.Run.{Run}
 use Rattle.alert_line.specs.Line.{Agrees, Line, SameAlert, known}
 
@@ -64,10 +67,14 @@ abbrev pub IsInIf : Option Run → ℕ → Type 0
 IsInIf None slice = ⊥
 IsInIf (Some run) slice = IsInRun run.first run.last slice
 
+-- no minute of an office is later: its origin is a minute of the clock, and its range has so many
+abbrev pub LAST_MINUTE : ℕ
+LAST_MINUTE = MAX_MINUTE + RANGE_MINUTES
+
 -- A run of slices of the office's minutes. Where it has several, the minutes near them have no gap.
 pub record IsRun (width reach : ℕ) (run : Run) : Type 0 where
   pub order : run.first ≤ run.last
-  pub early : run.last * width ≤ MAX_MINUTE
+  pub early : run.last * width ≤ LAST_MINUTE
   pub joined : run.first < run.last → 2 * width ≤ reach + 1
 
 abbrev pub IsRunIf : ℕ → ℕ → Option Run → Type 0
@@ -81,11 +88,41 @@ pub record HasMovedBefore (m : Measure) (rows : List Row) (verdicts : List RowVe
   pub moved : HasMoved m rows verdicts slice
   pub before : moved.place < at
 
--- The rows so far: what is near their slices is forgotten, but for the run that waits.
-pub record IsForgetting (m : Measure) (rows : List Row) (verdicts : List RowVerdict) (width at : ℕ)
-    (run : Option Run) (before line : Line) : Type 0 where
-  pub only : ForgetsOnly (HasMoved m rows verdicts) width before line
+-- a row that counts otherwise with an exclusion than without it lies in a slice
+pub record LiesChanged (m : Measure) (made : List (Exclusion × Bool)) (value : Exclusion) (row : Row)
+    (slice : ℕ) : Type 0 where
+  pub changed : row_counts m (made_on made value false) row ≢ row_counts m (made_on made value true)
+      row
+  pub lies : slice_of m.method row.minute ≡ slice
+
+-- a row that an exclusion changes, of a day before another, lies in a slice
+pub record IsChangedBefore (m : Measure) (made : List (Exclusion × Bool)) (value : Exclusion)
+    (rows : List Row) (day slice : ℕ) : Type 0 where
+  pub is : IsChanged m made value rows slice
+  pub before : is.row.minute / 1440 < day
+
+-- so does one of a day before another, or of that day from a place of the book on
+pub record IsChangedFrom (m : Measure) (made : List (Exclusion × Bool)) (value : Exclusion)
+    (rows : List Row) (day place slice : ℕ) : Type 0 where
+  pub is : IsChanged m made value rows slice
+  pub passed : (is.row.minute / 1440 < day)
+      ⊎ ((is.row.minute / 1440 ≡ day) × (place ≤ is.place))
+
+-- Some slices more are touched: they are in the run that waits then. So is what was in the one
+-- before it, or nothing is known near that any more.
+pub record Touches (more : ℕ → Type 0) (width reach : ℕ) (run next : Option Run)
+    (line after : Line) : Type 0 where
+  pub runs : IsRunIf width reach next
+  pub has : (slice : ℕ) → more slice → IsInIf next slice
+  pub own : (slice : ℕ) → IsInIf next slice → IsInIf run slice ⊎ more slice
+  pub all : (slice : ℕ) → IsInIf run slice → IsInIf next slice ⊎ IsClear after width slice
+  pub only : ForgetsOnly (IsInIf run) width line after
+
+-- On the way: what is near the slices so far is forgotten, but for the run that waits, and nothing
+-- that is near no touched slice.
+pub record IsForgetting (touched so_far : ℕ → Type 0) (width : ℕ) (run : Option Run)
+    (before line : Line) : Type 0 where
+  pub only : ForgetsOnly touched width before line
   pub runs : IsRunIf width (reach_of before.rule) run
-  pub own : (slice : ℕ) → IsInIf run slice → HasMoved m rows verdicts slice
-  pub clear : (slice : ℕ) → HasMovedBefore m rows verdicts at slice →
-      IsInIf run slice ⊎ IsClear line width slice
+  pub own : (slice : ℕ) → IsInIf run slice → touched slice
+  pub clear : (slice : ℕ) → so_far slice → IsInIf run slice ⊎ IsClear line width slice

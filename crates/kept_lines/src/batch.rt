@@ -1,13 +1,12 @@
 //! What a line forgets before the rows of a batch are followed.
 ghost use Rattle.std.specs.Prelude.{◌≡◌, ◌<◌, ◌≤◌};
 ghost use Rattle.std.specs.List.{AllByRecursion};
-ghost use Rattle.slo_limits.specs.declared.TheConstants.{MAX_MINUTE};
 ghost use Rattle.sample_book.specs.declared.Row.{Row};
 ghost use Rattle.sample_book.specs.Puts.{verdicts as verdicts_lem};
 ghost use Rattle.burn_core.specs.Alert.{IsRule};
 ghost use Rattle.window_sums.specs.Slices.{width_of};
 ghost use Rattle.kept_sums.specs.Replacing.{HasMoved};
-ghost use Rattle.kept_lines.specs.Touched.{Forgets};
+ghost use Rattle.kept_lines.specs.Touched.{Forgets, LAST_MINUTE};
 
 use crate::run::{forget_waiting, touch};
 use alert_line::AlertLine;
@@ -33,7 +32,7 @@ pub fn forget_rows(
     requires width { width ≡ width_of measure.now.method }
     requires some { 0 < width }
     requires small { width ≤ 60 }
-    requires early { AllByRecursion (λ (row : Row). row.minute ≤ MAX_MINUTE) rows.now }
+    requires early { AllByRecursion (λ (row : Row). row.minute ≤ LAST_MINUTE) rows.now }
     requires verdicts { verdicts.now ≡ verdicts_lem book.now.rows rows.now }
     ensures { Forgets (HasMoved measure.now rows.now verdicts.now) width line.old line.new }
 {

@@ -4,8 +4,15 @@
 #![tactic(auto)]
 
 mod batch;
+mod exclusion;
 mod laws;
+mod right;
 mod run;
 
 pub use batch::forget_rows;
+pub use exclusion::forget_exclusion;
 pub use laws::{lines_agree_again, lines_follow_their_sums};
+pub use right::{
+    lines_stay_right_over_batches, lines_stay_right_over_exclusions,
+    lines_stay_right_where_minutes_are_alike, right_lines_agree,
+};

@@ -1,9 +1,8 @@
 //! Runs of neighbouring slices, near which a line forgets at once.
 ghost use Rattle.std.specs.Prelude.{◌≡◌, ◌<◌, ◌≤◌, ◌*◌, ◌⊎◌, ℕ, IfSome};
-ghost use Rattle.slo_limits.specs.declared.TheConstants.{MAX_MINUTE};
 ghost use Rattle.burn_core.specs.Alert.{IsRule, reach_of};
 ghost use Rattle.kept_lines.specs.Touched.{Forgets, ForgetsOnly, IsClear, IsInIf, IsInRun, IsRun};
-ghost use Rattle.kept_lines.specs.Touched.{IsRunIf};
+ghost use Rattle.kept_lines.specs.Touched.{IsRunIf, LAST_MINUTE};
 
 use alert_line::AlertLine;
 use burn_core::AlertRule;
@@ -49,7 +48,7 @@ pub(crate) fn forget_waiting(line: &mut AlertLine, rule: &AlertRule, width: u32,
 fn joined(run: Option<Run>, rule: &AlertRule, width: u32, slice: u32) -> Option<Run>
     requires small { width ≤ 60 }
     requires ranges { IsRule rule.now }
-    requires early { slice * width ≤ MAX_MINUTE }
+    requires early { slice * width ≤ LAST_MINUTE }
     requires run { IsRunIf width (reach_of rule.now) run }
     requires some { 0 < width }
     ensures run { IsRunIf width (reach_of rule.now) result }
@@ -93,7 +92,7 @@ pub(crate) fn touch(
     requires ranges { IsRule rule.now }
     requires some { 0 < width }
     requires small { width ≤ 60 }
-    requires early { slice * width ≤ MAX_MINUTE }
+    requires early { slice * width ≤ LAST_MINUTE }
     requires run { IsRunIf width (reach_of rule.now) waiting }
     ensures run { IsRun width (reach_of rule.now) result }
     ensures has { IsInRun result.first result.last slice }

@@ -1,4 +1,0 @@
-use Rattle.objective_sums.proofs.watch.state_of_watch.Given as goal
-
-abbrev pub ghosts-state_of_line : goal.ghosts-state_of_line
-ghosts-state_of_line a = record { name = a.blank.name; parts = a.blank.parts }

@@ -1,0 +1,50 @@
+-- The sums that are found among those that are kept.
+use Rattle.std.proofs.Common.{◌≡◌, ◌≢◌, ℕ, List, [], ◌∷◌, refl}
+use Rattle.std.specs.List.{AllByRecursion, Contains}
+use Rattle.std.proofs.lemmas.List.Elements.{All-contains, All-from_recursion}
+use Rattle.slice_method.specs.Leaves.{leaf}
+use Rattle.window_sums.specs.Slices.{CountedDays, counts_of}
+use Rattle.office_history.specs.declared.Measure.{Measure}
+use Rattle.office_history.specs.Counts.{Samples, slice_counts}
+use Rattle.kept_sums.specs.Sums.{IsKept}
+use Rattle.kept_objectives.specs.declared.ObjectiveSums.{ObjectiveSums}
+use Rattle.kept_objectives.specs.Objectives.{IsObjective, measures_of}
+use Rattle.office_derived.specs.declared.Derived.{Derived}
+use Rattle.office_derived.specs.Derived.{IsSound}
+use Rattle.watched_objectives.specs.Sums.{AreSums}
+
+abbrev entry : Measure → CountedDays → ObjectiveSums
+entry m sums = record { measure = m; sums = sums }
+
+-- sums that are kept of an objective are those of its rows
+pub kept_there : (d : Derived) (m : Measure) (sums : CountedDays) → IsSound d →
+    Contains d.sums.kept (entry m sums) → IsKept m d.book.exclusions d.book.rows sums
+kept_there d m sums s there =
+    All-contains (λ (k : ObjectiveSums). IsKept k.measure d.book.exclusions d.book.rows k.sums)
+    d.sums.kept (entry m sums)
+    (All-from_recursion
+    (λ (k : ObjectiveSums). IsKept k.measure d.book.exclusions d.book.rows k.sums)
+    d.sums.kept s.sums.sums) there
+
+other_measures : (m : Measure) (kept : List ObjectiveSums) →
+    AllByRecursion (λ (k : ObjectiveSums). k.measure ≢ m) kept →
+    AllByRecursion (λ (other : Measure). other ≢ m) (measures_of kept)
+other_measures m [] others = tt
+other_measures m (k ∷ kept) others = (others.0, other_measures m kept others.1)
+
+-- an objective of the catalog has sums that are kept
+pub never_lacking : (d : Derived) (m : Measure) → IsSound d → IsObjective d.catalog m →
+    AllByRecursion (λ (k : ObjectiveSums). k.measure ≢ m) d.sums.kept → ⊥
+never_lacking d m s is others =
+    All-contains (λ (other : Measure). other ≢ m) (measures_of d.sums.kept) m
+    (All-from_recursion (λ (other : Measure). other ≢ m) (measures_of d.sums.kept)
+    (other_measures m d.sums.kept others)) (s.sums.all m is) refl
+
+-- and they are its sums, where each slice counts what its minutes do
+pub are_sums : (s : Samples) (m : Measure) (sums : CountedDays) →
+    ((slice : ℕ) → counts_of sums slice ≡ slice_counts s m slice) →
+    IsKept m s.exclusions s.rows sums → AreSums s m sums
+are_sums s m sums counts kept = record {
+  method = kept.method;
+  leaves = λ slice i. leaf (kept.method i) (counts slice i);
+}

@@ -1,0 +1,46 @@
+-- What is known of a binding that watches an alert.
+use Rattle.std.proofs.Common.{◌≡◌, ◌==◌, ◌&&◌, Bool, true, false, List, Option, Some, None}
+use Rattle.std.proofs.Common.{IfSome, refl, sym}
+use Rattle.std.specs.List.{Contains, list_any}
+use Rattle.std.specs.Str.{bytes_eq}
+use Rattle.std.proofs.lemmas.Bool.{eqb-true}
+use Rattle.std.proofs.lemmas.Map.Views.{Contains-from_any}
+use Rattle.std.proofs.lemmas.Slice.Eq.{bytes_eq-Decides}
+use Rattle.slo_objects.specs.declared.Object.{Object}
+use Rattle.slo_catalog.specs.declared.Binding.{Binding}
+use Rattle.slo_catalog.specs.Bindings.{bindings}
+use Rattle.office_history.specs.Alerts.{Watch, same_binding, watch_of}
+use Rattle.watched_objectives.specs.Watches.{IsWatched}
+
+both : (a b : Bool) → a && b ≡ true → (a ≡ true) × (b ≡ true)
+both true true h = (refl, refl)
+both true false h = cc h
+both false b h = cc h
+
+-- bindings of one SLO, objective and policy are one
+one_binding : (a b : Binding) → same_binding a b ≡ true → a ≡ b
+one_binding a b h =
+    let slo = both (bytes_eq a.slo b.slo)
+    (a.objective == b.objective && bytes_eq a.policy b.policy) h in
+    let rest = both (a.objective == b.objective) (bytes_eq a.policy b.policy) slo.1 in
+    λ i. record {
+      slo = (bytes_eq-Decides a.slo b.slo).0 slo.0 i;
+      objective = eqb-true a.objective b.objective rest.0 i;
+      policy = (bytes_eq-Decides a.policy b.policy).0 rest.1 i;
+    }
+
+-- so a binding that is found is one of them
+binding_among : (b : Binding) (bs : List Binding) → list_any (same_binding b) bs ≡ true →
+    Contains bs b
+binding_among b bs found = Contains-from_any one_binding b bs found
+
+-- what a binding of the catalog watches is watched
+pub watched_among : (members : List Object) (b : Binding) (w : Option Watch) →
+    list_any (same_binding b) (bindings members) ≡ true → w ≡ watch_of members b →
+    IfSome w (IsWatched members)
+watched_among members b None found is = tt
+watched_among members b (Some w) found is = record {
+  binding = b;
+  among = binding_among b (bindings members) found;
+  watches = sym is;
+}

@@ -1,0 +1,12 @@
+use Rattle.window_sums.proofs.WidthFacts.{width-few, width-named}
+use Rattle.watched_objectives.proofs.forget.width_of.Goals as goal
+
+pub returns-in-Timeslices-clause-few : goal.returns-in-Timeslices-clause-few
+returns-in-Timeslices-clause-few c =
+    width-few c.in-Timeslices.width
+    (width-named c.args.method.now c.in-Timeslices.width c.in-Timeslices.is c.requires.divides)
+
+pub returns-in-Timeslices-2-clause-few : goal.returns-in-Timeslices-2-clause-few
+returns-in-Timeslices-2-clause-few c =
+    width-few c.in-Timeslices.width
+    (width-named c.args.method.now c.in-Timeslices.width c.in-Timeslices.is c.requires.divides)

@@ -1,0 +1,37 @@
+use Rattle.std.proofs.Common.{rules, ◌≡◌, ◌++◌, List, if◌then◌else◌, ap, subst, sym, ◌∙◌}
+use Rattle.std.specs.Prelude.{is_ok}
+use Rattle.std.specs.List.{Contains}
+use Rattle.kept_lines.specs.Right.{IsRight}
+use Rattle.kept_objectives.proofs.TakeLemmas.{all_append}
+use Rattle.watched_objectives.specs.Lines.{AreRight, LinesKept, watches_of}
+use Rattle.watched_objectives.specs.declared.kept.WatchLine.{WatchLine}
+use Rattle.watched_objectives.proofs.TakeLemmas.{one_of_both, retained_each, retained_there}
+use Rattle.watched_objectives.proofs.TakeLemmas.{retained_wanted, taken}
+use Rattle.watched_objectives.proofs.kept.KeptLines.take.Goals as goal
+
+-- both lists stand together before those that aren't wanted go
+together : (c : goal.After-drop-wanted) →
+    c.append.new.self.items ≡ c.args.self.now.kept ++ c.args.plan.made.items
+together c =
+    let old = c.self.inside.lines.items in
+    let brought = c.args.plan.made.items in
+    c.append.ensures.items
+    ∙ ap (λ r. if is_ok r then old ++ brought else old) c.unwrap.ensures
+    ∙ ap (λ (k : LinesKept). k.kept ++ brought) c.self.view_is
+
+pub returns : goal.returns
+returns c = λ begin before after s keeps is.
+    let old = c.args.self.now.kept in
+    let made = c.args.plan.made.items in
+    let filtered = c.retain.ensures.filtered in
+    taken begin before after s c.args.plan old c.retain.new.self.items keeps is
+    (λ there brought. retained_each _ _ (λ (k : WatchLine). IsRight begin s k.watch k.line) _
+    c.retain.new.self.items filtered
+    (subst (AreRight begin s) (sym (together c))
+    (all_append (λ (k : WatchLine). IsRight begin s k.watch k.line) old made there brought)))
+    (retained_wanted _ c.args.plan.wanted.items _ (λ x b g k. search rules) _
+    c.retain.new.self.items filtered)
+    (λ w want at. retained_there _ c.args.plan.wanted.items _ (λ x b g k. search rules) _
+    c.retain.new.self.items filtered w want
+    (subst (λ (ks : List WatchLine). Contains (watches_of ks) w) (sym (together c))
+    (one_of_both old made w at)))

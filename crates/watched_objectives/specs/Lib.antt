@@ -1,0 +1,6 @@
+pub mod Lines
+pub mod Plans
+pub mod States
+pub mod Sums
+pub mod Watches
+pub mod Changes

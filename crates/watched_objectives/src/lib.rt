@@ -1,0 +1,20 @@
+//! The sums of a catalog's objectives, what its bindings watch, and the lines of its alerts.
+//! Stands on the sums that are kept beside a history, and on what lines have to forget.
+//! Promises of each slice the leaf that the history gives it, and of each binding its state.
+#![tactic(auto)]
+
+mod forget;
+mod kept;
+mod plan;
+mod same;
+mod standing;
+mod states;
+mod sums;
+mod take;
+mod watch;
+
+pub use kept::{KeptLines, WatchLine};
+pub use plan::{LinesPlan, plan_lines};
+pub use states::states_over;
+pub use sums::objective_sums;
+pub use watch::{Watch, same_binding, watch_of, watched};

@@ -1,0 +1,93 @@
+//! How all bindings of a catalog stand.
+ghost use Rattle.std.specs.Prelude.{◌≡◌, ◌<◌, ◌≤◌, ◌+◌, IfOk, map};
+ghost use Rattle.std.specs.List.{Contains};
+ghost use Rattle.office_history.specs.Alerts.{state_if, states_at, watch_of as watch_of_lem};
+ghost use Rattle.office_derived.specs.Derived.{IsSound};
+ghost use Rattle.slo_catalog.specs.Bindings.{bindings as bindings_lem};
+ghost use Rattle.watched_objectives.specs.Sums.{samples_of};
+ghost use Rattle.watched_objectives.specs.Lines.{HasLines, watches_of};
+ghost use Rattle.watched_objectives.specs.States.{with_state};
+
+use crate::kept::KeptLines;
+use crate::watch::watch_of;
+use burn_core::State;
+use office_derived::Derived;
+use slo_catalog::Binding;
+use std::alloc::{AllocError, Global};
+
+// How the alert of a binding stands.
+fn state_of_binding(
+    derived: &Derived,
+    lines: &mut KeptLines,
+    binding: &Binding,
+    minute: u32,
+) -> State
+    requires sound { IsSound derived.now }
+    requires lines { HasLines derived.now lines.old.kept }
+    requires among { Contains (bindings_lem derived.now.catalog) binding.now }
+    requires begun { derived.now.origin ≤ minute }
+    requires in_range { minute < derived.now.origin + 2097152 }
+    ensures value { result ≡ state_if derived.now.origin (samples_of derived.now.book) minute
+        (watch_of_lem derived.now.catalog binding.now) }
+    ensures lines { HasLines derived.now lines.new.kept }
+    ensures watches { watches_of lines.new.kept ≡ watches_of lines.old.kept }
+    ensures spare { lines.new.spare ≡ lines.old.spare }
+{
+    match watch_of(&derived.catalog, binding) {
+        Some(watch) => lines.state_at(derived, &watch, minute),
+        None => State::Quiet,
+    }
+}
+
+// Each of the bindings with its state.
+fn states_of(
+    alloc: Global,
+    derived: &Derived,
+    lines: &mut KeptLines,
+    bindings: &[Binding],
+    minute: u32,
+) -> Result<Vec<(Binding, State)>, AllocError>
+    requires sound { IsSound derived.now }
+    requires lines { HasLines derived.now lines.old.kept }
+    requires bindings { bindings.now ≡ bindings_lem derived.now.catalog }
+    requires begun { derived.now.origin ≤ minute }
+    requires in_range { minute < derived.now.origin + 2097152 }
+    ensures value { IfOk result (λ states. states.items
+        ≡ map (with_state derived.now minute) bindings.now) }
+    ensures lines { HasLines derived.now lines.new.kept }
+    ensures watches { watches_of lines.new.kept ≡ watches_of lines.old.kept }
+    ensures spare { lines.new.spare ≡ lines.old.spare }
+{
+    let mut states = Vec::new(alloc);
+    for binding in bindings {
+        let state = state_of_binding(derived, lines, binding, minute);
+        states.push((*binding, state))?;
+    }
+    Ok(states)
+}
+
+/// Each binding of the catalog with its state at a minute of the office's range. Afterwards the
+/// lines know the minutes that decide about the states.
+///
+/// # Errors
+///
+/// Memory ran out.
+pub fn states_over(
+    alloc: Global,
+    derived: &Derived,
+    lines: &mut KeptLines,
+    minute: u32,
+) -> Result<Vec<(Binding, State)>, AllocError>
+    requires sound { IsSound derived.now }
+    requires lines { HasLines derived.now lines.old.kept }
+    requires begun { derived.now.origin ≤ minute }
+    requires in_range { minute < derived.now.origin + 2097152 }
+    ensures value { IfOk result (λ states. states.items
+        ≡ states_at derived.now.origin derived.now.catalog (samples_of derived.now.book) minute) }
+    ensures lines { HasLines derived.now lines.new.kept }
+    ensures watches { watches_of lines.new.kept ≡ watches_of lines.old.kept }
+    ensures spare { lines.new.spare ≡ lines.old.spare }
+{
+    let bindings = derived.catalog.bindings(alloc)?;
+    states_of(alloc, derived, lines, &bindings, minute)
+}

@@ -1,0 +1,26 @@
+//! The sums of an objective, which the machine keeps.
+ghost use Rattle.office_derived.specs.Derived.{IsSound};
+ghost use Rattle.kept_objectives.specs.Objectives.{IsObjective};
+ghost use Rattle.watched_objectives.specs.Sums.{AreSums, samples_of};
+
+use kept_sums::kept_counts_are_those_of_the_minutes;
+use office_derived::Derived;
+use office_history::Measure;
+use window_sums::WindowSums;
+
+/// The sums of an objective of the catalog. Takes no memory, and looks at no row.
+pub fn objective_sums<'a>(derived: &'a Derived, measure: &Measure) -> &'a WindowSums
+    requires sound { IsSound derived.now }
+    requires objective { IsObjective derived.now.catalog measure.now }
+    ensures { AreSums (samples_of derived.now.book) measure.now result.now }
+{
+    kept_counts_are_those_of_the_minutes();
+    match derived.sums.find(measure) {
+        Some(sums) => {
+            // A slice has a minute at least, as sums know of themselves.
+            let _ = sums.width();
+            sums
+        }
+        None => unreachable!(),
+    }
+}
