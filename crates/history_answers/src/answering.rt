@@ -3,6 +3,7 @@ ghost use Rattle.std.specs.Prelude.{◌≡◌, ◌≤◌, ◌<◌, ◌⊎◌, If
 ghost use Rattle.office_history.specs.History.{Office, end_of};
 ghost use Rattle.office_history.specs.Answers.{Answers};
 ghost use Rattle.office_derived.specs.Derived.{IsSound, Reflects};
+ghost use Rattle.watched_objectives.specs.Lines.{HasLines};
 
 use crate::budget_list::budget_list;
 use crate::burn_rate::burn_rate;
@@ -13,17 +14,23 @@ use office_derived::Derived;
 use record_form::{Outcome, Query};
 use slo_catalog::Binding;
 use std::alloc::{AllocError, Global};
+use watched_objectives::KeptLines;
 
 fn answered(
     alloc: Global,
     derived: &Derived,
+    lines: &mut KeptLines,
     moment: u32,
     query: &Query,
 ) -> Result<Outcome, AllocError>
     requires sound { IsSound derived.now }
     requires begun { derived.now.origin ≤ moment }
     requires in_range { moment < end_of derived.now.origin }
-    ensures { (o : Office) → Reflects derived.now o → IfOk result (Answers o moment query.now) }
+    requires lines { HasLines derived.now lines.old.kept }
+    ensures answer { (o : Office) → Reflects derived.now o
+        → IfOk result (Answers o moment query.now) }
+    ensures lines { HasLines derived.now lines.new.kept }
+    ensures spare { lines.new.spare ≡ lines.old.spare }
 {
     match *query {
         Query::Objects => object_list(alloc, derived),
@@ -47,21 +54,30 @@ fn answered(
                 objective,
                 policy,
             };
-            timeline(alloc, derived, moment, &binding, from, to)
+            timeline(alloc, derived, lines, moment, &binding, from, to)
         }
         Query::Notices => notice_list(alloc, derived),
     }
 }
 
 /// The answer to a query at a moment of the office's range, or `NoMemory` where memory ran out.
-pub fn answer(alloc: Global, derived: &Derived, moment: u32, query: &Query) -> Outcome
+pub fn answer(
+    alloc: Global,
+    derived: &Derived,
+    lines: &mut KeptLines,
+    moment: u32,
+    query: &Query,
+) -> Outcome
     requires sound { IsSound derived.now }
     requires begun { derived.now.origin ≤ moment }
     requires in_range { moment < end_of derived.now.origin }
-    ensures { (o : Office) → Reflects derived.now o
+    requires lines { HasLines derived.now lines.old.kept }
+    ensures answer { (o : Office) → Reflects derived.now o
         → (Answers o moment query.now result ⊎ (result ≡ Outcome.NoMemory)) }
+    ensures lines { HasLines derived.now lines.new.kept }
+    ensures spare { lines.new.spare ≡ lines.old.spare }
 {
-    match answered(alloc, derived, moment, query) {
+    match answered(alloc, derived, lines, moment, query) {
         Ok(outcome) => outcome,
         Err(_) => Outcome::NoMemory,
     }

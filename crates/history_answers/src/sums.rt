@@ -5,15 +5,15 @@ ghost use Rattle.window_sums.specs.Slices.{leaf_at, width_of};
 ghost use Rattle.office_history.specs.Counts.{sum_between as sum_between_lem};
 ghost use Rattle.kept_objectives.specs.Objectives.{IsObjective};
 ghost use Rattle.office_derived.specs.Derived.{IsSound};
-ghost use Rattle.objective_sums.specs.Sums.{samples_of};
+ghost use Rattle.watched_objectives.specs.Sums.{samples_of};
 
 use counted_steps::Steps;
 use exact_fraction::Leaf;
-use objective_sums::objective_sums;
 use office_derived::Derived;
 use office_history::Measure;
 use std::marker::Brand;
 use std::sync::ledger::{Blank, Ledger};
+use watched_objectives::objective_sums;
 use window_sums::WindowSums;
 
 // The sum over [from, to). No one counts the steps.

@@ -32,7 +32,7 @@ use Rattle.office_derived.proofs.Lists.{last-push, map_ext}
 use Rattle.office_derived.proofs.More.{rows_more, changes_more, events_more, zones_more, catalog_more, present_more, told_more, ticks_more}
 use Rattle.office_derived.proofs.Sound.{sound_still}
 use Rattle.office_derived.proofs.Still.{taken_still}
-use Rattle.objective_sums.specs.Sums.{samples_of}
+use Rattle.watched_objectives.specs.Sums.{samples_of}
 use Rattle.notice_changes.specs.Works.{new_notices}
 use Rattle.notice_changes.proofs.BoxLemmas.{length_new, length_numbered, numbered_more, waiting_more, waiting_new}
 

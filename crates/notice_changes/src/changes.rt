@@ -6,9 +6,9 @@ ghost use Rattle.office_history.specs.Notices.{state_eq as state_eq_lem};
 
 use burn_core::State;
 use catalog_measures::flags_named;
-use objective_sums::same_binding;
 use slo_catalog::{Binding, Catalog};
 use std::alloc::{AllocError, Global};
+use watched_objectives::same_binding;
 
 // The state before of a binding that wasn't there.
 const UNSEEN: State = State::Quiet;

@@ -4,7 +4,6 @@
 #![tactic(auto)]
 
 mod changes;
-mod judgement;
 mod laws;
 mod take;
 mod telling;

@@ -8,9 +8,8 @@ ghost use Rattle.office_history.specs.Verdicts.{is_waiting as is_waiting_lem, ta
 ghost use Rattle.office_derived.specs.declared.Work.TheVariants as works;
 ghost use Rattle.office_derived.specs.Derived.{IsJudged, IsNext, IsSound, Reflects, entry_of};
 
-use crate::judgement::accepted;
 use notice_box::{NoticeBox, UnknownNotice};
-use office_derived::{Derived, Judged, Work};
+use office_derived::{Derived, Judged, Work, accepted};
 use office_history::Judgement;
 use record_form::{Outcome, Refusal};
 

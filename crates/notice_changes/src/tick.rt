@@ -10,20 +10,20 @@ ghost use Rattle.office_history.specs.Verdicts.{tick_verdict};
 ghost use Rattle.office_derived.specs.declared.Work.TheVariants as works;
 ghost use Rattle.office_derived.specs.Derived.{HasRoom, IsJudged, IsNext, IsSound, Reflects, Stays};
 ghost use Rattle.office_derived.specs.Derived.{entry_of};
-ghost use Rattle.objective_sums.specs.Sums.{samples_of};
+ghost use Rattle.watched_objectives.specs.Sums.{samples_of};
+ghost use Rattle.watched_objectives.specs.Lines.{HasLines};
 
 use crate::changes::changes;
-use crate::judgement::accepted;
 use crate::telling::tell;
 use burn_core::State;
 use notice_box::NoticeBox;
-use objective_sums::states_over;
-use office_derived::{Derived, Judged, Work};
+use office_derived::{Derived, Judged, Work, accepted};
 use office_history::Judgement;
 use record_form::{LimitName, Outcome, Refusal};
 use slo_catalog::Binding;
 use slo_limits::MAX_NOTICES;
 use std::alloc::{AllocError, Global};
+use watched_objectives::{KeptLines, states_over};
 
 // Bindings with their states.
 type States = Vec<(Binding, State)>;
@@ -53,29 +53,36 @@ fn tick_judgement(notices: &NoticeBox, entries: u32, told: &[(Binding, State)]) 
 fn states_and_changes(
     alloc: Global,
     derived: &Derived,
+    lines: &mut KeptLines,
     moment: u32,
 ) -> Result<(States, States), AllocError>
     requires sound { IsSound derived.now }
     requires begun { derived.now.origin ≤ moment }
     requires in_range { moment < end_of derived.now.origin }
+    requires lines { HasLines derived.now lines.old.kept }
     ensures states { IfOk result (λ found. found.0.items
         ≡ states_at derived.now.origin derived.now.catalog (samples_of derived.now.book) moment) }
     ensures told { IfOk result (λ found. found.1.items
         ≡ changes_lem derived.now.catalog derived.now.states.items found.0.items) }
+    ensures lines { HasLines derived.now lines.new.kept }
+    ensures spare { lines.new.spare ≡ lines.old.spare }
 {
-    let states = states_over(alloc, derived, moment)?;
+    let states = states_over(alloc, derived, lines, moment)?;
     let told = changes(alloc, &derived.catalog, &derived.states, &states)?;
     Ok((states, told))
 }
 
 /// What becomes of a tick at a moment of the office's range.
-pub fn judge_tick(alloc: Global, derived: &Derived, moment: u32) -> Judged
+pub fn judge_tick(alloc: Global, derived: &Derived, lines: &mut KeptLines, moment: u32) -> Judged
     requires sound { IsSound derived.now }
     requires begun { derived.now.origin ≤ moment }
     requires in_range { moment < end_of derived.now.origin }
-    ensures { (o : Office) → Reflects derived.now o → IsJudged o moment Tick result }
+    requires lines { HasLines derived.now lines.old.kept }
+    ensures judged { (o : Office) → Reflects derived.now o → IsJudged o moment Tick result }
+    ensures lines { HasLines derived.now lines.new.kept }
+    ensures spare { lines.new.spare ≡ lines.old.spare }
 {
-    match states_and_changes(alloc, derived, moment) {
+    match states_and_changes(alloc, derived, lines, moment) {
         Ok((states, told)) => {
             match tick_judgement(&derived.notices, derived.entries, &told) {
                 Judgement::Accepted => Judged::Ready(Work::Tick { states, told }),

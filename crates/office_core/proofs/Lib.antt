@@ -1,2 +1,4 @@
+pub mod LinesLemmas
 pub mod MachineLemmas
 pub mod RangeLemmas
+pub mod Sending

@@ -15,6 +15,12 @@ use Rattle.office_history.specs.Judges.{Judges}
 use Rattle.office_history.specs.Legal.{IsLegal}
 use Rattle.office_derived.specs.declared.Derived.{Derived}
 use Rattle.office_derived.specs.Derived.{HasRoom, IsNext, IsSound, Reflects, entry_of}
+use Rattle.office_derived.specs.declared.Work.{Work}
+use Rattle.office_derived.specs.declared.Work.TheVariants as works
+use Rattle.watched_objectives.specs.Lines.{HasLines, LinesKept}
+use Rattle.watched_objectives.specs.Plans.{IsLinesPlan}
+use Rattle.watched_objectives.specs.declared.LinesPlan.{LinesPlan}
+use Rattle.slo_objects.specs.declared.Object.{Object}
 use Rattle.office_core.specs.declared.machine.Pending.{Pending}
 use Rattle.office_core.specs.declared.machine.Verdict.{Verdict}
 use Rattle.office_core.specs.declared.machine.Verdict.TheVariants as verdicts
@@ -27,24 +33,41 @@ abbrev pub pending_of : Option Pending → Option Entry
 pending_of None = None
 pending_of (Some p) = Some (entry_of p.moment p.work)
 
+-- what becomes of the lines as this catalog comes, and there is room for those that are new
+abbrev pub HasLinesFor : Derived → LinesKept → List Object → Option LinesPlan → Type 0
+HasLinesFor d lines catalog None = ⊥
+HasLinesFor d lines catalog (Some plan) =
+    IsLinesPlan d.origin d.catalog catalog plan × (length plan.made.items ≤ lines.spare)
+
+-- a definition or a removal knows what becomes of the lines
+abbrev pub HasLinesPlan : Derived → LinesKept → Work → Option LinesPlan → Type 0
+HasLinesPlan d lines (works.Define text catalog applied sums) plan =
+    HasLinesFor d lines catalog plan
+HasLinesPlan d lines (works.Remove kind name catalog sums) plan = HasLinesFor d lines catalog plan
+HasLinesPlan d lines _ plan = Unit {0}
+
 -- an entry can be added with no memory
-pub record IsReady (d : Derived) (o : Office) (spare : ℕ) (p : Pending) : Type 0 where
+pub record IsReady (d : Derived) (lines : LinesKept) (o : Office) (spare : ℕ) (p : Pending) :
+    Type 0 where
   pub next : IsNext d o p.moment p.work
   pub room : HasRoom d p.work
   pub fits : FitsRecord (entry_of p.moment p.work)
   pub bytes : length (record_of (entry_of p.moment p.work)) ≤ spare
+  pub plan : HasLinesPlan d lines p.work p.plan
 
-abbrev pub IsReadyIf : Derived → Office → ℕ → Option Pending → Type 0
-IsReadyIf d o spare None = Unit {0}
-IsReadyIf d o spare (Some p) = IsReady d o spare p
+abbrev pub IsReadyIf : Derived → LinesKept → Office → ℕ → Option Pending → Type 0
+IsReadyIf d lines o spare None = Unit {0}
+IsReadyIf d lines o spare (Some p) = IsReady d lines o spare p
 
 -- what the machine keeps is what its history says
-pub record IsKept (d : Derived) (bytes : List ℕ) (spare : ℕ) (pending : Option Pending) : Type 0 where
+pub record IsKept (d : Derived) (lines : LinesKept) (bytes : List ℕ) (spare : ℕ)
+    (pending : Option Pending) : Type 0 where
   pub records : AreRecords bytes
   pub sound : IsSound d
   pub reflects : Reflects d (office_of d bytes)
   pub legal : IsLegal d.origin (history_of bytes)
-  pub ready : IsReadyIf d (office_of d bytes) spare pending
+  pub lines_right : HasLines d lines.kept
+  pub ready : IsReadyIf d lines (office_of d bytes) spare pending
 
 -- What the preparing of a command answers: its verdict over the history, unless memory ran out. An accepted one is pending,
 -- with its record; after every other answer nothing is.

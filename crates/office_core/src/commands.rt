@@ -4,7 +4,10 @@ ghost use Rattle.office_history.specs.History.{Office, with_entry, end_of};
 ghost use Rattle.office_history.specs.Outcomes.{outcome_of};
 ghost use Rattle.office_derived.specs.Derived.{HasRoom, IsJudged, IsNext, IsSound, Reflects, Stays};
 ghost use Rattle.office_derived.specs.Derived.{command_of, entry_of};
+ghost use Rattle.watched_objectives.specs.Lines.{HasLines};
+ghost use Rattle.office_core.specs.Machine.{HasLinesPlan};
 
+use crate::lines::lift;
 use catalog_changes::{
     apply_define, apply_put_zone, apply_remove, judge_define, judge_put_zone, judge_remove,
     room_for_plan, room_for_put_zone,
@@ -13,17 +16,26 @@ use notice_changes::{apply_take, apply_tick, judge_take, judge_tick, room_for_ti
 use office_derived::{Derived, Judged, Work};
 use record_form::{Command, Outcome};
 use sample_changes::{
-    apply_exclude, apply_lift, apply_samples, judge_exclude, judge_lift, judge_samples,
-    room_for_exclude, room_for_samples,
+    apply_exclude, apply_samples, judge_exclude, judge_lift, judge_samples, room_for_exclude,
+    room_for_samples,
 };
 use std::alloc::{AllocError, Global};
+use watched_objectives::{KeptLines, LinesPlan};
 
 /// What becomes of a command at a moment.
-pub(crate) fn judge(alloc: Global, derived: &Derived, moment: u32, command: &Command) -> Judged
+pub(crate) fn judge(
+    alloc: Global,
+    derived: &Derived,
+    lines: &mut KeptLines,
+    moment: u32,
+    command: &Command,
+) -> Judged
     requires sound { IsSound derived.now }
     requires begun { derived.now.origin ≤ moment }
     requires in_range { moment < end_of derived.now.origin }
-    ensures { (o : Office) → Reflects derived.now o → IsJudged o moment command.now result }
+    requires lines { HasLines derived.now lines.old.kept }
+    ensures judged { (o : Office) → Reflects derived.now o → IsJudged o moment command.now result }
+    ensures lines { HasLines derived.now lines.new.kept }
 {
     match command {
         Command::Define(text) => judge_define(alloc, derived, moment, text),
@@ -32,7 +44,7 @@ pub(crate) fn judge(alloc: Global, derived: &Derived, moment: u32, command: &Com
         Command::Samples(rows) => judge_samples(alloc, derived, moment, rows),
         Command::Exclude(value) => judge_exclude(derived, value),
         Command::Lift(id) => judge_lift(derived, *id),
-        Command::Tick => judge_tick(alloc, derived, moment),
+        Command::Tick => judge_tick(alloc, derived, lines, moment),
         Command::Take(number) => judge_take(derived, *number),
     }
 }
@@ -53,38 +65,65 @@ pub(crate) fn make_room(derived: &mut Derived, work: &Work) -> Result<(), AllocE
     }
 }
 
-/// Does an accepted command, with no memory.
-pub(crate) fn apply(derived: &mut Derived, moment: u32, work: Work) -> Outcome
+/// Does an accepted command, with no memory. The lines of alerts forget what it changes.
+pub(crate) fn apply(
+    derived: &mut Derived,
+    lines: &mut KeptLines,
+    moment: u32,
+    work: Work,
+    plan: Option<LinesPlan>,
+) -> Outcome
     requires sound { IsSound derived.old }
     requires room { HasRoom derived.old work }
     requires next { (o : Office) × IsNext derived.old o moment work }
+    requires lines { HasLines derived.old lines.old.kept }
+    requires plan { HasLinesPlan derived.old lines.old work plan }
     ensures reflects { (o : Office) → IsNext derived.old o moment work
         → Reflects derived.new (with_entry o (entry_of moment work)) }
     ensures sound { IsSound derived.new }
     ensures outcome { (o : Office) → IsNext derived.old o moment work
         → result ≡ outcome_of o moment (command_of work) }
+    ensures lines { HasLines derived.new lines.new.kept }
 {
     match work {
         Work::Define {
             text,
             catalog,
             applied,
-            plan,
-        } => apply_define(derived, moment, text, catalog, applied, plan),
+            plan: sums,
+        } => {
+            let outcome = apply_define(derived, moment, text, catalog, applied, sums);
+            if let Some(plan) = plan {
+                lines.take(plan);
+            }
+            outcome
+        }
         Work::Remove {
             kind,
             name,
             catalog,
-            plan,
-        } => apply_remove(derived, moment, kind, name, catalog, plan),
+            plan: sums,
+        } => {
+            let outcome = apply_remove(derived, moment, kind, name, catalog, sums);
+            if let Some(plan) = plan {
+                lines.take(plan);
+            }
+            outcome
+        }
         Work::PutZone { name, bytes, zone } => apply_put_zone(derived, moment, name, bytes, zone),
         Work::Samples {
             rows,
             tally,
             verdicts,
-        } => apply_samples(derived, moment, rows, tally, verdicts),
-        Work::Exclude(value) => apply_exclude(derived, moment, value),
-        Work::Lift(id) => apply_lift(derived, moment, id),
+        } => {
+            lines.forget_rows(derived, rows.as_slice(), &verdicts);
+            apply_samples(derived, moment, rows, tally, verdicts)
+        }
+        Work::Exclude(value) => {
+            lines.forget_exclusion(derived, &value, true);
+            apply_exclude(derived, moment, value)
+        }
+        Work::Lift(id) => lift(derived, lines, moment, id),
         Work::Tick { states, told } => apply_tick(derived, moment, states, told),
         Work::Take(number) => apply_take(derived, moment, number),
     }

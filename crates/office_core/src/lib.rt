@@ -5,6 +5,7 @@
 #![tactic(auto)]
 
 mod commands;
+mod lines;
 mod machine;
 
 pub use machine::{Core, Prepared, Verdict};

@@ -17,11 +17,13 @@ ghost use Rattle.office_history.specs.Notices.{notices_in, waiting};
 ghost use Rattle.office_history.specs.Outcomes.{outcome_of};
 ghost use Rattle.office_derived.specs.Derived.{HasRoom, Stays, command_of, entry_of};
 ghost use Rattle.history_answers.specs.States.{binding_state};
-ghost use Rattle.office_core.specs.Machine.{HasRevisions, IsKept, IsPending, IsVerdict, office_of};
-ghost use Rattle.office_core.specs.Machine.{pending_of};
+ghost use Rattle.watched_objectives.specs.Lines.{HasLines};
+ghost use Rattle.office_core.specs.Machine.{HasLinesPlan, HasRevisions, IsKept, IsPending};
+ghost use Rattle.office_core.specs.Machine.{IsVerdict, office_of, pending_of};
 ghost use Rattle.office_core.specs.declared.machine.Pending.{Pending};
 
 use crate::commands::{apply, judge, make_room};
+use crate::lines::plan_of;
 use burn_core::State;
 use exact_fraction::Label;
 use history_answers::{answer, state_of};
@@ -36,12 +38,14 @@ use slo_catalog::Catalog;
 use slo_limits::RANGE_MINUTES;
 use std::alloc::{AllocError, Global};
 use std::marker::Model;
+use watched_objectives::{KeptLines, LinesPlan};
 
 /// An entry for which room was made.
 #[derive(Drop)]
 pub(crate) struct Pending {
     moment: u32,
     work: Work,
+    plan: Option<LinesPlan>,
 }
 
 /// The record of an entry for which room was made.
@@ -81,6 +85,7 @@ pub enum Verdict {
 pub struct Core {
     records: Vec<u8>,
     derived: Derived,
+    lines: KeptLines,
     pending: Option<Pending>,
 }
 
@@ -97,7 +102,7 @@ impl Model for Core {
           a.pending;
     } };
 
-    ghost invariant = { λ a. IsKept a.derived a.records.items
+    ghost invariant = { λ a. IsKept a.derived a.lines a.records.items
         (vec_capacity a.records - vec_len a.records) a.pending };
 }
 
@@ -125,6 +130,7 @@ impl Core {
                 notices: NoticeBox::new(alloc),
                 states: Vec::new(alloc),
             },
+            lines: KeptLines::new(alloc),
             pending: None,
         })
     }
@@ -205,6 +211,7 @@ impl Core {
             alloc,
             &mut self.records,
             &mut self.derived,
+            &mut self.lines,
             moment,
             command,
         );
@@ -221,12 +228,12 @@ impl Core {
         ensures outcome { (e : Entry) → IsPending self.old e
             → result ≡ outcome_of self.old.office e.moment e.command }
     {
-        let Some(Pending { moment, work }) = self.pending.take() else {
+        let Some(Pending { moment, work, plan }) = self.pending.take() else {
             return Outcome::NoMemory;
         };
         one_record_more();
         self.records.extend_from_slice(value.bytes()).unwrap();
-        apply(&mut self.derived, moment, work)
+        apply(&mut self.derived, &mut self.lines, moment, work, plan)
     }
 
     /// Answers a query at a moment. The history and what is pending stay.
@@ -236,7 +243,7 @@ impl Core {
         ensures same { self.new ≡ self.old }
         ensures answer { Answers self.old.office moment query.now result ⊎ (result ≡ NoMemory) }
     {
-        answer(alloc, &self.derived, moment, query)
+        answer(alloc, &self.derived, &mut self.lines, moment, query)
     }
 
     /// The state of a binding at a minute; none exactly where there is no such binding. The history
@@ -256,7 +263,15 @@ impl Core {
             ≡ binding_state self.old.office
             (record { slo = slo; objective = objective; policy = policy }) at) }
     {
-        state_of(alloc, &self.derived, slo, objective, policy, at)
+        state_of(
+            alloc,
+            &self.derived,
+            &mut self.lines,
+            slo,
+            objective,
+            policy,
+            at,
+        )
     }
 }
 
@@ -265,31 +280,32 @@ fn judge_and_make_room(
     alloc: Global,
     records: &mut Vec<u8>,
     derived: &mut Derived,
+    lines: &mut KeptLines,
     moment: u32,
     command: &Command,
 ) -> (Verdict, Option<Pending>)
     requires kept { (spare : ℕ) × (pending : Option Pending)
-        × IsKept derived.old records.old.items spare pending }
+        × IsKept derived.old lines.old records.old.items spare pending }
     requires later { present (office_of derived.old records.old.items) ≤ moment }
     requires in_range { moment < end_of derived.old.origin }
     requires readable { moment ≤ MAX_MINUTE }
     requires revisions { HasRevisions command.now }
-    ensures kept { IsKept derived.new records.new.items
+    ensures kept { IsKept derived.new lines.new records.new.items
         (vec_capacity records.new - vec_len records.new) result.1 }
     ensures office { office_of derived.new records.new.items
         ≡ office_of derived.old records.old.items }
     ensures verdict { IsVerdict (office_of derived.old records.old.items)
         (record { moment = moment; command = command.now }) result.0 (pending_of result.1) }
 {
-    match judge(alloc, derived, moment, command) {
+    match judge(alloc, derived, lines, moment, command) {
         Judged::Same(outcome) => (Verdict::Same(outcome), None),
         Judged::Refused(refusal) => (Verdict::Refused(refusal), None),
         Judged::NoMemory => (Verdict::NoMemory, None),
         Judged::Ready(work) => {
-            match make_ready(alloc, records, derived, moment, command, &work) {
-                Ok(bytes) => (
+            match make_ready(alloc, records, derived, lines, moment, command, &work) {
+                Ok((bytes, plan)) => (
                     Verdict::Ready(Prepared { bytes }),
-                    Some(Pending { moment, work }),
+                    Some(Pending { moment, work, plan }),
                 ),
                 Err(_) => (Verdict::NoMemory, None),
             }
@@ -297,27 +313,32 @@ fn judge_and_make_room(
     }
 }
 
-/// Makes room for an entry, and gives its record.
+/// Makes room for an entry, and gives its record and what it makes of the lines.
 fn make_ready(
     alloc: Global,
     records: &mut Vec<u8>,
     derived: &mut Derived,
+    lines: &mut KeptLines,
     moment: u32,
     command: &Command,
     work: &Work,
-) -> Result<Vec<u8>, AllocError>
+) -> Result<(Vec<u8>, Option<LinesPlan>), AllocError>
     requires command { command_of work.now ≡ command.now }
     requires range { IsEntryInRange (record { moment = moment; command = command.now }) }
+    requires lines { HasLines derived.old lines.old.kept }
     ensures stays { Stays derived.old derived.new }
     ensures records { records.new.items ≡ records.old.items }
     ensures room { OnOk result (HasRoom derived.new work.now) }
-    ensures bytes { IfOk result (λ bytes. bytes.items ≡ record_of (entry_of moment work.now)) }
+    ensures bytes { IfOk result (λ made. made.0.items ≡ record_of (entry_of moment work.now)) }
     ensures fits { OnOk result (FitsRecord (entry_of moment work.now)) }
-    ensures spare { IfOk result (λ bytes. length bytes.items ≤ vec_capacity records.new
+    ensures spare { IfOk result (λ made. length made.0.items ≤ vec_capacity records.new
         - vec_len records.new) }
+    ensures plan { IfOk result (λ made. HasLinesPlan derived.old lines.new work.now made.1) }
+    ensures lines { lines.new.kept ≡ lines.old.kept }
 {
+    let plan = plan_of(alloc, derived, lines, work)?;
     make_room(derived, work)?;
     let bytes = write_command(alloc, moment, command)?.into_vec();
     records.reserve(bytes.len())?;
-    Ok(bytes)
+    Ok((bytes, plan))
 }

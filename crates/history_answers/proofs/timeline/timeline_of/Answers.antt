@@ -1,11 +1,17 @@
-use Rattle.std.proofs.Common.{◌∙◌, sym}
-use Rattle.objective_sums.specs.Sums.{samples_of}
+use Rattle.std.proofs.Common.{◌≡◌, ◌∙◌, ℕ, true, List, subst, sym}
+use Rattle.burn_core.specs.Timeline.{AreSpansOf}
+use Rattle.office_history.specs.Alerts.{is_watch_active}
+use Rattle.watched_objectives.specs.Sums.{samples_of}
 use Rattle.history_answers.proofs.TimelineLemmas.{answers}
 use Rattle.history_answers.proofs.timeline.timeline_of.Goals as goal
 
-pub returns : goal.returns
-returns c = λ o r.
-    answers c.args.derived.now o r c.args.moment c.args.from c.args.to c.args.watch.now c.in_ok-intervals.intervals c.in_ok-state.state
-    (sym c.is_timeline.ensures ∙ c.if-not-is_timeline.false)
-    (c.in_ok-intervals.ensures (samples_of c.args.derived.now.book) c.sums_of_watch-sums.ensures)
-    (c.in_ok-state.ensures (samples_of c.args.derived.now.book) c.sums_of_watch-sums.ensures)
+pub returns-clause-answer : goal.returns-clause-answer
+returns-clause-answer c = λ o r.
+    let d = c.args.derived.now in
+    let w = c.args.watch.now in
+    answers d o r c.args.moment c.args.from c.args.to w c.from_vec-intervals.result
+    c.state_at-state.result (sym c.is_timeline.ensures ∙ c.if-not-is_timeline.false)
+    (subst (λ (spans : List (ℕ × ℕ)). AreSpansOf (λ minute. is_watch_active d.origin
+    (samples_of d.book) w minute ≡ true) c.args.from c.args.to spans)
+    (sym c.from_vec-intervals.ensures) c.in_ok-intervals.ensures.value)
+    c.state_at-state.ensures.value

@@ -6,8 +6,8 @@ use Rattle.office_derived.specs.declared.Work.TheVariants as works
 use Rattle.notice_changes.proofs.TickLemmas.{found_changes, found_states, judged_tick}
 use Rattle.notice_changes.proofs.tick.judge_tick.Goals as goal
 
-pub returns-in-Accepted : goal.returns-in-Accepted
-returns-in-Accepted c = λ o r.
+pub returns-in-Accepted-clause-judged : goal.returns-in-Accepted-clause-judged
+returns-in-Accepted-clause-judged c = λ o r.
     let d = c.args.derived.now in
     let moment = c.args.moment in
     let work : Work = works.Tick c.in-Ok.states c.in-Ok.told in
@@ -19,8 +19,8 @@ returns-in-Accepted c = λ o r.
     (ap length c.deref.ensures.value ∙ ap length told) Accepted
     (sym c.in-Accepted.is ∙ c.tick_judgement.ensures)
 
-pub returns-in-Refused : goal.returns-in-Refused
-returns-in-Refused c = λ o r.
+pub returns-in-Refused-clause-judged : goal.returns-in-Refused-clause-judged
+returns-in-Refused-clause-judged c = λ o r.
     let d = c.args.derived.now in
     let moment = c.args.moment in
     let work : Work = works.Tick c.in-Ok.states c.in-Ok.told in

@@ -5,6 +5,8 @@ use Rattle.record_form.specs.Records.{record_of}
 use Rattle.office_history.specs.declared.Judgement.TheVariants.{Accepted}
 use Rattle.office_history.specs.Judges.{Judges}
 use Rattle.office_derived.specs.Derived.{IsJudged}
+use Rattle.watched_objectives.specs.declared.WatchLine.{WatchLine}
+use Rattle.watched_objectives.specs.Lines.{HasLines}
 use Rattle.office_core.specs.declared.machine.Pending.{Pending}
 use Rattle.office_core.specs.Machine.{office_of}
 use Rattle.office_core.proofs.MachineLemmas.{begun, kept_ready, kept_stays}
@@ -17,13 +19,13 @@ judge-requires-clause-begun c = omega (arith, begun (office_of c.args.derived.no
 pub make_ready-requires-clause-command : goal.make_ready-requires-clause-command
 make_ready-requires-clause-command c =
     let o = office_of c.args.derived.now c.args.records.now.items in
-    (subst (IsJudged o c.args.moment c.args.command.now) c.in-Ready.is (c.judge.ensures o c.requires.kept.2.reflects)).1
+    (subst (IsJudged o c.args.moment c.args.command.now) c.in-Ready.is (c.judge.ensures.judged o c.requires.kept.2.reflects)).1
 
 pub make_ready-requires-clause-range : goal.make_ready-requires-clause-range
 make_ready-requires-clause-range c =
     let o = office_of c.args.derived.now c.args.records.now.items in
     let k = c.requires.kept.2 in
-    let judged = subst (IsJudged o c.args.moment c.args.command.now) c.in-Ready.is (c.judge.ensures o k.reflects) in
+    let judged = subst (IsJudged o c.args.moment c.args.command.now) c.in-Ready.is (c.judge.ensures.judged o k.reflects) in
     in_range o c.args.moment c.args.command.now (omega (arith, k.sound.origin)) c.requires.readable c.requires.revisions judged.0
 
 pub returns-in-Ok-clause-kept : goal.returns-in-Ok-clause-kept
@@ -31,10 +33,11 @@ returns-in-Ok-clause-kept c =
     let d = c.args.derived.now in
     let o = office_of d c.args.records.now.items in
     let k = c.requires.kept.2 in
-    let judged = subst (IsJudged o c.args.moment c.args.command.now) c.in-Ready.is (c.judge.ensures o k.reflects) in
-    let p : Pending = record { moment = c.args.moment; work = c.in-Ready.work } in
-    kept_ready d c.make_ready.new.derived c.args.records.now.items c.make_ready.new.records.items _ (vec_capacity c.make_ready.new.records - vec_len c.make_ready.new.records) c.requires.kept.1 (Some p) p
-    k c.in-Ok.ensures.stays c.in-Ok.ensures.records refl c.requires.later c.requires.in_range
+    let judged = subst (IsJudged o c.args.moment c.args.command.now) c.in-Ready.is (c.judge.ensures.judged o k.reflects) in
+    let p : Pending = record { moment = c.args.moment; work = c.in-Ready.work; plan = c.in-Ok.plan } in
+    let right = subst (λ (kept : List WatchLine). HasLines d kept) (sym c.in-Ok.ensures.lines) c.judge.ensures.lines in
+    kept_ready d c.make_ready.new.derived c.args.lines.now c.make_ready.new.lines c.args.records.now.items c.make_ready.new.records.items _ (vec_capacity c.make_ready.new.records - vec_len c.make_ready.new.records) c.requires.kept.1 (Some p) p
+    k c.in-Ok.ensures.stays right c.in-Ok.ensures.plan c.in-Ok.ensures.records refl c.requires.later c.requires.in_range
     (subst (λ (command : Command). Judges o c.args.moment command Accepted) (sym judged.1) judged.0) judged.2
     c.in-Ok.ensures.room c.in-Ok.ensures.fits
     (subst (λ (bytes : List ℕ). length bytes ≤ vec_capacity c.make_ready.new.records - vec_len c.make_ready.new.records) c.in-Ok.ensures.bytes c.in-Ok.ensures.spare)
@@ -42,10 +45,12 @@ returns-in-Ok-clause-kept c =
 pub returns-in-Ok-clause-verdict : goal.returns-in-Ok-clause-verdict
 returns-in-Ok-clause-verdict c =
     let o = office_of c.args.derived.now c.args.records.now.items in
-    let judged = subst (IsJudged o c.args.moment c.args.command.now) c.in-Ready.is (c.judge.ensures o c.requires.kept.2.reflects) in
+    let judged = subst (IsJudged o c.args.moment c.args.command.now) c.in-Ready.is (c.judge.ensures.judged o c.requires.kept.2.reflects) in
     let at : Command → Entry = λ command. record { moment = c.args.moment; command = command } in
     (judged.0, c.in-Ok.ensures.bytes ∙ ap (λ command. record_of (at command)) judged.1, ap (λ command. Some (at command)) judged.1)
 
 pub returns-in-Err-clause-kept : goal.returns-in-Err-clause-kept
 returns-in-Err-clause-kept c =
-    kept_stays c.args.derived.now c.make_ready.new.derived c.args.records.now.items c.make_ready.new.records.items _ _ c.requires.kept.1 None c.requires.kept.2 c.in-Err.ensures.stays c.in-Err.ensures.records refl
+    kept_stays c.args.derived.now c.make_ready.new.derived c.args.lines.now c.make_ready.new.lines c.args.records.now.items c.make_ready.new.records.items _ _ c.requires.kept.1 None c.requires.kept.2 c.in-Err.ensures.stays
+    (subst (λ (kept : List WatchLine). HasLines c.args.derived.now kept) (sym c.in-Err.ensures.lines) c.judge.ensures.lines)
+    c.in-Err.ensures.records refl

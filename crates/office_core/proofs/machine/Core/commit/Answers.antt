@@ -12,11 +12,12 @@ invariant_of-self-2 c =
     let bytes = c.self.inside.records.items in
     let new = c.extend_from_slice.new.self.items in
     let e = c.requires.0 in
-    let r = committed d c.apply.new.derived bytes new c.bytes.result.now _ c.self.inside.pending c.in-Some.field-0 e c.self.invariant c.in-Some.ensures.value
+    let r = committed d c.apply.new.derived c.self.inside.lines bytes new c.bytes.result.now _ c.self.inside.pending c.in-Some.field-0 e c.self.invariant c.in-Some.ensures.value
     (ap (λ (m : Machine). m.pending) c.self.view_is ∙ c.requires.1) (c.bytes.ensures ∙ c.requires.2)
     (c.extend_from_slice.ensures.items ∙ ap (λ r. if is_ok r then bytes ++ c.bytes.result.now else bytes) c.unwrap.ensures)
     c.apply.ensures.reflects in
-    kept_next c.one_record_more.ensures d c.apply.new.derived bytes new _ c.take.new.self e r c.apply.ensures.sound c.take.ensures.after
+    kept_next c.one_record_more.ensures d c.apply.new.derived c.apply.new.lines bytes new _ c.take.new.self e r
+    c.apply.ensures.sound c.apply.ensures.lines c.take.ensures.after
 
 pub returns-clause-office : goal.returns-clause-office
 returns-clause-office c e pending =
@@ -24,7 +25,7 @@ returns-clause-office c e pending =
     let bytes = c.self.inside.records.items in
     let new = c.extend_from_slice.new.self.items in
     let same : c.requires.0 ≡ e = cc (sym c.requires.1 ∙ pending) in
-    let r = committed d c.apply.new.derived bytes new c.bytes.result.now _ c.self.inside.pending c.in-Some.field-0 e c.self.invariant c.in-Some.ensures.value
+    let r = committed d c.apply.new.derived c.self.inside.lines bytes new c.bytes.result.now _ c.self.inside.pending c.in-Some.field-0 e c.self.invariant c.in-Some.ensures.value
     (ap (λ (m : Machine). m.pending) c.self.view_is ∙ pending) (c.bytes.ensures ∙ c.requires.2 ∙ ap record_of same)
     (c.extend_from_slice.ensures.items ∙ ap (λ r. if is_ok r then bytes ++ c.bytes.result.now else bytes) c.unwrap.ensures)
     c.apply.ensures.reflects in
