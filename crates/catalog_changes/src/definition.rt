@@ -14,13 +14,13 @@ ghost use Rattle.office_derived.specs.Derived.{Reflects, entry_of};
 ghost use Rattle.office_derived.specs.declared.Work.TheVariants as works;
 ghost use Rattle.catalog_changes.specs.Judging.{IsJudgedBy, IsPlanOver, IsTextWork, known_by};
 
+use crate::copies::copy_of;
 use crate::days::passes_days;
-use crate::entries::{accepted, copy_of};
 use crate::kinds::bodies_are_of_their_kinds;
 use definition_verdict::{Definition, VerdictError, judge_definition};
 use exact_fraction::Bytes;
 use kept_objectives::SumsPlan;
-use office_derived::{Derived, Judged, Work};
+use office_derived::{Derived, Judged, Work, accepted};
 use office_history::Judgement;
 use record_form::{LimitName, Outcome, Refusal};
 use slo_catalog::Catalog;

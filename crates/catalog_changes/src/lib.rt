@@ -4,9 +4,9 @@
 //! once.
 #![tactic(auto)]
 
+mod copies;
 mod days;
 mod definition;
-mod entries;
 mod kinds;
 mod laws;
 mod plans;

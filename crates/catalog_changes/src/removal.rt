@@ -11,10 +11,9 @@ ghost use Rattle.office_derived.specs.Derived.{entry_of};
 ghost use Rattle.office_derived.specs.declared.Work.TheVariants as works;
 ghost use Rattle.catalog_changes.specs.Judging.{IsJudgedBy, IsRemoval};
 
-use crate::entries::accepted;
 use exact_fraction::Label;
 use kept_objectives::SumsPlan;
-use office_derived::{Derived, Judged, Work};
+use office_derived::{Derived, Judged, Work, accepted};
 use office_history::Judgement;
 use record_form::{Outcome, Refusal};
 use sample_book::{Row, SampleBook};

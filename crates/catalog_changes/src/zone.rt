@@ -17,9 +17,9 @@ ghost use Rattle.office_derived.specs.Derived.{entry_of};
 ghost use Rattle.office_derived.specs.declared.Work.TheVariants as works;
 ghost use Rattle.catalog_changes.specs.Judging.{IsJudgedBy, IsZoneWork};
 
-use crate::entries::{accepted, copy_of};
+use crate::copies::copy_of;
 use exact_fraction::{Bytes, ZoneName};
-use office_derived::{Derived, Judged, Work};
+use office_derived::{Derived, Judged, Work, accepted};
 use office_history::Judgement;
 use record_form::{LimitName, Outcome, Refusal};
 use slo_limits::{MAX_ZONE_BYTES, MAX_ZONES};

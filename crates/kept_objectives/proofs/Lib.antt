@@ -1,3 +1,4 @@
 pub mod Loops
 pub mod FollowLemmas
 pub mod TakeLemmas
+pub mod ObjectiveLemmas

@@ -11,3 +11,4 @@ mod take;
 
 pub use kept::{KeptSums, ObjectiveSums};
 pub use plan::SumsPlan;
+pub use same::is_same;

@@ -24,8 +24,8 @@ fn is_same_method(a: Method, b: Method) -> bool
     a == b
 }
 
-// Whether two objectives are one: the name first, in which most differ.
-pub(crate) fn is_same(a: &Measure, b: &Measure) -> bool
+/// Whether two objectives are one: the name first, in which most differ.
+pub fn is_same(a: &Measure, b: &Measure) -> bool
     ensures { Decides result (a.now ≡ b.now) }
 {
     a.slo == b.slo

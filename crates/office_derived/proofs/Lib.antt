@@ -1,6 +1,6 @@
+pub mod FormLemmas
 pub mod Lists
 pub mod More
-pub mod ObjectiveLemmas
 pub mod Sound
 pub mod Still
 pub mod ZoneLemmas

@@ -3,11 +3,13 @@
 //! Promises nothing of changes: their crates prove that what is kept reflects the history.
 #![tactic(auto)]
 
+mod accepting;
 mod derived;
 mod tally;
 mod work;
 mod zones;
 
+pub use accepting::accepted;
 pub use derived::Derived;
 pub use tally::Tally;
 pub use work::{Judged, Work};

@@ -26,7 +26,7 @@ use Rattle.office_derived.specs.declared.Tally.{Tally}
 use Rattle.office_derived.specs.declared.Work.TheVariants as works
 use Rattle.office_derived.specs.Derived.{IsNext, IsRead, IsSound, Reflects, entry_of}
 use Rattle.office_derived.proofs.More.{rows_more}
-use Rattle.office_derived.proofs.ObjectiveLemmas.{all_forms}
+use Rattle.office_derived.proofs.FormLemmas.{all_forms}
 use Rattle.sample_changes.proofs.GoodRows.{IsGood}
 use Rattle.sample_changes.proofs.Kept.{each, rows_good}
 

@@ -1,7 +1,8 @@
 //! Exclusions and their liftings.
-ghost use Rattle.std.specs.Prelude.{◌≡◌, ◌<◌, ℕ, true, OnOk, Some, is_none, is_some, length};
+ghost use Rattle.std.specs.Prelude.{◌≡◌, ◌<◌, ◌++◌, ◌∷◌, ◌||◌, [], ℕ, List, true, OnOk, Some};
+ghost use Rattle.std.specs.Prelude.{is_none, is_some, length};
 ghost use Rattle.sample_book.specs.declared.Exclusion.{Exclusion};
-ghost use Rattle.sample_book.specs.Exclusions.{IsLive, exclusion_of};
+ghost use Rattle.sample_book.specs.Exclusions.{IsLive, excludes, exclusion_of, is_excluded};
 ghost use Rattle.slo_objects.specs.Slo.{slo_in};
 ghost use Rattle.record_form.specs.declared.Command.TheVariants as commands;
 ghost use Rattle.office_history.specs.History.{Office, with_entry};
@@ -16,9 +17,9 @@ ghost use Rattle.office_derived.specs.declared.Work.TheVariants as works;
 ghost use Rattle.office_derived.specs.Derived.{HasRoom, IsJudged, IsNext, IsSound, Reflects, Stays};
 ghost use Rattle.office_derived.specs.Derived.{entry_of};
 
-use crate::judgement::{accepted, limit};
+use crate::faults::limit;
 use exact_fraction::Label;
-use office_derived::{Derived, Judged, Work};
+use office_derived::{Derived, Judged, Work, accepted};
 use office_history::Judgement;
 use record_form::{LimitName, Outcome, Refusal};
 use sample_book::{Exclusion, SampleBook};
@@ -145,6 +146,7 @@ pub fn apply_exclude(derived: &mut Derived, moment: u32, value: Exclusion) -> Ou
     ensures sound { IsSound derived.new }
     ensures outcome { (o : Office) → IsNext derived.old o moment (works.Exclude value) → result ≡
         outcome_of o moment (commands.Exclude value) }
+    ensures made { derived.new.book.exclusions ≡ derived.old.book.exclusions ++ (value, true) ∷ [] }
 {
     let entry = derived.entries;
     derived.sums.follow_exclusion(&derived.book, &value, true);
@@ -197,6 +199,11 @@ pub fn apply_lift(derived: &mut Derived, moment: u32, id: Label) -> Outcome
     ensures sound { IsSound derived.new }
     ensures outcome { (o : Office) → IsNext derived.old o moment (works.Lift id) → result ≡
         outcome_of o moment (commands.Lift id) }
+    ensures minutes { (value : Exclusion) (slo : List ℕ) (minute : ℕ)
+        → exclusion_of derived.old.book.exclusions id ≡ Some (value, true)
+        → is_excluded derived.old.book.exclusions slo minute
+        ≡ (is_excluded derived.new.book.exclusions slo minute
+        || excludes slo minute (value, true)) }
 {
     let entry = derived.entries;
     let value = live_exclusion(&derived.book, id);

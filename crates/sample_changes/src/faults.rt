@@ -1,8 +1,6 @@
 //! The rules that a row of a batch can break.
 ghost use Rattle.std.specs.Prelude.{◌≡◌, ◌≤◌, length};
-ghost use Rattle.std.specs.Option.{option_copied};
 ghost use Rattle.slo_limits.specs.declared.TheConstants.{MAX_BATCH_ROWS};
-ghost use Rattle.slo_objects.specs.Sli.{sli_in as sli_in_lem};
 ghost use Rattle.slice_method.specs.declared.Amount.TheVariants as amounts;
 ghost use Rattle.record_form.specs.declared.Refusal.TheVariants as refusals;
 ghost use Rattle.office_history.specs.Lists.{first_some};
@@ -12,31 +10,19 @@ ghost use Rattle.office_history.specs.Batches.{conflict_fault as conflict_fault_
 ghost use Rattle.office_history.specs.Batches.{form_fault as form_fault_lem};
 ghost use Rattle.office_history.specs.Batches.{row_fault as row_fault_lem, rows_faults, when};
 
-use definition_verdict::reading_of;
-use exact_fraction::{Decimal, Label};
-use record_form::Refusal;
+use catalog_measures::reading_named;
+use exact_fraction::Decimal;
+use record_form::{LimitName, Refusal};
 use sample_book::{Amount, Row, RowVerdict};
 use slice_method::Reading;
 use slo_catalog::Catalog;
 use slo_limits::{MAX_AMOUNT, WHOLE};
-use slo_objects::{Body, Kind, Object, Sli};
 
-/// The indicator that an object is.
-fn sli_in(object: &Object) -> Option<&Sli>
-    ensures { option_copied result ≡ sli_in_lem object.now.body }
+/// There would be too much of something.
+pub(crate) fn limit(which: LimitName) -> Refusal
+    ensures { result ≡ refusals.Limit which }
 {
-    match &object.body {
-        Body::Sli(sli) => Some(sli),
-        _ => None,
-    }
-}
-
-/// How the amounts of the indicator of a name are read.
-fn reading_named(catalog: &Catalog, name: Label) -> Option<Reading>
-    ensures { result ≡ reading_named_lem catalog.now name }
-{
-    let sli = sli_in(catalog.find(Kind::Sli, name)?)?;
-    Some(reading_of(&sli.metric))
+    Refusal::Limit { which }
 }
 
 /// The fault of a row's numbers, where they are broken.

@@ -5,7 +5,6 @@
 
 mod exclusions;
 mod faults;
-mod judgement;
 mod laws;
 mod samples;
 mod tally;

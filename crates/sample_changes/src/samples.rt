@@ -21,11 +21,10 @@ ghost use Rattle.office_derived.specs.Derived.{entry_of};
 ghost use Rattle.sample_changes.specs.Judging.{rows_fault as rows_fault_lem, rows_verdict};
 ghost use Rattle.sample_changes.specs.Works.{ComesTo};
 
-use crate::faults::batch_fault;
-use crate::judgement::{accepted, limit};
+use crate::faults::{batch_fault, limit};
 use crate::tally::tally_of;
 use objective_days::passes_days_limit;
-use office_derived::{Derived, Judged, Tally, Work};
+use office_derived::{Derived, Judged, Tally, Work, accepted};
 use office_history::Judgement;
 use record_form::{LimitName, Outcome, Refusal, Rows};
 use sample_book::{Row, RowVerdict, SampleBook};

@@ -20,7 +20,8 @@ use Rattle.kept_objectives.specs.Objectives.{IsObjective}
 use Rattle.office_history.specs.declared.Measure.{Measure}
 use Rattle.office_history.specs.Objectives.{measures_named, measures_of}
 use Rattle.office_derived.specs.Derived.{IsRead}
-use Rattle.office_derived.proofs.ObjectiveLemmas.{all_fit, all_objectives, objective_among}
+use Rattle.kept_objectives.proofs.ObjectiveLemmas.{all_objectives, objective_among}
+use Rattle.office_derived.proofs.FormLemmas.{all_fit}
 use Rattle.sums_plan.specs.Wanted.{objectives_in}
 
 -- LISTS

@@ -6,7 +6,7 @@ use Rattle.object_ranges.specs.Ranges as ranges
 use Rattle.office_history.specs.Objectives.{measure_of, measures_named, reading_named, slo_named}
 use Rattle.slo_objects.specs.declared.Slo.{Slo}
 use Rattle.kept_objectives.specs.Objectives.{IsObjective}
-use Rattle.office_derived.proofs.ObjectiveLemmas.{all_objectives}
+use Rattle.kept_objectives.proofs.ObjectiveLemmas.{all_objectives}
 use Rattle.catalog_measures.proofs.CatalogLemmas.{all_made, measures_there}
 use Rattle.catalog_measures.proofs.measures.measures_named.Goals as goal
 

@@ -4,7 +4,7 @@ use Rattle.kept_sums.specs.Walks.{made_on}
 use Rattle.office_history.specs.History.{events_in}
 use Rattle.office_derived.specs.declared.Derived.{Derived}
 use Rattle.office_derived.specs.declared.Work.TheVariants as works
-use Rattle.office_derived.proofs.ObjectiveLemmas.{sound_forms}
+use Rattle.office_derived.proofs.FormLemmas.{sound_forms}
 use Rattle.office_derived.proofs.Still.{reflects_still}
 use Rattle.sample_changes.proofs.Following.{change_followed, kept_over}
 use Rattle.sample_changes.proofs.Kept.{accepted_still, exclude_entries, sound_still}

@@ -5,7 +5,7 @@ use Rattle.kept_objectives.specs.Objectives.{HaveForms}
 use Rattle.office_history.specs.History.{events_in}
 use Rattle.office_derived.specs.declared.Derived.{Derived}
 use Rattle.office_derived.specs.declared.Work.TheVariants as works
-use Rattle.office_derived.proofs.ObjectiveLemmas.{sound_forms}
+use Rattle.office_derived.proofs.FormLemmas.{sound_forms}
 use Rattle.office_derived.proofs.Still.{reflects_still}
 use Rattle.sample_changes.proofs.Following.{change_followed, kept_alike, kept_over, made_anew}
 use Rattle.sample_changes.proofs.Kept.{accepted_still, lift_entries, sound_still}
@@ -52,3 +52,6 @@ returns-clause-sound c =
     sound_still d d' c.requires.sound (lift_entries d c.requires.next.0 c.args.moment c.args.id c.requires.next.1) refl refl refl refl c.lift.ensures.rows refl
     (change_followed d d' c.requires.sound refl c.lift.ensures.rows
     c.follow_exclusion.ensures.measures c.follow_exclusion.ensures.kept)
+
+pub returns-clause-minutes : goal.returns-clause-minutes
+returns-clause-minutes c value slo minute is = c.lift.ensures.minutes value slo minute is

@@ -8,7 +8,7 @@ use Rattle.office_history.specs.History.{events_in, with_entry}
 use Rattle.office_derived.specs.declared.Derived.{Derived}
 use Rattle.office_derived.specs.declared.Work.TheVariants as works
 use Rattle.office_derived.specs.Derived.{Reflects, entry_of}
-use Rattle.office_derived.proofs.ObjectiveLemmas.{sound_forms}
+use Rattle.office_derived.proofs.FormLemmas.{sound_forms}
 use Rattle.office_derived.proofs.Still.{reflects_still}
 use Rattle.sample_changes.proofs.Following.{batch_fits, batch_followed}
 use Rattle.sample_changes.proofs.Kept.{may_come, samples_few, samples_sound, samples_taken}
