@@ -1,4 +1,3 @@
 pub mod Making
-pub mod Opening
 pub mod Serving
 pub mod Reporting

@@ -7,7 +7,7 @@ use Rattle.office_history.specs.History.{Office, end_of, moment_of}
 use Rattle.office_keep.specs.Files.{IsWhole, StandsFor}
 use Rattle.office_report.specs.Report.{IsReport}
 use Rattle.journal_commands.specs.Making.{Bench}
-use Rattle.journal_commands.specs.Opening.{IsFoundOn}
+use Rattle.office_keep.specs.Opening.{IsFoundOn}
 use Rattle.journal_commands.specs.declared.reporting.PrintEnd.{PrintEnd}
 use Rattle.journal_commands.specs.declared.reporting.PrintEnd.TheVariants.{Done, OutOfRange}
 use Rattle.journal_commands.specs.declared.reporting.PrintEnd.TheVariants.{WriteFault, NoMemory}

@@ -9,7 +9,7 @@ use Rattle.office_counter.specs.Laws.{Extends, IsOwned}
 use Rattle.wire_session.specs.Treats.{Treats, refusal_text}
 use Rattle.own_counter.specs.Own.{OwnAsks, OwnOn, own_on, standing_of}
 use Rattle.own_counter.specs.Runs.{IsBetween}
-use Rattle.journal_commands.specs.Opening.{IsFoundOn, Opens}
+use Rattle.office_keep.specs.Opening.{IsFoundOn, Opens}
 use Rattle.journal_commands.specs.declared.serving.PipeEnd.{PipeEnd}
 use Rattle.journal_commands.specs.declared.serving.PipeEnd.TheVariants.{Served, Unopened}
 

@@ -4,13 +4,11 @@
 #![tactic(auto)]
 
 mod making;
-mod opening;
 mod reporting;
 mod serving;
 mod writing;
 
 pub use making::{InitEnd, make_journal};
 pub use office_session::SessionEnd;
-pub use opening::{OpenFailed, Unopened, open_journal};
 pub use reporting::{PrintEnd, ReportEnd, print_report};
 pub use serving::{PipeEnd, run_session};

@@ -5,10 +5,9 @@ ghost use Rattle.journal_commands.specs.Making.{bench};
 ghost use Rattle.journal_commands.specs.Reporting.{EndsOver, IsInRange, IsOutOfRange};
 ghost use Rattle.journal_commands.specs.Reporting.{Reports, minute_by};
 
-use crate::opening::{Unopened, open_journal};
 use crate::writing::write_out;
 use office_core::Core;
-use office_keep::let_go;
+use office_keep::{Unopened, let_go, open_journal};
 use office_outside::{Clock, Disk, Failed, Sink};
 use office_report::report;
 use std::alloc::Global;

@@ -3,8 +3,7 @@ ghost use Rattle.std.specs.Prelude.{◌≡◌, None};
 ghost use Rattle.office_outside.specs.Faults.{Rose};
 ghost use Rattle.journal_commands.specs.Serving.{EndsServing, IsServed, outside};
 
-use crate::opening::{Unopened, open_journal};
-use office_keep::Office;
+use office_keep::{Office, Unopened, open_journal};
 use office_outside::{Clock, Disk, Sink, Source};
 use office_session::SessionEnd;
 use own_counter::{OwnCounter, a_stop_leaves_what_was_kept};

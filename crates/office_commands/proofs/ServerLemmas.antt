@@ -1,7 +1,7 @@
 -- What the statuses of `serve` say.
 use Rattle.std.proofs.Common.{◌≡◌, ℕ, List, arith}
 use Rattle.std.specs.Prelude.{Option, Some}
-use Rattle.journal_commands.specs.Opening.{IsBad, Opens}
+use Rattle.office_keep.specs.Opening.{IsBad, Opens}
 use Rattle.office_doors.specs.declared.Visit.{Visit}
 use Rattle.office_serving.specs.Serving.{Front, IsServed}
 use Rattle.office_serving.specs.Workers.{Site}

@@ -4,7 +4,7 @@ ghost use Rattle.office_session.specs.Sessions.{Reads};
 ghost use Rattle.office_outside.specs.Told.{Gained};
 ghost use Rattle.journal_commands.specs.Making.{HasHeader, origin_by};
 ghost use Rattle.journal_commands.specs.Reporting.{IsPrinted, IsUnprinted, OpensTo};
-ghost use Rattle.journal_commands.specs.Opening.{IsBad, Opens};
+ghost use Rattle.office_keep.specs.Opening.{IsBad, Opens};
 ghost use Rattle.turn_counter.specs.Turns.{TurnAsks};
 ghost use Rattle.office_doors.specs.declared.Visit.{Visit};
 ghost use Rattle.office_serving.specs.Serving.{Front, IsServed};

@@ -8,3 +8,5 @@ pub mod Writing
 pub mod Adding
 pub mod Changing
 pub mod Performing
+pub mod Findings
+pub mod Sending

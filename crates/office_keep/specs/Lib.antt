@@ -2,3 +2,4 @@ pub mod Files
 pub mod Office
 pub mod Steps
 pub mod Laws
+pub mod Opening

@@ -3,10 +3,10 @@ use Rattle.std.proofs.Common.{◌≡◌, ℕ, List, refl}
 use Rattle.std.specs.Prelude.{Option, Some}
 use Rattle.slo_journal.specs.Front.{HasNoHeader}
 use Rattle.office_keep.specs.Files.{IsDamagedAt}
-use Rattle.journal_commands.specs.Opening.{IsFoundOn}
-use Rattle.journal_commands.specs.declared.opening.Unopened.{Unopened}
-use Rattle.journal_commands.specs.declared.opening.Unopened.TheVariants.{NotAJournal, Damaged}
-use Rattle.journal_commands.specs.declared.opening.Unopened.TheVariants.{DiskFault, NoMemory}
+use Rattle.office_keep.specs.Opening.{IsFoundOn}
+use Rattle.office_keep.specs.declared.unopened.Unopened.{Unopened}
+use Rattle.office_keep.specs.declared.unopened.Unopened.TheVariants.{NotAJournal, Damaged}
+use Rattle.office_keep.specs.declared.unopened.Unopened.TheVariants.{DiskFault, NoMemory}
 
 pub as_found : {D : Type 0} (content : D → Option (List ℕ)) (disk : D) (why : Unopened) →
     (why ≡ NotAJournal → (file : List ℕ) → content disk ≡ Some file → HasNoHeader file) →

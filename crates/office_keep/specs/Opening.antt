@@ -4,9 +4,9 @@ use Rattle.office_outside.specs.Disk.{IsQuiet}
 use Rattle.slo_journal.specs.Front.{HasNoHeader}
 use Rattle.office_keep.specs.Files.{IsDamagedAt, IsWhole, StandsFor}
 use Rattle.office_keep.specs.Office.{OfficeOn}
-use Rattle.journal_commands.specs.declared.opening.Unopened.{Unopened}
-use Rattle.journal_commands.specs.declared.opening.Unopened.TheVariants.{NotAJournal, Damaged}
-use Rattle.journal_commands.specs.declared.opening.Unopened.TheVariants.{DiskFault, NoMemory}
+use Rattle.office_keep.specs.declared.unopened.Unopened.{Unopened}
+use Rattle.office_keep.specs.declared.unopened.Unopened.TheVariants.{NotAJournal, Damaged}
+use Rattle.office_keep.specs.declared.unopened.Unopened.TheVariants.{DiskFault, NoMemory}
 
 -- The file has no header, or is damaged at some place.
 abbrev pub IsBad : List ℕ → Type 0

@@ -2,11 +2,12 @@
 ghost use Rattle.std.specs.Prelude.{◌≡◌, ◌≤◌, ℕ, IfErr, IfOk};
 ghost use Rattle.office_outside.specs.Disk.{IsQuiet};
 ghost use Rattle.office_outside.specs.Faults.{Rose};
-ghost use Rattle.office_keep.specs.declared.KeepFault.TheVariants.{AlreadyThere, Damaged};
-ghost use Rattle.office_keep.specs.declared.KeepFault.TheVariants.{DiskFault, NotAJournal};
-ghost use Rattle.journal_commands.specs.Opening.{IsFoundOn, IsOpened};
+ghost use Rattle.office_keep.specs.declared.fault.KeepFault.TheVariants.{AlreadyThere, Damaged};
+ghost use Rattle.office_keep.specs.declared.fault.KeepFault.TheVariants.{DiskFault, NotAJournal};
+ghost use Rattle.office_keep.specs.Opening.{IsFoundOn, IsOpened};
 
-use office_keep::{KeepFault, Office};
+use crate::fault::KeepFault;
+use crate::office::Office;
 use office_outside::Disk;
 use std::alloc::Global;
 

@@ -1,5 +1,5 @@
-use Rattle.journal_commands.proofs.Findings.{as_found}
-use Rattle.journal_commands.proofs.opening.open_journal.Goals as goal
+use Rattle.office_keep.proofs.Findings.{as_found}
+use Rattle.office_keep.proofs.unopened.open_journal.Goals as goal
 
 pub returns-in-Ok-clause-opened : goal.returns-in-Ok-clause-opened
 returns-in-Ok-clause-opened g c =
