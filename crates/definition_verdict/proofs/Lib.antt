@@ -2,3 +2,4 @@ pub mod StartLemmas
 pub mod FaultLemmas
 pub mod DocumentLemmas
 pub mod VerdictLemmas
+pub mod SomeLemmas

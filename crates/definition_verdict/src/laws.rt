@@ -1,5 +1,5 @@
-//! The law of verdicts: a text has one.
-ghost use Rattle.std.specs.Prelude.{◌≡◌, ℕ, List};
+//! The laws of verdicts: a text has one.
+ghost use Rattle.std.specs.Prelude.{◌≡◌, ◌⊎◌, ℕ, List};
 ghost use Rattle.record_form.specs.declared.Refusal.{Refusal};
 ghost use Rattle.definition_verdict.specs.declared.definition.Definition.{Definition};
 ghost use Rattle.definition_verdict.specs.Verdict.{IsDefinition, IsRefused, Known};
@@ -13,4 +13,11 @@ pub fn one_verdict()
         IsDefinition known text a → IsDefinition known text b → a ≡ b }
     ensures either { (known : Known) (text : List ℕ) (made : Definition) (refusal : Refusal) →
         IsDefinition known text made → IsRefused known text refusal → ⊥ }
+{}
+
+/// A text has a verdict over what is kept, whatever it is: it defines something or is refused.
+pub fn each_text_has_a_verdict()
+    ensures { (known : Known) (text : List ℕ) →
+        ((made : Definition) × IsDefinition known text made)
+        ⊎ ((refusal : Refusal) × IsRefused known text refusal) }
 {}
