@@ -2,7 +2,8 @@
 use Rattle.std.proofs.Common.{Result, Ok, Err}
 use Rattle.std.specs.Result.{IfOk, OnOk, IsErrAnd}
 
-pub no_ok : {T E : Type 0} (Q : E → Type 0) (P : T → Type 0) (r : Result T E) → IsErrAnd r Q → IfOk r P
+pub no_ok : {T E : Type 0} (Q : E → Type 0) (P : T → Type 0) (r : Result T E)
+    → IsErrAnd r Q → IfOk r P
 no_ok Q P (Ok x) h = absurd h
 no_ok Q P (Err y) h = tt
 

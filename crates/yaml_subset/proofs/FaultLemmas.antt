@@ -1,5 +1,7 @@
 -- Lines stand for nodes or have one fault.
-use Rattle.std.proofs.Common.{◌≡◌, ◌+◌, ◌≤◌, ◌⊎◌, inl, inr, ℕ, Bool, true, false, List, [], ◌∷◌, ◌++◌, Option, Some, None, length, ap, refl, sym, subst, ◌∙◌, append_assoc, append-nil}
+use Rattle.std.proofs.Common.{◌≡◌, ◌+◌, ◌≤◌, ◌⊎◌, inl, inr, ℕ, Bool, true, false, List, [], ◌∷◌}
+use Rattle.std.proofs.Common.{◌++◌, Option, Some, None, length, ap, refl, sym, subst, ◌∙◌}
+use Rattle.std.proofs.Common.{append_assoc, append-nil}
 use Rattle.std.specs.Prelude.{nat_le, cond}
 use Rattle.std.specs.Option.{is_none, is_some}
 use Rattle.std.specs.Str.{IsUtf8}
@@ -7,26 +9,34 @@ use Rattle.std.specs.Str.Lines.{lines}
 use Rattle.yaml_subset.specs.Tree.{Tree}
 use Rattle.yaml_subset.specs.Mark.{start}
 use Rattle.yaml_subset.specs.Rows.{earlier, place}
-use Rattle.yaml_subset.specs.Text.{Marked, StandsFor, line_at, parent_after, scalar_after, marked, nodes_of, without_mark, max_bytes}
+use Rattle.yaml_subset.specs.Text.{Marked, StandsFor, line_at, parent_after, scalar_after, marked}
+use Rattle.yaml_subset.specs.Text.{nodes_of, without_mark, max_bytes}
 use Rattle.yaml_subset.specs.OpenNodes.{Open, nothing, within, add_all, open_nodes, finished}
 use Rattle.yaml_subset.specs.Fault.{IsFault, misfit, row_of}
 use Rattle.yaml_subset.specs.Reader.{Reading, IsRead, Follows}
 use Rattle.yaml_subset.specs.declared.which.Which.{Which}
-use Rattle.yaml_subset.proofs.TextLemmas.{misfit_of_add, nothing_read, read_nodes, read_more, fault_here}
+use Rattle.yaml_subset.proofs.TextLemmas.{misfit_of_add, nothing_read, read_nodes, read_more}
+use Rattle.yaml_subset.proofs.TextLemmas.{fault_here}
 use Rattle.yaml_subset.proofs.ReadLemmas.{first_lines, no_text_at_fault}
 
 -- ONE FAULT
 
 -- two places in one list: the first stands before the second, behind it, or is the same
 abbrev Places : {A : Type 0} → List A → A → List A → A → Type 0
-Places {A} b l c m = ((rest : List A) × (c ≡ (b ++ l ∷ []) ++ rest)) ⊎ (((rest : List A) × (b ≡ (c ++ m ∷ []) ++ rest)) ⊎ ((b ≡ c) × (l ≡ m)))
+Places {A} b l c m = ((rest : List A) × (c ≡ (b ++ l ∷ []) ++ rest))
+    ⊎ (((rest : List A) × (b ≡ (c ++ m ∷ []) ++ rest)) ⊎ ((b ≡ c) × (l ≡ m)))
 
-one_further : {A : Type 0} (x y : A) (b c : List A) (l m : A) → x ≡ y → Places b l c m → Places (x ∷ b) l (y ∷ c) m
-one_further {A} x y b c l m e (inl (rest, p)) = inl (rest, ap (λ (z : A). z ∷ c) (sym e) ∙ ap (λ (zs : List A). x ∷ zs) p)
-one_further {A} x y b c l m e (inr (inl (rest, p))) = inr (inl (rest, ap (λ (z : A). z ∷ b) e ∙ ap (λ (zs : List A). y ∷ zs) p))
-one_further {A} x y b c l m e (inr (inr (p, q))) = inr (inr (ap (λ (z : A). z ∷ b) e ∙ ap (λ (zs : List A). y ∷ zs) p, q))
+one_further : {A : Type 0} (x y : A) (b c : List A) (l m : A) → x ≡ y → Places b l c m
+    → Places (x ∷ b) l (y ∷ c) m
+one_further {A} x y b c l m e (inl (rest, p)) =
+    inl (rest, ap (λ (z : A). z ∷ c) (sym e) ∙ ap (λ (zs : List A). x ∷ zs) p)
+one_further {A} x y b c l m e (inr (inl (rest, p))) =
+    inr (inl (rest, ap (λ (z : A). z ∷ b) e ∙ ap (λ (zs : List A). y ∷ zs) p))
+one_further {A} x y b c l m e (inr (inr (p, q))) =
+    inr (inr (ap (λ (z : A). z ∷ b) e ∙ ap (λ (zs : List A). y ∷ zs) p, q))
 
-places : {A : Type 0} (b : List A) (l : A) (x c : List A) (m : A) (y : List A) → b ++ l ∷ x ≡ c ++ m ∷ y → Places b l c m
+places : {A : Type 0} (b : List A) (l : A) (x c : List A) (m : A) (y : List A)
+    → b ++ l ∷ x ≡ c ++ m ∷ y → Places b l c m
 places [] l x [] m y e = inr (inr (refl, cc e))
 places [] l x (d ∷ c) m y e = let same : l ≡ d = cc e in inl (c, ap (λ z. z ∷ c) (sym same))
 places (a ∷ b) l x [] m y e = let same : a ≡ m = cc e in inr (inl (b, ap (λ z. z ∷ b) same))
@@ -36,7 +46,8 @@ places (a ∷ b) l x (d ∷ c) m y e =
     one_further a d b c l m head (places b l x c m y tail)
 
 -- fewer lines than the first ones that are no text are a text, so no fault stands before another
-not_before : (ls : List (List ℕ)) (j k : ℕ) (v w : Which) (f : IsFault ls j v) (g : IsFault ls k w) (rest : List (List ℕ)) →
+not_before : (ls : List (List ℕ)) (j k : ℕ) (v w : Which) (f : IsFault ls j v) (g : IsFault ls k w)
+    (rest : List (List ℕ)) →
     g.before ≡ (f.before ++ f.line ∷ []) ++ rest → ⊥
 not_before ls j k v w f g rest e =
     let none = ap nodes_of e ∙ first_lines (f.before ++ f.line ∷ []) rest f.is_none in
@@ -47,7 +58,8 @@ same_row : (ls : List (List ℕ)) (j k : ℕ) (v w : Which) (f : IsFault ls j v)
     f.before ≡ g.before → f.line ≡ g.line → (j ≡ k) × (v ≡ w)
 same_row ls j k v w f g before line =
     let marks : f.marks ≡ g.marks = cc (f.are_marks, g.are_marks, ap marked before) in
-    let opens : f.nodes_open ≡ g.nodes_open = cc (f.are_open, g.are_open, ap (λ (s : Marked). open_nodes s.marks) marks) in
+    let opens : f.nodes_open ≡ g.nodes_open =
+    cc (f.are_open, g.are_open, ap (λ (s : Marked). open_nodes s.marks) marks) in
     let row : Some v ≡ Some w = sym f.meets
     ∙ ap (λ (s : Marked). row_of s.scalar f.nodes_open f.line) marks
     ∙ ap (λ (o : Open). row_of g.marks.scalar o f.line) opens
@@ -56,19 +68,23 @@ same_row ls j k v w f g before line =
     (f.number ∙ ap (λ (b : List (List ℕ)). length b + 1) before ∙ sym g.number, cc row)
 
 -- lines have one fault at most
-pub one_fault : (ls : List (List ℕ)) (j k : ℕ) (v w : Which) → IsFault ls j v → IsFault ls k w → (j ≡ k) × (v ≡ w)
-one_fault ls j k v w f g = by (places f.before f.line f.after g.before g.line g.after (sym f.is_lines ∙ g.is_lines))
+pub one_fault : (ls : List (List ℕ)) (j k : ℕ) (v w : Which) → IsFault ls j v → IsFault ls k w
+    → (j ≡ k) × (v ≡ w)
+one_fault ls j k v w f g =
+    by (places f.before f.line f.after g.before g.line g.after (sym f.is_lines ∙ g.is_lines))
   where
     by : Places f.before f.line g.before g.line → (j ≡ k) × (v ≡ w)
     by (inl (rest, e)) = absurd (not_before ls j k v w f g rest e)
     by (inr (inl (rest, e))) = absurd (not_before ls k j w v g f rest e)
     by (inr (inr (before, line))) = same_row ls j k v w f g before line
 
-pub never_both : (ls : List (List ℕ)) (xs : List Tree) (k : ℕ) (w : Which) → nodes_of ls ≡ Some xs → IsFault ls k w → ⊥
+pub never_both : (ls : List (List ℕ)) (xs : List Tree) (k : ℕ) (w : Which) → nodes_of ls ≡ Some xs
+    → IsFault ls k w → ⊥
 never_both ls xs k w stands fault = let none = no_text_at_fault ls k w fault in cc (none, stands)
 
 -- the first lines of a text are a text
-pub first_of_text : (ls more : List (List ℕ)) (xs : List Tree) → nodes_of (ls ++ more) ≡ Some xs → (ys : List Tree) × (nodes_of ls ≡ Some ys)
+pub first_of_text : (ls more : List (List ℕ)) (xs : List Tree) → nodes_of (ls ++ more) ≡ Some xs
+    → (ys : List Tree) × (nodes_of ls ≡ Some ys)
 first_of_text ls more xs stands = by (nodes_of ls) refl
   where
     by : (o : Option (List Tree)) → nodes_of ls ≡ o → (ys : List Tree) × (nodes_of ls ≡ Some ys)
@@ -79,7 +95,8 @@ first_of_text ls more xs stands = by (nodes_of ls) refl
 
 -- what lines come to
 abbrev pub Outcome : List (List ℕ) → Type 0
-Outcome ls = ((xs : List Tree) × (nodes_of ls ≡ Some xs)) ⊎ ((line : ℕ) × (which : Which) × IsFault ls line which)
+Outcome ls = ((xs : List Tree) × (nodes_of ls ≡ Some xs))
+    ⊎ ((line : ℕ) × (which : Which) × IsFault ls line which)
 
 some_not_none : (b : Bool) (v w : Which) → cond b (Some v) (Some w) ≡ None → ⊥
 some_not_none true v w e = cc e
@@ -96,32 +113,46 @@ some_of None e = absurd (let f : ⊥ = cc e in f)
 some_of (Some p) e = (p, refl)
 
 -- what is kept behind a line that meets no row
-follows : (r : Reading) (line : List ℕ) → row_of r.scalar r.nodes line ≡ None → (next : Reading) × Follows r line next
+follows : (r : Reading) (line : List ℕ) → row_of r.scalar r.nodes line ≡ None
+    → (next : Reading) × Follows r line next
 follows r line e =
-    let none = none_earlier (line_at r.scalar line).fault (misfit (line_at r.scalar line).marks r.nodes) e in
+    let none = none_earlier (line_at r.scalar line).fault
+    (misfit (line_at r.scalar line).marks r.nodes) e in
     let added = some_of (add_all (line_at r.scalar line).marks r.nodes)
-    (sym (misfit_of_add (line_at r.scalar line).marks r.nodes) ∙ ap (λ (o : Option Which). is_none o) none.1) in (
-      record { nodes = added.0; parent = parent_after r.parent (line_at r.scalar line).marks; scalar = scalar_after r.scalar r.parent line },
+    (sym (misfit_of_add (line_at r.scalar line).marks r.nodes)
+    ∙ ap (λ (o : Option Which). is_none o) none.1) in (
+      record {
+        nodes = added.0;
+        parent = parent_after r.parent (line_at r.scalar line).marks;
+        scalar = scalar_after r.scalar r.parent line;
+      },
       record { no_fault = none.0; nodes = added.1; parent = refl; scalar = refl },
     )
 
 behind_read : (ls rest : List (List ℕ)) (r : Reading) → IsRead ls r → Outcome (ls ++ rest)
-behind_read ls [] r h = subst Outcome (sym (append-nil ls)) (inl (finished r.nodes, read_nodes ls r h))
-behind_read ls (l ∷ rest) r h = by (row_of r.scalar r.nodes l) refl (λ next f. behind_read (ls ++ l ∷ []) rest next (read_more ls l r h next f))
+behind_read ls [] r h =
+    subst Outcome (sym (append-nil ls)) (inl (finished r.nodes, read_nodes ls r h))
+behind_read ls (l ∷ rest) r h = by (row_of r.scalar r.nodes l) refl
+    (λ next f. behind_read (ls ++ l ∷ []) rest next (read_more ls l r h next f))
   where
-    by : (o : Option Which) → row_of r.scalar r.nodes l ≡ o → ((next : Reading) → Follows r l next → Outcome ((ls ++ l ∷ []) ++ rest)) → Outcome (ls ++ l ∷ rest)
+    by : (o : Option Which) → row_of r.scalar r.nodes l ≡ o
+        → ((next : Reading) → Follows r l next → Outcome ((ls ++ l ∷ []) ++ rest))
+        → Outcome (ls ++ l ∷ rest)
     by (Some w) e go = inr (length ls + 1, w, fault_here ls l r h rest w e)
     by None e go =
         let next = follows r l e in
         subst Outcome (append_assoc ls (l ∷ []) rest) (go next.0 next.1)
 
 pub either : (ls : List (List ℕ)) → Outcome ls
-either ls = behind_read [] ls (record { nodes = within start [] nothing; parent = None; scalar = None }) nothing_read
+either ls = behind_read [] ls
+    (record { nodes = within start [] nothing; parent = None; scalar = None }) nothing_read
 
 pub text_either : (text : List ℕ) → length text ≤ max_bytes → IsUtf8 (without_mark text)
-    → ((xs : List Tree) × StandsFor text xs) ⊎ ((line : ℕ) × (which : Which) × IsFault (lines (without_mark text)) line which)
+    → ((xs : List Tree) × StandsFor text xs)
+    ⊎ ((line : ℕ) × (which : Which) × IsFault (lines (without_mark text)) line which)
 text_either text small utf8 = by (either (lines (without_mark text)))
   where
-    by : Outcome (lines (without_mark text)) → ((xs : List Tree) × StandsFor text xs) ⊎ ((line : ℕ) × (which : Which) × IsFault (lines (without_mark text)) line which)
+    by : Outcome (lines (without_mark text)) → ((xs : List Tree) × StandsFor text xs)
+        ⊎ ((line : ℕ) × (which : Which) × IsFault (lines (without_mark text)) line which)
     by (inl (xs, e)) = inl (xs, record { small = small; utf8 = utf8; nodes = e })
     by (inr f) = inr f

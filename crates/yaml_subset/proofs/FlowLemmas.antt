@@ -1,19 +1,28 @@
--- One-line lists byte by byte: faults stay, and what is read behind an item, in quotes and behind the closing bracket.
-use Rattle.std.proofs.Common.{◌≡◌, ◌+◌, ℕ, suc, Bool, true, false, ◌&&◌, ◌||◌, List, [], ◌∷◌, ◌++◌, Option, Some, None, cond, nat_le, nat_lt, ◌-◌, ◌==◌, is_some, option_map, length, drop, refl, sym, ap, subst, ◌∙◌, arith, eqb, ◌⊎◌, inl, inr, append_assoc, append-nil, get_or-drop}
+-- One-line lists byte by byte: faults stay, and what is read behind an item, in quotes and behind
+-- the closing bracket.
+use Rattle.std.proofs.Common.{◌≡◌, ◌+◌, ℕ, suc, Bool, true, false, ◌&&◌, ◌||◌, List, [], ◌∷◌, ◌++◌}
+use Rattle.std.proofs.Common.{Option, Some, None, cond, nat_le, nat_lt, ◌-◌, ◌==◌, is_some}
+use Rattle.std.proofs.Common.{option_map, length, drop, refl, sym, ap, subst, ◌∙◌, arith, eqb, ◌⊎◌}
+use Rattle.std.proofs.Common.{inl, inr, append_assoc, append-nil, get_or-drop}
 use Rattle.std.specs.List.{slice_index, prefix_len}
 use Rattle.std.proofs.lemmas.Bool.{eqb-true}
 use Rattle.std.proofs.lemmas.Bool.Decides.{nat_tests}
 use Rattle.yaml_subset.specs.Tree.{Tree, scalar}
 use Rattle.yaml_subset.specs.Rows.{earlier, place}
 use Rattle.yaml_subset.specs.Block.{is_blank_byte, is_blank, trimmed}
-use Rattle.yaml_subset.specs.Quoted.{Quoted, quote_end, with_byte, with_escape, escaped, single, double}
+use Rattle.yaml_subset.specs.Quoted.{Quoted, quote_end, with_byte, with_escape, escaped, single}
+use Rattle.yaml_subset.specs.Quoted.{double}
 use Rattle.yaml_subset.specs.Line.{is_tail}
-use Rattle.yaml_subset.specs.Flow.{Flow, flow, flow_step, flow_at, flow_fault, flow_part, flow_more, flow_quoted, colon_end, in_want, in_plain, in_escape, begins_comment, end_row, is_flow_start, is_flow_indicator, flow_row}
+use Rattle.yaml_subset.specs.Flow.{Flow, flow, flow_step, flow_at, flow_fault, flow_part, flow_more}
+use Rattle.yaml_subset.specs.Flow.{flow_quoted, colon_end, in_want, in_plain, in_escape}
+use Rattle.yaml_subset.specs.Flow.{begins_comment, end_row, is_flow_start, is_flow_indicator}
+use Rattle.yaml_subset.specs.Flow.{flow_row}
 use Rattle.yaml_subset.specs.FlowList.{HasBlanks, Closes, EndsWell}
 use Rattle.yaml_subset.specs.declared.which.Which.{Which}
 use Rattle.yaml_subset.specs.declared.which.Which.TheVariants.{Quote, FlowForm, Escape as BadEscape}
 use Rattle.yaml_subset.specs.declared.flow.Part.{Part}
-use Rattle.yaml_subset.specs.declared.flow.Part.TheVariants.{Want, Plain, Single, Doubled, Double, Escape, After, Broken, Closed, Over}
+use Rattle.yaml_subset.specs.declared.flow.Part.TheVariants.{Want, Plain, Single, Doubled, Double}
+use Rattle.yaml_subset.specs.declared.flow.Part.TheVariants.{Escape, After, Broken, Closed, Over}
 
 -- a list without a fault so far
 abbrev pub at : Part → List ℕ → List Tree → Flow
@@ -24,22 +33,27 @@ pub record Good (s : Flow) (cs : List ℕ) (zs : List Tree) : Type 0 where
   pub ends : EndsWell (flow s cs) zs
 
 -- over one more byte
-pub tail_of : (s : Flow) (c : ℕ) (cs : List ℕ) (zs : List Tree) → Good s (c ∷ cs) zs → Good (flow_step s c (slice_index cs 0)) cs zs
+pub tail_of : (s : Flow) (c : ℕ) (cs : List ℕ) (zs : List Tree) → Good s (c ∷ cs) zs
+    → Good (flow_step s c (slice_index cs 0)) cs zs
 tail_of s c cs zs g = record { ends = g.ends }
 
-pub over_one : (s : Flow) (c : ℕ) (cs : List ℕ) (zs : List Tree) → Good (flow_step s c (slice_index cs 0)) cs zs → Good s (c ∷ cs) zs
+pub over_one : (s : Flow) (c : ℕ) (cs : List ℕ) (zs : List Tree)
+    → Good (flow_step s c (slice_index cs 0)) cs zs → Good s (c ∷ cs) zs
 over_one s c cs zs g = record { ends = g.ends }
 
 -- where a test decides
-pub pick : {G : Type 0} (b : Bool) (x y : Flow) (cs : List ℕ) (zs : List Tree) → (b ≡ true → Good x cs zs → G) → (b ≡ false → Good y cs zs → G) → Good (cond b x y) cs zs → G
+pub pick : {G : Type 0} (b : Bool) (x y : Flow) (cs : List ℕ) (zs : List Tree)
+    → (b ≡ true → Good x cs zs → G) → (b ≡ false → Good y cs zs → G) → Good (cond b x y) cs zs → G
 pick true x y cs zs on off g = on refl g
 pick false x y cs zs on off g = off refl g
 
-pub when_true : (b : Bool) (x y : Flow) (cs : List ℕ) (zs : List Tree) → b ≡ true → Good x cs zs → Good (cond b x y) cs zs
+pub when_true : (b : Bool) (x y : Flow) (cs : List ℕ) (zs : List Tree) → b ≡ true → Good x cs zs
+    → Good (cond b x y) cs zs
 when_true true x y cs zs e g = g
 when_true false x y cs zs e g = absurd (cc e)
 
-pub when_false : (b : Bool) (x y : Flow) (cs : List ℕ) (zs : List Tree) → b ≡ false → Good y cs zs → Good (cond b x y) cs zs
+pub when_false : (b : Bool) (x y : Flow) (cs : List ℕ) (zs : List Tree) → b ≡ false → Good y cs zs
+    → Good (cond b x y) cs zs
 when_false false x y cs zs e g = g
 when_false true x y cs zs e g = absurd (cc e)
 
@@ -97,25 +111,36 @@ stays_escape s None f = faulty _ (later_row s.fault BadEscape)
 stays_at : (p : Part) (s : Flow) (c n : ℕ) → is_some s.fault ≡ true → Faulty (flow_at p s c n)
 stays_at Want s c n f = stays_want s c n f
 stays_at Plain s c n f = stays_plain s c n f
-stays_at Single s c n f = either (c == 39) _ _ (either (n == 39) _ _ (faulty _ f) (faulty _ f)) (faulty _ f)
+stays_at Single s c n f =
+    either (c == 39) _ _ (either (n == 39) _ _ (faulty _ f) (faulty _ f)) (faulty _ f)
 stays_at Doubled s c n f = faulty _ f
-stays_at Double s c n f = either (c == 34) _ _ (faulty _ f) (either (c == 92) _ _ (faulty _ f) (faulty _ f))
+stays_at Double s c n f =
+    either (c == 34) _ _ (faulty _ f) (either (c == 92) _ _ (faulty _ f) (faulty _ f))
 stays_at Escape s c n f = stays_escape s (escaped c) f
-stays_at After s c n f = either (is_blank_byte c) _ _ (faulty _ f) (either (c == 44) _ _ (faulty _ f) (either (c == 93) _ _ (faulty _ f) (faulty _ (later_row (earlier s.fault (Some Quote)) _))))
-stays_at Broken s c n f = either (c == 44) _ _ (faulty _ f) (either (c == 93) _ _ (faulty _ f) (either (is_flow_indicator c) _ _ (faulty _ (later_row s.fault (flow_row c n))) (faulty _ f)))
-stays_at Closed s c n f = either (is_blank_byte c) _ _ (either (n == 35) _ _ (faulty _ f) (faulty _ f)) (faulty _ (later_row s.fault FlowForm))
+stays_at After s c n f =
+    either (is_blank_byte c) _ _ (faulty _ f) (either (c == 44) _ _ (faulty _ f)
+    (either (c == 93) _ _ (faulty _ f) (faulty _ (later_row (earlier s.fault (Some Quote)) _))))
+stays_at Broken s c n f = either (c == 44) _ _ (faulty _ f) (either (c == 93) _ _ (faulty _ f)
+    (either (is_flow_indicator c) _ _ (faulty _ (later_row s.fault (flow_row c n))) (faulty _ f)))
+stays_at Closed s c n f = either (is_blank_byte c) _ _
+    (either (n == 35) _ _ (faulty _ f) (faulty _ f)) (faulty _ (later_row s.fault FlowForm))
 stays_at Over s c n f = faulty _ f
 
 stays_step : (s : Flow) (c n : ℕ) → is_some s.fault ≡ true → Faulty (flow_step s c n)
-stays_step s c n f = either (begins_comment s.part c n) _ _ (faulty _ (later_row s.fault FlowForm)) (stays_at s.part s c n f)
+stays_step s c n f = either (begins_comment s.part c n) _ _ (faulty _ (later_row s.fault FlowForm))
+    (stays_at s.part s c n f)
 
 stays : (s : Flow) (cs : List ℕ) → is_some s.fault ≡ true → is_some (flow s cs).fault ≡ true
 stays s [] f = f
-stays s (c ∷ cs) f = stays (flow_step s c (slice_index cs 0)) cs (stays_step s c (slice_index cs 0) f).met
+stays s (c ∷ cs) f =
+    stays (flow_step s c (slice_index cs 0)) cs (stays_step s c (slice_index cs 0) f).met
 
 -- so a list with a fault doesn't end well
-pub never : {G : Type 0} (s : Flow) (cs : List ℕ) (zs : List Tree) → is_some s.fault ≡ true → Good s cs zs → G
-never s cs zs f g = absurd (some_none (sym (keeps_row (flow s cs).fault (end_row (flow s cs).part) (stays s cs f)) ∙ ap is_some g.ends.fine))
+pub never : {G : Type 0} (s : Flow) (cs : List ℕ) (zs : List Tree) → is_some s.fault ≡ true
+    → Good s cs zs → G
+never s cs zs f g =
+    absurd (some_none (sym (keeps_row (flow s cs).fault (end_row (flow s cs).part) (stays s cs f))
+    ∙ ap is_some g.ends.fine))
   where
     some_none : true ≡ false → ⊥
     some_none e = cc e
@@ -132,32 +157,39 @@ zero_apart n = grind (arith, nat_tests)
 one_then : (n : ℕ) (x : Bool) → x ≡ true → (eqb 1 (suc (suc n)) || (true && x)) ≡ true
 one_then n x e = grind (arith, nat_tests)
 
-one_stops : (n : ℕ) (x : Bool) → x ≡ false → (eqb 1 (suc (suc n)) || (true && x)) ≡ (eqb 0 (suc n) || false)
+one_stops : (n : ℕ) (x : Bool) → x ≡ false
+    → (eqb 1 (suc (suc n)) || (true && x)) ≡ (eqb 0 (suc n) || false)
 one_stops n x e = grind (arith, nat_tests)
 
-one_more : (k n : ℕ) (x : Bool) → (eqb (1 + (1 + k)) (suc (suc n)) || (nat_lt 0 (1 + (1 + k)) && x)) ≡ (eqb (1 + k) (suc n) || (nat_lt 0 (1 + k) && x))
+one_more : (k n : ℕ) (x : Bool) → (eqb (1 + (1 + k)) (suc (suc n)) || (nat_lt 0 (1 + (1 + k)) && x))
+    ≡ (eqb (1 + k) (suc n) || (nat_lt 0 (1 + k) && x))
 one_more k n x = grind (arith, nat_tests)
 
 -- a blank before `#`
-tail_comment : (c : ℕ) (cs : List ℕ) → is_blank_byte c ≡ true → eqb (slice_index cs 0) 35 ≡ true → is_tail (c ∷ cs) ≡ true
+pub tail_comment : (c : ℕ) (cs : List ℕ) → is_blank_byte c ≡ true → eqb (slice_index cs 0) 35 ≡ true
+    → is_tail (c ∷ cs) ≡ true
 tail_comment c [] b e = absurd (cc e)
-tail_comment c (d ∷ ds) b e = rw (b, ap is_blank_byte (eqb-true d 35 e)) (one_then (length ds) (eqb d 35) e)
+tail_comment c (d ∷ ds) b e =
+    rw (b, ap is_blank_byte (eqb-true d 35 e)) (one_then (length ds) (eqb d 35) e)
 
 -- a blank before another byte
-tail_more : (c : ℕ) (cs : List ℕ) → is_blank_byte c ≡ true → eqb (slice_index cs 0) 35 ≡ false → is_tail (c ∷ cs) ≡ is_tail cs
+pub tail_more : (c : ℕ) (cs : List ℕ) → is_blank_byte c ≡ true → eqb (slice_index cs 0) 35 ≡ false
+    → is_tail (c ∷ cs) ≡ is_tail cs
 tail_more c [] b e = rw b refl
 tail_more c (d ∷ ds) b e = by (is_blank_byte d) refl
   where
     by : (x : Bool) → is_blank_byte d ≡ x → is_tail (c ∷ d ∷ ds) ≡ is_tail (d ∷ ds)
     by true n = let k = prefix_len is_blank_byte ds in
         rw (b, n) (one_more k (length ds) (eqb (slice_index (c ∷ d ∷ ds) (1 + (1 + k))) 35)
-        ∙ ap (λ (x : ℕ). eqb (1 + k) (suc (length ds)) || (nat_lt 0 (1 + k) && eqb x 35)) (sym (get_or-drop 1 (c ∷ d ∷ ds) (1 + k) 0)))
+        ∙ ap (λ (x : ℕ). eqb (1 + k) (suc (length ds)) || (nat_lt 0 (1 + k) && eqb x 35))
+        (sym (get_or-drop 1 (c ∷ d ∷ ds) (1 + k) 0)))
     by false n = rw (b, n) (one_stops (length ds) (eqb d 35) e)
 
-tail_stops : (c : ℕ) (cs : List ℕ) → is_blank_byte c ≡ false → is_tail (c ∷ cs) ≡ false
+pub tail_stops : (c : ℕ) (cs : List ℕ) → is_blank_byte c ≡ false → is_tail (c ∷ cs) ≡ false
 tail_stops c cs b = rw b (zero_apart (length cs))
 
-pub closed_reads : (t : List ℕ) (ys : List Tree) (cs : List ℕ) (zs : List Tree) → Good (at Closed t ys) cs zs → (is_tail cs ≡ true) × (ys ≡ zs)
+pub closed_reads : (t : List ℕ) (ys : List Tree) (cs : List ℕ) (zs : List Tree)
+    → Good (at Closed t ys) cs zs → (is_tail cs ≡ true) × (ys ≡ zs)
 closed_reads t ys [] zs g = (refl, g.ends.all)
 closed_reads t ys (c ∷ cs) zs g = pick (is_blank_byte c) _ _ cs zs
     (λ b. pick (eqb (slice_index cs 0) 35) _ _ cs zs
@@ -166,24 +198,37 @@ closed_reads t ys (c ∷ cs) zs g = pick (is_blank_byte c) _ _ cs zs
     (λ b. never (flow_fault (at Closed t ys) Over FlowForm) cs zs refl)
     (tail_of (at Closed t ys) c cs zs g)
 
-pub closed_writes : (t : List ℕ) (ys : List Tree) (cs : List ℕ) → is_tail cs ≡ true → Good (at Closed t ys) cs ys
+pub closed_writes : (t : List ℕ) (ys : List Tree) (cs : List ℕ) → is_tail cs ≡ true
+    → Good (at Closed t ys) cs ys
 closed_writes t ys [] e = record { ends = record { fine = refl; all = refl } }
-closed_writes t ys (c ∷ cs) e = by (is_blank_byte c) (eqb (slice_index cs 0) 35) refl refl (closed_writes t ys cs)
+closed_writes t ys (c ∷ cs) e =
+    by (is_blank_byte c) (eqb (slice_index cs 0) 35) refl refl (closed_writes t ys cs)
   where
-    by : (b n : Bool) → is_blank_byte c ≡ b → eqb (slice_index cs 0) 35 ≡ n → (is_tail cs ≡ true → Good (at Closed t ys) cs ys) → Good (at Closed t ys) (c ∷ cs) ys
-    by true true b n more = over_one _ c cs ys (when_true (is_blank_byte c) _ _ cs ys b (when_true (eqb (slice_index cs 0) 35) _ _ cs ys n (record { ends = rw (over t ys cs) (record { fine = refl; all = refl }) })))
-    by true false b n more = over_one _ c cs ys (when_true (is_blank_byte c) _ _ cs ys b (when_false (eqb (slice_index cs 0) 35) _ _ cs ys n (more (sym (tail_more c cs b n) ∙ e))))
+    by : (b n : Bool) → is_blank_byte c ≡ b → eqb (slice_index cs 0) 35 ≡ n
+        → (is_tail cs ≡ true → Good (at Closed t ys) cs ys) → Good (at Closed t ys) (c ∷ cs) ys
+    by true true b n more = over_one _ c cs ys
+        (when_true (is_blank_byte c) _ _ cs ys b (when_true (eqb (slice_index cs 0) 35) _ _ cs ys n
+        (record { ends = rw (over t ys cs) (record { fine = refl; all = refl }) })))
+    by true false b n more = over_one _ c cs ys (when_true (is_blank_byte c) _ _ cs ys b
+        (when_false (eqb (slice_index cs 0) 35) _ _ cs ys n (more (sym (tail_more c cs b n) ∙ e))))
     by false n b m more = absurd (cc (sym e ∙ tail_stops c cs b))
 
 -- BEHIND AN ITEM
 
 abbrev pub Ahead : (List ℕ → Type 0) → List ℕ → List Tree → List Tree → Type 0
-Ahead follows rest ys zs = (Closes rest × (ys ≡ zs)) ⊎ ((more : List ℕ) × (rest ≡ 44 ∷ more) × follows more)
+Ahead follows rest ys zs = (Closes rest × (ys ≡ zs))
+    ⊎ ((more : List ℕ) × (rest ≡ 44 ∷ more) × follows more)
 
-pub wider : (c : ℕ) (cs rest : List ℕ) → is_blank_byte c ≡ true → HasBlanks cs rest → HasBlanks (c ∷ cs) rest
-wider c cs rest b h = record { blanks = c ∷ h.blanks; cut = ap (λ (l : List ℕ). c ∷ l) h.cut; blank = rw b h.blank }
+pub wider : (c : ℕ) (cs rest : List ℕ) → is_blank_byte c ≡ true → HasBlanks cs rest
+    → HasBlanks (c ∷ cs) rest
+wider c cs rest b h = record {
+  blanks = c ∷ h.blanks;
+  cut = ap (λ (l : List ℕ). c ∷ l) h.cut;
+  blank = rw b h.blank;
+}
 
-pub after_reads : (t : List ℕ) (ys : List Tree) (cs : List ℕ) (zs : List Tree) → Good (at After t ys) cs zs
+pub after_reads : (t : List ℕ) (ys : List Tree) (cs : List ℕ) (zs : List Tree)
+    → Good (at After t ys) cs zs
     → (rest : List ℕ) × HasBlanks cs rest × Ahead (λ more. Good (at Want t ys) more zs) rest ys zs
 after_reads t ys [] zs g = absurd (cc g.ends.fine)
 after_reads t ys (c ∷ cs) zs g = pick (is_blank_byte c && slice_index cs 0 == 35) _ _ cs zs
@@ -191,10 +236,27 @@ after_reads t ys (c ∷ cs) zs g = pick (is_blank_byte c && slice_index cs 0 == 
     (λ e. pick (is_blank_byte c) _ _ cs zs
     (λ b h. let r = after_reads t ys cs zs h in (r.0, wider c cs r.0 b r.1, r.2))
     (λ b. pick (c == 44) _ _ cs zs
-    (λ d h. (c ∷ cs, record { blanks = []; cut = refl; blank = refl }, inr (cs, ap (λ (x : ℕ). x ∷ cs) (eqb-true c 44 d), h)))
+    (λ d h. (
+      c ∷ cs,
+      record { blanks = []; cut = refl; blank = refl },
+      inr (cs, ap (λ (x : ℕ). x ∷ cs) (eqb-true c 44 d), h),
+    ))
     (λ d. pick (c == 93) _ _ cs zs
-    (λ f h. let r = closed_reads t ys cs zs h in (c ∷ cs, record { blanks = []; cut = refl; blank = refl }, inl (record { behind = cs; cut = ap (λ (x : ℕ). x ∷ cs) (eqb-true c 93 f); tail = r.0 }, r.1)))
-    (λ f. never (flow_fault (flow_fault (at After t ys) Broken Quote) Broken (cond (is_flow_indicator c) (flow_row c (slice_index cs 0)) Quote)) cs zs (later_row (Some Quote) (cond (is_flow_indicator c) (flow_row c (slice_index cs 0)) Quote))))))
+    (λ f h. let r = closed_reads t ys cs zs h in (
+      c ∷ cs,
+      record { blanks = []; cut = refl; blank = refl },
+      inl (
+        record {
+          behind = cs;
+          cut = ap (λ (x : ℕ). x ∷ cs) (eqb-true c 93 f);
+          tail = r.0;
+        },
+        r.1,
+      ),
+    ))
+    (λ f. never (flow_fault (flow_fault (at After t ys) Broken Quote)
+    Broken (cond (is_flow_indicator c) (flow_row c (slice_index cs 0)) Quote)) cs zs (later_row
+    (Some Quote) (cond (is_flow_indicator c) (flow_row c (slice_index cs 0)) Quote))))))
     (tail_of (at After t ys) c cs zs g)
 
 pub blank_apart : (c n : ℕ) → is_blank_byte c ≡ true → is_blank_byte n ≡ false → eqb c n ≡ false
@@ -217,48 +279,58 @@ and_false true y e = e
 and_false false y e = refl
 
 -- no `#` behind blanks that other text follows
-no_comment : (bs rest : List ℕ) → is_blank bs ≡ true → eqb (slice_index rest 0) 35 ≡ false → eqb (slice_index (bs ++ rest) 0) 35 ≡ false
+no_comment : (bs rest : List ℕ) → is_blank bs ≡ true → eqb (slice_index rest 0) 35 ≡ false
+    → eqb (slice_index (bs ++ rest) 0) 35 ≡ false
 no_comment [] rest e f = f
 no_comment (b ∷ bs) rest e f = blank_apart b 35 (and_left (is_blank_byte b) (is_blank bs) e) refl
 
 -- blanks before an item, or behind one
-pub want_blanks : (t : List ℕ) (ys : List Tree) (bs rest : List ℕ) (zs : List Tree) → is_blank bs ≡ true → eqb (slice_index rest 0) 35 ≡ false → Good (at Want t ys) rest zs → Good (at Want t ys) (bs ++ rest) zs
+pub want_blanks : (t : List ℕ) (ys : List Tree) (bs rest : List ℕ) (zs : List Tree)
+    → is_blank bs ≡ true → eqb (slice_index rest 0) 35 ≡ false → Good (at Want t ys) rest zs
+    → Good (at Want t ys) (bs ++ rest) zs
 want_blanks t ys [] rest zs e f g = g
 want_blanks t ys (b ∷ bs) rest zs e f g =
     let blank = and_left (is_blank_byte b) (is_blank bs) e in
     let others = and_right (is_blank_byte b) (is_blank bs) e in
     over_one (at Want t ys) b (bs ++ rest) zs
-    (when_false (is_blank_byte b && slice_index (bs ++ rest) 0 == 35) _ _ (bs ++ rest) zs (and_false (is_blank_byte b) _ (no_comment bs rest others f))
-    (when_true (is_blank_byte b) _ _ (bs ++ rest) zs blank (want_blanks t ys bs rest zs others f g)))
+    (when_false (is_blank_byte b && slice_index (bs ++ rest) 0 == 35) _ _ (bs ++ rest) zs
+    (and_false (is_blank_byte b) _ (no_comment bs rest others f))
+    (when_true (is_blank_byte b) _ _ (bs ++ rest) zs blank
+    (want_blanks t ys bs rest zs others f g)))
 
-pub after_blanks : (t : List ℕ) (ys : List Tree) (bs rest : List ℕ) (zs : List Tree) → is_blank bs ≡ true → eqb (slice_index rest 0) 35 ≡ false → Good (at After t ys) rest zs → Good (at After t ys) (bs ++ rest) zs
+pub after_blanks : (t : List ℕ) (ys : List Tree) (bs rest : List ℕ) (zs : List Tree)
+    → is_blank bs ≡ true → eqb (slice_index rest 0) 35 ≡ false → Good (at After t ys) rest zs
+    → Good (at After t ys) (bs ++ rest) zs
 after_blanks t ys [] rest zs e f g = g
 after_blanks t ys (b ∷ bs) rest zs e f g =
     let blank = and_left (is_blank_byte b) (is_blank bs) e in
     let others = and_right (is_blank_byte b) (is_blank bs) e in
     over_one (at After t ys) b (bs ++ rest) zs
-    (when_false (is_blank_byte b && slice_index (bs ++ rest) 0 == 35) _ _ (bs ++ rest) zs (and_false (is_blank_byte b) _ (no_comment bs rest others f))
-    (when_true (is_blank_byte b) _ _ (bs ++ rest) zs blank (after_blanks t ys bs rest zs others f g)))
+    (when_false (is_blank_byte b && slice_index (bs ++ rest) 0 == 35) _ _ (bs ++ rest) zs
+    (and_false (is_blank_byte b) _ (no_comment bs rest others f))
+    (when_true (is_blank_byte b) _ _ (bs ++ rest) zs blank
+    (after_blanks t ys bs rest zs others f g)))
 
 -- QUOTED ITEMS
 
--- What the reading of a quoted item's rest comes to, where t is read of it: nothing good without its end,
--- or with an escape that is none; else the list goes on behind it.
+-- What the reading of a quoted item's rest comes to, where t is read of it: nothing good without
+-- its end, or with an escape that is none; else the list goes on behind it.
 abbrev pub ReadsAs : List ℕ → List Tree → Flow → List ℕ → List ℕ → ℕ → Bool → Type 0
 ReadsAs t ys final cs text size true = (zs : List Tree) → EndsWell final zs → ⊥
-ReadsAs t ys final cs text size false = final ≡ flow (at After [] (ys ++ (scalar (t ++ text) false ∷ []))) (drop size cs)
+ReadsAs t ys final cs text size false =
+    final ≡ flow (at After [] (ys ++ (scalar (t ++ text) false ∷ []))) (drop size cs)
 
 abbrev pub Reads : List ℕ → List Tree → Flow → List ℕ → Option Quoted → Type 0
 Reads t ys final cs None = (zs : List Tree) → EndsWell final zs → ⊥
 Reads t ys final cs (Some q) = ReadsAs t ys final cs q.text q.length q.bad
 
-dropped : (n c : ℕ) (cs : List ℕ) → drop n cs ≡ drop (1 + n) (c ∷ cs)
+pub dropped : (n c : ℕ) (cs : List ℕ) → drop n cs ≡ drop (1 + n) (c ∷ cs)
 dropped n c cs = subst (λ (m : ℕ). drop n cs ≡ drop m (c ∷ cs)) one refl
   where
     one : suc n ≡ 1 + n
     one = omega arith
 
-dropped_two : (n c d : ℕ) (cs : List ℕ) → drop n cs ≡ drop (2 + n) (c ∷ d ∷ cs)
+pub dropped_two : (n c d : ℕ) (cs : List ℕ) → drop n cs ≡ drop (2 + n) (c ∷ d ∷ cs)
 dropped_two n c d cs = subst (λ (m : ℕ). drop n cs ≡ drop m (c ∷ d ∷ cs)) two refl
   where
     two : suc (suc n) ≡ 2 + n
@@ -267,64 +339,94 @@ dropped_two n c d cs = subst (λ (m : ℕ). drop n cs ≡ drop m (c ∷ d ∷ cs
 abbrev goes_on_with : List Tree → List ℕ → List ℕ → Flow
 goes_on_with ys text rest = flow (at After [] (ys ++ (scalar text false ∷ []))) rest
 
-more_as : (t : List ℕ) (ys : List Tree) (final : Flow) (x : ℕ) (cs wide text : List ℕ) (size wider : ℕ) (bad : Bool) → drop size cs ≡ drop wider wide
-    → ReadsAs (t ++ (x ∷ [])) ys final cs text size bad → ReadsAs t ys final wide (x ∷ text) wider bad
+more_as : (t : List ℕ) (ys : List Tree) (final : Flow) (x : ℕ) (cs wide text : List ℕ)
+    (size wider : ℕ) (bad : Bool) → drop size cs ≡ drop wider wide
+    → ReadsAs (t ++ (x ∷ [])) ys final cs text size bad
+    → ReadsAs t ys final wide (x ∷ text) wider bad
 more_as t ys final x cs wide text size wider true d h = h
 more_as t ys final x cs wide text size wider false d h =
-    h ∙ ap (λ (u : List ℕ). goes_on_with ys u (drop size cs)) (append_assoc t (x ∷ []) text) ∙ ap (goes_on_with ys (t ++ (x ∷ text))) d
+    h ∙ ap (λ (u : List ℕ). goes_on_with ys u (drop size cs)) (append_assoc t (x ∷ []) text)
+    ∙ ap (goes_on_with ys (t ++ (x ∷ text))) d
 
 -- one more byte of the item, written as one or as two
-one_byte : (t : List ℕ) (ys : List Tree) (final : Flow) (c x : ℕ) (cs : List ℕ) (o : Option Quoted) → Reads (t ++ (x ∷ [])) ys final cs o → Reads t ys final (c ∷ cs) (option_map (with_byte x 1) o)
+one_byte : (t : List ℕ) (ys : List Tree) (final : Flow) (c x : ℕ) (cs : List ℕ) (o : Option Quoted)
+    → Reads (t ++ (x ∷ [])) ys final cs o → Reads t ys final (c ∷ cs) (option_map (with_byte x 1) o)
 one_byte t ys final c x cs None h = h
-one_byte t ys final c x cs (Some q) h = more_as t ys final x cs (c ∷ cs) q.text q.length (1 + q.length) q.bad (dropped q.length c cs) h
+one_byte t ys final c x cs (Some q) h =
+    more_as t ys final x cs (c ∷ cs) q.text q.length (1 + q.length) q.bad (dropped q.length c cs) h
 
-two_bytes : (t : List ℕ) (ys : List Tree) (final : Flow) (c d x : ℕ) (cs : List ℕ) (o : Option Quoted) → Reads (t ++ (x ∷ [])) ys final cs o → Reads t ys final (c ∷ d ∷ cs) (option_map (with_byte x 2) o)
+two_bytes : (t : List ℕ) (ys : List Tree) (final : Flow)
+    (c d x : ℕ) (cs : List ℕ) (o : Option Quoted) → Reads (t ++ (x ∷ [])) ys final cs o
+    → Reads t ys final (c ∷ d ∷ cs) (option_map (with_byte x 2) o)
 two_bytes t ys final c d x cs None h = h
-two_bytes t ys final c d x cs (Some q) h = more_as t ys final x cs (c ∷ d ∷ cs) q.text q.length (2 + q.length) q.bad (dropped_two q.length c d cs) h
+two_bytes t ys final c d x cs (Some q) h = more_as t ys final x cs (c ∷ d ∷ cs) q.text q.length
+    (2 + q.length) q.bad (dropped_two q.length c d cs) h
 
-ended_as : (t : List ℕ) (ys : List Tree) (c : ℕ) (cs : List ℕ) → Reads t ys (goes_on_with ys t cs) (c ∷ cs) (Some quote_end)
+ended_as : (t : List ℕ) (ys : List Tree) (c : ℕ) (cs : List ℕ)
+    → Reads t ys (goes_on_with ys t cs) (c ∷ cs) (Some quote_end)
 ended_as t ys c cs = ap (λ (u : List ℕ). goes_on_with ys u cs) (sym (append-nil t))
 
-pub single_is : (t : List ℕ) (ys : List Tree) (cs : List ℕ) → Reads t ys (flow (at Single t ys) cs) cs (single cs)
+pub single_is : (t : List ℕ) (ys : List Tree) (cs : List ℕ)
+    → Reads t ys (flow (at Single t ys) cs) cs (single cs)
 single_is t ys [] = λ zs g. cc g.fine
 single_is t ys (c ∷ []) = by (eqb c 39)
   where
-    by : (b : Bool) → Reads t ys (flow (cond b (flow_quoted (at Single t ys)) (flow_more (at Single t ys) Single c)) []) (c ∷ []) (cond b (Some quote_end) None)
+    by : (b : Bool) → Reads t
+        ys (flow (cond b (flow_quoted (at Single t ys)) (flow_more (at Single t ys) Single c)) [])
+        (c ∷ []) (cond b (Some quote_end) None)
     by true = ended_as t ys c []
     by false = λ zs g. cc g.fine
-single_is t ys (c ∷ d ∷ cs) = by (eqb c 39) (eqb d 39) (single_is (t ++ (39 ∷ [])) ys cs) (single_is (t ++ (c ∷ [])) ys (d ∷ cs))
+single_is t ys (c ∷ d ∷ cs) = by (eqb c 39) (eqb d 39) (single_is (t ++ (39 ∷ [])) ys cs)
+    (single_is (t ++ (c ∷ [])) ys (d ∷ cs))
   where
-    by : (b e : Bool) → Reads (t ++ (39 ∷ [])) ys (flow (at Single (t ++ (39 ∷ [])) ys) cs) cs (single cs)
-        → Reads (t ++ (c ∷ [])) ys (flow (at Single (t ++ (c ∷ [])) ys) (d ∷ cs)) (d ∷ cs) (single (d ∷ cs))
-        → Reads t ys (flow (cond b (cond e (flow_more (at Single t ys) Doubled 39) (flow_quoted (at Single t ys))) (flow_more (at Single t ys) Single c)) (d ∷ cs)) (c ∷ d ∷ cs)
-        (cond b (cond e (option_map (with_byte 39 2) (single cs)) (Some quote_end)) (option_map (with_byte c 1) (single (d ∷ cs))))
+    by : (b e : Bool) → Reads (t ++ (39 ∷ [])) ys (flow (at Single (t ++ (39 ∷ [])) ys) cs)
+        cs (single cs)
+        → Reads (t ++ (c ∷ [])) ys (flow (at Single (t ++ (c ∷ [])) ys) (d ∷ cs)) (d ∷ cs)
+        (single (d ∷ cs))
+        → Reads t ys (flow (cond b (cond e (flow_more (at Single t ys) Doubled 39)
+        (flow_quoted (at Single t ys))) (flow_more (at Single t ys) Single c)) (d ∷ cs))
+        (c ∷ d ∷ cs)
+        (cond b (cond e (option_map (with_byte 39 2) (single cs)) (Some quote_end))
+        (option_map (with_byte c 1) (single (d ∷ cs))))
     by true true two one = two_bytes t ys _ c d 39 cs (single cs) two
     by true false two one = ended_as t ys c (d ∷ cs)
     by false e two one = one_byte t ys _ c c (d ∷ cs) (single (d ∷ cs)) one
 
-escape_is : (t : List ℕ) (ys : List Tree) (c d : ℕ) (cs : List ℕ) (o : Option ℕ) → ((x : ℕ) → Reads (t ++ (x ∷ [])) ys (flow (at Double (t ++ (x ∷ [])) ys) cs) cs (double cs))
-    → Reads t ys (flow (in_escape (at Escape t ys) o) cs) (c ∷ d ∷ cs) (option_map (with_escape o) (double cs))
+escape_is : (t : List ℕ) (ys : List Tree) (c d : ℕ) (cs : List ℕ) (o : Option ℕ)
+    → ((x : ℕ) → Reads (t ++ (x ∷ [])) ys (flow (at Double (t ++ (x ∷ [])) ys) cs) cs (double cs))
+    → Reads t ys (flow (in_escape (at Escape t ys) o) cs) (c ∷ d ∷ cs)
+    (option_map (with_escape o) (double cs))
 escape_is t ys c d cs (Some x) more = two_bytes t ys _ c d x cs (double cs) (more x)
 escape_is t ys c d cs None more = by (double cs)
   where
-    by : (o : Option Quoted) → Reads t ys (flow (in_escape (at Escape t ys) None) cs) (c ∷ d ∷ cs) (option_map (with_escape None) o)
+    by : (o : Option Quoted) → Reads t ys (flow (in_escape (at Escape t ys) None) cs) (c ∷ d ∷ cs)
+        (option_map (with_escape None) o)
     by None = λ zs g. never (in_escape (at Escape t ys) None) cs zs refl (record { ends = g })
     by (Some q) = λ zs g. never (in_escape (at Escape t ys) None) cs zs refl (record { ends = g })
 
-pub double_is : (t : List ℕ) (ys : List Tree) (cs : List ℕ) → Reads t ys (flow (at Double t ys) cs) cs (double cs)
+pub double_is : (t : List ℕ) (ys : List Tree) (cs : List ℕ)
+    → Reads t ys (flow (at Double t ys) cs) cs (double cs)
 double_is t ys [] = λ zs g. cc g.fine
 double_is t ys (c ∷ []) = by (eqb c 34) (eqb c 92)
   where
-    by : (b e : Bool) → Reads t ys (flow (cond b (flow_quoted (at Double t ys)) (cond e (flow_part (at Double t ys) Escape) (flow_more (at Double t ys) Double c))) []) (c ∷ []) (cond b (Some quote_end) None)
+    by : (b e : Bool) → Reads t ys (flow (cond b (flow_quoted (at Double t ys))
+        (cond e (flow_part (at Double t ys) Escape) (flow_more (at Double t ys) Double c))) [])
+        (c ∷ []) (cond b (Some quote_end) None)
     by true e = ended_as t ys c []
     by false true = λ zs g. cc g.fine
     by false false = λ zs g. cc g.fine
-double_is t ys (c ∷ d ∷ cs) = by (eqb c 34) (eqb c 92) (escape_is t ys c d cs (escaped d) (λ x. double_is (t ++ (x ∷ [])) ys cs)) (double_is (t ++ (c ∷ [])) ys (d ∷ cs))
+double_is t ys (c ∷ d ∷ cs) = by (eqb c 34) (eqb c 92) (escape_is t ys c d cs (escaped d)
+    (λ x. double_is (t ++ (x ∷ [])) ys cs)) (double_is (t ++ (c ∷ [])) ys (d ∷ cs))
   where
-    by : (b e : Bool) → Reads t ys (flow (at Escape t ys) (d ∷ cs)) (c ∷ d ∷ cs) (option_map (with_escape (escaped d)) (double cs))
-        → Reads (t ++ (c ∷ [])) ys (flow (at Double (t ++ (c ∷ [])) ys) (d ∷ cs)) (d ∷ cs) (double (d ∷ cs))
-        → Reads t ys (flow (cond b (flow_quoted (at Double t ys)) (cond e (flow_part (at Double t ys) Escape) (flow_more (at Double t ys) Double c))) (d ∷ cs)) (c ∷ d ∷ cs)
-        (cond b (Some quote_end) (cond e (option_map (with_escape (escaped d)) (double cs)) (option_map (with_byte c 1) (double (d ∷ cs)))))
+    by : (b e : Bool) → Reads t ys (flow (at Escape t ys) (d ∷ cs)) (c ∷ d ∷ cs)
+        (option_map (with_escape (escaped d)) (double cs))
+        → Reads (t ++ (c ∷ [])) ys (flow (at Double (t ++ (c ∷ [])) ys) (d ∷ cs)) (d ∷ cs)
+        (double (d ∷ cs))
+        → Reads t ys (flow (cond b (flow_quoted (at Double t ys))
+        (cond e (flow_part (at Double t ys) Escape) (flow_more (at Double t ys) Double c)))
+        (d ∷ cs)) (c ∷ d ∷ cs)
+        (cond b (Some quote_end) (cond e (option_map (with_escape (escaped d)) (double cs))
+        (option_map (with_byte c 1) (double (d ∷ cs)))))
     by true e two one = ended_as t ys c (d ∷ cs)
     by false true two one = two
     by false false two one = one_byte t ys _ c c (d ∷ cs) (double (d ∷ cs)) one

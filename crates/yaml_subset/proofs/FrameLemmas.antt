@@ -1,5 +1,6 @@
 -- Frames, closed.
-use Rattle.std.proofs.Common.{◌≡◌, ℕ, List, [], ◌∷◌, ◌++◌, map, refl, ap, length, ◌<◌, Bool, true, false, ◌||◌, arith}
+use Rattle.std.proofs.Common.{◌≡◌, ℕ, List, [], ◌∷◌, ◌++◌, map, refl, ap, length, ◌<◌, Bool, true}
+use Rattle.std.proofs.Common.{false, ◌||◌, arith}
 use Rattle.std.specs.List.{list_any}
 use Rattle.std.specs.Str.{bytes_eq}
 use Rattle.yaml_subset.specs.Tree.{Tree, mapping, sequence, trees, entry}
@@ -10,35 +11,43 @@ use Rattle.yaml_subset.specs.OpenView.{child, entry_child}
 use Rattle.yaml_subset.specs.declared.text.Text.{Text}
 use Rattle.yaml_subset.specs.declared.node.Node.{Node}
 
-entries-map : (n : ℕ) (es : List (Text × Node)) → entries (map (entry_child n) es) ≡ entries_of (map (λ p. (p.0, node_view p.1)) es)
+entries-map : (n : ℕ) (es : List (Text × Node))
+    → entries (map (entry_child n) es) ≡ entries_of (map (λ p. (p.0, node_view p.1)) es)
 entries-map n [] = refl
 entries-map n (p ∷ es) = ap (entry p.0 (node_view p.1)) (entries-map n es)
 
 -- entries that begin with a key are a map
-pub collection-entries : (n : ℕ) (e : Text × Node) (es : List (Text × Node)) → collection (map (entry_child n) (e ∷ es)) ≡ mapping (entries_of (map (λ p. (p.0, node_view p.1)) (e ∷ es)))
+pub collection-entries : (n : ℕ) (e : Text × Node) (es : List (Text × Node)) → collection
+    (map (entry_child n) (e ∷ es)) ≡ mapping (entries_of (map (λ p. (p.0, node_view p.1)) (e ∷ es)))
 collection-entries n e es = ap mapping (entries-map n (e ∷ es))
 
-pub collection-map : (n : ℕ) (es : List (Text × Node)) → 0 < length es → collection (map (entry_child n) es) ≡ mapping (entries_of (map (λ p. (p.0, node_view p.1)) es))
+pub collection-map : (n : ℕ) (es : List (Text × Node)) → 0 < length es → collection
+    (map (entry_child n) es) ≡ mapping (entries_of (map (λ p. (p.0, node_view p.1)) es))
 collection-map n [] h = absurd (omega arith)
 collection-map n (e ∷ es) h = collection-entries n e es
 
-pub trees-map : (m : Mark) (xs : List Node) → map (λ c. c.tree) (map (child m) xs) ≡ map node_view xs
+pub trees-map : (m : Mark) (xs : List Node)
+    → map (λ c. c.tree) (map (child m) xs) ≡ map node_view xs
 trees-map m [] = refl
 trees-map m (x ∷ xs) = ap (λ (l : List Tree). node_view x ∷ l) (trees-map m xs)
 
-pub collection-items : (n : ℕ) (xs : List Node) → collection (map (child (dash n)) xs) ≡ sequence (trees (map node_view xs))
+pub collection-items : (n : ℕ) (xs : List Node)
+    → collection (map (child (dash n)) xs) ≡ sequence (trees (map node_view xs))
 collection-items n [] = refl
-collection-items n (x ∷ xs) = ap (λ (l : List Tree). sequence (trees (node_view x ∷ l))) (trees-map (dash n) xs)
+collection-items n (x ∷ xs) =
+    ap (λ (l : List Tree). sequence (trees (node_view x ∷ l))) (trees-map (dash n) xs)
 
 -- a key among the entries so far, or the open one
 pub repeated_entries : (n m : ℕ) (es : List (Text × Node)) (k next : List ℕ) (x : Tree)
-    → (list_any (λ p. bytes_eq next p.0) es || bytes_eq next k) ≡ list_any (λ c. is_key next c.mark) (map (entry_child n) es ++ (record { mark = key m k; tree = x } ∷ []))
+    → (list_any (λ p. bytes_eq next p.0) es || bytes_eq next k) ≡ list_any (λ c. is_key next c.mark)
+    (map (entry_child n) es ++ (record { mark = key m k; tree = x } ∷ []))
 repeated_entries n m [] k next x = or_false (bytes_eq next k)
   where
     or_false : (b : Bool) → b ≡ (b || false)
     or_false true = refl
     or_false false = refl
-repeated_entries n m (e ∷ es) k next x = or_behind (bytes_eq next e.0) _ _ _ (repeated_entries n m es k next x)
+repeated_entries n m (e ∷ es) k next x =
+    or_behind (bytes_eq next e.0) _ _ _ (repeated_entries n m es k next x)
   where
     or_behind : (a b c d : Bool) → (b || c) ≡ d → ((a || b) || c) ≡ (a || d)
     or_behind true b c d e = refl

@@ -9,6 +9,7 @@ pub mod OpenViewLemmas
 pub mod ReaderLemmas
 pub mod ReadLemmas
 pub mod FaultLemmas
+pub mod CountLemmas
 pub mod KeyLemmas
 pub mod StandingBytes
 pub mod PlaceLemmas
@@ -24,10 +25,12 @@ pub mod WritingLines
 pub mod Writing
 pub mod SpellingLemmas
 pub mod WriteLemmas
+pub mod RoomLemmas
 pub mod TrimLemmas
 pub mod FlowLemmas
 pub mod FlowSteps
 pub mod FlowItemLemmas
 pub mod FlowListLemmas
-pub mod FitsLemmas
+pub mod FlowRowLemmas
+pub mod FlowRowsLaw
 pub mod Failures

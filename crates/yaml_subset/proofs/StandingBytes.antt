@@ -1,12 +1,17 @@
 -- Parts of UTF-8 bytes that are cut at ASCII bytes are UTF-8, so the lines of a text are.
-use Rattle.std.proofs.Common.{◌≡◌, ℕ, suc, ◌+◌, ◌-◌, ◌<◌, ◌≤◌, Bool, true, false, cond, not, ◌||◌, ◌==◌, List, [], ◌∷◌, ◌++◌, length, take, drop, get_or, slice_index, replicate, IsUtf8, refl, sym, ap, ◌∙◌, subst, arith, append_assoc, append-nil, length-append, take-append-drop}
+use Rattle.std.proofs.Common.{◌≡◌, ℕ, suc, ◌+◌, ◌-◌, ◌<◌, ◌≤◌, Bool, true, false, cond, not, ◌||◌}
+use Rattle.std.proofs.Common.{◌==◌, List, [], ◌∷◌, ◌++◌, length, take, drop, get_or, slice_index}
+use Rattle.std.proofs.Common.{replicate, IsUtf8, refl, sym, ap, ◌∙◌, subst, arith, append_assoc}
+use Rattle.std.proofs.Common.{append-nil, length-append, take-append-drop}
 use Rattle.std.specs.Prelude.{zero}
 use Rattle.std.specs.List.{AllByRecursion, list_all, slice_split, onto_first}
 use Rattle.std.specs.Str.Lines.{lines, lines_of_parts, strip_carriage_return}
 use Rattle.std.proofs.lemmas.Bool.{and_from, or_parts, eqb-true}
 use Rattle.std.proofs.lemmas.Bool.Decides.{nat_tests}
 use Rattle.std.proofs.lemmas.List.Folds.{list_all-append, list_any-append}
-use Rattle.std.proofs.lemmas.Str.{IsUtf8-append, IsUtf8-nil, IsUtf8-encode, encode_ascii, IsUtf8-take, IsUtf8-drop, IsCharBoundary-before_ascii, IsCharBoundary-from_take}
+use Rattle.std.proofs.lemmas.Str.{IsUtf8-append, IsUtf8-nil, IsUtf8-encode, encode_ascii}
+use Rattle.std.proofs.lemmas.Str.{IsUtf8-take, IsUtf8-drop, IsCharBoundary-before_ascii}
+use Rattle.std.proofs.lemmas.Str.{IsCharBoundary-from_take}
 use Rattle.std.proofs.Math.Seq.{take-append_seam, drop-append_seam, get_or-append_seam}
 use lib.Utf8.{low_scalar}
 use Rattle.yaml_subset.specs.Block.{is_blank_byte}
@@ -14,7 +19,8 @@ use Rattle.yaml_subset.specs.Line.{is_control, has_control}
 use Rattle.yaml_subset.specs.Fits.{is_quotable}
 
 -- what holds of both of two, each where it is picked, holds of the one that is picked
-pub pick : {A : Type 0} (P : A → Type 0) (b : Bool) (x y : A) → (b ≡ true → P x) → (b ≡ false → P y) → P (cond b x y)
+pub pick : {A : Type 0} (P : A → Type 0) (b : Bool) (x y : A) → (b ≡ true → P x) → (b ≡ false → P y)
+    → P (cond b x y)
 pick P true x y p q = p refl
 pick P false x y p q = q refl
 
@@ -24,7 +30,8 @@ pick P false x y p q = q refl
 pub seam : (p q : List ℕ) → IsUtf8 p → IsUtf8 (p ++ q) → IsUtf8 q
 seam p q u v =
     let within : length p ≤ length (p ++ q) = omega (arith, length-append p q) in
-    subst IsUtf8 (drop-append_seam p q) (IsUtf8-drop (p ++ q) (length p) v (IsCharBoundary-from_take (p ++ q) (length p) v within (subst IsUtf8 (sym (take-append_seam p q)) u)))
+    subst IsUtf8 (drop-append_seam p q) (IsUtf8-drop (p ++ q) (length p) v (IsCharBoundary-from_take
+    (p ++ q) (length p) v within (subst IsUtf8 (sym (take-append_seam p q)) u)))
 
 pub one_ascii : (c : ℕ) → c < 128 → IsUtf8 (c ∷ [])
 one_ascii c h = subst IsUtf8 (encode_ascii c h) (IsUtf8-encode c (low_scalar c (omega arith)))
@@ -33,7 +40,9 @@ one_ascii c h = subst IsUtf8 (encode_ascii c h) (IsUtf8-encode c (low_scalar c (
 pub front : (p : List ℕ) (c : ℕ) (q : List ℕ) → c < 128 → IsUtf8 (p ++ (c ∷ q)) → IsUtf8 p
 front p c q h u =
     let within : length p < length (p ++ (c ∷ q)) = longer (length q) (length-append p (c ∷ q)) in
-    subst IsUtf8 (take-append_seam p (c ∷ q)) (IsUtf8-take (p ++ (c ∷ q)) (length p) u (IsCharBoundary-before_ascii (p ++ (c ∷ q)) (length p) within (rw (get_or-append_seam p c q 0) h)))
+    subst IsUtf8 (take-append_seam p (c ∷ q))
+    (IsUtf8-take (p ++ (c ∷ q)) (length p) u (IsCharBoundary-before_ascii (p ++ (c ∷ q))
+    (length p) within (rw (get_or-append_seam p c q 0) h)))
   where
     longer : (n : ℕ) → length (p ++ (c ∷ q)) ≡ length p + suc n → length p < length (p ++ (c ∷ q))
     longer n e = omega arith
@@ -41,21 +50,26 @@ front p c q h u =
 pub back : (p : List ℕ) (c : ℕ) (q : List ℕ) → c < 128 → IsUtf8 (p ++ (c ∷ q)) → IsUtf8 q
 back p c q h u = seam (c ∷ []) q (one_ascii c h) (seam p (c ∷ q) (front p c q h u) u)
 
-pub before_end : (p : List ℕ) (c : ℕ) (q : List ℕ) → c < 128 → IsUtf8 (p ++ (c ∷ q)) → IsUtf8 (p ++ [])
+pub before_end : (p : List ℕ) (c : ℕ) (q : List ℕ) → c < 128 → IsUtf8 (p ++ (c ∷ q))
+    → IsUtf8 (p ++ [])
 before_end p c q h u = subst IsUtf8 (sym (append-nil p)) (front p c q h u)
 
 -- without an ASCII byte, and with another one for it
 pub without : (p : List ℕ) (c : ℕ) (q : List ℕ) → c < 128 → IsUtf8 (p ++ (c ∷ q)) → IsUtf8 (p ++ q)
 without p c q h u = IsUtf8-append p q (front p c q h u) (back p c q h u)
 
-pub in_place : (p : List ℕ) (c d : ℕ) (q : List ℕ) → c < 128 → d < 128 → IsUtf8 (p ++ (c ∷ q)) → IsUtf8 ((p ++ (d ∷ [])) ++ q)
-in_place p c d q h k u = IsUtf8-append (p ++ (d ∷ [])) q (IsUtf8-append p (d ∷ []) (front p c q h u) (one_ascii d k)) (back p c q h u)
+pub in_place : (p : List ℕ) (c d : ℕ) (q : List ℕ) → c < 128 → d < 128 → IsUtf8 (p ++ (c ∷ q))
+    → IsUtf8 ((p ++ (d ∷ [])) ++ q)
+in_place p c d q h k u = IsUtf8-append (p ++ (d ∷ [])) q
+    (IsUtf8-append p (d ∷ []) (front p c q h u) (one_ascii d k)) (back p c q h u)
 
 -- one more byte before, one less behind
-pub onward : (p : List ℕ) (c : ℕ) (q : List ℕ) → IsUtf8 (p ++ (c ∷ q)) → IsUtf8 ((p ++ (c ∷ [])) ++ q)
+pub onward : (p : List ℕ) (c : ℕ) (q : List ℕ) → IsUtf8 (p ++ (c ∷ q))
+    → IsUtf8 ((p ++ (c ∷ [])) ++ q)
 onward p c q u = subst IsUtf8 (sym (append_assoc p (c ∷ []) q)) u
 
-pub backward : (p : List ℕ) (c : ℕ) (q : List ℕ) → IsUtf8 ((p ++ (c ∷ [])) ++ q) → IsUtf8 (p ++ (c ∷ q))
+pub backward : (p : List ℕ) (c : ℕ) (q : List ℕ) → IsUtf8 ((p ++ (c ∷ [])) ++ q)
+    → IsUtf8 (p ++ (c ∷ q))
 backward p c q u = subst IsUtf8 (append_assoc p (c ∷ []) q) u
 
 pub ascii_of : (c d : ℕ) → (c == d) ≡ true → d < 128 → c < 128
@@ -66,14 +80,19 @@ blank_ascii c e = grind (arith, nat_tests)
 
 -- BYTES THAT PASS A TEST
 
-pub list_all-both : (t : ℕ → Bool) (xs ys : List ℕ) → list_all t xs ≡ true → list_all t ys ≡ true → list_all t (xs ++ ys) ≡ true
+pub list_all-both : (t : ℕ → Bool) (xs ys : List ℕ) → list_all t xs ≡ true → list_all t ys ≡ true
+    → list_all t (xs ++ ys) ≡ true
 list_all-both t xs ys e f = list_all-append t xs ys ∙ and_from (list_all t xs) (list_all t ys) e f
 
 pub free_take : (n : ℕ) (xs : List ℕ) → has_control xs ≡ false → has_control (take n xs) ≡ false
-free_take n xs e = (or_parts (has_control (take n xs)) (has_control (drop n xs)) (sym (list_any-append is_control (take n xs) (drop n xs)) ∙ ap has_control (take-append-drop n xs) ∙ e)).0
+free_take n xs e = (or_parts (has_control (take n xs))
+    (has_control (drop n xs)) (sym (list_any-append is_control (take n xs) (drop n xs))
+    ∙ ap has_control (take-append-drop n xs) ∙ e)).0
 
 pub free_drop : (n : ℕ) (xs : List ℕ) → has_control xs ≡ false → has_control (drop n xs) ≡ false
-free_drop n xs e = (or_parts (has_control (take n xs)) (has_control (drop n xs)) (sym (list_any-append is_control (take n xs) (drop n xs)) ∙ ap has_control (take-append-drop n xs) ∙ e)).1
+free_drop n xs e = (or_parts (has_control (take n xs))
+    (has_control (drop n xs)) (sym (list_any-append is_control (take n xs) (drop n xs))
+    ∙ ap has_control (take-append-drop n xs) ∙ e)).1
 
 -- a byte that may stand in double quotes
 abbrev pub may_stand : ℕ → Bool
@@ -94,7 +113,8 @@ clean-append xs ys a b = (IsUtf8-append xs ys a.0 b.0, list_all-both may_stand x
 
 pub clean-replicate : (n : ℕ) → IsClean (replicate n 10)
 clean-replicate zero = (IsUtf8-nil, refl)
-clean-replicate (suc n) = clean-append (10 ∷ []) (replicate n 10) (one_ascii 10 (omega arith), refl) (clean-replicate n)
+clean-replicate (suc n) =
+    clean-append (10 ∷ []) (replicate n 10) (one_ascii 10 (omega arith), refl) (clean-replicate n)
 
 -- a part of a line
 abbrev pub IsPure : List ℕ → Type 0
@@ -104,11 +124,13 @@ pub clean-from_pure : (xs : List ℕ) → IsPure xs → IsClean xs
 clean-from_pure xs p = (p.0, quotable xs p.1)
 
 -- without spaces at its start
-pub pure-drop_spaces : (n : ℕ) (xs : List ℕ) → ((k : ℕ) → k < n → get_or xs k 0 < 128) → IsPure xs → IsPure (drop n xs)
+pub pure-drop_spaces : (n : ℕ) (xs : List ℕ) → ((k : ℕ) → k < n → get_or xs k 0 < 128) → IsPure xs
+    → IsPure (drop n xs)
 pure-drop_spaces zero xs low p = p
 pure-drop_spaces (suc n) [] low p = p
 pure-drop_spaces (suc n) (x ∷ xs) low p =
-    pure-drop_spaces n xs (λ k h. low (suc k) (omega arith)) (back [] x xs (low 0 (omega arith)) p.0, (or_parts (is_control x) (has_control xs) p.1).1)
+    pure-drop_spaces n xs (λ k h. low (suc k) (omega arith))
+    (back [] x xs (low 0 (omega arith)) p.0, (or_parts (is_control x) (has_control xs) p.1).1)
 
 -- LINES
 
@@ -123,8 +145,12 @@ all_parts (l ∷ ls) h = (h.0, h.1)
 parts_utf8 : (p xs : List ℕ) → IsUtf8 (p ++ xs) → Parts p (slice_split (λ b. b == 10) xs)
 parts_utf8 p [] u = (u, tt)
 parts_utf8 p (x ∷ xs) u =
-    pick (Parts p) (x == 10) ([] ∷ slice_split (λ b. b == 10) xs) (onto_first x (slice_split (λ b. b == 10) xs))
-    (λ e. let h = ascii_of x 10 e (omega arith) in (before_end p x xs h u, all_parts (slice_split (λ b. b == 10) xs) (parts_utf8 [] xs (back p x xs h u))))
+    pick (Parts p) (x == 10) ([] ∷ slice_split (λ b. b == 10) xs)
+    (onto_first x (slice_split (λ b. b == 10) xs))
+    (λ e. let h = ascii_of x 10 e (omega arith) in (
+      before_end p x xs h u,
+      all_parts (slice_split (λ b. b == 10) xs) (parts_utf8 [] xs (back p x xs h u)),
+    ))
     (λ e. onto (slice_split (λ b. b == 10) xs) (parts_utf8 (p ++ (x ∷ [])) xs (onward p x xs u)))
   where
     onto : (ls : List (List ℕ)) → Parts (p ++ (x ∷ [])) ls → Parts p (onto_first x ls)
@@ -133,14 +159,19 @@ parts_utf8 p (x ∷ xs) u =
 
 strip_utf8 : (l : List ℕ) → IsUtf8 l → IsUtf8 (strip_carriage_return l)
 strip_utf8 [] u = u
-strip_utf8 (x ∷ l) u = pick IsUtf8 (slice_index (x ∷ l) (length (x ∷ l) - 1) == 13) (take (length (x ∷ l) - 1) (x ∷ l)) (x ∷ l)
-    (λ e. IsUtf8-take (x ∷ l) (length (x ∷ l) - 1) u (IsCharBoundary-before_ascii (x ∷ l) (length (x ∷ l) - 1) (omega arith) (ascii_of _ 13 e (omega arith))))
+strip_utf8 (x ∷ l) u = pick IsUtf8 (slice_index (x ∷ l) (length (x ∷ l) - 1) == 13)
+    (take (length (x ∷ l) - 1) (x ∷ l)) (x ∷ l)
+    (λ e. IsUtf8-take (x ∷ l) (length (x ∷ l) - 1) u (IsCharBoundary-before_ascii (x ∷ l)
+    (length (x ∷ l) - 1) (omega arith) (ascii_of _ 13 e (omega arith))))
     (λ e. u)
 
-of_parts_utf8 : (ls : List (List ℕ)) → AllByRecursion IsUtf8 ls → AllByRecursion IsUtf8 (lines_of_parts ls)
+of_parts_utf8 : (ls : List (List ℕ)) → AllByRecursion IsUtf8 ls
+    → AllByRecursion IsUtf8 (lines_of_parts ls)
 of_parts_utf8 [] h = tt
-of_parts_utf8 (x ∷ []) h = pick (AllByRecursion IsUtf8) (length x == 0) [] (x ∷ []) (λ e. tt) (λ e. (h.0, tt))
+of_parts_utf8 (x ∷ []) h =
+    pick (AllByRecursion IsUtf8) (length x == 0) [] (x ∷ []) (λ e. tt) (λ e. (h.0, tt))
 of_parts_utf8 (x ∷ y ∷ more) h = (strip_utf8 x h.0, of_parts_utf8 (y ∷ more) h.1)
 
 pub lines_utf8 : (text : List ℕ) → IsUtf8 text → AllByRecursion IsUtf8 (lines text)
-lines_utf8 text u = of_parts_utf8 (slice_split (λ b. b == 10) text) (all_parts (slice_split (λ b. b == 10) text) (parts_utf8 [] text u))
+lines_utf8 text u = of_parts_utf8 (slice_split (λ b. b == 10) text)
+    (all_parts (slice_split (λ b. b == 10) text) (parts_utf8 [] text u))

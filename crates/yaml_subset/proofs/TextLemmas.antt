@@ -1,5 +1,7 @@
 -- Lines after lines: the first lines of a text are a text, and the open nodes after them are known.
-use Rattle.std.proofs.Common.{◌≡◌, ℕ, zero, suc, ◌+◌, false, List, [], ◌∷◌, ◌++◌, Option, Some, None, length, option_map, refl, sym, ap, ◌∙◌, take, drop, get_or, map, ◌<◌, ◌≤◌, arith, add-one}
+use Rattle.std.proofs.Common.{◌≡◌, ℕ, zero, suc, ◌+◌, false, List, [], ◌∷◌, ◌++◌, Option, Some}
+use Rattle.std.proofs.Common.{None, length, option_map, refl, sym, ap, ◌∙◌, take, drop, get_or, map}
+use Rattle.std.proofs.Common.{◌<◌, ◌≤◌, arith, add-one}
 use Rattle.std.specs.Option.{option_and_then, option_map_or, is_none, is_some}
 use Rattle.std.proofs.lemmas.List.Sums.{fold-append}
 use Rattle.std.proofs.lemmas.List.{take-append-drop, length-take-le, length-map}
@@ -22,20 +24,27 @@ pub misfit_of_add : (ms : List Mark) (o : Open) → is_none (misfit ms o) ≡ is
 misfit_of_add [] o = refl
 misfit_of_add (m ∷ ms) o = at_add (add m o) (λ p. misfit_of_add ms p)
   where
-    at_add : (a : Option Open) → ((p : Open) → is_none (misfit ms p) ≡ is_some (add_all ms p)) → is_none (option_map_or (misfit ms) a (Some (row_of_mark m o))) ≡ is_some (option_and_then (add_all ms) a)
+    at_add : (a : Option Open) → ((p : Open) → is_none (misfit ms p) ≡ is_some (add_all ms p))
+        → is_none (option_map_or (misfit ms) a (Some (row_of_mark m o)))
+        ≡ is_some (option_and_then (add_all ms) a)
     at_add None ih = refl
     at_add (Some p) ih = ih p
 
-pub marked-snoc : (ls : List (List ℕ)) (line : List ℕ) → marked (ls ++ (line ∷ [])) ≡ option_and_then (λ s. next_line s line) (marked ls)
-marked-snoc ls line = fold-append (λ o l. option_and_then (λ s. next_line s l) o) (Some no_line) ls (line ∷ [])
+pub marked-snoc : (ls : List (List ℕ)) (line : List ℕ)
+    → marked (ls ++ (line ∷ [])) ≡ option_and_then (λ s. next_line s line) (marked ls)
+marked-snoc ls line =
+    fold-append (λ o l. option_and_then (λ s. next_line s l) o) (Some no_line) ls (line ∷ [])
 
 -- nothing is read yet
-pub nothing_read : IsRead [] (record { nodes = within start [] nothing; parent = None; scalar = None })
+pub nothing_read : IsRead []
+    (record { nodes = within start [] nothing; parent = None; scalar = None })
 nothing_read = record { marks = []; are_marks = refl; are_open = refl }
 
 -- the nodes of lines that were read
-pub read_nodes : (ls : List (List ℕ)) (r : Reading) → IsRead ls r → nodes_of ls ≡ Some (finished r.nodes)
-read_nodes ls r h = ap (option_and_then (λ (s : Marked). documents s.marks)) h.are_marks ∙ documents_closed h.marks ∙ ap (option_map finished) h.are_open
+pub read_nodes : (ls : List (List ℕ)) (r : Reading) → IsRead ls r
+    → nodes_of ls ≡ Some (finished r.nodes)
+read_nodes ls r h = ap (option_and_then (λ (s : Marked). documents s.marks)) h.are_marks
+    ∙ documents_closed h.marks ∙ ap (option_map finished) h.are_open
 
 module _ (ls : List (List ℕ)) (line : List ℕ) (r : Reading) (h : IsRead ls r) where
   here : Marked
@@ -43,37 +52,54 @@ module _ (ls : List (List ℕ)) (line : List ℕ) (r : Reading) (h : IsRead ls r
 
   marked_here : marked (ls ++ (line ∷ [])) ≡ next_line here line
   unfolding here
-  marked_here = marked-snoc ls line ∙ ap (option_and_then (λ (s : Marked). next_line s line)) h.are_marks
+  marked_here = marked-snoc ls line
+      ∙ ap (option_and_then (λ (s : Marked). next_line s line)) h.are_marks
 
-  open_here : open_nodes (h.marks ++ (line_at r.scalar line).marks) ≡ add_all (line_at r.scalar line).marks r.nodes
-  open_here = open_nodes-append h.marks (line_at r.scalar line).marks ∙ ap (option_and_then (add_all (line_at r.scalar line).marks)) h.are_open
+  open_here : open_nodes (h.marks ++ (line_at r.scalar line).marks)
+      ≡ add_all (line_at r.scalar line).marks r.nodes
+  open_here = open_nodes-append h.marks (line_at r.scalar line).marks
+      ∙ ap (option_and_then (add_all (line_at r.scalar line).marks)) h.are_open
 
   -- one more line that meets no row
   pub read_more : (next : Reading) → Follows r line next → IsRead (ls ++ (line ∷ [])) next
   unfolding here
   read_more next f = record {
     marks = h.marks ++ (line_at r.scalar line).marks;
-    are_marks = marked_here ∙ rw f.no_fault (ap (λ (p : Option ℕ × Option Scalar). Some (record { marks = h.marks ++ (line_at r.scalar line).marks; parent = p.0; scalar = p.1 })) (pair_same _ _ _ _ (sym f.parent) (sym f.scalar)));
+    are_marks = marked_here ∙ rw f.no_fault (ap (λ (p : Option ℕ × Option Scalar).
+        Some (record {
+          marks = h.marks ++ (line_at r.scalar line).marks;
+          parent = p.0;
+          scalar = p.1;
+        })) (pair_same _ _ _ _ (sym f.parent) (sym f.scalar)));
     are_open = open_here ∙ f.nodes;
   }
     where
-      pair_same : (a b : Option ℕ) (c d : Option Scalar) → a ≡ b → c ≡ d → ◌≡◌ {A = Option ℕ × Option Scalar} (a, c) (b, d)
+      pair_same : (a b : Option ℕ) (c d : Option Scalar) → a ≡ b → c ≡ d
+          → ◌≡◌ {A = Option ℕ × Option Scalar} (a, c) (b, d)
       pair_same a b c d e g = rw (e, g) refl
 
-  no_place : (w : Which) → row_of r.scalar r.nodes line ≡ Some w → (f : Option Which) → (line_at r.scalar line).fault ≡ f → nodes_of (ls ++ (line ∷ [])) ≡ None
+  no_place : (w : Which) → row_of r.scalar r.nodes line ≡ Some w → (f : Option Which)
+      → (line_at r.scalar line).fault ≡ f → nodes_of (ls ++ (line ∷ [])) ≡ None
   unfolding here
   no_place w e None g =
-      let misses : misfit (line_at r.scalar line).marks r.nodes ≡ Some w = ap (λ (x : Option Which). earlier x (misfit (line_at r.scalar line).marks r.nodes)) (sym g) ∙ e in
-      let gone : is_some (add_all (line_at r.scalar line).marks r.nodes) ≡ false = sym (misfit_of_add (line_at r.scalar line).marks r.nodes) ∙ ap (λ (o : Option Which). is_none o) misses in
-      ap (option_and_then (λ (s : Marked). documents s.marks)) marked_here ∙ rw g (documents_closed (h.marks ++ (line_at r.scalar line).marks) ∙ ap (option_map finished) (open_here ∙ none_of (add_all (line_at r.scalar line).marks r.nodes) gone))
+      let misses : misfit (line_at r.scalar line).marks r.nodes ≡ Some w = ap (λ (x : Option Which).
+      earlier x (misfit (line_at r.scalar line).marks r.nodes)) (sym g) ∙ e in
+      let gone : is_some (add_all (line_at r.scalar line).marks r.nodes) ≡ false =
+      sym (misfit_of_add (line_at r.scalar line).marks r.nodes)
+      ∙ ap (λ (o : Option Which). is_none o) misses in
+      ap (option_and_then (λ (s : Marked). documents s.marks)) marked_here ∙ rw
+      g (documents_closed (h.marks ++ (line_at r.scalar line).marks) ∙ ap (option_map finished)
+      (open_here ∙ none_of (add_all (line_at r.scalar line).marks r.nodes) gone))
     where
       none_of : (o : Option Open) → is_some o ≡ false → o ≡ None
       none_of None q = refl
       none_of (Some x) q = absurd (false≢true (sym q))
-  no_place w e (Some v) g = ap (option_and_then (λ (s : Marked). documents s.marks)) marked_here ∙ rw g refl
+  no_place w e (Some v) g =
+      ap (option_and_then (λ (s : Marked). documents s.marks)) marked_here ∙ rw g refl
 
   -- one more line that meets a row
-  pub fault_here : (after : List (List ℕ)) (w : Which) → row_of r.scalar r.nodes line ≡ Some w → IsFault (ls ++ (line ∷ after)) (length ls + 1) w
+  pub fault_here : (after : List (List ℕ)) (w : Which) → row_of r.scalar r.nodes line ≡ Some w
+      → IsFault (ls ++ (line ∷ after)) (length ls + 1) w
   fault_here after w e = record {
     before = ls;
     line = line;
@@ -91,18 +117,23 @@ module _ (ls : List (List ℕ)) (line : List ℕ) (r : Reading) (h : IsRead ls r
   }
 
 -- the first lines, and one more
-pub take_line : (xs : List (List ℕ)) (at : ℕ) (d : List ℕ) → at < length xs → take at xs ++ (get_or xs at d ∷ []) ≡ take (at + 1) xs
+pub take_line : (xs : List (List ℕ)) (at : ℕ) (d : List ℕ) → at < length xs
+    → take at xs ++ (get_or xs at d ∷ []) ≡ take (at + 1) xs
 take_line xs at d h = sym (rw (add-one) (take-suc xs at d h))
 
-pub split_lines : (xs : List (List ℕ)) (at : ℕ) (d : List ℕ) → at < length xs → xs ≡ take at xs ++ (get_or xs at d ∷ drop (at + 1) xs)
-split_lines xs at d h = sym (take-append-drop at xs) ∙ ap (λ (l : List (List ℕ)). take at xs ++ l) (rw add-one (drop-cons xs at d h))
+pub split_lines : (xs : List (List ℕ)) (at : ℕ) (d : List ℕ) → at < length xs
+    → xs ≡ take at xs ++ (get_or xs at d ∷ drop (at + 1) xs)
+split_lines xs at d h = sym (take-append-drop at xs)
+    ∙ ap (λ (l : List (List ℕ)). take at xs ++ l) (rw add-one (drop-cons xs at d h))
 
-now_at : (ls : List (Bor (List ℕ))) (at : ℕ) (d : Bor (List ℕ)) → get_or (map (λ x. x.now) ls) at d.now ≡ (get_or ls at d).now
+now_at : (ls : List (Bor (List ℕ))) (at : ℕ) (d : Bor (List ℕ))
+    → get_or (map (λ x. x.now) ls) at d.now ≡ (get_or ls at d).now
 now_at [] at d = refl
 now_at (x ∷ ls) zero d = refl
 now_at (x ∷ ls) (suc at) d = now_at ls at d
 
-module _ (ls : List (Bor (List ℕ))) (at : ℕ) (line : List ℕ) (d : Bor (List ℕ)) (inside : at < length ls) (is_line : line ≡ (get_or ls at d).now) where
+module _ (ls : List (Bor (List ℕ))) (at : ℕ) (line : List ℕ) (d : Bor (List ℕ))
+    (inside : at < length ls) (is_line : line ≡ (get_or ls at d).now) where
   texts : List (List ℕ)
   texts = map (λ x. x.now) ls
 
@@ -114,14 +145,19 @@ module _ (ls : List (Bor (List ℕ))) (at : ℕ) (line : List ℕ) (d : Bor (Lis
   unfolding texts
   the_line = now_at ls at d ∙ sym is_line
 
-  pub line_taken : take at (map (λ x. x.now) ls) ++ (line ∷ []) ≡ take (at + 1) (map (λ x. x.now) ls)
+  pub line_taken : take at (map (λ x. x.now) ls) ++ (line ∷ []) ≡ take (at + 1)
+      (map (λ x. x.now) ls)
   unfolding texts
-  line_taken = ap (λ (l : List ℕ). take at texts ++ (l ∷ [])) (sym the_line) ∙ take_line texts at d.now long
+  line_taken = ap (λ (l : List ℕ). take at texts ++ (l ∷ [])) (sym the_line)
+      ∙ take_line texts at d.now long
 
-  pub line_splits : take at (map (λ x. x.now) ls) ++ (line ∷ drop (at + 1) (map (λ x. x.now) ls)) ≡ map (λ x. x.now) ls
+  pub line_splits : take at
+      (map (λ x. x.now) ls) ++ (line ∷ drop (at + 1) (map (λ x. x.now) ls)) ≡ map (λ x. x.now) ls
   unfolding texts
-  line_splits = ap (λ (l : List ℕ). take at texts ++ (l ∷ drop (at + 1) texts)) (sym the_line) ∙ sym (split_lines texts at d.now long)
+  line_splits = ap (λ (l : List ℕ). take at texts ++ (l ∷ drop (at + 1) texts)) (sym the_line)
+      ∙ sym (split_lines texts at d.now long)
 
   pub line_number : length (take at (map (λ x. x.now) ls)) + 1 ≡ at + 1
   unfolding texts
-  line_number = let few : at ≤ length texts = omega (arith, long) in ap (λ (n : ℕ). n + 1) (length-take-le at texts few)
+  line_number = let few : at ≤ length texts = omega (arith, long) in
+      ap (λ (n : ℕ). n + 1) (length-take-le at texts few)

@@ -6,8 +6,9 @@ use Rattle.std.specs.Str.{IsUtf8}
 abbrev pub CanGoOn : List ℕ → Type 0
 CanGoOn bs = (more : List ℕ) × IsUtf8 (bs ++ more)
 
--- The place of the first byte that no UTF-8 text can have there: the bytes before it can go on to a text, and with it they can't.
--- Of bytes that can all go on, as those that end inside a character, it is the length.
+-- The place of the first byte that no UTF-8 text can have there: the bytes before it can go on to a
+-- text, and with it they can't. Of bytes that can all go on, as those that end inside a character,
+-- it is the length.
 pub record IsBadPlace (bs : List ℕ) (at : ℕ) : Type 0 where
   pub within : at ≤ length bs
   pub before : CanGoOn (take at bs)

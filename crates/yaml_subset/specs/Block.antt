@@ -1,5 +1,7 @@
 -- Block scalars (YAML 1.2.2, sections 8.1.2 and 8.1.3): what text their lines stand for.
-use Rattle.std.specs.Prelude.{ℕ, zero, suc, ◌-◌, ◌==◌, ◌||◌, Bool, true, false, List, [], ◌∷◌, ◌++◌, Option, Some, None, cond, drop, take, length, reverse, replicate, fold}
+use Rattle.std.specs.Prelude.{ℕ, zero, suc, ◌-◌, ◌==◌, ◌||◌, Bool, true, false, List, [], ◌∷◌, ◌++◌}
+use Rattle.std.specs.Prelude.{Option, Some, None, cond, drop, take, length, reverse, replicate}
+use Rattle.std.specs.Prelude.{fold}
 use Rattle.std.specs.List.{list_all, prefix_len}
 use Rattle.yaml_subset.specs.declared.style.Style.{Style}
 use Rattle.yaml_subset.specs.declared.style.Chomping.{Chomping}
@@ -31,14 +33,16 @@ ending Clip blanks = 10 ∷ []
 ending Strip blanks = []
 ending Keep blanks = replicate (suc blanks) 10
 
--- what joins a line to the one before it, with so many blank lines between: folding makes one line feed into a space
+-- what joins a line to the one before it, with so many blank lines between: folding makes one line
+-- feed into a space
 abbrev pub joint : Bool → ℕ → List ℕ
 joint false blanks = replicate (suc blanks) 10
 joint true zero = 32 ∷ []
 joint true (suc blanks) = replicate (suc blanks) 10
 
--- A block scalar so far: its text up to its last line that isn't blank, and the blank lines after it.
--- The content's indentation is that of its first line that isn't blank; blank lines before that give a line feed each.
+-- A block scalar so far: its text up to its last line that isn't blank, and the blank lines after
+-- it. The content's indentation is that of its first line that isn't blank; blank lines before that
+-- give a line feed each.
 pub record Block : Type 0 where
   pub style : Style
   pub indent : Option ℕ
@@ -63,13 +67,15 @@ indent_of (Some indent) l = indent
 
 -- the scalar with a line that isn't blank
 abbrev pub filled : Block → List ℕ → Block
-filled b l = record { style = b.style; indent = Some (indent_of b.indent l); text = b.text ++ content_of b l; blanks = 0 }
+filled b l = let text = b.text ++ content_of b l in
+    record b { indent = Some (indent_of b.indent l); text = text; blanks = 0 }
 
 abbrev pub with_line : Block → List ℕ → Block
 with_line b l = cond (is_blank l) (record b { blanks = suc b.blanks }) (filled b l)
 
--- The text, once the scalar has ended; without a line that isn't blank it is empty, and with `+` it has the blank lines.
--- READS OTHERWISE than YAML 1.2.2: the last line counts as ended by a line feed also where the text ends without one.
+-- The text, once the scalar has ended; without a line that isn't blank it is empty, and with `+` it
+-- has the blank lines. READS OTHERWISE than YAML 1.2.2: the last line counts as ended by a line
+-- feed also where the text ends without one.
 abbrev pub ended : Block → List ℕ
 ended b = ended_at b.indent b.style.chomping
   where

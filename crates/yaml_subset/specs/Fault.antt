@@ -1,5 +1,7 @@
--- The fault of lines that are no text of the profile: the least number of them that are none, and the first row that the last of these meets.
-use Rattle.std.specs.Prelude.{◌≡◌, ℕ, ◌+◌, ◌==◌, ◌||◌, Bool, false, List, [], ◌∷◌, ◌++◌, Option, Some, None, cond, length}
+-- The fault of lines that are no text of the profile: the least number of them that are none, and
+-- the first row that the last of these meets.
+use Rattle.std.specs.Prelude.{◌≡◌, ℕ, ◌+◌, ◌==◌, ◌||◌, Bool, false, List, [], ◌∷◌, ◌++◌, Option}
+use Rattle.std.specs.Prelude.{Some, None, cond, length}
 use Rattle.std.specs.Option.{option_map_or}
 use Rattle.yaml_subset.specs.Tree.{Tree}
 use Rattle.yaml_subset.specs.Mark.{Mark, dash, key, value, header}
@@ -13,7 +15,8 @@ use Rattle.yaml_subset.specs.declared.which.Which.TheVariants.{Indent, Colon, Du
 
 -- the mark is the next key of an open map that has it already
 abbrev pub repeats : Mark → Open → Bool
-repeats m (within h done i) = cond (is_next h m) (is_repeated m (with_child done h (closed i))) (repeats m i)
+repeats m (within h done i) =
+    cond (is_next h m) (is_repeated m (with_child done h (closed i))) (repeats m i)
 repeats m _ = false
 
 -- nothing stands yet behind the last mark, and a node that begins with this mark has room there
@@ -39,9 +42,11 @@ abbrev pub is_at_open : Mark → Open → Bool
 is_at_open m (within h done i) = same_column (column h) (column m) || is_at_open m i
 is_at_open m _ = false
 
--- the row of a mark that has no place: its map has that key, it begins a node too deep, an entry or item must stand there, or nothing can
+-- the row of a mark that has no place: its map has that key, it begins a node too deep, an entry or
+-- item must stand there, or nothing can
 abbrev pub row_of_mark : Mark → Open → Which
-row_of_mark m o = cond (repeats m o) DuplicateKey (cond (begins m o) TooDeep (cond (is_at_open m o) Colon Indent))
+row_of_mark m o =
+    cond (repeats m o) DuplicateKey (cond (begins m o) TooDeep (cond (is_at_open m o) Colon Indent))
 
 -- the row of the first mark that has no place among the open nodes
 abbrev pub misfit : List Mark → Open → Option Which

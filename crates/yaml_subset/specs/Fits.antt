@@ -1,30 +1,37 @@
--- Which spellings can be written: plain texts are read as they stand, the others have escapes for what they may hold, no key comes twice, and the levels aren't too many.
-use Rattle.std.specs.Prelude.{◌≡◌, ℕ, zero, suc, ◌==◌, ◌&&◌, ◌||◌, nat_le, Bool, true, false, not, List, [], ◌∷◌, ⊤, length, slice_index}
+-- Which spellings can be written: plain texts are read as they stand, the others have escapes for
+-- what they may hold, no key comes twice, and the levels aren't too many.
+use Rattle.std.specs.Prelude.{◌≡◌, ℕ, zero, suc, ◌==◌, ◌&&◌, ◌||◌, nat_le, Bool, true, false, not}
+use Rattle.std.specs.Prelude.{List, [], ◌∷◌, ⊤, length, slice_index}
 use Rattle.std.specs.List.{list_all}
 use Rattle.std.specs.Str.{IsUtf8, bytes_eq}
 use Rattle.yaml_subset.specs.Tree.{Tree}
 use Rattle.yaml_subset.specs.Block.{is_blank_byte}
 use Rattle.yaml_subset.specs.Line.{is_control, has_control, is_plain_start, plain_len}
 use Rattle.yaml_subset.specs.Profile.{max_depth}
-use Rattle.yaml_subset.specs.Spelling.{Spelling, word, quoted, fields, items, Fields, no_fields, field, Items, no_items, one_item, spelled}
+use Rattle.yaml_subset.specs.Spelling.{Spelling, word, quoted, fields, items, Fields, no_fields}
+use Rattle.yaml_subset.specs.Spelling.{field, Items, no_items, one_item, spelled}
 
--- A text that is read as it stands where it is written plain (YAML 1.2.2, section 7.3.3): it begins as a plain scalar does,
--- with no blank, has no colon before a blank or its end, no `#` behind a blank, no blank at its end, and no control character but tabs.
+-- A text that is read as it stands where it is written plain (YAML 1.2.2, section 7.3.3): it begins
+-- as a plain scalar does, with no blank, has no colon before a blank or its end, no `#` behind a
+-- blank, no blank at its end, and no control character but tabs.
 abbrev pub is_plain : List ℕ → Bool
 is_plain [] = true
-is_plain (c ∷ cs) = not (is_blank_byte c) && (is_plain_start c cs && (plain_len (c ∷ cs) == length (c ∷ cs)
+is_plain (c ∷ cs) =
+    not (is_blank_byte c) && (is_plain_start c cs && (plain_len (c ∷ cs) == length (c ∷ cs)
     && (not (is_blank_byte (slice_index (c ∷ cs) (length cs))) && not (has_control (c ∷ cs)))))
 
 -- an ASCII letter
 abbrev pub is_letter : ℕ → Bool
 is_letter c = (nat_le 65 c && nat_le c 90) || (nat_le 97 c && nat_le c 122)
 
--- A plain key is a word of letters, as the names of fields are: so no line that it begins is a marker, and no text has a byte order mark for it.
+-- A plain key is a word of letters, as the names of fields are: so no line that it begins is a
+-- marker, and no text has a byte order mark for it.
 abbrev pub is_plain_key : List ℕ → Bool
 is_plain_key [] = false
 is_plain_key (c ∷ cs) = list_all is_letter (c ∷ cs)
 
--- A text that can stand in double quotes: of the control characters it has tabs and line feeds alone.
+-- A text that can stand in double quotes: of the control characters it has tabs and
+-- line feeds alone.
 abbrev pub is_quotable : List ℕ → Bool
 is_quotable text = list_all (λ c. not (is_control c) || c == 10) text
 
@@ -49,7 +56,8 @@ abbrev mutual
 
   pub FitFields : ℕ → Fields → Type 0
   FitFields d no_fields = ⊤
-  FitFields d (field q k s fs) = (IsUtf8 k × (is_key_text q k ≡ true)) × (has_field k fs ≡ false) × Fits d s × FitFields d fs
+  FitFields d (field q k s fs) = (IsUtf8 k × (is_key_text q k ≡ true)) × (has_field k fs ≡ false)
+      × Fits d s × FitFields d fs
 
   pub FitItems : ℕ → Items → Type 0
   FitItems d no_items = ⊤

@@ -1,5 +1,6 @@
 -- One-line lists of scalars (YAML 1.2.2, section 7.4.1), byte by byte with the byte that follows.
-use Rattle.std.specs.Prelude.{ℕ, ◌-◌, ◌==◌, ◌&&◌, ◌||◌, Bool, true, false, not, List, [], ◌∷◌, ◌++◌, Option, Some, None, cond, length, slice_index}
+use Rattle.std.specs.Prelude.{ℕ, ◌-◌, ◌==◌, ◌&&◌, ◌||◌, Bool, true, false, not, List, [], ◌∷◌, ◌++◌}
+use Rattle.std.specs.Prelude.{Option, Some, None, cond, length, slice_index}
 use Rattle.yaml_subset.specs.Tree.{Tree, scalar}
 use Rattle.yaml_subset.specs.Rows.{earlier}
 use Rattle.yaml_subset.specs.Quoted.{escaped}
@@ -9,7 +10,8 @@ use Rattle.yaml_subset.specs.declared.which.Which.TheVariants.{LeftOut, Quote, E
 use Rattle.yaml_subset.specs.declared.flow.Part.{Part}
 use Rattle.yaml_subset.specs.declared.flow.Part.TheVariants as parts
 
--- a list so far: where the reading stands, the text of the item there, the finished items, and the first row that was met
+-- a list so far: where the reading stands, the text of the item there, the finished items, and the
+-- first row that was met
 pub record Flow : Type 0 where
   pub part : Part
   pub text : List ℕ
@@ -25,7 +27,8 @@ is_flow_indicator c = c == 44 || c == 91 || c == 93 || c == 123 || c == 125
 
 -- one of `,[]{}#&*!|>'"%@` and the backquote, which begin no plain scalar
 abbrev pub is_indicator : ℕ → Bool
-is_indicator c = is_flow_indicator c || c == 35 || c == 38 || c == 42 || c == 33 || c == 124 || c == 62 || c == 39 || c == 34 || c == 37 || c == 64 || c == 96
+is_indicator c = is_flow_indicator c || c == 35 || c == 38 || c == 42 || c == 33 || c == 124
+    || c == 62 || c == 39 || c == 34 || c == 37 || c == 64 || c == 96
 
 -- `-`, `?` or `:`, which begin a plain scalar only before another character
 abbrev pub is_soft_indicator : ℕ → Bool
@@ -43,33 +46,42 @@ is_flow_start c next = not (is_indicator c) && (not (is_soft_indicator c) || not
 abbrev pub is_left_out : ℕ → Bool
 is_left_out c = c == 38 || c == 42 || c == 33 || c == 37 || c == 64 || c == 96
 
--- the row of a byte where no item can begin with it: a list inside, a map that isn't `{}`, what is left out, or another form
+-- the row of a byte where no item can begin with it: a list inside, a map that isn't `{}`, what is
+-- left out, or another form
 abbrev pub flow_row : ℕ → ℕ → Which
-flow_row c next = cond (c == 91 || (c == 123 && not (next == 125)) || is_left_out c || (c == 63 && is_blank_byte next)) LeftOut FlowForm
+flow_row c next = cond (c == 91 || (c == 123 && not (next == 125)) || is_left_out c
+    || (c == 63 && is_blank_byte next)) LeftOut FlowForm
 
 abbrev pub flow_fault : Flow → Part → Which → Flow
-flow_fault s p w = record { part = p; text = s.text; items = s.items; fault = earlier s.fault (Some w) }
+flow_fault s p w = record s { part = p; fault = earlier s.fault (Some w) }
 
 abbrev pub flow_part : Flow → Part → Flow
-flow_part s p = record { part = p; text = s.text; items = s.items; fault = s.fault }
+flow_part s p = record s { part = p }
 
 -- an item begins, with this text so far
 abbrev pub flow_item : Flow → Part → List ℕ → Flow
-flow_item s p text = record { part = p; text = text; items = s.items; fault = s.fault }
+flow_item s p text = record s { part = p; text = text }
 
 abbrev pub flow_more : Flow → Part → ℕ → Flow
-flow_more s p c = record { part = p; text = s.text ++ (c ∷ []); items = s.items; fault = s.fault }
+flow_more s p c = record s { part = p; text = s.text ++ (c ∷ []) }
 
 -- a quoted item ends
 abbrev pub flow_quoted : Flow → Flow
-flow_quoted s = record { part = parts.After; text = []; items = s.items ++ (scalar s.text false ∷ []); fault = s.fault }
+flow_quoted s =
+    record s { part = parts.After; text = []; items = s.items ++ (scalar s.text false ∷ []) }
 
 -- the row of a plain item that ends with a colon
 abbrev pub colon_end : Option Which → List ℕ → Option Which
-colon_end fault text = cond (slice_index text (length text - 1) == 58) (earlier fault (Some FlowForm)) fault
+colon_end fault text =
+    cond (slice_index text (length text - 1) == 58) (earlier fault (Some FlowForm)) fault
 
 abbrev pub flow_scalar : Flow → Part → List ℕ → Flow
-flow_scalar s p text = record { part = p; text = []; items = s.items ++ (scalar text true ∷ []); fault = colon_end s.fault text }
+flow_scalar s p text = record {
+  part = p;
+  text = [];
+  items = s.items ++ (scalar text true ∷ []);
+  fault = colon_end s.fault text;
+}
 
 -- a plain item ends, without the blanks at its end
 abbrev pub flow_plain : Flow → Part → Flow
@@ -77,7 +89,8 @@ flow_plain s p = flow_scalar s p (trimmed is_blank_byte s.text)
 
 -- blanks and a comment behind the list
 abbrev pub in_closed : Flow → ℕ → ℕ → Flow
-in_closed s c next = cond (is_blank_byte c) (cond (next == 35) (flow_part s parts.Over) s) (flow_fault s parts.Over FlowForm)
+in_closed s c next = cond (is_blank_byte c) (cond (next == 35) (flow_part s parts.Over) s)
+    (flow_fault s parts.Over FlowForm)
 
 abbrev pub in_want : Flow → ℕ → ℕ → Flow
 in_want s c next = cond (is_blank_byte c) s
@@ -96,10 +109,12 @@ in_plain s c next = cond (c == 44) (flow_plain s parts.Want)
     (flow_more s parts.Plain c))))
 
 abbrev pub in_single : Flow → ℕ → ℕ → Flow
-in_single s c next = cond (c == 39) (cond (next == 39) (flow_more s parts.Doubled 39) (flow_quoted s)) (flow_more s parts.Single c)
+in_single s c next = cond (c == 39)
+    (cond (next == 39) (flow_more s parts.Doubled 39) (flow_quoted s)) (flow_more s parts.Single c)
 
 abbrev pub in_double : Flow → ℕ → Flow
-in_double s c = cond (c == 34) (flow_quoted s) (cond (c == 92) (flow_part s parts.Escape) (flow_more s parts.Double c))
+in_double s c = cond (c == 34) (flow_quoted s)
+    (cond (c == 92) (flow_part s parts.Escape) (flow_more s parts.Double c))
 
 abbrev pub in_escape : Flow → Option ℕ → Flow
 in_escape s (Some c) = flow_more s parts.Double c
@@ -110,7 +125,8 @@ abbrev pub in_after : Flow → ℕ → ℕ → Flow
 in_after s c next = cond (is_blank_byte c) s
     (cond (c == 44) (flow_part s parts.Want)
     (cond (c == 93) (flow_part s parts.Closed)
-    (flow_fault (flow_fault s parts.Broken Quote) parts.Broken (cond (is_flow_indicator c) (flow_row c next) Quote))))
+    (flow_fault (flow_fault s parts.Broken Quote) parts.Broken
+    (cond (is_flow_indicator c) (flow_row c next) Quote))))
 
 abbrev pub in_broken : Flow → ℕ → ℕ → Flow
 in_broken s c next = cond (c == 44) (flow_part s parts.Want)
@@ -138,7 +154,8 @@ flow_at parts.Closed s c next = in_closed s c next
 flow_at parts.Over s c next = s
 
 abbrev pub flow_step : Flow → ℕ → ℕ → Flow
-flow_step s c next = cond (begins_comment s.part c next) (flow_fault s parts.Over FlowForm) (flow_at s.part s c next)
+flow_step s c next =
+    cond (begins_comment s.part c next) (flow_fault s parts.Over FlowForm) (flow_at s.part s c next)
 
 -- the list after the bytes behind its opening bracket
 abbrev pub flow : Flow → List ℕ → Flow

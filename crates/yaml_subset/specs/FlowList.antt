@@ -1,5 +1,7 @@
--- One-line lists in YAML's words (YAML 1.2.2, section 7.4.1): items parted by commas, with blanks around them.
-use Rattle.std.specs.Prelude.{ℕ, ◌≡◌, ◌&&◌, Bool, true, false, not, List, [], ◌∷◌, ◌++◌, Some, None, drop, slice_index, ◌⊎◌}
+-- One-line lists in YAML's words (YAML 1.2.2, section 7.4.1): items parted by commas, with
+-- blanks around them.
+use Rattle.std.specs.Prelude.{ℕ, ◌≡◌, ◌&&◌, Bool, true, false, not, List, [], ◌∷◌, ◌++◌, Some, None}
+use Rattle.std.specs.Prelude.{drop, slice_index, ◌⊎◌}
 use Rattle.yaml_subset.specs.Tree.{Tree, scalar}
 use Rattle.yaml_subset.specs.Block.{is_blank_byte, is_blank, trimmed}
 use Rattle.yaml_subset.specs.Quoted.{quoted}
@@ -53,12 +55,16 @@ pub record Closes (line : List ℕ) : Type 0 where
 
 -- behind an item: the end of the list, or a comma and what may follow it
 abbrev pub EndsOrGoesOn : (List ℕ → Type 0) → List ℕ → List Tree → Type 0
-EndsOrGoesOn follows line items = (Closes line × (items ≡ [])) ⊎ ((rest : List ℕ) × (line ≡ 44 ∷ rest) × follows rest)
+EndsOrGoesOn follows line items = (Closes line × (items ≡ []))
+    ⊎ ((rest : List ℕ) × (line ≡ 44 ∷ rest) × follows rest)
 
--- The text behind a list's opening bracket, to its line's end: items with commas between them, perhaps a comma behind the last.
+-- The text behind a list's opening bracket, to its line's end: items with commas between them,
+-- perhaps a comma behind the last.
 abbrev pub IsFlowList : List ℕ → List Tree → Type 0
 IsFlowList line [] = (rest : List ℕ) × HasBlanks line rest × Closes rest
-IsFlowList line (x ∷ xs) = (from : List ℕ) × HasBlanks line from × (behind : List ℕ) × IsItem from x behind × (rest : List ℕ) × HasBlanks behind rest × EndsOrGoesOn (λ l. IsFlowList l xs) rest xs
+IsFlowList line (x ∷ xs) = (from : List ℕ) × HasBlanks line from
+    × (behind : List ℕ) × IsItem from x behind × (rest : List ℕ) × HasBlanks behind rest
+    × EndsOrGoesOn (λ l. IsFlowList l xs) rest xs
 
 -- a list that was read has ended, without a fault, and has these items
 pub record EndsWell (s : Flow) (items : List Tree) : Type 0 where

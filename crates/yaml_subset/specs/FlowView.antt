@@ -4,4 +4,9 @@ use Rattle.yaml_subset.specs.NodeView.{nodes_view}
 use Rattle.yaml_subset.specs.declared.flow.Flow.{Flow as Reading}
 
 abbrev pub flow_view : Reading → Flow
-flow_view s = record { part = s.part; text = s.text.items; items = nodes_view s.items.items; fault = s.fault }
+flow_view s = record {
+  part = s.part;
+  text = s.text.items;
+  items = nodes_view s.items.items;
+  fault = s.fault;
+}

@@ -11,4 +11,5 @@ use Rattle.yaml_subset.specs.declared.node.Node.{Node}
 
 -- a set has a text exactly where one of the entries has it as its key
 abbrev pub AreKeysOf : List (Text × Node) → BTreeSet (Vec ℕ) → Type 0
-AreKeysOf entries keys = (text : List ℕ) → contains_by (λ k. slice_cmp nat_cmp text k.items) keys ≡ list_any (λ p. bytes_eq text p.0) entries
+AreKeysOf entries keys = (text : List ℕ) → contains_by (λ k. slice_cmp nat_cmp text k.items) keys
+    ≡ list_any (λ p. bytes_eq text p.0) entries

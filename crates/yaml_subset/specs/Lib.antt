@@ -7,6 +7,7 @@ pub mod Quoted
 pub mod Flow
 pub mod Line
 pub mod FlowList
+pub mod FlowRows
 pub mod Profile
 pub mod Text
 pub mod OpenNodes
@@ -16,10 +17,10 @@ pub mod BadPlace
 pub mod Spelling
 pub mod Fits
 pub mod Standing
+pub mod Room
 pub mod NodeView
 pub mod KeysView
 pub mod SpellingView
-pub mod FitsView
 pub mod Scan
 pub mod ScanView
 pub mod FlowView

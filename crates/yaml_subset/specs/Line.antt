@@ -1,5 +1,8 @@
--- What stands on a line that no block scalar takes: its marks, and the first row of the refusal table that it meets by itself.
-use Rattle.std.specs.Prelude.{ℕ, suc, ◌+◌, ◌-◌, ◌==◌, ◌&&◌, ◌||◌, nat_eq, nat_lt, nat_le, Bool, true, false, not, List, [], ◌∷◌, Option, Some, None, cond, drop, take, length, slice_index}
+-- What stands on a line that no block scalar takes: its marks, and the first row of the refusal
+-- table that it meets by itself.
+use Rattle.std.specs.Prelude.{ℕ, suc, ◌+◌, ◌-◌, ◌==◌, ◌&&◌, ◌||◌, nat_eq, nat_lt, nat_le, Bool}
+use Rattle.std.specs.Prelude.{true, false, not, List, [], ◌∷◌, Option, Some, None, cond, drop, take}
+use Rattle.std.specs.Prelude.{length, slice_index}
 use Rattle.std.specs.List.{list_any, prefix_len, starts_with}
 use Rattle.yaml_subset.specs.Tree.{mapping, sequence, scalar, no_entries, trees}
 use Rattle.yaml_subset.specs.Mark.{Mark, start, dash, key, value, header}
@@ -8,7 +11,8 @@ use Rattle.yaml_subset.specs.Block.{is_space, is_blank_byte, is_blank, indentati
 use Rattle.yaml_subset.specs.Quoted.{Quoted, quoted}
 use Rattle.yaml_subset.specs.Flow.{Flow, flow, flow_start, end_row, is_indicator, is_soft_indicator}
 use Rattle.yaml_subset.specs.declared.which.Which.{Which}
-use Rattle.yaml_subset.specs.declared.which.Which.TheVariants.{Control, Tab, LeftOut, Quote, Escape, FlowForm, Colon}
+use Rattle.yaml_subset.specs.declared.which.Which.TheVariants.{Control, Tab, LeftOut, Quote, Escape}
+use Rattle.yaml_subset.specs.declared.which.Which.TheVariants.{FlowForm, Colon}
 use Rattle.yaml_subset.specs.declared.style.Style.{Style}
 use Rattle.yaml_subset.specs.declared.style.Chomping.{Chomping}
 use Rattle.yaml_subset.specs.declared.style.Chomping.TheVariants.{Clip, Strip, Keep}
@@ -31,10 +35,10 @@ abbrev pub spoiled : ℕ → Which → Line
 spoiled n w = one_mark (value n (scalar [] true)) (Some w)
 
 abbrev pub with_mark : Mark → Line → Line
-with_mark m l = record { marks = m ∷ l.marks; fault = l.fault }
+with_mark m l = record l { marks = m ∷ l.marks }
 
 abbrev pub with_fault : Option Which → Line → Line
-with_fault o l = record { marks = l.marks; fault = earlier o l.fault }
+with_fault o l = record l { fault = earlier o l.fault }
 
 -- a character below U+0020 other than a tab, or U+007F
 abbrev pub is_control : ℕ → Bool
@@ -50,7 +54,8 @@ ends_word (c ∷ cs) = is_blank_byte c
 
 -- nothing behind a value but blanks, and behind these perhaps a comment
 abbrev pub is_tail : List ℕ → Bool
-is_tail cs = let blanks = prefix_len is_blank_byte cs in blanks == length cs || (nat_lt 0 blanks && slice_index cs blanks == 35)
+is_tail cs = let blanks = prefix_len is_blank_byte cs in
+    blanks == length cs || (nat_lt 0 blanks && slice_index cs blanks == 35)
 
 -- PLAIN SCALARS (section 7.3.3)
 
@@ -67,7 +72,8 @@ plain_len (c ∷ cs) = cond (stops_plain c cs) 0 (suc (plain_len cs))
 
 abbrev pub plain_value : ℕ → List ℕ → Line
 plain_value n cs = let k = plain_len cs in
-    cond (slice_index cs k == 58) (spoiled n Colon) (one_mark (value n (scalar (trimmed is_blank_byte (take k cs)) true)) None)
+    cond (slice_index cs k == 58) (spoiled n Colon)
+    (one_mark (value n (scalar (trimmed is_blank_byte (take k cs)) true)) None)
 
 -- OTHER INLINE VALUES
 
@@ -79,7 +85,8 @@ escape_row bad = cond bad (Some Escape) None
 
 abbrev pub quoted_value : ℕ → List ℕ → Option Quoted → Line
 quoted_value n cs None = spoiled n Quote
-quoted_value n cs (Some q) = one_mark (value n (scalar q.text false)) (cond (is_tail (drop q.length cs)) (escape_row q.bad) (Some Quote))
+quoted_value n cs (Some q) = one_mark (value n (scalar q.text false))
+    (cond (is_tail (drop q.length cs)) (escape_row q.bad) (Some Quote))
 
 abbrev pub flow_value : ℕ → Flow → Line
 flow_value n s = flow_line (earlier s.fault (end_row s.part))
@@ -89,7 +96,8 @@ flow_value n s = flow_line (earlier s.fault (end_row s.part))
     flow_line (Some w) = spoiled n w
 
 abbrev pub empty_map : ℕ → List ℕ → Line
-empty_map n cs = cond (slice_index cs 0 == 125 && is_tail (drop 1 cs)) (one_mark (value n (mapping no_entries)) None) (spoiled n LeftOut)
+empty_map n cs = cond (slice_index cs 0 == 125 && is_tail (drop 1 cs))
+    (one_mark (value n (mapping no_entries)) None) (spoiled n LeftOut)
 
 -- a block scalar's sign (section 8.1.1.2)
 abbrev pub chomping_of : ℕ → Chomping
@@ -102,15 +110,18 @@ abbrev pub is_digit : ℕ → Bool
 is_digit c = nat_le 48 c && nat_le c 57
 
 abbrev pub header_tail : ℕ → Style → List ℕ → Line
-header_tail n s cs = cond (is_digit (slice_index cs 0)) (spoiled n LeftOut) (cond (is_tail cs) (one_mark (header n s) None) (spoiled n Colon))
+header_tail n s cs = cond (is_digit (slice_index cs 0)) (spoiled n LeftOut)
+    (cond (is_tail cs) (one_mark (header n s) None) (spoiled n Colon))
 
 abbrev pub header_value : ℕ → Bool → List ℕ → Line
 header_value n folded cs = let sign = slice_index cs 0 in
-    header_tail n (record { folded = folded; chomping = chomping_of sign }) (drop (cond (is_sign sign) 1 0) cs)
+    header_tail n (record { folded = folded; chomping = chomping_of sign })
+    (drop (cond (is_sign sign) 1 0) cs)
 
 -- the row of a character that begins no value
 abbrev pub indicator_row : ℕ → Which
-indicator_row c = cond (c == 44 || c == 93 || c == 125) FlowForm (cond (c == 45 || c == 58) Colon LeftOut)
+indicator_row c =
+    cond (c == 44 || c == 93 || c == 125) FlowForm (cond (c == 45 || c == 58) Colon LeftOut)
 
 -- a value at column n
 abbrev pub inline_value : ℕ → List ℕ → Line
@@ -133,20 +144,24 @@ pub record Key : Type 0 where
 abbrev pub quoted_key : List ℕ → Option Quoted → Option Key
 quoted_key cs None = None
 quoted_key cs (Some q) = let rest = drop q.length cs in let spaces = indentation rest in
-    cond (slice_index rest spaces == 58 && ends_word (drop (spaces + 1) rest)) (Some (record { text = q.text; length = q.length + spaces + 2; fault = escape_row q.bad })) None
+    cond (slice_index rest spaces == 58 && ends_word (drop (spaces + 1) rest)) (Some
+    (record { text = q.text; length = q.length + spaces + 2; fault = escape_row q.bad })) None
 
 -- no tab before its colon, and no colon at its end
 abbrev pub plain_key_fault : List ℕ → Option Which
-plain_key_fault text = let last = slice_index text (length text - 1) in cond (last == 9 || last == 58) (Some Colon) None
+plain_key_fault text = let last = slice_index text (length text - 1) in
+    cond (last == 9 || last == 58) (Some Colon) None
 
 abbrev pub plain_key : List ℕ → Option Key
 plain_key cs = let k = plain_len cs in let text = trimmed is_space (take k cs) in
-    cond (slice_index cs k == 58) (Some (record { text = text; length = k + 1; fault = plain_key_fault text })) None
+    cond (slice_index cs k == 58)
+    (Some (record { text = text; length = k + 1; fault = plain_key_fault text })) None
 
 -- the key that begins here, if one does
 abbrev pub key_of : List ℕ → Option Key
 key_of [] = None
-key_of (c ∷ cs) = cond (is_quote c) (quoted_key cs (quoted c cs)) (cond (is_plain_start c cs) (plain_key (c ∷ cs)) None)
+key_of (c ∷ cs) = cond (is_quote c) (quoted_key cs (quoted c cs))
+    (cond (is_plain_start c cs) (plain_key (c ∷ cs)) None)
 
 -- what stands behind a key's colon, from column n: nothing but blanks and a comment, or a value
 abbrev pub behind_colon : ℕ → List ℕ → Line
@@ -155,7 +170,8 @@ behind_colon n cs = let blanks = prefix_len is_blank_byte cs in
 
 abbrev pub entry_or_value : ℕ → List ℕ → Option Key → Line
 entry_or_value n cs None = inline_value n cs
-entry_or_value n cs (Some k) = with_mark (key n k.text) (with_fault k.fault (behind_colon (n + k.length) (drop k.length cs)))
+entry_or_value n cs (Some k) =
+    with_mark (key n k.text) (with_fault k.fault (behind_colon (n + k.length) (drop k.length cs)))
 
 -- DASHES (section 8.2.1)
 
@@ -173,7 +189,8 @@ content n (c ∷ cs) = cond (is_blank_byte c) (with_fault (tab_row c) (content (
 -- MARKERS AND WHOLE LINES (sections 9.1.2, 9.1.3 and 6.6)
 
 abbrev pub begins_as_marker : List ℕ → Bool
-begins_as_marker line = starts_with nat_eq line (45 ∷ 45 ∷ 45 ∷ []) || starts_with nat_eq line (46 ∷ 46 ∷ 46 ∷ [])
+begins_as_marker line =
+    starts_with nat_eq line (45 ∷ 45 ∷ 45 ∷ []) || starts_with nat_eq line (46 ∷ 46 ∷ 46 ∷ [])
 
 -- `---` or `...`, and then a blank or nothing
 abbrev pub is_marker : List ℕ → Bool
@@ -192,4 +209,5 @@ filled_line line = let n = indentation line in let first = slice_index line n in
     (cond (first == 9) (faulty Tab) (content n (drop n line))))
 
 abbrev pub line_of : List ℕ → Line
-line_of line = cond (has_control line) (faulty Control) (cond (is_blank line) no_marks (filled_line line))
+line_of line =
+    cond (has_control line) (faulty Control) (cond (is_blank line) no_marks (filled_line line))

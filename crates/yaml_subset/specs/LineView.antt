@@ -8,7 +8,8 @@ use Rattle.yaml_subset.specs.declared.line.Ahead.{Ahead}
 use Rattle.yaml_subset.specs.declared.line.Ahead.TheVariants.{Blank, Comment, Dash as Dashed, Entry}
 use Rattle.yaml_subset.specs.NodeView.{node_view}
 use Rattle.yaml_subset.specs.declared.mark.Mark.{Mark}
-use Rattle.yaml_subset.specs.declared.mark.Mark.TheVariants.{Start, Dash, Key as KeyOf, Value, Header}
+use Rattle.yaml_subset.specs.declared.mark.Mark.TheVariants.{Start, Dash, Key as KeyOf, Value}
+use Rattle.yaml_subset.specs.declared.mark.Mark.TheVariants.{Header}
 use Rattle.yaml_subset.specs.declared.mark.Line.{Line as Read}
 use Rattle.yaml_subset.specs.declared.inline.Key.{Key as ReadKey}
 
@@ -38,4 +39,5 @@ dash_seen l n = record { marks = l.marks ++ (marks.dash n ∷ []); fault = l.fau
 
 -- what the first of these bytes begins
 abbrev pub ahead_of : ℕ → List ℕ → Ahead
-ahead_of c cs = cond (is_blank_byte c) Blank (cond (c == 35) Comment (cond (c == 45 && ends_word cs) Dashed Entry))
+ahead_of c cs = cond (is_blank_byte c) Blank
+    (cond (c == 35) Comment (cond (c == 45 && ends_word cs) Dashed Entry))

@@ -1,6 +1,7 @@
 -- What contracts see of a node.
 use Rattle.std.specs.Prelude.{List, [], ◌∷◌, map}
-use Rattle.yaml_subset.specs.Tree.{Tree, mapping, sequence, scalar, Entries, no_entries, entry, trees}
+use Rattle.yaml_subset.specs.Tree.{Tree, mapping, sequence, scalar, Entries, no_entries, entry}
+use Rattle.yaml_subset.specs.Tree.{trees}
 use Rattle.yaml_subset.specs.declared.text.Text.{Text}
 use Rattle.yaml_subset.specs.declared.node.Node.{Node, fold-Node}
 use Rattle.yaml_subset.specs.declared.node.Node.TheOpen.{Node-F}

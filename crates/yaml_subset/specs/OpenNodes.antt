@@ -1,12 +1,15 @@
 -- The nodes that are open after some marks: those that a further line may still go on with.
-use Rattle.std.specs.Prelude.{ℕ, suc, pred, false, List, [], ◌∷◌, Option, Some, None, cond, map, option_map, option_and_then}
+use Rattle.std.specs.Prelude.{ℕ, suc, pred, false, List, [], ◌∷◌, Option, Some, None, cond, map}
+use Rattle.std.specs.Prelude.{option_map, option_and_then}
 use Rattle.yaml_subset.specs.Tree.{Tree, scalar}
 use Rattle.yaml_subset.specs.Mark.{Mark, start, dash, key, value, header, raw, Child}
 use Rattle.yaml_subset.specs.Block.{Block, no_lines, with_line, ended}
-use Rattle.yaml_subset.specs.Profile.{max_depth, has_room, is_next, with_child, is_repeated, collection, is_shallow}
+use Rattle.yaml_subset.specs.Profile.{max_depth, has_room, is_next, with_child, is_repeated}
+use Rattle.yaml_subset.specs.Profile.{collection, is_shallow}
 
--- What stands behind a mark so far: nothing, an inline value, a block scalar that may go on,
--- or a map, list or stream, with the last mark of its own, its finished children, and what stands behind that mark.
+-- What stands behind a mark so far: nothing, an inline value, a block scalar that may go on, or a
+-- map, list or stream, with the last mark of its own, its finished children, and what stands
+-- behind that mark.
 pub data Open : Type 0 where
   nothing : Open
   inline : Tree → Open
@@ -46,7 +49,8 @@ abbrev pub added : ℕ → Mark → Mark → Open → Option Open
 added d h m nothing = cond (has_room h m) (begun d m) None
 added d h m (inline x) = None
 added d h m (block b) = with_raw b m
-added d h m (within g done i) = cond (is_next g m) (next_piece m (with_child done g (closed i))) (option_map (within g done) (added (pred d) g m i))
+added d h m (within g done i) = cond (is_next g m) (next_piece m (with_child done g (closed i)))
+    (option_map (within g done) (added (pred d) g m i))
 
 abbrev pub add : Mark → Open → Option Open
 add m o = added (suc max_depth) start m o

@@ -1,5 +1,6 @@
 -- What contracts see of the open nodes that the reader keeps: its frames, the outermost first.
-use Rattle.std.specs.Prelude.{ℕ, suc, Bool, ◌||◌, true, false, ◌≡◌, List, [], ◌∷◌, ◌++◌, Option, Some, cond, map, option_map}
+use Rattle.std.specs.Prelude.{ℕ, suc, Bool, ◌||◌, true, false, ◌≡◌, List, [], ◌∷◌, ◌++◌, Option}
+use Rattle.std.specs.Prelude.{Some, cond, map, option_map}
 use Rattle.yaml_subset.specs.Tree.{Tree}
 use Rattle.yaml_subset.specs.Mark.{Mark, start, dash, key, Child}
 use Rattle.yaml_subset.specs.Profile.{is_next, with_child, collection}
@@ -60,7 +61,8 @@ abbrev pub stream_of : List Node → List Frame → Open → Open
 stream_of docs fs o = within start (map (child start) docs) (open_of fs o)
 
 -- one frame fewer: the innermost is closed, with this value within it
-pub record ClosesOne (before : List Frame) (value : Option Tree) (after : List Frame) (closed : Option Tree) : Type 0 where
+pub record ClosesOne (before : List Frame) (value : Option Tree) (after : List Frame)
+    (closed : Option Tree) : Type 0 where
   pub frame : Frame
   pub frames : before ≡ after ++ (frame ∷ [])
   pub closes : closed ≡ Some (collection (with_child (done_of frame) (head_of frame) value))

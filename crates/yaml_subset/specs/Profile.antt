@@ -1,8 +1,11 @@
--- Which nodes marks stand for: the block productions of YAML 1.2.2 (section 8.2), read from the outside in.
-use Rattle.std.specs.Prelude.{ℕ, zero, suc, ◌==◌, nat_lt, nat_le, Bool, true, false, List, [], ◌∷◌, ◌++◌, Option, Some, None, cond, map, option_map, option_and_then}
+-- Which nodes marks stand for: the block productions of YAML 1.2.2 (section 8.2), read from
+-- the outside in.
+use Rattle.std.specs.Prelude.{ℕ, zero, suc, ◌==◌, nat_lt, nat_le, Bool, true, false, List, [], ◌∷◌}
+use Rattle.std.specs.Prelude.{◌++◌, Option, Some, None, cond, map, option_map, option_and_then}
 use Rattle.std.specs.List.{list_any}
 use Rattle.std.specs.Str.{bytes_eq}
-use Rattle.yaml_subset.specs.Tree.{Tree, mapping, sequence, scalar, Entries, no_entries, entry, no_trees, trees}
+use Rattle.yaml_subset.specs.Tree.{Tree, mapping, sequence, scalar, Entries, no_entries, entry}
+use Rattle.yaml_subset.specs.Tree.{no_trees, trees}
 use Rattle.yaml_subset.specs.Mark.{Mark, start, dash, key, value, header, raw, Child}
 use Rattle.yaml_subset.specs.Block.{block_text}
 use Rattle.yaml_subset.specs.declared.open.TheConstants.{MAX_DEPTH}
@@ -11,14 +14,16 @@ use Rattle.yaml_subset.specs.declared.open.TheConstants.{MAX_DEPTH}
 abbrev pub max_depth : ℕ
 max_depth = MAX_DEPTH
 
--- a node that begins at column n may stand behind this mark: at the root anywhere, else deeper than its key or dash
+-- a node that begins at column n may stand behind this mark: at the root anywhere, else deeper than
+-- its key or dash
 abbrev pub is_deeper : Mark → ℕ → Bool
 is_deeper (key m _) n = nat_lt m n
 is_deeper (dash m) n = nat_lt m n
 is_deeper start n = true
 is_deeper _ n = false
 
--- a node that begins with the second mark may stand behind the first; a list also at its key's own column (section 8.2.1)
+-- a node that begins with the second mark may stand behind the first; a list also at its key's own
+-- column (section 8.2.1)
 abbrev pub has_room : Mark → Mark → Bool
 has_room (key m _) (dash n) = nat_le m n
 has_room h (dash n) = is_deeper h n
@@ -73,9 +78,12 @@ is_repeated (key n k) done = list_any (λ c. is_key k c.mark) done
 is_repeated _ done = false
 
 -- what the pieces hold, each in turn, if each is in order
-abbrev pub children : (Mark → List Mark → Option (Option Tree)) → List Child → Pieces → Option (List Child)
-children inside done (last_piece h ms) = cond (is_repeated h done) None (option_map (with_child done h) (inside h ms))
-children inside done (piece h ms ps) = cond (is_repeated h done) None (option_and_then (λ x. children inside (with_child done h x) ps) (inside h ms))
+abbrev pub children : (Mark → List Mark → Option (Option Tree)) → List Child → Pieces
+    → Option (List Child)
+children inside done (last_piece h ms) =
+    cond (is_repeated h done) None (option_map (with_child done h) (inside h ms))
+children inside done (piece h ms ps) = cond (is_repeated h done) None
+    (option_and_then (λ x. children inside (with_child done h x) ps) (inside h ms))
 
 abbrev pub entries : List Child → Entries
 entries [] = no_entries
@@ -116,14 +124,18 @@ leaf d (value n x) [] = cond (is_shallow d x) (Some x) None
 leaf d (header n s) ms = option_map (λ ls. scalar (block_text s ls) false) (raw_lines ms)
 leaf d _ _ = None
 
--- The node that begins with this mark and has these behind it, where maps and lists may still nest d deep.
--- A map at column n: its keys at n, each with what stands behind it. A list the same, with dashes.
+-- The node that begins with this mark and has these behind it, where maps and lists may still
+-- nest d deep. A map at column n: its keys at n, each with what stands behind it. A list the
+-- same, with dashes.
 abbrev pub node : ℕ → Mark → List Mark → Option Tree
 node zero m ms = leaf zero m ms
-node (suc d) (key n k) ms = option_map collection (children (behind (node d)) [] (pieces (key n k) ms))
-node (suc d) (dash n) ms = option_map collection (children (behind (node d)) [] (pieces (dash n) ms))
+node (suc d) (key n k) ms =
+    option_map collection (children (behind (node d)) [] (pieces (key n k) ms))
+node (suc d) (dash n) ms =
+    option_map collection (children (behind (node d)) [] (pieces (dash n) ms))
 node (suc d) m ms = leaf (suc d) m ms
 
 -- the nodes of a text's documents, which its start and each `---` and `...` begin
 abbrev pub documents : List Mark → Option (List Tree)
-documents ms = option_map (map (λ c. c.tree)) (children (behind (node max_depth)) [] (pieces start ms))
+documents ms =
+    option_map (map (λ c. c.tree)) (children (behind (node max_depth)) [] (pieces start ms))

@@ -1,7 +1,9 @@
 -- Quoted scalars (YAML 1.2.2, sections 7.3.1 and 7.3.2), which end on their line.
-use Rattle.std.specs.Prelude.{ℕ, ◌+◌, ◌==◌, Bool, true, false, List, [], ◌∷◌, Option, Some, None, cond, option_map}
+use Rattle.std.specs.Prelude.{ℕ, ◌+◌, ◌==◌, Bool, true, false, List, [], ◌∷◌, Option, Some, None}
+use Rattle.std.specs.Prelude.{cond, option_map}
 
--- a quoted scalar's text, how many bytes it takes behind its first quote, and whether it has an escape that is none
+-- a quoted scalar's text, how many bytes it takes behind its first quote, and whether it has an
+-- escape that is none
 pub record Quoted : Type 0 where
   pub text : List ℕ
   pub length : ℕ
@@ -25,7 +27,8 @@ single (c ∷ d ∷ cs) = cond (c == 39)
 
 -- what stands for a byte behind a backslash: the four escapes
 abbrev pub escaped : ℕ → Option ℕ
-escaped c = cond (c == 92) (Some 92) (cond (c == 34) (Some 34) (cond (c == 110) (Some 10) (cond (c == 116) (Some 9) None)))
+escaped c = cond (c == 92) (Some 92)
+    (cond (c == 34) (Some 34) (cond (c == 110) (Some 10) (cond (c == 116) (Some 9) None)))
 
 abbrev pub with_escape : Option ℕ → Quoted → Quoted
 with_escape (Some c) q = with_byte c 2 q
@@ -36,7 +39,8 @@ abbrev pub double : List ℕ → Option Quoted
 double [] = None
 double (c ∷ []) = cond (c == 34) (Some quote_end) None
 double (c ∷ d ∷ cs) = cond (c == 34) (Some quote_end)
-    (cond (c == 92) (option_map (with_escape (escaped d)) (double cs)) (option_map (with_byte c 1) (double (d ∷ cs))))
+    (cond (c == 92) (option_map (with_escape (escaped d)) (double cs))
+    (option_map (with_byte c 1) (double (d ∷ cs))))
 
 abbrev pub quoted : ℕ → List ℕ → Option Quoted
 quoted c cs = cond (c == 39) (single cs) (double cs)

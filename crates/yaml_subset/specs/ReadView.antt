@@ -21,10 +21,12 @@ NamesLine ls (Form line which) = IsFault ls line which
 NamesLine ls NoMemory = ⊤
 NamesLine ls _ = ⊥
 
--- The fault of a text: it has too many bytes, else isn't UTF-8, which its first bad byte shows, else has a line that is no text of the profile with those before it.
--- Want of memory says nothing.
+-- The fault of a text: it has too many bytes, else isn't UTF-8, which its first bad byte shows,
+-- else has a line that is no text of the profile with those before it. Want of memory says nothing.
 abbrev pub NamesFault : List ℕ → YamlFault → Type 0
 NamesFault text TooLarge = max_bytes < length text
-NamesFault text (NotUtf8 at) = (length text ≤ max_bytes) × ¬ (IsUtf8 (without_mark text)) × IsBadPlace text at
-NamesFault text (Form line which) = (length text ≤ max_bytes) × IsUtf8 (without_mark text) × IsFault (lines (without_mark text)) line which
+NamesFault text (NotUtf8 at) = (length text ≤ max_bytes) × ¬ (IsUtf8 (without_mark text))
+    × IsBadPlace text at
+NamesFault text (Form line which) = (length text ≤ max_bytes) × IsUtf8 (without_mark text)
+    × IsFault (lines (without_mark text)) line which
 NamesFault text NoMemory = ⊤

@@ -1,11 +1,13 @@
--- The reading of a text, line by line: what the reader keeps after some lines, and that it is theirs.
+-- The reading of a text, line by line: what the reader keeps after some lines, and that
+-- it is theirs.
 use Rattle.std.specs.Prelude.{◌≡◌, ℕ, Bool, List, Option, Some, None, option_map}
 use Rattle.yaml_subset.specs.Mark.{Mark, header}
 use Rattle.yaml_subset.specs.Text.{marked, line_at, parent_after, scalar_after}
 use Rattle.yaml_subset.specs.declared.scalar.Scalar.{Scalar}
 use Rattle.yaml_subset.specs.OpenNodes.{Open, open_nodes, add_all}
 
--- what the reader keeps: the open nodes, the column of the last mark where it is a key or dash, the block scalar that may go on
+-- what the reader keeps: the open nodes, the column of the last mark where it is a key or dash, the
+-- block scalar that may go on
 pub record Reading : Type 0 where
   pub nodes : Open
   pub parent : Option ℕ
@@ -31,4 +33,5 @@ header_folds _ = None
 
 -- the scalar behind a header, if there is one
 abbrev pub scalar_behind : Option ℕ → Option Bool → Option Scalar
-scalar_behind parent folds = option_map (λ folded. record { parent = parent; indent = None; folded = folded }) folds
+scalar_behind parent folds =
+    option_map (λ folded. record { parent = parent; indent = None; folded = folded }) folds

@@ -1,7 +1,9 @@
 -- The order of the refusal table: of several rows that a line meets, the first names the fault.
 use Rattle.std.specs.Prelude.{ℕ, nat_le, Option, Some, None, cond}
 use Rattle.yaml_subset.specs.declared.which.Which.{Which}
-use Rattle.yaml_subset.specs.declared.which.Which.TheVariants.{Control, Tab, LeftOut, Indent, Quote, Escape, FlowForm, Colon, DuplicateKey, TooDeep}
+use Rattle.yaml_subset.specs.declared.which.Which.TheVariants.{Control, Tab, LeftOut, Indent, Quote}
+use Rattle.yaml_subset.specs.declared.which.Which.TheVariants.{Escape, FlowForm, Colon}
+use Rattle.yaml_subset.specs.declared.which.Which.TheVariants.{DuplicateKey, TooDeep}
 
 -- the place of a row in the table
 abbrev pub place : Which → ℕ

@@ -1,5 +1,6 @@
 -- A quoted scalar byte by byte, as the code reads it.
-use Rattle.std.specs.Prelude.{ℕ, ◌+◌, ◌==◌, Bool, true, false, List, [], ◌∷◌, ◌++◌, Option, Some, None, cond, slice_index}
+use Rattle.std.specs.Prelude.{ℕ, ◌+◌, ◌==◌, Bool, true, false, List, [], ◌∷◌, ◌++◌, Option, Some}
+use Rattle.std.specs.Prelude.{None, cond, slice_index}
 use Rattle.yaml_subset.specs.Quoted.{Quoted, escaped}
 use Rattle.yaml_subset.specs.declared.quoted.Place.{Place}
 use Rattle.yaml_subset.specs.declared.quoted.Place.TheVariants as places
@@ -11,7 +12,10 @@ pub record Scan : Type 0 where
   pub quoted : Quoted
 
 abbrev pub scan_start : Scan
-scan_start = record { place = places.Inside; quoted = record { text = []; length = 0; bad = false } }
+scan_start = record {
+  place = places.Inside;
+  quoted = record { text = []; length = 0; bad = false };
+}
 
 abbrev pub step_of : ℕ → ℕ → ℕ → Step
 step_of quote byte next = cond (quote == 39)
@@ -34,7 +38,8 @@ advanced places.Ended q _ = record { place = places.Ended; quoted = q }
 
 abbrev pub scan : ℕ → Scan → List ℕ → Scan
 scan quote s [] = s
-scan quote s (c ∷ cs) = scan quote (advanced s.place s.quoted (step_of quote c (slice_index cs 0))) cs
+scan quote s (c ∷ cs) =
+    scan quote (advanced s.place s.quoted (step_of quote c (slice_index cs 0))) cs
 
 abbrev pub scan_end : Scan → Option Quoted
 scan_end s = at_place s.place

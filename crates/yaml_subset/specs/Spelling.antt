@@ -1,7 +1,9 @@
--- The canonical writing of a value: which scalars are plain, which keys are in quotes, and every byte of the text.
+-- The canonical writing of a value: which scalars are plain, which keys are in quotes, and every
+-- byte of the text.
 use Rattle.std.specs.Prelude.{ℕ, ◌+◌, ◌==◌, Bool, true, false, List, [], ◌∷◌, ◌++◌, cond, replicate}
 use Rattle.std.specs.List.{flat_map}
-use Rattle.yaml_subset.specs.Tree.{Tree, mapping, sequence, scalar, Entries, no_entries, entry, Trees, no_trees, item}
+use Rattle.yaml_subset.specs.Tree.{Tree, mapping, sequence, scalar, Entries, no_entries, entry}
+use Rattle.yaml_subset.specs.Tree.{Trees, no_trees, item}
 
 -- A value as it is written: a scalar plain or in double quotes, a map, a list.
 -- A field has its key, and `true` where the key stands in double quotes.
@@ -54,7 +56,8 @@ abbrev mutual
 
 -- a byte in double quotes: the four escapes (YAML 1.2.2, section 5.7)
 abbrev pub escape_of : ℕ → List ℕ
-escape_of c = cond (c == 92) (92 ∷ 92 ∷ []) (cond (c == 34) (92 ∷ 34 ∷ []) (cond (c == 10) (92 ∷ 110 ∷ []) (cond (c == 9) (92 ∷ 116 ∷ []) (c ∷ []))))
+escape_of c = cond (c == 92) (92 ∷ 92 ∷ []) (cond (c == 34) (92 ∷ 34 ∷ [])
+    (cond (c == 10) (92 ∷ 110 ∷ []) (cond (c == 9) (92 ∷ 116 ∷ []) (c ∷ []))))
 
 abbrev pub in_quotes : List ℕ → List ℕ
 in_quotes text = 34 ∷ (flat_map escape_of text ++ (34 ∷ []))
@@ -70,7 +73,8 @@ spaces n = replicate n 32
 abbrev pub step : ℕ
 step = 2
 
--- What stands between a key's colon and its value: nothing before the text of no length, its own lines before a map or list, else a space.
+-- What stands between a key's colon and its value: nothing before the text of no length, its own
+-- lines before a map or list, else a space.
 abbrev pub gap_at_colon : ℕ → Spelling → List ℕ
 gap_at_colon n (word []) = []
 gap_at_colon n (fields (field q k s fs)) = 10 ∷ spaces (n + step)
@@ -82,8 +86,9 @@ abbrev pub gap_at_dash : Spelling → List ℕ
 gap_at_dash (word []) = []
 gap_at_dash s = 32 ∷ []
 
--- The text of a value at column n, with these bytes before it. Each entry and item but the first begins a line at column n;
--- what stands behind its key or dash has its further lines two columns deeper. Each line ends with a line feed.
+-- The text of a value at column n, with these bytes before it. Each entry and item but the first
+-- begins a line at column n; what stands behind its key or dash has its further lines two columns
+-- deeper. Each line ends with a line feed.
 abbrev mutual
   pub written : List ℕ → ℕ → Spelling → List ℕ
   written lead n (word text) = lead ++ (text ++ (10 ∷ []))
@@ -95,18 +100,21 @@ abbrev mutual
 
   pub written_fields : List ℕ → ℕ → Fields → List ℕ
   written_fields lead n no_fields = []
-  written_fields lead n (field q k s fs) = lead ++ (key_text q k ++ (58 ∷ (written (gap_at_colon n s) (n + step) s ++ written_fields (spaces n) n fs)))
+  written_fields lead n (field q k s fs) = lead ++ (key_text q k
+      ++ (58 ∷ (written (gap_at_colon n s) (n + step) s ++ written_fields (spaces n) n fs)))
 
   pub written_items : List ℕ → ℕ → Items → List ℕ
   written_items lead n no_items = []
-  written_items lead n (one_item s is) = lead ++ (45 ∷ (written (gap_at_dash s) (n + step) s ++ written_items (spaces n) n is))
+  written_items lead n (one_item s is) =
+      lead ++ (45 ∷ (written (gap_at_dash s) (n + step) s ++ written_items (spaces n) n is))
 
 -- the text of a value whose lines are all indented so far
 abbrev pub writing : ℕ → Spelling → List ℕ
 writing n s = written (spaces n) n s
 
--- A scalar that is written plain: it reads back behind a key or a dash, and not as a text of its own,
--- since the text of no length is no document there, and a plain text may be a line that ends a document.
+-- A scalar that is written plain: it reads back behind a key or a dash, and not as a text of its
+-- own, since the text of no length is no document there, and a plain text may be a line that
+-- ends a document.
 abbrev pub is_word : Spelling → Bool
 is_word (word text) = true
 is_word _ = false

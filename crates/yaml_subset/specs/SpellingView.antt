@@ -1,7 +1,8 @@
 -- What contracts see of a value as it is written.
 use Rattle.std.specs.Prelude.{ℕ, Bool, true, false, List, [], ◌∷◌, map}
 use Rattle.yaml_subset.specs.Tree.{Entries}
-use Rattle.yaml_subset.specs.Spelling.{Spelling, word, quoted, fields, items, Fields, no_fields, field, Items, no_items, one_item}
+use Rattle.yaml_subset.specs.Spelling.{Spelling, word, quoted, fields, items, Fields, no_fields}
+use Rattle.yaml_subset.specs.Spelling.{field, Items, no_items, one_item}
 use Rattle.yaml_subset.specs.NodeView.{node_view, entries_of}
 use Rattle.yaml_subset.specs.declared.text.Text.{Text}
 use Rattle.yaml_subset.specs.declared.node.Node.{Node}

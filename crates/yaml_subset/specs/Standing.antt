@@ -3,7 +3,8 @@ use Rattle.std.specs.Prelude.{ℕ, List, Contains}
 use Rattle.yaml_subset.specs.Tree.{Tree, mapping, sequence, Entries, entry, Trees, item}
 use Rattle.yaml_subset.specs.Text.{StandsFor}
 
--- A node stands in itself, and in each map or list that has an entry's value or an item in which it stands.
+-- A node stands in itself, and in each map or list that has an entry's value or an item in
+-- which it stands.
 mutual
   pub data IsIn (x : Tree) : Tree → Type 0 where
     itself : IsIn x x
@@ -12,7 +13,8 @@ mutual
 
   pub data IsInEntries (x : Tree) : Entries → Type 0 where
     first_entry : (k : List ℕ) (y : Tree) (es : Entries) → IsIn x y → IsInEntries x (entry k y es)
-    later_entry : (k : List ℕ) (y : Tree) (es : Entries) → IsInEntries x es → IsInEntries x (entry k y es)
+    later_entry : (k : List ℕ) (y : Tree) (es : Entries) → IsInEntries x es
+        → IsInEntries x (entry k y es)
 
   pub data IsInItems (x : Tree) : Trees → Type 0 where
     first_item : (y : Tree) (xs : Trees) → IsIn x y → IsInItems x (item y xs)

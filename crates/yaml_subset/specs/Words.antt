@@ -1,7 +1,9 @@
 -- The words of the refusal table's rows.
 use Rattle.std.specs.Prelude.{ℕ, List, codes}
 use Rattle.yaml_subset.specs.declared.which.Which.{Which}
-use Rattle.yaml_subset.specs.declared.which.Which.TheVariants.{Control, Tab, LeftOut, Indent, Quote, Escape, FlowForm, Colon, DuplicateKey, TooDeep}
+use Rattle.yaml_subset.specs.declared.which.Which.TheVariants.{Control, Tab, LeftOut, Indent, Quote}
+use Rattle.yaml_subset.specs.declared.which.Which.TheVariants.{Escape, FlowForm, Colon}
+use Rattle.yaml_subset.specs.declared.which.Which.TheVariants.{DuplicateKey, TooDeep}
 
 abbrev pub word : Which → List ℕ
 word Control = codes "control"

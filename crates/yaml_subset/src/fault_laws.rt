@@ -1,6 +1,6 @@
 //! Laws of texts and their faults.
 
-ghost use Rattle.std.specs.Prelude.{◌≡◌, ◌≤◌, ◌++◌, ℕ, List, Some, ◌⊎◌, length};
+ghost use Rattle.std.specs.Prelude.{◌≡◌, ◌≤◌, ◌+◌, ◌++◌, ℕ, List, Some, ◌⊎◌, length};
 ghost use Rattle.std.specs.Str.{IsUtf8};
 ghost use Rattle.std.specs.Str.Lines.{lines};
 ghost use Rattle.yaml_subset.specs.Tree.{Tree};
@@ -27,4 +27,13 @@ pub fn a_text_has_nodes_or_a_fault()
     ensures { (text : List ℕ) → length text ≤ max_bytes → IsUtf8 (without_mark text)
         → ((xs : List Tree) × StandsFor text xs)
         ⊎ ((line : ℕ) × (which : Which) × IsFault (lines (without_mark text)) line which) }
+{}
+
+/// The line at fault and the number of documents lie within the number of bytes of a text, but for
+/// one or two.
+pub fn lines_and_documents_are_few()
+    ensures lines { (text : List ℕ) (line : ℕ) (which : Which)
+        → IsFault (lines (without_mark text)) line which → line ≤ length text + 1 }
+    ensures documents { (text : List ℕ) (xs : List Tree) → StandsFor text xs
+        → length xs ≤ length text + 2 }
 {}

@@ -1,11 +1,13 @@
 //! What the reading of one-line lists comes to.
 
-ghost use Rattle.std.specs.Prelude.{◌≡◌, List, ◌∷◌, ℕ, None, ◌↔◌};
+ghost use Rattle.std.specs.Prelude.{◌≡◌, List, ◌∷◌, ℕ, Option, None, ◌↔◌};
 ghost use Rattle.yaml_subset.specs.Tree.{Tree, sequence, trees};
 ghost use Rattle.yaml_subset.specs.Mark.{value};
 ghost use Rattle.yaml_subset.specs.Flow.{flow, flow_start};
 ghost use Rattle.yaml_subset.specs.FlowList.{IsFlowList, EndsWell};
+ghost use Rattle.yaml_subset.specs.FlowRows.{HasRow};
 ghost use Rattle.yaml_subset.specs.Line.{inline_value, one_mark};
+ghost use Rattle.yaml_subset.specs.declared.which.Which.{Which};
 
 /// A value that begins with `[` is taken exactly where a one-line list in YAML's words stands there
 /// (YAML 1.2.2, section 7.4.1), and it is then the list of its items.
@@ -16,4 +18,12 @@ pub fn one_line_lists()
         → inline_value column (91 ∷ line) ≡ one_mark (value column (sequence (trees items))) None }
     ensures only { (column : ℕ) (line : List ℕ) → (inline_value column (91 ∷ line)).fault ≡ None
         → (items : List Tree) × IsFlowList line items }
+{}
+
+/// A value that begins with `[` meets the earliest row of its items and its end, and none where it
+/// is a list: each text has one row, or none.
+pub fn rows_of_one_line_lists()
+    ensures met { (column : ℕ) (line : List ℕ)
+        → HasRow line (inline_value column (91 ∷ line)).fault }
+    ensures one { (line : List ℕ) (a b : Option Which) → HasRow line a → HasRow line b → a ≡ b }
 {}

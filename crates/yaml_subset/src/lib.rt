@@ -8,12 +8,12 @@ mod bytes;
 mod copy;
 mod entries;
 mod fault_laws;
-mod fits;
 mod flow;
 mod flow_laws;
 mod frame;
 mod inline;
 mod laws;
+mod length;
 mod line;
 mod mark;
 mod node;
@@ -29,10 +29,12 @@ mod which;
 mod write;
 
 pub use copy::copy_node;
-pub use fault_laws::{a_text_has_nodes_or_a_fault, lines_are_a_text_or_have_one_fault};
-pub use fits::can_be_written;
-pub use flow_laws::one_line_lists;
+pub use fault_laws::{
+    a_text_has_nodes_or_a_fault, lines_and_documents_are_few, lines_are_a_text_or_have_one_fault,
+};
+pub use flow_laws::{one_line_lists, rows_of_one_line_lists};
 pub use laws::{one_bad_place, standing_nodes_are_writable, written_text_reads_back};
+pub use length::written_length;
 pub use node::{Node, Nodes, Pairs};
 pub use read::{MAX_BYTES, YamlFault, read_documents};
 pub use spelling::{FieldKey, Spelling, spelled};

@@ -21,7 +21,7 @@ use crate::spelling::{FieldKey, Spelling, spelled};
 use std::alloc::AllocError;
 
 /// How many columns deeper a map or list stands than its key or dash.
-const STEP: usize = 2;
+pub(crate) const STEP: usize = 2;
 
 /// Writes so many spaces.
 fn write_spaces(out: &mut Vec<u8>, count: usize) -> Result<(), AllocError>
@@ -73,7 +73,7 @@ fn write_key(out: &mut Vec<u8>, key: &FieldKey) -> Result<(), AllocError>
 }
 
 /// Whether a value is the plain scalar of no text, which is written as nothing.
-fn is_no_text(value: &Spelling) -> bool
+pub(crate) fn is_no_text(value: &Spelling) -> bool
     ensures { result ≡ is_no_text_lem (spelling_view value.now) }
 {
     match value {
@@ -83,7 +83,7 @@ fn is_no_text(value: &Spelling) -> bool
 }
 
 /// Whether a value has lines of its own behind a key: a map or list that isn't empty.
-fn has_lines(value: &Spelling) -> bool
+pub(crate) fn has_lines(value: &Spelling) -> bool
     ensures { result ≡ has_lines_lem (spelling_view value.now) }
 {
     match value {
@@ -219,7 +219,9 @@ fn write_items(
 }
 
 /// Appends the text of a value, as it is spelled, with so many spaces before each line; each line
-/// ends with a line feed. The value is one that `can_be_written`.
+/// ends with a line feed. The value is one that can be written: its texts are UTF-8, have no
+/// control characters but tabs and line feeds, and are read as they stand where they are plain; no
+/// key comes twice in a map, and maps and lists nest at most 32 deep.
 ///
 /// With no spaces, the text of a value that isn't a plain scalar stands for its node alone, where
 /// it has at most `MAX_BYTES` bytes. The error is want of memory, and leaves all as it was.

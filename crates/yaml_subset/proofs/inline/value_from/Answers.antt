@@ -5,4 +5,5 @@ pub returns-in_err-read_quoted : goal.returns-in_err-read_quoted
 returns-in_err-read_quoted c = no_ok _ _ c.from_residual.result c.from_residual.ensures.1
 
 pub returns-in_err-read_flow : goal.returns-in_err-read_flow
-returns-in_err-read_flow c = no_ok _ _ c.from_residual-in_err-read_flow.result c.from_residual-in_err-read_flow.ensures.1
+returns-in_err-read_flow c =
+    no_ok _ _ c.from_residual-in_err-read_flow.result c.from_residual-in_err-read_flow.ensures.1

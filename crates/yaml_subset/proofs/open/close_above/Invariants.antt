@@ -10,5 +10,6 @@ abbrev pub invariant-loop-done : goal.invariant-loop-done
 invariant-loop-done l = record {
   number : vec_len l.frames + l.done ≡ l.keep + vec_len l.initial.frames;
   frames : l.frames.items ≡ take (vec_len l.frames) l.initial.frames.items;
-  value : closed_with (drop l.keep l.frames.items) (option_map node_view l.value) ≡ closed (open_of (drop l.keep l.initial.frames.items) (last_view l.fn.last));
+  value : closed_with (drop l.keep l.frames.items) (option_map node_view l.value)
+      ≡ closed (open_of (drop l.keep l.initial.frames.items) (last_view l.fn.last));
 }

@@ -7,5 +7,7 @@ use Rattle.yaml_subset.proofs.OpenViewLemmas.{open_of_push}
 use Rattle.yaml_subset.proofs.open.with_frame.Goals as goal
 
 pub returns : goal.returns
-returns c = ap (λ (fs : List Frame). stream_of c.args.documents.items fs nothing) c.in_ok-push.ensures.items
-    ∙ ap (within start (map (child start) c.args.documents.items)) (sym (open_of_push c.args.frames.items c.args.frame nothing))
+returns c =
+    ap (λ (fs : List Frame). stream_of c.args.documents.items fs nothing) c.in_ok-push.ensures.items
+    ∙ ap (within start (map (child start) c.args.documents.items))
+    (sym (open_of_push c.args.frames.items c.args.frame nothing))

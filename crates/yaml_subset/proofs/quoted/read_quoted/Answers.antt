@@ -5,7 +5,8 @@ use Rattle.yaml_subset.proofs.Failures.{no_ok}
 use Rattle.yaml_subset.proofs.quoted.read_quoted.Goals as goal
 
 pub returns-clause-value : goal.returns-clause-value
-returns-clause-value c = c.end_of.ensures.value ∙ ap scan_end c.in_ok-scan.ensures.value ∙ scan_quoted c.args.quote c.args.bytes.now
+returns-clause-value c = c.end_of.ensures.value ∙ ap scan_end c.in_ok-scan.ensures.value
+    ∙ scan_quoted c.args.quote c.args.bytes.now
 
 pub returns-in_err-scan-clause-value : goal.returns-in_err-scan-clause-value
 returns-in_err-scan-clause-value c = no_ok _ _ c.from_residual.result c.from_residual.ensures.1

@@ -5,4 +5,5 @@ use Rattle.yaml_subset.proofs.TextLemmas.{nothing_read}
 use Rattle.yaml_subset.proofs.read.at_start.Goals as goal
 
 pub returns : goal.returns
-returns c = subst (λ (o : Open). IsRead [] (record { nodes = o; parent = None; scalar = None })) (sym c.new.ensures) nothing_read
+returns c = subst (λ (o : Open). IsRead [] (record { nodes = o; parent = None; scalar = None }))
+    (sym c.new.ensures) nothing_read

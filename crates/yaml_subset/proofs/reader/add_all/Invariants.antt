@@ -9,6 +9,8 @@ use Rattle.yaml_subset.proofs.reader.add_all.Given as goal
 -- the marks that are left, among the open nodes so far, are all marks among those at the start
 abbrev pub invariant-loop-mark : goal.invariant-loop-mark
 invariant-loop-mark l = record {
-  rest : add_all (map mark_view (into_iter_items l.mark-iterator)) (nodes_open l.nodes) ≡ add_all (map mark_view l.fn.marks.items) (nodes_open l.fn.nodes);
-  row : misfit (map mark_view (into_iter_items l.mark-iterator)) (nodes_open l.nodes) ≡ misfit (map mark_view l.fn.marks.items) (nodes_open l.fn.nodes);
+  rest : add_all (map mark_view (into_iter_items l.mark-iterator))
+      (nodes_open l.nodes) ≡ add_all (map mark_view l.fn.marks.items) (nodes_open l.fn.nodes);
+  row : misfit (map mark_view (into_iter_items l.mark-iterator))
+      (nodes_open l.nodes) ≡ misfit (map mark_view l.fn.marks.items) (nodes_open l.fn.nodes);
 }

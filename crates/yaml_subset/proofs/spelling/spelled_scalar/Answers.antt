@@ -5,7 +5,9 @@ use Rattle.yaml_subset.proofs.SpellingLemmas.{view-Word, view-Quoted}
 use Rattle.yaml_subset.proofs.spelling.spelled_scalar.Goals as goal
 
 pub returns-then-plain : goal.returns-then-plain
-returns-then-plain c = view-Word c.in_ok-text.text ∙ ap word c.in_ok-text.ensures ∙ sym (ap spelled (view-Scalar c.args.text.now c.args.plain) ∙ rw c.if-plain.true refl)
+returns-then-plain c = view-Word c.in_ok-text.text ∙ ap word c.in_ok-text.ensures
+    ∙ sym (ap spelled (view-Scalar c.args.text.now c.args.plain) ∙ rw c.if-plain.true refl)
 
 pub returns-else-plain : goal.returns-else-plain
-returns-else-plain c = view-Quoted c.in_ok-text.text ∙ ap quoted c.in_ok-text.ensures ∙ sym (ap spelled (view-Scalar c.args.text.now c.args.plain) ∙ rw c.if-plain.false refl)
+returns-else-plain c = view-Quoted c.in_ok-text.text ∙ ap quoted c.in_ok-text.ensures
+    ∙ sym (ap spelled (view-Scalar c.args.text.now c.args.plain) ∙ rw c.if-plain.false refl)

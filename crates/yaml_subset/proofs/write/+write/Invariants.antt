@@ -7,12 +7,16 @@ use Rattle.yaml_subset.proofs.write.+write.Given as goal
 -- the text so far, and the fields that are left
 abbrev pub invariant-write_fields-loop-field : goal.invariant-write_fields-loop-field
 invariant-write_fields-loop-field l = record {
-  text : l.out.items ++ written_fields (spaces l.lead) l.column (fields_view (drop l.field-index l.field-items)) ≡ l.initial.out.items ++ written_fields [] l.column (fields_view l.field-items);
+  text : l.out.items ++ written_fields (spaces l.lead)
+      l.column (fields_view (drop l.field-index l.field-items)) ≡ l.initial.out.items
+      ++ written_fields [] l.column (fields_view l.field-items);
   fits : FitFields l.levels (fields_view (drop l.field-index l.field-items));
 }
 
 abbrev pub invariant-write_items-loop-item : goal.invariant-write_items-loop-item
 invariant-write_items-loop-item l = record {
-  text : l.out.items ++ written_items (spaces l.lead) l.column (items_view (drop l.item-index l.item-items)) ≡ l.initial.out.items ++ written_items [] l.column (items_view l.item-items);
+  text : l.out.items ++ written_items (spaces l.lead)
+      l.column (items_view (drop l.item-index l.item-items)) ≡ l.initial.out.items
+      ++ written_items [] l.column (items_view l.item-items);
   fits : FitItems l.levels (items_view (drop l.item-index l.item-items));
 }

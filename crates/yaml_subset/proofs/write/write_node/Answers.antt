@@ -4,7 +4,8 @@ use Rattle.yaml_subset.proofs.Failures.{no_on}
 use Rattle.yaml_subset.proofs.write.write_node.Goals as goal
 
 pub returns-clause-alone : goal.returns-clause-alone
-returns-clause-alone c = where_ok c.write_spelling.result _ (node_stands c.args.indent (node_view c.args.node.now) c.requires)
+returns-clause-alone c = where_ok c.write_spelling.result _
+    (node_stands c.args.indent (node_view c.args.node.now) c.requires)
 
 pub returns-in_err-value-clause-exact : goal.returns-in_err-value-clause-exact
 returns-in_err-value-clause-exact c = no_on _ _ c.from_residual.result c.from_residual.ensures.1

@@ -6,4 +6,5 @@ use Rattle.yaml_subset.specs.declared.node.Node.{Node}
 use Rattle.yaml_subset.proofs.entries.OpenEntries.has_key.Goals as goal
 
 pub returns : goal.returns
-returns c = c.contains.ensures ∙ c.self.invariant c.args.key.now ∙ ap (list_any (λ (p : Text × Node). bytes_eq c.args.key.now p.0)) c.self.view_is
+returns c = c.contains.ensures ∙ c.self.invariant c.args.key.now
+    ∙ ap (list_any (λ (p : Text × Node). bytes_eq c.args.key.now p.0)) c.self.view_is

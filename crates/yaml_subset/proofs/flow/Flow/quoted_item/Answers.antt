@@ -6,4 +6,5 @@ use Rattle.yaml_subset.proofs.flow.Flow.quoted_item.Goals as goal
 pub returns : goal.returns
 returns c =
     same_parts After _ _ _ _ c.args.self.fault c.args.self.fault c.new.ensures.items
-    (scalar_more c.args.self.items.items c.push.new.self.items c.of.result c.args.self.text.items false c.in_ok-push.ensures.items c.of.ensures) refl
+    (scalar_more c.args.self.items.items c.push.new.self.items c.of.result c.args.self.text.items
+    false c.in_ok-push.ensures.items c.of.ensures) refl

@@ -11,16 +11,20 @@ pub returns-in_ok-block-in-Block-clause-ok : goal.returns-in_ok-block-in-Block-c
 returns-in_ok-block-in-Block-clause-ok c =
     let n = c.args.self in
     let l = c.args.line.now in
-    ap (λ (k : Last). add (raw l) (within start (map (child start) n.documents.items) (open_of n.frames.items (last_view k)))) c.in-Block.is
+    ap (λ (k : Last). add (raw l) (within start (map (child start) n.documents.items)
+    (open_of n.frames.items (last_view k)))) c.in-Block.is
     ∙ raw_taken (map (child start) n.documents.items) n.frames.items (block_view c.in-Block.block) l
-    ∙ ap (λ (b : Block). Some (within start (map (child start) n.documents.items) (open_of n.frames.items (block b)))) (sym c.in_ok-block-in-Block.ensures)
+    ∙ ap (λ (b : Block). Some (within start (map (child start) n.documents.items)
+    (open_of n.frames.items (block b)))) (sym c.in_ok-block-in-Block.ensures)
 
 pub returns-in-Nothing-clause-refused : goal.returns-in-Nothing-clause-refused
 returns-in-Nothing-clause-refused c =
     let n = c.args.self in
-    raw_refused (map (child start) n.documents.items) n.frames.items n.last c.args.line.now (λ b e. cc (c.in-Nothing.is))
+    raw_refused (map (child start) n.documents.items) n.frames.items n.last c.args.line.now
+    (λ b e. cc (c.in-Nothing.is))
 
 pub returns-in-Inline-clause-refused : goal.returns-in-Inline-clause-refused
 returns-in-Inline-clause-refused c =
     let n = c.args.self in
-    raw_refused (map (child start) n.documents.items) n.frames.items n.last c.args.line.now (λ b e. cc (c.in-Inline.is))
+    raw_refused (map (child start) n.documents.items) n.frames.items n.last c.args.line.now
+    (λ b e. cc (c.in-Inline.is))
