@@ -10,8 +10,8 @@ use slo_duration::{Duration, Unit, read_duration};
 use std::alloc::Global;
 use std::process::Abort;
 use zone_calendar::{
-    StartsFault, Zone, ZoneFault, has_too_many_starts, is_calendar_step, read_civil, read_zone,
-    starts, window_at,
+    StartsFault, Zone, ZoneFault, has_too_many_starts, is_calendar_step, last_start, read_civil,
+    read_zone, starts, window_at,
 };
 use zone_files::{APIA, BERLIN, SAO_PAULO};
 
@@ -65,6 +65,18 @@ const EASTERN_STARTS: [Case; 4] = [
         ],
     },
 ];
+
+/// A clock that goes forward by 46 hours, so that one start comes before that of the day before, by
+/// Python's `zoneinfo`.
+const WIDE_STARTS: [Case; 1] = [Case {
+    first: "2024-03-07 12:00:00",
+    step: "1d",
+    horizon: 28_508_281,
+    starts: &[
+        28_498_260, 28_499_700, 28_501_140, 28_502_580, 28_502_700, 28_504_020, 28_504_140,
+        28_505_580, 28_507_020, 28_508_460,
+    ],
+}];
 
 /// Months, quarters and years from the 31st and from February 29.
 const UTC_STARTS: [Case; 5] = [
@@ -242,6 +254,32 @@ fn starts_of(alloc: Global, zone: &Zone, first: &str, step: &str, horizon: u32) 
     }
 }
 
+/// The last start of a case at a minute; none where a text can't be read or the horizon is too far.
+fn last_of(zone: &Zone, case: &Case, minute: u32) -> Option<u32> {
+    let first = read_civil(case.first.as_bytes())?;
+    let step = read_duration(case.step.as_bytes()).ok()?;
+    if !is_calendar_step(step) || case.horizon >= 100_000_000 {
+        return None;
+    }
+    last_start(zone, &first, step, case.horizon, minute)
+}
+
+/// Whether each start of a case is the last one from its minute on, up to the next.
+fn begin_windows(zone: &Zone, case: &Case) -> bool {
+    let mut before = None;
+    for start in case.starts {
+        let is_other = before != Some(*start);
+        if is_other && last_of(zone, case, start.saturating_sub(1)) != before {
+            return false;
+        }
+        before = Some(*start);
+        if last_of(zone, case, *start) != before {
+            return false;
+        }
+    }
+    last_of(zone, case, u32::MAX) == before
+}
+
 /// Whether a case has its starts in a zone.
 fn has_starts(alloc: Global, zone: &Zone, case: &Case) -> bool {
     match starts_of(alloc, zone, case.first, case.step, case.horizon) {
@@ -255,6 +293,7 @@ fn expect_starts(rt: &impl Abort, alloc: Global, bytes: &[u8], cases: &[Case]) {
     let zone = read_zone(alloc, bytes).expect(rt, "a zone");
     for case in cases {
         expect(rt, has_starts(alloc, &zone, case), case.first);
+        expect(rt, begin_windows(&zone, case), case.first);
     }
 }
 
@@ -263,6 +302,7 @@ fn a_rule_gives_starts_over_its_gap_and_its_fold(rt: HostRuntime) {
     for bytes in ["EST5EDT,M3.2.0,M11.1.0", "EST5EDT,M3.2.0,M11.1.0\n"] {
         expect_starts(&rt, rt.alloc(), bytes.as_bytes(), &EASTERN_STARTS);
     }
+    expect_starts(&rt, rt.alloc(), b"AAA23BBB-23,M3.2.0,M11.1.0", &WIDE_STARTS);
     expect_starts(&rt, rt.alloc(), b"UTC0", &UTC_STARTS);
 }
 
@@ -317,6 +357,8 @@ fn more_than_forty_thousand_starts_are_too_many(rt: HostRuntime) {
     expect(&rt, many == Err(StartsFault::TooManyStarts), "many");
     expect(&rt, !has_too_many_starts(&first, day, 57_000_000), "few");
     expect(&rt, has_too_many_starts(&first, day, 60_000_000), "many");
+    let last = last_start(&Zone::utc(), &first, day, 60_000_000, u32::MAX);
+    expect(&rt, last == Some(60_000_480), "the last of many");
 }
 
 /// Whether bytes are no zone.

@@ -1,5 +1,7 @@
 -- A text of the form is the text of its numbers, and the text of a moment gives its numbers back.
-use Rattle.std.proofs.Common.{◌≡◌, ℕ, ◌+◌, ◌-◌, ◌*◌, ◌/◌, ◌%◌, ◌<◌, ◌≤◌, ℤ, pos, negsuc, ◌≤ℤ◌, ◌&&◌, Bool, true, false, cond, unsigned_abs, to_z, w16, List, length, get_or, Option, Some, None, refl, sym, subst, ap, ◌∙◌, arith}
+use Rattle.std.proofs.Common.{◌≡◌, ℕ, ◌+◌, ◌-◌, ◌*◌, ◌/◌, ◌%◌, ◌<◌, ◌≤◌, ℤ, pos, negsuc, ◌≤ℤ◌, ◌&&◌}
+use Rattle.std.proofs.Common.{Bool, true, false, cond, unsigned_abs, to_z, w16, List, length}
+use Rattle.std.proofs.Common.{get_or, Option, Some, None, refl, sym, subst, ap, ◌∙◌, arith}
 use Rattle.std.specs.Prelude.{IfSome}
 use Rattle.std.specs.Char.{is_ascii_digit}
 use Rattle.std.proofs.lemmas.Bool.Decides.{nat_tests}
@@ -8,7 +10,8 @@ use Rattle.jiff_core.proofs.SignedLemmas.{signed_arith, back_small}
 use Rattle.jiff_core.specs.Calendar.{days_in_month}
 use Rattle.jiff_core.proofs.CalendarLemmas.{days_in_month_bounds}
 use Rattle.zone_calendar.specs.CivilRead.{InRange, in_range}
-use Rattle.zone_calendar.specs.CivilText.{parts_of, parts_text, civil_text, is_moment, has_form, two_at, parts_by, numbers_in, parts_in}
+use Rattle.zone_calendar.specs.CivilText.{parts_of, parts_text, civil_text, is_moment, has_form}
+use Rattle.zone_calendar.specs.CivilText.{two_at, parts_by, numbers_in, parts_in}
 use Rattle.zone_calendar.specs.declared.civil.Civil.{Civil}
 use Rattle.zone_calendar.specs.declared.civil_text.Parts.{Parts}
 
@@ -37,27 +40,33 @@ range_test parts range =
 -- each moment's numbers are those of a moment
 pub is_moment-civil : (moment : Civil) → is_moment (parts_of moment) ≡ true
 is_moment-civil moment =
-    let year : pos (unsigned_abs moment.year) ≡ moment.year = unsigned moment.year (omega (arith, signed_arith, moment.year_in)) in
+    let year : pos (unsigned_abs moment.year) ≡ moment.year =
+    unsigned moment.year (omega (arith, signed_arith, moment.year_in)) in
     range_test (parts_of moment) (record {
       year_low = omega (arith, signed_arith, moment.year_in);
       year_high = omega (arith, signed_arith, moment.year_in);
       month_low = moment.month_in.0;
       month_high = moment.month_in.1;
       day_low = moment.day_in.0;
-      day_high = subst (λ (y : ℤ). moment.day ≤ days_in_month y moment.month) (sym year) moment.day_in.1;
+      day_high =
+          subst (λ (y : ℤ). moment.day ≤ days_in_month y moment.month) (sym year) moment.day_in.1;
       hour = moment.hour_in;
       minute = moment.minute_in;
       second = moment.second_in;
     })
 
-digit_pair : (a b n : ℕ) → cond (is_ascii_digit a && is_ascii_digit b) (Some ((a - 48) * 10 + (b - 48))) None ≡ Some n → (a ≡ 48 + n / 10) × (b ≡ 48 + n % 10) × (n < 100)
+digit_pair : (a b n : ℕ)
+    → cond (is_ascii_digit a && is_ascii_digit b) (Some ((a - 48) * 10 + (b - 48))) None ≡ Some n
+    → (a ≡ 48 + n / 10) × (b ≡ 48 + n % 10) × (n < 100)
 digit_pair a b n e = grind (arith, nat_tests)
 
-two_back : (n : ℕ) → n < 100 → cond (is_ascii_digit (48 + n / 10) && is_ascii_digit (48 + n % 10)) (Some ((48 + n / 10 - 48) * 10 + (48 + n % 10 - 48))) None ≡ Some n
+two_back : (n : ℕ) → n < 100 → cond (is_ascii_digit (48 + n / 10) && is_ascii_digit (48 + n % 10))
+    (Some ((48 + n / 10 - 48) * 10 + (48 + n % 10 - 48))) None ≡ Some n
 two_back n small = grind (arith, nat_tests)
 
 -- the two-digit numbers of which some numbers were made
-record Numbers (centuries years months days hours minutes seconds : Option ℕ) (parts : Parts) : Type 0 where
+record Numbers (centuries years months days hours minutes seconds : Option ℕ)
+    (parts : Parts) : Type 0 where
   century : ℕ
   year : ℕ
   year_is : century * 100 + year ≡ parts.year
@@ -69,7 +78,9 @@ record Numbers (centuries years months days hours minutes seconds : Option ℕ) 
   minutes_is : minutes ≡ Some parts.minute
   seconds_is : seconds ≡ Some parts.second
 
-numbers : (centuries years months days hours minutes seconds : Option ℕ) (parts : Parts) → parts_by centuries years months days hours minutes seconds ≡ Some parts → Numbers centuries years months days hours minutes seconds parts
+numbers : (centuries years months days hours minutes seconds : Option ℕ) (parts : Parts)
+    → parts_by centuries years months days hours minutes seconds ≡ Some parts
+    → Numbers centuries years months days hours minutes seconds parts
 numbers None years months days hours minutes seconds parts e = absurd (cc)
 numbers (Some c) None months days hours minutes seconds parts e = absurd (cc)
 numbers (Some c) (Some y) None days hours minutes seconds parts e = absurd (cc)
@@ -78,7 +89,14 @@ numbers (Some c) (Some y) (Some m) (Some d) None minutes seconds parts e = absur
 numbers (Some c) (Some y) (Some m) (Some d) (Some h) None seconds parts e = absurd (cc)
 numbers (Some c) (Some y) (Some m) (Some d) (Some h) (Some n) None parts e = absurd (cc)
 numbers (Some c) (Some y) (Some m) (Some d) (Some h) (Some n) (Some s) parts e =
-    let made : Parts = record { year = c * 100 + y; month = m; day = d; hour = h; minute = n; second = s } in
+    let made : Parts = record {
+      year = c * 100 + y;
+      month = m;
+      day = d;
+      hour = h;
+      minute = n;
+      second = s;
+    } in
     let same : made ≡ parts = cc in
     record {
       century = c;
@@ -106,17 +124,21 @@ marks : (text : List ℕ) → has_form text ≡ true → HasMarks text
 marks text form = grind (arith, nat_tests)
 
 -- the year's four digits are the century's and the year's in it
-year_parts : (century year : ℕ) → year < 100 → ((century * 100 + year) / 100 ≡ century) × ((century * 100 + year) % 100 ≡ year)
+year_parts : (century year : ℕ) → year < 100 → ((century * 100 + year) / 100 ≡ century)
+    × ((century * 100 + year) % 100 ≡ year)
 year_parts century year small = omega arith
 
-year_is_in : (century year whole : ℕ) → year < 100 → century * 100 + year ≡ whole → (whole / 100 ≡ century) × (whole % 100 ≡ year)
+year_is_in : (century year whole : ℕ) → year < 100 → century * 100 + year ≡ whole
+    → (whole / 100 ≡ century) × (whole % 100 ≡ year)
 year_is_in century year whole small e = rw (← e) (year_parts century year small)
 
 -- a text in the form is the text of its numbers
-laid_out : (text : List ℕ) (parts : Parts) → has_form text ≡ true → numbers_in text ≡ Some parts → text ≡ parts_text parts
+laid_out : (text : List ℕ) (parts : Parts) → has_form text ≡ true → numbers_in text ≡ Some parts
+    → text ≡ parts_text parts
 laid_out text parts form read =
     let marked = marks text form in
-    let found = numbers (two_at text 0) (two_at text 2) (two_at text 5) (two_at text 8) (two_at text 11) (two_at text 14) (two_at text 17) parts read in
+    let found = numbers (two_at text 0) (two_at text 2) (two_at text 5) (two_at text 8)
+    (two_at text 11) (two_at text 14) (two_at text 17) parts read in
     let c = digit_pair (get_or text 0 0) (get_or text 1 0) found.century found.centuries_is in
     let y = digit_pair (get_or text 2 0) (get_or text 3 0) found.year found.years_is in
     let m = digit_pair (get_or text 5 0) (get_or text 6 0) parts.month found.months_is in
@@ -147,7 +169,16 @@ laid_out text parts form read =
                         d.1,
                         (
                           marked.after_day,
-                          (h.0, (h.1, (marked.after_hour, (n.0, (n.1, (marked.after_minute, (s.0, (s.1, tt)))))))),
+                          (
+                            h.0,
+                            (
+                              h.1,
+                              (
+                                marked.after_hour,
+                                (n.0, (n.1, (marked.after_minute, (s.0, (s.1, tt))))),
+                              ),
+                            ),
+                          ),
                         ),
                       ),
                     ),
@@ -160,10 +191,12 @@ laid_out text parts form read =
       ),
     )
 
-pub text_of_parts : (text : List ℕ) (parts : Parts) → parts_in text ≡ Some parts → text ≡ parts_text parts
+pub text_of_parts : (text : List ℕ) (parts : Parts) → parts_in text ≡ Some parts
+    → text ≡ parts_text parts
 text_of_parts text parts read = by_form (has_form text) refl read
   where
-    by_form : (form : Bool) → has_form text ≡ form → cond form (numbers_in text) None ≡ Some parts → text ≡ parts_text parts
+    by_form : (form : Bool) → has_form text ≡ form → cond form (numbers_in text) None ≡ Some parts
+        → text ≡ parts_text parts
     by_form true e read = laid_out text parts e read
     by_form false e read = absurd (cc)
 
@@ -173,17 +206,35 @@ parts_in-text parts range =
     let century : parts.year / 100 < 100 = omega (arith, range.year_high) in
     let year : parts.year % 100 < 100 = omega arith in
     let month : parts.month < 100 = omega (arith, range.month_high) in
-    let day : parts.day < 100 = omega (arith, range.day_high, days_in_month_bounds (pos parts.year) parts.month) in
+    let day : parts.day < 100 =
+    omega (arith, range.day_high, days_in_month_bounds (pos parts.year) parts.month) in
     let hour : parts.hour < 100 = omega (arith, range.hour) in
     let minute : parts.minute < 100 = omega (arith, range.minute) in
     let second : parts.second < 100 = omega (arith, range.second) in
     let whole : parts.year / 100 * 100 + parts.year % 100 ≡ parts.year = omega arith in
-    rw (two_back (parts.year / 100) century, two_back (parts.year % 100) year, two_back parts.month month, two_back parts.day day, two_back parts.hour hour, two_back parts.minute minute, two_back parts.second second)
-    (ap (λ y. Some (record { year = y; month = parts.month; day = parts.day; hour = parts.hour; minute = parts.minute; second = parts.second })) whole)
+    rw (
+      two_back (parts.year / 100) century,
+      two_back (parts.year % 100) year,
+      two_back parts.month month,
+      two_back parts.day day,
+      two_back parts.hour hour,
+      two_back parts.minute minute,
+      two_back parts.second second,
+    )
+    (ap (λ y. Some (record {
+      year = y;
+      month = parts.month;
+      day = parts.day;
+      hour = parts.hour;
+      minute = parts.minute;
+      second = parts.second;
+    })) whole)
 
 pub parts_in-civil : (moment : Civil) → parts_in (civil_text moment) ≡ Some (parts_of moment)
-parts_in-civil moment = parts_in-text (parts_of moment) (in_range (parts_of moment) (is_moment-civil moment))
+parts_in-civil moment =
+    parts_in-text (parts_of moment) (in_range (parts_of moment) (is_moment-civil moment))
 
-pub text_of : (r : Option Civil) (text : List ℕ) (parts : Parts) → text ≡ parts_text parts → IfSome r (λ moment. parts_of moment ≡ parts) → IfSome r (λ moment. text ≡ civil_text moment)
+pub text_of : (r : Option Civil) (text : List ℕ) (parts : Parts) → text ≡ parts_text parts
+    → IfSome r (λ moment. parts_of moment ≡ parts) → IfSome r (λ moment. text ≡ civil_text moment)
 text_of None text parts e some = tt
 text_of (Some moment) text parts e some = e ∙ ap parts_text (sym some)

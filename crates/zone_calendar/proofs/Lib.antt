@@ -7,4 +7,7 @@ pub mod DateLemmas
 pub mod StartLemmas
 pub mod WindowLemmas
 pub mod OneListLemmas
+pub mod NearLemmas
+pub mod LastLemmas
+pub mod ListLemmas
 pub mod CivilReadLemmas

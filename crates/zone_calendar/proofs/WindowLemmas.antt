@@ -13,7 +13,9 @@ passes : (a b : ℕ) → a ≤ b → nat_le a b ≡ true
 passes a b le = grind (arith, nat_tests)
 
 -- in a list in order, what is at or before a minute comes first
-pub passes_below : (starts : List ℕ) (minute : ℕ) → IsNonDecreasing starts → (i j d : ℕ) → i ≤ j → j < length starts → nat_le (get_or starts j d) minute ≡ true → nat_le (get_or starts i d) minute ≡ true
+pub passes_below : (starts : List ℕ) (minute : ℕ) → IsNonDecreasing starts → (i j d : ℕ) → i ≤ j
+    → j < length starts → nat_le (get_or starts j d) minute ≡ true
+    → nat_le (get_or starts i d) minute ≡ true
 passes_below starts minute sorted i j d le within test =
     let order = sorted i j d le within in
     let begun = le_of _ _ test in

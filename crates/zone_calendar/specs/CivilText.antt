@@ -1,5 +1,7 @@
 -- How a civil moment is written, and what a text in that form says.
-use Rattle.std.specs.Prelude.{ℕ, ◌+◌, ◌-◌, ◌*◌, ◌/◌, ◌%◌, pos, Bool, ◌&&◌, ◌==◌, nat_le, nat_lt, List, [], ◌∷◌, ◌++◌, length, slice_index, unsigned_abs, Option, Some, None, option_and_then, if◌then◌else◌}
+use Rattle.std.specs.Prelude.{ℕ, ◌+◌, ◌-◌, ◌*◌, ◌/◌, ◌%◌, pos, Bool, ◌&&◌, ◌==◌, nat_le, nat_lt}
+use Rattle.std.specs.Prelude.{List, [], ◌∷◌, ◌++◌, length, slice_index, unsigned_abs, Option, Some}
+use Rattle.std.specs.Prelude.{None, option_and_then, if◌then◌else◌}
 use Rattle.std.specs.Char.{is_ascii_digit}
 use Rattle.jiff_core.specs.Calendar.{days_in_month}
 use Rattle.zone_calendar.specs.declared.civil.Civil.{Civil}
@@ -37,7 +39,8 @@ civil_text moment = parts_text (parts_of moment)
 -- the numbers are those of a real date of the years 1971 to 2097 and a real time
 abbrev pub is_moment : Parts → Bool
 is_moment parts =
-    nat_le 1971 parts.year && nat_le parts.year 2097 && (nat_le 1 parts.month && nat_le parts.month 12)
+    nat_le 1971 parts.year && nat_le parts.year 2097
+    && (nat_le 1 parts.month && nat_le parts.month 12)
     && nat_le 1 parts.day && nat_le parts.day (days_in_month (pos parts.year) parts.month)
     && nat_lt parts.hour 24 && nat_lt parts.minute 60 && nat_lt parts.second 60
 
@@ -55,9 +58,11 @@ two_at text at =
     else None
 
 -- the numbers of a moment by its two-digit numbers, where all seven are there
-abbrev pub parts_by : Option ℕ → Option ℕ → Option ℕ → Option ℕ → Option ℕ → Option ℕ → Option ℕ → Option Parts
+abbrev pub parts_by : Option ℕ → Option ℕ → Option ℕ → Option ℕ → Option ℕ → Option ℕ → Option ℕ
+    → Option Parts
 parts_by centuries years months days hours minutes seconds =
-    option_and_then (λ century. option_and_then (λ year. option_and_then (λ month. option_and_then (λ day.
+    option_and_then (λ century.
+    option_and_then (λ year. option_and_then (λ month. option_and_then (λ day.
     option_and_then (λ hour. option_and_then (λ minute. option_and_then (λ second.
     Some (record {
       year = century * 100 + year;
@@ -70,7 +75,8 @@ parts_by centuries years months days hours minutes seconds =
 
 -- the numbers of a text that is laid out as a moment
 abbrev pub numbers_in : List ℕ → Option Parts
-numbers_in text = parts_by (two_at text 0) (two_at text 2) (two_at text 5) (two_at text 8) (two_at text 11) (two_at text 14) (two_at text 17)
+numbers_in text = parts_by (two_at text 0) (two_at text 2) (two_at text 5) (two_at text 8)
+    (two_at text 11) (two_at text 14) (two_at text 17)
 
 -- the numbers of a text in the form of a moment
 abbrev pub parts_in : List ℕ → Option Parts

@@ -1,5 +1,6 @@
 -- The starts of calendar windows.
-use Rattle.std.specs.Prelude.{◌↔◌, ℕ, ◌+◌, ◌-◌, ◌*◌, ◌<◌, ◌≤◌, min, ℤ, pos, ◌+ℤ◌, ◌*ℤ◌, int_lt, unsigned_abs, Bool, IsTrue, ⊤, List, length, map, IsPermutation}
+use Rattle.std.specs.Prelude.{◌↔◌, ℕ, ◌+◌, ◌-◌, ◌*◌, ◌<◌, ◌≤◌, min, ℤ, pos, ◌+ℤ◌, ◌*ℤ◌, int_lt}
+use Rattle.std.specs.Prelude.{unsigned_abs, Bool, IsTrue, ⊤, List, length, map, IsPermutation}
 use Rattle.std.specs.Int.{int_div_euclid, int_rem_euclid}
 use Rattle.std.specs.List.Sorted.{IsNonDecreasing}
 use Rattle.std.specs.List.{range_with_len}
@@ -7,7 +8,8 @@ use Rattle.jiff_core.specs.Calendar.{days_from_civil, days_in_month}
 use Rattle.slo_duration.specs.Unit.{unit_minutes}
 use Rattle.slo_duration.specs.declared.duration.Duration.{Duration}
 use Rattle.slo_duration.specs.declared.unit.Unit.{Unit as Span}
-use Rattle.slo_duration.specs.declared.unit.Unit.TheVariants.{Minute, Hour, Day, Week, Month, Quarter, Year}
+use Rattle.slo_duration.specs.declared.unit.Unit.TheVariants.{Minute, Hour, Day, Week, Month}
+use Rattle.slo_duration.specs.declared.unit.Unit.TheVariants.{Quarter, Year}
 use Rattle.zone_calendar.specs.Zone.{ZoneText, instant_at}
 use Rattle.zone_calendar.specs.declared.civil.Civil.{Civil}
 
@@ -53,8 +55,8 @@ clamped_day months day =
     let month = month_of_year months in
     days_from_civil year month (min day (days_in_month year month))
 
--- the date so many days, weeks, months, quarters of three months or years of twelve after a first one, in one step of
--- civil arithmetic; it is told by its day number
+-- the date so many days, weeks, months, quarters of three months or years of twelve after a first
+-- one, in one step of civil arithmetic; it is told by its day number
 abbrev pub date_after : Civil → Span → ℕ → ℤ
 date_after first Minute count = day_of first
 date_after first Hour count = day_of first
@@ -64,13 +66,14 @@ date_after first Month count = clamped_day (month_of first +ℤ pos count) first
 date_after first Quarter count = clamped_day (month_of first +ℤ pos (3 * count)) first.day
 date_after first Year count = clamped_day (month_of first +ℤ pos (12 * count)) first.day
 
--- the civil moment of the start number k: the first date plus k durations at once, at the first time of day
+-- the civil moment of the start number k: the first date plus k durations at once, at the first
+-- time of day
 abbrev pub civil_second : Civil → Duration → ℕ → ℤ
 civil_second first step k =
     date_after first step.unit (k * step.count) *ℤ pos 86_400 +ℤ pos (time_of first)
 
--- the start number k counts where its civil moment, read as UTC, is below the horizon plus 1,560 minutes, which is
--- further than any zone is from UTC
+-- the start number k counts where its civil moment, read as UTC, is below the horizon plus 1,560
+-- minutes, which is further than any zone is from UTC
 abbrev pub is_counted : Civil → Duration → ℕ → ℕ → Bool
 is_counted first step horizon k = int_lt (civil_second first step k) (pos ((horizon + 1_560) * 60))
 
@@ -79,8 +82,10 @@ abbrev pub start_at : ZoneText → Civil → Duration → ℕ → ℕ
 start_at zone first step k =
     unsigned_abs (int_div_euclid (instant_at zone (civil_second first step k)) (pos 60))
 
--- a list holds one start for each whole number k from 0 on that counts, in order; two at one minute are both there
-pub record AreStarts (zone : ZoneText) (first : Civil) (step : Duration) (horizon : ℕ) (list : List ℕ) : Type 0 where
+-- a list holds one start for each whole number k from 0 on that counts, in order; two at one minute
+-- are both there
+pub record AreStarts (zone : ZoneText) (first : Civil) (step : Duration) (horizon : ℕ)
+    (list : List ℕ) : Type 0 where
   pub counted : (k : ℕ) → IsTrue (is_counted first step horizon k) ↔ (k < length list)
   pub starts : IsPermutation (map (start_at zone first step) (range_with_len 0 (length list))) list
   pub sorted : IsNonDecreasing list

@@ -1,17 +1,23 @@
--- What a zone says of a civil moment, as a function of the zone's text alone.
--- A civil moment is told by its second: the seconds since 1970-01-01 00:00:00 on a clock whose days have 86,400 of them.
-use Rattle.std.specs.Prelude.{ℕ, ◌-◌, ℤ, pos, ◌-ℤ◌, ◌+ℤ◌, ◌*ℤ◌, Bool, false, not, ◌==◌, int_le, int_lt, List, [], ◌∷◌, length, get_or, Option, Some, None, if◌then◌else◌}
+-- What a zone says of a civil moment, as a function of the zone's text alone. A civil moment
+-- is told by its second: the seconds since 1970-01-01 00:00:00 on a clock whose days have
+-- 86,400 of them.
+use Rattle.std.specs.Prelude.{ℕ, ◌-◌, ℤ, pos, ◌-ℤ◌, ◌+ℤ◌, ◌*ℤ◌, Bool, false, not, ◌==◌, int_le}
+use Rattle.std.specs.Prelude.{int_lt, List, [], ◌∷◌, length, get_or, Option, Some, None}
+use Rattle.std.specs.Prelude.{if◌then◌else◌}
 use Rattle.std.specs.List.{prefix_len}
 use Rattle.std.specs.Int.{int_min, int_max, int_div_euclid}
 use Rattle.jiff_core.specs.Timestamp.{nanos_of_seconds}
 use Rattle.jiff_tz.specs.declared.posix.Day.{Day}
 use Rattle.jiff_tz.specs.PosixText.{DstText, TzText}
-use Rattle.jiff_tz.specs.PosixRule.{match_some, clamp_to, nanos_per_day, first_nanosecond, last_nanosecond, rule_day, in_window, in_span, saturating_add, saturating_sub}
+use Rattle.jiff_tz.specs.PosixRule.{match_some, clamp_to, nanos_per_day, first_nanosecond}
+use Rattle.jiff_tz.specs.PosixRule.{last_nanosecond, rule_day, in_window, in_span, saturating_add}
+use Rattle.jiff_tz.specs.PosixRule.{saturating_sub}
 use Rattle.jiff_tz.specs.TzifReader.{TzifText}
 use Rattle.jiff_tz.specs.TzifText.{TypeText, TransitionText, civil_start, civil_end, no_row}
 use Rattle.jiff_tz.specs.Year.{year_of_day}
 
--- a zone's text: what a rule of POSIX TZ or a zone file of RFC 9636 says, as jiff states its readers
+-- a zone's text: what a rule of POSIX TZ or a zone file of RFC 9636 says, as jiff
+-- states its readers
 pub data ZoneText : Type 0 where
   Rule : TzText → ZoneText
   Table : TzifText → ZoneText
@@ -24,20 +30,22 @@ utc_text = Rule (record {
   dst = None;
 })
 
--- how a zone's clock comes to show a civil moment: once, at this offset from UTC in seconds; never, in the gap of a
--- change from one offset to another; or twice, in the fold of such a change
+-- how a zone's clock comes to show a civil moment: once, at this offset from UTC in seconds; never,
+-- in the gap of a change from one offset to another; or twice, in the fold of such a change
 pub data Reading : Type 0 where
   Once : ℤ → Reading
   Gap : ℤ → ℤ → Reading
   Fold : ℤ → ℤ → Reading
 
--- the instant of a civil moment, in seconds since 1970-01-01T00:00:00Z: in a gap the later side, in a fold the earlier
+-- the instant of a civil moment, in seconds since 1970-01-01T00:00:00Z: in a gap the later side, in
+-- a fold the earlier
 abbrev pub instant_by : ℤ → Reading → ℤ
 instant_by second (Once offset) = second -ℤ offset
 instant_by second (Gap before after) = int_max (second -ℤ before) (second -ℤ after)
 instant_by second (Fold before after) = int_min (second -ℤ before) (second -ℤ after)
 
--- POSIX TZ: where the clock of daylight saving time is behind, its start is a fold and its end a gap
+-- POSIX TZ: where the clock of daylight saving time is behind, its start is a fold and its
+-- end a gap
 abbrev pub behind : ℤ → ℤ → ℤ × ℤ → ℤ → Reading
 behind std dst window at =
     let shift = nanos_of_seconds dst -ℤ nanos_of_seconds std in
@@ -55,14 +63,16 @@ ahead std dst window at =
     else (if in_span (saturating_sub window.1 shift) window.1 at then Fold dst std
     else Once dst))
 
--- a moment of the clock, in nanoseconds, read by standard time, daylight saving time and the window between their changes
+-- a moment of the clock, in nanoseconds, read by standard time, daylight saving time and the window
+-- between their changes
 abbrev pub window_reading : ℤ → ℤ → ℤ × ℤ → ℤ → Reading
 window_reading std dst window at =
     if int_lt dst std then behind std dst window at
     else (if int_lt std dst then ahead std dst window at else Once std)
 
--- when a rule's day and time of day come in a year, in nanoseconds of a clock that is so many seconds behind the rule's
--- own; a moment outside the year is at the year's edge, and a day that the year lacks is its end
+-- when a rule's day and time of day come in a year, in nanoseconds of a clock that is so many
+-- seconds behind the rule's own; a moment outside the year is at the year's edge, and a day that
+-- the year lacks is its end
 abbrev pub rule_moment : ℤ → Day × ℤ → ℤ → ℤ
 rule_moment year change behind = match_some (rule_day year change.0) (last_nanosecond year) (λ day.
     clamp_to (first_nanosecond year) (last_nanosecond year)
@@ -77,7 +87,10 @@ abbrev pub rule_reading_by : ℤ → Option DstText → ℤ → Reading
 rule_reading_by std None second = Once std
 rule_reading_by std (Some dst) second =
     let year = year_of_second second in
-    window_reading std dst.seconds (rule_moment year dst.start (pos 0), rule_moment year dst.finish (pos 0)) (nanos_of_seconds second)
+    window_reading std dst.seconds (
+      rule_moment year dst.start (pos 0),
+      rule_moment year dst.finish (pos 0),
+    ) (nanos_of_seconds second)
 
 -- POSIX TZ: what a rule makes of a civil moment
 abbrev pub rule_reading : TzText → ℤ → Reading

@@ -1,5 +1,7 @@
 -- The zone of some bytes, or none: the answer of jiff's readers of zone files and of rules.
-use Rattle.std.specs.Prelude.{ℕ, ◌-◌, ℤ, ◌&&◌, ◌||◌, Bool, true, false, ◌==◌, nat_eq, int_lt, List, [], ◌∷◌, length, take, drop, bytes_eq, Option, Some, None, option_map, Ok, Err, if◌then◌else◌}
+use Rattle.std.specs.Prelude.{ℕ, ◌-◌, ℤ, ◌&&◌, ◌||◌, Bool, true, false, ◌==◌, nat_eq, int_lt, List}
+use Rattle.std.specs.Prelude.{[], ◌∷◌, length, take, drop, bytes_eq, Option, Some, None, option_map}
+use Rattle.std.specs.Prelude.{Ok, Err, if◌then◌else◌}
 use Rattle.std.specs.List.{starts_with}
 use Rattle.std.specs.Str.{is_utf8}
 use Rattle.std.specs.Cmp.Lexicographic.{pointwise}
@@ -8,7 +10,8 @@ use Rattle.jiff_tz.specs.Flag.{is_dst}
 use Rattle.jiff_tz.specs.declared.info.Dst.TheVariants.{Yes, No}
 use Rattle.jiff_tz.specs.PosixReader.{read_whole}
 use Rattle.jiff_tz.specs.PosixText.{DstText, TzText}
-use Rattle.jiff_tz.specs.PosixRule.{match_some, first_nanosecond, last_nanosecond, in_window, int_same, saturating_add}
+use Rattle.jiff_tz.specs.PosixRule.{match_some, first_nanosecond, last_nanosecond, in_window}
+use Rattle.jiff_tz.specs.PosixRule.{int_same, saturating_add}
 use Rattle.jiff_tz.specs.TzifReader.{Parsed, TzifText, read_tzif}
 use Rattle.jiff_tz.specs.TzifText.{TypeText, TransitionText}
 use Rattle.jiff_tz.specs.Year.{year_of_nanos}
@@ -28,8 +31,8 @@ rule_bytes bytes =
 abbrev pub rule_of : List ℕ → Option ZoneText
 rule_of bytes = if is_utf8 bytes then option_map Rule (read_whole (rule_bytes bytes)) else None
 
--- when daylight saving time begins and ends in a year, in nanoseconds of UTC. Where it begins as the year does and its
--- end, read at standard time, leaves the year, it is in force all year
+-- when daylight saving time begins and ends in a year, in nanoseconds of UTC. Where it begins as
+-- the year does and its end, read at standard time, leaves the year, it is in force all year
 abbrev pub utc_window : ℤ → DstText → ℤ → ℤ × ℤ
 utc_window std dst year =
     let start = rule_moment year dst.start std in
@@ -71,14 +74,17 @@ same_flag false false = true
 
 -- the same offset, flag and name
 abbrev pub same_type : TypeText → TypeText → Bool
-same_type a b = int_same a.seconds b.seconds && (same_flag (is_dst a.dst) (is_dst b.dst) && bytes_eq a.name b.name)
+same_type a b = int_same a.seconds b.seconds
+    && (same_flag (is_dst a.dst) (is_dst b.dst) && bytes_eq a.name b.name)
 
--- RFC 9636: a file's rule, where it has one, says of the instant of the table's last change what that change says
+-- RFC 9636: a file's rule, where it has one, says of the instant of the table's last change what
+-- that change says
 abbrev pub rule_agrees : List TransitionText → Option TzText → Bool
 rule_agrees rows None = true
 rule_agrees rows (Some rule) =
     if length rows == 0 then true
-    else same_type (rule_type rule (nanos_of_seconds (change_at rows (length rows - 1)).second)) (change_at rows (length rows - 1)).after
+    else same_type (rule_type rule (nanos_of_seconds (change_at rows (length rows - 1)).second))
+    (change_at rows (length rows - 1)).after
 
 -- the zone of a table that was read
 abbrev pub table_of : Parsed TzifText → Option ZoneText

@@ -19,6 +19,9 @@ use std::alloc::Global;
 /// The most starts of one list, so that a catalog's calendars fit its memory.
 const MOST_STARTS: u32 = 40_000;
 
+/// More months than the library's years have after a first moment.
+const MOST_MONTHS: u32 = 480_000;
+
 /// The minutes past the horizon up to which civil moments count: 26 hours, further than any zone is
 /// from UTC.
 const MARGIN_MINUTES: u32 = 1_560;
@@ -59,7 +62,7 @@ pub fn starts(
     if has_too_many_starts(first, step, horizon) {
         return Err(StartsFault::TooManyStarts);
     }
-    let count = count_starts(first, step, horizon);
+    let count = count_starts(first, step, horizon, MOST_STARTS);
     starts_from(alloc, zone, first, step, horizon, count)
 }
 
@@ -89,18 +92,19 @@ pub fn has_too_many_starts(first: &Civil, step: Duration, horizon: u32) -> bool
     counts(first, step, horizon, MOST_STARTS)
 }
 
-/// How many starts count, by halves.
+/// How many starts count, by halves, where at most so many do.
 #[tactic(auto, using(crate::proofs::StartLemmas::counted_up_to))]
-fn count_starts(first: &Civil, step: Duration, horizon: u32) -> u32
+pub(crate) fn count_starts(first: &Civil, step: Duration, horizon: u32, most: u32) -> u32
     requires step { IsCalendarStep step }
     requires horizon { horizon < 2 ^ 27 }
-    requires few { is_counted first.now step horizon 40_000 ≡ false }
-    ensures within { result ≤ 40_000 }
+    requires number { most ≤ 100_000 }
+    requires few { is_counted first.now step horizon most ≡ false }
+    ensures within { result ≤ most }
     ensures below { (k : ℕ) → k < result → is_counted first.now step horizon k ≡ true }
     ensures end { is_counted first.now step horizon result ≡ false }
 {
     let mut low = 0;
-    let mut high = MOST_STARTS;
+    let mut high = most;
     while low < high {
         let middle = low + (high - low) / 2;
         if counts(first, step, horizon, middle) {
@@ -145,7 +149,7 @@ fn starts_from(
 fn counts(first: &Civil, step: Duration, horizon: u32, k: u32) -> bool
     requires step { IsCalendarStep step }
     requires horizon { horizon < 2 ^ 27 }
-    requires number { k ≤ 40_000 }
+    requires number { k ≤ 100_000 }
     ensures { result ≡ is_counted first.now step horizon k }
 {
     let end = (i64::from(horizon) + i64::from(MARGIN_MINUTES)) * 60;
@@ -156,10 +160,10 @@ fn counts(first: &Civil, step: Duration, horizon: u32, k: u32) -> bool
 }
 
 /// The minute of the start number `k`, which counts.
-fn start(zone: &Zone, first: &Civil, step: Duration, horizon: u32, k: u32) -> u32
+pub(crate) fn start(zone: &Zone, first: &Civil, step: Duration, horizon: u32, k: u32) -> u32
     requires step { IsCalendarStep step }
     requires horizon { horizon < 2 ^ 27 }
-    requires number { k ≤ 40_000 }
+    requires number { k ≤ 100_000 }
     requires counted { is_counted first.now step horizon k ≡ true }
     ensures { result ≡ start_at zone.now first.now step k }
 {
@@ -170,7 +174,7 @@ fn start(zone: &Zone, first: &Civil, step: Duration, horizon: u32, k: u32) -> u3
 /// The civil moment of the start number `k`, or `None` past the library's last year.
 fn moment_after(first: &Civil, step: Duration, k: u32) -> Option<DateTime>
     requires step { IsCalendarStep step }
-    requires number { k ≤ 40_000 }
+    requires number { k ≤ 100_000 }
     ensures some { IfSome result (IsMomentOf first.now step k) }
     ensures none { IfNone result (pos 100_000 ≤ℤ date_after first.now step.unit (k * step.count)) }
 {
@@ -187,7 +191,7 @@ fn moment_after(first: &Civil, step: Duration, k: u32) -> Option<DateTime>
 /// The date of the start number `k`, in one step of civil arithmetic.
 fn date_after(first: &Civil, step: Duration, k: u32) -> Option<Date>
     requires step { IsCalendarStep step }
-    requires number { k ≤ 40_000 }
+    requires number { k ≤ 100_000 }
     ensures some { IfSome result (λ date. epoch_day date
         ≡ date_after first.now step.unit (k * step.count)) }
     ensures none { IfNone result (pos 100_000 ≤ℤ date_after first.now step.unit (k * step.count)) }
@@ -212,12 +216,14 @@ fn days_after(first: &Civil, count: u32) -> Option<Date>
 
 /// The same day so many months later, or the month's last day.
 fn months_after(first: &Civil, count: u32) -> Option<Date>
-    requires { count ≤ 480_000 }
     ensures some { IfSome result (λ date. epoch_day date
         ≡ clamped_day (month_of first.now +ℤ pos count) first.now.day) }
     ensures none { IfNone result (pos 100_000 ≤ℤ clamped_day (month_of first.now +ℤ pos count)
         first.now.day) }
 {
+    if count > MOST_MONTHS {
+        return None;
+    }
     add_months(date_of(first), count as i32).ok()
 }
 

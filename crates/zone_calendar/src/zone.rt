@@ -1,9 +1,10 @@
 //! A time zone: a table of changes, or a rule.
-ghost use Rattle.std.specs.Prelude.{◌≡◌, pos, ◌*ℤ◌, ◌-ℤ◌};
+ghost use Rattle.std.specs.Prelude.{◌≡◌, ℤ, pos, ◌*ℤ◌, ◌-ℤ◌};
 ghost use Rattle.jiff_core.specs.Calendar.{IsWithin};
 ghost use Rattle.jiff_core.specs.DateTime.{IsCivilNanos};
+ghost use Rattle.zone_calendar.specs.Zone.{instant_at as said_instant};
 ghost use Rattle.zone_calendar.specs.Zone.{instant_by as picked_instant};
-ghost use Rattle.zone_calendar.specs.Kind.{reading_of};
+ghost use Rattle.zone_calendar.specs.Kind.{kind_text, reading_of};
 
 use jiff_core::Offset;
 use jiff_core::civil::DateTime;
@@ -32,7 +33,7 @@ impl Model for Zone {
 }
 
 impl Zone {
-    ghost use Rattle.std.specs.Prelude.{◌≡◌};
+    ghost use Rattle.std.specs.Prelude.{◌≡◌, ℤ};
     ghost use Rattle.jiff_core.specs.DateTime.{civil_seconds};
     ghost use Rattle.zone_calendar.specs.Zone.{utc_text, instant_at};
     ghost use Rattle.zone_calendar.specs.Zone.{reading_at};
@@ -65,6 +66,13 @@ impl Zone {
         instant_by(moment.to_second(), self.offsets(moment))
     }
 
+    /// The zone's clock is less than 26 hours from UTC at each moment.
+    pub(crate) fn is_near_utc(&self)
+        ensures { (second : ℤ) → IsWithin 93_599 (instant_at self.now second -ℤ second) }
+    {
+        offsets_are_near_utc(&self.kind);
+    }
+
     fn offsets(&self, moment: DateTime) -> AmbiguousOffset
         requires { moment.time.subsec_nanosecond ≡ 0 }
         ensures { reading_of result ≡ reading_at self.now (civil_seconds moment) }
@@ -75,6 +83,12 @@ impl Zone {
         }
     }
 }
+
+/// Each offset of the library is less than 26 hours.
+fn offsets_are_near_utc(kind: &Kind)
+    ensures { (second : ℤ)
+        → IsWithin 93_599 (said_instant (kind_text kind.now) second -ℤ second) }
+{}
 
 /// The instant of the moment at this second of the civil clock, which has these offsets.
 fn instant_by(second: i64, offsets: AmbiguousOffset) -> i64

@@ -9,7 +9,7 @@ abbrev pub invariant-loop-low : goal.invariant-loop-low
 invariant-loop-low l =
     record {
       order : l.low ≤ l.high;
-      within : l.high ≤ 40_000;
+      within : l.high ≤ l.most;
       below : (k : ℕ) → k < l.low → is_counted l.first l.step l.horizon k ≡ true;
       end : is_counted l.first l.step l.horizon l.high ≡ false;
     }

@@ -7,7 +7,10 @@ use Rattle.zone_calendar.proofs.civil_text.moment_of.Goals as goal
 pub invariant_of-result-clause-year_in : goal.invariant_of-result-clause-year_in
 invariant_of-result-clause-year_in c =
     let range = in_range c.args.parts (sym c.if-is_real.ensures) in
-    rw (small_cast c.args.parts.year range.year_high) (omega (arith, signed_arith, range.year_low), omega (arith, signed_arith, range.year_high))
+    rw (small_cast c.args.parts.year range.year_high) (
+      omega (arith, signed_arith, range.year_low),
+      omega (arith, signed_arith, range.year_high),
+    )
 
 pub invariant_of-result-clause-month_in : goal.invariant_of-result-clause-month_in
 invariant_of-result-clause-month_in c =

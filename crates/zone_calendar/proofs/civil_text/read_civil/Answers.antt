@@ -12,11 +12,14 @@ returns-in_err-read_parts-clause-all c = λ moment e.
     absurd (cc)
 
 pub returns-clause-read : goal.returns-clause-read
-returns-clause-read c = text_of c.moment_of.result c.args.text.now c.in_ok-read_parts.field-0 (text_of_parts c.args.text.now c.in_ok-read_parts.field-0 (sym c.in_ok-read_parts.ensures)) c.moment_of.ensures.some
+returns-clause-read c = text_of c.moment_of.result c.args.text.now c.in_ok-read_parts.field-0
+    (text_of_parts c.args.text.now c.in_ok-read_parts.field-0 (sym c.in_ok-read_parts.ensures))
+    c.moment_of.ensures.some
 
 pub returns-clause-all : goal.returns-clause-all
 returns-clause-all c = λ moment e.
     let read = c.in_ok-read_parts.ensures in
     let back = parts_in-civil moment in
     let text = ap parts_in e in
-    found c.moment_of.result c.in_ok-read_parts.field-0 moment c.moment_of.ensures.some c.moment_of.ensures.none (cc)
+    found c.moment_of.result c.in_ok-read_parts.field-0 moment c.moment_of.ensures.some
+    c.moment_of.ensures.none (cc)
