@@ -1,5 +1,6 @@
 -- Fields of maps that are put together of parts: which keys stand in them, and what is found there.
-use Rattle.std.proofs.Common.{◌≡◌, ℕ, Bool, true, false, List, [], ◌∷◌, ◌++◌, Some, None, cond, refl, sym, ap, ◌∙◌, subst}
+use Rattle.std.proofs.Common.{◌≡◌, ℕ, Bool, true, false, List, [], ◌∷◌, ◌++◌, Some, None, cond}
+use Rattle.std.proofs.Common.{refl, sym, ap, ◌∙◌, subst}
 use Rattle.std.specs.Prelude.{◌&&◌, ◌||◌, not}
 use Rattle.std.specs.Str.{bytes_eq}
 use Rattle.std.proofs.lemmas.Bool.{false≢true, true≢false}
@@ -70,10 +71,12 @@ abbrev pub apart : List Key → List Key → Bool
 apart [] js = true
 apart (k ∷ ks) js = not (is_among js k) && apart ks js
 
-pub apart_among : (ks js : List Key) (k : Key) → apart ks js ≡ true → is_among ks k ≡ true → is_among js k ≡ false
+pub apart_among : (ks js : List Key) (k : Key) → apart ks js ≡ true → is_among ks k ≡ true
+    → is_among js k ≡ false
 apart_among [] js k e f = absurd (false≢true f)
 apart_among (j ∷ ks) js k e f = or_either (bytes_eq j k) (is_among ks k) f
-    (λ g. subst (λ i. is_among js i ≡ false) (bytes_same j k g) (not_false (is_among js j) (and_left (not (is_among js j)) (apart ks js) e)))
+    (λ g. subst (λ i. is_among js i ≡ false) (bytes_same j k g)
+    (not_false (is_among js j) (and_left (not (is_among js j)) (apart ks js) e)))
     (λ g. apart_among ks js k (and_right (not (is_among js j)) (apart ks js) e) g)
 
 -- PARTS OF MAPS
@@ -105,82 +108,106 @@ abbrev pub within : List Key → Entries → Bool
 within known no_entries = true
 within known (entry k t es) = is_among known k && within known es
 
-pub within-front : (ks js : List Key) (es : Entries) → within ks es ≡ true → within (ks ++ js) es ≡ true
+pub within-front : (ks js : List Key) (es : Entries) → within ks es ≡ true
+    → within (ks ++ js) es ≡ true
 within-front ks js no_entries e = refl
 within-front ks js (entry k t es) e = and_both (is_among (ks ++ js) k) (within (ks ++ js) es)
     (among-front ks js k (and_left (is_among ks k) (within ks es) e))
     (within-front ks js es (and_right (is_among ks k) (within ks es) e))
 
-pub within-back : (ks js : List Key) (es : Entries) → within js es ≡ true → within (ks ++ js) es ≡ true
+pub within-back : (ks js : List Key) (es : Entries) → within js es ≡ true
+    → within (ks ++ js) es ≡ true
 within-back ks js no_entries e = refl
 within-back ks js (entry k t es) e = and_both (is_among (ks ++ js) k) (within (ks ++ js) es)
     (among-back ks js k (and_left (is_among js k) (within js es) e))
     (within-back ks js es (and_right (is_among js k) (within js es) e))
 
-pub within-joined : (ks : List Key) (a b : Entries) → within ks a ≡ true → within ks b ≡ true → within ks (joined a b) ≡ true
+pub within-joined : (ks : List Key) (a b : Entries) → within ks a ≡ true → within ks b ≡ true
+    → within ks (joined a b) ≡ true
 within-joined ks no_entries b e f = f
 within-joined ks (entry k t es) b e f = and_both (is_among ks k) (within ks (joined es b))
     (and_left (is_among ks k) (within ks es) e)
     (within-joined ks es b (and_right (is_among ks k) (within ks es) e) f)
 
-pub lacks-joined : (key : Key) (a b : Entries) → lacks key a ≡ true → lacks key b ≡ true → lacks key (joined a b) ≡ true
+pub lacks-joined : (key : Key) (a b : Entries) → lacks key a ≡ true → lacks key b ≡ true
+    → lacks key (joined a b) ≡ true
 lacks-joined key no_entries b e f = f
 lacks-joined key (entry k t es) b e f = and_both (not (bytes_eq k key)) (lacks key (joined es b))
     (and_left (not (bytes_eq k key)) (lacks key es) e)
     (lacks-joined key es b (and_right (not (bytes_eq k key)) (lacks key es) e) f)
 
-pub lacks-within : (key : Key) (ks : List Key) (es : Entries) → within ks es ≡ true → is_among ks key ≡ false → lacks key es ≡ true
+pub lacks-within : (key : Key) (ks : List Key) (es : Entries) → within ks es ≡ true
+    → is_among ks key ≡ false → lacks key es ≡ true
 lacks-within key ks no_entries w n = refl
 lacks-within key ks (entry k t es) w n = and_both (not (bytes_eq k key)) (lacks key es)
-    (not_if (bytes_eq k key) (λ e. false≢true (sym n ∙ subst (λ j. is_among ks j ≡ true) (bytes_same k key e) (and_left (is_among ks k) (within ks es) w))))
+    (not_if (bytes_eq k key) (λ e. false≢true (sym n ∙ subst (λ j. is_among ks j ≡ true)
+    (bytes_same k key e) (and_left (is_among ks k) (within ks es) w))))
     (lacks-within key ks es (and_right (is_among ks k) (within ks es) w) n)
 
-pub lacks_all_from : (ks : List Key) (es : Entries) → ((k : Key) → is_among ks k ≡ true → lacks k es ≡ true) → lacks_all ks es ≡ true
+pub lacks_all_from : (ks : List Key) (es : Entries)
+    → ((k : Key) → is_among ks k ≡ true → lacks k es ≡ true) → lacks_all ks es ≡ true
 lacks_all_from [] es h = refl
 lacks_all_from (k ∷ ks) es h = and_both (lacks k es) (lacks_all ks es)
     (h k (or_left (bytes_eq k k) (is_among ks k) (bytes_self k)))
     (lacks_all_from ks es (λ j e. h j (or_right (bytes_eq k j) (is_among ks j) e)))
 
-pub lacks_all-within : (ks js : List Key) (es : Entries) → apart ks js ≡ true → within js es ≡ true → lacks_all ks es ≡ true
-lacks_all-within ks js es a w = lacks_all_from ks es (λ k e. lacks-within k js es w (apart_among ks js k a e))
+pub lacks_all-within : (ks js : List Key) (es : Entries) → apart ks js ≡ true → within js es ≡ true
+    → lacks_all ks es ≡ true
+lacks_all-within ks js es a w =
+    lacks_all_from ks es (λ k e. lacks-within k js es w (apart_among ks js k a e))
 
 -- WHAT IS FOUND
 
 pub nothing_found : (key : Key) (es : Entries) → lacks key es ≡ true → field_of key es ≡ None
 nothing_found key no_entries e = refl
-nothing_found key (entry k t es) e = by (bytes_eq k key) (not_false (bytes_eq k key) (and_left (not (bytes_eq k key)) (lacks key es) e)) (nothing_found key es (and_right (not (bytes_eq k key)) (lacks key es) e))
+nothing_found key (entry k t es) e = by
+    (bytes_eq k key) (not_false (bytes_eq k key) (and_left (not (bytes_eq k key)) (lacks key es) e))
+    (nothing_found key es (and_right (not (bytes_eq k key)) (lacks key es) e))
   where
-    by : (b : Bool) → b ≡ false → field_of key es ≡ None → cond (b && not (is_null t)) (Some t) (field_of key es) ≡ None
+    by : (b : Bool) → b ≡ false → field_of key es ≡ None
+        → cond (b && not (is_null t)) (Some t) (field_of key es) ≡ None
     by true f h = absurd (true≢false f)
     by false f h = h
 
-pub found : (key : Key) (t : Tree) (front tail : Entries) → lacks key front ≡ true → is_null t ≡ false → field_of key (joined front (entry key t tail)) ≡ Some t
+pub found : (key : Key) (t : Tree) (front tail : Entries) → lacks key front ≡ true
+    → is_null t ≡ false → field_of key (joined front (entry key t tail)) ≡ Some t
 found key t no_entries tail e n = by (bytes_eq key key) (is_null t) (bytes_self key) n
   where
-    by : (b c : Bool) → b ≡ true → c ≡ false → cond (b && not c) (Some t) (field_of key tail) ≡ Some t
+    by : (b c : Bool) → b ≡ true → c ≡ false
+        → cond (b && not c) (Some t) (field_of key tail) ≡ Some t
     by true true f g = absurd (true≢false g)
     by true false f g = refl
     by false c f g = absurd (false≢true f)
-found key t (entry k u es) tail e n = by (bytes_eq k key) (not_false (bytes_eq k key) (and_left (not (bytes_eq k key)) (lacks key es) e)) (found key t es tail (and_right (not (bytes_eq k key)) (lacks key es) e) n)
+found key t (entry k u es) tail e n = by
+    (bytes_eq k key) (not_false (bytes_eq k key) (and_left (not (bytes_eq k key)) (lacks key es) e))
+    (found key t es tail (and_right (not (bytes_eq k key)) (lacks key es) e) n)
   where
-    by : (b : Bool) → b ≡ false → field_of key (joined es (entry key t tail)) ≡ Some t → cond (b && not (is_null u)) (Some u) (field_of key (joined es (entry key t tail))) ≡ Some t
+    by : (b : Bool) → b ≡ false → field_of key (joined es (entry key t tail)) ≡ Some t → cond
+        (b && not (is_null u)) (Some u) (field_of key (joined es (entry key t tail))) ≡ Some t
     by true f h = absurd (true≢false f)
     by false f h = h
 
 -- a field that is found isn't null
-pub field_shown : (key : Key) (es : Entries) (t : Tree) → field_of key es ≡ Some t → is_null t ≡ false
+pub field_shown : (key : Key) (es : Entries) (t : Tree) → field_of key es ≡ Some t
+    → is_null t ≡ false
 field_shown key no_entries t e = absurd (none-some t e)
-field_shown key (entry k u es) t e = by (bytes_eq k key) (is_null u) refl e (λ g. field_shown key es t g)
+field_shown key (entry k u es) t e =
+    by (bytes_eq k key) (is_null u) refl e (λ g. field_shown key es t g)
   where
-    by : (b c : Bool) → is_null u ≡ c → cond (b && not c) (Some u) (field_of key es) ≡ Some t → (field_of key es ≡ Some t → is_null t ≡ false) → is_null t ≡ false
+    by : (b c : Bool) → is_null u ≡ c → cond (b && not c) (Some u) (field_of key es) ≡ Some t
+        → (field_of key es ≡ Some t → is_null t ≡ false) → is_null t ≡ false
     by true true f g h = h g
     by true false f g h = cc
     by false c f g h = h g
 
-pub closed_known : (known : List Key) (es : Entries) → within known es ≡ true → closed known es ≡ gives tt
+pub closed_known : (known : List Key) (es : Entries) → within known es ≡ true
+    → closed known es ≡ gives tt
 closed_known known no_entries e = refl
-closed_known known (entry k t es) e = by (is_among known k) (is_null t) (and_left (is_among known k) (within known es) e) (closed_known known es (and_right (is_among known k) (within known es) e))
+closed_known known (entry k t es) e =
+    by (is_among known k) (is_null t) (and_left (is_among known k) (within known es) e)
+    (closed_known known es (and_right (is_among known k) (within known es) e))
   where
-    by : (b c : Bool) → b ≡ true → closed known es ≡ gives tt → cond (b || c) (closed known es) (refused (shown k) UnknownField) ≡ gives tt
+    by : (b c : Bool) → b ≡ true → closed known es ≡ gives tt
+        → cond (b || c) (closed known es) (refused (shown k) UnknownField) ≡ gives tt
     by true c f h = h
     by false c f h = absurd (false≢true f)

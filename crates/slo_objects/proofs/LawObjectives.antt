@@ -1,72 +1,139 @@
 -- What was read is read again from what it is written as: policies and objectives.
-use Rattle.std.proofs.Common.{◌≡◌, ℕ, Bool, true, false, List, [], Ok, Err, cond, refl, sym, ap, ◌∙◌, subst}
-use Rattle.std.specs.Prelude.{◌||◌, codes}
+use Rattle.std.proofs.Common.{◌≡◌, ℕ, Bool, true, false, List, [], Ok, Err, cond, refl, sym, ap}
+use Rattle.std.proofs.Common.{◌∙◌, subst, zero, suc, ◌≤◌, ◌∷◌, ◌++◌, Option, Some, None, arith}
+use Rattle.std.specs.Prelude.{◌||◌, codes, decimal, is_none}
 use Rattle.std.specs.List.{AllByRecursion}
-use Rattle.std.proofs.lemmas.Bool.{false≢true}
-use Rattle.yaml_subset.specs.Tree.{Tree, mapping, sequence, scalar}
+use Rattle.std.proofs.lemmas.Bool.{false≢true, leb-true}
+use Rattle.yaml_subset.specs.Tree.{Tree, mapping, sequence, scalar, Entries}
 use Rattle.slo_objects.specs.declared.object.Object.{Object}
-use Rattle.slo_objects.specs.declared.object.Body.TheVariants as bodies
-use Rattle.slo_objects.specs.declared.kind.Kind.TheVariants as kinds
 use Rattle.slo_objects.specs.declared.slo.BudgetingMethod.{BudgetingMethod}
-use Rattle.slo_objects.specs.declared.fault.Rule.TheVariants as rules
-use Rattle.slo_objects.specs.Form.{Key, Answer, gives, refused, told, is_among, is_null, map_with, single, written_where}
-use Rattle.slo_objects.specs.Scalars.{description, text, name, boolean, op, number, percent, zone_name, one, greatest}
+use Rattle.slo_objects.specs.Form.{Key, Answer, gives, refused, told, is_among, is_null, map_with}
+use Rattle.slo_objects.specs.Form.{single, written_where, field_of, Form, run, own, required}
+use Rattle.slo_objects.specs.Form.{optional}
+use Rattle.slo_objects.specs.Scalars.{description, text, name, boolean, op, number, percent}
+use Rattle.slo_objects.specs.Scalars.{zone_name, one, greatest, name_value, percent_value, version}
+use Rattle.slo_objects.specs.Scalars.{only_kind, found_or}
 use Rattle.slo_objects.specs.Durations.{duration, leap_year}
-use Rattle.slo_objects.specs.Moments.{moment}
-use Rattle.slo_objects.specs.Inline.{reference_written}
+use Rattle.slo_objects.specs.Moments.{moment, moment_value}
+use Rattle.slo_objects.specs.Inline.{reference_written, inline_object, taken_out, inline_read}
+use Rattle.slo_objects.specs.Inline.{reference, item_read, reference_item}
 use Rattle.slo_objects.specs.AlertCondition.{condition_body}
 use Rattle.slo_objects.specs.AlertNotificationTarget.{target_body}
-use Rattle.slo_objects.specs.AlertPolicy.{at_most_one, any_number_of, condition_item, target_item, conditions, targets, alert_policy, policy_in, policy_body}
+use Rattle.slo_objects.specs.AlertPolicy.{at_most_one, any_number_of, condition_item, target_item}
+use Rattle.slo_objects.specs.AlertPolicy.{conditions, targets, alert_policy, policy_in, policy_body}
 use Rattle.slo_objects.specs.Sli.{sli_body}
-use Rattle.slo_objects.specs.Slo.{calendar, is_rolling, is_calendar_unit, time_window, method, has_slice_target, has_slices, slice_width, target, is_target, objective, one_to_five, objective_item, objectives, inline_indicator, is_inline, unrepeated, policy_form, policy_item, at_most_ten, policies, slo, slo_in, slo_body}
+use Rattle.slo_objects.specs.Slo.{calendar, is_rolling, is_calendar_unit, time_window, method}
+use Rattle.slo_objects.specs.Slo.{has_slice_target, has_slices, slice_width, target, is_target}
+use Rattle.slo_objects.specs.Slo.{objective, one_to_five, objective_item, objectives}
+use Rattle.slo_objects.specs.Slo.{inline_indicator, is_inline, unrepeated, policy_form, policy_item}
+use Rattle.slo_objects.specs.Slo.{at_most_ten, policies, slo, slo_in, slo_body, method_value}
+use Rattle.slo_objects.specs.Slo.{method_word, width_value}
 use Rattle.slo_objects.proofs.LawRows.{ok_same, err_not_ok, Back, FormLaw, RowsLaw, map_law}
-use Rattle.slo_objects.proofs.LawLines.{refused_not_ok, optional_law, required_law, required_where_law, required_unless_law}
+use Rattle.slo_objects.proofs.LawRows.{all_joined, given}
+use Rattle.slo_objects.proofs.LawLines.{refused_not_ok, optional_law, required_law}
+use Rattle.slo_objects.proofs.LawLines.{required_where_law, required_unless_law}
 use Rattle.slo_objects.proofs.LawChoices.{EitherLaw, one_of_law, holding_law}
 use Rattle.slo_objects.proofs.LawForms.{ItemLaw, map_strong, list_law, single_law, variant_law}
 use Rattle.slo_objects.proofs.LawScalars.{name_law, boolean_law, op_law, zone_law, method_law}
-use Rattle.slo_objects.proofs.LawNumbers.{number_law, percent_law, target_law, duration_law, width_law, moment_law}
-use Rattle.slo_objects.proofs.LawTables.{loose, description_line, text_line, name_line, condition_body_law, target_body_law, sli_body_law}
-use Rattle.slo_objects.proofs.LawInline.{name_ok, Own, ItemOk, inline_ok, item_ok, item_again, reference_item_law}
+use Rattle.slo_objects.proofs.LawScalars.{rule_same, rule_not_ok}
+use Rattle.slo_objects.proofs.LawNumbers.{number_law, percent_law, target_law, duration_law}
+use Rattle.slo_objects.proofs.LawNumbers.{width_law, moment_law, percent_ok, width_ok, width_most}
+use Rattle.slo_objects.proofs.LawTables.{loose, description_line, text_line, name_line}
+use Rattle.slo_objects.proofs.LawTables.{condition_body_law, target_body_law, sli_body_law, no_room}
+use Rattle.slo_objects.proofs.LawTables.{plain_map_fit, text_fit, description_fit, name_fit}
+use Rattle.slo_objects.proofs.LawTables.{zone_fit, boolean_fit, op_fit, version_fit, only_kind_fit}
+use Rattle.slo_objects.proofs.LawTables.{number_fit, duration_fit, metadata_fit, condition_body_fit}
+use Rattle.slo_objects.proofs.LawTables.{target_body_fit, sli_body_fit}
+use Rattle.slo_objects.proofs.LawInline.{name_ok, Own, ItemOk, inline_ok, item_ok, item_again}
+use Rattle.slo_objects.proofs.LawInline.{reference_item_law, field_ok, reference_ok}
+use Rattle.slo_objects.specs.declared.alert_policy.TheConstants.{ALERT_WHEN_BREACHING}
+use Rattle.slo_objects.specs.declared.alert_policy.TheConstants.{ALERT_WHEN_NO_DATA}
+use Rattle.slo_objects.specs.declared.alert_policy.TheConstants.{ALERT_WHEN_RESOLVED, CONDITIONS}
+use Rattle.slo_objects.specs.declared.alert_policy.TheConstants.{CONDITION_REF}
+use Rattle.slo_objects.specs.declared.alert_policy.TheConstants.{NOTIFICATION_TARGETS, TARGET_REF}
+use Rattle.slo_objects.specs.declared.keys.TheConstants.{DESCRIPTION, DISPLAY_NAME, OP, TARGET}
+use Rattle.slo_objects.specs.declared.keys.TheConstants.{API_VERSION, KIND, METADATA, SPEC}
+use Rattle.slo_objects.specs.declared.objective.TheConstants.{TARGET_PERCENT, TIME_SLICE_TARGET}
+use Rattle.slo_objects.specs.declared.objective.TheConstants.{TIME_SLICE_WINDOW, VALUE}
+use Rattle.slo_objects.specs.declared.slo.TheConstants.{ALERT_POLICIES, ALERT_POLICY_REF}
+use Rattle.slo_objects.specs.declared.slo.TheConstants.{BUDGETING_METHOD, INDICATOR, INDICATOR_REF}
+use Rattle.slo_objects.specs.declared.slo.TheConstants.{OBJECTIVES, SERVICE, TIME_WINDOW}
+use Rattle.slo_objects.specs.declared.window.TheConstants.{CALENDAR, DURATION, IS_ROLLING}
+use Rattle.slo_objects.specs.declared.window.TheConstants.{START_TIME, TIME_ZONE}
+use Rattle.yaml_subset.specs.Spelling.{word, quoted, no_fields, spelled, fields_spelled}
+use Rattle.yaml_subset.specs.Profile.{max_depth}
+use Rattle.yaml_subset.specs.Fits.{Fits, FitFields}
+use Rattle.exact_fraction.specs.DecimalText.{decimal_text}
+use Rattle.zone_calendar.specs.CivilText.{parts_in, parts_of, parts_text, is_moment, civil_text}
+use Rattle.zone_calendar.specs.CivilRead.{in_range, civil_of, civil_from, civil_when, civil_read}
+use Rattle.zone_calendar.specs.declared.civil.Civil.{Civil}
+use Rattle.zone_calendar.proofs.CivilLemmas.{text_of_parts}
+use Rattle.slo_objects.specs.declared.object.Body.{Body}
+use Rattle.slo_objects.specs.declared.object.Metadata.{Metadata}
+use Rattle.slo_objects.specs.declared.kind.Kind.{Kind}
+use Rattle.slo_objects.specs.declared.slo.BudgetingMethod.TheVariants.{Occurrences, Timeslices}
+use Rattle.slo_objects.specs.declared.slo.BudgetingMethod.TheVariants.{RatioTimeslices}
+use Rattle.slo_objects.specs.Metadata.{metadata, object_with}
+use Rattle.slo_objects.proofs.LawPlain.{decimal_written, width_written}
+use Rattle.slo_objects.proofs.LawFits.{own_key, own_fits, found_fits, FormFit, RowsFit, EitherFit}
+use Rattle.slo_objects.proofs.LawFits.{Within, map_fit, optional_fit, required_fit}
+use Rattle.slo_objects.proofs.LawFits.{required_where_fit, required_unless_fit, one_of_fit}
+use Rattle.slo_objects.proofs.LawFits.{holding_fit}
+use Rattle.slo_objects.proofs.LawFitForms.{variant_fit, ItemFit, list_fit, single_fit, scalar_fit}
+use Rattle.slo_objects.proofs.LawFitForms.{word_fit, name_fits}
+use Rattle.slo_objects.specs.declared.object.Body.TheVariants as bodies
+use Rattle.slo_objects.specs.declared.kind.Kind.TheVariants as kinds
+use Rattle.slo_objects.specs.declared.fault.Rule.TheVariants as rules
 
 abbrev boolean_line : (P : Object → Type 0) → FormLaw P boolean
 boolean_line P = loose P boolean (boolean_law P)
 
 -- POLICIES
 
-conditions_law : (P : Object → Type 0) → Own P kinds.AlertCondition condition_body → FormLaw P conditions
-conditions_law P own = loose P conditions (list_law P at_most_one condition_item (reference_written (codes "conditionRef")) (reference_item_law P (codes "conditionRef") kinds.AlertCondition condition_body (condition_body_law P) own))
+conditions_law : (P : Object → Type 0) → Own P kinds.AlertCondition condition_body
+    → FormLaw P conditions
+conditions_law P own = loose P conditions
+    (list_law P at_most_one condition_item (reference_written CONDITION_REF.now) (reference_item_law
+    P CONDITION_REF.now kinds.AlertCondition condition_body (condition_body_law P) own))
 
-targets_law : (P : Object → Type 0) → Own P kinds.AlertNotificationTarget target_body → FormLaw P targets
-targets_law P own = loose P targets (list_law P any_number_of target_item (reference_written (codes "targetRef")) (reference_item_law P (codes "targetRef") kinds.AlertNotificationTarget target_body (target_body_law P) own))
+targets_law : (P : Object → Type 0) → Own P kinds.AlertNotificationTarget target_body
+    → FormLaw P targets
+targets_law P own = loose P targets
+    (list_law P any_number_of target_item (reference_written TARGET_REF.now) (reference_item_law P
+    TARGET_REF.now kinds.AlertNotificationTarget target_body (target_body_law P) own))
 
-pub policy_law : (P : Object → Type 0) → Own P kinds.AlertCondition condition_body → Own P kinds.AlertNotificationTarget target_body → RowsLaw P [] alert_policy
+pub policy_law : (P : Object → Type 0) → Own P kinds.AlertCondition condition_body
+    → Own P kinds.AlertNotificationTarget target_body → RowsLaw P [] alert_policy
 unfolding alert_policy
 policy_law P own_condition own_target = (
-  optional_law P (codes "description") description (description_line P),
+  optional_law P DESCRIPTION.now description (description_line P),
   λ d. (
     refl,
     λ n r b c t. refl,
     (
-      optional_law P (codes "alertWhenNoData") boolean (boolean_line P),
+      optional_law P ALERT_WHEN_NO_DATA.now boolean (boolean_line P),
       λ n. (
         refl,
         λ r b c t. refl,
         (
-          optional_law P (codes "alertWhenResolved") boolean (boolean_line P),
+          optional_law P ALERT_WHEN_RESOLVED.now boolean (boolean_line P),
           λ r. (
             refl,
             λ b c t. refl,
             (
-              optional_law P (codes "alertWhenBreaching") boolean (boolean_line P),
+              optional_law P ALERT_WHEN_BREACHING.now boolean (boolean_line P),
               λ b. (
                 refl,
                 λ c t. refl,
                 (
-                  optional_law P (codes "conditions") conditions (conditions_law P own_condition),
+                  optional_law P CONDITIONS.now conditions (conditions_law P own_condition),
                   λ c. (
                     refl,
                     λ t. refl,
-                    (optional_law P (codes "notificationTargets") targets (targets_law P own_target), λ t. (refl, refl, tt)),
+                    (
+                      optional_law P NOTIFICATION_TARGETS.now targets (targets_law P own_target),
+                      λ t. (refl, refl, tt),
+                    ),
                   ),
                 ),
               ),
@@ -78,40 +145,51 @@ policy_law P own_condition own_target = (
   ),
 )
 
-pub policy_body_law : (P : Object → Type 0) → Own P kinds.AlertCondition condition_body → Own P kinds.AlertNotificationTarget target_body → FormLaw P policy_body
-policy_body_law P c t = variant_law P (map_with alert_policy) bodies.AlertPolicy (written_where (map_with alert_policy) policy_in) (λ a. refl) (map_law P alert_policy (policy_law P c t))
+pub policy_body_law : (P : Object → Type 0) → Own P kinds.AlertCondition condition_body
+    → Own P kinds.AlertNotificationTarget target_body → FormLaw P policy_body
+policy_body_law P c t = variant_law P (map_with alert_policy)
+    bodies.AlertPolicy (written_where (map_with alert_policy) policy_in) (λ a. refl)
+    (map_law P alert_policy (policy_law P c t))
 
 -- OBJECTIVES
 
 pub calendar_law : (P : Object → Type 0) → RowsLaw P [] calendar
 unfolding calendar
 calendar_law P = (
-  required_law P (codes "startTime") moment (loose P moment (moment_law P)),
+  required_law P START_TIME.now moment (loose P moment (moment_law P)),
   λ s. (
     refl,
     λ z. refl,
-    (required_law P (codes "timeZone") zone_name (loose P zone_name (zone_law P)), λ z. (refl, refl, tt)),
+    (
+      required_law P TIME_ZONE.now zone_name (loose P zone_name (zone_law P)),
+      λ z. (refl, refl, tt),
+    ),
   ),
 )
 
 pub window_law : (P : Object → Type 0) → RowsLaw P [] time_window
 unfolding time_window
 window_law P = (
-  required_law P (codes "duration") (duration 1 leap_year) (loose P (duration 1 leap_year) (duration_law P 1 leap_year)),
+  required_law P DURATION.now (duration 1 leap_year)
+      (loose P (duration 1 leap_year) (duration_law P 1 leap_year)),
   λ d. (
     refl,
     λ r u c. refl,
     (
-      optional_law P (codes "isRolling") boolean (boolean_line P),
+      optional_law P IS_ROLLING.now boolean (boolean_line P),
       λ r. (
         refl,
         λ u c. refl,
         (
-          holding_law P (is_rolling r || is_calendar_unit d.unit) (codes "duration") rules.OutOfRange,
+          holding_law P (is_rolling r || is_calendar_unit d.unit) DURATION.now rules.OutOfRange,
           λ u. (
             refl,
             λ c. refl,
-            (required_unless_law P (is_rolling r) (codes "calendar") (map_with calendar) (map_law P calendar (calendar_law P)), λ c. (refl, refl, tt)),
+            (
+              required_unless_law P (is_rolling r) CALENDAR.now (map_with calendar)
+                  (map_law P calendar (calendar_law P)),
+              λ c. (refl, refl, tt),
+            ),
           ),
         ),
       ),
@@ -119,34 +197,42 @@ window_law P = (
   ),
 )
 
-pub objective_law : (P : Object → Type 0) (method : BudgetingMethod) → RowsLaw P [] (objective method)
+pub objective_law : (P : Object → Type 0) (method : BudgetingMethod)
+    → RowsLaw P [] (objective method)
 unfolding objective
 objective_law P method = (
-  optional_law P (codes "displayName") text (text_line P),
+  optional_law P DISPLAY_NAME.now text (text_line P),
   λ d. (
     refl,
     λ o v t s w. refl,
     (
-      optional_law P (codes "op") op (loose P op (op_law P)),
+      optional_law P OP.now op (loose P op (op_law P)),
       λ o. (
         refl,
         λ v t s w. refl,
         (
-          optional_law P (codes "value") (number 0 greatest) (loose P (number 0 greatest) (number_law P 0 greatest)),
+          optional_law P VALUE.now (number 0 greatest)
+              (loose P (number 0 greatest) (number_law P 0 greatest)),
           λ v. (
             refl,
             λ t s w. refl,
             (
-              one_of_law P (codes "target") target (codes "targetPercent") percent is_target refl refl (target_law P) (percent_law P),
+              one_of_law P TARGET.now target TARGET_PERCENT.now percent is_target refl refl
+                  (target_law P) (percent_law P),
               λ t. (
                 refl,
                 λ s w. refl,
                 (
-                  required_where_law P (has_slice_target method) (codes "timeSliceTarget") (number 1 one) (loose P (number 1 one) (number_law P 1 one)),
+                  required_where_law P (has_slice_target method) TIME_SLICE_TARGET.now
+                      (number 1 one) (loose P (number 1 one) (number_law P 1 one)),
                   λ s. (
                     refl,
                     λ w. refl,
-                    (required_where_law P (has_slices method) (codes "timeSliceWindow") slice_width (loose P slice_width (width_law P)), λ w. (refl, refl, tt)),
+                    (
+                      required_where_law P (has_slices method) TIME_SLICE_WINDOW.now slice_width
+                          (loose P slice_width (width_law P)),
+                      λ w. (refl, refl, tt),
+                    ),
                   ),
                 ),
               ),
@@ -159,92 +245,123 @@ objective_law P method = (
 )
 
 objectives_law : (P : Object → Type 0) (method : BudgetingMethod) → FormLaw P (objectives method)
-objectives_law P method = loose P (objectives method) (list_law P one_to_five (objective_item method) (map_with (objective method)).write
-    (λ key before t y e. let back = map_strong P (objective method) (objective_law P method) key t y e in record { again = back.again; taken = back.taken }))
+objectives_law P method = loose P (objectives method)
+    (list_law P one_to_five (objective_item method) (map_with (objective method)).write
+    (λ key before t y e. let back = map_strong P (objective method) (objective_law P method) key t y
+    e in record { again = back.again; taken = back.taken }))
 
 -- the indicator, which is written as a reference
 
-name_back : (P : Object → Type 0) (t : Tree) (y : List Object × List ℕ) → ItemOk P y → Back P (List ℕ) name t y
+name_back : (P : Object → Type 0) (t : Tree) (y : List Object × List ℕ) → ItemOk P y
+    → Back P (List ℕ) name t y
 name_back P t y h = record { again = λ k. ap (told k) h.is_name; shown = refl; taken = h.taken }
 
-inline_indicator_law : (P : Object → Type 0) → Own P kinds.Sli sli_body → EitherLaw P inline_indicator inline_indicator name is_inline
-inline_indicator_law P own key (mapping es) y n e = let h = inline_ok P kinds.Sli sli_body (sli_body_law P) own es y e in
-    record { first = λ f. absurd (false≢true f); second = λ _. name_back P (mapping es) y h; both_taken = h.taken }
+inline_indicator_law : (P : Object → Type 0) → Own P kinds.Sli sli_body
+    → EitherLaw P inline_indicator inline_indicator name is_inline
+inline_indicator_law P own key (mapping es) y n e = let h =
+    inline_ok P kinds.Sli sli_body (sli_body_law P) own es y e in
+    record {
+      first = λ f. absurd (false≢true f);
+      second = λ _. name_back P (mapping es) y h;
+      both_taken = h.taken;
+    }
 inline_indicator_law P own key (sequence ts) y n e = refused_not_ok key rules.NotMap y e
 inline_indicator_law P own key (scalar bytes plain) y n e = refused_not_ok key rules.NotMap y e
 
 named_indicator_law : (P : Object → Type 0) → EitherLaw P name inline_indicator name is_inline
-named_indicator_law P key t y n e = let back = name_law P key t y e in record { first = λ f. absurd (false≢true f); second = λ _. back; both_taken = back.taken }
+named_indicator_law P key t y n e = let back = name_law P key t y e in
+    record { first = λ f. absurd (false≢true f); second = λ _. back; both_taken = back.taken }
 
 -- the policies
 
-pub policy_ok : (P : Object → Type 0) → FormLaw P policy_body → Own P kinds.AlertPolicy policy_body → (key : Key) (t : Tree) (y : List Object × List ℕ) → policy_form key t ≡ Ok y → ItemOk P y
-policy_ok P law own key (mapping es) y e = item_ok P (codes "alertPolicyRef") kinds.AlertPolicy policy_body law own es y e
+pub policy_ok : (P : Object → Type 0) → FormLaw P policy_body → Own P kinds.AlertPolicy policy_body
+    → (key : Key) (t : Tree) (y : List Object × List ℕ) → policy_form key t ≡ Ok y → ItemOk P y
+policy_ok P law own key (mapping es) y e =
+    item_ok P ALERT_POLICY_REF.now kinds.AlertPolicy policy_body law own es y e
 policy_ok P law own key (sequence ts) y e = refused_not_ok key rules.NotMap y e
 policy_ok P law own key (scalar text plain) y e = by (is_null (scalar text plain)) e
   where
-    by : (b : Bool) → cond b (refused key rules.BadName) (name.read key (scalar text plain)) ≡ Ok y → ItemOk P y
+    by : (b : Bool) → cond b (refused key rules.BadName) (name.read key (scalar text plain)) ≡ Ok y
+        → ItemOk P y
     by true f = refused_not_ok key rules.BadName y f
-    by false f = let k = name_ok key (scalar text plain) y f in record { is_name = k.is_name; taken = subst (AllByRecursion P) (sym k.alone) tt }
+    by false f = let k = name_ok key (scalar text plain) y f in
+        record { is_name = k.is_name; taken = subst (AllByRecursion P) (sym k.alone) tt }
 
 -- what is known of a name that isn't repeated
 pub record NewOk (before : List Key) (a : Answer Key) (y : List Object × Key) : Type 0 where
   pub is_read : a ≡ Ok y
   pub is_new : is_among before y.1 ≡ false
 
-pub new_ok : (listed : Key) (before : List Key) (a : Answer Key) (y : List Object × Key) → unrepeated listed before a ≡ Ok y → NewOk before a y
+pub new_ok : (listed : Key) (before : List Key) (a : Answer Key) (y : List Object × Key)
+    → unrepeated listed before a ≡ Ok y → NewOk before a y
 new_ok listed before (Ok p) y e = by (is_among before p.1) refl e
   where
-    by : (b : Bool) → is_among before p.1 ≡ b → cond b (refused listed rules.Repeated) (Ok p) ≡ Ok y → NewOk before (Ok p) y
+    by : (b : Bool) → is_among before p.1 ≡ b → cond b (refused listed rules.Repeated) (Ok p) ≡ Ok y
+        → NewOk before (Ok p) y
     by true f g = refused_not_ok listed rules.Repeated y g
-    by false f g = let s = ok_same p y g in record { is_read = ap Ok s; is_new = ap (λ z. is_among before z.1) (sym s) ∙ f }
+    by false f g = let s = ok_same p y g in
+        record { is_read = ap Ok s; is_new = ap (λ z. is_among before z.1) (sym s) ∙ f }
 new_ok listed before (Err f) y e = absurd (err_not_ok f y e)
 
-policy_item_law : (P : Object → Type 0) → FormLaw P policy_body → Own P kinds.AlertPolicy policy_body → ItemLaw P policy_item (reference_written (codes "alertPolicyRef"))
+policy_item_law : (P : Object → Type 0)
+    → FormLaw P policy_body → Own P kinds.AlertPolicy policy_body
+    → ItemLaw P policy_item (reference_written ALERT_POLICY_REF.now)
 policy_item_law P law own key before t y e =
     let new = new_ok key before (policy_form key t) y e in
     let h = policy_ok P law own key t y new.is_read in
     record {
-      again = λ k. ap (unrepeated k before) (item_again (codes "alertPolicyRef") kinds.AlertPolicy policy_body y.1 h.is_name) ∙ ap (λ b. cond b (refused k rules.Repeated) (gives y.1)) new.is_new;
+      again = λ k. ap (unrepeated k before)
+          (item_again ALERT_POLICY_REF.now kinds.AlertPolicy policy_body y.1 h.is_name)
+          ∙ ap (λ b. cond b (refused k rules.Repeated) (gives y.1)) new.is_new;
       taken = h.taken;
     }
 
-policies_law : (P : Object → Type 0) → FormLaw P policy_body → Own P kinds.AlertPolicy policy_body → FormLaw P policies
-policies_law P law own = loose P policies (list_law P at_most_ten policy_item (reference_written (codes "alertPolicyRef")) (policy_item_law P law own))
+policies_law : (P : Object → Type 0) → FormLaw P policy_body → Own P kinds.AlertPolicy policy_body
+    → FormLaw P policies
+policies_law P law own = loose P policies (list_law P at_most_ten policy_item
+    (reference_written ALERT_POLICY_REF.now) (policy_item_law P law own))
 
-pub slo_law : (P : Object → Type 0) → FormLaw P policy_body → Own P kinds.AlertPolicy policy_body → Own P kinds.Sli sli_body → RowsLaw P [] slo
+pub slo_law : (P : Object → Type 0) → FormLaw P policy_body → Own P kinds.AlertPolicy policy_body
+    → Own P kinds.Sli sli_body → RowsLaw P [] slo
 unfolding slo
 slo_law P policy_body_law own_policy own_sli = (
-  optional_law P (codes "description") description (description_line P),
+  optional_law P DESCRIPTION.now description (description_line P),
   λ d. (
     refl,
     λ s i t m o p. refl,
     (
-      required_law P (codes "service") name (name_line P),
+      required_law P SERVICE.now name (name_line P),
       λ s. (
         refl,
         λ i t m o p. refl,
         (
-          one_of_law P (codes "indicator") inline_indicator (codes "indicatorRef") name is_inline refl refl (inline_indicator_law P own_sli) (named_indicator_law P),
+          one_of_law P INDICATOR.now inline_indicator INDICATOR_REF.now name is_inline refl refl
+              (inline_indicator_law P own_sli) (named_indicator_law P),
           λ i. (
             refl,
             λ t m o p. refl,
             (
-              required_law P (codes "timeWindow") (single (map_with time_window)) (loose P (single (map_with time_window)) (single_law P (map_with time_window) (map_strong P time_window (window_law P)))),
+              required_law P TIME_WINDOW.now (single (map_with time_window))
+                  (loose P (single (map_with time_window)) (single_law P (map_with time_window)
+                  (map_strong P time_window (window_law P)))),
               λ t. (
                 refl,
                 λ m o p. refl,
                 (
-                  required_law P (codes "budgetingMethod") method (loose P method (method_law P)),
+                  required_law P BUDGETING_METHOD.now method (loose P method (method_law P)),
                   λ m. (
                     refl,
                     λ o p. refl,
                     (
-                      required_law P (codes "objectives") (objectives m) (objectives_law P m),
+                      required_law P OBJECTIVES.now (objectives m) (objectives_law P m),
                       λ o. (
                         refl,
                         λ p. refl,
-                        (optional_law P (codes "alertPolicies") policies (policies_law P policy_body_law own_policy), λ p. (refl, refl, tt)),
+                        (
+                          optional_law P ALERT_POLICIES.now policies
+                              (policies_law P policy_body_law own_policy),
+                          λ p. (refl, refl, tt),
+                        ),
                       ),
                     ),
                   ),
@@ -258,5 +375,337 @@ slo_law P policy_body_law own_policy own_sli = (
   ),
 )
 
-pub slo_body_law : (P : Object → Type 0) → FormLaw P policy_body → Own P kinds.AlertPolicy policy_body → Own P kinds.Sli sli_body → FormLaw P slo_body
-slo_body_law P law p s = variant_law P (map_with slo) bodies.Slo (written_where (map_with slo) slo_in) (λ a. refl) (map_law P slo (slo_law P law p s))
+pub slo_body_law : (P : Object → Type 0) → FormLaw P policy_body
+    → Own P kinds.AlertPolicy policy_body → Own P kinds.Sli sli_body → FormLaw P slo_body
+slo_body_law P law p s = variant_law P (map_with slo) bodies.Slo
+    (written_where (map_with slo) slo_in) (λ a. refl) (map_law P slo (slo_law P law p s))
+
+-- WHAT IS WRITTEN OF A NODE THAT CAN BE WRITTEN CAN BE WRITTEN: REFERENCES, OBJECTS THAT STOOD
+-- INLINE, POLICIES AND OBJECTIVES
+
+abbrev Any : Object → Type 0
+Any o = Unit {0}
+
+any_own : (k : Kind) (body : Form Body) → Own Any k body
+any_own k body tm ts m b nm ns em eb = tt
+
+-- a form that needs no room needs none where there is some
+pub roomy : {A : Type 0} (Q : Object → Type 0) (room : ℕ) (f : Form A) → FormFit Q 0 f
+    → FormFit Q room f
+roomy Q room f fit key t y e d h m ft = fit key t y e d (omega arith) m ft
+
+-- OBJECTS THAT STOOD INLINE
+
+-- what is to hold of each object that stood inline
+abbrev pub OwnFit : (Q : Object → Type 0) → Kind → Form Body → Type 0
+OwnFit Q kind body = (tm ts : Tree) (m : List Object × Metadata) (b : List Object × Body)
+    → (map_with metadata).read METADATA.now tm ≡ Ok m → body.read SPEC.now ts ≡ Ok b
+    → (d : ℕ) → suc d ≤ max_depth → Fits d (spelled tm) → Fits d (spelled ts)
+    → Q (object_with kind m.1 b.1)
+
+taken_fit : (Q : Object → Type 0) (a : Answer Object) (y : List Object × List ℕ)
+    → ((p : List Object × Object) → a ≡ Ok p → AllByRecursion Q (p.0 ++ p.1 ∷ []))
+    → taken_out a ≡ Ok y → AllByRecursion Q y.0
+taken_fit Q (Ok p) y h e =
+    subst (AllByRecursion Q) (ap (λ z. z.0) (ok_same (p.0 ++ p.1 ∷ [], p.1.name) y e)) (h p refl)
+taken_fit Q (Err f) y h e = absurd (err_not_ok f y e)
+
+inline_fit : (Q : Object → Type 0) (kind : Kind) (body : Form Body)
+    → FormFit Q 0 body → OwnFit Q kind body → (es : Entries) (y : List Object × List ℕ)
+    → inline_read kind body es ≡ Ok y
+    → (d : ℕ) → suc d ≤ max_depth → FitFields d (fields_spelled es) → AllByRecursion Q y.0
+unfolding inline_object
+inline_fit Q kind body fit own es y e d h fe = taken_fit Q (run (inline_object kind body) [] es)
+    y (λ p g. given (inline_object kind body) es [] (λ os o. AllByRecursion Q (os ++ o ∷ []))
+    (λ v ev k ek m em s es2. parts v ev k ek m em s es2) [] p g) e
+  where
+    low : d ≤ max_depth
+    low = omega arith
+
+    none : 0 ≤ d
+    none = omega arith
+
+    parts : (v : List Object × Option (Unit {0}))
+        → (optional API_VERSION.now version).read es ≡ Ok v
+        → (k : List Object × Option (Unit {0}))
+        → (optional KIND.now (only_kind kind)).read es ≡ Ok k
+        → (m : List Object × Metadata) → (required METADATA.now (map_with metadata)).read es ≡ Ok m
+        → (s : List Object × Body) → (required SPEC.now body).read es ≡ Ok s
+        → AllByRecursion Q ((([] ++ v.0) ++ k.0 ++ m.0 ++ s.0) ++ object_with kind m.1 s.1 ∷ [])
+    parts v ev k ek m em s es2 =
+        let fm = field_ok METADATA.now (map_with metadata) es m em in
+        let fs = field_ok SPEC.now body es s es2 in
+        let ftm = found_fits d METADATA.now es fm.value fm.found fe in
+        let fts = found_fits d SPEC.now es fs.value fs.found fe in
+        let tv = (optional_fit Q 0 API_VERSION.now version refl (version_fit Q 0) es v ev d none low
+        fe no_fields tt refl).1 in
+        let tk = (optional_fit Q 0 KIND.now (only_kind kind) refl (only_kind_fit Q 0 kind) es k ek d
+        none low fe no_fields tt refl).1 in
+        let tm = (metadata_fit Q METADATA.now fm.value m fm.is_read d none low ftm).1 in
+        let ts = (fit SPEC.now fs.value s fs.is_read d none low fts).1 in
+        let o = own fm.value fs.value m s fm.is_read fs.is_read d h ftm fts in
+        all_joined Q (([] ++ v.0) ++ k.0 ++ m.0 ++ s.0) (object_with kind m.1 s.1 ∷ [])
+        (all_joined Q (([] ++ v.0) ++ k.0 ++ m.0) s.0 (all_joined Q (([] ++ v.0) ++ k.0) m.0
+        (all_joined Q ([] ++ v.0) k.0 tv tk) tm) ts) (o, tt)
+
+-- REFERENCES
+
+reference_fits : (key : Key) (n : List ℕ) (d : ℕ) → own_key key ≡ true → name_value n ≡ Ok n
+    → FitFields d (own key (quoted n) no_fields)
+reference_fits key n d k e = own_fits d key (quoted n) no_fields k refl (name_fits n e d) tt
+
+item_taken : (Q : Object → Type 0) (key : Key) (kind : Kind) (body : Form Body)
+    → FormFit Q 0 body → OwnFit Q kind body → (es : Entries) (y : List Object × List ℕ)
+    → item_read key kind body es ≡ Ok y → (d : ℕ) → suc d ≤ max_depth
+    → FitFields d (fields_spelled es) → AllByRecursion Q y.0
+item_taken Q key kind body fit own es y e d h fe = by (is_none (field_of key es)) e
+  where
+    by : (b : Bool) → cond b (inline_read kind body es) (run (reference key) [] es) ≡ Ok y
+        → AllByRecursion Q y.0
+    by true f = inline_fit Q kind body fit own es y f d h fe
+    by false f = (reference_ok Q key es y f).taken
+
+reference_item_fit : (Q : Object → Type 0) (key : Key) (kind : Kind) (body : Form Body)
+    → own_key key ≡ true → FormLaw Any body → FormFit Q 0 body → OwnFit Q kind body
+    → ItemFit Q 0 (reference_item key kind body) (reference_written key)
+reference_item_fit Q key kind body k law fit own listed before (mapping es) y e zero h m ft =
+    absurd ft
+reference_item_fit Q key kind body k law fit own listed before (mapping es) y e (suc d) h m ft = (
+  reference_fits key y.1 d k (item_ok Any key kind body law (any_own kind body) es y e).is_name,
+  item_taken Q key kind body fit own es y e d m ft,
+)
+reference_item_fit Q key kind body k law fit own listed before (sequence ts) y e d h m ft =
+    refused_not_ok listed rules.NotMap y e
+reference_item_fit Q key kind body k law fit own listed before (scalar bytes plain) y e d h m ft =
+    refused_not_ok listed rules.NotMap y e
+
+-- POLICIES
+
+policy_rows : (Q : Object → Type 0) → OwnFit Q kinds.AlertCondition condition_body
+    → OwnFit Q kinds.AlertNotificationTarget target_body → RowsFit Q 0 alert_policy
+unfolding alert_policy
+policy_rows Q own_condition own_target = (
+  optional_fit Q 0 DESCRIPTION.now description refl (description_fit Q 0),
+  λ d. (
+    optional_fit Q 0 ALERT_WHEN_NO_DATA.now boolean refl (boolean_fit Q 0),
+    λ n. (
+      optional_fit Q 0 ALERT_WHEN_RESOLVED.now boolean refl (boolean_fit Q 0),
+      λ r. (
+        optional_fit Q 0 ALERT_WHEN_BREACHING.now boolean refl (boolean_fit Q 0),
+        λ b. (
+          optional_fit Q 0 CONDITIONS.now conditions refl (list_fit Q 0 0 at_most_one condition_item
+              (reference_written CONDITION_REF.now) no_room
+              (reference_item_fit Q CONDITION_REF.now kinds.AlertCondition condition_body refl
+              (condition_body_law Any) (condition_body_fit Q) own_condition)),
+          λ c. (
+            optional_fit Q 0 NOTIFICATION_TARGETS.now targets refl
+                (list_fit Q 0 0 any_number_of target_item (reference_written TARGET_REF.now) no_room
+                (reference_item_fit Q TARGET_REF.now kinds.AlertNotificationTarget target_body refl
+                (target_body_law Any) (target_body_fit Q) own_target)),
+            λ t. tt,
+          ),
+        ),
+      ),
+    ),
+  ),
+)
+
+any_policy_law : RowsLaw Any [] alert_policy
+any_policy_law = policy_law Any (any_own kinds.AlertCondition condition_body)
+    (any_own kinds.AlertNotificationTarget target_body)
+
+any_policy_body_law : FormLaw Any policy_body
+any_policy_body_law = policy_body_law Any (any_own kinds.AlertCondition condition_body)
+    (any_own kinds.AlertNotificationTarget target_body)
+
+pub policy_body_fit : (Q : Object → Type 0) → OwnFit Q kinds.AlertCondition condition_body
+    → OwnFit Q kinds.AlertNotificationTarget target_body → FormFit Q 0 policy_body
+policy_body_fit Q c t = variant_fit Q 0 (map_with alert_policy)
+    bodies.AlertPolicy (written_where (map_with alert_policy) policy_in) (λ a. refl)
+    (plain_map_fit Q alert_policy any_policy_law (policy_rows Q c t))
+
+-- MOMENTS, WIDTHS AND PERCENTAGES
+
+moment_same : (bytes : List ℕ) (m : Civil) → moment_value bytes ≡ Ok m → bytes ≡ civil_text m
+unfolding moment_value civil_read
+moment_same bytes m e = (elim (parts_in bytes) as (λ o. parts_in bytes ≡ o
+    → found_or rules.NotMoment (civil_when o) ≡ Ok m → bytes ≡ civil_text m) [
+      | None ↦ λ f g. rule_not_ok rules.NotMoment m g
+      | Some p ↦ λ f g. text_of_parts bytes p f ∙ ap parts_text ((elim (is_moment p) as (λ b.
+          (h : is_moment p ≡ b) → found_or rules.NotMoment (civil_from p b h) ≡ Ok m
+          → p ≡ parts_of m) [
+            | true ↦ λ h k. ap parts_of (rule_same (civil_of p (in_range p h)) m k)
+            | false ↦ λ h k. rule_not_ok rules.NotMoment m k
+          ]) refl g)
+    ]) refl e
+
+moment_fit : (Q : Object → Type 0) (room : ℕ) → FormFit Q room moment
+moment_fit Q room = scalar_fit Q room rules.NotMoment moment_value (λ m. quoted (civil_text m))
+    (λ t m e u q d. subst (λ z. Fits d (quoted z)) (moment_same t m e) (u, q))
+
+width_fit : (Q : Object → Type 0) (room : ℕ) → FormFit Q room slice_width
+width_fit Q room = scalar_fit Q room rules.NotDuration width_value (λ n. word (decimal n))
+    (λ t n e u q d. width_written n (leb-true n 60 (width_most n (width_ok t n e))))
+
+percent_fit : (Q : Object → Type 0) (room : ℕ) → FormFit Q room percent
+percent_fit Q room = scalar_fit Q room rules.NotNumber percent_value (λ n. word (decimal_text n))
+    (λ t n e u q d. decimal_written n (percent_ok t n e).bound)
+
+target_either : (Q : Object → Type 0) (room : ℕ) → EitherFit Q room target target percent is_target
+target_either Q room key t y e d h m ft = let r =
+    number_fit Q room 0 999_999_999 key t y e d h m ft in (λ _. r.0, λ _. r.0, r.1)
+
+percent_either : (Q : Object → Type 0) (room : ℕ)
+    → EitherFit Q room percent target percent is_target
+percent_either Q room key t y e d h m ft = let r = percent_fit Q room key t y e d h m ft in
+    (λ _. r.0, λ _. r.0, r.1)
+
+method_fit : (Q : Object → Type 0) (room : ℕ) → FormFit Q room method
+method_fit Q room =
+    scalar_fit Q room rules.BadWord method_value (λ m. word (method_word m)) (λ t k e u q d. by k d)
+  where
+    by : (k : BudgetingMethod) (d : ℕ) → Fits d (word (method_word k))
+    by Occurrences d = word_fit (codes "Occurrences") d refl refl
+    by Timeslices d = word_fit (codes "Timeslices") d refl refl
+    by RatioTimeslices d = word_fit (codes "RatioTimeslices") d refl refl
+
+-- OBJECTIVES
+
+calendar_rows : (Q : Object → Type 0) → RowsFit Q 0 calendar
+unfolding calendar
+calendar_rows Q = (
+  required_fit Q 0 START_TIME.now moment refl (moment_fit Q 0),
+  λ s. (required_fit Q 0 TIME_ZONE.now zone_name refl (zone_fit Q 0), λ z. tt),
+)
+
+window_rows : (Q : Object → Type 0) → RowsFit Q 0 time_window
+unfolding time_window
+window_rows Q = (
+  required_fit Q 0 DURATION.now (duration 1 leap_year) refl (duration_fit Q 0 1 leap_year),
+  λ d. (
+    optional_fit Q 0 IS_ROLLING.now boolean refl (boolean_fit Q 0),
+    λ r. (
+      holding_fit Q 0 (is_rolling r || is_calendar_unit d.unit) DURATION.now rules.OutOfRange,
+      λ u. (
+        required_unless_fit Q 0 (is_rolling r) CALENDAR.now (map_with calendar) refl
+            (plain_map_fit Q calendar (calendar_law Any) (calendar_rows Q)),
+        λ c. tt,
+      ),
+    ),
+  ),
+)
+
+objective_rows : (Q : Object → Type 0) (method : BudgetingMethod) → RowsFit Q 0 (objective method)
+unfolding objective
+objective_rows Q method = (
+  optional_fit Q 0 DISPLAY_NAME.now text refl (text_fit Q 0),
+  λ d. (
+    optional_fit Q 0 OP.now op refl (op_fit Q 0),
+    λ o. (
+      optional_fit Q 0 VALUE.now (number 0 greatest) refl (number_fit Q 0 0 greatest),
+      λ v. (
+        one_of_fit Q 0 TARGET.now target TARGET_PERCENT.now percent is_target refl refl
+            (target_either Q 0) (percent_either Q 0),
+        λ t. (
+          required_where_fit Q 0 (has_slice_target method) TIME_SLICE_TARGET.now (number 1 one) refl
+              (number_fit Q 0 1 one),
+          λ s. (
+            required_where_fit Q 0 (has_slices method) TIME_SLICE_WINDOW.now slice_width refl
+                (width_fit Q 0),
+            λ w. tt,
+          ),
+        ),
+      ),
+    ),
+  ),
+)
+
+objectives_fit : (Q : Object → Type 0) (method : BudgetingMethod) → FormFit Q 0 (objectives method)
+objectives_fit Q method =
+    list_fit Q 0 0 one_to_five (objective_item method) (map_with (objective method)).write no_room
+    (λ key before t y e d h m ft. plain_map_fit Q (objective method) (objective_law Any method)
+    (objective_rows Q method) key t y e d h m ft)
+
+inline_indicator_fit : (Q : Object → Type 0) (room : ℕ) → OwnFit Q kinds.Sli sli_body
+    → EitherFit Q room inline_indicator inline_indicator name is_inline
+inline_indicator_fit Q room own key (mapping es) y e zero h m ft = absurd ft
+inline_indicator_fit Q room own key (mapping es) y e (suc d) h m ft = let n =
+    name_fits y.1 (inline_ok Any kinds.Sli sli_body (sli_body_law Any) (any_own kinds.Sli sli_body)
+    es y e).is_name (suc d) in
+    (λ _. n, λ _. n, inline_fit Q kinds.Sli sli_body (sli_body_fit Q) own es y e d m ft)
+inline_indicator_fit Q room own key (sequence ts) y e d h m ft = refused_not_ok key rules.NotMap y e
+inline_indicator_fit Q room own key (scalar bytes plain) y e d h m ft =
+    refused_not_ok key rules.NotMap y e
+
+named_indicator_fit : (Q : Object → Type 0) (room : ℕ)
+    → EitherFit Q room name inline_indicator name is_inline
+named_indicator_fit Q room key t y e d h m ft = let r = name_fit Q room key t y e d h m ft in
+    (λ _. r.0, λ _. r.0, r.1)
+
+-- an item of the policies, which is written as a map also where it is a name
+policy_item_fit : (Q : Object → Type 0)
+    → FormFit Q 0 policy_body → OwnFit Q kinds.AlertPolicy policy_body
+    → ItemFit Q 1 policy_item (reference_written ALERT_POLICY_REF.now)
+policy_item_fit Q fit own key before t y e zero h m ft = absurd (let k = h in omega arith)
+policy_item_fit Q fit own key before t y e (suc d) h m ft = let new =
+    (new_ok key before (policy_form key t) y e).is_read in (
+      reference_fits ALERT_POLICY_REF.now y.1 d refl (policy_ok Any any_policy_body_law
+          (any_own kinds.AlertPolicy policy_body) key t y new).is_name,
+      taken t new ft,
+    )
+  where
+    taken : (t : Tree) → policy_form key t ≡ Ok y → Fits (suc d) (spelled t) → AllByRecursion Q y.0
+    taken (mapping es) f g =
+        item_taken Q ALERT_POLICY_REF.now kinds.AlertPolicy policy_body fit own es y f d m g
+    taken (sequence ts) f g = refused_not_ok key rules.NotMap y f
+    taken (scalar bytes plain) f g = by (is_null (scalar bytes plain)) f
+      where
+        by : (b : Bool) → cond b (refused key rules.BadName) (name.read key (scalar bytes plain))
+            ≡ Ok y → AllByRecursion Q y.0
+        by true i = refused_not_ok key rules.BadName y i
+        by false i = (name_fit Q 0 key (scalar bytes plain) y i (suc d) (omega arith) m g).1
+
+two_levels : Within 2 1
+two_levels d h = omega arith
+
+three_levels : Within 3 2
+three_levels d h = omega arith
+
+slo_rows : (Q : Object → Type 0) → FormFit Q 0 policy_body → OwnFit Q kinds.AlertPolicy policy_body
+    → OwnFit Q kinds.Sli sli_body → RowsFit Q 2 slo
+unfolding slo
+slo_rows Q policy_fit own_policy own_sli = (
+  optional_fit Q 2 DESCRIPTION.now description refl (description_fit Q 2),
+  λ d. (
+    required_fit Q 2 SERVICE.now name refl (name_fit Q 2),
+    λ s. (
+      one_of_fit Q 2 INDICATOR.now inline_indicator INDICATOR_REF.now name is_inline refl refl
+          (inline_indicator_fit Q 2 own_sli) (named_indicator_fit Q 2),
+      λ i. (
+        required_fit Q 2 TIME_WINDOW.now (single (map_with time_window)) refl
+            (roomy Q 2 (single (map_with time_window)) (single_fit Q 0 0 (map_with time_window)
+            no_room (plain_map_fit Q time_window (window_law Any) (window_rows Q)))),
+        λ t. (
+          required_fit Q 2 BUDGETING_METHOD.now method refl (method_fit Q 2),
+          λ m. (
+            required_fit Q 2 OBJECTIVES.now (objectives m) refl
+                (roomy Q 2 (objectives m) (objectives_fit Q m)),
+            λ o. (
+              optional_fit Q 2 ALERT_POLICIES.now policies refl
+                  (list_fit Q 2 1 at_most_ten policy_item (reference_written ALERT_POLICY_REF.now)
+                  two_levels (policy_item_fit Q policy_fit own_policy)),
+              λ p. tt,
+            ),
+          ),
+        ),
+      ),
+    ),
+  ),
+)
+
+pub slo_body_fit : (Q : Object → Type 0) → FormFit Q 0 policy_body
+    → OwnFit Q kinds.AlertPolicy policy_body → OwnFit Q kinds.Sli sli_body → FormFit Q 3 slo_body
+slo_body_fit Q policy_fit own_policy own_sli =
+    variant_fit Q 3 (map_with slo) bodies.Slo (written_where (map_with slo) slo_in) (λ a. refl)
+    (map_fit Q 3 2 Any slo three_levels (slo_law Any any_policy_body_law (any_own kinds.AlertPolicy
+    policy_body) (any_own kinds.Sli sli_body)) (slo_rows Q policy_fit own_policy own_sli))

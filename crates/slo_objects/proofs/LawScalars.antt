@@ -1,5 +1,6 @@
 -- What was read is read again from what it is written as: texts, names and words.
-use Rattle.std.proofs.Common.{◌≡◌, ℕ, Bool, true, false, List, Some, None, Result, Ok, Err, cond, refl, sym, ap, ◌∙◌}
+use Rattle.std.proofs.Common.{◌≡◌, ℕ, Bool, true, false, List, Some, None, Result, Ok, Err, cond}
+use Rattle.std.proofs.Common.{refl, sym, ap, ◌∙◌}
 use Rattle.std.specs.Prelude.{nat_le, length, codes}
 use Rattle.std.specs.Str.{is_utf8, chars}
 use Rattle.yaml_subset.specs.Tree.{scalar}
@@ -17,9 +18,14 @@ use Rattle.slo_objects.specs.declared.alert_condition.ConditionKind.TheVariants.
 use Rattle.slo_objects.specs.declared.sli.RawType.{RawType}
 use Rattle.slo_objects.specs.declared.sli.RawType.TheVariants.{Success, Failure}
 use Rattle.slo_objects.specs.declared.slo.BudgetingMethod.{BudgetingMethod}
-use Rattle.slo_objects.specs.declared.slo.BudgetingMethod.TheVariants.{Occurrences, Timeslices, RatioTimeslices}
+use Rattle.slo_objects.specs.declared.slo.BudgetingMethod.TheVariants.{Occurrences, Timeslices}
+use Rattle.slo_objects.specs.declared.slo.BudgetingMethod.TheVariants.{RatioTimeslices}
 use Rattle.slo_objects.specs.Form.{is_null, utf8_in}
-use Rattle.slo_objects.specs.Scalars.{found_or, text_value, text, most_characters, short_text, description_value, description, is_object_name, name_value, name, zone_value, zone_name, version_value, version_text, version, kind_value, kind_word, kind, only_kind_value, only_kind, op_value, op_word, op, boolean_value, boolean}
+use Rattle.slo_objects.specs.Scalars.{found_or, text_value, text, most_characters, short_text}
+use Rattle.slo_objects.specs.Scalars.{description_value, description, is_object_name, name_value}
+use Rattle.slo_objects.specs.Scalars.{name, zone_value, zone_name, version_value, version_text}
+use Rattle.slo_objects.specs.Scalars.{version, kind_value, kind_word, kind, only_kind_value}
+use Rattle.slo_objects.specs.Scalars.{only_kind, op_value, op_word, op, boolean_value, boolean}
 use Rattle.slo_objects.specs.AlertCondition.{condition_kind, condition_kind_value, condition_word}
 use Rattle.slo_objects.specs.Sli.{raw_type, raw_type_value, raw_type_word}
 use Rattle.slo_objects.specs.Slo.{method, method_value, method_word}
@@ -28,7 +34,8 @@ use Rattle.slo_objects.proofs.LawForms.{StrongLaw, Spelt, scalar_law}
 pub rule_same : {A : Type 0} (x y : A) → (let r : Result A Rule = Ok x in r) ≡ Ok y → x ≡ y
 rule_same x y e = cc
 
-pub rule_not_ok : {A : Type 0} {Q : Type 0} (r : Rule) (y : A) → (let a : Result A Rule = Err r in a) ≡ Ok y → Q
+pub rule_not_ok : {A : Type 0} {Q : Type 0} (r : Rule) (y : A)
+    → (let a : Result A Rule = Err r in a) ≡ Ok y → Q
 rule_not_ok r y e = absurd (contra r y e)
   where
     contra : {A : Type 0} (r : Rule) (y : A) → (let a : Result A Rule = Err r in a) ≡ Ok y → ⊥
@@ -37,10 +44,18 @@ rule_not_ok r y e = absurd (contra r y e)
 -- TEXTS
 
 -- a text that is read as it stands
-quoted_spelt : (parse : List ℕ → Result (List ℕ) Rule) (t a : List ℕ) → t ≡ a → parse t ≡ Ok a → Spelt (List ℕ) parse quoted a
-quoted_spelt parse t a s e = record { text = a; plain = false; is_written = refl; stands = ap parse (sym s) ∙ e; shown = refl }
+quoted_spelt : (parse : List ℕ → Result (List ℕ) Rule) (t a : List ℕ) → t ≡ a → parse t ≡ Ok a
+    → Spelt (List ℕ) parse quoted a
+quoted_spelt parse t a s e = record {
+  text = a;
+  plain = false;
+  is_written = refl;
+  stands = ap parse (sym s) ∙ e;
+  shown = refl;
+}
 
-found_when : (rule : Rule) (b : Bool) (t a : List ℕ) → found_or rule (cond b (Some t) None) ≡ Ok a → t ≡ a
+found_when : (rule : Rule) (b : Bool) (t a : List ℕ)
+    → found_or rule (cond b (Some t) None) ≡ Ok a → t ≡ a
 found_when rule true t a e = rule_same t a e
 found_when rule false t a e = rule_not_ok rule a e
 
@@ -73,21 +88,33 @@ unfolding zone_value
 zone_same t a e = found_when rules.BadName (is_zone_name t) t a e
 
 pub text_law : (P : Object → Type 0) → StrongLaw P text
-text_law P = scalar_law P rules.NotText text_value quoted (λ t a e. quoted_spelt text_value t a (text_same t a e) e)
+text_law P = scalar_law P rules.NotText text_value quoted
+    (λ t a e. quoted_spelt text_value t a (text_same t a e) e)
 
 pub description_law : (P : Object → Type 0) → StrongLaw P description
-description_law P = scalar_law P rules.NotText description_value quoted (λ t a e. quoted_spelt description_value t a (description_same t a e) e)
+description_law P = scalar_law P rules.NotText description_value quoted
+    (λ t a e. quoted_spelt description_value t a (description_same t a e) e)
 
 pub name_law : (P : Object → Type 0) → StrongLaw P name
-name_law P = scalar_law P rules.BadName name_value quoted (λ t a e. quoted_spelt name_value t a (name_same t a e) e)
+name_law P = scalar_law P rules.BadName name_value quoted
+    (λ t a e. quoted_spelt name_value t a (name_same t a e) e)
 
 pub zone_law : (P : Object → Type 0) → StrongLaw P zone_name
-zone_law P = scalar_law P rules.BadName zone_value quoted (λ t a e. quoted_spelt zone_value t a (zone_same t a e) e)
+zone_law P = scalar_law P rules.BadName zone_value quoted
+    (λ t a e. quoted_spelt zone_value t a (zone_same t a e) e)
 
 -- WORDS
 
-word_spelt : {A : Type 0} (parse : List ℕ → Result A Rule) (write : A → Spelling) (a : A) (w : List ℕ) → meant (write a) ≡ scalar w true → parse w ≡ Ok a → is_null (scalar w true) ≡ false → Spelt A parse write a
-word_spelt parse write a w e f g = record { text = w; plain = true; is_written = e; stands = f; shown = g }
+word_spelt : {A : Type 0} (parse : List ℕ → Result A Rule)
+    (write : A → Spelling) (a : A) (w : List ℕ) → meant (write a) ≡ scalar w true → parse w ≡ Ok a
+    → is_null (scalar w true) ≡ false → Spelt A parse write a
+word_spelt parse write a w e f g = record {
+  text = w;
+  plain = true;
+  is_written = e;
+  stands = f;
+  shown = g;
+}
 
 op_spelt : (o : Op) → Spelt Op op_value (λ o. word (op_word o)) o
 unfolding op_value
@@ -119,11 +146,13 @@ kind_shown kinds.AlertCondition = refl
 kind_shown kinds.AlertNotificationTarget = refl
 
 pub kind_law : (P : Object → Type 0) → StrongLaw P kind
-kind_law P = scalar_law P rules.BadKind kind_value (λ k. word (kind_word k)) (λ t a e. word_spelt kind_value (λ k. word (kind_word k)) a (kind_word a) refl (kind_stands a) (kind_shown a))
+kind_law P = scalar_law P rules.BadKind kind_value (λ k. word (kind_word k)) (λ t a e. word_spelt
+    kind_value (λ k. word (kind_word k)) a (kind_word a) refl (kind_stands a) (kind_shown a))
 
 pub version_law : (P : Object → Type 0) → StrongLaw P version
 unfolding version_value
-version_law P = scalar_law P rules.BadVersion version_value (λ _. word version_text) (λ t a e. word_spelt version_value (λ _. word version_text) tt version_text refl refl refl)
+version_law P = scalar_law P rules.BadVersion version_value (λ _. word version_text)
+    (λ t a e. word_spelt version_value (λ _. word version_text) tt version_text refl refl refl)
 
 only_kind_stands : (k : Kind) → only_kind_value k (kind_word k) ≡ Ok tt
 unfolding only_kind_value
@@ -136,36 +165,53 @@ only_kind_stands kinds.AlertCondition = refl
 only_kind_stands kinds.AlertNotificationTarget = refl
 
 pub only_kind_law : (P : Object → Type 0) (k : Kind) → StrongLaw P (only_kind k)
-only_kind_law P k = scalar_law P rules.BadKind (only_kind_value k) (λ _. word (kind_word k)) (λ t a e. word_spelt (only_kind_value k) (λ _. word (kind_word k)) tt (kind_word k) refl (only_kind_stands k) (kind_shown k))
+only_kind_law P k = scalar_law P rules.BadKind (only_kind_value k) (λ _. word (kind_word k))
+    (λ t a e. word_spelt (only_kind_value k) (λ _. word (kind_word k)) tt (kind_word k) refl
+    (only_kind_stands k) (kind_shown k))
 
-boolean_spelt : (b : Bool) → Spelt Bool boolean_value (λ b. word (cond b (codes "true") (codes "false"))) b
+boolean_spelt : (b : Bool)
+    → Spelt Bool boolean_value (λ b. word (cond b (codes "true") (codes "false"))) b
 unfolding boolean_value
-boolean_spelt true = word_spelt boolean_value (λ b. word (cond b (codes "true") (codes "false"))) true (codes "true") refl refl refl
-boolean_spelt false = word_spelt boolean_value (λ b. word (cond b (codes "true") (codes "false"))) false (codes "false") refl refl refl
+boolean_spelt true = word_spelt boolean_value (λ b. word (cond b (codes "true") (codes "false")))
+    true (codes "true") refl refl refl
+boolean_spelt false = word_spelt boolean_value (λ b. word (cond b (codes "true") (codes "false")))
+    false (codes "false") refl refl refl
 
 pub boolean_law : (P : Object → Type 0) → StrongLaw P boolean
-boolean_law P = scalar_law P rules.NotBool boolean_value (λ b. word (cond b (codes "true") (codes "false"))) (λ t a e. boolean_spelt a)
+boolean_law P = scalar_law P rules.NotBool boolean_value
+    (λ b. word (cond b (codes "true") (codes "false"))) (λ t a e. boolean_spelt a)
 
-condition_kind_spelt : (k : ConditionKind) → Spelt ConditionKind condition_kind_value (λ k. word (condition_word k)) k
+condition_kind_spelt : (k : ConditionKind)
+    → Spelt ConditionKind condition_kind_value (λ k. word (condition_word k)) k
 unfolding condition_kind_value
-condition_kind_spelt Burnrate = word_spelt condition_kind_value (λ k. word (condition_word k)) Burnrate (condition_word Burnrate) refl refl refl
+condition_kind_spelt Burnrate = word_spelt condition_kind_value (λ k. word (condition_word k))
+    Burnrate (condition_word Burnrate) refl refl refl
 
 pub condition_kind_law : (P : Object → Type 0) → StrongLaw P condition_kind
-condition_kind_law P = scalar_law P rules.BadWord condition_kind_value (λ k. word (condition_word k)) (λ t a e. condition_kind_spelt a)
+condition_kind_law P = scalar_law P rules.BadWord condition_kind_value
+    (λ k. word (condition_word k)) (λ t a e. condition_kind_spelt a)
 
 raw_type_spelt : (k : RawType) → Spelt RawType raw_type_value (λ k. word (raw_type_word k)) k
 unfolding raw_type_value
-raw_type_spelt Success = word_spelt raw_type_value (λ k. word (raw_type_word k)) Success (raw_type_word Success) refl refl refl
-raw_type_spelt Failure = word_spelt raw_type_value (λ k. word (raw_type_word k)) Failure (raw_type_word Failure) refl refl refl
+raw_type_spelt Success = word_spelt raw_type_value (λ k. word (raw_type_word k)) Success
+    (raw_type_word Success) refl refl refl
+raw_type_spelt Failure = word_spelt raw_type_value (λ k. word (raw_type_word k)) Failure
+    (raw_type_word Failure) refl refl refl
 
 pub raw_type_law : (P : Object → Type 0) → StrongLaw P raw_type
-raw_type_law P = scalar_law P rules.BadWord raw_type_value (λ k. word (raw_type_word k)) (λ t a e. raw_type_spelt a)
+raw_type_law P = scalar_law P rules.BadWord raw_type_value (λ k. word (raw_type_word k))
+    (λ t a e. raw_type_spelt a)
 
-method_spelt : (k : BudgetingMethod) → Spelt BudgetingMethod method_value (λ k. word (method_word k)) k
+method_spelt : (k : BudgetingMethod)
+    → Spelt BudgetingMethod method_value (λ k. word (method_word k)) k
 unfolding method_value
-method_spelt Occurrences = word_spelt method_value (λ k. word (method_word k)) Occurrences (method_word Occurrences) refl refl refl
-method_spelt Timeslices = word_spelt method_value (λ k. word (method_word k)) Timeslices (method_word Timeslices) refl refl refl
-method_spelt RatioTimeslices = word_spelt method_value (λ k. word (method_word k)) RatioTimeslices (method_word RatioTimeslices) refl refl refl
+method_spelt Occurrences = word_spelt method_value (λ k. word (method_word k)) Occurrences
+    (method_word Occurrences) refl refl refl
+method_spelt Timeslices = word_spelt method_value (λ k. word (method_word k)) Timeslices
+    (method_word Timeslices) refl refl refl
+method_spelt RatioTimeslices = word_spelt method_value (λ k. word (method_word k)) RatioTimeslices
+    (method_word RatioTimeslices) refl refl refl
 
 pub method_law : (P : Object → Type 0) → StrongLaw P method
-method_law P = scalar_law P rules.BadWord method_value (λ k. word (method_word k)) (λ t a e. method_spelt a)
+method_law P =
+    scalar_law P rules.BadWord method_value (λ k. word (method_word k)) (λ t a e. method_spelt a)

@@ -1,27 +1,69 @@
 -- What was read is read again from what it is written as: the tables of the kinds, line by line.
-use Rattle.std.proofs.Common.{◌≡◌, Bool, true, [], ◌∷◌, Option, Some, None, refl}
+use Rattle.std.proofs.Common.{◌≡◌, Bool, true, [], ◌∷◌, Option, Some, None, refl, ℕ, false, cond}
+use Rattle.std.proofs.Common.{arith}
 use Rattle.std.specs.Prelude.{codes}
 use Rattle.slo_objects.specs.declared.object.Object.{Object}
-use Rattle.slo_objects.specs.declared.object.Body.TheVariants as bodies
-use Rattle.slo_objects.specs.declared.sli.Metric.TheVariants as metrics
 use Rattle.slo_objects.specs.declared.sli.MetricSource.{MetricSource}
 use Rattle.slo_objects.specs.declared.sli.Events.TheVariants.{Good, Bad}
-use Rattle.slo_objects.specs.Form.{Form, map_with, variant, written_where, free, free_map}
+use Rattle.slo_objects.specs.Form.{Form, map_with, variant, written_where, free, free_map, Rows}
 use Rattle.slo_objects.specs.Scalars.{description, text, name, boolean, op, number}
-use Rattle.slo_objects.specs.Durations.{duration, month}
+use Rattle.slo_objects.specs.Scalars.{description_value, text_value, name_value, boolean_value}
+use Rattle.slo_objects.specs.Scalars.{op_value, op_word, number_value, version, version_value}
+use Rattle.slo_objects.specs.Scalars.{version_text, kind, kind_value, kind_word, only_kind}
+use Rattle.slo_objects.specs.Scalars.{only_kind_value, zone_name, zone_value}
+use Rattle.slo_objects.specs.Durations.{duration, month, duration_value}
 use Rattle.slo_objects.specs.Metadata.{metadata}
 use Rattle.slo_objects.specs.Service.{service, service_in, service_body}
 use Rattle.slo_objects.specs.DataSource.{data_source, data_source_in, data_source_body}
-use Rattle.slo_objects.specs.AlertNotificationTarget.{alert_notification_target, target_in, target_body}
-use Rattle.slo_objects.specs.AlertCondition.{condition_kind, ten_thousand, condition, alert_condition, condition_in, condition_body}
-use Rattle.slo_objects.specs.Sli.{metric_source, source_map, source, raw_type, is_good, events_written, raw_in, rest_of_ratio, raw_ratio, counted_ratio, ratio_metric, is_threshold, metric_written, sli, sli_in, sli_body}
+use Rattle.slo_objects.specs.AlertNotificationTarget.{alert_notification_target, target_in}
+use Rattle.slo_objects.specs.AlertNotificationTarget.{target_body}
+use Rattle.slo_objects.specs.AlertCondition.{condition_kind, ten_thousand, condition}
+use Rattle.slo_objects.specs.AlertCondition.{alert_condition, condition_in, condition_body}
+use Rattle.slo_objects.specs.AlertCondition.{condition_kind_value, condition_word}
+use Rattle.slo_objects.specs.Sli.{metric_source, source_map, source, raw_type, is_good}
+use Rattle.slo_objects.specs.Sli.{events_written, raw_in, rest_of_ratio, raw_ratio, counted_ratio}
+use Rattle.slo_objects.specs.Sli.{ratio_metric, is_threshold, metric_written, sli, sli_in, sli_body}
+use Rattle.slo_objects.specs.Sli.{raw_type_value, raw_type_word}
 use Rattle.slo_objects.proofs.LawFields.{apart}
 use Rattle.slo_objects.proofs.LawRows.{FormLaw, Made, RowsLaw, map_law}
 use Rattle.slo_objects.proofs.LawLines.{optional_law, required_law}
 use Rattle.slo_objects.proofs.LawChoices.{EitherLaw, alone_asks, alone_law, one_of_law}
-use Rattle.slo_objects.proofs.LawForms.{StrongLaw, variant_law, chosen_first, chosen_second, free_law, free_map_law}
-use Rattle.slo_objects.proofs.LawScalars.{text_law, description_law, name_law, boolean_law, op_law, condition_kind_law, raw_type_law}
-use Rattle.slo_objects.proofs.LawNumbers.{number_law, duration_law}
+use Rattle.slo_objects.proofs.LawForms.{StrongLaw, variant_law, chosen_first, chosen_second}
+use Rattle.slo_objects.proofs.LawForms.{free_law, free_map_law}
+use Rattle.slo_objects.proofs.LawScalars.{text_law, description_law, name_law, boolean_law, op_law}
+use Rattle.slo_objects.proofs.LawScalars.{condition_kind_law, raw_type_law, text_same}
+use Rattle.slo_objects.proofs.LawScalars.{description_same, name_same, zone_same}
+use Rattle.slo_objects.proofs.LawNumbers.{number_law, duration_law, number_ok}
+use Rattle.slo_objects.specs.declared.alert_condition.TheConstants.{ALERT_AFTER, CONDITION}
+use Rattle.slo_objects.specs.declared.alert_condition.TheConstants.{LOOKBACK_WINDOW, SEVERITY}
+use Rattle.slo_objects.specs.declared.alert_condition.TheConstants.{THRESHOLD}
+use Rattle.slo_objects.specs.declared.data_source.TheConstants.{CONNECTION_DETAILS}
+use Rattle.slo_objects.specs.declared.inline.TheConstants.{ANNOTATIONS, LABELS, NAME}
+use Rattle.slo_objects.specs.declared.keys.TheConstants.{DESCRIPTION, DISPLAY_NAME, KIND, OP, SPEC}
+use Rattle.slo_objects.specs.declared.keys.TheConstants.{TARGET, TYPE}
+use Rattle.slo_objects.specs.declared.sli.TheConstants.{BAD, COUNTER, GOOD, METRIC_SOURCE}
+use Rattle.slo_objects.specs.declared.sli.TheConstants.{METRIC_SOURCE_REF, RATIO_METRIC, RAW}
+use Rattle.slo_objects.specs.declared.sli.TheConstants.{RAW_TYPE, THRESHOLD_METRIC, TOTAL}
+use Rattle.yaml_subset.specs.Spelling.{word, quoted}
+use Rattle.yaml_subset.specs.Fits.{Fits}
+use Rattle.exact_fraction.specs.DecimalText.{decimal_text}
+use Rattle.exact_fraction.specs.declared.op.Op.TheVariants.{Lte, Gte, Lt, Gt}
+use Rattle.slo_duration.specs.Writing.{duration_text}
+use Rattle.exact_fraction.specs.declared.op.Op.{Op}
+use Rattle.slo_objects.specs.declared.alert_condition.ConditionKind.{ConditionKind}
+use Rattle.slo_objects.specs.declared.sli.RawType.{RawType}
+use Rattle.slo_objects.specs.declared.alert_condition.ConditionKind.TheVariants.{Burnrate}
+use Rattle.slo_objects.specs.declared.kind.Kind.{Kind}
+use Rattle.slo_objects.specs.declared.sli.RawType.TheVariants.{Success, Failure}
+use Rattle.slo_objects.proofs.LawPlain.{decimal_written, duration_written}
+use Rattle.slo_objects.proofs.LawFits.{FormFit, RowsFit, Within, map_fit, optional_fit}
+use Rattle.slo_objects.proofs.LawFits.{required_fit, alone_fit, one_of_fit}
+use Rattle.slo_objects.proofs.LawFitForms.{variant_fit, chosen_fit, free_fit, free_map_fit}
+use Rattle.slo_objects.proofs.LawFitForms.{scalar_fit, quoted_fit, word_fit}
+use Rattle.slo_objects.specs.declared.object.Body.TheVariants as bodies
+use Rattle.slo_objects.specs.declared.sli.Metric.TheVariants as metrics
+use Rattle.slo_objects.specs.declared.fault.Rule.TheVariants as rules
+use Rattle.slo_objects.specs.declared.kind.Kind.TheVariants as kinds
 
 -- a form that reads no null reads again what isn't null
 pub loose : {A : Type 0} (P : Object → Type 0) (f : Form A) → StrongLaw P f → FormLaw P f
@@ -39,21 +81,21 @@ name_line P = loose P name (name_law P)
 pub metadata_law : (P : Object → Type 0) → RowsLaw P [] metadata
 unfolding metadata
 metadata_law P = (
-  required_law P (codes "name") name (name_line P),
+  required_law P NAME.now name (name_line P),
   λ n. (
     refl,
     λ d l a. refl,
     (
-      optional_law P (codes "displayName") text (text_line P),
+      optional_law P DISPLAY_NAME.now text (text_line P),
       λ d. (
         refl,
         λ l a. refl,
         (
-          optional_law P (codes "labels") free_map (free_map_law P),
+          optional_law P LABELS.now free_map (free_map_law P),
           λ l. (
             refl,
             λ a. refl,
-            (optional_law P (codes "annotations") free_map (free_map_law P), λ a. (refl, refl, tt)),
+            (optional_law P ANNOTATIONS.now free_map (free_map_law P), λ a. (refl, refl, tt)),
           ),
         ),
       ),
@@ -63,21 +105,24 @@ metadata_law P = (
 
 pub service_law : (P : Object → Type 0) → RowsLaw P [] service
 unfolding service
-service_law P = (optional_law P (codes "description") description (description_line P), λ d. (refl, refl, tt))
+service_law P = (
+  optional_law P DESCRIPTION.now description (description_line P),
+  λ d. (refl, refl, tt),
+)
 
 pub data_source_law : (P : Object → Type 0) → RowsLaw P [] data_source
 unfolding data_source
 data_source_law P = (
-  optional_law P (codes "description") description (description_line P),
+  optional_law P DESCRIPTION.now description (description_line P),
   λ d. (
     refl,
     λ t c. refl,
     (
-      required_law P (codes "type") text (text_line P),
+      required_law P TYPE.now text (text_line P),
       λ t. (
         refl,
         λ c. refl,
-        (optional_law P (codes "connectionDetails") free (free_law P), λ c. (refl, refl, tt)),
+        (optional_law P CONNECTION_DETAILS.now free (free_law P), λ c. (refl, refl, tt)),
       ),
     ),
   ),
@@ -86,37 +131,43 @@ data_source_law P = (
 pub notification_target_law : (P : Object → Type 0) → RowsLaw P [] alert_notification_target
 unfolding alert_notification_target
 notification_target_law P = (
-  optional_law P (codes "description") description (description_line P),
+  optional_law P DESCRIPTION.now description (description_line P),
   λ d. (
     refl,
     λ t. refl,
-    (required_law P (codes "target") text (text_line P), λ t. (refl, refl, tt)),
+    (required_law P TARGET.now text (text_line P), λ t. (refl, refl, tt)),
   ),
 )
 
 pub condition_law : (P : Object → Type 0) → RowsLaw P [] condition
 unfolding condition
 condition_law P = (
-  optional_law P (codes "kind") condition_kind (loose P condition_kind (condition_kind_law P)),
+  optional_law P KIND.now condition_kind (loose P condition_kind (condition_kind_law P)),
   λ k. (
     refl,
     λ o t l a. refl,
     (
-      optional_law P (codes "op") op (loose P op (op_law P)),
+      optional_law P OP.now op (loose P op (op_law P)),
       λ o. (
         refl,
         λ t l a. refl,
         (
-          required_law P (codes "threshold") (number 0 ten_thousand) (loose P (number 0 ten_thousand) (number_law P 0 ten_thousand)),
+          required_law P THRESHOLD.now (number 0 ten_thousand)
+              (loose P (number 0 ten_thousand) (number_law P 0 ten_thousand)),
           λ t. (
             refl,
             λ l a. refl,
             (
-              required_law P (codes "lookbackWindow") (duration 1 month) (loose P (duration 1 month) (duration_law P 1 month)),
+              required_law P LOOKBACK_WINDOW.now (duration 1 month)
+                  (loose P (duration 1 month) (duration_law P 1 month)),
               λ l. (
                 refl,
                 λ a. refl,
-                (optional_law P (codes "alertAfter") (duration 0 month) (loose P (duration 0 month) (duration_law P 0 month)), λ a. (refl, refl, tt)),
+                (
+                  optional_law P ALERT_AFTER.now (duration 0 month)
+                      (loose P (duration 0 month) (duration_law P 0 month)),
+                  λ a. (refl, refl, tt),
+                ),
               ),
             ),
           ),
@@ -129,16 +180,19 @@ condition_law P = (
 pub alert_condition_law : (P : Object → Type 0) → RowsLaw P [] alert_condition
 unfolding alert_condition
 alert_condition_law P = (
-  optional_law P (codes "description") description (description_line P),
+  optional_law P DESCRIPTION.now description (description_line P),
   λ d. (
     refl,
     λ s c. refl,
     (
-      required_law P (codes "severity") text (text_line P),
+      required_law P SEVERITY.now text (text_line P),
       λ s. (
         refl,
         λ c. refl,
-        (required_law P (codes "condition") (map_with condition) (map_law P condition (condition_law P)), λ c. (refl, refl, tt)),
+        (
+          required_law P CONDITION.now (map_with condition) (map_law P condition (condition_law P)),
+          λ c. (refl, refl, tt),
+        ),
       ),
     ),
   ),
@@ -149,16 +203,16 @@ alert_condition_law P = (
 pub metric_source_law : (P : Object → Type 0) → RowsLaw P [] metric_source
 unfolding metric_source
 metric_source_law P = (
-  optional_law P (codes "metricSourceRef") name (name_line P),
+  optional_law P METRIC_SOURCE_REF.now name (name_line P),
   λ m. (
     refl,
     λ t s. refl,
     (
-      optional_law P (codes "type") text (text_line P),
+      optional_law P TYPE.now text (text_line P),
       λ t. (
         refl,
         λ s. refl,
-        (optional_law P (codes "spec") free (free_law P), λ s. (refl, refl, tt)),
+        (optional_law P SPEC.now free (free_law P), λ s. (refl, refl, tt)),
       ),
     ),
   ),
@@ -166,38 +220,57 @@ metric_source_law P = (
 
 pub source_map_law : (P : Object → Type 0) → RowsLaw P [] source_map
 unfolding source_map
-source_map_law P = (required_law P (codes "metricSource") (map_with metric_source) (map_law P metric_source (metric_source_law P)), λ m. (refl, refl, tt))
+source_map_law P = (
+  required_law P METRIC_SOURCE.now (map_with metric_source)
+      (map_law P metric_source (metric_source_law P)),
+  λ m. (refl, refl, tt),
+)
 
 pub source_law : (P : Object → Type 0) → FormLaw P source
 source_law P = map_law P source_map (source_map_law P)
 
-good_law : (P : Object → Type 0) → EitherLaw P (variant source Good events_written) (variant source Good events_written) (variant source Bad events_written) is_good
-good_law P = chosen_first P source Good events_written (variant source Bad events_written) is_good (λ m. refl) (λ m. refl) (source_law P)
+good_law : (P : Object → Type 0) → EitherLaw P (variant source Good events_written)
+    (variant source Good events_written) (variant source Bad events_written) is_good
+good_law P = chosen_first P source Good events_written (variant source Bad events_written) is_good
+    (λ m. refl) (λ m. refl) (source_law P)
 
-bad_law : (P : Object → Type 0) → EitherLaw P (variant source Bad events_written) (variant source Good events_written) (variant source Bad events_written) is_good
-bad_law P = chosen_second P source Bad events_written (variant source Good events_written) is_good (λ m. refl) (λ m. refl) (source_law P)
+bad_law : (P : Object → Type 0) → EitherLaw P (variant source Bad events_written)
+    (variant source Good events_written) (variant source Bad events_written) is_good
+bad_law P = chosen_second P source Bad events_written (variant source Good events_written) is_good
+    (λ m. refl) (λ m. refl) (source_law P)
 
-raw_ratio_law : (P : Object → Type 0) (counter : Option Bool) (raw : MetricSource) → RowsLaw P (codes "counter" ∷ codes "raw" ∷ codes "total" ∷ codes "good" ∷ codes "bad" ∷ []) (raw_ratio counter raw)
+raw_ratio_law : (P : Object → Type 0) (counter : Option Bool) (raw : MetricSource) → RowsLaw P
+    (COUNTER.now ∷ RAW.now ∷ TOTAL.now ∷ GOOD.now ∷ BAD.now ∷ []) (raw_ratio counter raw)
 unfolding raw_ratio
-raw_ratio_law P counter raw = (required_law P (codes "rawType") raw_type (loose P raw_type (raw_type_law P)), λ t. (refl, refl, tt))
+raw_ratio_law P counter raw = (
+  required_law P RAW_TYPE.now raw_type (loose P raw_type (raw_type_law P)),
+  λ t. (refl, refl, tt),
+)
 
-counted_ratio_law : (P : Object → Type 0) (counter : Option Bool) → RowsLaw P (codes "counter" ∷ codes "raw" ∷ []) (counted_ratio counter)
+counted_ratio_law : (P : Object → Type 0) (counter : Option Bool)
+    → RowsLaw P (COUNTER.now ∷ RAW.now ∷ []) (counted_ratio counter)
 unfolding counted_ratio
 counted_ratio_law P counter = (
-  required_law P (codes "total") source (source_law P),
+  required_law P TOTAL.now source (source_law P),
   λ t. (
     refl,
     λ e. refl,
-    (one_of_law P (codes "good") (variant source Good events_written) (codes "bad") (variant source Bad events_written) is_good refl refl (good_law P) (bad_law P), λ e. (refl, refl, tt)),
+    (
+      one_of_law P GOOD.now (variant source Good events_written)
+          BAD.now (variant source Bad events_written) is_good refl refl (good_law P) (bad_law P),
+      λ e. (refl, refl, tt),
+    ),
   ),
 )
 
-made_counter : (counter : Option Bool) (raw : Option MetricSource) → Made (rest_of_ratio counter raw) (λ v. v.counter ≡ counter)
+made_counter : (counter : Option Bool) (raw : Option MetricSource)
+    → Made (rest_of_ratio counter raw) (λ v. v.counter ≡ counter)
 unfolding raw_ratio counted_ratio
 made_counter counter (Some raw) = λ t. refl
 made_counter counter None = λ t e. refl
 
-made_raw : (counter : Option Bool) (raw : Option MetricSource) → Made (rest_of_ratio counter raw) (λ v. raw_in v.ratio ≡ raw)
+made_raw : (counter : Option Bool) (raw : Option MetricSource)
+    → Made (rest_of_ratio counter raw) (λ v. raw_in v.ratio ≡ raw)
 unfolding raw_ratio counted_ratio
 made_raw counter (Some raw) = λ t. refl
 made_raw counter None = λ t e. refl
@@ -205,33 +278,43 @@ made_raw counter None = λ t e. refl
 pub ratio_metric_law : (P : Object → Type 0) → RowsLaw P [] ratio_metric
 unfolding ratio_metric
 ratio_metric_law P = (
-  optional_law P (codes "counter") boolean (loose P boolean (boolean_law P)),
+  optional_law P COUNTER.now boolean (loose P boolean (boolean_law P)),
   λ c. (
     refl,
     made_counter c,
-    (alone_law P (codes "raw") (codes "total" ∷ codes "good" ∷ codes "bad" ∷ []) source refl (source_law P), λ raw. (is_apart raw, made_raw c raw, later c raw)),
+    (
+      alone_law P RAW.now (TOTAL.now ∷ GOOD.now ∷ BAD.now ∷ []) source refl (source_law P),
+      λ raw. (is_apart raw, made_raw c raw, later c raw),
+    ),
   ),
 )
   where
-    is_apart : (raw : Option MetricSource) → apart (alone_asks (codes "raw") (codes "total" ∷ codes "good" ∷ codes "bad" ∷ []) raw) (codes "counter" ∷ []) ≡ true
+    is_apart : (raw : Option MetricSource) → apart
+        (alone_asks RAW.now (TOTAL.now ∷ GOOD.now ∷ BAD.now ∷ []) raw) (COUNTER.now ∷ []) ≡ true
     is_apart None = refl
     is_apart (Some raw) = refl
 
-    later : (c : Option Bool) (raw : Option MetricSource) → RowsLaw P (codes "counter" ∷ alone_asks (codes "raw") (codes "total" ∷ codes "good" ∷ codes "bad" ∷ []) raw) (rest_of_ratio c raw)
+    later : (c : Option Bool) (raw : Option MetricSource) → RowsLaw P (COUNTER.now
+        ∷ alone_asks RAW.now (TOTAL.now ∷ GOOD.now ∷ BAD.now ∷ []) raw) (rest_of_ratio c raw)
     later c None = counted_ratio_law P c
     later c (Some raw) = raw_ratio_law P c raw
 
 pub sli_law : (P : Object → Type 0) → RowsLaw P [] sli
 unfolding sli
 sli_law P = (
-  optional_law P (codes "description") description (description_line P),
+  optional_law P DESCRIPTION.now description (description_line P),
   λ d. (
     refl,
     λ m. refl,
     (
-      one_of_law P (codes "thresholdMetric") (variant source metrics.Threshold metric_written) (codes "ratioMetric") (variant (map_with ratio_metric) metrics.Ratio metric_written) is_threshold refl refl
-          (chosen_first P source metrics.Threshold metric_written (variant (map_with ratio_metric) metrics.Ratio metric_written) is_threshold (λ m. refl) (λ m. refl) (source_law P))
-          (chosen_second P (map_with ratio_metric) metrics.Ratio metric_written (variant source metrics.Threshold metric_written) is_threshold (λ m. refl) (λ m. refl) (map_law P ratio_metric (ratio_metric_law P))),
+      one_of_law P THRESHOLD_METRIC.now (variant source metrics.Threshold metric_written)
+          RATIO_METRIC.now (variant (map_with ratio_metric) metrics.Ratio metric_written)
+          is_threshold refl refl
+          (chosen_first P source metrics.Threshold metric_written (variant (map_with ratio_metric)
+          metrics.Ratio metric_written) is_threshold (λ m. refl) (λ m. refl) (source_law P))
+          (chosen_second P (map_with ratio_metric) metrics.Ratio metric_written
+          (variant source metrics.Threshold metric_written) is_threshold (λ m. refl) (λ m. refl)
+          (map_law P ratio_metric (ratio_metric_law P))),
       λ m. (refl, refl, tt),
     ),
   ),
@@ -240,16 +323,289 @@ sli_law P = (
 -- BODIES
 
 pub service_body_law : (P : Object → Type 0) → FormLaw P service_body
-service_body_law P = variant_law P (map_with service) bodies.Service (written_where (map_with service) service_in) (λ a. refl) (map_law P service (service_law P))
+service_body_law P = variant_law P (map_with service) bodies.Service
+    (written_where (map_with service) service_in) (λ a. refl) (map_law P service (service_law P))
 
 pub data_source_body_law : (P : Object → Type 0) → FormLaw P data_source_body
-data_source_body_law P = variant_law P (map_with data_source) bodies.DataSource (written_where (map_with data_source) data_source_in) (λ a. refl) (map_law P data_source (data_source_law P))
+data_source_body_law P = variant_law P (map_with data_source) bodies.DataSource (written_where
+    (map_with data_source) data_source_in) (λ a. refl) (map_law P data_source (data_source_law P))
 
 pub target_body_law : (P : Object → Type 0) → FormLaw P target_body
-target_body_law P = variant_law P (map_with alert_notification_target) bodies.AlertNotificationTarget (written_where (map_with alert_notification_target) target_in) (λ a. refl) (map_law P alert_notification_target (notification_target_law P))
+target_body_law P = variant_law P (map_with alert_notification_target)
+    bodies.AlertNotificationTarget (written_where (map_with alert_notification_target) target_in)
+    (λ a. refl) (map_law P alert_notification_target (notification_target_law P))
 
 pub condition_body_law : (P : Object → Type 0) → FormLaw P condition_body
-condition_body_law P = variant_law P (map_with alert_condition) bodies.AlertCondition (written_where (map_with alert_condition) condition_in) (λ a. refl) (map_law P alert_condition (alert_condition_law P))
+condition_body_law P = variant_law P (map_with alert_condition)
+    bodies.AlertCondition (written_where (map_with alert_condition) condition_in) (λ a. refl)
+    (map_law P alert_condition (alert_condition_law P))
 
 pub sli_body_law : (P : Object → Type 0) → FormLaw P sli_body
-sli_body_law P = variant_law P (map_with sli) bodies.Sli (written_where (map_with sli) sli_in) (λ a. refl) (map_law P sli (sli_law P))
+sli_body_law P = variant_law P (map_with sli) bodies.Sli (written_where (map_with sli) sli_in)
+    (λ a. refl) (map_law P sli (sli_law P))
+
+-- WHAT IS WRITTEN OF A NODE THAT CAN BE WRITTEN CAN BE WRITTEN: THE TABLES OF THE KINDS,
+-- LINE BY LINE
+
+abbrev Any : Object → Type 0
+Any o = Unit {0}
+
+pub no_room : Within 0 0
+no_room d h = omega arith
+
+-- a map that needs no room of its own
+pub plain_map_fit : {A : Type 0} (Q : Object → Type 0) (rows : Rows A) → RowsLaw Any [] rows
+    → RowsFit Q 0 rows → FormFit Q 0 (map_with rows)
+plain_map_fit Q rows law fit = map_fit Q 0 0 Any rows no_room law fit
+
+-- SCALARS
+
+pub text_fit : (Q : Object → Type 0) (room : ℕ) → FormFit Q room text
+text_fit Q room =
+    scalar_fit Q room rules.NotText text_value quoted (quoted_fit text_value text_same)
+
+pub description_fit : (Q : Object → Type 0) (room : ℕ) → FormFit Q room description
+description_fit Q room = scalar_fit Q room rules.NotText description_value quoted
+    (quoted_fit description_value description_same)
+
+pub name_fit : (Q : Object → Type 0) (room : ℕ) → FormFit Q room name
+name_fit Q room =
+    scalar_fit Q room rules.BadName name_value quoted (quoted_fit name_value name_same)
+
+pub zone_fit : (Q : Object → Type 0) (room : ℕ) → FormFit Q room zone_name
+zone_fit Q room =
+    scalar_fit Q room rules.BadName zone_value quoted (quoted_fit zone_value zone_same)
+
+pub boolean_fit : (Q : Object → Type 0) (room : ℕ) → FormFit Q room boolean
+boolean_fit Q room = scalar_fit Q room rules.NotBool boolean_value
+    (λ b. word (cond b (codes "true") (codes "false"))) (λ t b e u q d. by b d)
+  where
+    by : (b : Bool) (d : ℕ) → Fits d (word (cond b (codes "true") (codes "false")))
+    by true d = word_fit (codes "true") d refl refl
+    by false d = word_fit (codes "false") d refl refl
+
+pub op_fit : (Q : Object → Type 0) (room : ℕ) → FormFit Q room op
+op_fit Q room =
+    scalar_fit Q room rules.BadWord op_value (λ o. word (op_word o)) (λ t o e u q d. by o d)
+  where
+    by : (o : Op) (d : ℕ) → Fits d (word (op_word o))
+    by Lte d = word_fit (codes "lte") d refl refl
+    by Gte d = word_fit (codes "gte") d refl refl
+    by Lt d = word_fit (codes "lt") d refl refl
+    by Gt d = word_fit (codes "gt") d refl refl
+
+pub kind_fits : (k : Kind) (d : ℕ) → Fits d (word (kind_word k))
+kind_fits kinds.DataSource d = word_fit (codes "DataSource") d refl refl
+kind_fits kinds.Service d = word_fit (codes "Service") d refl refl
+kind_fits kinds.Sli d = word_fit (codes "SLI") d refl refl
+kind_fits kinds.Slo d = word_fit (codes "SLO") d refl refl
+kind_fits kinds.AlertPolicy d = word_fit (codes "AlertPolicy") d refl refl
+kind_fits kinds.AlertCondition d = word_fit (codes "AlertCondition") d refl refl
+kind_fits kinds.AlertNotificationTarget d = word_fit (codes "AlertNotificationTarget") d refl refl
+
+pub kind_fit : (Q : Object → Type 0) (room : ℕ) → FormFit Q room kind
+kind_fit Q room = scalar_fit Q room rules.BadKind kind_value (λ k. word (kind_word k))
+    (λ t k e u q d. kind_fits k d)
+
+pub version_fit : (Q : Object → Type 0) (room : ℕ) → FormFit Q room version
+version_fit Q room = scalar_fit Q room rules.BadVersion version_value (λ _. word version_text)
+    (λ t k e u q d. word_fit version_text d refl refl)
+
+pub only_kind_fit : (Q : Object → Type 0) (room : ℕ) (k : Kind) → FormFit Q room (only_kind k)
+only_kind_fit Q room k = scalar_fit Q room rules.BadKind (only_kind_value k)
+    (λ _. word (kind_word k)) (λ t a e u q d. kind_fits k d)
+
+condition_kind_fit : (Q : Object → Type 0) (room : ℕ) → FormFit Q room condition_kind
+condition_kind_fit Q room = scalar_fit Q room rules.BadWord condition_kind_value
+    (λ k. word (condition_word k)) (λ t k e u q d. by k d)
+  where
+    by : (k : ConditionKind) (d : ℕ) → Fits d (word (condition_word k))
+    by Burnrate d = word_fit (codes "burnrate") d refl refl
+
+raw_type_fit : (Q : Object → Type 0) (room : ℕ) → FormFit Q room raw_type
+raw_type_fit Q room = scalar_fit Q room rules.BadWord raw_type_value (λ k. word (raw_type_word k))
+    (λ t k e u q d. by k d)
+  where
+    by : (k : RawType) (d : ℕ) → Fits d (word (raw_type_word k))
+    by Success d = word_fit (codes "success") d refl refl
+    by Failure d = word_fit (codes "failure") d refl refl
+
+pub number_fit : (Q : Object → Type 0) (room least most : ℕ) → FormFit Q room (number least most)
+number_fit Q room least most =
+    scalar_fit Q room rules.NotNumber (number_value least most) (λ n. word (decimal_text n))
+    (λ t n e u q d. decimal_written n (number_ok least most t n e).bound)
+
+pub duration_fit : (Q : Object → Type 0) (room least most : ℕ)
+    → FormFit Q room (duration least most)
+duration_fit Q room least most = scalar_fit Q room rules.NotDuration (duration_value least most)
+    (λ d. word (duration_text d)) (λ t v e u q d. duration_written v)
+
+-- TABLES
+
+metadata_rows : (Q : Object → Type 0) → RowsFit Q 0 metadata
+unfolding metadata
+metadata_rows Q = (
+  required_fit Q 0 NAME.now name refl (name_fit Q 0),
+  λ n. (
+    optional_fit Q 0 DISPLAY_NAME.now text refl (text_fit Q 0),
+    λ d. (
+      optional_fit Q 0 LABELS.now free_map refl (free_map_fit Q 0),
+      λ l.
+          (optional_fit Q 0 ANNOTATIONS.now free_map refl (free_map_fit Q 0), λ a. tt),
+    ),
+  ),
+)
+
+pub metadata_fit : (Q : Object → Type 0) → FormFit Q 0 (map_with metadata)
+metadata_fit Q = plain_map_fit Q metadata (metadata_law Any) (metadata_rows Q)
+
+service_rows : (Q : Object → Type 0) → RowsFit Q 0 service
+unfolding service
+service_rows Q = (optional_fit Q 0 DESCRIPTION.now description refl (description_fit Q 0), λ d. tt)
+
+data_source_rows : (Q : Object → Type 0) → RowsFit Q 0 data_source
+unfolding data_source
+data_source_rows Q = (
+  optional_fit Q 0 DESCRIPTION.now description refl (description_fit Q 0),
+  λ d. (
+    required_fit Q 0 TYPE.now text refl (text_fit Q 0),
+    λ t.
+        (optional_fit Q 0 CONNECTION_DETAILS.now free refl (free_fit Q 0), λ c. tt),
+  ),
+)
+
+target_rows : (Q : Object → Type 0) → RowsFit Q 0 alert_notification_target
+unfolding alert_notification_target
+target_rows Q = (
+  optional_fit Q 0 DESCRIPTION.now description refl (description_fit Q 0),
+  λ d.
+      (required_fit Q 0 TARGET.now text refl (text_fit Q 0), λ t. tt),
+)
+
+condition_rows : (Q : Object → Type 0) → RowsFit Q 0 condition
+unfolding condition
+condition_rows Q = (
+  optional_fit Q 0 KIND.now condition_kind refl (condition_kind_fit Q 0),
+  λ k. (
+    optional_fit Q 0 OP.now op refl (op_fit Q 0),
+    λ o. (
+      required_fit Q 0 THRESHOLD.now (number 0 ten_thousand) refl (number_fit Q 0 0 ten_thousand),
+      λ t. (
+        required_fit Q 0 LOOKBACK_WINDOW.now (duration 1 month) refl (duration_fit Q 0 1 month),
+        λ l. (
+          optional_fit Q 0 ALERT_AFTER.now (duration 0 month) refl (duration_fit Q 0 0 month),
+          λ a. tt,
+        ),
+      ),
+    ),
+  ),
+)
+
+alert_condition_rows : (Q : Object → Type 0) → RowsFit Q 0 alert_condition
+unfolding alert_condition
+alert_condition_rows Q = (
+  optional_fit Q 0 DESCRIPTION.now description refl (description_fit Q 0),
+  λ d. (
+    required_fit Q 0 SEVERITY.now text refl (text_fit Q 0),
+    λ s. (
+      required_fit Q 0 CONDITION.now (map_with condition) refl
+          (plain_map_fit Q condition (condition_law Any) (condition_rows Q)),
+      λ c. tt,
+    ),
+  ),
+)
+
+metric_source_rows : (Q : Object → Type 0) → RowsFit Q 0 metric_source
+unfolding metric_source
+metric_source_rows Q = (
+  optional_fit Q 0 METRIC_SOURCE_REF.now name refl (name_fit Q 0),
+  λ m. (
+    optional_fit Q 0 TYPE.now text refl (text_fit Q 0),
+    λ t.
+        (optional_fit Q 0 SPEC.now free refl (free_fit Q 0), λ s. tt),
+  ),
+)
+
+source_rows : (Q : Object → Type 0) → RowsFit Q 0 source_map
+unfolding source_map
+source_rows Q = (
+  required_fit Q 0 METRIC_SOURCE.now (map_with metric_source) refl
+      (plain_map_fit Q metric_source (metric_source_law Any) (metric_source_rows Q)),
+  λ m. tt,
+)
+
+source_fit : (Q : Object → Type 0) → FormFit Q 0 source
+source_fit Q = plain_map_fit Q source_map (source_map_law Any) (source_rows Q)
+
+rest_rows : (Q : Object → Type 0) (c : Option Bool) (raw : Option MetricSource)
+    → RowsFit Q 0 (rest_of_ratio c raw)
+unfolding raw_ratio counted_ratio
+rest_rows Q c (Some raw) = (required_fit Q 0 RAW_TYPE.now raw_type refl (raw_type_fit Q 0), λ t. tt)
+rest_rows Q c None = (
+  required_fit Q 0 TOTAL.now source refl (source_fit Q),
+  λ t. (
+    one_of_fit Q 0 GOOD.now (variant source Good events_written) BAD.now
+        (variant source Bad events_written) is_good refl refl
+        (chosen_fit Q 0 source Good (variant source Good events_written) (variant source Bad
+        events_written) is_good (λ m. refl) (λ m. refl) (source_fit Q) events_written)
+        (chosen_fit Q 0 source Bad (variant source Good events_written) (variant source Bad
+        events_written) is_good (λ m. refl) (λ m. refl) (source_fit Q) events_written),
+    λ e. tt,
+  ),
+)
+
+ratio_rows : (Q : Object → Type 0) → RowsFit Q 0 ratio_metric
+unfolding ratio_metric
+ratio_rows Q = (
+  optional_fit Q 0 COUNTER.now boolean refl (boolean_fit Q 0),
+  λ c. (
+    alone_fit Q 0 RAW.now (TOTAL.now ∷ GOOD.now ∷ BAD.now ∷ []) source refl (source_fit Q),
+    λ raw. rest_rows Q c raw,
+  ),
+)
+
+sli_rows : (Q : Object → Type 0) → RowsFit Q 0 sli
+unfolding sli
+sli_rows Q = (
+  optional_fit Q 0 DESCRIPTION.now description refl (description_fit Q 0),
+  λ d. (
+    one_of_fit Q 0 THRESHOLD_METRIC.now (variant source metrics.Threshold metric_written)
+        RATIO_METRIC.now (variant (map_with ratio_metric) metrics.Ratio metric_written)
+        is_threshold refl refl
+        (chosen_fit Q 0 source metrics.Threshold (variant source metrics.Threshold metric_written)
+        (variant (map_with ratio_metric) metrics.Ratio metric_written) is_threshold (λ m. refl)
+        (λ m. refl) (source_fit Q) metric_written)
+        (chosen_fit Q 0 (map_with ratio_metric) metrics.Ratio
+        (variant source metrics.Threshold metric_written) (variant (map_with ratio_metric)
+        metrics.Ratio metric_written) is_threshold (λ m. refl) (λ m. refl)
+        (plain_map_fit Q ratio_metric (ratio_metric_law Any) (ratio_rows Q)) metric_written),
+    λ m. tt,
+  ),
+)
+
+-- BODIES
+
+pub service_body_fit : (Q : Object → Type 0) → FormFit Q 0 service_body
+service_body_fit Q =
+    variant_fit Q 0 (map_with service) bodies.Service (written_where (map_with service) service_in)
+    (λ a. refl) (plain_map_fit Q service (service_law Any) (service_rows Q))
+
+pub data_source_body_fit : (Q : Object → Type 0) → FormFit Q 0 data_source_body
+data_source_body_fit Q = variant_fit Q 0 (map_with data_source)
+    bodies.DataSource (written_where (map_with data_source) data_source_in) (λ a. refl)
+    (plain_map_fit Q data_source (data_source_law Any) (data_source_rows Q))
+
+pub target_body_fit : (Q : Object → Type 0) → FormFit Q 0 target_body
+target_body_fit Q =
+    variant_fit Q 0 (map_with alert_notification_target) bodies.AlertNotificationTarget
+    (written_where (map_with alert_notification_target) target_in) (λ a. refl)
+    (plain_map_fit Q alert_notification_target (notification_target_law Any) (target_rows Q))
+
+pub condition_body_fit : (Q : Object → Type 0) → FormFit Q 0 condition_body
+condition_body_fit Q = variant_fit Q 0 (map_with alert_condition) bodies.AlertCondition
+    (written_where (map_with alert_condition) condition_in) (λ a. refl)
+    (plain_map_fit Q alert_condition (alert_condition_law Any) (alert_condition_rows Q))
+
+pub sli_body_fit : (Q : Object → Type 0) → FormFit Q 0 sli_body
+sli_body_fit Q = variant_fit Q 0 (map_with sli) bodies.Sli (written_where (map_with sli) sli_in)
+    (λ a. refl) (plain_map_fit Q sli (sli_law Any) (sli_rows Q))

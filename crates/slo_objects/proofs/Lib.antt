@@ -1,6 +1,7 @@
 mod DurationLemmas
 mod TextLemmas
-mod FailLemmas
+mod ReadLemmas
+mod ListLemmas
 mod CountLemmas
 mod AddLemmas
 mod LawFields
@@ -17,8 +18,6 @@ mod LawDocument
 mod LawPlain
 mod LawFits
 mod LawFitForms
-mod LawFitTables
-mod LawFitObjectives
 mod LawFitDocument
 mod LawEqual
 mod OriginLemmas

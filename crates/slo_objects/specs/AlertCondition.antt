@@ -9,9 +9,14 @@ use Rattle.slo_objects.specs.declared.fault.Rule.{Rule}
 use Rattle.slo_objects.specs.declared.fault.Rule.TheVariants as rules
 use Rattle.slo_objects.specs.declared.object.Body.{Body}
 use Rattle.slo_objects.specs.declared.object.Body.TheVariants as bodies
-use Rattle.slo_objects.specs.Form.{Key, Form, Rows, done, ◌of◌, ◌>>=◌, required, optional, map_with, scalar_form, variant, written_where}
+use Rattle.slo_objects.specs.Form.{Key, Form, Rows, done, ◌of◌, ◌>>=◌, required, optional, map_with}
+use Rattle.slo_objects.specs.Form.{scalar_form, variant, written_where}
 use Rattle.slo_objects.specs.Scalars.{description, text, op, found_or, of_word, number, one}
 use Rattle.slo_objects.specs.Durations.{duration, month}
+use Rattle.slo_objects.specs.declared.alert_condition.TheConstants.{ALERT_AFTER, CONDITION}
+use Rattle.slo_objects.specs.declared.alert_condition.TheConstants.{LOOKBACK_WINDOW, SEVERITY}
+use Rattle.slo_objects.specs.declared.alert_condition.TheConstants.{THRESHOLD}
+use Rattle.slo_objects.specs.declared.keys.TheConstants.{DESCRIPTION, KIND, OP}
 
 -- the one kind of conditions
 abbrev pub condition_word : ConditionKind → Key
@@ -21,7 +26,8 @@ abbrev pub all_condition_kinds : List ConditionKind
 all_condition_kinds = Burnrate ∷ []
 
 unfoldable pub condition_kind_value : Key → Result ConditionKind Rule
-condition_kind_value bytes = found_or rules.BadWord (of_word condition_word all_condition_kinds bytes)
+condition_kind_value bytes =
+    found_or rules.BadWord (of_word condition_word all_condition_kinds bytes)
 
 abbrev pub condition_kind : Form ConditionKind
 condition_kind = scalar_form rules.BadWord condition_kind_value (λ k. word (condition_word k))
@@ -33,19 +39,25 @@ ten_thousand = 10_000 * one
 -- `condition`: a lookback is above zero, and neither it nor `alertAfter` is above 30 days
 unfoldable pub condition : Rows Condition
 condition = do
-  kind ← optional (codes "kind") condition_kind of λ c. c.kind
-  op ← optional (codes "op") op of λ c. c.op
-  threshold ← required (codes "threshold") (number 0 ten_thousand) of λ c. c.threshold
-  lookback_window ← required (codes "lookbackWindow") (duration 1 month) of λ c. c.lookback_window
-  alert_after ← optional (codes "alertAfter") (duration 0 month) of λ c. c.alert_after
-  done (record { kind = kind; op = op; threshold = threshold; lookback_window = lookback_window; alert_after = alert_after })
+  kind ← optional KIND.now condition_kind of λ c. c.kind
+  op ← optional OP.now op of λ c. c.op
+  threshold ← required THRESHOLD.now (number 0 ten_thousand) of λ c. c.threshold
+  lookback_window ← required LOOKBACK_WINDOW.now (duration 1 month) of λ c. c.lookback_window
+  alert_after ← optional ALERT_AFTER.now (duration 0 month) of λ c. c.alert_after
+  done (record {
+    kind = kind;
+    op = op;
+    threshold = threshold;
+    lookback_window = lookback_window;
+    alert_after = alert_after;
+  })
 
 -- `spec`
 unfoldable pub alert_condition : Rows AlertCondition
 alert_condition = do
-  description ← optional (codes "description") description of λ c. c.description
-  severity ← required (codes "severity") text of λ c. c.severity
-  condition ← required (codes "condition") (map_with condition) of λ c. c.condition
+  description ← optional DESCRIPTION.now description of λ c. c.description
+  severity ← required SEVERITY.now text of λ c. c.severity
+  condition ← required CONDITION.now (map_with condition) of λ c. c.condition
   done (record { description = description; severity = severity; condition = condition })
 
 -- the object's body
@@ -54,4 +66,5 @@ condition_in (bodies.AlertCondition c) = Some c
 condition_in _ = None
 
 abbrev pub condition_body : Form Body
-condition_body = variant (map_with alert_condition) bodies.AlertCondition (written_where (map_with alert_condition) condition_in)
+condition_body = variant (map_with alert_condition) bodies.AlertCondition
+    (written_where (map_with alert_condition) condition_in)

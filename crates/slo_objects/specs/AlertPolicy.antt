@@ -5,11 +5,18 @@ use Rattle.slo_objects.specs.declared.kind.Kind.TheVariants as kinds
 use Rattle.slo_objects.specs.declared.alert_policy.AlertPolicy.{AlertPolicy}
 use Rattle.slo_objects.specs.declared.object.Body.{Body}
 use Rattle.slo_objects.specs.declared.object.Body.TheVariants as bodies
-use Rattle.slo_objects.specs.Form.{Key, Answer, list_with, Form, Rows, done, ◌of◌, ◌>>=◌, optional, map_with, variant, written_where}
+use Rattle.slo_objects.specs.Form.{Key, Answer, list_with, Form, Rows, done, ◌of◌, ◌>>=◌, optional}
+use Rattle.slo_objects.specs.Form.{map_with, variant, written_where}
 use Rattle.slo_objects.specs.Scalars.{description, boolean}
 use Rattle.slo_objects.specs.Inline.{reference_item, reference_written}
 use Rattle.slo_objects.specs.AlertCondition.{condition_body}
 use Rattle.slo_objects.specs.AlertNotificationTarget.{target_body}
+use Rattle.slo_objects.specs.declared.alert_policy.TheConstants.{ALERT_WHEN_BREACHING}
+use Rattle.slo_objects.specs.declared.alert_policy.TheConstants.{ALERT_WHEN_NO_DATA}
+use Rattle.slo_objects.specs.declared.alert_policy.TheConstants.{ALERT_WHEN_RESOLVED, CONDITIONS}
+use Rattle.slo_objects.specs.declared.alert_policy.TheConstants.{CONDITION_REF}
+use Rattle.slo_objects.specs.declared.alert_policy.TheConstants.{NOTIFICATION_TARGETS, TARGET_REF}
+use Rattle.slo_objects.specs.declared.keys.TheConstants.{DESCRIPTION}
 
 abbrev pub at_most_one : ℕ → Bool
 at_most_one n = nat_le n 1
@@ -19,27 +26,34 @@ any_number_of n = true
 
 -- the items of `conditions` and of `notificationTargets`
 abbrev pub condition_item : Key → List Key → Tree → Answer Key
-condition_item = reference_item (codes "conditionRef") kinds.AlertCondition condition_body
+condition_item = reference_item CONDITION_REF.now kinds.AlertCondition condition_body
 
 abbrev pub target_item : Key → List Key → Tree → Answer Key
-target_item = reference_item (codes "targetRef") kinds.AlertNotificationTarget target_body
+target_item = reference_item TARGET_REF.now kinds.AlertNotificationTarget target_body
 
 abbrev pub conditions : Form (List Key)
-conditions = list_with at_most_one condition_item (reference_written (codes "conditionRef"))
+conditions = list_with at_most_one condition_item (reference_written CONDITION_REF.now)
 
 abbrev pub targets : Form (List Key)
-targets = list_with any_number_of target_item (reference_written (codes "targetRef"))
+targets = list_with any_number_of target_item (reference_written TARGET_REF.now)
 
 -- `spec`: at most one condition, and any number of targets
 unfoldable pub alert_policy : Rows AlertPolicy
 alert_policy = do
-  description ← optional (codes "description") description of λ p. p.description
-  alert_when_no_data ← optional (codes "alertWhenNoData") boolean of λ p. p.alert_when_no_data
-  alert_when_resolved ← optional (codes "alertWhenResolved") boolean of λ p. p.alert_when_resolved
-  alert_when_breaching ← optional (codes "alertWhenBreaching") boolean of λ p. p.alert_when_breaching
-  conditions ← optional (codes "conditions") conditions of λ p. p.conditions
-  notification_targets ← optional (codes "notificationTargets") targets of λ p. p.notification_targets
-  done (record { description = description; alert_when_no_data = alert_when_no_data; alert_when_resolved = alert_when_resolved; alert_when_breaching = alert_when_breaching; conditions = conditions; notification_targets = notification_targets })
+  description ← optional DESCRIPTION.now description of λ p. p.description
+  alert_when_no_data ← optional ALERT_WHEN_NO_DATA.now boolean of λ p. p.alert_when_no_data
+  alert_when_resolved ← optional ALERT_WHEN_RESOLVED.now boolean of λ p. p.alert_when_resolved
+  alert_when_breaching ← optional ALERT_WHEN_BREACHING.now boolean of λ p. p.alert_when_breaching
+  conditions ← optional CONDITIONS.now conditions of λ p. p.conditions
+  notification_targets ← optional NOTIFICATION_TARGETS.now targets of λ p. p.notification_targets
+  done (record {
+    description = description;
+    alert_when_no_data = alert_when_no_data;
+    alert_when_resolved = alert_when_resolved;
+    alert_when_breaching = alert_when_breaching;
+    conditions = conditions;
+    notification_targets = notification_targets;
+  })
 
 -- the object's body
 abbrev pub policy_in : Body → Option AlertPolicy
@@ -47,4 +61,5 @@ policy_in (bodies.AlertPolicy p) = Some p
 policy_in _ = None
 
 abbrev pub policy_body : Form Body
-policy_body = variant (map_with alert_policy) bodies.AlertPolicy (written_where (map_with alert_policy) policy_in)
+policy_body = variant (map_with alert_policy) bodies.AlertPolicy
+    (written_where (map_with alert_policy) policy_in)

@@ -3,15 +3,22 @@ use Rattle.std.specs.Prelude.{codes, Option, Some, None}
 use Rattle.slo_objects.specs.declared.data_source.DataSource.{DataSource}
 use Rattle.slo_objects.specs.declared.object.Body.{Body}
 use Rattle.slo_objects.specs.declared.object.Body.TheVariants as bodies
-use Rattle.slo_objects.specs.Form.{Rows, done, ◌of◌, ◌>>=◌, required, optional, free, Form, map_with, variant, written_where}
+use Rattle.slo_objects.specs.Form.{Rows, done, ◌of◌, ◌>>=◌, required, optional, free, Form}
+use Rattle.slo_objects.specs.Form.{map_with, variant, written_where}
 use Rattle.slo_objects.specs.Scalars.{description, text}
+use Rattle.slo_objects.specs.declared.data_source.TheConstants.{CONNECTION_DETAILS}
+use Rattle.slo_objects.specs.declared.keys.TheConstants.{DESCRIPTION, TYPE}
 
 unfoldable pub data_source : Rows DataSource
 data_source = do
-  description ← optional (codes "description") description of λ s. s.description
-  type_text ← required (codes "type") text of λ s. s.type_text
-  connection_details ← optional (codes "connectionDetails") free of λ s. s.connection_details
-  done (record { description = description; type_text = type_text; connection_details = connection_details })
+  description ← optional DESCRIPTION.now description of λ s. s.description
+  type_text ← required TYPE.now text of λ s. s.type_text
+  connection_details ← optional CONNECTION_DETAILS.now free of λ s. s.connection_details
+  done (record {
+    description = description;
+    type_text = type_text;
+    connection_details = connection_details;
+  })
 
 -- the object's body
 abbrev pub data_source_in : Body → Option DataSource
@@ -19,4 +26,5 @@ data_source_in (bodies.DataSource s) = Some s
 data_source_in _ = None
 
 abbrev pub data_source_body : Form Body
-data_source_body = variant (map_with data_source) bodies.DataSource (written_where (map_with data_source) data_source_in)
+data_source_body = variant (map_with data_source) bodies.DataSource
+    (written_where (map_with data_source) data_source_in)

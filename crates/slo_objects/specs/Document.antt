@@ -18,6 +18,8 @@ use Rattle.slo_objects.specs.Slo.{slo_body}
 use Rattle.slo_objects.specs.AlertPolicy.{policy_body}
 use Rattle.slo_objects.specs.AlertCondition.{condition_body}
 use Rattle.slo_objects.specs.AlertNotificationTarget.{target_body}
+use Rattle.slo_objects.specs.declared.document.TheConstants.{DOCUMENT}
+use Rattle.slo_objects.specs.declared.keys.TheConstants.{API_VERSION, KIND, METADATA, SPEC}
 
 -- the form of `spec`, by the kind
 abbrev pub body_form : Kind → Form Body
@@ -35,10 +37,10 @@ body kind = body_form kind
 -- a document
 unfoldable pub document : Rows Object
 document = do
-  _ ← required (codes "apiVersion") version of λ o. tt
-  kind ← required (codes "kind") kind of λ o. o.kind
-  metadata ← required (codes "metadata") (map_with metadata) of metadata_of
-  spec ← required (codes "spec") (body kind) of λ o. o.body
+  _ ← required API_VERSION.now version of λ o. tt
+  kind ← required KIND.now kind of λ o. o.kind
+  metadata ← required METADATA.now (map_with metadata) of metadata_of
+  spec ← required SPEC.now (body kind) of λ o. o.body
   done (object_with kind metadata spec)
 
 -- the objects that stood inline, in order, and then the document's own
@@ -46,15 +48,17 @@ abbrev pub with_own : Answer Object → Result (List Object) ObjectFault
 with_own (Ok p) = Ok (p.0 ++ p.1 ∷ [])
 with_own (Err f) = Err f
 
--- The objects that a node stands for, or its first fault: in the order of the tables, depth first, unknown fields of a map last.
+-- The objects that a node stands for, or its first fault: in the order of the tables, depth first,
+-- unknown fields of a map last.
 abbrev pub objects_of : Tree → Result (List Object) ObjectFault
-objects_of t = with_own ((map_with document).read (codes "document") t)
+objects_of t = with_own ((map_with document).read DOCUMENT.now t)
 
 -- what an object is written as
 abbrev pub written : Object → Spelling
 written o = (map_with document).write o
 
--- An object that a document stands for: its own, or one that stood inline in it. Every node of a text can be written.
+-- An object that a document stands for: its own, or one that stood inline in it. Every node of a
+-- text can be written.
 pub record IsOfDocument (o : Object) : Type 0 where
   pub node : Tree
   pub objects : List Object

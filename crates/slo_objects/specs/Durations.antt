@@ -1,5 +1,6 @@
 -- What scalars stand for: durations.
-use Rattle.std.specs.Prelude.{◌≡◌, ℕ, ◌*◌, Bool, true, false, cond, nat_le, List, Result, Ok, Err, refl}
+use Rattle.std.specs.Prelude.{◌≡◌, ℕ, ◌*◌, Bool, true, false, cond, nat_le, List, Result, Ok, Err}
+use Rattle.std.specs.Prelude.{refl}
 use Rattle.std.proofs.lemmas.Bool.{leb-true}
 use Rattle.yaml_subset.specs.Spelling.{word}
 use Rattle.slo_duration.specs.Unit.{unit_minutes}
@@ -15,7 +16,8 @@ use Rattle.slo_objects.specs.Form.{Form, scalar_form}
 use Rattle.slo_objects.specs.Scalars.{within}
 
 -- a count of units as a duration, whose minutes fit 32 bits
-abbrev pub in_range : (count : ℕ) (unit : TimeUnit) (b : Bool) → nat_le (count * unit_minutes unit) 4_294_967_295 ≡ b → Result Duration DurationFault
+abbrev pub in_range : (count : ℕ) (unit : TimeUnit) (b : Bool)
+    → nat_le (count * unit_minutes unit) 4_294_967_295 ≡ b → Result Duration DurationFault
 in_range count unit true fits = Ok (record { count = count; unit = unit; fits = leb-true _ _ fits })
 in_range count unit false fits = Err durations.TooLong
 
@@ -33,7 +35,8 @@ minutes_of d = d.count * unit_minutes d.unit
 
 -- a duration where its minutes are in range
 abbrev pub duration_in : ℕ → ℕ → Result Duration DurationFault → Result Duration Rule
-duration_in least most (Ok d) = cond (within least most (minutes_of d)) (Ok d) (Err rules.OutOfRange)
+duration_in least most (Ok d) =
+    cond (within least most (minutes_of d)) (Ok d) (Err rules.OutOfRange)
 duration_in least most (Err durations.TooLong) = Err rules.OutOfRange
 duration_in least most (Err durations.Empty) = Err rules.NotDuration
 duration_in least most (Err durations.BadNumber) = Err rules.NotDuration
@@ -44,7 +47,8 @@ unfoldable pub duration_value : ℕ → ℕ → List ℕ → Result Duration Rul
 duration_value least most bytes = duration_in least most (duration_read bytes)
 
 abbrev pub duration : ℕ → ℕ → Form Duration
-duration least most = scalar_form rules.NotDuration (duration_value least most) (λ d. word (duration_text d))
+duration least most =
+    scalar_form rules.NotDuration (duration_value least most) (λ d. word (duration_text d))
 
 -- 30 and 366 days, in minutes
 abbrev pub month : ℕ

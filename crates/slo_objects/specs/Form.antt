@@ -1,9 +1,13 @@
--- How the maps of documents are told: each map is a table with a line for each field, and the line stands once for reading,
--- for refusing and for writing. What is read is a node, what is written is a spelling.
-use Rattle.std.specs.Prelude.{ℕ, ◌+◌, Bool, false, ◌&&◌, ◌||◌, not, cond, is_none, List, [], ◌∷◌, ◌++◌, Option, Some, None, Result, Ok, Err, codes}
+-- How the maps of documents are told: each map is a table with a line for each field, and the line
+-- stands once for reading, for refusing and for writing. What is read is a node, what is written
+-- is a spelling.
+use Rattle.std.specs.Prelude.{ℕ, ◌+◌, Bool, false, ◌&&◌, ◌||◌, not, cond, is_none, List, [], ◌∷◌}
+use Rattle.std.specs.Prelude.{◌++◌, Option, Some, None, Result, Ok, Err, codes}
 use Rattle.std.specs.Str.{bytes_eq, is_utf8}
-use Rattle.yaml_subset.specs.Tree.{Tree, mapping, sequence, scalar, Entries, no_entries, entry, Trees, no_trees, item}
-use Rattle.yaml_subset.specs.Spelling.{Spelling, fields, items, Fields, no_fields, field, Items, no_items, one_item, spelled}
+use Rattle.yaml_subset.specs.Tree.{Tree, mapping, sequence, scalar, Entries, no_entries, entry}
+use Rattle.yaml_subset.specs.Tree.{Trees, no_trees, item}
+use Rattle.yaml_subset.specs.Spelling.{Spelling, fields, items, Fields, no_fields, field, Items}
+use Rattle.yaml_subset.specs.Spelling.{no_items, one_item, spelled}
 use Rattle.slo_objects.specs.declared.fault.ObjectFault.{ObjectFault}
 use Rattle.slo_objects.specs.declared.fault.Rule.{Rule}
 use Rattle.slo_objects.specs.declared.fault.Rule.TheVariants as rules
@@ -45,13 +49,15 @@ pub record Form (A : Type 0) : Type 0 where
   pub read : Key → Tree → Answer A
   pub write : A → Spelling
 
--- A line of a table: its keys, how their fields are read, and the fields that a value is written as, before those behind them.
+-- A line of a table: its keys, how their fields are read, and the fields that a value is written
+-- as, before those behind them.
 pub record Row (B : Type 0) : Type 0 where
   pub keys : List Key
   pub read : Entries → Answer B
   pub write : B → Fields → Fields
 
--- A table: lines, each with the part of the whole that it tells, and at the end the whole. Later lines may depend on what earlier ones told.
+-- A table: lines, each with the part of the whole that it tells, and at the end the whole. Later
+-- lines may depend on what earlier ones told.
 pub data Rows (A : Type 0) : Type 1 where
   done : A → Rows A
   row : {B : Type 0} → Row B → (A → B) → (B → Rows A) → Rows A
@@ -85,7 +91,8 @@ list_in (scalar text plain) = None
 list_in (mapping es) = None
 list_in (sequence ts) = Some ts
 
--- The plain scalars that stand for nothing (YAML 1.2.2, section 10.3.2): a field with such a value is as omitted.
+-- The plain scalars that stand for nothing (YAML 1.2.2, section 10.3.2): a field with such a value
+-- is as omitted.
 abbrev pub nulls : List Key
 nulls = [] ∷ codes "~" ∷ codes "null" ∷ codes "Null" ∷ codes "NULL" ∷ []
 
@@ -118,7 +125,8 @@ shown key = shown_by (utf8_in key)
 -- no field stands in a map but the known ones
 abbrev pub closed : List Key → Entries → Answer (Unit {0})
 closed known no_entries = gives tt
-closed known (entry k t es) = cond (is_among known k || is_null t) (closed known es) (refused (shown k) rules.UnknownField)
+closed known (entry k t es) =
+    cond (is_among known k || is_null t) (closed known es) (refused (shown k) rules.UnknownField)
 
 -- A map is read line by line, in the order of its table, and its unknown fields last.
 abbrev pub run : {A : Type 0} → Rows A → List Key → Entries → Answer A
@@ -143,7 +151,8 @@ spelled_where f None = None
 spelled_where f (Some a) = Some (f.write a)
 
 -- A field where it stands; where it doesn't, `omitted` is the answer.
-abbrev pub field_or : {A : Type 0} → Answer (Option A) → Form A → Key → Option Tree → Answer (Option A)
+abbrev pub field_or : {A : Type 0} → Answer (Option A) → Form A → Key → Option Tree
+    → Answer (Option A)
 field_or omitted f key value = on_some omitted (λ t. mapped Some (f.read key t)) value
 
 -- a field that may be omitted
@@ -166,7 +175,8 @@ required key f = record {
 abbrev pub required_where : {A : Type 0} → Bool → Key → Form A → Row (Option A)
 required_where needed key f = record {
   keys = key ∷ [];
-  read = λ es. field_or (cond needed (refused key rules.Missing) (gives None)) f key (field_of key es);
+  read =
+      λ es. field_or (cond needed (refused key rules.Missing) (gives None)) f key (field_of key es);
   write = λ a behind. own_where key (spelled_where f a) behind;
 }
 
@@ -177,7 +187,8 @@ barred_field key value = on_some (gives None) (λ _. refused key rules.Both) val
 abbrev pub required_unless : {A : Type 0} → Bool → Key → Form A → Row (Option A)
 required_unless barred key f = record {
   keys = key ∷ [];
-  read = λ es. cond barred (barred_field key (field_of key es)) (field_or (refused key rules.Missing) f key (field_of key es));
+  read = λ es. cond barred (barred_field key (field_of key es))
+      (field_or (refused key rules.Missing) f key (field_of key es));
   write = λ a behind. own_where key (spelled_where f a) behind;
 }
 
@@ -187,7 +198,8 @@ has_one_of [] es = false
 has_one_of (k ∷ ks) es = not (is_none (field_of k es)) || has_one_of ks es
 
 abbrev pub alone_field : {A : Type 0} → Bool → Form A → Key → Option Tree → Answer (Option A)
-alone_field others f key value = on_some (gives None) (λ t. cond others (refused key rules.Both) (mapped Some (f.read key t))) value
+alone_field others f key value = on_some (gives None)
+    (λ t. cond others (refused key rules.Both) (mapped Some (f.read key t))) value
 
 abbrev pub optional_alone : {A : Type 0} → Key → List Key → Form A → Row (Option A)
 optional_alone key others f = record {
@@ -197,7 +209,8 @@ optional_alone key others f = record {
 }
 
 -- exactly one of two fields, whose fault has the first one's name
-abbrev pub either_field : {A : Type 0} → Form A → Key → Form A → Key → Option Tree → Option Tree → Answer A
+abbrev pub either_field : {A : Type 0} → Form A → Key → Form A → Key → Option Tree
+    → Option Tree → Answer A
 either_field f key g other None None = refused key rules.Neither
 either_field f key g other (Some t) None = f.read key t
 either_field f key g other None (Some t) = g.read other t
@@ -225,7 +238,8 @@ told key (Ok a) = gives a
 told key (Err rule) = refused key rule
 
 abbrev pub scalar_read : {A : Type 0} → Rule → (List ℕ → Result A Rule) → Key → Tree → Answer A
-scalar_read rule parse key t = on_some (refused key rule) (λ text. told key (parse text)) (scalar_in t)
+scalar_read rule parse key t =
+    on_some (refused key rule) (λ text. told key (parse text)) (scalar_in t)
 
 -- a scalar: the rule that another node breaks, how its text is read, and how a value is written
 abbrev pub scalar_form : {A : Type 0} → Rule → (List ℕ → Result A Rule) → (A → Spelling) → Form A
@@ -236,7 +250,10 @@ abbrev pub map_read : {A : Type 0} → (Entries → Answer A) → Key → Tree �
 map_read inside key t = on_some (refused key rules.NotMap) inside (mapping_in t)
 
 abbrev pub map_with : {A : Type 0} → Rows A → Form A
-map_with rows = record { read = λ key t. map_read (λ es. run rows [] es) key t; write = λ v. fields (put rows v) }
+map_with rows = record {
+  read = λ key t. map_read (λ es. run rows [] es) key t;
+  write = λ v. fields (put rows v);
+}
 
 -- a variant of a type: how its content is made one, and how each of the type's values is written
 abbrev pub variant : {A B : Type 0} → Form A → (A → B) → (B → Spelling) → Form B
@@ -255,24 +272,33 @@ abbrev pub count : Trees → ℕ
 count no_trees = 0
 count (item t ts) = 1 + count ts
 
-abbrev pub with_item : {A : Type 0} → List Object → List A → Answer A → (List Object → List A → Answer (List A)) → Answer (List A)
+abbrev pub with_item : {A : Type 0} → List Object → List A → Answer A
+    → (List Object → List A → Answer (List A)) → Answer (List A)
 with_item objects values (Ok p) rest = rest (objects ++ p.0) (values ++ p.1 ∷ [])
 with_item objects values (Err e) rest = Err e
 
-abbrev pub each : {A : Type 0} → (List A → Tree → Answer A) → List Object → List A → Trees → Answer (List A)
+abbrev pub each : {A : Type 0} → (List A → Tree → Answer A) → List Object → List A → Trees
+    → Answer (List A)
 each read objects values no_trees = Ok (objects, values)
-each read objects values (item t ts) = with_item objects values (read values t) (λ os vs. each read os vs ts)
+each read objects values (item t ts) =
+    with_item objects values (read values t) (λ os vs. each read os vs ts)
 
-abbrev pub list_read : {A : Type 0} → (ℕ → Bool) → (Key → List A → Tree → Answer A) → Key → Tree → Answer (List A)
+abbrev pub list_read : {A : Type 0} → (ℕ → Bool) → (Key → List A → Tree → Answer A) → Key → Tree
+    → Answer (List A)
 list_read may_have read key t = on_some (refused key rules.NotList)
-    (λ ts. cond (may_have (count ts)) (each (read key) [] [] ts) (refused key rules.ListLength)) (list_in t)
+    (λ ts. cond (may_have (count ts)) (each (read key) [] [] ts) (refused key rules.ListLength))
+    (list_in t)
 
 abbrev pub written_items : {A : Type 0} → (A → Spelling) → List A → Items
 written_items write [] = no_items
 written_items write (a ∷ rest) = one_item (write a) (written_items write rest)
 
-abbrev pub list_with : {A : Type 0} → (ℕ → Bool) → (Key → List A → Tree → Answer A) → (A → Spelling) → Form (List A)
-list_with may_have read write = record { read = list_read may_have read; write = λ v. items (written_items write v) }
+abbrev pub list_with : {A : Type 0} → (ℕ → Bool) → (Key → List A → Tree → Answer A) → (A → Spelling)
+    → Form (List A)
+list_with may_have read write = record {
+  read = list_read may_have read;
+  write = λ v. items (written_items write v);
+}
 
 -- a list of exactly one item
 abbrev pub only_in : Trees → Option Tree
@@ -281,7 +307,8 @@ only_in (item t no_trees) = Some t
 only_in (item t (item u ts)) = None
 
 abbrev pub single_read : {A : Type 0} → (Key → Tree → Answer A) → Key → Tree → Answer A
-single_read read key t = on_some (refused key rules.NotList) (λ ts. on_some (refused key rules.ListLength) (read key) (only_in ts)) (list_in t)
+single_read read key t = on_some (refused key rules.NotList)
+    (λ ts. on_some (refused key rules.ListLength) (read key) (only_in ts)) (list_in t)
 
 abbrev pub single : {A : Type 0} → Form A → Form A
 single f = record { read = single_read f.read; write = λ a. items (one_item (f.write a) no_items) }

@@ -5,17 +5,19 @@ use Rattle.yaml_subset.specs.Spelling.{Spelling, quoted, fields, no_fields}
 use Rattle.slo_objects.specs.declared.kind.Kind.{Kind}
 use Rattle.slo_objects.specs.declared.object.Object.{Object}
 use Rattle.slo_objects.specs.declared.object.Body.{Body}
-use Rattle.slo_objects.specs.Form.{Key, Answer, Form, Rows, done, run, field_of, ◌of◌, ◌>>=◌, required, optional, map_with, map_read, own}
+use Rattle.slo_objects.specs.Form.{Key, Answer, Form, Rows, done, run, field_of, ◌of◌, ◌>>=◌}
+use Rattle.slo_objects.specs.Form.{required, optional, map_with, map_read, own}
 use Rattle.slo_objects.specs.Metadata.{metadata, object_with, metadata_of}
 use Rattle.slo_objects.specs.Scalars.{name, version, only_kind}
+use Rattle.slo_objects.specs.declared.keys.TheConstants.{API_VERSION, KIND, METADATA, SPEC}
 
 -- An object that stands inline: its version and its kind may be omitted.
 unfoldable pub inline_object : Kind → Form Body → Rows Object
 inline_object kind body = do
-  _ ← optional (codes "apiVersion") version of λ o. None
-  _ ← optional (codes "kind") (only_kind kind) of λ o. None
-  metadata ← required (codes "metadata") (map_with metadata) of metadata_of
-  spec ← required (codes "spec") body of λ o. o.body
+  _ ← optional API_VERSION.now version of λ o. None
+  _ ← optional KIND.now (only_kind kind) of λ o. None
+  metadata ← required METADATA.now (map_with metadata) of metadata_of
+  spec ← required SPEC.now body of λ o. o.body
   done (object_with kind metadata spec)
 
 -- it is taken out behind those that stood in it, and its name stays
@@ -37,7 +39,8 @@ reference_written key n = fields (own key (quoted n) no_fields)
 
 -- an item that is a map: a reference where the reference's key stands, else an object
 abbrev pub item_read : Key → Kind → Form Body → Entries → Answer (List ℕ)
-item_read key kind body es = cond (is_none (field_of key es)) (inline_read kind body es) (run (reference key) [] es)
+item_read key kind body es =
+    cond (is_none (field_of key es)) (inline_read kind body es) (run (reference key) [] es)
 
 -- an item of a list of references: a fault of its form is the list's
 abbrev pub reference_item : Key → Kind → Form Body → Key → List (List ℕ) → Tree → Answer (List ℕ)

@@ -6,15 +6,22 @@ use Rattle.slo_objects.specs.declared.object.Body.{Body}
 use Rattle.slo_objects.specs.declared.object.Metadata.{Metadata}
 use Rattle.slo_objects.specs.Form.{Rows, done, ◌of◌, ◌>>=◌, required, optional, free_map}
 use Rattle.slo_objects.specs.Scalars.{name, text}
+use Rattle.slo_objects.specs.declared.inline.TheConstants.{ANNOTATIONS, LABELS, NAME}
+use Rattle.slo_objects.specs.declared.keys.TheConstants.{DISPLAY_NAME}
 
 -- `metadata` (OpenSLO v1, general schema)
 unfoldable pub metadata : Rows Metadata
 metadata = do
-  name ← required (codes "name") name of λ m. m.name
-  display_name ← optional (codes "displayName") text of λ m. m.display_name
-  labels ← optional (codes "labels") free_map of λ m. m.labels
-  annotations ← optional (codes "annotations") free_map of λ m. m.annotations
-  done (record { name = name; display_name = display_name; labels = labels; annotations = annotations })
+  name ← required NAME.now name of λ m. m.name
+  display_name ← optional DISPLAY_NAME.now text of λ m. m.display_name
+  labels ← optional LABELS.now free_map of λ m. m.labels
+  annotations ← optional ANNOTATIONS.now free_map of λ m. m.annotations
+  done (record {
+    name = name;
+    display_name = display_name;
+    labels = labels;
+    annotations = annotations;
+  })
 
 abbrev pub object_with : Kind → Metadata → Body → Object
 object_with kind m body = record {
@@ -27,4 +34,9 @@ object_with kind m body = record {
 }
 
 abbrev pub metadata_of : Object → Metadata
-metadata_of o = record { name = o.name; display_name = o.display_name; labels = o.labels; annotations = o.annotations }
+metadata_of o = record {
+  name = o.name;
+  display_name = o.display_name;
+  labels = o.labels;
+  annotations = o.annotations;
+}

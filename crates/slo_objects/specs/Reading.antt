@@ -8,6 +8,7 @@ use Rattle.slo_objects.specs.declared.fault.ObjectFault.{ObjectFault}
 use Rattle.slo_objects.specs.declared.fault.ReadError.{ReadError}
 use Rattle.slo_objects.specs.declared.fault.ReadError.TheVariants as errors
 use Rattle.slo_objects.specs.declared.object.Object.{Object}
+use Rattle.slo_objects.specs.Form.{Answer, after}
 
 abbrev pub Fails : {Y : Type 0} → ReadError → Result Y ObjectFault → Type 0
 Fails errors.NoMemory answer = Unit {0}
@@ -16,6 +17,11 @@ Fails (errors.Fault f) answer = answer ≡ Err f
 abbrev pub Gives : {X Y : Type 0} → (X → Y) → Result X ReadError → Result Y ObjectFault → Type 0
 Gives view (Ok x) answer = answer ≡ Ok (view x)
 Gives view (Err e) answer = Fails e answer
+
+-- the same of a function that adds to objects which were found before
+abbrev pub Reads : {A : Type 0} → List Object → List Object → Result A ReadError → Answer A → Type 0
+Reads old new (Ok a) answer = after old answer ≡ Ok (new, a)
+Reads old new (Err e) answer = Fails e answer
 
 -- a value with no objects that stood inline
 abbrev pub alone : {A : Type 0} → A → List Object × A

@@ -1,5 +1,7 @@
 -- What scalars stand for: texts, names, words, booleans and numbers.
-use Rattle.std.specs.Prelude.{ℕ, ◌+◌, ◌-◌, ◌/◌, ◌==◌, Bool, true, false, ◌&&◌, ◌||◌, not, cond, nat_le, List, [], ◌∷◌, length, slice_index, Option, Some, None, Result, Ok, Err, codes}
+use Rattle.std.specs.Prelude.{ℕ, ◌+◌, ◌-◌, ◌/◌, ◌==◌, Bool, true, false, ◌&&◌, ◌||◌, not, cond}
+use Rattle.std.specs.Prelude.{nat_le, List, [], ◌∷◌, length, slice_index, Option, Some, None}
+use Rattle.std.specs.Prelude.{Result, Ok, Err, codes}
 use Rattle.std.specs.List.{list_all}
 use Rattle.std.specs.Str.{bytes_eq, chars}
 use Rattle.std.specs.Char.{is_ascii_digit, is_ascii_lowercase}
@@ -43,7 +45,8 @@ description_value bytes = short_text (utf8_in bytes)
 abbrev pub description : Form (List ℕ)
 description = scalar_form rules.NotText description_value quoted
 
--- An object's name is a DNS label (OpenSLO v1, RFC 1123): 1 to 63 of lower-case letters, digits and `-`, the first and the last no `-`.
+-- An object's name is a DNS label (OpenSLO v1, RFC 1123): 1 to 63 of lower-case letters, digits and
+-- `-`, the first and the last no `-`.
 abbrev pub is_name_byte : ℕ → Bool
 is_name_byte byte = is_ascii_lowercase byte || is_ascii_digit byte || byte == 45
 
@@ -67,7 +70,8 @@ zone_name = scalar_form rules.BadName zone_value quoted
 -- the first of these values whose word it is
 abbrev pub of_word : {A : Type 0} → (A → Key) → List A → Key → Option A
 of_word spelling [] bytes = None
-of_word spelling (a ∷ more) bytes = cond (bytes_eq (spelling a) bytes) (Some a) (of_word spelling more bytes)
+of_word spelling (a ∷ more) bytes =
+    cond (bytes_eq (spelling a) bytes) (Some a) (of_word spelling more bytes)
 
 -- the one version that is read
 abbrev pub version_text : Key
@@ -90,7 +94,8 @@ kind_word kinds.AlertCondition = codes "AlertCondition"
 kind_word kinds.AlertNotificationTarget = codes "AlertNotificationTarget"
 
 abbrev pub all_kinds : List Kind
-all_kinds = kinds.DataSource ∷ kinds.Service ∷ kinds.Sli ∷ kinds.Slo ∷ kinds.AlertPolicy ∷ kinds.AlertCondition ∷ kinds.AlertNotificationTarget ∷ []
+all_kinds = kinds.DataSource ∷ kinds.Service ∷ kinds.Sli ∷ kinds.Slo ∷ kinds.AlertPolicy
+    ∷ kinds.AlertCondition ∷ kinds.AlertNotificationTarget ∷ []
 
 unfoldable pub kind_value : Key → Result Kind Rule
 kind_value bytes = found_or rules.BadKind (of_word kind_word all_kinds bytes)
@@ -129,10 +134,12 @@ abbrev pub falses : List Key
 falses = codes "false" ∷ codes "False" ∷ codes "FALSE" ∷ []
 
 unfoldable pub boolean_value : Key → Result Bool Rule
-boolean_value bytes = cond (is_among trues bytes) (Ok true) (cond (is_among falses bytes) (Ok false) (Err rules.NotBool))
+boolean_value bytes = cond (is_among trues bytes) (Ok true)
+    (cond (is_among falses bytes) (Ok false) (Err rules.NotBool))
 
 abbrev pub boolean : Form Bool
-boolean = scalar_form rules.NotBool boolean_value (λ b. word (cond b (codes "true") (codes "false")))
+boolean =
+    scalar_form rules.NotBool boolean_value (λ b. word (cond b (codes "true") (codes "false")))
 
 -- from `least` to `most`
 abbrev pub within : ℕ → ℕ → ℕ → Bool
@@ -155,7 +162,8 @@ unfoldable pub number_value : ℕ → ℕ → List ℕ → Result ℕ Rule
 number_value least most bytes = number_in least most (decimal_read bytes)
 
 abbrev pub number : ℕ → ℕ → Form ℕ
-number least most = scalar_form rules.NotNumber (number_value least most) (λ n. word (decimal_text n))
+number least most =
+    scalar_form rules.NotNumber (number_value least most) (λ n. word (decimal_text n))
 
 -- one in billionths, and the greatest decimal
 abbrev pub one : ℕ
@@ -174,7 +182,8 @@ hundredth (Ok n) = Ok (n / 100)
 hundredth (Err rule) = Err rule
 
 unfoldable pub percent_value : List ℕ → Result ℕ Rule
-percent_value bytes = cond (has_few_decimals bytes) (hundredth (number_value 0 99_999_999_999 bytes)) (Err rules.NotNumber)
+percent_value bytes = cond (has_few_decimals bytes)
+    (hundredth (number_value 0 99_999_999_999 bytes)) (Err rules.NotNumber)
 
 -- A percentage in [0, 100): its hundredth is kept, and is written as a number.
 abbrev pub percent : Form ℕ

@@ -3,12 +3,14 @@ use Rattle.std.specs.Prelude.{codes, Option, Some, None}
 use Rattle.slo_objects.specs.declared.service.Service.{Service}
 use Rattle.slo_objects.specs.declared.object.Body.{Body}
 use Rattle.slo_objects.specs.declared.object.Body.TheVariants as bodies
-use Rattle.slo_objects.specs.Form.{Rows, done, ◌of◌, ◌>>=◌, optional, Form, map_with, variant, written_where}
+use Rattle.slo_objects.specs.Form.{Rows, done, ◌of◌, ◌>>=◌, optional, Form, map_with, variant}
+use Rattle.slo_objects.specs.Form.{written_where}
 use Rattle.slo_objects.specs.Scalars.{description}
+use Rattle.slo_objects.specs.declared.keys.TheConstants.{DESCRIPTION}
 
 unfoldable pub service : Rows Service
 service = do
-  description ← optional (codes "description") description of λ s. s.description
+  description ← optional DESCRIPTION.now description of λ s. s.description
   done (record { description = description })
 
 -- the object's body
@@ -17,4 +19,5 @@ service_in (bodies.Service s) = Some s
 service_in _ = None
 
 abbrev pub service_body : Form Body
-service_body = variant (map_with service) bodies.Service (written_where (map_with service) service_in)
+service_body =
+    variant (map_with service) bodies.Service (written_where (map_with service) service_in)

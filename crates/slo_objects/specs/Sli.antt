@@ -16,21 +16,27 @@ use Rattle.slo_objects.specs.declared.fault.Rule.{Rule}
 use Rattle.slo_objects.specs.declared.fault.Rule.TheVariants as rules
 use Rattle.slo_objects.specs.declared.object.Body.{Body}
 use Rattle.slo_objects.specs.declared.object.Body.TheVariants as bodies
-use Rattle.slo_objects.specs.Form.{Key, Form, Rows, done, ◌of◌, ◌>>=◌, required, optional, optional_alone, one_of, map_with, variant, put, free, scalar_form, written_where}
+use Rattle.slo_objects.specs.Form.{Key, Form, Rows, done, ◌of◌, ◌>>=◌, required, optional}
+use Rattle.slo_objects.specs.Form.{optional_alone, one_of, map_with, variant, put, free}
+use Rattle.slo_objects.specs.Form.{scalar_form, written_where}
 use Rattle.slo_objects.specs.Scalars.{description, text, name, boolean, found_or, of_word}
+use Rattle.slo_objects.specs.declared.keys.TheConstants.{DESCRIPTION, SPEC, TYPE}
+use Rattle.slo_objects.specs.declared.sli.TheConstants.{BAD, COUNTER, GOOD, METRIC_SOURCE}
+use Rattle.slo_objects.specs.declared.sli.TheConstants.{METRIC_SOURCE_REF, RATIO_METRIC, RAW}
+use Rattle.slo_objects.specs.declared.sli.TheConstants.{RAW_TYPE, THRESHOLD_METRIC, TOTAL}
 
 -- `metricSource`
 unfoldable pub metric_source : Rows MetricSource
 metric_source = do
-  metric_source_ref ← optional (codes "metricSourceRef") name of λ m. m.metric_source_ref
-  type_text ← optional (codes "type") text of λ m. m.type_text
-  spec ← optional (codes "spec") free of λ m. m.spec
+  metric_source_ref ← optional METRIC_SOURCE_REF.now name of λ m. m.metric_source_ref
+  type_text ← optional TYPE.now text of λ m. m.type_text
+  spec ← optional SPEC.now free of λ m. m.spec
   done (record { metric_source_ref = metric_source_ref; type_text = type_text; spec = spec })
 
 -- `thresholdMetric`, `raw`, `total`, `good` and `bad`: a map of `metricSource`
 unfoldable pub source_map : Rows MetricSource
 source_map = do
-  source ← required (codes "metricSource") (map_with metric_source) of λ m. m
+  source ← required METRIC_SOURCE.now (map_with metric_source) of λ m. m
   done source
 
 abbrev pub source : Form MetricSource
@@ -62,7 +68,8 @@ is_good (Bad m) = false
 abbrev pub events_written : Events → Spelling
 events_written e = source.write (source_of e)
 
--- the parts of a ratio: where it is raw, what is said of its counts isn't looked at, and the other way round
+-- the parts of a ratio: where it is raw, what is said of its counts isn't looked at, and the
+-- other way round
 abbrev pub raw_in : Ratio → Option MetricSource
 raw_in (ratios.Raw raw _) = Some raw
 raw_in (ratios.Counts total events) = None
@@ -82,13 +89,14 @@ events_in (ratios.Counts total events) = events
 -- a ratio behind `counter` and `raw`, where `raw` stands and where it doesn't
 unfoldable pub raw_ratio : Option Bool → MetricSource → Rows RatioMetric
 raw_ratio counter raw = do
-  raw_type ← required (codes "rawType") raw_type of λ r. raw_type_in r.ratio
+  raw_type ← required RAW_TYPE.now raw_type of λ r. raw_type_in r.ratio
   done (record { counter = counter; ratio = ratios.Raw raw raw_type })
 
 unfoldable pub counted_ratio : Option Bool → Rows RatioMetric
 counted_ratio counter = do
-  total ← required (codes "total") source of λ r. total_in r.ratio
-  events ← one_of (codes "good") (variant source Good events_written) (codes "bad") (variant source Bad events_written) is_good of λ r. events_in r.ratio
+  total ← required TOTAL.now source of λ r. total_in r.ratio
+  events ← one_of GOOD.now (variant source Good events_written) BAD.now
+      (variant source Bad events_written) is_good of λ r. events_in r.ratio
   done (record { counter = counter; ratio = ratios.Counts total events })
 
 abbrev pub rest_of_ratio : Option Bool → Option MetricSource → Rows RatioMetric
@@ -97,13 +105,13 @@ rest_of_ratio counter None = counted_ratio counter
 
 -- the fields before them
 abbrev pub known_with_raw : List Key
-known_with_raw = codes "counter" ∷ codes "raw" ∷ []
+known_with_raw = COUNTER.now ∷ RAW.now ∷ []
 
 -- `ratioMetric`
 unfoldable pub ratio_metric : Rows RatioMetric
 ratio_metric = do
-  counter ← optional (codes "counter") boolean of λ r. r.counter
-  raw ← optional_alone (codes "raw") (codes "total" ∷ codes "good" ∷ codes "bad" ∷ []) source of λ r. raw_in r.ratio
+  counter ← optional COUNTER.now boolean of λ r. r.counter
+  raw ← optional_alone RAW.now (TOTAL.now ∷ GOOD.now ∷ BAD.now ∷ []) source of λ r. raw_in r.ratio
   rest_of_ratio counter raw
 
 abbrev pub is_threshold : Metric → Bool
@@ -117,8 +125,10 @@ metric_written (metrics.Ratio r) = fields (put ratio_metric r)
 -- `spec`
 unfoldable pub sli : Rows Sli
 sli = do
-  description ← optional (codes "description") description of λ s. s.description
-  metric ← one_of (codes "thresholdMetric") (variant source metrics.Threshold metric_written) (codes "ratioMetric") (variant (map_with ratio_metric) metrics.Ratio metric_written) is_threshold of λ s. s.metric
+  description ← optional DESCRIPTION.now description of λ s. s.description
+  metric ← one_of THRESHOLD_METRIC.now (variant source metrics.Threshold metric_written)
+      RATIO_METRIC.now (variant (map_with ratio_metric) metrics.Ratio metric_written) is_threshold
+      of λ s. s.metric
   done (record { description = description; metric = metric })
 
 -- the object's body

@@ -1,5 +1,6 @@
 -- Objectives over time (OpenSLO v1, SLO).
-use Rattle.std.specs.Prelude.{ℕ, ◌%◌, ◌==◌, Bool, true, false, ◌&&◌, ◌||◌, cond, nat_le, List, [], ◌∷◌, Option, Some, None, Result, Ok, Err, codes, decimal}
+use Rattle.std.specs.Prelude.{ℕ, ◌%◌, ◌==◌, Bool, true, false, ◌&&◌, ◌||◌, cond, nat_le, List, []}
+use Rattle.std.specs.Prelude.{◌∷◌, Option, Some, None, Result, Ok, Err, codes, decimal}
 use Rattle.yaml_subset.specs.Tree.{Tree}
 use Rattle.yaml_subset.specs.Spelling.{word, quoted}
 use Rattle.exact_fraction.specs.Digits.{is_number, number_within}
@@ -17,21 +18,34 @@ use Rattle.slo_objects.specs.declared.slo.Slo.{Slo}
 use Rattle.slo_objects.specs.declared.slo.TimeWindow.{TimeWindow}
 use Rattle.slo_objects.specs.declared.slo.Calendar.{Calendar}
 use Rattle.slo_objects.specs.declared.slo.BudgetingMethod.{BudgetingMethod}
-use Rattle.slo_objects.specs.declared.slo.BudgetingMethod.TheVariants.{Occurrences, Timeslices, RatioTimeslices}
+use Rattle.slo_objects.specs.declared.slo.BudgetingMethod.TheVariants.{Occurrences, Timeslices}
+use Rattle.slo_objects.specs.declared.slo.BudgetingMethod.TheVariants.{RatioTimeslices}
 use Rattle.slo_objects.specs.declared.slo.Objective.{Objective}
-use Rattle.slo_objects.specs.Form.{Key, Answer, refused, on_some, Form, Rows, done, ◌of◌, ◌>>=◌, required, optional, required_where, required_unless, holding, one_of, map_with, map_read, single, list_with, variant, written_where, scalar_form, scalar_in, is_null, is_among}
-use Rattle.slo_objects.specs.Scalars.{description, text, name, zone_name, boolean, op, number, percent, found_or, of_word, one, greatest}
+use Rattle.slo_objects.specs.Form.{Key, Answer, refused, on_some, Form, Rows, done, ◌of◌, ◌>>=◌}
+use Rattle.slo_objects.specs.Form.{required, optional, required_where, required_unless, holding}
+use Rattle.slo_objects.specs.Form.{one_of, map_with, map_read, single, list_with, variant}
+use Rattle.slo_objects.specs.Form.{written_where, scalar_form, scalar_in, is_null, is_among}
+use Rattle.slo_objects.specs.Scalars.{description, text, name, zone_name, boolean, op, number}
+use Rattle.slo_objects.specs.Scalars.{percent, found_or, of_word, one, greatest}
 use Rattle.slo_objects.specs.Durations.{duration, duration_read, minutes_of, leap_year}
 use Rattle.slo_objects.specs.Moments.{moment}
 use Rattle.slo_objects.specs.Inline.{inline_read, item_read, reference_written}
 use Rattle.slo_objects.specs.Sli.{sli_body}
 use Rattle.slo_objects.specs.AlertPolicy.{policy_body}
+use Rattle.slo_objects.specs.declared.keys.TheConstants.{DESCRIPTION, DISPLAY_NAME, OP, TARGET}
+use Rattle.slo_objects.specs.declared.objective.TheConstants.{TARGET_PERCENT, TIME_SLICE_TARGET}
+use Rattle.slo_objects.specs.declared.objective.TheConstants.{TIME_SLICE_WINDOW, VALUE}
+use Rattle.slo_objects.specs.declared.slo.TheConstants.{ALERT_POLICIES, ALERT_POLICY_REF}
+use Rattle.slo_objects.specs.declared.slo.TheConstants.{BUDGETING_METHOD, INDICATOR, INDICATOR_REF}
+use Rattle.slo_objects.specs.declared.slo.TheConstants.{OBJECTIVES, SERVICE, TIME_WINDOW}
+use Rattle.slo_objects.specs.declared.window.TheConstants.{CALENDAR, DURATION, IS_ROLLING}
+use Rattle.slo_objects.specs.declared.window.TheConstants.{START_TIME, TIME_ZONE}
 
 -- `calendar`
 unfoldable pub calendar : Rows Calendar
 calendar = do
-  start_time ← required (codes "startTime") moment of λ c. c.start_time
-  time_zone ← required (codes "timeZone") zone_name of λ c. c.time_zone
+  start_time ← required START_TIME.now moment of λ c. c.start_time
+  time_zone ← required TIME_ZONE.now zone_name of λ c. c.time_zone
   done (record { start_time = start_time; time_zone = time_zone })
 
 -- an omitted `isRolling` is false
@@ -52,10 +66,12 @@ is_calendar_unit units.Year = true
 -- the one item of `timeWindow`: it lasts at least a minute and at most 366 days
 unfoldable pub time_window : Rows TimeWindow
 time_window = do
-  duration ← required (codes "duration") (duration 1 leap_year) of λ w. w.duration
-  rolling ← optional (codes "isRolling") boolean of λ w. w.is_rolling
-  _ ← holding (is_rolling rolling || is_calendar_unit duration.unit) (codes "duration") rules.OutOfRange of λ w. tt
-  calendar ← required_unless (is_rolling rolling) (codes "calendar") (map_with calendar) of λ w. w.calendar
+  duration ← required DURATION.now (duration 1 leap_year) of λ w. w.duration
+  rolling ← optional IS_ROLLING.now boolean of λ w. w.is_rolling
+  _ ← holding (is_rolling rolling || is_calendar_unit duration.unit) DURATION.now
+      rules.OutOfRange of λ w. tt
+  calendar ← required_unless (is_rolling rolling) CALENDAR.now (map_with calendar) of
+      λ w. w.calendar
   done (record { duration = duration; is_rolling = rolling; calendar = calendar })
 
 -- the words of `budgetingMethod`
@@ -101,7 +117,8 @@ width_of_digits None = Err rules.OutOfRange
 width_of_digits (Some n) = width_in n
 
 unfoldable pub width_value : List ℕ → Result ℕ Rule
-width_value bytes = cond (is_number bytes) (width_of_digits (number_within 60 bytes)) (width_of_duration (duration_read bytes))
+width_value bytes = cond (is_number bytes) (width_of_digits (number_within 60 bytes))
+    (width_of_duration (duration_read bytes))
 
 -- the width of a slice: minutes, or a duration; it is written in minutes
 abbrev pub slice_width : Form ℕ
@@ -117,13 +134,22 @@ is_target n = true
 -- an item of `objectives`
 unfoldable pub objective : BudgetingMethod → Rows Objective
 objective method = do
-  display_name ← optional (codes "displayName") text of λ o. o.display_name
-  op ← optional (codes "op") op of λ o. o.op
-  value ← optional (codes "value") (number 0 greatest) of λ o. o.value
-  target ← one_of (codes "target") target (codes "targetPercent") percent is_target of λ o. o.target
-  time_slice_target ← required_where (has_slice_target method) (codes "timeSliceTarget") (number 1 one) of λ o. o.time_slice_target
-  time_slice_window ← required_where (has_slices method) (codes "timeSliceWindow") slice_width of λ o. o.time_slice_window
-  done (record { display_name = display_name; op = op; value = value; target = target; time_slice_target = time_slice_target; time_slice_window = time_slice_window })
+  display_name ← optional DISPLAY_NAME.now text of λ o. o.display_name
+  op ← optional OP.now op of λ o. o.op
+  value ← optional VALUE.now (number 0 greatest) of λ o. o.value
+  target ← one_of TARGET.now target TARGET_PERCENT.now percent is_target of λ o. o.target
+  time_slice_target ← required_where (has_slice_target method) TIME_SLICE_TARGET.now (number 1 one)
+      of λ o. o.time_slice_target
+  time_slice_window ← required_where (has_slices method) TIME_SLICE_WINDOW.now slice_width of λ o.
+      o.time_slice_window
+  done (record {
+    display_name = display_name;
+    op = op;
+    value = value;
+    target = target;
+    time_slice_target = time_slice_target;
+    time_slice_window = time_slice_window;
+  })
 
 abbrev pub one_to_five : ℕ → Bool
 one_to_five n = nat_le 1 n && nat_le n 5
@@ -132,11 +158,15 @@ abbrev pub objective_item : BudgetingMethod → Key → List Objective → Tree 
 objective_item method listed before t = (map_with (objective method)).read listed t
 
 abbrev pub objectives : BudgetingMethod → Form (List Objective)
-objectives method = list_with one_to_five (objective_item method) (map_with (objective method)).write
+objectives method =
+    list_with one_to_five (objective_item method) (map_with (objective method)).write
 
 -- an inline indicator, which is taken out, or the name of one; written as a reference
 abbrev pub inline_indicator : Form (List ℕ)
-inline_indicator = record { read = λ key t. map_read (inline_read kinds.Sli sli_body) key t; write = quoted }
+inline_indicator = record {
+  read = λ key t. map_read (inline_read kinds.Sli sli_body) key t;
+  write = quoted;
+}
 
 abbrev pub is_inline : List ℕ → Bool
 is_inline n = false
@@ -147,10 +177,12 @@ unrepeated listed before (Ok p) = cond (is_among before p.1) (refused listed rul
 unrepeated listed before (Err f) = Err f
 
 abbrev pub policy_map : Key → Tree → Answer Key
-policy_map listed t = map_read (item_read (codes "alertPolicyRef") kinds.AlertPolicy policy_body) listed t
+policy_map listed t =
+    map_read (item_read ALERT_POLICY_REF.now kinds.AlertPolicy policy_body) listed t
 
 abbrev pub policy_form : Key → Tree → Answer Key
-policy_form listed t = cond (is_null t) (refused listed rules.BadName) (on_some (policy_map listed t) (λ _. name.read listed t) (scalar_in t))
+policy_form listed t = cond (is_null t) (refused listed rules.BadName)
+    (on_some (policy_map listed t) (λ _. name.read listed t) (scalar_in t))
 
 abbrev pub policy_item : Key → List Key → Tree → Answer Key
 policy_item listed before t = unrepeated listed before (policy_form listed t)
@@ -159,19 +191,28 @@ abbrev pub at_most_ten : ℕ → Bool
 at_most_ten n = nat_le n 10
 
 abbrev pub policies : Form (List Key)
-policies = list_with at_most_ten policy_item (reference_written (codes "alertPolicyRef"))
+policies = list_with at_most_ten policy_item (reference_written ALERT_POLICY_REF.now)
 
 -- `spec`
 unfoldable pub slo : Rows Slo
 slo = do
-  description ← optional (codes "description") description of λ s. s.description
-  service ← required (codes "service") name of λ s. s.service
-  indicator ← one_of (codes "indicator") inline_indicator (codes "indicatorRef") name is_inline of λ s. s.indicator
-  time_window ← required (codes "timeWindow") (single (map_with time_window)) of λ s. s.time_window
-  method ← required (codes "budgetingMethod") method of λ s. s.budgeting_method
-  objectives ← required (codes "objectives") (objectives method) of λ s. s.objectives
-  alert_policies ← optional (codes "alertPolicies") policies of λ s. s.alert_policies
-  done (record { description = description; service = service; indicator = indicator; time_window = time_window; budgeting_method = method; objectives = objectives; alert_policies = alert_policies })
+  description ← optional DESCRIPTION.now description of λ s. s.description
+  service ← required SERVICE.now name of λ s. s.service
+  indicator ← one_of INDICATOR.now inline_indicator INDICATOR_REF.now name is_inline of
+      λ s. s.indicator
+  time_window ← required TIME_WINDOW.now (single (map_with time_window)) of λ s. s.time_window
+  method ← required BUDGETING_METHOD.now method of λ s. s.budgeting_method
+  objectives ← required OBJECTIVES.now (objectives method) of λ s. s.objectives
+  alert_policies ← optional ALERT_POLICIES.now policies of λ s. s.alert_policies
+  done (record {
+    description = description;
+    service = service;
+    indicator = indicator;
+    time_window = time_window;
+    budgeting_method = method;
+    objectives = objectives;
+    alert_policies = alert_policies;
+  })
 
 -- the object's body
 abbrev pub slo_in : Body → Option Slo

@@ -3,7 +3,8 @@ use Rattle.std.specs.Prelude.{◌≡◌, ℕ, zero, suc, true, false, List, [], 
 use Rattle.std.specs.Coded.{Coded}
 use Rattle.std.proofs.Common.{ap, sym, ◌∙◌}
 use base.Stored.{Gv, gnil, gnum, gcons}
-use Rattle.yaml_subset.specs.Tree.{Tree, mapping, sequence, scalar, Entries, no_entries, entry, Trees, no_trees, item}
+use Rattle.yaml_subset.specs.Tree.{Tree, mapping, sequence, scalar, Entries, no_entries, entry}
+use Rattle.yaml_subset.specs.Tree.{Trees, no_trees, item}
 
 abbrev bytes_code : List ℕ → Gv
 bytes_code [] = gnil
@@ -38,7 +39,8 @@ abbrev mutual
   trees_code no_trees = gnil
   trees_code (item t ts) = gcons (tree_code t) (trees_code ts)
 
--- what a tree of numbers stands for where a node, a node's entries, its items, or an entry is wanted
+-- what a tree of numbers stands for where a node, a node's entries, its items, or an
+-- entry is wanted
 pub record Back : Type 0 where
   pub tree : Tree
   pub entries : Entries
@@ -47,7 +49,13 @@ pub record Back : Type 0 where
   pub child : Tree
 
 abbrev nothing : Back
-nothing = record { tree = scalar [] true; entries = no_entries; trees = no_trees; key = []; child = scalar [] true }
+nothing = record {
+  tree = scalar [] true;
+  entries = no_entries;
+  trees = no_trees;
+  key = [];
+  child = scalar [] true;
+}
 
 abbrev tree_by : ℕ → List ℕ → Back → Tree
 tree_by zero bytes b = scalar bytes true
@@ -79,13 +87,19 @@ mutual
   entries_again : (es : Entries) → (back (entries_code es)).entries ≡ es
   entries_again no_entries = refl
   entries_again (entry k t es) =
-      ap (λ key. entry key (back (tree_code t)).tree (back (entries_code es)).entries) (bytes_again k)
-      ∙ (ap (λ child. entry k child (back (entries_code es)).entries) (tree_again t) ∙ ap (entry k t) (entries_again es))
+      ap (λ key. entry key (back (tree_code t)).tree (back (entries_code es)).entries)
+      (bytes_again k)
+      ∙ (ap (λ child. entry k child (back (entries_code es)).entries) (tree_again t)
+      ∙ ap (entry k t) (entries_again es))
 
   trees_again : (ts : Trees) → (back (trees_code ts)).trees ≡ ts
   trees_again no_trees = refl
   trees_again (item t ts) =
-      ap (λ first. item first (back (trees_code ts)).trees) (tree_again t) ∙ ap (item t) (trees_again ts)
+      ap (λ first. item first (back (trees_code ts)).trees) (tree_again t)
+      ∙ ap (item t) (trees_again ts)
 
 abbrev pub coded_tree : Coded Tree
-coded_tree = record { code = tree_code; inj = λ x y e. sym (tree_again x) ∙ (ap (λ g. (back g).tree) e ∙ tree_again y) }
+coded_tree = record {
+  code = tree_code;
+  inj = λ x y e. sym (tree_again x) ∙ (ap (λ g. (back g).tree) e ∙ tree_again y);
+}

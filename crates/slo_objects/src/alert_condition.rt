@@ -1,29 +1,38 @@
 //! Alert conditions.
-
-ghost use Rattle.std.specs.Prelude.{◌≡◌, []};
+ghost use Rattle.std.specs.Prelude.{◌≡◌, IfOk};
 ghost use Rattle.yaml_subset.specs.NodeView.{node_view};
-ghost use Rattle.slo_objects.specs.Form.{map_with, optional, required, run};
-ghost use Rattle.slo_objects.specs.Inline.{inline_object, inline_read};
-ghost use Rattle.slo_objects.specs.declared.kind.Kind.TheVariants as kinds;
-ghost use Rattle.slo_objects.specs.Reading.{Gives, alone, both, entries_view};
+ghost use Rattle.yaml_subset.specs.Spelling.{word};
+ghost use Rattle.slo_objects.specs.Form.{map_with};
+ghost use Rattle.slo_objects.specs.Reading.{Reads};
 ghost use Rattle.slo_objects.specs.AlertCondition.{condition, alert_condition, condition_body};
-ghost use Rattle.slo_objects.specs.AlertCondition.{condition_kind, condition_kind_value};
+ghost use Rattle.slo_objects.specs.AlertCondition.{condition_word, condition_kind_value};
+ghost use Rattle.slo_objects.specs.declared.fault.Rule.TheVariants as rules;
 
+use crate::copy::{copy_optional_text, copy_text};
+use crate::durations::{DurationForm, NumberForm};
 use crate::fault::{ReadError, Rule};
-use crate::fields::{close_with, fault_at, field};
-use crate::inline::{object_with, required_metadata, take_out};
-use crate::kind::Kind;
-use crate::object::{Body, Object, Objects};
-use crate::rows::{
-    optional_description, optional_duration, optional_only_kind, optional_op, optional_version,
-    required_duration, required_number, required_text,
-};
-use crate::scalars::is_word;
-use crate::shape::{map_entries, scalar_text};
-use exact_fraction::{Decimal, Label, Op, Text};
+use crate::fields::{close_with, fail_at};
+use crate::forms::{ReadForm, ReadText};
+use crate::keys::{DESCRIPTION, KIND, OP};
+use crate::object::{Body, Objects};
+use crate::rows::{optional, required};
+use crate::scalars::{DescriptionForm, OpForm, TextForm, is_word};
+use crate::shape::map_entries;
+use exact_fraction::{Decimal, Op, Text};
 use slo_duration::Duration;
-use std::alloc::Global;
-use yaml_subset::{Node, Text as NodeText};
+use std::alloc::{AllocError, Global};
+use yaml_subset::Node;
+
+// The keys of its maps that no other map has.
+pub(crate) const SEVERITY: &str = "severity";
+
+pub(crate) const CONDITION: &str = "condition";
+
+pub(crate) const THRESHOLD: &str = "threshold";
+
+pub(crate) const LOOKBACK_WINDOW: &str = "lookbackWindow";
+
+pub(crate) const ALERT_AFTER: &str = "alertAfter";
 
 /// The greatest threshold, 10,000, in billionths.
 const MOST_THRESHOLD: u64 = 10_000_000_000_000;
@@ -70,162 +79,156 @@ fn read_condition_kind(text: &[u8]) -> Result<ConditionKind, Rule>
 }
 
 /// The kind of a condition.
-fn condition_kind_of(alloc: Global, key: &str, node: &Node) -> Result<ConditionKind, ReadError>
-    ensures { Gives alone result (condition_kind.read key.now (node_view node.now)) }
-{
-    let Some(bytes) = scalar_text(node) else {
-        return Err(ReadError::Fault(fault_at(alloc, key, Rule::BadWord)?));
-    };
-    match read_condition_kind(bytes) {
-        Ok(value) => Ok(value),
-        Err(rule) => Err(ReadError::Fault(fault_at(alloc, key, rule)?)),
+pub(crate) struct ConditionKindForm;
+
+impl ReadText for ConditionKindForm {
+    type Value = ConditionKind;
+
+    ghost other = { λ _. rules.BadWord };
+
+    ghost value = { λ _. condition_kind_value };
+
+    ghost spelled = { λ _ k. word (condition_word k) };
+
+    fn rule(&self) -> Rule {
+        Rule::BadWord
+    }
+
+    fn parse(
+        &self,
+        _alloc: Global,
+        text: &[u8],
+    ) -> Result<Result<ConditionKind, Rule>, AllocError> {
+        Ok(read_condition_kind(text))
     }
 }
 
-fn optional_condition_kind(
-    alloc: Global,
-    fields: &[(NodeText, Node)],
-    key: &str,
-) -> Result<Option<ConditionKind>, ReadError>
-    ensures { Gives alone result ((optional key.now condition_kind).read
-        (entries_view fields.now)) }
-{
-    match field(fields, key) {
-        Some(node) => Ok(Some(condition_kind_of(alloc, key, node)?)),
-        None => Ok(None),
-    }
-}
+/// `condition`.
+struct ConditionForm;
 
-#[tactic(auto, unfolding(crate::specs::AlertCondition::condition))]
-fn condition_of(alloc: Global, key: &str, node: &Node) -> Result<Condition, ReadError>
-    ensures { Gives alone result ((map_with condition).read key.now (node_view node.now)) }
-{
-    let Some(fields) = map_entries(node) else {
-        return Err(ReadError::Fault(fault_at(alloc, key, Rule::NotMap)?));
-    };
-    let kind = optional_condition_kind(alloc, fields, "kind")?;
-    let op = optional_op(alloc, fields, "op")?;
-    let threshold = required_number(alloc, fields, "threshold", 0, MOST_THRESHOLD)?;
-    let lookback_window = required_duration(alloc, fields, "lookbackWindow", 1, MOST_LOOKBACK)?;
-    let alert_after = optional_duration(alloc, fields, "alertAfter", 0, MOST_LOOKBACK)?;
-    let condition = Condition {
-        kind,
-        op,
-        threshold,
-        lookback_window,
-        alert_after,
-    };
-    close_with(
-        alloc,
-        fields,
-        &["kind", "op", "threshold", "lookbackWindow", "alertAfter"],
-        condition,
-    )
-}
+impl ReadForm for ConditionForm {
+    type Value = Condition;
 
-fn required_condition(
-    alloc: Global,
-    fields: &[(NodeText, Node)],
-    key: &str,
-) -> Result<Condition, ReadError>
-    ensures { Gives alone result ((required key.now (map_with condition)).read
-        (entries_view fields.now)) }
-{
-    match field(fields, key) {
-        Some(node) => condition_of(alloc, key, node),
-        None => Err(ReadError::Fault(fault_at(alloc, key, Rule::Missing)?)),
+    ghost form = { λ _. map_with condition };
+
+    #[tactic(auto, unfolding(crate::specs::AlertCondition::condition))]
+    fn read(&self, found: &mut Objects, key: &str, node: &Node) -> Result<Condition, ReadError> {
+        let Some(fields) = map_entries(node) else {
+            return fail_at(found, key, Rule::NotMap);
+        };
+        let threshold_form = NumberForm {
+            least: 0,
+            most: MOST_THRESHOLD,
+        };
+        let lookback_form = DurationForm {
+            least: 1,
+            most: MOST_LOOKBACK,
+        };
+        let after_form = DurationForm {
+            least: 0,
+            most: MOST_LOOKBACK,
+        };
+        let kind = optional(found, fields, KIND, &ConditionKindForm)?;
+        let op = optional(found, fields, OP, &OpForm)?;
+        let threshold = required(found, fields, THRESHOLD, &threshold_form)?;
+        let lookback_window = required(found, fields, LOOKBACK_WINDOW, &lookback_form)?;
+        let alert_after = optional(found, fields, ALERT_AFTER, &after_form)?;
+        let condition = Condition {
+            kind,
+            op,
+            threshold,
+            lookback_window,
+            alert_after,
+        };
+        close_with(
+            found,
+            fields,
+            &[KIND, OP, THRESHOLD, LOOKBACK_WINDOW, ALERT_AFTER],
+            condition,
+        )
     }
 }
 
 /// The `spec` of a condition.
-#[tactic(auto, unfolding(crate::specs::AlertCondition::alert_condition))]
-pub(crate) fn alert_condition_of(
-    alloc: Global,
-    key: &str,
-    node: &Node,
-) -> Result<AlertCondition, ReadError>
-    ensures { Gives alone result ((map_with alert_condition).read key.now (node_view node.now)) }
-{
-    let Some(fields) = map_entries(node) else {
-        return Err(ReadError::Fault(fault_at(alloc, key, Rule::NotMap)?));
-    };
-    let description = optional_description(alloc, fields, "description")?;
-    let severity = match required_text(alloc, fields, "severity") {
-        Ok(severity) => severity,
-        Err(error) => {
-            drop(description);
-            return Err(error);
-        }
-    };
-    let condition = match required_condition(alloc, fields, "condition") {
-        Ok(condition) => condition,
-        Err(error) => {
-            drop(description);
-            drop(severity);
-            return Err(error);
-        }
-    };
-    let condition = AlertCondition {
-        description,
-        severity,
-        condition,
-    };
-    close_with(
-        alloc,
-        fields,
-        &["description", "severity", "condition"],
-        condition,
-    )
-}
+struct AlertConditionForm;
 
-/// The body of a condition, which must stand.
-pub(crate) fn required_condition_body(
-    alloc: Global,
-    fields: &[(NodeText, Node)],
-    key: &str,
-) -> Result<Body, ReadError>
-    ensures { Gives alone result ((required key.now condition_body).read
-        (entries_view fields.now)) }
-{
-    match field(fields, key) {
-        Some(node) => Ok(Body::AlertCondition(alert_condition_of(alloc, key, node)?)),
-        None => Err(ReadError::Fault(fault_at(alloc, key, Rule::Missing)?)),
+impl ReadForm for AlertConditionForm {
+    type Value = AlertCondition;
+
+    ghost form = { λ _. map_with alert_condition };
+
+    #[tactic(auto, unfolding(crate::specs::AlertCondition::alert_condition))]
+    fn read(
+        &self,
+        found: &mut Objects,
+        key: &str,
+        node: &Node,
+    ) -> Result<AlertCondition, ReadError> {
+        let Some(fields) = map_entries(node) else {
+            return fail_at(found, key, Rule::NotMap);
+        };
+        let description = optional(found, fields, DESCRIPTION, &DescriptionForm)?;
+        let severity = match required(found, fields, SEVERITY, &TextForm) {
+            Ok(severity) => severity,
+            Err(error) => {
+                drop(description);
+                return Err(error);
+            }
+        };
+        let condition = match required(found, fields, CONDITION, &ConditionForm) {
+            Ok(condition) => condition,
+            Err(error) => {
+                drop(description);
+                drop(severity);
+                return Err(error);
+            }
+        };
+        let condition = AlertCondition {
+            description,
+            severity,
+            condition,
+        };
+        close_with(
+            found,
+            fields,
+            &[DESCRIPTION, SEVERITY, CONDITION],
+            condition,
+        )
     }
 }
 
-/// A condition that stands inline.
-#[tactic(auto, unfolding(crate::specs::Inline::inline_object))]
-fn inline_condition_object(alloc: Global, fields: &[(NodeText, Node)]) -> Result<Object, ReadError>
-    ensures { Gives alone result (run (inline_object kinds.AlertCondition condition_body) []
-        (entries_view fields.now)) }
-{
-    let _version = optional_version(alloc, fields, "apiVersion")?;
-    let _kind = optional_only_kind(alloc, fields, "kind", Kind::AlertCondition)?;
-    let metadata = required_metadata(alloc, fields, "metadata")?;
-    let body = match required_condition_body(alloc, fields, "spec") {
-        Ok(body) => body,
-        Err(error) => {
-            drop(metadata);
-            return Err(error);
+/// The body of a condition.
+pub(crate) struct ConditionBody;
+
+impl ReadForm for ConditionBody {
+    type Value = Body;
+
+    ghost form = { λ _. condition_body };
+
+    fn read(&self, found: &mut Objects, key: &str, node: &Node) -> Result<Body, ReadError> {
+        match AlertConditionForm.read(found, key, node) {
+            Ok(condition) => Ok(Body::AlertCondition(condition)),
+            Err(error) => Err(error),
         }
-    };
-    let object = object_with(Kind::AlertCondition, metadata, body);
-    close_with(
-        alloc,
-        fields,
-        &["apiVersion", "kind", "metadata", "spec"],
-        object,
-    )
+    }
 }
 
-/// A condition that stands inline, and its name.
-pub(crate) fn inline_condition(
+/// A copy of a condition.
+pub(crate) fn copy_condition(
     alloc: Global,
-    fields: &[(NodeText, Node)],
-) -> Result<(Objects, Label), ReadError>
-    ensures { Gives both result (inline_read kinds.AlertCondition condition_body
-        (entries_view fields.now)) }
+    condition: &AlertCondition,
+) -> Result<AlertCondition, AllocError>
+    ensures { IfOk result (λ c. c ≡ condition.now) }
 {
-    let object = inline_condition_object(alloc, fields)?;
-    Ok(take_out(Objects::new(alloc), object)?)
+    Ok(AlertCondition {
+        description: copy_optional_text(alloc, &condition.description)?,
+        severity: copy_text(alloc, &condition.severity)?,
+        condition: Condition {
+            kind: condition.condition.kind,
+            op: condition.condition.op,
+            threshold: condition.condition.threshold,
+            lookback_window: condition.condition.lookback_window,
+            alert_after: condition.condition.alert_after,
+        },
+    })
 }

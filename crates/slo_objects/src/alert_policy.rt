@@ -1,28 +1,45 @@
 //! Alert policies.
-
-ghost use Rattle.std.specs.Prelude.{◌≡◌, []};
+ghost use Rattle.std.specs.Prelude.{◌≡◌, IfOk};
 ghost use Rattle.yaml_subset.specs.NodeView.{node_view};
-ghost use Rattle.slo_objects.specs.Form.{map_with, optional, required, run, each};
-ghost use Rattle.slo_objects.specs.Inline.{inline_object, inline_read};
-ghost use Rattle.slo_objects.specs.declared.kind.Kind.TheVariants as kinds;
-ghost use Rattle.slo_objects.specs.Reading.{Gives, alone, both, entries_view, trees_view};
-ghost use Rattle.slo_objects.specs.AlertPolicy.{alert_policy, condition_item as condition_item_lem};
-ghost use Rattle.slo_objects.specs.AlertPolicy.{target_item as target_item_lem, conditions};
-ghost use Rattle.slo_objects.specs.AlertPolicy.{targets, policy_body};
+ghost use Rattle.slo_objects.specs.Form.{map_with};
+ghost use Rattle.slo_objects.specs.Reading.{Reads};
+ghost use Rattle.slo_objects.specs.AlertPolicy.{alert_policy, condition_item, target_item};
+ghost use Rattle.slo_objects.specs.AlertPolicy.{conditions, targets, policy_body};
+ghost use Rattle.slo_objects.specs.AlertPolicy.{at_most_one, any_number_of};
 
-use crate::alert_condition::inline_condition;
-use crate::alert_notification_target::inline_target;
+use crate::alert_condition::ConditionBody;
+use crate::alert_notification_target::TargetBody;
+use crate::copy::copy_optional_text;
 use crate::fault::{ReadError, Rule};
-use crate::fields::{close_with_both, close_with_objects, fault_at, field};
-use crate::inline::{object_with, reference_of, required_metadata, take_out};
+use crate::fields::{close_with, fail_at};
+use crate::forms::ReadForm;
+use crate::inline::referenced;
+use crate::keys::DESCRIPTION;
 use crate::kind::Kind;
-use crate::names::Names;
-use crate::object::{Body, Object, Objects};
-use crate::rows::{optional_boolean, optional_description, optional_only_kind, optional_version};
-use crate::shape::{item_count, list_items, map_entries};
+use crate::lists::{ReadItem, names_of};
+use crate::names::{Names, copy_optional_names};
+use crate::object::{Body, Objects};
+use crate::rows::optional;
+use crate::scalars::{BooleanForm, DescriptionForm};
+use crate::shape::map_entries;
 use exact_fraction::{Label, Text};
-use std::alloc::Global;
-use yaml_subset::{Node, Text as NodeText};
+use std::alloc::{AllocError, Global};
+use yaml_subset::Node;
+
+// The keys that no other map has.
+pub(crate) const ALERT_WHEN_NO_DATA: &str = "alertWhenNoData";
+
+pub(crate) const ALERT_WHEN_RESOLVED: &str = "alertWhenResolved";
+
+pub(crate) const ALERT_WHEN_BREACHING: &str = "alertWhenBreaching";
+
+pub(crate) const CONDITIONS: &str = "conditions";
+
+pub(crate) const CONDITION_REF: &str = "conditionRef";
+
+pub(crate) const NOTIFICATION_TARGETS: &str = "notificationTargets";
+
+pub(crate) const TARGET_REF: &str = "targetRef";
 
 /// When an alert is told, and to whom.
 #[derive(Debug, Drop)]
@@ -37,232 +54,178 @@ pub struct AlertPolicy {
     pub notification_targets: Option<Names>,
 }
 
-/// An item of a list of conditions: a fault of its form is the list's.
-fn condition_item(alloc: Global, key: &str, node: &Node) -> Result<(Objects, Label), ReadError>
-    ensures { Gives both result (condition_item_lem key.now [] (node_view node.now)) }
-{
-    let Some(fields) = map_entries(node) else {
-        return Err(ReadError::Fault(fault_at(alloc, key, Rule::NotMap)?));
-    };
-    match field(fields, "conditionRef") {
-        None => inline_condition(alloc, fields),
-        Some(_) => {
-            let name = reference_of(alloc, fields, "conditionRef")?;
-            Ok((Objects::new(alloc), name))
-        }
+/// An item of `conditions`.
+struct ConditionItem;
+
+impl ReadItem for ConditionItem {
+    ghost item = { λ _. condition_item };
+
+    ghost may_have = { λ _. at_most_one };
+
+    fn may_have(&self, count: usize) -> bool {
+        count <= 1
+    }
+
+    fn read_item(
+        &self,
+        found: &mut Objects,
+        listed: &str,
+        _before: &Names,
+        node: &Node,
+    ) -> Result<Label, ReadError> {
+        let kind = Kind::AlertCondition;
+        referenced(found, listed, node, CONDITION_REF, kind, &ConditionBody)
     }
 }
 
-fn each_condition(alloc: Global, key: &str, items: &[Node]) -> Result<(Objects, Names), ReadError>
-    ensures { Gives both result (each (condition_item_lem key.now) [] [] (trees_view items.now)) }
-{
-    let mut objects = Objects::new(alloc);
-    let mut names = Names::new(alloc);
-    for node in items {
-        let (taken, name) = condition_item(alloc, key, node)?;
-        objects.append(taken)?;
-        names.push(name)?;
-    }
-    Ok((objects, names))
-}
+/// `conditions`: at most one.
+struct ConditionsForm;
 
-fn conditions_of(alloc: Global, key: &str, node: &Node) -> Result<(Objects, Names), ReadError>
-    ensures { Gives both result (conditions.read key.now (node_view node.now)) }
-{
-    let Some(items) = list_items(node) else {
-        return Err(ReadError::Fault(fault_at(alloc, key, Rule::NotList)?));
-    };
-    if item_count(items) > 1 {
-        return Err(ReadError::Fault(fault_at(alloc, key, Rule::ListLength)?));
-    }
-    each_condition(alloc, key, items)
-}
+impl ReadForm for ConditionsForm {
+    type Value = Names;
 
-fn optional_conditions(
-    alloc: Global,
-    fields: &[(NodeText, Node)],
-    key: &str,
-) -> Result<(Objects, Option<Names>), ReadError>
-    ensures { Gives both result ((optional key.now conditions).read (entries_view fields.now)) }
-{
-    match field(fields, key) {
-        Some(node) => {
-            let (objects, names) = conditions_of(alloc, key, node)?;
-            Ok((objects, Some(names)))
-        }
-        None => Ok((Objects::new(alloc), None)),
+    ghost form = { λ _. conditions };
+
+    fn read(&self, found: &mut Objects, key: &str, node: &Node) -> Result<Names, ReadError> {
+        names_of(found, key, node, &ConditionItem)
     }
 }
 
-/// An item of a list of targets: a fault of its form is the list's.
-fn target_item(alloc: Global, key: &str, node: &Node) -> Result<(Objects, Label), ReadError>
-    ensures { Gives both result (target_item_lem key.now [] (node_view node.now)) }
-{
-    let Some(fields) = map_entries(node) else {
-        return Err(ReadError::Fault(fault_at(alloc, key, Rule::NotMap)?));
-    };
-    match field(fields, "targetRef") {
-        None => inline_target(alloc, fields),
-        Some(_) => {
-            let name = reference_of(alloc, fields, "targetRef")?;
-            Ok((Objects::new(alloc), name))
-        }
+/// An item of `notificationTargets`.
+struct TargetItem;
+
+impl ReadItem for TargetItem {
+    ghost item = { λ _. target_item };
+
+    ghost may_have = { λ _. any_number_of };
+
+    fn may_have(&self, _count: usize) -> bool {
+        true
+    }
+
+    fn read_item(
+        &self,
+        found: &mut Objects,
+        listed: &str,
+        _before: &Names,
+        node: &Node,
+    ) -> Result<Label, ReadError> {
+        let kind = Kind::AlertNotificationTarget;
+        referenced(found, listed, node, TARGET_REF, kind, &TargetBody)
     }
 }
 
-fn each_target(alloc: Global, key: &str, items: &[Node]) -> Result<(Objects, Names), ReadError>
-    ensures { Gives both result (each (target_item_lem key.now) [] [] (trees_view items.now)) }
-{
-    let mut objects = Objects::new(alloc);
-    let mut names = Names::new(alloc);
-    for node in items {
-        let (taken, name) = target_item(alloc, key, node)?;
-        objects.append(taken)?;
-        names.push(name)?;
-    }
-    Ok((objects, names))
-}
+/// `notificationTargets`.
+struct TargetsForm;
 
-fn targets_of(alloc: Global, key: &str, node: &Node) -> Result<(Objects, Names), ReadError>
-    ensures { Gives both result (targets.read key.now (node_view node.now)) }
-{
-    let Some(items) = list_items(node) else {
-        return Err(ReadError::Fault(fault_at(alloc, key, Rule::NotList)?));
-    };
-    each_target(alloc, key, items)
-}
+impl ReadForm for TargetsForm {
+    type Value = Names;
 
-fn optional_targets(
-    alloc: Global,
-    fields: &[(NodeText, Node)],
-    key: &str,
-) -> Result<(Objects, Option<Names>), ReadError>
-    ensures { Gives both result ((optional key.now targets).read (entries_view fields.now)) }
-{
-    match field(fields, key) {
-        Some(node) => {
-            let (objects, names) = targets_of(alloc, key, node)?;
-            Ok((objects, Some(names)))
-        }
-        None => Ok((Objects::new(alloc), None)),
+    ghost form = { λ _. targets };
+
+    fn read(&self, found: &mut Objects, key: &str, node: &Node) -> Result<Names, ReadError> {
+        names_of(found, key, node, &TargetItem)
     }
 }
 
 /// The `spec` of a policy.
-#[tactic(auto, unfolding(crate::specs::AlertPolicy::alert_policy))]
-pub(crate) fn alert_policy_of(
-    alloc: Global,
-    key: &str,
-    node: &Node,
-) -> Result<(Objects, AlertPolicy), ReadError>
-    ensures { Gives both result ((map_with alert_policy).read key.now (node_view node.now)) }
+struct PolicyForm;
+
+impl ReadForm for PolicyForm {
+    type Value = AlertPolicy;
+
+    ghost form = { λ _. map_with alert_policy };
+
+    #[tactic(auto, unfolding(crate::specs::AlertPolicy::alert_policy))]
+    fn read(&self, found: &mut Objects, key: &str, node: &Node) -> Result<AlertPolicy, ReadError> {
+        let Some(fields) = map_entries(node) else {
+            return fail_at(found, key, Rule::NotMap);
+        };
+        let description = optional(found, fields, DESCRIPTION, &DescriptionForm)?;
+        let alert_when_no_data = optional(found, fields, ALERT_WHEN_NO_DATA, &BooleanForm)?;
+        let alert_when_resolved = optional(found, fields, ALERT_WHEN_RESOLVED, &BooleanForm)?;
+        let alert_when_breaching = optional(found, fields, ALERT_WHEN_BREACHING, &BooleanForm)?;
+        let conditions = match optional(found, fields, CONDITIONS, &ConditionsForm) {
+            Ok(conditions) => conditions,
+            Err(error) => {
+                drop(description);
+                return Err(error);
+            }
+        };
+        let targets = match optional(found, fields, NOTIFICATION_TARGETS, &TargetsForm) {
+            Ok(targets) => targets,
+            Err(error) => {
+                drop(description);
+                drop(conditions);
+                return Err(error);
+            }
+        };
+        let policy = AlertPolicy {
+            description,
+            alert_when_no_data,
+            alert_when_resolved,
+            alert_when_breaching,
+            conditions,
+            notification_targets: targets,
+        };
+        close_with(
+            found,
+            fields,
+            &[
+                DESCRIPTION,
+                ALERT_WHEN_NO_DATA,
+                ALERT_WHEN_RESOLVED,
+                ALERT_WHEN_BREACHING,
+                CONDITIONS,
+                NOTIFICATION_TARGETS,
+            ],
+            policy,
+        )
+    }
+}
+
+/// The body of a policy.
+pub(crate) struct PolicyBody;
+
+impl ReadForm for PolicyBody {
+    type Value = Body;
+
+    ghost form = { λ _. policy_body };
+
+    fn read(&self, found: &mut Objects, key: &str, node: &Node) -> Result<Body, ReadError> {
+        match PolicyForm.read(found, key, node) {
+            Ok(policy) => Ok(Body::AlertPolicy(policy)),
+            Err(error) => Err(error),
+        }
+    }
+}
+
+/// A copy of a policy.
+pub(crate) fn copy_policy(alloc: Global, policy: &AlertPolicy) -> Result<AlertPolicy, AllocError>
+    ensures { IfOk result (λ p. p ≡ policy.now) }
 {
-    let Some(fields) = map_entries(node) else {
-        return Err(ReadError::Fault(fault_at(alloc, key, Rule::NotMap)?));
-    };
-    let description = optional_description(alloc, fields, "description")?;
-    let alert_when_no_data = optional_boolean(alloc, fields, "alertWhenNoData")?;
-    let alert_when_resolved = optional_boolean(alloc, fields, "alertWhenResolved")?;
-    let alert_when_breaching = optional_boolean(alloc, fields, "alertWhenBreaching")?;
-    let (objects, conditions) = match optional_conditions(alloc, fields, "conditions") {
-        Ok(taken) => taken,
+    let description = copy_optional_text(alloc, &policy.description)?;
+    let conditions = match copy_optional_names(alloc, &policy.conditions) {
+        Ok(conditions) => conditions,
         Err(error) => {
             drop(description);
             return Err(error);
         }
     };
-    let (more, notification_targets) = match optional_targets(
-        alloc,
-        fields,
-        "notificationTargets",
-    ) {
-        Ok(taken) => taken,
+    let notification_targets = match copy_optional_names(alloc, &policy.notification_targets) {
+        Ok(notification_targets) => notification_targets,
         Err(error) => {
             drop(description);
-            drop(objects);
             drop(conditions);
             return Err(error);
         }
     };
-    let policy = AlertPolicy {
+    Ok(AlertPolicy {
         description,
-        alert_when_no_data,
-        alert_when_resolved,
-        alert_when_breaching,
+        alert_when_no_data: policy.alert_when_no_data,
+        alert_when_resolved: policy.alert_when_resolved,
+        alert_when_breaching: policy.alert_when_breaching,
         conditions,
         notification_targets,
-    };
-    close_with_both(
-        alloc,
-        fields,
-        &[
-            "description",
-            "alertWhenNoData",
-            "alertWhenResolved",
-            "alertWhenBreaching",
-            "conditions",
-            "notificationTargets",
-        ],
-        objects,
-        more,
-        policy,
-    )
-}
-
-/// The body of a policy, which must stand.
-pub(crate) fn required_policy_body(
-    alloc: Global,
-    fields: &[(NodeText, Node)],
-    key: &str,
-) -> Result<(Objects, Body), ReadError>
-    ensures { Gives both result ((required key.now policy_body).read (entries_view fields.now)) }
-{
-    match field(fields, key) {
-        Some(node) => {
-            let (objects, policy) = alert_policy_of(alloc, key, node)?;
-            Ok((objects, Body::AlertPolicy(policy)))
-        }
-        None => Err(ReadError::Fault(fault_at(alloc, key, Rule::Missing)?)),
-    }
-}
-
-/// A policy that stands inline.
-#[tactic(auto, unfolding(crate::specs::Inline::inline_object))]
-fn inline_policy_object(
-    alloc: Global,
-    fields: &[(NodeText, Node)],
-) -> Result<(Objects, Object), ReadError>
-    ensures { Gives both result (run (inline_object kinds.AlertPolicy policy_body) []
-        (entries_view fields.now)) }
-{
-    let _version = optional_version(alloc, fields, "apiVersion")?;
-    let _kind = optional_only_kind(alloc, fields, "kind", Kind::AlertPolicy)?;
-    let metadata = required_metadata(alloc, fields, "metadata")?;
-    let (objects, body) = match required_policy_body(alloc, fields, "spec") {
-        Ok(taken) => taken,
-        Err(error) => {
-            drop(metadata);
-            return Err(error);
-        }
-    };
-    let object = object_with(Kind::AlertPolicy, metadata, body);
-    close_with_objects(
-        alloc,
-        fields,
-        &["apiVersion", "kind", "metadata", "spec"],
-        objects,
-        object,
-    )
-}
-
-/// A policy that stands inline, behind what stands inline in it, and its name.
-pub(crate) fn inline_policy(
-    alloc: Global,
-    fields: &[(NodeText, Node)],
-) -> Result<(Objects, Label), ReadError>
-    ensures { Gives both result (inline_read kinds.AlertPolicy policy_body
-        (entries_view fields.now)) }
-{
-    let (objects, object) = inline_policy_object(alloc, fields)?;
-    Ok(take_out(objects, object)?)
+    })
 }

@@ -1,21 +1,20 @@
 //! Scalars: decimals and durations.
-ghost use Rattle.std.specs.Prelude.{◌≡◌, ◌+◌, ◌≤◌, length};
+ghost use Rattle.std.specs.Prelude.{◌≡◌, ◌+◌, ◌≤◌, length, IfOk};
 ghost use Rattle.std.specs.Char.{is_ascii_digit};
 ghost use Rattle.std.specs.List.{prefix_len};
-ghost use Rattle.yaml_subset.specs.NodeView.{node_view};
-ghost use Rattle.slo_objects.specs.Reading.{Gives, alone};
-ghost use Rattle.slo_objects.specs.Scalars.{number, number_value, decimal_read, percent};
-ghost use Rattle.slo_objects.specs.Scalars.{percent_value};
+ghost use Rattle.yaml_subset.specs.Spelling.{word};
+ghost use Rattle.exact_fraction.specs.DecimalText.{decimal_text};
+ghost use Rattle.slo_duration.specs.Writing.{duration_text};
+ghost use Rattle.slo_objects.specs.Scalars.{number_value, decimal_read, percent_value};
 ghost use Rattle.slo_objects.specs.Scalars.{has_few_decimals as has_few_decimals_lem};
-ghost use Rattle.slo_objects.specs.Durations.{duration, duration_value, duration_read};
+ghost use Rattle.slo_objects.specs.Durations.{duration_value, duration_read};
+ghost use Rattle.slo_objects.specs.declared.fault.Rule.TheVariants as rules;
 
-use crate::fault::{ReadError, Rule};
-use crate::fields::fault_at;
-use crate::shape::scalar_text;
+use crate::fault::Rule;
+use crate::forms::ReadText;
 use exact_fraction::{Decimal, DecimalFault, read_decimal};
 use slo_duration::{Duration, DurationFault, read_duration, rolling_minutes};
-use std::alloc::Global;
-use yaml_subset::Node;
+use std::alloc::{AllocError, Global};
 
 #[tactic(auto, unfolding(crate::specs::Scalars::decimal_read))]
 fn decimal_at(text: &[u8]) -> Result<Decimal, DecimalFault>
@@ -44,21 +43,27 @@ fn read_number(text: &[u8], least: u64, most: u64) -> Result<Decimal, Rule>
 }
 
 /// A decimal from `least` to `most` billionths.
-pub(crate) fn number_of(
-    alloc: Global,
-    key: &str,
-    node: &Node,
-    least: u64,
-    most: u64,
-) -> Result<Decimal, ReadError>
-    ensures { Gives alone result ((number least most).read key.now (node_view node.now)) }
-{
-    let Some(bytes) = scalar_text(node) else {
-        return Err(ReadError::Fault(fault_at(alloc, key, Rule::NotNumber)?));
-    };
-    match read_number(bytes, least, most) {
-        Ok(value) => Ok(value),
-        Err(rule) => Err(ReadError::Fault(fault_at(alloc, key, rule)?)),
+#[derive(Clone, Copy)]
+pub(crate) struct NumberForm {
+    pub(crate) least: u64,
+    pub(crate) most: u64,
+}
+
+impl ReadText for NumberForm {
+    type Value = Decimal;
+
+    ghost other = { λ _. rules.NotNumber };
+
+    ghost value = { λ n. number_value n.least n.most };
+
+    ghost spelled = { λ _ n. word (decimal_text n) };
+
+    fn rule(&self) -> Rule {
+        Rule::NotNumber
+    }
+
+    fn parse(&self, _alloc: Global, text: &[u8]) -> Result<Result<Decimal, Rule>, AllocError> {
+        Ok(read_number(text, self.least, self.most))
     }
 }
 
@@ -90,15 +95,23 @@ fn read_percent(text: &[u8]) -> Result<Decimal, Rule>
 }
 
 /// The hundredth of a percentage.
-pub(crate) fn percent_of(alloc: Global, key: &str, node: &Node) -> Result<Decimal, ReadError>
-    ensures { Gives alone result (percent.read key.now (node_view node.now)) }
-{
-    let Some(bytes) = scalar_text(node) else {
-        return Err(ReadError::Fault(fault_at(alloc, key, Rule::NotNumber)?));
-    };
-    match read_percent(bytes) {
-        Ok(value) => Ok(value),
-        Err(rule) => Err(ReadError::Fault(fault_at(alloc, key, rule)?)),
+pub(crate) struct PercentForm;
+
+impl ReadText for PercentForm {
+    type Value = Decimal;
+
+    ghost other = { λ _. rules.NotNumber };
+
+    ghost value = { λ _. percent_value };
+
+    ghost spelled = { λ _ n. word (decimal_text n) };
+
+    fn rule(&self) -> Rule {
+        Rule::NotNumber
+    }
+
+    fn parse(&self, _alloc: Global, text: &[u8]) -> Result<Result<Decimal, Rule>, AllocError> {
+        Ok(read_percent(text))
     }
 }
 
@@ -128,20 +141,26 @@ fn read_length(text: &[u8], least: u32, most: u32) -> Result<Duration, Rule>
 }
 
 /// A duration of `least` to `most` minutes.
-pub(crate) fn duration_of(
-    alloc: Global,
-    key: &str,
-    node: &Node,
-    least: u32,
-    most: u32,
-) -> Result<Duration, ReadError>
-    ensures { Gives alone result ((duration least most).read key.now (node_view node.now)) }
-{
-    let Some(bytes) = scalar_text(node) else {
-        return Err(ReadError::Fault(fault_at(alloc, key, Rule::NotDuration)?));
-    };
-    match read_length(bytes, least, most) {
-        Ok(value) => Ok(value),
-        Err(rule) => Err(ReadError::Fault(fault_at(alloc, key, rule)?)),
+#[derive(Clone, Copy)]
+pub(crate) struct DurationForm {
+    pub(crate) least: u32,
+    pub(crate) most: u32,
+}
+
+impl ReadText for DurationForm {
+    type Value = Duration;
+
+    ghost other = { λ _. rules.NotDuration };
+
+    ghost value = { λ d. duration_value d.least d.most };
+
+    ghost spelled = { λ _ d. word (duration_text d) };
+
+    fn rule(&self) -> Rule {
+        Rule::NotDuration
+    }
+
+    fn parse(&self, _alloc: Global, text: &[u8]) -> Result<Result<Duration, Rule>, AllocError> {
+        Ok(read_length(text, self.least, self.most))
     }
 }

@@ -1,27 +1,26 @@
 //! The fields of a map.
-ghost use Rattle.std.specs.Prelude.{◌≡◌, ◌&&◌, ◌||◌, not, option_map, map, IfOk};
+ghost use Rattle.std.specs.Prelude.{◌≡◌, ◌&&◌, ◌||◌, not, option_map, map};
 ghost use Rattle.std.specs.Str.{bytes_eq};
 ghost use Rattle.yaml_subset.specs.NodeView.{node_view};
-ghost use Rattle.slo_objects.specs.Form.{after, and_then, closed, field_of};
+ghost use Rattle.slo_objects.specs.Form.{and_then, closed, field_of, refused};
 ghost use Rattle.slo_objects.specs.Form.{is_among as is_among_lem};
 ghost use Rattle.slo_objects.specs.Form.{is_null as is_null_lem, map_read, gives, shown, utf8_in};
 ghost use Rattle.slo_objects.specs.Form.{has_one_of as has_one_of_lem};
-ghost use Rattle.slo_objects.specs.Reading.{Gives, alone, both, entries_view};
+ghost use Rattle.slo_objects.specs.Reading.{Gives, Reads, alone, entries_view};
 
 use crate::fault::{ObjectFault, ReadError, Rule};
 use crate::object::Objects;
 use crate::shape::is_null;
 use exact_fraction::Text;
-use std::alloc::{AllocError, Global};
 use std::str;
 use yaml_subset::{Node, Text as NodeText};
 
-/// The fault of a field.
-pub(crate) fn fault_at(alloc: Global, key: &str, rule: Rule) -> Result<ObjectFault, AllocError>
-    ensures { IfOk result (λ f. f ≡ record { field = key.now; rule = rule }) }
+/// Fails at a key: the one way in which a reader finds a fault.
+pub(crate) fn fail_at<T>(found: &Objects, key: &str, rule: Rule) -> Result<T, ReadError>
+    ensures { Reads found.now found.now result (refused key.now rule) }
 {
-    let field = Text::from_string(String::from_str(alloc, key)?);
-    Ok(ObjectFault { field, rule })
+    let field = Text::from_string(String::from_str(found.allocator(), key)?);
+    Err(ReadError::Fault(ObjectFault { field, rule }))
 }
 
 /// Whether a key is one of these.
@@ -86,28 +85,24 @@ pub(crate) fn utf8_text(bytes: &[u8]) -> Option<&str>
     }
 }
 
-/// The fault of a field that no map has.
+/// Fails at a field that no map has.
 #[tactic(auto, unfolding(crate::specs::Form::shown))]
-fn unknown_field(alloc: Global, name: &[u8]) -> Result<ObjectFault, AllocError>
-    ensures { IfOk result (λ f. f ≡ record { field = shown name.now; rule = Rule.UnknownField }) }
+fn fail_at_unknown<T>(found: &Objects, name: &[u8]) -> Result<T, ReadError>
+    ensures { Reads found.now found.now result (refused (shown name.now) Rule.UnknownField) }
 {
     match utf8_text(name) {
-        Some(name) => fault_at(alloc, name, Rule::UnknownField),
-        None => fault_at(alloc, "", Rule::UnknownField),
+        Some(name) => fail_at(found, name, Rule::UnknownField),
+        None => fail_at(found, "", Rule::UnknownField),
     }
 }
 
 /// Refuses a map with a field beside the known ones.
-pub(crate) fn close(
-    alloc: Global,
-    fields: &[(NodeText, Node)],
-    known: &[&str],
-) -> Result<(), ReadError>
+fn close(found: &Objects, fields: &[(NodeText, Node)], known: &[&str]) -> Result<(), ReadError>
     ensures { Gives alone result (closed (map (λ k. k.now) known.now) (entries_view fields.now)) }
 {
     for (name, value) in fields {
         if !may_stand(name, value, known) {
-            return Err(ReadError::Fault(unknown_field(alloc, name.as_bytes())?));
+            return fail_at_unknown(found, name.as_bytes());
         }
     }
     Ok(())
@@ -115,63 +110,16 @@ pub(crate) fn close(
 
 /// Closes a map behind the value that was read of it.
 pub(crate) fn close_with<T: Drop>(
-    alloc: Global,
+    found: &Objects,
     fields: &[(NodeText, Node)],
     known: &[&str],
     value: T,
 ) -> Result<T, ReadError>
-    ensures { Gives alone result (and_then (closed (map (λ k. k.now) known.now)
+    ensures { Reads found.now found.now result (and_then (closed (map (λ k. k.now) known.now)
         (entries_view fields.now)) (λ _. gives value)) }
 {
-    match close(alloc, fields, known) {
+    match close(found, fields, known) {
         Ok(()) => Ok(value),
         Err(error) => Err(error),
-    }
-}
-
-/// Closes a map behind the value that was read of it, and the objects that stood inline.
-pub(crate) fn close_with_objects<T: Drop>(
-    alloc: Global,
-    fields: &[(NodeText, Node)],
-    known: &[&str],
-    objects: Objects,
-    value: T,
-) -> Result<(Objects, T), ReadError>
-    ensures { Gives both result (after objects (and_then (closed (map (λ k. k.now) known.now)
-        (entries_view fields.now)) (λ _. gives value))) }
-{
-    match close(alloc, fields, known) {
-        Ok(()) => Ok((objects, value)),
-        Err(error) => {
-            drop(objects);
-            Err(error)
-        }
-    }
-}
-
-/// Closes a map behind the value that was read of it, and the objects that stood inline in two of
-/// its fields.
-pub(crate) fn close_with_both<T: Drop>(
-    alloc: Global,
-    fields: &[(NodeText, Node)],
-    known: &[&str],
-    mut objects: Objects,
-    more: Objects,
-    value: T,
-) -> Result<(Objects, T), ReadError>
-    ensures { Gives both result (after objects (after more (and_then
-        (closed (map (λ k. k.now) known.now) (entries_view fields.now)) (λ _. gives value)))) }
-{
-    if let Err(error) = close(alloc, fields, known) {
-        drop(objects);
-        drop(more);
-        return Err(error);
-    }
-    match objects.append(more) {
-        Ok(()) => Ok((objects, value)),
-        Err(_) => {
-            drop(objects);
-            Err(ReadError::NoMemory)
-        }
     }
 }

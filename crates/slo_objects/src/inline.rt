@@ -1,71 +1,73 @@
 //! Metadata, objects that stand inline, and references.
-ghost use Rattle.std.specs.Prelude.{◌≡◌, IfOk, [], ◌∷◌, ◌++◌};
+ghost use Rattle.std.specs.Prelude.{◌≡◌, []};
 ghost use Rattle.yaml_subset.specs.NodeView.{node_view};
-ghost use Rattle.slo_objects.specs.Form.{map_with, required, run};
-ghost use Rattle.slo_objects.specs.Reading.{Gives, alone, entries_view};
+ghost use Rattle.slo_objects.specs.Form.{map_read, map_with, run};
+ghost use Rattle.slo_objects.specs.Reading.{Reads, entries_view};
 ghost use Rattle.slo_objects.specs.Metadata.{metadata, object_with as object_with_lem};
-ghost use Rattle.slo_objects.specs.Inline.{reference};
+ghost use Rattle.slo_objects.specs.Inline.{reference, inline_object as inline_object_lem};
+ghost use Rattle.slo_objects.specs.Inline.{inline_read, item_read};
 
 use crate::fault::{ReadError, Rule};
-use crate::fields::{close, close_with, fault_at, field};
+use crate::fields::{close_with, fail_at, field};
+use crate::forms::{FreeMap, ReadForm};
+use crate::keys::{API_VERSION, DISPLAY_NAME, KIND, METADATA, SPEC};
 use crate::kind::Kind;
 use crate::object::{Body, Metadata, Object, Objects};
-use crate::rows::{optional_free_map, optional_text, required_name};
+use crate::rows::{optional, required};
+use crate::scalars::{NameForm, OnlyKindForm, TextForm, VersionForm};
 use crate::shape::map_entries;
 use exact_fraction::Label;
-use std::alloc::{AllocError, Global};
-use yaml_subset::{Node, Text as NodeText};
+use yaml_subset::{Node, Text};
 
-#[tactic(auto, unfolding(crate::specs::Metadata::metadata))]
-fn metadata_of(alloc: Global, key: &str, node: &Node) -> Result<Metadata, ReadError>
-    ensures { Gives alone result ((map_with metadata).read key.now (node_view node.now)) }
-{
-    let Some(fields) = map_entries(node) else {
-        return Err(ReadError::Fault(fault_at(alloc, key, Rule::NotMap)?));
-    };
-    let name = required_name(alloc, fields, "name")?;
-    let display_name = optional_text(alloc, fields, "displayName")?;
-    let labels = match optional_free_map(alloc, fields, "labels") {
-        Ok(labels) => labels,
-        Err(error) => {
-            drop(display_name);
-            return Err(error);
-        }
-    };
-    let annotations = match optional_free_map(alloc, fields, "annotations") {
-        Ok(annotations) => annotations,
-        Err(error) => {
-            drop(display_name);
-            drop(labels);
-            return Err(error);
-        }
-    };
-    let metadata = Metadata {
-        name,
-        display_name,
-        labels,
-        annotations,
-    };
-    close_with(
-        alloc,
-        fields,
-        &["name", "displayName", "labels", "annotations"],
-        metadata,
-    )
-}
+// The keys of metadata that no other map has.
+pub(crate) const NAME: &str = "name";
 
-/// The metadata, which must stand.
-pub(crate) fn required_metadata(
-    alloc: Global,
-    fields: &[(NodeText, Node)],
-    key: &str,
-) -> Result<Metadata, ReadError>
-    ensures { Gives alone result ((required key.now (map_with metadata)).read
-        (entries_view fields.now)) }
-{
-    match field(fields, key) {
-        Some(node) => metadata_of(alloc, key, node),
-        None => Err(ReadError::Fault(fault_at(alloc, key, Rule::Missing)?)),
+pub(crate) const LABELS: &str = "labels";
+
+pub(crate) const ANNOTATIONS: &str = "annotations";
+
+/// `metadata`.
+pub(crate) struct MetadataForm;
+
+impl ReadForm for MetadataForm {
+    type Value = Metadata;
+
+    ghost form = { λ _. map_with metadata };
+
+    #[tactic(auto, unfolding(crate::specs::Metadata::metadata))]
+    fn read(&self, found: &mut Objects, key: &str, node: &Node) -> Result<Metadata, ReadError> {
+        let Some(fields) = map_entries(node) else {
+            return fail_at(found, key, Rule::NotMap);
+        };
+        let name = required(found, fields, NAME, &NameForm)?;
+        let display_name = optional(found, fields, DISPLAY_NAME, &TextForm)?;
+        let labels = match optional(found, fields, LABELS, &FreeMap) {
+            Ok(labels) => labels,
+            Err(error) => {
+                drop(display_name);
+                return Err(error);
+            }
+        };
+        let annotations = match optional(found, fields, ANNOTATIONS, &FreeMap) {
+            Ok(annotations) => annotations,
+            Err(error) => {
+                drop(display_name);
+                drop(labels);
+                return Err(error);
+            }
+        };
+        let metadata = Metadata {
+            name,
+            display_name,
+            labels,
+            annotations,
+        };
+        close_with(
+            found,
+            fields,
+            &[NAME, DISPLAY_NAME, LABELS, ANNOTATIONS],
+            metadata,
+        )
     }
 }
 
@@ -83,25 +85,80 @@ pub(crate) fn object_with(kind: Kind, metadata: Metadata, body: Body) -> Object
     }
 }
 
-/// Takes an object out, behind those that stood in it. Its name stays.
-pub(crate) fn take_out(mut objects: Objects, object: Object) -> Result<(Objects, Label), AllocError>
-    ensures { IfOk result (λ taken. taken ≡ (objects ++ object ∷ [], object.name)) }
+/// An object that stands inline.
+#[tactic(auto, unfolding(crate::specs::Inline::inline_object))]
+fn inline_object<B: ReadForm<Value = Body>>(
+    found: &mut Objects,
+    fields: &[(Text, Node)],
+    kind: Kind,
+    body: &B,
+) -> Result<Object, ReadError>
+    ensures { Reads found.old found.new result
+        (run (inline_object_lem kind (B.form body.now)) [] (entries_view fields.now)) }
 {
+    let kind_form = OnlyKindForm { kind };
+    let _version = optional(found, fields, API_VERSION, &VersionForm)?;
+    let _kind = optional(found, fields, KIND, &kind_form)?;
+    let metadata = required(found, fields, METADATA, &MetadataForm)?;
+    let body = match required(found, fields, SPEC, body) {
+        Ok(body) => body,
+        Err(error) => {
+            drop(metadata);
+            return Err(error);
+        }
+    };
+    let object = object_with(kind, metadata, body);
+    close_with(found, fields, &[API_VERSION, KIND, METADATA, SPEC], object)
+}
+
+/// An object that stands inline: it is taken out behind those that stood in it, and its name stays.
+pub(crate) fn inline_name<B: ReadForm<Value = Body>>(
+    found: &mut Objects,
+    fields: &[(Text, Node)],
+    kind: Kind,
+    body: &B,
+) -> Result<Label, ReadError>
+    ensures { Reads found.old found.new result
+        (inline_read kind (B.form body.now) (entries_view fields.now)) }
+{
+    let object = inline_object(found, fields, kind, body)?;
     let name = object.name;
-    objects.push(object)?;
-    Ok((objects, name))
+    found.push(object)?;
+    Ok(name)
 }
 
 /// The name in a map that is a reference: of that key alone.
 #[tactic(auto, unfolding(crate::specs::Inline::reference))]
-pub(crate) fn reference_of(
-    alloc: Global,
-    fields: &[(NodeText, Node)],
+fn reference_name(
+    found: &mut Objects,
+    fields: &[(Text, Node)],
     key: &str,
 ) -> Result<Label, ReadError>
-    ensures { Gives alone result (run (reference key.now) [] (entries_view fields.now)) }
+    ensures { Reads found.old found.new result
+        (run (reference key.now) [] (entries_view fields.now)) }
 {
-    let name = required_name(alloc, fields, key)?;
-    close(alloc, fields, &[key])?;
-    Ok(name)
+    let name = required(found, fields, key, &NameForm)?;
+    close_with(found, fields, &[key], name)
+}
+
+/// An item of a list of references: a map, which is a reference where the reference's key stands,
+/// and else an object. A fault of its form is the list's.
+pub(crate) fn referenced<B: ReadForm<Value = Body>>(
+    found: &mut Objects,
+    listed: &str,
+    node: &Node,
+    key: &str,
+    kind: Kind,
+    body: &B,
+) -> Result<Label, ReadError>
+    ensures { Reads found.old found.new result (map_read
+        (item_read key.now kind (B.form body.now)) listed.now (node_view node.now)) }
+{
+    let Some(fields) = map_entries(node) else {
+        return fail_at(found, listed, Rule::NotMap);
+    };
+    match field(fields, key) {
+        None => inline_name(found, fields, kind, body),
+        Some(_) => reference_name(found, fields, key),
+    }
 }

@@ -1,15 +1,14 @@
 //! Scalars: civil moments.
-ghost use Rattle.std.specs.Prelude.{◌≡◌};
-ghost use Rattle.yaml_subset.specs.NodeView.{node_view};
+ghost use Rattle.std.specs.Prelude.{◌≡◌, IfOk};
+ghost use Rattle.yaml_subset.specs.Spelling.{quoted};
+ghost use Rattle.zone_calendar.specs.CivilText.{civil_text};
 ghost use Rattle.zone_calendar.specs.CivilRead.{civil_read};
-ghost use Rattle.slo_objects.specs.Reading.{Gives, alone};
-ghost use Rattle.slo_objects.specs.Moments.{moment, moment_value};
+ghost use Rattle.slo_objects.specs.Moments.{moment_value};
+ghost use Rattle.slo_objects.specs.declared.fault.Rule.TheVariants as rules;
 
-use crate::fault::{ReadError, Rule};
-use crate::fields::fault_at;
-use crate::shape::scalar_text;
-use std::alloc::Global;
-use yaml_subset::Node;
+use crate::fault::Rule;
+use crate::forms::ReadText;
+use std::alloc::{AllocError, Global};
 use zone_calendar::{Civil, read_civil};
 
 fn civil_at(text: &[u8]) -> Option<Civil>
@@ -29,14 +28,22 @@ fn read_moment(text: &[u8]) -> Result<Civil, Rule>
 }
 
 /// A civil moment.
-pub(crate) fn moment_of(alloc: Global, key: &str, node: &Node) -> Result<Civil, ReadError>
-    ensures { Gives alone result (moment.read key.now (node_view node.now)) }
-{
-    let Some(bytes) = scalar_text(node) else {
-        return Err(ReadError::Fault(fault_at(alloc, key, Rule::NotMoment)?));
-    };
-    match read_moment(bytes) {
-        Ok(value) => Ok(value),
-        Err(rule) => Err(ReadError::Fault(fault_at(alloc, key, rule)?)),
+pub(crate) struct MomentForm;
+
+impl ReadText for MomentForm {
+    type Value = Civil;
+
+    ghost other = { λ _. rules.NotMoment };
+
+    ghost value = { λ _. moment_value };
+
+    ghost spelled = { λ _ m. quoted (civil_text m) };
+
+    fn rule(&self) -> Rule {
+        Rule::NotMoment
+    }
+
+    fn parse(&self, _alloc: Global, text: &[u8]) -> Result<Result<Civil, Rule>, AllocError> {
+        Ok(read_moment(text))
     }
 }

@@ -1,5 +1,5 @@
 //! Lists of names.
-ghost use Rattle.std.specs.Prelude.{◌≡◌, [], ◌∷◌, ◌++◌, OnOk};
+ghost use Rattle.std.specs.Prelude.{◌≡◌, [], ◌∷◌, ◌++◌, OnOk, OnErr, IfOk};
 ghost use Rattle.slo_objects.specs.Form.{is_among};
 
 use exact_fraction::Label;
@@ -32,10 +32,13 @@ impl Names {
 
     /// Adds a name at the end.
     pub fn push(&mut self, name: Label) -> Result<(), AllocError>
-        ensures { OnOk result (self.new ≡ self.old ++ name ∷ []) }
+        ensures pushed { OnOk result (self.new ≡ self.old ++ name ∷ []) }
+        ensures kept { OnErr result (self.new ≡ self.old) }
     {
-        self.items.push(name)?;
-        Ok(())
+        match self.items.push(name) {
+            Ok(()) => Ok(()),
+            Err(_) => Err(AllocError),
+        }
     }
 
     /// Whether it is one of the names.
@@ -62,4 +65,27 @@ fn has_name(names: &[Label], name: &Label) -> bool
         }
     }
     false
+}
+
+fn copy_names(alloc: Global, names: &Names) -> Result<Names, AllocError>
+    ensures { IfOk result (λ ns. ns ≡ names.now) }
+{
+    let mut copies = Names::new(alloc);
+    for name in names.as_slice() {
+        copies.push(*name)?;
+    }
+    Ok(copies)
+}
+
+/// A copy of names, where there are some.
+pub(crate) fn copy_optional_names(
+    alloc: Global,
+    names: &Option<Names>,
+) -> Result<Option<Names>, AllocError>
+    ensures { IfOk result (λ ns. ns ≡ names.now) }
+{
+    match names {
+        Some(names) => Ok(Some(copy_names(alloc, names)?)),
+        None => Ok(None),
+    }
 }

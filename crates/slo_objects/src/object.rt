@@ -1,5 +1,5 @@
 //! Objects.
-ghost use Rattle.std.specs.Prelude.{◌≡◌, [], ◌∷◌, ◌++◌, OnOk};
+ghost use Rattle.std.specs.Prelude.{◌≡◌, [], ◌∷◌, ◌++◌, OnOk, OnErr};
 
 use crate::alert_condition::AlertCondition;
 use crate::alert_notification_target::AlertNotificationTarget;
@@ -83,17 +83,26 @@ impl Objects {
 
     /// Adds an object at the end.
     pub fn push(&mut self, object: Object) -> Result<(), AllocError>
-        ensures { OnOk result (self.new ≡ self.old ++ object ∷ []) }
+        ensures pushed { OnOk result (self.new ≡ self.old ++ object ∷ []) }
+        ensures kept { OnErr result (self.new ≡ self.old) }
     {
-        self.items.push(object)?;
-        Ok(())
+        match self.items.push(object) {
+            Ok(()) => Ok(()),
+            Err(_) => Err(AllocError),
+        }
     }
 
     /// Moves the objects of another list to the end.
     pub fn append(&mut self, mut others: Objects) -> Result<(), AllocError>
-        ensures { OnOk result (self.new ≡ self.old ++ others) }
+        ensures appended { OnOk result (self.new ≡ self.old ++ others) }
+        ensures kept { OnErr result (self.new ≡ self.old) }
     {
         self.items.append(&mut others.items)
+    }
+
+    /// The allocator of the list.
+    pub(crate) fn allocator(&self) -> Global {
+        *self.items.allocator()
     }
 
     /// The objects.

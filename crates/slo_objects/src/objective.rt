@@ -1,27 +1,41 @@
 //! Objectives of an SLO.
-ghost use Rattle.std.specs.Prelude.{◌≡◌, ◌≤◌};
+ghost use Rattle.std.specs.Prelude.{◌≡◌, ◌≤◌, IfOk, decimal};
 ghost use Rattle.std.specs.List.{list_all};
 ghost use Rattle.std.specs.Char.{is_ascii_digit};
 ghost use Rattle.exact_fraction.specs.Digits.{is_number};
+ghost use Rattle.yaml_subset.specs.Spelling.{word};
 ghost use Rattle.yaml_subset.specs.NodeView.{node_view};
-ghost use Rattle.slo_objects.specs.Form.{required_where, one_of, map_with};
-ghost use Rattle.slo_objects.specs.Reading.{Gives, alone, entries_view};
-ghost use Rattle.slo_objects.specs.Scalars.{number, percent};
-ghost use Rattle.slo_objects.specs.Slo.{objective, target, is_target, slice_width, width_value};
+ghost use Rattle.slo_objects.specs.Form.{map_with};
+ghost use Rattle.slo_objects.specs.Reading.{Reads};
+ghost use Rattle.slo_objects.specs.Slo.{objective, is_target, width_value};
 ghost use Rattle.slo_objects.specs.Slo.{width_in as width_in_lem};
 ghost use Rattle.slo_objects.specs.Slo.{has_slice_target as has_slice_target_lem};
 ghost use Rattle.slo_objects.specs.Slo.{has_slices as has_slices_lem};
+ghost use Rattle.slo_objects.specs.declared.fault.Rule.TheVariants as rules;
 
-use crate::durations::{duration_at, number_of, percent_of};
+use crate::durations::{NumberForm, PercentForm, duration_at};
 use crate::fault::{ReadError, Rule};
-use crate::fields::{close_with, fault_at, field};
-use crate::rows::{optional_number, optional_op, optional_text};
-use crate::shape::{map_entries, scalar_text};
+use crate::fields::{close_with, fail_at};
+use crate::forms::{ReadForm, ReadText};
+use crate::keys::{DISPLAY_NAME, OP, TARGET};
+use crate::object::Objects;
+use crate::rows::{one_of, optional, required_where};
+use crate::scalars::{OpForm, TextForm};
+use crate::shape::map_entries;
 use crate::slo::{BudgetingMethod, Objective};
-use exact_fraction::{Decimal, read_number};
+use exact_fraction::read_number;
 use slo_duration::{DurationFault, rolling_minutes};
-use std::alloc::Global;
-use yaml_subset::{Node, Text as NodeText};
+use std::alloc::{AllocError, Global};
+use yaml_subset::Node;
+
+// The keys that no other map has.
+pub(crate) const VALUE: &str = "value";
+
+pub(crate) const TARGET_PERCENT: &str = "targetPercent";
+
+pub(crate) const TIME_SLICE_TARGET: &str = "timeSliceTarget";
+
+pub(crate) const TIME_SLICE_WINDOW: &str = "timeSliceWindow";
 
 /// One, in billionths.
 const ONE: u64 = 1_000_000_000;
@@ -71,69 +85,24 @@ fn read_width(text: &[u8]) -> Result<u32, Rule>
     }
 }
 
-fn width_of(alloc: Global, key: &str, node: &Node) -> Result<u32, ReadError>
-    ensures { Gives alone result (slice_width.read key.now (node_view node.now)) }
-{
-    let Some(bytes) = scalar_text(node) else {
-        return Err(ReadError::Fault(fault_at(alloc, key, Rule::NotDuration)?));
-    };
-    match read_width(bytes) {
-        Ok(value) => Ok(value),
-        Err(rule) => Err(ReadError::Fault(fault_at(alloc, key, rule)?)),
-    }
-}
+/// The width of a slice: minutes, or a duration.
+pub(crate) struct WidthForm;
 
-/// The width of a slice, which must stand where it is needed.
-fn width_where(
-    alloc: Global,
-    needed: bool,
-    fields: &[(NodeText, Node)],
-    key: &str,
-) -> Result<Option<u32>, ReadError>
-    ensures { Gives alone result ((required_where needed key.now slice_width).read
-        (entries_view fields.now)) }
-{
-    match (field(fields, key), needed) {
-        (Some(node), _) => Ok(Some(width_of(alloc, key, node)?)),
-        (None, false) => Ok(None),
-        (None, true) => Err(ReadError::Fault(fault_at(alloc, key, Rule::Missing)?)),
-    }
-}
+impl ReadText for WidthForm {
+    type Value = u32;
 
-/// A decimal from `least` to `most` billionths, which must stand where it is needed.
-fn number_where(
-    alloc: Global,
-    needed: bool,
-    fields: &[(NodeText, Node)],
-    key: &str,
-    least: u64,
-    most: u64,
-) -> Result<Option<Decimal>, ReadError>
-    ensures { Gives alone result ((required_where needed key.now (number least most)).read
-        (entries_view fields.now)) }
-{
-    match (field(fields, key), needed) {
-        (Some(node), _) => Ok(Some(number_of(alloc, key, node, least, most)?)),
-        (None, false) => Ok(None),
-        (None, true) => Err(ReadError::Fault(fault_at(alloc, key, Rule::Missing)?)),
-    }
-}
+    ghost other = { λ _. rules.NotDuration };
 
-/// A target below one, or a percentage below a hundred.
-fn one_target(
-    alloc: Global,
-    fields: &[(NodeText, Node)],
-    key: &str,
-    other: &str,
-) -> Result<Decimal, ReadError>
-    ensures { Gives alone result ((one_of key.now target other.now percent is_target).read
-        (entries_view fields.now)) }
-{
-    match (field(fields, key), field(fields, other)) {
-        (Some(node), None) => number_of(alloc, key, node, 0, ONE - 1),
-        (None, Some(node)) => percent_of(alloc, other, node),
-        (None, None) => Err(ReadError::Fault(fault_at(alloc, key, Rule::Neither)?)),
-        (Some(_), Some(_)) => Err(ReadError::Fault(fault_at(alloc, key, Rule::Both)?)),
+    ghost value = { λ _. width_value };
+
+    ghost spelled = { λ _ n. word (decimal n) };
+
+    fn rule(&self) -> Rule {
+        Rule::NotDuration
+    }
+
+    fn parse(&self, _alloc: Global, text: &[u8]) -> Result<Result<u32, Rule>, AllocError> {
+        Ok(read_width(text))
     }
 }
 
@@ -158,51 +127,81 @@ fn has_slices(method: BudgetingMethod) -> bool
 }
 
 /// An item of `objectives`.
-#[tactic(auto, unfolding(crate::specs::Slo::objective))]
-pub(crate) fn objective_of(
-    alloc: Global,
-    key: &str,
-    node: &Node,
-    method: BudgetingMethod,
-) -> Result<Objective, ReadError>
-    ensures { Gives alone result ((map_with (objective method)).read key.now (node_view node.now)) }
-{
-    let Some(fields) = map_entries(node) else {
-        return Err(ReadError::Fault(fault_at(alloc, key, Rule::NotMap)?));
-    };
-    let display_name = optional_text(alloc, fields, "displayName")?;
-    let op = optional_op(alloc, fields, "op")?;
-    let value = optional_number(alloc, fields, "value", 0, GREATEST)?;
-    let target = one_target(alloc, fields, "target", "targetPercent")?;
-    let time_slice_target = number_where(
-        alloc,
-        has_slice_target(method),
-        fields,
-        "timeSliceTarget",
-        1,
-        ONE,
-    )?;
-    let time_slice_window = width_where(alloc, has_slices(method), fields, "timeSliceWindow")?;
-    let objective = Objective {
-        display_name,
-        op,
-        value,
-        target,
-        time_slice_target,
-        time_slice_window,
-    };
-    close_with(
-        alloc,
-        fields,
-        &[
-            "displayName",
-            "op",
-            "value",
-            "target",
-            "targetPercent",
-            "timeSliceTarget",
-            "timeSliceWindow",
-        ],
-        objective,
-    )
+#[derive(Clone, Copy)]
+pub(crate) struct ObjectiveForm {
+    pub(crate) method: BudgetingMethod,
+}
+
+impl ReadForm for ObjectiveForm {
+    type Value = Objective;
+
+    ghost form = { λ o. map_with (objective o.method) };
+
+    #[tactic(auto, unfolding(crate::specs::Slo::objective))]
+    fn read(&self, found: &mut Objects, key: &str, node: &Node) -> Result<Objective, ReadError> {
+        let Some(fields) = map_entries(node) else {
+            return fail_at(found, key, Rule::NotMap);
+        };
+        let wants_target = has_slice_target(self.method);
+        let wants_width = has_slices(self.method);
+        let value_form = NumberForm {
+            least: 0,
+            most: GREATEST,
+        };
+        let target_form = NumberForm {
+            least: 0,
+            most: ONE - 1,
+        };
+        let slice_form = NumberForm {
+            least: 1,
+            most: ONE,
+        };
+        let display_name = optional(found, fields, DISPLAY_NAME, &TextForm)?;
+        let op = optional(found, fields, OP, &OpForm)?;
+        let value = optional(found, fields, VALUE, &value_form)?;
+        let target = one_of(
+            found,
+            fields,
+            TARGET,
+            &target_form,
+            TARGET_PERCENT,
+            &PercentForm,
+        )?;
+        let time_slice_target = required_where(
+            found,
+            fields,
+            wants_target,
+            TIME_SLICE_TARGET,
+            &slice_form,
+        )?;
+        let time_slice_window = required_where(
+            found,
+            fields,
+            wants_width,
+            TIME_SLICE_WINDOW,
+            &WidthForm,
+        )?;
+        let objective = Objective {
+            display_name,
+            op,
+            value,
+            target,
+            time_slice_target,
+            time_slice_window,
+        };
+        close_with(
+            found,
+            fields,
+            &[
+                DISPLAY_NAME,
+                OP,
+                VALUE,
+                TARGET,
+                TARGET_PERCENT,
+                TIME_SLICE_TARGET,
+                TIME_SLICE_WINDOW,
+            ],
+            objective,
+        )
+    }
 }

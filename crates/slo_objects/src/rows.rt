@@ -1,291 +1,141 @@
-//! The lines of the tables: fields that must stand, and fields that may be omitted.
-ghost use Rattle.std.specs.Prelude.{◌≡◌, ◌≤◌};
+//! The lines of the tables: each kind of line once, over the forms of its values.
+ghost use Rattle.std.specs.Prelude.{map};
 ghost use Rattle.yaml_subset.specs.NodeView.{node_view};
-ghost use Rattle.slo_objects.specs.Form.{optional, required, free, free_map};
-ghost use Rattle.slo_objects.specs.Reading.{Gives, alone, entries_view};
-ghost use Rattle.slo_objects.specs.Scalars.{text, description, name, version, kind, only_kind, op};
-ghost use Rattle.slo_objects.specs.Scalars.{boolean, number};
-ghost use Rattle.slo_objects.specs.Durations.{duration};
+ghost use Rattle.slo_objects.specs.Form.{required as required_row, optional as optional_row};
+ghost use Rattle.slo_objects.specs.Form.{required_where as required_where_row};
+ghost use Rattle.slo_objects.specs.Form.{optional_alone as optional_alone_row};
+ghost use Rattle.slo_objects.specs.Form.{required_unless as required_unless_row};
+ghost use Rattle.slo_objects.specs.Form.{either_field, field_of, mapped};
+ghost use Rattle.slo_objects.specs.Reading.{Reads, entries_view};
 
-use crate::durations::{duration_of, number_of};
 use crate::fault::{ReadError, Rule};
-use crate::fields::{fault_at, field};
-use crate::kind::Kind;
-use crate::part::Part;
-use crate::scalars::{
-    boolean_of, description_of, kind_of, name_of, only_kind_of, op_of, text_of, version_of,
-};
-use crate::shape::map_entries;
-use exact_fraction::{Decimal, Label, Op, Text};
-use slo_duration::Duration;
-use std::alloc::Global;
-use yaml_subset::{Node, Text as NodeText, copy_node};
+use crate::fields::{fail_at, field, has_one_of};
+use crate::forms::ReadForm;
+use crate::object::Objects;
+use yaml_subset::{Node, Text};
 
-/// A free part.
-fn free_of(alloc: Global, _key: &str, node: &Node) -> Result<Part, ReadError>
-    ensures { Gives alone result (free.read _key.now (node_view node.now)) }
+/// A field that must stand.
+pub(crate) fn required<F: ReadForm>(
+    found: &mut Objects,
+    fields: &[(Text, Node)],
+    key: &str,
+    how: &F,
+) -> Result<F::Value, ReadError>
+    ensures { Reads found.old found.new result
+        ((required_row key.now (F.form how.now)).read (entries_view fields.now)) }
 {
-    Ok(Part::of(copy_node(alloc, node)?))
+    match field(fields, key) {
+        Some(node) => how.read(found, key, node),
+        None => fail_at(found, key, Rule::Missing),
+    }
 }
 
-/// A free part that must be a map.
-fn free_map_of(alloc: Global, key: &str, node: &Node) -> Result<Part, ReadError>
-    ensures { Gives alone result (free_map.read key.now (node_view node.now)) }
+/// The value of a field that stands, as one that may be omitted.
+fn read_some<F: ReadForm>(
+    found: &mut Objects,
+    key: &str,
+    node: &Node,
+    how: &F,
+) -> Result<Option<F::Value>, ReadError>
+    ensures { Reads found.old found.new result
+        (mapped Some ((F.form how.now).read key.now (node_view node.now))) }
 {
-    let Some(_) = map_entries(node) else {
-        return Err(ReadError::Fault(fault_at(alloc, key, Rule::NotMap)?));
+    match how.read(found, key, node) {
+        Ok(value) => Ok(Some(value)),
+        Err(error) => Err(error),
+    }
+}
+
+/// A field that may be omitted.
+pub(crate) fn optional<F: ReadForm>(
+    found: &mut Objects,
+    fields: &[(Text, Node)],
+    key: &str,
+    how: &F,
+) -> Result<Option<F::Value>, ReadError>
+    ensures { Reads found.old found.new result
+        ((optional_row key.now (F.form how.now)).read (entries_view fields.now)) }
+{
+    match field(fields, key) {
+        Some(node) => read_some(found, key, node, how),
+        None => Ok(None),
+    }
+}
+
+/// A field that must stand where it is needed.
+pub(crate) fn required_where<F: ReadForm>(
+    found: &mut Objects,
+    fields: &[(Text, Node)],
+    needed: bool,
+    key: &str,
+    how: &F,
+) -> Result<Option<F::Value>, ReadError>
+    ensures { Reads found.old found.new result
+        ((required_where_row needed key.now (F.form how.now)).read (entries_view fields.now)) }
+{
+    match (field(fields, key), needed) {
+        (Some(node), _) => read_some(found, key, node, how),
+        (None, false) => Ok(None),
+        (None, true) => fail_at(found, key, Rule::Missing),
+    }
+}
+
+/// A field that must stand unless it is barred, where it may not.
+pub(crate) fn required_unless<F: ReadForm>(
+    found: &mut Objects,
+    fields: &[(Text, Node)],
+    barred: bool,
+    key: &str,
+    how: &F,
+) -> Result<Option<F::Value>, ReadError>
+    ensures { Reads found.old found.new result
+        ((required_unless_row barred key.now (F.form how.now)).read (entries_view fields.now)) }
+{
+    match (field(fields, key), barred) {
+        (None, true) => Ok(None),
+        (None, false) => fail_at(found, key, Rule::Missing),
+        (Some(_), true) => fail_at(found, key, Rule::Both),
+        (Some(node), false) => read_some(found, key, node, how),
+    }
+}
+
+/// A field that may be omitted, and beside which none of the others may stand.
+pub(crate) fn optional_alone<F: ReadForm>(
+    found: &mut Objects,
+    fields: &[(Text, Node)],
+    key: &str,
+    others: &[&str],
+    how: &F,
+) -> Result<Option<F::Value>, ReadError>
+    ensures { Reads found.old found.new result ((optional_alone_row key.now
+        (map (λ k. k.now) others.now) (F.form how.now)).read (entries_view fields.now)) }
+{
+    let Some(node) = field(fields, key) else {
+        return Ok(None);
     };
-    Ok(Part::of(copy_node(alloc, node)?))
-}
-
-/// A description, which may be omitted.
-pub(crate) fn optional_description(
-    alloc: Global,
-    fields: &[(NodeText, Node)],
-    key: &str,
-) -> Result<Option<Text>, ReadError>
-    ensures { Gives alone result ((optional key.now description).read (entries_view fields.now)) }
-{
-    match field(fields, key) {
-        Some(node) => Ok(Some(description_of(alloc, key, node)?)),
-        None => Ok(None),
+    if has_one_of(fields, others) {
+        return fail_at(found, key, Rule::Both);
     }
+    read_some(found, key, node, how)
 }
 
-/// A text, which may be omitted.
-pub(crate) fn optional_text(
-    alloc: Global,
-    fields: &[(NodeText, Node)],
+/// Exactly one of two fields, whose fault has the first one's name.
+pub(crate) fn one_of<F: ReadForm, G: ReadForm<Value = F::Value>>(
+    found: &mut Objects,
+    fields: &[(Text, Node)],
     key: &str,
-) -> Result<Option<Text>, ReadError>
-    ensures { Gives alone result ((optional key.now text).read (entries_view fields.now)) }
+    how: &F,
+    other: &str,
+    how_other: &G,
+) -> Result<F::Value, ReadError>
+    ensures { Reads found.old found.new result (either_field (F.form how.now) key.now
+        (G.form how_other.now) other.now (field_of key.now (entries_view fields.now))
+        (field_of other.now (entries_view fields.now))) }
 {
-    match field(fields, key) {
-        Some(node) => Ok(Some(text_of(alloc, key, node)?)),
-        None => Ok(None),
-    }
-}
-
-/// A text, which must stand.
-pub(crate) fn required_text(
-    alloc: Global,
-    fields: &[(NodeText, Node)],
-    key: &str,
-) -> Result<Text, ReadError>
-    ensures { Gives alone result ((required key.now text).read (entries_view fields.now)) }
-{
-    match field(fields, key) {
-        Some(node) => text_of(alloc, key, node),
-        None => Err(ReadError::Fault(fault_at(alloc, key, Rule::Missing)?)),
-    }
-}
-
-/// A name, which may be omitted.
-pub(crate) fn optional_name(
-    alloc: Global,
-    fields: &[(NodeText, Node)],
-    key: &str,
-) -> Result<Option<Label>, ReadError>
-    ensures { Gives alone result ((optional key.now name).read (entries_view fields.now)) }
-{
-    match field(fields, key) {
-        Some(node) => Ok(Some(name_of(alloc, key, node)?)),
-        None => Ok(None),
-    }
-}
-
-/// A name, which must stand.
-pub(crate) fn required_name(
-    alloc: Global,
-    fields: &[(NodeText, Node)],
-    key: &str,
-) -> Result<Label, ReadError>
-    ensures { Gives alone result ((required key.now name).read (entries_view fields.now)) }
-{
-    match field(fields, key) {
-        Some(node) => name_of(alloc, key, node),
-        None => Err(ReadError::Fault(fault_at(alloc, key, Rule::Missing)?)),
-    }
-}
-
-/// A boolean, which may be omitted.
-pub(crate) fn optional_boolean(
-    alloc: Global,
-    fields: &[(NodeText, Node)],
-    key: &str,
-) -> Result<Option<bool>, ReadError>
-    ensures { Gives alone result ((optional key.now boolean).read (entries_view fields.now)) }
-{
-    match field(fields, key) {
-        Some(node) => Ok(Some(boolean_of(alloc, key, node)?)),
-        None => Ok(None),
-    }
-}
-
-/// A comparison, which may be omitted.
-pub(crate) fn optional_op(
-    alloc: Global,
-    fields: &[(NodeText, Node)],
-    key: &str,
-) -> Result<Option<Op>, ReadError>
-    ensures { Gives alone result ((optional key.now op).read (entries_view fields.now)) }
-{
-    match field(fields, key) {
-        Some(node) => Ok(Some(op_of(alloc, key, node)?)),
-        None => Ok(None),
-    }
-}
-
-/// A decimal from `least` to `most` billionths, which may be omitted.
-pub(crate) fn optional_number(
-    alloc: Global,
-    fields: &[(NodeText, Node)],
-    key: &str,
-    least: u64,
-    most: u64,
-) -> Result<Option<Decimal>, ReadError>
-    ensures { Gives alone result ((optional key.now (number least most)).read
-        (entries_view fields.now)) }
-{
-    match field(fields, key) {
-        Some(node) => Ok(Some(number_of(alloc, key, node, least, most)?)),
-        None => Ok(None),
-    }
-}
-
-/// A decimal from `least` to `most` billionths, which must stand.
-pub(crate) fn required_number(
-    alloc: Global,
-    fields: &[(NodeText, Node)],
-    key: &str,
-    least: u64,
-    most: u64,
-) -> Result<Decimal, ReadError>
-    ensures { Gives alone result ((required key.now (number least most)).read
-        (entries_view fields.now)) }
-{
-    match field(fields, key) {
-        Some(node) => number_of(alloc, key, node, least, most),
-        None => Err(ReadError::Fault(fault_at(alloc, key, Rule::Missing)?)),
-    }
-}
-
-/// A duration of `least` to `most` minutes, which may be omitted.
-pub(crate) fn optional_duration(
-    alloc: Global,
-    fields: &[(NodeText, Node)],
-    key: &str,
-    least: u32,
-    most: u32,
-) -> Result<Option<Duration>, ReadError>
-    ensures { Gives alone result ((optional key.now (duration least most)).read
-        (entries_view fields.now)) }
-{
-    match field(fields, key) {
-        Some(node) => Ok(Some(duration_of(alloc, key, node, least, most)?)),
-        None => Ok(None),
-    }
-}
-
-/// A duration of `least` to `most` minutes, which must stand.
-pub(crate) fn required_duration(
-    alloc: Global,
-    fields: &[(NodeText, Node)],
-    key: &str,
-    least: u32,
-    most: u32,
-) -> Result<Duration, ReadError>
-    ensures { Gives alone result ((required key.now (duration least most)).read
-        (entries_view fields.now)) }
-{
-    match field(fields, key) {
-        Some(node) => duration_of(alloc, key, node, least, most),
-        None => Err(ReadError::Fault(fault_at(alloc, key, Rule::Missing)?)),
-    }
-}
-
-/// A free part, which may be omitted.
-pub(crate) fn optional_free(
-    alloc: Global,
-    fields: &[(NodeText, Node)],
-    key: &str,
-) -> Result<Option<Part>, ReadError>
-    ensures { Gives alone result ((optional key.now free).read (entries_view fields.now)) }
-{
-    match field(fields, key) {
-        Some(node) => Ok(Some(free_of(alloc, key, node)?)),
-        None => Ok(None),
-    }
-}
-
-/// A free map, which may be omitted.
-pub(crate) fn optional_free_map(
-    alloc: Global,
-    fields: &[(NodeText, Node)],
-    key: &str,
-) -> Result<Option<Part>, ReadError>
-    ensures { Gives alone result ((optional key.now free_map).read (entries_view fields.now)) }
-{
-    match field(fields, key) {
-        Some(node) => Ok(Some(free_map_of(alloc, key, node)?)),
-        None => Ok(None),
-    }
-}
-
-/// The version, which may be omitted.
-pub(crate) fn optional_version(
-    alloc: Global,
-    fields: &[(NodeText, Node)],
-    key: &str,
-) -> Result<Option<()>, ReadError>
-    ensures { Gives alone result ((optional key.now version).read (entries_view fields.now)) }
-{
-    match field(fields, key) {
-        Some(node) => Ok(Some(version_of(alloc, key, node)?)),
-        None => Ok(None),
-    }
-}
-
-/// The version, which must stand.
-pub(crate) fn required_version(
-    alloc: Global,
-    fields: &[(NodeText, Node)],
-    key: &str,
-) -> Result<(), ReadError>
-    ensures { Gives alone result ((required key.now version).read (entries_view fields.now)) }
-{
-    match field(fields, key) {
-        Some(node) => version_of(alloc, key, node),
-        None => Err(ReadError::Fault(fault_at(alloc, key, Rule::Missing)?)),
-    }
-}
-
-/// A kind, which must stand.
-pub(crate) fn required_kind(
-    alloc: Global,
-    fields: &[(NodeText, Node)],
-    key: &str,
-) -> Result<Kind, ReadError>
-    ensures { Gives alone result ((required key.now kind).read (entries_view fields.now)) }
-{
-    match field(fields, key) {
-        Some(node) => kind_of(alloc, key, node),
-        None => Err(ReadError::Fault(fault_at(alloc, key, Rule::Missing)?)),
-    }
-}
-
-/// The word of that kind, which may be omitted.
-pub(crate) fn optional_only_kind(
-    alloc: Global,
-    fields: &[(NodeText, Node)],
-    key: &str,
-    word: Kind,
-) -> Result<Option<()>, ReadError>
-    ensures { Gives alone result ((optional key.now (only_kind word)).read
-        (entries_view fields.now)) }
-{
-    match field(fields, key) {
-        Some(node) => Ok(Some(only_kind_of(alloc, key, node, word)?)),
-        None => Ok(None),
+    match (field(fields, key), field(fields, other)) {
+        (Some(node), None) => how.read(found, key, node),
+        (None, Some(node)) => how_other.read(found, other, node),
+        (None, None) => fail_at(found, key, Rule::Neither),
+        (Some(_), Some(_)) => fail_at(found, key, Rule::Both),
     }
 }

@@ -1,23 +1,21 @@
 //! Scalars: texts, names, words and booleans.
-ghost use Rattle.std.specs.Prelude.{◌≡◌, length, MatchResult, Ok, Err};
+ghost use Rattle.std.specs.Prelude.{◌≡◌, length, MatchResult, IfOk, Ok, Err, cond, codes};
 ghost use Rattle.std.specs.List.{list_all};
 ghost use Rattle.std.specs.Str.{bytes_eq, chars};
-ghost use Rattle.yaml_subset.specs.NodeView.{node_view};
-ghost use Rattle.slo_objects.specs.Reading.{Gives, alone};
-ghost use Rattle.slo_objects.specs.Scalars.{text, text_value, description, description_value, name};
-ghost use Rattle.slo_objects.specs.Scalars.{name_value, zone_name, zone_value, version};
-ghost use Rattle.slo_objects.specs.Scalars.{version_value, kind, kind_value, only_kind};
-ghost use Rattle.slo_objects.specs.Scalars.{only_kind_value, op, op_value, boolean, boolean_value};
+ghost use Rattle.yaml_subset.specs.Spelling.{word, quoted};
+ghost use Rattle.slo_objects.specs.Scalars.{text_value, description_value, name_value, zone_value};
+ghost use Rattle.slo_objects.specs.Scalars.{version_text, version_value, kind_word, kind_value};
+ghost use Rattle.slo_objects.specs.Scalars.{only_kind_value, op_word, op_value, boolean_value};
 ghost use Rattle.slo_objects.specs.Scalars.{is_name_byte as is_name_byte_lem};
 ghost use Rattle.slo_objects.specs.Scalars.{is_object_name as is_object_name_lem};
+ghost use Rattle.slo_objects.specs.declared.fault.Rule.TheVariants as rules;
 
-use crate::fault::{ReadError, Rule};
-use crate::fields::{fault_at, is_among, utf8_text};
+use crate::fault::Rule;
+use crate::fields::{is_among, utf8_text};
+use crate::forms::ReadText;
 use crate::kind::Kind;
-use crate::shape::scalar_text;
 use exact_fraction::{Label, Op, Text, ZoneName, read_label, read_zone_name};
-use std::alloc::Global;
-use yaml_subset::Node;
+use std::alloc::{AllocError, Global};
 
 /// The most characters of a description.
 const MOST_CHARACTERS: usize = 1050;
@@ -41,15 +39,26 @@ fn read_text(bytes: &[u8]) -> Result<&str, Rule>
 }
 
 /// A text.
-pub(crate) fn text_of(alloc: Global, key: &str, node: &Node) -> Result<Text, ReadError>
-    ensures { Gives alone result (text.read key.now (node_view node.now)) }
-{
-    let Some(bytes) = scalar_text(node) else {
-        return Err(ReadError::Fault(fault_at(alloc, key, Rule::NotText)?));
-    };
-    match read_text(bytes) {
-        Ok(value) => Ok(Text::from_string(String::from_str(alloc, value)?)),
-        Err(rule) => Err(ReadError::Fault(fault_at(alloc, key, rule)?)),
+pub(crate) struct TextForm;
+
+impl ReadText for TextForm {
+    type Value = Text;
+
+    ghost other = { λ _. rules.NotText };
+
+    ghost value = { λ _. text_value };
+
+    ghost spelled = { λ _. quoted };
+
+    fn rule(&self) -> Rule {
+        Rule::NotText
+    }
+
+    fn parse(&self, alloc: Global, text: &[u8]) -> Result<Result<Text, Rule>, AllocError> {
+        match read_text(text) {
+            Ok(text) => Ok(Ok(Text::from_string(String::from_str(alloc, text)?))),
+            Err(rule) => Ok(Err(rule)),
+        }
     }
 }
 
@@ -76,15 +85,26 @@ fn read_description(bytes: &[u8]) -> Result<&str, Rule>
 }
 
 /// A description.
-pub(crate) fn description_of(alloc: Global, key: &str, node: &Node) -> Result<Text, ReadError>
-    ensures { Gives alone result (description.read key.now (node_view node.now)) }
-{
-    let Some(bytes) = scalar_text(node) else {
-        return Err(ReadError::Fault(fault_at(alloc, key, Rule::NotText)?));
-    };
-    match read_description(bytes) {
-        Ok(value) => Ok(Text::from_string(String::from_str(alloc, value)?)),
-        Err(rule) => Err(ReadError::Fault(fault_at(alloc, key, rule)?)),
+pub(crate) struct DescriptionForm;
+
+impl ReadText for DescriptionForm {
+    type Value = Text;
+
+    ghost other = { λ _. rules.NotText };
+
+    ghost value = { λ _. description_value };
+
+    ghost spelled = { λ _. quoted };
+
+    fn rule(&self) -> Rule {
+        Rule::NotText
+    }
+
+    fn parse(&self, alloc: Global, text: &[u8]) -> Result<Result<Text, Rule>, AllocError> {
+        match read_description(text) {
+            Ok(text) => Ok(Ok(Text::from_string(String::from_str(alloc, text)?))),
+            Err(rule) => Ok(Err(rule)),
+        }
     }
 }
 
@@ -126,15 +146,23 @@ fn read_name(text: &[u8]) -> Result<Label, Rule>
 }
 
 /// The name of an object.
-pub(crate) fn name_of(alloc: Global, key: &str, node: &Node) -> Result<Label, ReadError>
-    ensures { Gives alone result (name.read key.now (node_view node.now)) }
-{
-    let Some(bytes) = scalar_text(node) else {
-        return Err(ReadError::Fault(fault_at(alloc, key, Rule::BadName)?));
-    };
-    match read_name(bytes) {
-        Ok(value) => Ok(value),
-        Err(rule) => Err(ReadError::Fault(fault_at(alloc, key, rule)?)),
+pub(crate) struct NameForm;
+
+impl ReadText for NameForm {
+    type Value = Label;
+
+    ghost other = { λ _. rules.BadName };
+
+    ghost value = { λ _. name_value };
+
+    ghost spelled = { λ _. quoted };
+
+    fn rule(&self) -> Rule {
+        Rule::BadName
+    }
+
+    fn parse(&self, _alloc: Global, text: &[u8]) -> Result<Result<Label, Rule>, AllocError> {
+        Ok(read_name(text))
     }
 }
 
@@ -149,15 +177,23 @@ fn read_zone(text: &[u8]) -> Result<ZoneName, Rule>
 }
 
 /// The name of a time zone.
-pub(crate) fn zone_name_of(alloc: Global, key: &str, node: &Node) -> Result<ZoneName, ReadError>
-    ensures { Gives alone result (zone_name.read key.now (node_view node.now)) }
-{
-    let Some(bytes) = scalar_text(node) else {
-        return Err(ReadError::Fault(fault_at(alloc, key, Rule::BadName)?));
-    };
-    match read_zone(bytes) {
-        Ok(value) => Ok(value),
-        Err(rule) => Err(ReadError::Fault(fault_at(alloc, key, rule)?)),
+pub(crate) struct ZoneForm;
+
+impl ReadText for ZoneForm {
+    type Value = ZoneName;
+
+    ghost other = { λ _. rules.BadName };
+
+    ghost value = { λ _. zone_value };
+
+    ghost spelled = { λ _. quoted };
+
+    fn rule(&self) -> Rule {
+        Rule::BadName
+    }
+
+    fn parse(&self, _alloc: Global, text: &[u8]) -> Result<Result<ZoneName, Rule>, AllocError> {
+        Ok(read_zone(text))
     }
 }
 
@@ -173,15 +209,23 @@ fn read_version(text: &[u8]) -> Result<(), Rule>
 }
 
 /// The one version that is read.
-pub(crate) fn version_of(alloc: Global, key: &str, node: &Node) -> Result<(), ReadError>
-    ensures { Gives alone result (version.read key.now (node_view node.now)) }
-{
-    let Some(bytes) = scalar_text(node) else {
-        return Err(ReadError::Fault(fault_at(alloc, key, Rule::BadVersion)?));
-    };
-    match read_version(bytes) {
-        Ok(value) => Ok(value),
-        Err(rule) => Err(ReadError::Fault(fault_at(alloc, key, rule)?)),
+pub(crate) struct VersionForm;
+
+impl ReadText for VersionForm {
+    type Value = ();
+
+    ghost other = { λ _. rules.BadVersion };
+
+    ghost value = { λ _. version_value };
+
+    ghost spelled = { λ _ _. word version_text };
+
+    fn rule(&self) -> Rule {
+        Rule::BadVersion
+    }
+
+    fn parse(&self, _alloc: Global, text: &[u8]) -> Result<Result<(), Rule>, AllocError> {
+        Ok(read_version(text))
     }
 }
 
@@ -196,15 +240,23 @@ fn read_kind(text: &[u8]) -> Result<Kind, Rule>
 }
 
 /// A kind.
-pub(crate) fn kind_of(alloc: Global, key: &str, node: &Node) -> Result<Kind, ReadError>
-    ensures { Gives alone result (kind.read key.now (node_view node.now)) }
-{
-    let Some(bytes) = scalar_text(node) else {
-        return Err(ReadError::Fault(fault_at(alloc, key, Rule::BadKind)?));
-    };
-    match read_kind(bytes) {
-        Ok(value) => Ok(value),
-        Err(rule) => Err(ReadError::Fault(fault_at(alloc, key, rule)?)),
+pub(crate) struct KindForm;
+
+impl ReadText for KindForm {
+    type Value = Kind;
+
+    ghost other = { λ _. rules.BadKind };
+
+    ghost value = { λ _. kind_value };
+
+    ghost spelled = { λ _ k. word (kind_word k) };
+
+    fn rule(&self) -> Rule {
+        Rule::BadKind
+    }
+
+    fn parse(&self, _alloc: Global, text: &[u8]) -> Result<Result<Kind, Rule>, AllocError> {
+        Ok(read_kind(text))
     }
 }
 
@@ -219,21 +271,27 @@ fn read_only_kind(text: &[u8], word: Kind) -> Result<(), Rule>
     }
 }
 
-/// The word of that kind.
-pub(crate) fn only_kind_of(
-    alloc: Global,
-    key: &str,
-    node: &Node,
-    word: Kind,
-) -> Result<(), ReadError>
-    ensures { Gives alone result ((only_kind word).read key.now (node_view node.now)) }
-{
-    let Some(bytes) = scalar_text(node) else {
-        return Err(ReadError::Fault(fault_at(alloc, key, Rule::BadKind)?));
-    };
-    match read_only_kind(bytes, word) {
-        Ok(value) => Ok(value),
-        Err(rule) => Err(ReadError::Fault(fault_at(alloc, key, rule)?)),
+/// The word of one kind.
+#[derive(Clone, Copy)]
+pub(crate) struct OnlyKindForm {
+    pub(crate) kind: Kind,
+}
+
+impl ReadText for OnlyKindForm {
+    type Value = ();
+
+    ghost other = { λ _. rules.BadKind };
+
+    ghost value = { λ s. only_kind_value s.kind };
+
+    ghost spelled = { λ s _. word (kind_word s.kind) };
+
+    fn rule(&self) -> Rule {
+        Rule::BadKind
+    }
+
+    fn parse(&self, _alloc: Global, text: &[u8]) -> Result<Result<(), Rule>, AllocError> {
+        Ok(read_only_kind(text, self.kind))
     }
 }
 
@@ -255,15 +313,23 @@ fn read_op(text: &[u8]) -> Result<Op, Rule>
 }
 
 /// A comparison.
-pub(crate) fn op_of(alloc: Global, key: &str, node: &Node) -> Result<Op, ReadError>
-    ensures { Gives alone result (op.read key.now (node_view node.now)) }
-{
-    let Some(bytes) = scalar_text(node) else {
-        return Err(ReadError::Fault(fault_at(alloc, key, Rule::BadWord)?));
-    };
-    match read_op(bytes) {
-        Ok(value) => Ok(value),
-        Err(rule) => Err(ReadError::Fault(fault_at(alloc, key, rule)?)),
+pub(crate) struct OpForm;
+
+impl ReadText for OpForm {
+    type Value = Op;
+
+    ghost other = { λ _. rules.BadWord };
+
+    ghost value = { λ _. op_value };
+
+    ghost spelled = { λ _ o. word (op_word o) };
+
+    fn rule(&self) -> Rule {
+        Rule::BadWord
+    }
+
+    fn parse(&self, _alloc: Global, text: &[u8]) -> Result<Result<Op, Rule>, AllocError> {
+        Ok(read_op(text))
     }
 }
 
@@ -281,14 +347,22 @@ fn read_boolean(text: &[u8]) -> Result<bool, Rule>
 }
 
 /// A boolean.
-pub(crate) fn boolean_of(alloc: Global, key: &str, node: &Node) -> Result<bool, ReadError>
-    ensures { Gives alone result (boolean.read key.now (node_view node.now)) }
-{
-    let Some(bytes) = scalar_text(node) else {
-        return Err(ReadError::Fault(fault_at(alloc, key, Rule::NotBool)?));
-    };
-    match read_boolean(bytes) {
-        Ok(value) => Ok(value),
-        Err(rule) => Err(ReadError::Fault(fault_at(alloc, key, rule)?)),
+pub(crate) struct BooleanForm;
+
+impl ReadText for BooleanForm {
+    type Value = bool;
+
+    ghost other = { λ _. rules.NotBool };
+
+    ghost value = { λ _. boolean_value };
+
+    ghost spelled = { λ _ b. word (cond b (codes "true") (codes "false")) };
+
+    fn rule(&self) -> Rule {
+        Rule::NotBool
+    }
+
+    fn parse(&self, _alloc: Global, text: &[u8]) -> Result<Result<bool, Rule>, AllocError> {
+        Ok(read_boolean(text))
     }
 }

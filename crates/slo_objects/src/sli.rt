@@ -1,33 +1,51 @@
 //! Indicators.
-
-ghost use Rattle.std.specs.Prelude.{◌≡◌, [], map};
+ghost use Rattle.std.specs.Prelude.{◌≡◌, IfOk};
+ghost use Rattle.yaml_subset.specs.Spelling.{word};
 ghost use Rattle.yaml_subset.specs.NodeView.{node_view};
-ghost use Rattle.slo_objects.specs.Form.{map_with, required, optional_alone, one_of, variant, run};
-ghost use Rattle.slo_objects.specs.Inline.{inline_object, inline_read};
-ghost use Rattle.slo_objects.specs.declared.kind.Kind.TheVariants as kinds;
-ghost use Rattle.slo_objects.specs.Reading.{Gives, alone, both, entries_view};
-ghost use Rattle.slo_objects.specs.Sli.{metric_source, source_map, source, raw_type};
-ghost use Rattle.slo_objects.specs.Sli.{raw_type_value, is_good, events_written, ratio_metric};
-ghost use Rattle.slo_objects.specs.Sli.{raw_ratio, counted_ratio, is_threshold, metric_written};
+ghost use Rattle.slo_objects.specs.Form.{map_with, variant, run};
+ghost use Rattle.slo_objects.specs.Reading.{Reads, entries_view};
+ghost use Rattle.slo_objects.specs.Sli.{metric_source, source_map, source, raw_type_word};
+ghost use Rattle.slo_objects.specs.Sli.{raw_type_value, events_written, ratio_metric};
+ghost use Rattle.slo_objects.specs.Sli.{raw_ratio, counted_ratio, metric_written};
 ghost use Rattle.slo_objects.specs.Sli.{sli, sli_body, known_with_raw};
 ghost use Rattle.slo_objects.specs.declared.sli.Events.TheVariants.{Good, Bad};
 ghost use Rattle.slo_objects.specs.declared.sli.Metric.TheVariants as metrics;
+ghost use Rattle.slo_objects.specs.declared.fault.Rule.TheVariants as rules;
 
+use crate::copy::{copy_optional_part, copy_optional_text};
 use crate::fault::{ReadError, Rule};
-use crate::fields::{close_with, fault_at, field, has_one_of};
-use crate::inline::{object_with, required_metadata, take_out};
-use crate::kind::Kind;
-use crate::object::{Body, Object, Objects};
+use crate::fields::{close_with, fail_at};
+use crate::forms::{Free, ReadForm, ReadText};
+use crate::keys::{DESCRIPTION, SPEC, TYPE};
+use crate::object::{Body, Objects};
 use crate::part::Part;
-use crate::rows::{
-    optional_boolean, optional_description, optional_free, optional_name, optional_only_kind,
-    optional_text, optional_version,
-};
-use crate::scalars::is_word;
-use crate::shape::{map_entries, scalar_text};
+use crate::rows::{one_of, optional, optional_alone, required};
+use crate::scalars::{BooleanForm, DescriptionForm, NameForm, TextForm, is_word};
+use crate::shape::map_entries;
 use exact_fraction::{Label, Text};
-use std::alloc::Global;
+use std::alloc::{AllocError, Global};
 use yaml_subset::{Node, Text as NodeText};
+
+// The keys that no other map has.
+pub(crate) const METRIC_SOURCE: &str = "metricSource";
+
+pub(crate) const METRIC_SOURCE_REF: &str = "metricSourceRef";
+
+pub(crate) const THRESHOLD_METRIC: &str = "thresholdMetric";
+
+pub(crate) const RATIO_METRIC: &str = "ratioMetric";
+
+pub(crate) const COUNTER: &str = "counter";
+
+pub(crate) const RAW: &str = "raw";
+
+pub(crate) const RAW_TYPE: &str = "rawType";
+
+pub(crate) const TOTAL: &str = "total";
+
+pub(crate) const GOOD: &str = "good";
+
+pub(crate) const BAD: &str = "bad";
 
 /// A service level indicator.
 #[derive(Debug, Drop)]
@@ -93,88 +111,6 @@ pub enum Events {
     Bad(MetricSource),
 }
 
-#[tactic(auto, unfolding(crate::specs::Sli::metric_source))]
-fn metric_source_of(alloc: Global, key: &str, node: &Node) -> Result<MetricSource, ReadError>
-    ensures { Gives alone result ((map_with metric_source).read key.now (node_view node.now)) }
-{
-    let Some(fields) = map_entries(node) else {
-        return Err(ReadError::Fault(fault_at(alloc, key, Rule::NotMap)?));
-    };
-    let metric_source_ref = optional_name(alloc, fields, "metricSourceRef")?;
-    let type_text = optional_text(alloc, fields, "type")?;
-    let spec = match optional_free(alloc, fields, "spec") {
-        Ok(spec) => spec,
-        Err(error) => {
-            drop(type_text);
-            return Err(error);
-        }
-    };
-    let source = MetricSource {
-        metric_source_ref,
-        type_text,
-        spec,
-    };
-    close_with(alloc, fields, &["metricSourceRef", "type", "spec"], source)
-}
-
-fn required_metric_source(
-    alloc: Global,
-    fields: &[(NodeText, Node)],
-    key: &str,
-) -> Result<MetricSource, ReadError>
-    ensures { Gives alone result ((required key.now (map_with metric_source)).read
-        (entries_view fields.now)) }
-{
-    match field(fields, key) {
-        Some(node) => metric_source_of(alloc, key, node),
-        None => Err(ReadError::Fault(fault_at(alloc, key, Rule::Missing)?)),
-    }
-}
-
-/// A map of `metricSource`.
-#[tactic(auto, unfolding(crate::specs::Sli::source_map))]
-fn source_of(alloc: Global, key: &str, node: &Node) -> Result<MetricSource, ReadError>
-    ensures { Gives alone result (source.read key.now (node_view node.now)) }
-{
-    let Some(fields) = map_entries(node) else {
-        return Err(ReadError::Fault(fault_at(alloc, key, Rule::NotMap)?));
-    };
-    let source = required_metric_source(alloc, fields, "metricSource")?;
-    close_with(alloc, fields, &["metricSource"], source)
-}
-
-fn required_source(
-    alloc: Global,
-    fields: &[(NodeText, Node)],
-    key: &str,
-) -> Result<MetricSource, ReadError>
-    ensures { Gives alone result ((required key.now source).read (entries_view fields.now)) }
-{
-    match field(fields, key) {
-        Some(node) => source_of(alloc, key, node),
-        None => Err(ReadError::Fault(fault_at(alloc, key, Rule::Missing)?)),
-    }
-}
-
-/// A field beside which none of the others may stand.
-fn alone_source(
-    alloc: Global,
-    fields: &[(NodeText, Node)],
-    key: &str,
-    others: &[&str],
-) -> Result<Option<MetricSource>, ReadError>
-    ensures { Gives alone result ((optional_alone key.now (map (λ k. k.now) others.now) source).read
-        (entries_view fields.now)) }
-{
-    let Some(node) = field(fields, key) else {
-        return Ok(None);
-    };
-    if has_one_of(fields, others) {
-        return Err(ReadError::Fault(fault_at(alloc, key, Rule::Both)?));
-    }
-    Ok(Some(source_of(alloc, key, node)?))
-}
-
 #[tactic(auto, unfolding(crate::specs::Sli::raw_type_value))]
 fn read_raw_type(text: &[u8]) -> Result<RawType, Rule>
     ensures { result ≡ raw_type_value text.now }
@@ -188,61 +124,120 @@ fn read_raw_type(text: &[u8]) -> Result<RawType, Rule>
     }
 }
 
-fn raw_type_of(alloc: Global, key: &str, node: &Node) -> Result<RawType, ReadError>
-    ensures { Gives alone result (raw_type.read key.now (node_view node.now)) }
-{
-    let Some(bytes) = scalar_text(node) else {
-        return Err(ReadError::Fault(fault_at(alloc, key, Rule::BadWord)?));
-    };
-    match read_raw_type(bytes) {
-        Ok(value) => Ok(value),
-        Err(rule) => Err(ReadError::Fault(fault_at(alloc, key, rule)?)),
+/// What a raw ratio is a ratio of.
+pub(crate) struct RawTypeForm;
+
+impl ReadText for RawTypeForm {
+    type Value = RawType;
+
+    ghost other = { λ _. rules.BadWord };
+
+    ghost value = { λ _. raw_type_value };
+
+    ghost spelled = { λ _ t. word (raw_type_word t) };
+
+    fn rule(&self) -> Rule {
+        Rule::BadWord
+    }
+
+    fn parse(&self, _alloc: Global, text: &[u8]) -> Result<Result<RawType, Rule>, AllocError> {
+        Ok(read_raw_type(text))
     }
 }
 
-fn required_raw_type(
-    alloc: Global,
-    fields: &[(NodeText, Node)],
-    key: &str,
-) -> Result<RawType, ReadError>
-    ensures { Gives alone result ((required key.now raw_type).read (entries_view fields.now)) }
-{
-    match field(fields, key) {
-        Some(node) => raw_type_of(alloc, key, node),
-        None => Err(ReadError::Fault(fault_at(alloc, key, Rule::Missing)?)),
+/// `metricSource`.
+struct MetricSourceForm;
+
+impl ReadForm for MetricSourceForm {
+    type Value = MetricSource;
+
+    ghost form = { λ _. map_with metric_source };
+
+    #[tactic(auto, unfolding(crate::specs::Sli::metric_source))]
+    fn read(&self, found: &mut Objects, key: &str, node: &Node) -> Result<MetricSource, ReadError> {
+        let Some(fields) = map_entries(node) else {
+            return fail_at(found, key, Rule::NotMap);
+        };
+        let metric_source_ref = optional(found, fields, METRIC_SOURCE_REF, &NameForm)?;
+        let type_text = optional(found, fields, TYPE, &TextForm)?;
+        let spec = match optional(found, fields, SPEC, &Free) {
+            Ok(spec) => spec,
+            Err(error) => {
+                drop(type_text);
+                return Err(error);
+            }
+        };
+        let source = MetricSource {
+            metric_source_ref,
+            type_text,
+            spec,
+        };
+        close_with(found, fields, &[METRIC_SOURCE_REF, TYPE, SPEC], source)
     }
 }
 
-/// `good` or `bad`.
-fn one_of_events(
-    alloc: Global,
-    fields: &[(NodeText, Node)],
-    good: &str,
-    bad: &str,
-) -> Result<Events, ReadError>
-    ensures { Gives alone result ((one_of good.now (variant source Good events_written) bad.now
-        (variant source Bad events_written) is_good).read (entries_view fields.now)) }
-{
-    match (field(fields, good), field(fields, bad)) {
-        (Some(node), None) => Ok(Events::Good(source_of(alloc, good, node)?)),
-        (None, Some(node)) => Ok(Events::Bad(source_of(alloc, bad, node)?)),
-        (None, None) => Err(ReadError::Fault(fault_at(alloc, good, Rule::Neither)?)),
-        (Some(_), Some(_)) => Err(ReadError::Fault(fault_at(alloc, good, Rule::Both)?)),
+/// A map of `metricSource`.
+struct SourceForm;
+
+impl ReadForm for SourceForm {
+    type Value = MetricSource;
+
+    ghost form = { λ _. source };
+
+    #[tactic(auto, unfolding(crate::specs::Sli::source_map))]
+    fn read(&self, found: &mut Objects, key: &str, node: &Node) -> Result<MetricSource, ReadError> {
+        let Some(fields) = map_entries(node) else {
+            return fail_at(found, key, Rule::NotMap);
+        };
+        let source = required(found, fields, METRIC_SOURCE, &MetricSourceForm)?;
+        close_with(found, fields, &[METRIC_SOURCE], source)
+    }
+}
+
+/// `good`.
+struct GoodForm;
+
+impl ReadForm for GoodForm {
+    type Value = Events;
+
+    ghost form = { λ _. variant source Good events_written };
+
+    fn read(&self, found: &mut Objects, key: &str, node: &Node) -> Result<Events, ReadError> {
+        match SourceForm.read(found, key, node) {
+            Ok(source) => Ok(Events::Good(source)),
+            Err(error) => Err(error),
+        }
+    }
+}
+
+/// `bad`.
+struct BadForm;
+
+impl ReadForm for BadForm {
+    type Value = Events;
+
+    ghost form = { λ _. variant source Bad events_written };
+
+    fn read(&self, found: &mut Objects, key: &str, node: &Node) -> Result<Events, ReadError> {
+        match SourceForm.read(found, key, node) {
+            Ok(source) => Ok(Events::Bad(source)),
+            Err(error) => Err(error),
+        }
     }
 }
 
 /// What follows on `counter` and `raw` where `raw` stands.
 #[tactic(auto, unfolding(crate::specs::Sli::raw_ratio))]
 fn raw_ratio_of(
-    alloc: Global,
+    found: &mut Objects,
     fields: &[(NodeText, Node)],
     counter: Option<bool>,
     raw: MetricSource,
 ) -> Result<RatioMetric, ReadError>
-    ensures { Gives alone result (run (raw_ratio counter raw) known_with_raw
-        (entries_view fields.now)) }
+    ensures { Reads found.old found.new result
+        (run (raw_ratio counter raw) known_with_raw (entries_view fields.now)) }
 {
-    let raw_type = match required_raw_type(alloc, fields, "rawType") {
+    let raw_type = match required(found, fields, RAW_TYPE, &RawTypeForm) {
         Ok(raw_type) => raw_type,
         Err(error) => {
             drop(raw);
@@ -253,21 +248,21 @@ fn raw_ratio_of(
         counter,
         ratio: Ratio::Raw { raw, raw_type },
     };
-    close_with(alloc, fields, &["counter", "raw", "rawType"], metric)
+    close_with(found, fields, &[COUNTER, RAW, RAW_TYPE], metric)
 }
 
 /// What follows on `counter` where `raw` doesn't stand.
 #[tactic(auto, unfolding(crate::specs::Sli::counted_ratio))]
 fn counted_ratio_of(
-    alloc: Global,
+    found: &mut Objects,
     fields: &[(NodeText, Node)],
     counter: Option<bool>,
 ) -> Result<RatioMetric, ReadError>
-    ensures { Gives alone result (run (counted_ratio counter) known_with_raw
-        (entries_view fields.now)) }
+    ensures { Reads found.old found.new result
+        (run (counted_ratio counter) known_with_raw (entries_view fields.now)) }
 {
-    let total = required_source(alloc, fields, "total")?;
-    let events = match one_of_events(alloc, fields, "good", "bad") {
+    let total = required(found, fields, TOTAL, &SourceForm)?;
+    let events = match one_of(found, fields, GOOD, &GoodForm, BAD, &BadForm) {
         Ok(events) => events,
         Err(error) => {
             drop(total);
@@ -278,122 +273,177 @@ fn counted_ratio_of(
         counter,
         ratio: Ratio::Counts { total, events },
     };
-    close_with(
-        alloc,
-        fields,
-        &["counter", "raw", "total", "good", "bad"],
-        metric,
-    )
+    close_with(found, fields, &[COUNTER, RAW, TOTAL, GOOD, BAD], metric)
 }
 
-#[tactic(auto, unfolding(crate::specs::Sli::ratio_metric))]
-fn ratio_metric_of(alloc: Global, key: &str, node: &Node) -> Result<RatioMetric, ReadError>
-    ensures { Gives alone result ((map_with ratio_metric).read key.now (node_view node.now)) }
-{
-    let Some(fields) = map_entries(node) else {
-        return Err(ReadError::Fault(fault_at(alloc, key, Rule::NotMap)?));
-    };
-    let counter = optional_boolean(alloc, fields, "counter")?;
-    match alone_source(alloc, fields, "raw", &["total", "good", "bad"])? {
-        Some(raw) => raw_ratio_of(alloc, fields, counter, raw),
-        None => counted_ratio_of(alloc, fields, counter),
+/// `ratioMetric`.
+struct RatioForm;
+
+impl ReadForm for RatioForm {
+    type Value = RatioMetric;
+
+    ghost form = { λ _. map_with ratio_metric };
+
+    #[tactic(auto, unfolding(crate::specs::Sli::ratio_metric))]
+    fn read(&self, found: &mut Objects, key: &str, node: &Node) -> Result<RatioMetric, ReadError> {
+        let Some(fields) = map_entries(node) else {
+            return fail_at(found, key, Rule::NotMap);
+        };
+        let counter = optional(found, fields, COUNTER, &BooleanForm)?;
+        match optional_alone(found, fields, RAW, &[TOTAL, GOOD, BAD], &SourceForm)? {
+            Some(raw) => raw_ratio_of(found, fields, counter, raw),
+            None => counted_ratio_of(found, fields, counter),
+        }
     }
 }
 
-/// `thresholdMetric` or `ratioMetric`.
-fn one_metric(
-    alloc: Global,
-    fields: &[(NodeText, Node)],
-    threshold: &str,
-    ratio: &str,
-) -> Result<Metric, ReadError>
-    ensures { Gives alone result ((one_of threshold.now
-        (variant source metrics.Threshold metric_written) ratio.now
-        (variant (map_with ratio_metric) metrics.Ratio metric_written) is_threshold).read
-        (entries_view fields.now)) }
-{
-    match (field(fields, threshold), field(fields, ratio)) {
-        (Some(node), None) => Ok(Metric::Threshold(source_of(alloc, threshold, node)?)),
-        (None, Some(node)) => Ok(Metric::Ratio(ratio_metric_of(alloc, ratio, node)?)),
-        (None, None) => Err(ReadError::Fault(fault_at(alloc, threshold, Rule::Neither)?)),
-        (Some(_), Some(_)) => Err(ReadError::Fault(fault_at(alloc, threshold, Rule::Both)?)),
+/// `thresholdMetric`, as what an indicator measures.
+struct ThresholdMetricForm;
+
+impl ReadForm for ThresholdMetricForm {
+    type Value = Metric;
+
+    ghost form = { λ _. variant source metrics.Threshold metric_written };
+
+    fn read(&self, found: &mut Objects, key: &str, node: &Node) -> Result<Metric, ReadError> {
+        match SourceForm.read(found, key, node) {
+            Ok(source) => Ok(Metric::Threshold(source)),
+            Err(error) => Err(error),
+        }
+    }
+}
+
+/// `ratioMetric`, as what an indicator measures.
+struct RatioMetricForm;
+
+impl ReadForm for RatioMetricForm {
+    type Value = Metric;
+
+    ghost form = { λ _. variant (map_with ratio_metric) metrics.Ratio metric_written };
+
+    fn read(&self, found: &mut Objects, key: &str, node: &Node) -> Result<Metric, ReadError> {
+        match RatioForm.read(found, key, node) {
+            Ok(ratio) => Ok(Metric::Ratio(ratio)),
+            Err(error) => Err(error),
+        }
     }
 }
 
 /// The `spec` of an indicator.
-#[tactic(auto, unfolding(crate::specs::Sli::sli))]
-pub(crate) fn sli_of(alloc: Global, key: &str, node: &Node) -> Result<Sli, ReadError>
-    ensures { Gives alone result ((map_with sli).read key.now (node_view node.now)) }
-{
-    let Some(fields) = map_entries(node) else {
-        return Err(ReadError::Fault(fault_at(alloc, key, Rule::NotMap)?));
-    };
-    let description = optional_description(alloc, fields, "description")?;
-    let metric = match one_metric(alloc, fields, "thresholdMetric", "ratioMetric") {
-        Ok(metric) => metric,
-        Err(error) => {
-            drop(description);
-            return Err(error);
-        }
-    };
-    let sli = Sli {
-        description,
-        metric,
-    };
-    close_with(
-        alloc,
-        fields,
-        &["description", "thresholdMetric", "ratioMetric"],
-        sli,
-    )
-}
+struct SliForm;
 
-/// The body of an indicator, which must stand.
-pub(crate) fn required_sli_body(
-    alloc: Global,
-    fields: &[(NodeText, Node)],
-    key: &str,
-) -> Result<Body, ReadError>
-    ensures { Gives alone result ((required key.now sli_body).read (entries_view fields.now)) }
-{
-    match field(fields, key) {
-        Some(node) => Ok(Body::Sli(sli_of(alloc, key, node)?)),
-        None => Err(ReadError::Fault(fault_at(alloc, key, Rule::Missing)?)),
+impl ReadForm for SliForm {
+    type Value = Sli;
+
+    ghost form = { λ _. map_with sli };
+
+    #[tactic(auto, unfolding(crate::specs::Sli::sli))]
+    fn read(&self, found: &mut Objects, key: &str, node: &Node) -> Result<Sli, ReadError> {
+        let Some(fields) = map_entries(node) else {
+            return fail_at(found, key, Rule::NotMap);
+        };
+        let description = optional(found, fields, DESCRIPTION, &DescriptionForm)?;
+        let metric = match one_of(
+            found,
+            fields,
+            THRESHOLD_METRIC,
+            &ThresholdMetricForm,
+            RATIO_METRIC,
+            &RatioMetricForm,
+        ) {
+            Ok(metric) => metric,
+            Err(error) => {
+                drop(description);
+                return Err(error);
+            }
+        };
+        let sli = Sli {
+            description,
+            metric,
+        };
+        close_with(
+            found,
+            fields,
+            &[DESCRIPTION, THRESHOLD_METRIC, RATIO_METRIC],
+            sli,
+        )
     }
 }
 
-/// An indicator that stands inline.
-#[tactic(auto, unfolding(crate::specs::Inline::inline_object))]
-fn inline_sli_object(alloc: Global, fields: &[(NodeText, Node)]) -> Result<Object, ReadError>
-    ensures { Gives alone result (run (inline_object kinds.Sli sli_body) []
-        (entries_view fields.now)) }
-{
-    let _version = optional_version(alloc, fields, "apiVersion")?;
-    let _kind = optional_only_kind(alloc, fields, "kind", Kind::Sli)?;
-    let metadata = required_metadata(alloc, fields, "metadata")?;
-    let body = match required_sli_body(alloc, fields, "spec") {
-        Ok(body) => body,
-        Err(error) => {
-            drop(metadata);
-            return Err(error);
+/// The body of an indicator.
+pub(crate) struct SliBody;
+
+impl ReadForm for SliBody {
+    type Value = Body;
+
+    ghost form = { λ _. sli_body };
+
+    fn read(&self, found: &mut Objects, key: &str, node: &Node) -> Result<Body, ReadError> {
+        match SliForm.read(found, key, node) {
+            Ok(sli) => Ok(Body::Sli(sli)),
+            Err(error) => Err(error),
         }
-    };
-    let object = object_with(Kind::Sli, metadata, body);
-    close_with(
-        alloc,
-        fields,
-        &["apiVersion", "kind", "metadata", "spec"],
-        object,
-    )
+    }
 }
 
-/// An indicator that stands inline, and its name.
-pub(crate) fn inline_sli(
-    alloc: Global,
-    fields: &[(NodeText, Node)],
-) -> Result<(Objects, Label), ReadError>
-    ensures { Gives both result (inline_read kinds.Sli sli_body (entries_view fields.now)) }
+fn copy_source(alloc: Global, source: &MetricSource) -> Result<MetricSource, AllocError>
+    ensures { IfOk result (λ s. s ≡ source.now) }
 {
-    let object = inline_sli_object(alloc, fields)?;
-    Ok(take_out(Objects::new(alloc), object)?)
+    Ok(MetricSource {
+        metric_source_ref: source.metric_source_ref,
+        type_text: copy_optional_text(alloc, &source.type_text)?,
+        spec: copy_optional_part(alloc, &source.spec)?,
+    })
+}
+
+fn copy_events(alloc: Global, events: &Events) -> Result<Events, AllocError>
+    ensures { IfOk result (λ e. e ≡ events.now) }
+{
+    match events {
+        Events::Good(source) => Ok(Events::Good(copy_source(alloc, source)?)),
+        Events::Bad(source) => Ok(Events::Bad(copy_source(alloc, source)?)),
+    }
+}
+
+fn copy_ratio(alloc: Global, ratio: &Ratio) -> Result<Ratio, AllocError>
+    ensures { IfOk result (λ r. r ≡ ratio.now) }
+{
+    match ratio {
+        Ratio::Raw { raw, raw_type } => Ok(Ratio::Raw {
+            raw: copy_source(alloc, raw)?,
+            raw_type: *raw_type,
+        }),
+        Ratio::Counts { total, events } => {
+            let total = copy_source(alloc, total)?;
+            match copy_events(alloc, events) {
+                Ok(events) => Ok(Ratio::Counts { total, events }),
+                Err(error) => {
+                    drop(total);
+                    Err(error)
+                }
+            }
+        }
+    }
+}
+
+fn copy_metric(alloc: Global, metric: &Metric) -> Result<Metric, AllocError>
+    ensures { IfOk result (λ m. m ≡ metric.now) }
+{
+    match metric {
+        Metric::Threshold(source) => Ok(Metric::Threshold(copy_source(alloc, source)?)),
+        Metric::Ratio(ratio) => Ok(Metric::Ratio(RatioMetric {
+            counter: ratio.counter,
+            ratio: copy_ratio(alloc, &ratio.ratio)?,
+        })),
+    }
+}
+
+/// A copy of an indicator.
+pub(crate) fn copy_sli(alloc: Global, sli: &Sli) -> Result<Sli, AllocError>
+    ensures { IfOk result (λ s. s ≡ sli.now) }
+{
+    Ok(Sli {
+        description: copy_optional_text(alloc, &sli.description)?,
+        metric: copy_metric(alloc, &sli.metric)?,
+    })
 }

@@ -1,33 +1,52 @@
 //! Objectives over time.
-ghost use Rattle.std.specs.Prelude.{◌≡◌, [], ◌∷◌, ◌++◌, OnOk};
+ghost use Rattle.std.specs.Prelude.{◌≡◌, ◌<◌, ◌≤◌, [], ◌∷◌, ◌++◌, length, OnOk, OnErr, IfOk};
 ghost use Rattle.yaml_subset.specs.NodeView.{node_view};
-ghost use Rattle.slo_objects.specs.Form.{map_with, required, optional, required_unless, one_of};
-ghost use Rattle.slo_objects.specs.Form.{single, each};
-ghost use Rattle.slo_objects.specs.Reading.{Gives, alone, both, entries_view, trees_view};
-ghost use Rattle.slo_objects.specs.Slo.{slo, time_window, objectives, objective_item};
-ghost use Rattle.slo_objects.specs.Slo.{inline_indicator, is_inline, policies};
-ghost use Rattle.slo_objects.specs.Slo.{policy_item as policy_item_lem};
-ghost use Rattle.slo_objects.specs.Slo.{policy_map as policy_map_lem, policy_form};
-ghost use Rattle.slo_objects.specs.Scalars.{name};
+ghost use Rattle.slo_objects.specs.Form.{map_with, each};
+ghost use Rattle.slo_objects.specs.Reading.{Gives, Reads, trees_view};
+ghost use Rattle.slo_objects.specs.Slo.{slo, slo_body, objectives, objective_item};
+ghost use Rattle.slo_objects.specs.Slo.{inline_indicator, policies, policy_item, policy_form};
+ghost use Rattle.slo_objects.specs.Slo.{at_most_ten};
 
-use crate::alert_policy::inline_policy;
+use crate::alert_policy::PolicyBody;
+use crate::copy::copy_optional_text;
 use crate::fault::{ReadError, Rule};
-use crate::fields::{close_with_both, fault_at, field};
-use crate::inline::reference_of;
-use crate::names::Names;
-use crate::object::Objects;
-use crate::objective::objective_of;
-use crate::rows::{optional_description, required_name};
-use crate::scalars::name_of;
-use crate::shape::{is_null, item_count, list_items, map_entries, only_item, scalar_text};
-use crate::sli::inline_sli;
-use crate::window::{required_method, time_window_of};
+use crate::fields::{close_with, fail_at};
+use crate::forms::ReadForm;
+use crate::inline::{inline_name, referenced};
+use crate::keys::DESCRIPTION;
+use crate::kind::Kind;
+use crate::lists::{ReadItem, names_of};
+use crate::names::{Names, copy_optional_names};
+use crate::object::{Body, Objects};
+use crate::objective::ObjectiveForm;
+use crate::rows::{one_of, optional, required};
+use crate::scalars::{DescriptionForm, NameForm};
+use crate::shape::{is_null, item_count, list_items, map_entries, scalar_text};
+use crate::sli::SliBody;
+use crate::window::{MethodForm, WindowsForm};
 use exact_fraction::{Decimal, Label, Op, Text, ZoneName};
 use slo_duration::Duration;
 use std::alloc::{AllocError, Global};
 use std::marker::Model;
-use yaml_subset::{Node, Text as NodeText};
+use yaml_subset::Node;
 use zone_calendar::Civil;
+
+// The keys that no other map has.
+pub(crate) const SERVICE: &str = "service";
+
+pub(crate) const INDICATOR: &str = "indicator";
+
+pub(crate) const INDICATOR_REF: &str = "indicatorRef";
+
+pub(crate) const TIME_WINDOW: &str = "timeWindow";
+
+pub(crate) const BUDGETING_METHOD: &str = "budgetingMethod";
+
+pub(crate) const OBJECTIVES: &str = "objectives";
+
+pub(crate) const ALERT_POLICIES: &str = "alertPolicies";
+
+pub(crate) const ALERT_POLICY_REF: &str = "alertPolicyRef";
 
 /// A service level objective.
 #[derive(Debug, Drop)]
@@ -83,14 +102,14 @@ pub struct Objective {
     pub time_slice_window: Option<u32>,
 }
 
-/// The objectives of an SLO, in their order.
+/// The objectives of an SLO, in their order: at most five.
 #[derive(Debug, Drop)]
 pub struct Objectives {
     items: Vec<Objective>,
 }
 
 impl Model for Objectives {
-    ghost use Rattle.std.specs.Prelude.{List};
+    ghost use Rattle.std.specs.Prelude.{List, ◌≤◌, length};
     ghost use Rattle.std.specs.Coded.{coded_list};
     ghost use Rattle.slo_objects.specs.declared.slo.Objective.{Objective};
     ghost use Rattle.slo_objects.specs.contracts.slo.Objective.{the_row};
@@ -100,6 +119,8 @@ impl Model for Objectives {
     ghost coded = { coded_list the_row.coded };
 
     ghost view = { λ objectives. objectives.items.items };
+
+    ghost invariant = { λ objectives. length objectives.items.items ≤ 5 };
 }
 
 impl Objectives {
@@ -114,10 +135,22 @@ impl Objectives {
 
     /// Adds an objective at the end.
     pub fn push(&mut self, objective: Objective) -> Result<(), AllocError>
-        ensures { OnOk result (self.new ≡ self.old ++ objective ∷ []) }
+        requires { length self.old < 5 }
+        ensures pushed { OnOk result (self.new ≡ self.old ++ objective ∷ []) }
+        ensures kept { OnErr result (self.new ≡ self.old) }
     {
-        self.items.push(objective)?;
-        Ok(())
+        match self.items.push(objective) {
+            Ok(()) => Ok(()),
+            Err(_) => Err(AllocError),
+        }
+    }
+
+    /// How many objectives there are: at most five.
+    pub fn count(&self) -> usize
+        ensures all { result ≡ length self.now }
+        ensures few { length self.now ≤ 5 }
+    {
+        self.items.len()
     }
 
     /// The objectives.
@@ -128,259 +161,284 @@ impl Objectives {
     }
 }
 
-/// A list of one window.
-fn single_window(alloc: Global, key: &str, node: &Node) -> Result<TimeWindow, ReadError>
-    ensures { Gives alone result ((single (map_with time_window)).read key.now
-        (node_view node.now)) }
-{
-    let Some(items) = list_items(node) else {
-        return Err(ReadError::Fault(fault_at(alloc, key, Rule::NotList)?));
-    };
-    match only_item(items) {
-        Some(item) => time_window_of(alloc, key, item),
-        None => Err(ReadError::Fault(fault_at(alloc, key, Rule::ListLength)?)),
-    }
-}
-
-fn required_window(
-    alloc: Global,
-    fields: &[(NodeText, Node)],
-    key: &str,
-) -> Result<TimeWindow, ReadError>
-    ensures { Gives alone result ((required key.now (single (map_with time_window))).read
-        (entries_view fields.now)) }
-{
-    match field(fields, key) {
-        Some(node) => single_window(alloc, key, node),
-        None => Err(ReadError::Fault(fault_at(alloc, key, Rule::Missing)?)),
-    }
-}
-
 fn each_objective(
-    alloc: Global,
+    found: &mut Objects,
     key: &str,
     items: &[Node],
     method: BudgetingMethod,
 ) -> Result<Objectives, ReadError>
-    ensures { Gives alone result (each (objective_item method key.now) [] []
-        (trees_view items.now)) }
+    requires { length items.now ≤ 5 }
+    ensures { Gives (λ objectives. (found.new, objectives)) result
+        (each (objective_item method key.now) found.old [] (trees_view items.now)) }
 {
-    let mut objectives = Objectives::new(alloc);
+    let mut objectives = Objectives::new(found.allocator());
     for node in items {
-        let objective = objective_of(alloc, key, node, method)?;
+        let form = ObjectiveForm { method };
+        let objective = form.read(found, key, node)?;
         objectives.push(objective)?;
     }
     Ok(objectives)
 }
 
-fn objectives_of(
-    alloc: Global,
-    key: &str,
-    node: &Node,
+/// `objectives`: one to five.
+#[derive(Clone, Copy)]
+struct ObjectivesForm {
     method: BudgetingMethod,
-) -> Result<Objectives, ReadError>
-    ensures { Gives alone result ((objectives method).read key.now (node_view node.now)) }
-{
-    let Some(items) = list_items(node) else {
-        return Err(ReadError::Fault(fault_at(alloc, key, Rule::NotList)?));
-    };
-    if item_count(items) < 1 || item_count(items) > 5 {
-        return Err(ReadError::Fault(fault_at(alloc, key, Rule::ListLength)?));
-    }
-    each_objective(alloc, key, items, method)
 }
 
-fn required_objectives(
-    alloc: Global,
-    fields: &[(NodeText, Node)],
-    key: &str,
-    method: BudgetingMethod,
-) -> Result<Objectives, ReadError>
-    ensures { Gives alone result ((required key.now (objectives method)).read
-        (entries_view fields.now)) }
-{
-    match field(fields, key) {
-        Some(node) => objectives_of(alloc, key, node, method),
-        None => Err(ReadError::Fault(fault_at(alloc, key, Rule::Missing)?)),
-    }
-}
+impl ReadForm for ObjectivesForm {
+    type Value = Objectives;
 
-/// An indicator that stands inline.
-fn indicator_of(alloc: Global, key: &str, node: &Node) -> Result<(Objects, Label), ReadError>
-    ensures { Gives both result (inline_indicator.read key.now (node_view node.now)) }
-{
-    let Some(fields) = map_entries(node) else {
-        return Err(ReadError::Fault(fault_at(alloc, key, Rule::NotMap)?));
-    };
-    inline_sli(alloc, fields)
-}
+    ghost form = { λ o. objectives o.method };
 
-/// An indicator, or the name of one.
-fn one_indicator(
-    alloc: Global,
-    fields: &[(NodeText, Node)],
-    inline: &str,
-    reference: &str,
-) -> Result<(Objects, Label), ReadError>
-    ensures { Gives both result ((one_of inline.now inline_indicator reference.now name
-        is_inline).read (entries_view fields.now)) }
-{
-    match (field(fields, inline), field(fields, reference)) {
-        (Some(node), None) => indicator_of(alloc, inline, node),
-        (None, Some(node)) => {
-            let name = name_of(alloc, reference, node)?;
-            Ok((Objects::new(alloc), name))
+    #[tactic(auto, using(crate::proofs::CountLemmas::count_trees))]
+    fn read(&self, found: &mut Objects, key: &str, node: &Node) -> Result<Objectives, ReadError> {
+        let Some(items) = list_items(node) else {
+            return fail_at(found, key, Rule::NotList);
+        };
+        if item_count(items) < 1 || item_count(items) > 5 {
+            return fail_at(found, key, Rule::ListLength);
         }
-        (None, None) => Err(ReadError::Fault(fault_at(alloc, inline, Rule::Neither)?)),
-        (Some(_), Some(_)) => Err(ReadError::Fault(fault_at(alloc, inline, Rule::Both)?)),
+        each_objective(found, key, items, self.method)
     }
 }
 
-/// A map in a list of policies: a reference, or a policy that stands inline.
-fn policy_map(alloc: Global, key: &str, node: &Node) -> Result<(Objects, Label), ReadError>
-    ensures { Gives both result (policy_map_lem key.now (node_view node.now)) }
-{
-    let Some(fields) = map_entries(node) else {
-        return Err(ReadError::Fault(fault_at(alloc, key, Rule::NotMap)?));
-    };
-    match field(fields, "alertPolicyRef") {
-        None => inline_policy(alloc, fields),
-        Some(_) => {
-            let name = reference_of(alloc, fields, "alertPolicyRef")?;
-            Ok((Objects::new(alloc), name))
-        }
+/// `indicator`: an indicator that stands inline.
+struct IndicatorForm;
+
+impl ReadForm for IndicatorForm {
+    type Value = Label;
+
+    ghost form = { λ _. inline_indicator };
+
+    fn read(&self, found: &mut Objects, key: &str, node: &Node) -> Result<Label, ReadError> {
+        let Some(fields) = map_entries(node) else {
+            return fail_at(found, key, Rule::NotMap);
+        };
+        inline_name(found, fields, Kind::Sli, &SliBody)
     }
 }
 
 /// A policy in a list, or its name.
-fn policy_of(alloc: Global, key: &str, node: &Node) -> Result<(Objects, Label), ReadError>
-    ensures { Gives both result (policy_form key.now (node_view node.now)) }
+fn policy_of(found: &mut Objects, key: &str, node: &Node) -> Result<Label, ReadError>
+    ensures { Reads found.old found.new result (policy_form key.now (node_view node.now)) }
 {
     if is_null(node) {
-        return Err(ReadError::Fault(fault_at(alloc, key, Rule::BadName)?));
+        return fail_at(found, key, Rule::BadName);
     }
     match scalar_text(node) {
-        None => policy_map(alloc, key, node),
-        Some(_) => {
-            let name = name_of(alloc, key, node)?;
-            Ok((Objects::new(alloc), name))
+        None => referenced(
+            found,
+            key,
+            node,
+            ALERT_POLICY_REF,
+            Kind::AlertPolicy,
+            &PolicyBody,
+        ),
+        Some(_) => NameForm.read(found, key, node),
+    }
+}
+
+/// An item of `alertPolicies`: a policy that none before it has the name of.
+struct PolicyItem;
+
+impl ReadItem for PolicyItem {
+    ghost item = { λ _. policy_item };
+
+    ghost may_have = { λ _. at_most_ten };
+
+    fn may_have(&self, count: usize) -> bool {
+        count <= 10
+    }
+
+    fn read_item(
+        &self,
+        found: &mut Objects,
+        listed: &str,
+        before: &Names,
+        node: &Node,
+    ) -> Result<Label, ReadError> {
+        let name = policy_of(found, listed, node)?;
+        if before.has(&name) {
+            return fail_at(found, listed, Rule::Repeated);
         }
+        Ok(name)
     }
 }
 
-/// A policy that none before it has the name of.
-fn policy_item(
-    alloc: Global,
-    key: &str,
-    node: &Node,
-    before: &Names,
-) -> Result<(Objects, Label), ReadError>
-    ensures { Gives both result (policy_item_lem key.now before.now (node_view node.now)) }
-{
-    let (objects, name) = policy_of(alloc, key, node)?;
-    if before.has(&name) {
-        return Err(ReadError::Fault(fault_at(alloc, key, Rule::Repeated)?));
-    }
-    Ok((objects, name))
-}
+/// `alertPolicies`: at most ten.
+struct PoliciesForm;
 
-fn each_policy(alloc: Global, key: &str, items: &[Node]) -> Result<(Objects, Names), ReadError>
-    ensures { Gives both result (each (policy_item_lem key.now) [] [] (trees_view items.now)) }
-{
-    let mut objects = Objects::new(alloc);
-    let mut names = Names::new(alloc);
-    for node in items {
-        let (taken, name) = policy_item(alloc, key, node, &names)?;
-        objects.append(taken)?;
-        names.push(name)?;
-    }
-    Ok((objects, names))
-}
+impl ReadForm for PoliciesForm {
+    type Value = Names;
 
-fn policies_of(alloc: Global, key: &str, node: &Node) -> Result<(Objects, Names), ReadError>
-    ensures { Gives both result (policies.read key.now (node_view node.now)) }
-{
-    let Some(items) = list_items(node) else {
-        return Err(ReadError::Fault(fault_at(alloc, key, Rule::NotList)?));
-    };
-    if item_count(items) > 10 {
-        return Err(ReadError::Fault(fault_at(alloc, key, Rule::ListLength)?));
-    }
-    each_policy(alloc, key, items)
-}
+    ghost form = { λ _. policies };
 
-fn optional_policies(
-    alloc: Global,
-    fields: &[(NodeText, Node)],
-    key: &str,
-) -> Result<(Objects, Option<Names>), ReadError>
-    ensures { Gives both result ((optional key.now policies).read (entries_view fields.now)) }
-{
-    match field(fields, key) {
-        Some(node) => {
-            let (objects, names) = policies_of(alloc, key, node)?;
-            Ok((objects, Some(names)))
-        }
-        None => Ok((Objects::new(alloc), None)),
+    fn read(&self, found: &mut Objects, key: &str, node: &Node) -> Result<Names, ReadError> {
+        names_of(found, key, node, &PolicyItem)
     }
 }
 
 /// The `spec` of an SLO.
-#[tactic(auto, unfolding(crate::specs::Slo::slo))]
-pub(crate) fn slo_of(alloc: Global, key: &str, node: &Node) -> Result<(Objects, Slo), ReadError>
-    ensures { Gives both result ((map_with slo).read key.now (node_view node.now)) }
+struct SloForm;
+
+impl ReadForm for SloForm {
+    type Value = Slo;
+
+    ghost form = { λ _. map_with slo };
+
+    #[tactic(auto, unfolding(crate::specs::Slo::slo))]
+    fn read(&self, found: &mut Objects, key: &str, node: &Node) -> Result<Slo, ReadError> {
+        let Some(fields) = map_entries(node) else {
+            return fail_at(found, key, Rule::NotMap);
+        };
+        let description = optional(found, fields, DESCRIPTION, &DescriptionForm)?;
+        let service = required(found, fields, SERVICE, &NameForm)?;
+        let indicator = one_of(
+            found,
+            fields,
+            INDICATOR,
+            &IndicatorForm,
+            INDICATOR_REF,
+            &NameForm,
+        )?;
+        let time_window = required(found, fields, TIME_WINDOW, &WindowsForm)?;
+        let method = required(found, fields, BUDGETING_METHOD, &MethodForm)?;
+        let objectives_form = ObjectivesForm { method };
+        let objectives = match required(found, fields, OBJECTIVES, &objectives_form) {
+            Ok(objectives) => objectives,
+            Err(error) => {
+                drop(description);
+                drop(time_window);
+                return Err(error);
+            }
+        };
+        let policies = match optional(found, fields, ALERT_POLICIES, &PoliciesForm) {
+            Ok(policies) => policies,
+            Err(error) => {
+                drop(description);
+                drop(time_window);
+                drop(objectives);
+                return Err(error);
+            }
+        };
+        let slo = Slo {
+            description,
+            service,
+            indicator,
+            time_window,
+            budgeting_method: method,
+            objectives,
+            alert_policies: policies,
+        };
+        close_with(
+            found,
+            fields,
+            &[
+                DESCRIPTION,
+                SERVICE,
+                INDICATOR,
+                INDICATOR_REF,
+                TIME_WINDOW,
+                BUDGETING_METHOD,
+                OBJECTIVES,
+                ALERT_POLICIES,
+            ],
+            slo,
+        )
+    }
+}
+
+/// The body of an SLO.
+pub(crate) struct SloBody;
+
+impl ReadForm for SloBody {
+    type Value = Body;
+
+    ghost form = { λ _. slo_body };
+
+    fn read(&self, found: &mut Objects, key: &str, node: &Node) -> Result<Body, ReadError> {
+        match SloForm.read(found, key, node) {
+            Ok(slo) => Ok(Body::Slo(slo)),
+            Err(error) => Err(error),
+        }
+    }
+}
+
+fn copy_calendar(calendar: &Option<Calendar>) -> Option<Calendar>
+    ensures { result ≡ calendar.now }
 {
-    let Some(fields) = map_entries(node) else {
-        return Err(ReadError::Fault(fault_at(alloc, key, Rule::NotMap)?));
-    };
-    let description = optional_description(alloc, fields, "description")?;
-    let service = required_name(alloc, fields, "service")?;
-    let (objects, indicator) = one_indicator(alloc, fields, "indicator", "indicatorRef")?;
-    let time_window = required_window(alloc, fields, "timeWindow")?;
-    let budgeting_method = required_method(alloc, fields, "budgetingMethod")?;
-    let objectives = match required_objectives(alloc, fields, "objectives", budgeting_method) {
+    match calendar {
+        Some(calendar) => Some(Calendar {
+            start_time: calendar.start_time,
+            time_zone: calendar.time_zone,
+        }),
+        None => None,
+    }
+}
+
+fn copy_window(window: &TimeWindow) -> TimeWindow
+    ensures { result ≡ window.now }
+{
+    TimeWindow {
+        duration: window.duration,
+        is_rolling: window.is_rolling,
+        calendar: copy_calendar(&window.calendar),
+    }
+}
+
+fn copy_objective(alloc: Global, objective: &Objective) -> Result<Objective, AllocError>
+    ensures { IfOk result (λ o. o ≡ objective.now) }
+{
+    Ok(Objective {
+        display_name: copy_optional_text(alloc, &objective.display_name)?,
+        op: objective.op,
+        value: objective.value,
+        target: objective.target,
+        time_slice_target: objective.time_slice_target,
+        time_slice_window: objective.time_slice_window,
+    })
+}
+
+fn copy_objectives(alloc: Global, objectives: &Objectives) -> Result<Objectives, AllocError>
+    ensures { IfOk result (λ os. os ≡ objectives.now) }
+{
+    // There are few, as their list says.
+    let _ = objectives.count();
+    let mut copies = Objectives::new(alloc);
+    for objective in objectives.as_slice() {
+        copies.push(copy_objective(alloc, objective)?)?;
+    }
+    Ok(copies)
+}
+
+/// A copy of an SLO.
+pub(crate) fn copy_slo(alloc: Global, slo: &Slo) -> Result<Slo, AllocError>
+    ensures { IfOk result (λ s. s ≡ slo.now) }
+{
+    let description = copy_optional_text(alloc, &slo.description)?;
+    let objectives = match copy_objectives(alloc, &slo.objectives) {
         Ok(objectives) => objectives,
         Err(error) => {
             drop(description);
-            drop(objects);
-            drop(time_window);
             return Err(error);
         }
     };
-    let (more, alert_policies) = match optional_policies(alloc, fields, "alertPolicies") {
-        Ok(taken) => taken,
+    let alert_policies = match copy_optional_names(alloc, &slo.alert_policies) {
+        Ok(alert_policies) => alert_policies,
         Err(error) => {
             drop(description);
-            drop(objects);
-            drop(time_window);
             drop(objectives);
             return Err(error);
         }
     };
-    let slo = Slo {
+    Ok(Slo {
         description,
-        service,
-        indicator,
-        time_window,
-        budgeting_method,
+        service: slo.service,
+        indicator: slo.indicator,
+        time_window: copy_window(&slo.time_window),
+        budgeting_method: slo.budgeting_method,
         objectives,
         alert_policies,
-    };
-    close_with_both(
-        alloc,
-        fields,
-        &[
-            "description",
-            "service",
-            "indicator",
-            "indicatorRef",
-            "timeWindow",
-            "budgetingMethod",
-            "objectives",
-            "alertPolicies",
-        ],
-        objects,
-        more,
-        slo,
-    )
+    })
 }

@@ -1,89 +1,41 @@
 //! Time windows and budgeting methods.
-ghost use Rattle.std.specs.Prelude.{◌≡◌, ◌||◌, cond};
+ghost use Rattle.std.specs.Prelude.{◌≡◌, ◌||◌, cond, IfOk};
+ghost use Rattle.yaml_subset.specs.Spelling.{word};
 ghost use Rattle.yaml_subset.specs.NodeView.{node_view};
-ghost use Rattle.slo_objects.specs.Form.{map_with, required, required_unless, gives, refused};
-ghost use Rattle.slo_objects.specs.Reading.{Gives, alone, entries_view};
-ghost use Rattle.slo_objects.specs.Scalars.{zone_name};
-ghost use Rattle.slo_objects.specs.Moments.{moment};
+ghost use Rattle.slo_objects.specs.Form.{map_with, single, gives, refused};
+ghost use Rattle.slo_objects.specs.Reading.{Reads};
 ghost use Rattle.slo_objects.specs.Slo.{calendar, time_window, is_rolling as is_rolling_lem};
-ghost use Rattle.slo_objects.specs.Slo.{is_calendar_unit as is_calendar_unit_lem, method};
+ghost use Rattle.slo_objects.specs.Slo.{is_calendar_unit as is_calendar_unit_lem, method_word};
 ghost use Rattle.slo_objects.specs.Slo.{method_value};
+ghost use Rattle.slo_objects.specs.declared.fault.Rule.TheVariants as rules;
 
+use crate::durations::DurationForm;
 use crate::fault::{ReadError, Rule};
-use crate::fields::{close_with, fault_at, field};
-use crate::moments::moment_of;
-use crate::rows::{optional_boolean, required_duration};
-use crate::scalars::{is_word, zone_name_of};
-use crate::shape::{map_entries, scalar_text};
+use crate::fields::{close_with, fail_at};
+use crate::forms::{ReadForm, ReadText};
+use crate::moments::MomentForm;
+use crate::object::Objects;
+use crate::rows::{optional, required, required_unless};
+use crate::scalars::{BooleanForm, ZoneForm, is_word};
+use crate::shape::{list_items, map_entries, only_item};
 use crate::slo::{BudgetingMethod, Calendar, TimeWindow};
-use exact_fraction::ZoneName;
 use slo_duration::Unit;
-use std::alloc::Global;
-use yaml_subset::{Node, Text as NodeText};
-use zone_calendar::Civil;
+use std::alloc::{AllocError, Global};
+use yaml_subset::Node;
+
+// The keys that no other map has.
+pub(crate) const DURATION: &str = "duration";
+
+pub(crate) const IS_ROLLING: &str = "isRolling";
+
+pub(crate) const CALENDAR: &str = "calendar";
+
+pub(crate) const START_TIME: &str = "startTime";
+
+pub(crate) const TIME_ZONE: &str = "timeZone";
 
 /// 366 days, in minutes: the longest window.
 const MOST_WINDOW: u32 = 527_040;
-
-fn required_moment(
-    alloc: Global,
-    fields: &[(NodeText, Node)],
-    key: &str,
-) -> Result<Civil, ReadError>
-    ensures { Gives alone result ((required key.now moment).read (entries_view fields.now)) }
-{
-    match field(fields, key) {
-        Some(node) => moment_of(alloc, key, node),
-        None => Err(ReadError::Fault(fault_at(alloc, key, Rule::Missing)?)),
-    }
-}
-
-fn required_zone_name(
-    alloc: Global,
-    fields: &[(NodeText, Node)],
-    key: &str,
-) -> Result<ZoneName, ReadError>
-    ensures { Gives alone result ((required key.now zone_name).read (entries_view fields.now)) }
-{
-    match field(fields, key) {
-        Some(node) => zone_name_of(alloc, key, node),
-        None => Err(ReadError::Fault(fault_at(alloc, key, Rule::Missing)?)),
-    }
-}
-
-#[tactic(auto, unfolding(crate::specs::Slo::calendar))]
-fn calendar_of(alloc: Global, key: &str, node: &Node) -> Result<Calendar, ReadError>
-    ensures { Gives alone result ((map_with calendar).read key.now (node_view node.now)) }
-{
-    let Some(fields) = map_entries(node) else {
-        return Err(ReadError::Fault(fault_at(alloc, key, Rule::NotMap)?));
-    };
-    let start_time = required_moment(alloc, fields, "startTime")?;
-    let time_zone = required_zone_name(alloc, fields, "timeZone")?;
-    let calendar = Calendar {
-        start_time,
-        time_zone,
-    };
-    close_with(alloc, fields, &["startTime", "timeZone"], calendar)
-}
-
-/// A calendar, which must stand unless it is barred, where it may not.
-fn calendar_unless(
-    alloc: Global,
-    barred: bool,
-    fields: &[(NodeText, Node)],
-    key: &str,
-) -> Result<Option<Calendar>, ReadError>
-    ensures { Gives alone result ((required_unless barred key.now (map_with calendar)).read
-        (entries_view fields.now)) }
-{
-    match (field(fields, key), barred) {
-        (None, true) => Ok(None),
-        (None, false) => Err(ReadError::Fault(fault_at(alloc, key, Rule::Missing)?)),
-        (Some(_), true) => Err(ReadError::Fault(fault_at(alloc, key, Rule::Both)?)),
-        (Some(node), false) => Ok(Some(calendar_of(alloc, key, node)?)),
-    }
-}
 
 fn is_rolling(rolling: Option<bool>) -> bool
     ensures { result ≡ is_rolling_lem rolling }
@@ -115,44 +67,6 @@ fn may_have_unit(rolling: bool, unit: Unit) -> bool
     rolling || is_calendar_unit(unit)
 }
 
-/// Refuses a duration that no calendar window can have.
-fn check_unit(alloc: Global, fits: bool, key: &str) -> Result<(), ReadError>
-    ensures { Gives alone result (cond fits (gives tt) (refused key.now Rule.OutOfRange)) }
-{
-    if fits {
-        Ok(())
-    } else {
-        Err(ReadError::Fault(fault_at(alloc, key, Rule::OutOfRange)?))
-    }
-}
-
-/// An item of `timeWindow`.
-#[tactic(auto, unfolding(crate::specs::Slo::time_window))]
-pub(crate) fn time_window_of(alloc: Global, key: &str, node: &Node) -> Result<TimeWindow, ReadError>
-    ensures { Gives alone result ((map_with time_window).read key.now (node_view node.now)) }
-{
-    let Some(fields) = map_entries(node) else {
-        return Err(ReadError::Fault(fault_at(alloc, key, Rule::NotMap)?));
-    };
-    let duration = required_duration(alloc, fields, "duration", 1, MOST_WINDOW)?;
-    let is_rolling_field = optional_boolean(alloc, fields, "isRolling")?;
-    let rolling = is_rolling(is_rolling_field);
-    let fits = may_have_unit(rolling, duration.unit);
-    check_unit(alloc, fits, "duration")?;
-    let calendar = calendar_unless(alloc, rolling, fields, "calendar")?;
-    let window = TimeWindow {
-        duration,
-        is_rolling: is_rolling_field,
-        calendar,
-    };
-    close_with(
-        alloc,
-        fields,
-        &["duration", "isRolling", "calendar"],
-        window,
-    )
-}
-
 #[tactic(auto, unfolding(crate::specs::Slo::method_value))]
 fn read_method(text: &[u8]) -> Result<BudgetingMethod, Rule>
     ensures { result ≡ method_value text.now }
@@ -168,28 +82,113 @@ fn read_method(text: &[u8]) -> Result<BudgetingMethod, Rule>
     }
 }
 
-fn method_of(alloc: Global, key: &str, node: &Node) -> Result<BudgetingMethod, ReadError>
-    ensures { Gives alone result (method.read key.now (node_view node.now)) }
-{
-    let Some(bytes) = scalar_text(node) else {
-        return Err(ReadError::Fault(fault_at(alloc, key, Rule::BadWord)?));
-    };
-    match read_method(bytes) {
-        Ok(value) => Ok(value),
-        Err(rule) => Err(ReadError::Fault(fault_at(alloc, key, rule)?)),
+/// A budgeting method.
+pub(crate) struct MethodForm;
+
+impl ReadText for MethodForm {
+    type Value = BudgetingMethod;
+
+    ghost other = { λ _. rules.BadWord };
+
+    ghost value = { λ _. method_value };
+
+    ghost spelled = { λ _ m. word (method_word m) };
+
+    fn rule(&self) -> Rule {
+        Rule::BadWord
+    }
+
+    fn parse(
+        &self,
+        _alloc: Global,
+        text: &[u8],
+    ) -> Result<Result<BudgetingMethod, Rule>, AllocError> {
+        Ok(read_method(text))
     }
 }
 
-/// The budgeting method, which must stand.
-pub(crate) fn required_method(
-    alloc: Global,
-    fields: &[(NodeText, Node)],
-    key: &str,
-) -> Result<BudgetingMethod, ReadError>
-    ensures { Gives alone result ((required key.now method).read (entries_view fields.now)) }
+/// `calendar`.
+struct CalendarForm;
+
+impl ReadForm for CalendarForm {
+    type Value = Calendar;
+
+    ghost form = { λ _. map_with calendar };
+
+    #[tactic(auto, unfolding(crate::specs::Slo::calendar))]
+    fn read(&self, found: &mut Objects, key: &str, node: &Node) -> Result<Calendar, ReadError> {
+        let Some(fields) = map_entries(node) else {
+            return fail_at(found, key, Rule::NotMap);
+        };
+        let start_time = required(found, fields, START_TIME, &MomentForm)?;
+        let time_zone = required(found, fields, TIME_ZONE, &ZoneForm)?;
+        let calendar = Calendar {
+            start_time,
+            time_zone,
+        };
+        close_with(found, fields, &[START_TIME, TIME_ZONE], calendar)
+    }
+}
+
+/// Refuses a duration that no calendar window can have.
+fn check_unit(found: &Objects, fits: bool, key: &str) -> Result<(), ReadError>
+    ensures { Reads found.now found.now result
+        (cond fits (gives tt) (refused key.now Rule.OutOfRange)) }
 {
-    match field(fields, key) {
-        Some(node) => method_of(alloc, key, node),
-        None => Err(ReadError::Fault(fault_at(alloc, key, Rule::Missing)?)),
+    if fits {
+        Ok(())
+    } else {
+        fail_at(found, key, Rule::OutOfRange)
+    }
+}
+
+/// The item of `timeWindow`.
+struct WindowForm;
+
+impl ReadForm for WindowForm {
+    type Value = TimeWindow;
+
+    ghost form = { λ _. map_with time_window };
+
+    #[tactic(auto, unfolding(crate::specs::Slo::time_window))]
+    fn read(&self, found: &mut Objects, key: &str, node: &Node) -> Result<TimeWindow, ReadError> {
+        let Some(fields) = map_entries(node) else {
+            return fail_at(found, key, Rule::NotMap);
+        };
+        let duration_form = DurationForm {
+            least: 1,
+            most: MOST_WINDOW,
+        };
+        let duration = required(found, fields, DURATION, &duration_form)?;
+        let is_rolling_field = optional(found, fields, IS_ROLLING, &BooleanForm)?;
+        let rolling = is_rolling(is_rolling_field);
+        let fits = may_have_unit(rolling, duration.unit);
+        check_unit(found, fits, DURATION)?;
+        let calendar = required_unless(found, fields, rolling, CALENDAR, &CalendarForm)?;
+        let window = TimeWindow {
+            duration,
+            is_rolling: is_rolling_field,
+            calendar,
+        };
+        close_with(found, fields, &[DURATION, IS_ROLLING, CALENDAR], window)
+    }
+}
+
+/// `timeWindow`: a list of one window.
+pub(crate) struct WindowsForm;
+
+impl ReadForm for WindowsForm {
+    type Value = TimeWindow;
+
+    ghost form = { λ _. single (map_with time_window) };
+
+    fn read(&self, found: &mut Objects, key: &str, node: &Node) -> Result<TimeWindow, ReadError> {
+        let Some(items) = list_items(node) else {
+            return fail_at(found, key, Rule::NotList);
+        };
+        match only_item(items) {
+            Some(item) => WindowForm.read(found, key, item),
+            None => fail_at(found, key, Rule::ListLength),
+        }
     }
 }

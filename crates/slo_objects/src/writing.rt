@@ -10,4 +10,4 @@ mod sli;
 mod slo;
 mod words;
 
-pub use document::write_object;
+pub use document::{object_length, write_object};

@@ -10,8 +10,15 @@ ghost use Rattle.slo_objects.specs.AlertPolicy.{alert_policy, policy_body, condi
 ghost use Rattle.slo_objects.specs.Durations.{duration, month};
 ghost use Rattle.slo_objects.specs.Adding.{Adds};
 
-use crate::alert_condition::{AlertCondition, Condition, ConditionKind};
-use crate::alert_policy::AlertPolicy;
+use crate::alert_condition::{
+    ALERT_AFTER, AlertCondition, CONDITION, Condition, ConditionKind, LOOKBACK_WINDOW, SEVERITY,
+    THRESHOLD,
+};
+use crate::alert_policy::{
+    ALERT_WHEN_BREACHING, ALERT_WHEN_NO_DATA, ALERT_WHEN_RESOLVED, AlertPolicy, CONDITION_REF,
+    CONDITIONS, NOTIFICATION_TARGETS, TARGET_REF,
+};
+use crate::keys::{DESCRIPTION, KIND, OP};
 use crate::names::Names;
 use crate::object::Body;
 use crate::writing::fields::{list_of, map_of, put, put_item};
@@ -58,11 +65,11 @@ fn inner_condition(alloc: Global, value: &Condition) -> Result<Spelling, AllocEr
     ensures { IfOk result (λ s. spelling_view s ≡ (map_with condition).write value.now) }
 {
     let mut fields = Vec::new(alloc);
-    optional_condition_kind(&mut fields, "kind", value.kind)?;
-    optional_op(&mut fields, "op", value.op)?;
-    required_number(&mut fields, "threshold", value.threshold)?;
-    required_duration(&mut fields, "lookbackWindow", value.lookback_window)?;
-    optional_duration(&mut fields, "alertAfter", value.alert_after)?;
+    optional_condition_kind(&mut fields, KIND, value.kind)?;
+    optional_op(&mut fields, OP, value.op)?;
+    required_number(&mut fields, THRESHOLD, value.threshold)?;
+    required_duration(&mut fields, LOOKBACK_WINDOW, value.lookback_window)?;
+    optional_duration(&mut fields, ALERT_AFTER, value.alert_after)?;
     Ok(map_of(fields))
 }
 
@@ -71,10 +78,10 @@ fn condition_map(alloc: Global, value: &AlertCondition) -> Result<Spelling, Allo
     ensures { IfOk result (λ s. spelling_view s ≡ (map_with alert_condition).write value.now) }
 {
     let mut fields = Vec::new(alloc);
-    optional_description(&mut fields, "description", &value.description)?;
-    required_text(&mut fields, "severity", &value.severity)?;
+    optional_description(&mut fields, DESCRIPTION, &value.description)?;
+    required_text(&mut fields, SEVERITY, &value.severity)?;
     let condition = inner_condition(alloc, &value.condition)?;
-    put(&mut fields, "condition", condition)?;
+    put(&mut fields, CONDITION, condition)?;
     Ok(map_of(fields))
 }
 
@@ -121,7 +128,7 @@ fn optional_conditions(
     let Some(names) = names else {
         return Ok(());
     };
-    let list = references(*fields.allocator(), "conditionRef", names.as_slice())?;
+    let list = references(*fields.allocator(), CONDITION_REF, names.as_slice())?;
     put(fields, key, list)
 }
 
@@ -136,7 +143,7 @@ fn optional_targets(
     let Some(names) = names else {
         return Ok(());
     };
-    let list = references(*fields.allocator(), "targetRef", names.as_slice())?;
+    let list = references(*fields.allocator(), TARGET_REF, names.as_slice())?;
     put(fields, key, list)
 }
 
@@ -145,18 +152,18 @@ fn policy_map(alloc: Global, value: &AlertPolicy) -> Result<Spelling, AllocError
     ensures { IfOk result (λ s. spelling_view s ≡ (map_with alert_policy).write value.now) }
 {
     let mut fields = Vec::new(alloc);
-    optional_description(&mut fields, "description", &value.description)?;
-    optional_boolean(&mut fields, "alertWhenNoData", value.alert_when_no_data)?;
-    optional_boolean(&mut fields, "alertWhenResolved", value.alert_when_resolved)?;
+    optional_description(&mut fields, DESCRIPTION, &value.description)?;
+    optional_boolean(&mut fields, ALERT_WHEN_NO_DATA, value.alert_when_no_data)?;
+    optional_boolean(&mut fields, ALERT_WHEN_RESOLVED, value.alert_when_resolved)?;
     optional_boolean(
         &mut fields,
-        "alertWhenBreaching",
+        ALERT_WHEN_BREACHING,
         value.alert_when_breaching,
     )?;
-    optional_conditions(&mut fields, "conditions", &value.conditions)?;
+    optional_conditions(&mut fields, CONDITIONS, &value.conditions)?;
     optional_targets(
         &mut fields,
-        "notificationTargets",
+        NOTIFICATION_TARGETS,
         &value.notification_targets,
     )?;
     Ok(map_of(fields))

@@ -2,11 +2,14 @@
 ghost use Rattle.std.specs.Prelude.{◌≡◌, ◌≤◌, ◌++◌, ◌∷◌, [], Ok, IfOk, OnOk, OnErr, length};
 ghost use Rattle.yaml_subset.specs.Text.{StandsFor, max_bytes};
 ghost use Rattle.yaml_subset.specs.Spelling.{meant, writing};
+ghost use Rattle.yaml_subset.specs.Room.{up_to};
 ghost use Rattle.yaml_subset.specs.SpellingView.{spelling_view};
 ghost use Rattle.slo_objects.specs.Form.{map_with};
 ghost use Rattle.slo_objects.specs.Metadata.{metadata, metadata_of};
 ghost use Rattle.slo_objects.specs.Document.{body, objects_of, written, IsOfDocument};
 
+use crate::inline::{ANNOTATIONS, LABELS, NAME};
+use crate::keys::{API_VERSION, DISPLAY_NAME, KIND, METADATA, SPEC};
 use crate::kind::Kind;
 use crate::laws::{each_object_can_be_written, each_object_reads_back};
 use crate::object::{Body, Object};
@@ -17,7 +20,7 @@ use crate::writing::service::{data_source_spec, service_spec, target_spec};
 use crate::writing::sli::sli_spec;
 use crate::writing::slo::slo_spec;
 use std::alloc::{AllocError, Global};
-use yaml_subset::{Spelling, write_spelling};
+use yaml_subset::{Spelling, write_spelling, written_length};
 
 #[tactic(auto, unfolding(crate::specs::Metadata::metadata))]
 fn metadata_map(alloc: Global, value: &Object) -> Result<Spelling, AllocError>
@@ -25,10 +28,10 @@ fn metadata_map(alloc: Global, value: &Object) -> Result<Spelling, AllocError>
         ≡ (map_with metadata).write (metadata_of value.now)) }
 {
     let mut fields = Vec::new(alloc);
-    required_name(&mut fields, "name", &value.name)?;
-    optional_text(&mut fields, "displayName", &value.display_name)?;
-    optional_free_map(&mut fields, "labels", &value.labels)?;
-    optional_free_map(&mut fields, "annotations", &value.annotations)?;
+    required_name(&mut fields, NAME, &value.name)?;
+    optional_text(&mut fields, DISPLAY_NAME, &value.display_name)?;
+    optional_free_map(&mut fields, LABELS, &value.labels)?;
+    optional_free_map(&mut fields, ANNOTATIONS, &value.annotations)?;
     Ok(map_of(fields))
 }
 
@@ -53,12 +56,12 @@ fn document_map(alloc: Global, value: &Object) -> Result<Spelling, AllocError>
     ensures { IfOk result (λ s. spelling_view s ≡ written value.now) }
 {
     let mut fields = Vec::new(alloc);
-    required_word(&mut fields, "apiVersion", "openslo/v1")?;
-    required_word(&mut fields, "kind", value.kind.word())?;
+    required_word(&mut fields, API_VERSION, "openslo/v1")?;
+    required_word(&mut fields, KIND, value.kind.word())?;
     let metadata = metadata_map(alloc, value)?;
-    put(&mut fields, "metadata", metadata)?;
+    put(&mut fields, METADATA, metadata)?;
     let spec = spec_map(alloc, value.kind, &value.body)?;
-    put(&mut fields, "spec", spec)?;
+    put(&mut fields, SPEC, spec)?;
     Ok(map_of(fields))
 }
 
@@ -82,4 +85,19 @@ pub fn write_object(out: &mut Vec<u8>, value: &Object) -> Result<(), AllocError>
     each_object_reads_back();
     let document = document_map(*out.allocator(), value)?;
     write_spelling(out, &document, 0)
+}
+
+/// How many bytes the canonical writing of an object has, where they are at most so many; nothing
+/// where there are more. It isn't written. The error is want of memory.
+pub fn object_length(
+    alloc: Global,
+    value: &Object,
+    most: usize,
+) -> Result<Option<usize>, AllocError>
+    requires { IsOfDocument value.now }
+    ensures { IfOk result (λ bytes. bytes ≡ up_to most (length (writing 0 (written value.now)))) }
+{
+    each_object_can_be_written();
+    let document = document_map(alloc, value)?;
+    Ok(written_length(&document, 0, most))
 }

@@ -7,7 +7,8 @@ ghost use Rattle.slo_objects.specs.DataSource.{data_source, data_source_body};
 ghost use Rattle.slo_objects.specs.AlertNotificationTarget.{alert_notification_target, target_body};
 
 use crate::alert_notification_target::AlertNotificationTarget;
-use crate::data_source::DataSource;
+use crate::data_source::{CONNECTION_DETAILS, DataSource};
+use crate::keys::{DESCRIPTION, TARGET, TYPE};
 use crate::object::Body;
 use crate::service::Service;
 use crate::writing::fields::map_of;
@@ -20,7 +21,7 @@ fn service_map(alloc: Global, value: &Service) -> Result<Spelling, AllocError>
     ensures { IfOk result (λ s. spelling_view s ≡ (map_with service).write value.now) }
 {
     let mut fields = Vec::new(alloc);
-    optional_description(&mut fields, "description", &value.description)?;
+    optional_description(&mut fields, DESCRIPTION, &value.description)?;
     Ok(map_of(fields))
 }
 
@@ -39,9 +40,9 @@ fn data_source_map(alloc: Global, value: &DataSource) -> Result<Spelling, AllocE
     ensures { IfOk result (λ s. spelling_view s ≡ (map_with data_source).write value.now) }
 {
     let mut fields = Vec::new(alloc);
-    optional_description(&mut fields, "description", &value.description)?;
-    required_text(&mut fields, "type", &value.type_text)?;
-    optional_free(&mut fields, "connectionDetails", &value.connection_details)?;
+    optional_description(&mut fields, DESCRIPTION, &value.description)?;
+    required_text(&mut fields, TYPE, &value.type_text)?;
+    optional_free(&mut fields, CONNECTION_DETAILS, &value.connection_details)?;
     Ok(map_of(fields))
 }
 
@@ -61,8 +62,8 @@ fn target_map(alloc: Global, value: &AlertNotificationTarget) -> Result<Spelling
         ≡ (map_with alert_notification_target).write value.now) }
 {
     let mut fields = Vec::new(alloc);
-    optional_description(&mut fields, "description", &value.description)?;
-    required_text(&mut fields, "target", &value.target)?;
+    optional_description(&mut fields, DESCRIPTION, &value.description)?;
+    required_text(&mut fields, TARGET, &value.target)?;
     Ok(map_of(fields))
 }
 

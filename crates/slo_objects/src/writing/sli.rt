@@ -1,13 +1,17 @@
 //! Indicators, as they are written.
-ghost use Rattle.std.specs.Prelude.{◌≡◌, IfOk, OnOk, codes, cond};
+ghost use Rattle.std.specs.Prelude.{◌≡◌, IfOk, OnOk, cond};
 ghost use Rattle.yaml_subset.specs.SpellingView.{spelling_view};
 ghost use Rattle.slo_objects.specs.Form.{map_with, own};
 ghost use Rattle.slo_objects.specs.Sli.{metric_source, source, is_good, events_written};
 ghost use Rattle.slo_objects.specs.Sli.{ratio_metric, is_threshold, metric_written, sli, sli_body};
 ghost use Rattle.slo_objects.specs.Adding.{Adds};
 
+use crate::keys::{DESCRIPTION, SPEC, TYPE};
 use crate::object::Body;
-use crate::sli::{Events, Metric, MetricSource, Ratio, RatioMetric, Sli};
+use crate::sli::{
+    BAD, COUNTER, Events, GOOD, METRIC_SOURCE, METRIC_SOURCE_REF, Metric, MetricSource,
+    RATIO_METRIC, RAW, RAW_TYPE, Ratio, RatioMetric, Sli, THRESHOLD_METRIC, TOTAL,
+};
 use crate::writing::fields::{map_of, put};
 use crate::writing::rows::{
     optional_boolean, optional_description, optional_free, optional_name, optional_text,
@@ -22,9 +26,9 @@ fn metric_source_map(alloc: Global, value: &MetricSource) -> Result<Spelling, Al
     ensures { IfOk result (λ s. spelling_view s ≡ (map_with metric_source).write value.now) }
 {
     let mut fields = Vec::new(alloc);
-    optional_name(&mut fields, "metricSourceRef", &value.metric_source_ref)?;
-    optional_text(&mut fields, "type", &value.type_text)?;
-    optional_free(&mut fields, "spec", &value.spec)?;
+    optional_name(&mut fields, METRIC_SOURCE_REF, &value.metric_source_ref)?;
+    optional_text(&mut fields, TYPE, &value.type_text)?;
+    optional_free(&mut fields, SPEC, &value.spec)?;
     Ok(map_of(fields))
 }
 
@@ -35,7 +39,7 @@ fn source_map(alloc: Global, value: &MetricSource) -> Result<Spelling, AllocErro
 {
     let mut fields = Vec::new(alloc);
     let metric_source = metric_source_map(alloc, value)?;
-    put(&mut fields, "metricSource", metric_source)?;
+    put(&mut fields, METRIC_SOURCE, metric_source)?;
     Ok(map_of(fields))
 }
 
@@ -55,12 +59,12 @@ fn put_source(
 /// The events that are counted beside the total.
 fn put_events(fields: &mut Vec<(FieldKey, Spelling)>, value: &Events) -> Result<(), AllocError>
     ensures { OnOk result (Adds fields.old.items fields.new.items
-        (λ behind. cond (is_good value.now) (own (codes "good") (events_written value.now) behind)
-        (own (codes "bad") (events_written value.now) behind))) }
+        (λ behind. cond (is_good value.now) (own GOOD.now (events_written value.now) behind)
+        (own BAD.now (events_written value.now) behind))) }
 {
     match value {
-        Events::Good(source) => put_source(fields, "good", source),
-        Events::Bad(source) => put_source(fields, "bad", source),
+        Events::Good(source) => put_source(fields, GOOD, source),
+        Events::Bad(source) => put_source(fields, BAD, source),
     }
 }
 
@@ -69,14 +73,14 @@ fn ratio_map(alloc: Global, value: &RatioMetric) -> Result<Spelling, AllocError>
     ensures { IfOk result (λ s. spelling_view s ≡ (map_with ratio_metric).write value.now) }
 {
     let mut fields = Vec::new(alloc);
-    optional_boolean(&mut fields, "counter", value.counter)?;
+    optional_boolean(&mut fields, COUNTER, value.counter)?;
     match &value.ratio {
         Ratio::Raw { raw, raw_type } => {
-            put_source(&mut fields, "raw", raw)?;
-            required_word(&mut fields, "rawType", raw_type_word(*raw_type))?;
+            put_source(&mut fields, RAW, raw)?;
+            required_word(&mut fields, RAW_TYPE, raw_type_word(*raw_type))?;
         }
         Ratio::Counts { total, events } => {
-            put_source(&mut fields, "total", total)?;
+            put_source(&mut fields, TOTAL, total)?;
             put_events(&mut fields, events)?;
         }
     }
@@ -87,14 +91,14 @@ fn ratio_map(alloc: Global, value: &RatioMetric) -> Result<Spelling, AllocError>
 fn put_metric(fields: &mut Vec<(FieldKey, Spelling)>, value: &Metric) -> Result<(), AllocError>
     ensures { OnOk result (Adds fields.old.items fields.new.items
         (λ behind. cond (is_threshold value.now)
-        (own (codes "thresholdMetric") (metric_written value.now) behind)
-        (own (codes "ratioMetric") (metric_written value.now) behind))) }
+        (own THRESHOLD_METRIC.now (metric_written value.now) behind)
+        (own RATIO_METRIC.now (metric_written value.now) behind))) }
 {
     match value {
-        Metric::Threshold(source) => put_source(fields, "thresholdMetric", source),
+        Metric::Threshold(source) => put_source(fields, THRESHOLD_METRIC, source),
         Metric::Ratio(ratio) => {
             let ratio = ratio_map(*fields.allocator(), ratio)?;
-            put(fields, "ratioMetric", ratio)
+            put(fields, RATIO_METRIC, ratio)
         }
     }
 }
@@ -104,7 +108,7 @@ fn sli_map(alloc: Global, value: &Sli) -> Result<Spelling, AllocError>
     ensures { IfOk result (λ s. spelling_view s ≡ (map_with sli).write value.now) }
 {
     let mut fields = Vec::new(alloc);
-    optional_description(&mut fields, "description", &value.description)?;
+    optional_description(&mut fields, DESCRIPTION, &value.description)?;
     put_metric(&mut fields, &value.metric)?;
     Ok(map_of(fields))
 }

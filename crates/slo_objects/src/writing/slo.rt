@@ -9,9 +9,15 @@ ghost use Rattle.slo_objects.specs.Slo.{calendar, time_window, method, objective
 ghost use Rattle.slo_objects.specs.Slo.{slice_width, policies, slo, slo_body};
 ghost use Rattle.slo_objects.specs.Adding.{Adds};
 
+use crate::keys::{DESCRIPTION, DISPLAY_NAME, OP, TARGET};
 use crate::names::Names;
 use crate::object::Body;
-use crate::slo::{BudgetingMethod, Calendar, Objective, Objectives, Slo, TimeWindow};
+use crate::objective::{TIME_SLICE_TARGET, TIME_SLICE_WINDOW, VALUE};
+use crate::slo::{
+    ALERT_POLICIES, ALERT_POLICY_REF, BUDGETING_METHOD, BudgetingMethod, Calendar, INDICATOR_REF,
+    OBJECTIVES, Objective, Objectives, SERVICE, Slo, TIME_WINDOW, TimeWindow,
+};
+use crate::window::{CALENDAR, DURATION, IS_ROLLING, START_TIME, TIME_ZONE};
 use crate::writing::alerts::references;
 use crate::writing::fields::{list_of, map_of, put, put_item};
 use crate::writing::rows::{
@@ -30,9 +36,9 @@ fn calendar_map(alloc: Global, value: &Calendar) -> Result<Spelling, AllocError>
 {
     let mut fields = Vec::new(alloc);
     let start = scalars::moment(alloc, value.start_time)?;
-    put(&mut fields, "startTime", start)?;
+    put(&mut fields, START_TIME, start)?;
     let zone = scalars::in_quotes(alloc, value.time_zone.as_bytes())?;
-    put(&mut fields, "timeZone", zone)?;
+    put(&mut fields, TIME_ZONE, zone)?;
     Ok(map_of(fields))
 }
 
@@ -56,9 +62,9 @@ fn time_window_map(alloc: Global, value: &TimeWindow) -> Result<Spelling, AllocE
     ensures { IfOk result (λ s. spelling_view s ≡ (map_with time_window).write value.now) }
 {
     let mut fields = Vec::new(alloc);
-    required_duration(&mut fields, "duration", value.duration)?;
-    optional_boolean(&mut fields, "isRolling", value.is_rolling)?;
-    optional_calendar(&mut fields, "calendar", &value.calendar)?;
+    required_duration(&mut fields, DURATION, value.duration)?;
+    optional_boolean(&mut fields, IS_ROLLING, value.is_rolling)?;
+    optional_calendar(&mut fields, CALENDAR, &value.calendar)?;
     Ok(map_of(fields))
 }
 
@@ -145,12 +151,12 @@ fn objective_map(
     ensures { IfOk result (λ s. spelling_view s ≡ (map_with (objective _method)).write value.now) }
 {
     let mut fields = Vec::new(alloc);
-    optional_text(&mut fields, "displayName", &value.display_name)?;
-    optional_op(&mut fields, "op", value.op)?;
-    optional_value(&mut fields, "value", value.value)?;
-    required_number(&mut fields, "target", value.target)?;
-    optional_slice_target(&mut fields, "timeSliceTarget", value.time_slice_target)?;
-    optional_slice_width(&mut fields, "timeSliceWindow", value.time_slice_window)?;
+    optional_text(&mut fields, DISPLAY_NAME, &value.display_name)?;
+    optional_op(&mut fields, OP, value.op)?;
+    optional_value(&mut fields, VALUE, value.value)?;
+    required_number(&mut fields, TARGET, value.target)?;
+    optional_slice_target(&mut fields, TIME_SLICE_TARGET, value.time_slice_target)?;
+    optional_slice_width(&mut fields, TIME_SLICE_WINDOW, value.time_slice_window)?;
     Ok(map_of(fields))
 }
 
@@ -194,7 +200,7 @@ fn optional_policies(
     let Some(names) = names else {
         return Ok(());
     };
-    let list = references(*fields.allocator(), "alertPolicyRef", names.as_slice())?;
+    let list = references(*fields.allocator(), ALERT_POLICY_REF, names.as_slice())?;
     put(fields, key, list)
 }
 
@@ -203,14 +209,14 @@ fn slo_map(alloc: Global, value: &Slo) -> Result<Spelling, AllocError>
     ensures { IfOk result (λ s. spelling_view s ≡ (map_with slo).write value.now) }
 {
     let mut fields = Vec::new(alloc);
-    optional_description(&mut fields, "description", &value.description)?;
-    required_name(&mut fields, "service", &value.service)?;
-    required_name(&mut fields, "indicatorRef", &value.indicator)?;
-    required_window(&mut fields, "timeWindow", &value.time_window)?;
+    optional_description(&mut fields, DESCRIPTION, &value.description)?;
+    required_name(&mut fields, SERVICE, &value.service)?;
+    required_name(&mut fields, INDICATOR_REF, &value.indicator)?;
+    required_window(&mut fields, TIME_WINDOW, &value.time_window)?;
     let method = value.budgeting_method;
-    required_method(&mut fields, "budgetingMethod", method)?;
-    required_objectives(&mut fields, "objectives", method, &value.objectives)?;
-    optional_policies(&mut fields, "alertPolicies", &value.alert_policies)?;
+    required_method(&mut fields, BUDGETING_METHOD, method)?;
+    required_objectives(&mut fields, OBJECTIVES, method, &value.objectives)?;
+    optional_policies(&mut fields, ALERT_POLICIES, &value.alert_policies)?;
     Ok(map_of(fields))
 }
 

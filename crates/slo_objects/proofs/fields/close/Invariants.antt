@@ -5,4 +5,6 @@ use Rattle.slo_objects.proofs.fields.close.Given as goal
 
 -- all so far may stand
 abbrev pub invariant-loop-name : goal.invariant-loop-name
-invariant-loop-name l = closed (map (λ k. k.now) l.known) (entries_view (drop l.name-index l.fields)) ≡ closed (map (λ k. k.now) l.known) (entries_view l.fields)
+invariant-loop-name l =
+    closed (map (λ k. k.now) l.known) (entries_view (drop l.name-index l.fields))
+    ≡ closed (map (λ k. k.now) l.known) (entries_view l.fields)

@@ -5,4 +5,5 @@ use Rattle.slo_objects.proofs.fields.has_one_of.Given as goal
 
 -- none so far stands
 abbrev pub invariant-loop-key : goal.invariant-loop-key
-invariant-loop-key l = has_one_of (map (λ k. k.now) (drop l.key-index l.keys)) (entries_view l.fields) ≡ has_one_of (map (λ k. k.now) l.keys) (entries_view l.fields)
+invariant-loop-key l = has_one_of (map (λ k. k.now) (drop l.key-index l.keys))
+    (entries_view l.fields) ≡ has_one_of (map (λ k. k.now) l.keys) (entries_view l.fields)

@@ -1,9 +1,13 @@
-use Rattle.std.proofs.Common.{◌≡◌, [], drop}
+use Rattle.std.proofs.Common.{◌≡◌, ◌≤◌, [], drop, length}
 use Rattle.slo_objects.specs.Form.{each}
 use Rattle.slo_objects.specs.Reading.{trees_view}
 use Rattle.slo_objects.specs.Slo.{objective_item}
 use Rattle.slo_objects.proofs.slo.each_objective.Given as goal
 
--- what is read so far, and what the rest gives
+-- what is read so far, and what the rest gives; each item gave one objective
 abbrev pub invariant-loop-node : goal.invariant-loop-node
-invariant-loop-node l = each (objective_item l.method l.key) [] l.objectives (trees_view (drop l.node-index l.items)) ≡ each (objective_item l.method l.key) [] [] (trees_view l.items)
+invariant-loop-node l =
+    (each (objective_item l.method l.key) l.found l.objectives
+    (trees_view (drop l.node-index l.items))
+    ≡ each (objective_item l.method l.key) l.initial.found [] (trees_view l.items))
+    × (length l.objectives ≤ l.node-index)

@@ -6,4 +6,5 @@ use Rattle.slo_objects.proofs.writing.alerts.references.Given as goal
 
 abbrev pub invariant-loop-name : goal.invariant-loop-name
 invariant-loop-name l =
-    items_before l.items.items (written_items (reference_written l.key) (drop l.name-index l.names)) ≡ written_items (reference_written l.key) l.names
+    items_before l.items.items (written_items (reference_written l.key) (drop l.name-index l.names))
+    ≡ written_items (reference_written l.key) l.names

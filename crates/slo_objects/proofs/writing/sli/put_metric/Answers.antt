@@ -1,11 +1,14 @@
-use Rattle.std.proofs.Common.{codes, OnOk, subst}
+use Rattle.std.proofs.Common.{OnOk, subst}
 use Rattle.slo_objects.specs.Form.{own}
 use Rattle.slo_objects.specs.Adding.{Adds}
 use Rattle.slo_objects.proofs.writing.sli.put_metric.Goals as goal
+use Rattle.slo_objects.specs.declared.sli.TheConstants.{RATIO_METRIC}
 
 pub returns-in-Threshold : goal.returns-in-Threshold
 returns-in-Threshold c = rw c.in-Threshold.is c.put_source.ensures
 
 pub returns-in_ok-ratio-in-Ratio : goal.returns-in_ok-ratio-in-Ratio
 returns-in_ok-ratio-in-Ratio c =
-    rw c.in-Ratio.is (subst (λ s. OnOk c.put.result (Adds c.args.fields.now.items c.put.new.fields.items (own (codes "ratioMetric") s))) c.in_ok-ratio-in-Ratio.ensures c.put.ensures)
+    rw c.in-Ratio.is (subst (λ s. OnOk
+    c.put.result (Adds c.args.fields.now.items c.put.new.fields.items (own RATIO_METRIC.now s)))
+    c.in_ok-ratio-in-Ratio.ensures c.put.ensures)

@@ -6,4 +6,6 @@ use Rattle.slo_objects.proofs.writing.slo.objective_list.Given as goal
 
 abbrev pub invariant-loop-value : goal.invariant-loop-value
 invariant-loop-value l =
-    items_before l.items.items (written_items (map_with (objective l.method)).write (drop l.value-index l.values)) ≡ written_items (map_with (objective l.method)).write l.values
+    items_before l.items.items
+    (written_items (map_with (objective l.method)).write (drop l.value-index l.values))
+    ≡ written_items (map_with (objective l.method)).write l.values

@@ -15,4 +15,5 @@ returns c = c.map_of.ensures ∙ ap fields
     ∙ c.in_ok-optional_value.ensures _
     ∙ c.in_ok-optional_op.ensures _
     ∙ c.in_ok-optional_text.ensures _
-    ∙ ap (λ ps. before ps (put (objective c.args._method) c.args.value.now)) c.new-fields.ensures.items)
+    ∙ ap (λ ps. before ps (put (objective c.args._method) c.args.value.now))
+    c.new-fields.ensures.items)

@@ -1,0 +1,13 @@
+use Rattle.std.proofs.Common.{sym}
+use Rattle.slo_objects.specs.Sli.{sli}
+use Rattle.slo_objects.proofs.ReadLemmas.{reads_behind}
+use Rattle.slo_objects.proofs.sli.SliFormReadForm.read.Goals as goal
+
+-- line by line
+pub returns : goal.returns
+unfolding sli
+returns c =
+    rw (sym c.in-Some.ensures)
+    (reads_behind _ _ _ _ _ _ _ c.in_ok-description.ensures
+    (reads_behind _ _ _ _ _ _ _ c.in-Ok.ensures
+    c.close_with.ensures))
