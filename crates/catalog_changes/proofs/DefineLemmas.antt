@@ -1,9 +1,11 @@
 -- What a text that is defined makes of the members.
-use Rattle.std.proofs.Common.{◌≡◌, ℕ, ◌+◌, Bool, true, false, List, [], ◌∷◌, ◌++◌, Option, Some, None, Result, Ok, Err, length, map, flat_map, fold, refl, sym, ap, ◌∙◌, subst, append_assoc, append-nil}
+use Rattle.std.proofs.Common.{◌≡◌, ℕ, ◌+◌, Bool, true, false, List, [], ◌∷◌, ◌++◌, Option, Some}
+use Rattle.std.proofs.Common.{None, Result, Ok, Err, length, map, flat_map, fold, refl, sym, ap}
+use Rattle.std.proofs.Common.{◌∙◌, subst, append_assoc, append-nil}
 use Rattle.std.specs.List.{AllByRecursion}
 use Rattle.std.specs.Str.Lines.{lines}
 use Rattle.yaml_subset.specs.Tree.{Tree}
-use Rattle.yaml_subset.specs.Text.{nodes_of, without_mark}
+use Rattle.yaml_subset.specs.Text.{StandsFor, nodes_of, without_mark}
 use Rattle.slo_objects.specs.declared.Object.{Object}
 use Rattle.slo_objects.specs.declared.ObjectFault.{ObjectFault}
 use Rattle.slo_objects.specs.Document.{objects_of}
@@ -17,57 +19,64 @@ use Rattle.record_form.specs.declared.Refusal.{Refusal}
 use Rattle.record_form.specs.declared.Refusal.TheVariants as refusals
 use Rattle.definition_verdict.specs.declared.Definition.{Definition}
 use Rattle.definition_verdict.specs.Documents.{objects_from, objects_next}
+use Rattle.definition_verdict.specs.Documents as definition
 use Rattle.definition_verdict.specs.Readings.{first_read_anew}
 use Rattle.definition_verdict.specs.Starts.{one_begins_too_often}
-use Rattle.definition_verdict.specs.Verdict.{Known, IsDefinition, unless, unless_many_starts, limit_name, within_limits, judged_by, has_samples, defined_over}
+use Rattle.definition_verdict.specs.Verdict.{Known, IsDefinition, unless, unless_many_starts}
+use Rattle.definition_verdict.specs.Verdict.{limit_name, within_limits, judged_by, has_samples}
+use Rattle.definition_verdict.specs.Verdict.{defined_over}
 use Rattle.definition_verdict.specs.Zones.{first_unknown_zone}
 use Rattle.office_history.specs.Catalog.{or_none, objects_in, text_objects, members_after}
-use Rattle.catalog_changes.specs.Kinds.{HasBody, BodiesOfKinds}
+use Rattle.catalog_changes.specs.Kinds.{HasKind, TextsHaveKinds}
 
 -- the objects that are read of documents are those of each
-read_objects : (before : List Object) (number : ℕ) (nodes : List Tree) (all : List Object) → objects_from before number nodes ≡ Ok all →
+read_objects : (before : List Object) (number : ℕ) (nodes : List Tree) (all : List Object) →
+    objects_from before number nodes ≡ Ok all →
     all ≡ before ++ flat_map (λ document. or_none (objects_of document)) nodes
-read_objects before number [] all e = let same : before ≡ all = cc e in sym same ∙ sym (append-nil before)
-read_objects before number (t ∷ ts) all e = by (objects_of t) e (λ own g. read_objects (before ++ own) (number + 1) ts all g)
+read_objects before number [] all e = let same : before ≡ all = cc e in
+    sym same ∙ sym (append-nil before)
+read_objects before number (t ∷ ts) all e =
+    by (objects_of t) e (λ own g. read_objects (before ++ own) (number + 1) ts all g)
   where
-    by : (r : Result (List Object) ObjectFault) → objects_next (λ more. objects_from more (number + 1) ts) before number r ≡ Ok all →
-        ((own : List Object) → objects_from (before ++ own) (number + 1) ts ≡ Ok all → all ≡ (before ++ own) ++ flat_map (λ document. or_none (objects_of document)) ts) →
+    by : (r : Result (List Object) ObjectFault) →
+        objects_next (λ more. objects_from more (number + 1) ts) before number r ≡ Ok all →
+        ((own : List Object) → objects_from (before ++ own) (number + 1) ts ≡ Ok all
+        → all ≡ (before ++ own) ++ flat_map (λ document. or_none (objects_of document)) ts) →
         all ≡ before ++ (or_none r ++ flat_map (λ document. or_none (objects_of document)) ts)
-    by (Ok own) g again = again own g ∙ append_assoc before own (flat_map (λ document. or_none (objects_of document)) ts)
+    by (Ok own) g again = again own g
+        ∙ append_assoc before own (flat_map (λ document. or_none (objects_of document)) ts)
     by (Err fault) g again = cc g
 
-all_joined : (P : Object → Type 0) (a b : List Object) → AllByRecursion P a → AllByRecursion P b → AllByRecursion P (a ++ b)
-all_joined P [] b h k = k
-all_joined P (x ∷ xs) b h k = (h.0, all_joined P xs b h.1 k)
-
-bodies_of : BodiesOfKinds → (nodes : List Tree) → AllByRecursion (λ (o : Object). HasBody o.kind o.body) (flat_map (λ document. or_none (objects_of document)) nodes)
-bodies_of law [] = tt
-bodies_of law (t ∷ ts) = all_joined (λ o. HasBody o.kind o.body) (or_none (objects_of t)) (flat_map (λ document. or_none (objects_of document)) ts) (by (objects_of t) refl) (bodies_of law ts)
-  where
-    by : (r : Result (List Object) ObjectFault) → objects_of t ≡ r → AllByRecursion (λ (o : Object). HasBody o.kind o.body) (or_none r)
-    by (Ok own) g = law t own g
-    by (Err fault) g = tt
-
 -- nothing was found where members came of the tests behind it
-nothing_found : {A : Type 0} (refusal : A → Refusal) (found : Option A) (rest : Result (List Object) Refusal) (members : List Object) → unless refusal found rest ≡ Ok members →
+nothing_found : {A : Type 0} (refusal : A → Refusal)
+    (found : Option A) (rest : Result (List Object) Refusal) (members : List Object) →
+    unless refusal found rest ≡ Ok members →
     (found ≡ None) × (rest ≡ Ok members)
 nothing_found refusal None rest members e = (refl, e)
 nothing_found refusal (Some x) rest members e = cc e
 
-no_fault : {A : Type 0} (fault : A → CatalogFault) (found : Option A) (rest : Result (List Object) CatalogFault) (members : List Object) → catalog.unless fault found rest ≡ Ok members → rest ≡ Ok members
+no_fault : {A : Type 0} (fault : A → CatalogFault)
+    (found : Option A) (rest : Result (List Object) CatalogFault) (members : List Object)
+    → catalog.unless fault found rest ≡ Ok members → rest ≡ Ok members
 no_fault fault None rest members e = e
 no_fault fault (Some x) rest members e = cc e
 
-few_starts : (b : Bool) (rest : Result (List Object) Refusal) (members : List Object) → unless_many_starts b rest ≡ Ok members → rest ≡ Ok members
+few_starts : (b : Bool) (rest : Result (List Object) Refusal) (members : List Object)
+    → unless_many_starts b rest ≡ Ok members → rest ≡ Ok members
 few_starts true rest members e = cc e
 few_starts false rest members e = e
 
-proposed_members : (old objects members : List Object) → catalog.proposed old objects ≡ Ok members → members ≡ put_all objects old
+proposed_members : (old objects members : List Object) → catalog.proposed old objects ≡ Ok members
+    → members ≡ put_all objects old
 proposed_members old objects members e =
     let all : List Object = put_all objects old in
-    let a = no_fault catalog.reserved (catalog.first_reserved objects) (catalog.unless catalog.duplicate (catalog.first_duplicate objects) (catalog.judged all objects)) members e in
-    let b = no_fault catalog.duplicate (catalog.first_duplicate objects) (catalog.judged all objects) members a in
-    let c = no_fault catalog.unresolved (first_unresolved all objects) (catalog.unless catalog.needs_op (first_needing_op all objects) (Ok all)) members b in
+    let a =
+    no_fault catalog.reserved (catalog.first_reserved objects) (catalog.unless catalog.duplicate
+    (catalog.first_duplicate objects) (catalog.judged all objects)) members e in
+    let b = no_fault catalog.duplicate (catalog.first_duplicate objects)
+    (catalog.judged all objects) members a in
+    let c = no_fault catalog.unresolved (first_unresolved all objects)
+    (catalog.unless catalog.needs_op (first_needing_op all objects) (Ok all)) members b in
     let d = no_fault catalog.needs_op (first_needing_op all objects) (Ok all) members c in
     let same : all ≡ members = cc d in
     sym same
@@ -77,19 +86,29 @@ pub record AreDefined (known : Known) (objects members : List Object) : Type 0 w
   pub put : members ≡ put_all objects known.members
   pub same_readings : first_read_anew known.members known.rows objects ≡ None
 
-pub defined_objects : (known : Known) (objects members : List Object) → defined_over known objects ≡ Ok members → AreDefined known objects members
+pub defined_objects : (known : Known) (objects members : List Object)
+    → defined_over known objects ≡ Ok members → AreDefined known objects members
 defined_objects known objects members e = by (catalog.proposed known.members objects) refl e
   where
-    by : (r : Result (List Object) CatalogFault) → catalog.proposed known.members objects ≡ r → judged_by known objects r ≡ Ok members → AreDefined known objects members
+    by : (r : Result (List Object) CatalogFault) → catalog.proposed known.members objects ≡ r
+        → judged_by known objects r ≡ Ok members → AreDefined known objects members
     by (Err fault) f g = cc g
     by (Ok new) f g =
-        let rest = unless has_samples (first_read_anew known.members known.rows objects) (within_limits known.horizon new) in
-        let zones = nothing_found refusals.UnknownZone (first_unknown_zone known.zones objects) rest members g in
-        let samples = nothing_found has_samples (first_read_anew known.members known.rows objects) (within_limits known.horizon new) members zones.1 in
-        let limits = nothing_found (λ limit. refusals.Limit (limit_name limit)) (first_limit new) (unless_many_starts (one_begins_too_often known.horizon new) (Ok new)) members samples.1 in
+        let rest = unless has_samples (first_read_anew known.members known.rows objects)
+        (within_limits known.horizon new) in
+        let zones = nothing_found refusals.UnknownZone (first_unknown_zone known.zones objects)
+        rest members g in
+        let samples = nothing_found has_samples (first_read_anew known.members known.rows objects)
+        (within_limits known.horizon new) members zones.1 in
+        let limits = nothing_found (λ limit. refusals.Limit (limit_name limit))
+        (first_limit new) (unless_many_starts (one_begins_too_often known.horizon new) (Ok new))
+        members samples.1 in
         let whole = few_starts (one_begins_too_often known.horizon new) (Ok new) members limits.1 in
         let same : new ≡ members = cc whole in
-        record { put = sym same ∙ proposed_members known.members objects new f; same_readings = samples.0 }
+        record {
+          put = sym same ∙ proposed_members known.members objects new f;
+          same_readings = samples.0;
+        }
 
 -- what is known of a text that is defined
 pub record IsMade (known : Known) (text : List ℕ) (made : Definition) : Type 0 where
@@ -97,13 +116,21 @@ pub record IsMade (known : Known) (text : List ℕ) (made : Definition) : Type 0
   pub counted : made.objects ≡ length (text_objects text)
   pub same_readings : first_read_anew known.members known.rows (text_objects text) ≡ None
 
-objects_of_text : (text : List ℕ) (nodes : List Tree) → nodes_of (lines (without_mark text)) ≡ Some nodes → text_objects text ≡ flat_map (λ document. or_none (objects_of document)) nodes
+objects_of_text : (text : List ℕ) (nodes : List Tree)
+    → nodes_of (lines (without_mark text)) ≡ Some nodes
+    → text_objects text ≡ flat_map (λ document. or_none (objects_of document)) nodes
 unfolding text_objects
 objects_of_text text nodes e = ap objects_in e
 
-pub made_of_text : (known : Known) (text : List ℕ) (made : Definition) → IsDefinition known text made → IsMade known text made
+all_of_text : (text : List ℕ) (nodes : List Tree) (all : List Object) → StandsFor text nodes
+    → definition.objects_in nodes ≡ Ok all → all ≡ text_objects text
+all_of_text text nodes all stands read = read_objects [] 1 nodes all read
+    ∙ sym (objects_of_text text nodes stands.nodes)
+
+pub made_of_text : (known : Known) (text : List ℕ) (made : Definition)
+    → IsDefinition known text made → IsMade known text made
 made_of_text known text made is =
-    let all : is.all ≡ text_objects text = read_objects [] 1 is.nodes is.all is.read ∙ sym (objects_of_text text is.nodes is.stands.nodes) in
+    let all = all_of_text text is.nodes is.all is.stands is.read in
     let d = defined_objects known is.all made.catalog is.defined in
     record {
       put = d.put ∙ ap (λ objects. put_all objects known.members) all;
@@ -111,11 +138,15 @@ made_of_text known text made is =
       same_readings = ap (first_read_anew known.members known.rows) (sym all) ∙ d.same_readings;
     }
 
-pub bodies_of_text : BodiesOfKinds → (known : Known) (text : List ℕ) (made : Definition) → IsDefinition known text made → AllByRecursion (λ (o : Object). HasBody o.kind o.body) (text_objects text)
-bodies_of_text law known text made is =
-    subst (AllByRecursion (λ (o : Object). HasBody o.kind o.body)) (sym (objects_of_text text is.nodes is.stands.nodes)) (bodies_of law is.nodes)
+-- the objects of a text that is defined have the bodies of their kinds
+pub kinds_of_text : TextsHaveKinds → (known : Known) (text : List ℕ) (made : Definition)
+    → IsDefinition known text made → AllByRecursion HasKind (text_objects text)
+kinds_of_text law known text made is =
+    subst (AllByRecursion HasKind) (all_of_text text is.nodes is.all is.stands is.read)
+    (law text is.nodes is.all is.stands is.read)
 
 -- the events of a definition put its objects in their places
-pub events_put : (objects members : List Object) → fold members_after members (map Defined objects) ≡ put_all objects members
+pub events_put : (objects members : List Object)
+    → fold members_after members (map Defined objects) ≡ put_all objects members
 events_put [] members = refl
 events_put (o ∷ os) members = events_put os (put o members)

@@ -1,31 +1,39 @@
--- The rows' indicators keep their readings: where objects are defined that read none of them otherwise, and where another object is
--- removed.
-use Rattle.std.proofs.Common.{◌≡◌, ℕ, zero, suc, ◌<◌, Bool, true, false, not, ◌==◌, cond, List, [], ◌∷◌, Option, Some, None, length, slice_index_or, bytes_eq, refl, sym, ap, ◌∙◌, subst, arith}
+-- The rows' indicators keep their readings: where objects are defined that read none of them
+-- otherwise, and where another object is removed.
+use Rattle.std.proofs.Common.{◌≡◌, ℕ, zero, suc, ◌<◌, Bool, true, false, not, ◌==◌, cond, List, []}
+use Rattle.std.proofs.Common.{◌∷◌, Option, Some, None, length, slice_index_or, bytes_eq, refl, sym}
+use Rattle.std.proofs.Common.{ap, ◌∙◌, subst, arith}
 use Rattle.std.specs.List.{All, AllByRecursion, find}
 use Rattle.std.specs.Option.{option_or}
 use Rattle.std.specs.Prelude.{option_map, option_and_then}
 use Rattle.std.proofs.lemmas.Slice.Eq.{bytes_eq-Decides}
 use Rattle.slice_method.specs.declared.Reading.{Reading}
-use Rattle.slice_method.specs.declared.Reading.TheVariants.{Good, Bad, Threshold, RawSuccess, RawFailure}
+use Rattle.slice_method.specs.declared.Reading.TheVariants.{Good, Bad, Threshold, RawSuccess}
+use Rattle.slice_method.specs.declared.Reading.TheVariants.{RawFailure}
 use Rattle.sample_book.specs.declared.Row.{Row}
 use Rattle.sample_book.specs.Counting.{is_of, first_of}
 use Rattle.slo_objects.specs.declared.kind.Kind.{Kind}
 use Rattle.slo_objects.specs.declared.kind.Kind.TheVariants as kinds
+use Rattle.slo_objects.specs.declared.Body.{Body}
+use Rattle.slo_objects.specs.declared.Body.TheVariants as bodies
 use Rattle.slo_objects.specs.declared.Object.{Object}
 use Rattle.slo_objects.specs.declared.Sli.{Sli}
 use Rattle.slo_objects.specs.Sli.{sli_in}
 use Rattle.slo_catalog.specs.Keys.{kind_rank, is_key, find_in}
 use Rattle.slo_catalog.specs.Catalog.{put, put_all, without}
 use Rattle.slo_catalog.specs.NeedsOp.{sli_named}
-use Rattle.definition_verdict.specs.Readings.{reading_of, same_reading, is_other_reading, row_read_anew, first_read_anew}
+use Rattle.definition_verdict.specs.Readings.{reading_of, same_reading, is_other_reading}
+use Rattle.definition_verdict.specs.Readings.{row_read_anew, first_read_anew}
 use Rattle.office_history.specs.Objectives.{reading_named}
 use Rattle.office_derived.specs.Derived.{IsRead}
-use Rattle.catalog_changes.specs.Kinds.{HasBody}
+use Rattle.object_ranges.specs.Kinds.{kind_of}
+use Rattle.catalog_changes.specs.Kinds.{HasKind}
 use Rattle.catalog_changes.proofs.MemberLemmas.{both, find_put, find_without}
 
 -- the reading of an object that was found
 reading_found : Option Object → Option Reading
-reading_found found = option_map (λ (s : Sli). reading_of s.metric) (option_and_then (λ (o : Object). sli_in o.body) found)
+reading_found found = option_map (λ (s : Sli). reading_of s.metric)
+    (option_and_then (λ (o : Object). sli_in o.body) found)
 
 same_bytes : (xs ys : List ℕ) → bytes_eq xs ys ≡ true → xs ≡ ys
 same_bytes xs ys e = (bytes_eq-Decides xs ys).0 e
@@ -39,6 +47,16 @@ kind_of_sli kinds.AlertPolicy e = cc e
 kind_of_sli kinds.AlertCondition e = cc e
 kind_of_sli kinds.AlertNotificationTarget e = cc e
 
+-- the body of an indicator is one
+sli_of : (b : Body) → kind_of b ≡ kinds.Sli → (sli : Sli) × (b ≡ bodies.Sli sli)
+sli_of (bodies.Sli sli) e = (sli, refl)
+sli_of (bodies.DataSource _) e = cc e
+sli_of (bodies.Service _) e = cc e
+sli_of (bodies.Slo _) e = cc e
+sli_of (bodies.AlertPolicy _) e = cc e
+sli_of (bodies.AlertCondition _) e = cc e
+sli_of (bodies.AlertNotificationTarget _) e = cc e
+
 one_reading : (a b : Reading) → not (same_reading a b) ≡ false → a ≡ b
 one_reading Good Good h = refl
 one_reading Bad Bad h = refl
@@ -48,36 +66,48 @@ one_reading RawFailure RawFailure h = refl
 one_reading _ _ h = cc h
 
 -- an indicator that isn't read otherwise than the member has the member's reading
-not_other : (reading r : Reading) (m : Option Sli) → is_other_reading reading m ≡ false → option_map (λ (s : Sli). reading_of s.metric) m ≡ Some r → reading ≡ r
+not_other : (reading r : Reading) (m : Option Sli) → is_other_reading reading m ≡ false
+    → option_map (λ (s : Sli). reading_of s.metric) m ≡ Some r → reading ≡ r
 not_other reading r None h k = cc k
-not_other reading r (Some m) h k = let member : reading_of m.metric ≡ r = cc k in one_reading reading (reading_of m.metric) h ∙ member
+not_other reading r (Some m) h k = let member : reading_of m.metric ≡ r = cc k in
+    one_reading reading (reading_of m.metric) h ∙ member
 
 untested : (b : Bool) (row : Row) → cond b (Some row) None ≡ None → b ≡ false
 untested true row h = cc h
 untested false row h = refl
 
 -- an object that is the indicator of these rows has their reading
-new_reading : (known : List Object) (rows : List Row) (sli : List ℕ) (row : Row) (r : Reading) (o : Object) → first_of rows sli ≡ Some row → reading_named known sli ≡ Some r →
-    HasBody o.kind o.body → row_read_anew known rows o.name (sli_in o.body) ≡ None → is_key kinds.Sli sli o ≡ true → reading_found (Some o) ≡ Some r
+new_reading : (known : List Object) (rows : List Row) (sli : List ℕ) (row : Row) (r : Reading)
+    (o : Object) → first_of rows sli ≡ Some row → reading_named known sli ≡ Some r →
+    HasKind o → row_read_anew known rows o.name (sli_in o.body) ≡ None →
+    is_key kinds.Sli sli o ≡ true → reading_found (Some o) ≡ Some r
 unfolding reading_found
 new_reading known rows sli row r o first reading body anew key =
     let k = both (kind_rank o.kind == kind_rank kinds.Sli) (bytes_eq o.name sli) key in
-    let b : HasBody kinds.Sli o.body = subst (λ kind. HasBody kind o.body) (kind_of_sli o.kind k.0) body in
+    let b = sli_of o.body (body ∙ kind_of_sli o.kind k.0) in
     let s : Sli = b.0 in
     let is : sli_in o.body ≡ Some s = ap sli_in b.1 in
-    let here : row_read_anew known rows sli (Some s) ≡ None = sym (λ i. row_read_anew known rows (same_bytes o.name sli k.1 i) (is i)) ∙ anew in
-    let there : cond (is_other_reading (reading_of s.metric) (sli_named known sli)) (Some row) None ≡ None =
-    sym (ap (λ (f : Option Row). cond (is_other_reading (reading_of s.metric) (sli_named known sli)) f None) first) ∙ here in
-    let same = not_other (reading_of s.metric) r (sli_named known sli) (untested (is_other_reading (reading_of s.metric) (sli_named known sli)) row there) reading in
+    let here : row_read_anew known rows sli (Some s) ≡ None =
+    sym (λ i. row_read_anew known rows (same_bytes o.name sli k.1 i) (is i)) ∙ anew in
+    let there : cond (is_other_reading (reading_of s.metric) (sli_named known sli)) (Some row) None
+    ≡ None =
+    sym (ap (λ (f : Option Row).
+    cond (is_other_reading (reading_of s.metric) (sli_named known sli)) f None) first) ∙ here in
+    let same = not_other (reading_of s.metric) r (sli_named known sli) (untested
+    (is_other_reading (reading_of s.metric) (sli_named known sli)) row there) reading in
     ap (option_map (λ (s : Sli). reading_of s.metric)) is ∙ ap Some same
 
-put_reading : (known : List Object) (rows : List Row) (sli : List ℕ) (row : Row) (r : Reading) (o : Object) (os : List Object) → first_of rows sli ≡ Some row → reading_named known sli ≡ Some r →
-    HasBody o.kind o.body → row_read_anew known rows o.name (sli_in o.body) ≡ None → reading_named os sli ≡ Some r → reading_named (put o os) sli ≡ Some r
+put_reading : (known : List Object) (rows : List Row) (sli : List ℕ) (row : Row)
+    (r : Reading) (o : Object) (os : List Object) → first_of rows sli ≡ Some row →
+    reading_named known sli ≡ Some r →
+    HasKind o → row_read_anew known rows o.name (sli_in o.body) ≡ None →
+    reading_named os sli ≡ Some r → reading_named (put o os) sli ≡ Some r
 unfolding reading_found
 put_reading known rows sli row r o os first reading body anew before =
     ap reading_found (find_put o os kinds.Sli sli) ∙ by (is_key kinds.Sli sli o) refl
   where
-    by : (b : Bool) → is_key kinds.Sli sli o ≡ b → reading_found (cond b (Some o) (find_in os kinds.Sli sli)) ≡ Some r
+    by : (b : Bool) → is_key kinds.Sli sli o ≡ b
+        → reading_found (cond b (Some o) (find_in os kinds.Sli sli)) ≡ Some r
     by true e = new_reading known rows sli row r o first reading body anew e
     by false e = before
 
@@ -86,12 +116,16 @@ neither None b h = (refl, h)
 neither (Some x) b h = cc h
 
 -- objects that read no indicator with samples otherwise leave its reading
-put_readings : (known : List Object) (rows : List Row) (sli : List ℕ) (row : Row) (r : Reading) (objects os : List Object) → first_of rows sli ≡ Some row → reading_named known sli ≡ Some r →
-    AllByRecursion (λ (o : Object). HasBody o.kind o.body) objects → first_read_anew known rows objects ≡ None → reading_named os sli ≡ Some r → reading_named (put_all objects os) sli ≡ Some r
+put_readings : (known : List Object) (rows : List Row) (sli : List ℕ) (row : Row) (r : Reading)
+    (objects os : List Object) → first_of rows sli ≡ Some row → reading_named known sli ≡ Some r →
+    AllByRecursion HasKind objects → first_read_anew known rows objects ≡ None →
+    reading_named os sli ≡ Some r → reading_named (put_all objects os) sli ≡ Some r
 put_readings known rows sli row r [] os first reading bodies anew before = before
 put_readings known rows sli row r (o ∷ rest) os first reading bodies anew before =
-    let n = neither (row_read_anew known rows o.name (sli_in o.body)) (first_read_anew known rows rest) anew in
-    put_readings known rows sli row r rest (put o os) first reading bodies.1 n.1 (put_reading known rows sli row r o os first reading bodies.0 n.0 before)
+    let n = neither (row_read_anew known rows o.name (sli_in o.body))
+    (first_read_anew known rows rest) anew in
+    put_readings known rows sli row r rest (put o os) first reading bodies.1 n.1
+    (put_reading known rows sli row r o os first reading bodies.0 n.0 before)
 
 -- an indicator that has a row has a first one
 pub record HasFirst (rows : List Row) (sli : List ℕ) : Type 0 where
@@ -101,26 +135,42 @@ pub record HasFirst (rows : List Row) (sli : List ℕ) : Type 0 where
 bytes_itself : (xs : List ℕ) → bytes_eq xs xs ≡ true
 bytes_itself xs = (bytes_eq-Decides xs xs).1 refl
 
-pub has_first : (rows : List Row) (k : ℕ) (d : Row) → k < length rows → HasFirst rows (slice_index_or rows k d).sli
+pub has_first : (rows : List Row) (k : ℕ) (d : Row) → k < length rows
+    → HasFirst rows (slice_index_or rows k d).sli
 has_first [] k d below = absurd (omega arith)
-has_first (x ∷ xs) zero d below = record { row = x; is = ap (λ b. cond b (Some x) (find (is_of x.sli) xs)) (bytes_itself x.sli) }
-has_first (x ∷ xs) (suc k) d below = by (is_of (slice_index_or xs k d).sli x) refl (has_first xs k d (omega arith))
+has_first (x ∷ xs) zero d below = record {
+  row = x;
+  is = ap (λ b. cond b (Some x) (find (is_of x.sli) xs)) (bytes_itself x.sli);
+}
+has_first (x ∷ xs) (suc k) d below =
+    by (is_of (slice_index_or xs k d).sli x) refl (has_first xs k d (omega arith))
   where
-    by : (b : Bool) → is_of (slice_index_or xs k d).sli x ≡ b → HasFirst xs (slice_index_or xs k d).sli → HasFirst (x ∷ xs) (slice_index_or xs k d).sli
-    by true e h = record { row = x; is = ap (λ b. cond b (Some x) (find (is_of (slice_index_or xs k d).sli) xs)) e }
-    by false e h = record { row = h.row; is = ap (λ b. cond b (Some x) (find (is_of (slice_index_or xs k d).sli) xs)) e ∙ h.is }
+    by : (b : Bool) → is_of (slice_index_or xs k d).sli x ≡ b
+        → HasFirst xs (slice_index_or xs k d).sli → HasFirst (x ∷ xs) (slice_index_or xs k d).sli
+    by true e h = record {
+      row = x;
+      is = ap (λ b. cond b (Some x) (find (is_of (slice_index_or xs k d).sli) xs)) e;
+    }
+    by false e h = record {
+      row = h.row;
+      is = ap (λ b. cond b (Some x) (find (is_of (slice_index_or xs k d).sli) xs)) e ∙ h.is;
+    }
 
 -- each row is read as before, where its indicator has the reading that it had
 pub still_read : (old new : List Object) (rows : List Row) → All (IsRead old) rows →
-    ((sli : List ℕ) (r : Reading) → HasFirst rows sli → reading_named old sli ≡ Some r → reading_named new sli ≡ Some r) → All (IsRead new) rows
+    ((sli : List ℕ) (r : Reading) → HasFirst rows sli → reading_named old sli ≡ Some r
+    → reading_named new sli ≡ Some r) → All (IsRead new) rows
 still_read old new rows read keeps k d below =
     let h = read k d below in
     (h.0, keeps (slice_index_or rows k d).sli h.0 (has_first rows k d below) h.1, h.2, h.3)
 
-pub define_read : (old : List Object) (rows : List Row) (objects : List Object) → All (IsRead old) rows →
-    AllByRecursion (λ (o : Object). HasBody o.kind o.body) objects → first_read_anew old rows objects ≡ None → All (IsRead (put_all objects old)) rows
+pub define_read : (old : List Object) (rows : List Row) (objects : List Object) →
+    All (IsRead old) rows →
+    AllByRecursion HasKind objects → first_read_anew old rows objects ≡ None →
+    All (IsRead (put_all objects old)) rows
 define_read old rows objects read bodies anew =
-    still_read old (put_all objects old) rows read (λ sli r first reading. put_readings old rows sli first.row r objects old first.is reading bodies anew reading)
+    still_read old (put_all objects old) rows read (λ sli r first reading.
+    put_readings old rows sli first.row r objects old first.is reading bodies anew reading)
 
 sli_kind : (k : Kind) → (kind_rank kinds.Sli == kind_rank k) ≡ true → k ≡ kinds.Sli
 sli_kind kinds.Sli e = refl
@@ -131,7 +181,8 @@ sli_kind kinds.AlertPolicy e = cc e
 sli_kind kinds.AlertCondition e = cc e
 sli_kind kinds.AlertNotificationTarget e = cc e
 
-apart_keys : (kind : Kind) (name sli : List ℕ) → (kind ≡ kinds.Sli → name ≡ sli → ⊥) → (o : Object) → is_key kinds.Sli sli o ≡ true → is_key kind name o ≡ false
+apart_keys : (kind : Kind) (name sli : List ℕ) → (kind ≡ kinds.Sli → name ≡ sli → ⊥) → (o : Object)
+    → is_key kinds.Sli sli o ≡ true → is_key kind name o ≡ false
 apart_keys kind name sli other o key = by (is_key kind name o) refl
   where
     by : (b : Bool) → is_key kind name o ≡ b → b ≡ false
@@ -140,15 +191,20 @@ apart_keys kind name sli other o key = by (is_key kind name o) refl
         let k = both (kind_rank o.kind == kind_rank kinds.Sli) (bytes_eq o.name sli) key in
         let l = both (kind_rank o.kind == kind_rank kind) (bytes_eq o.name name) e in
         let is : o.kind ≡ kinds.Sli = kind_of_sli o.kind k.0 in
-        let rank : (kind_rank kinds.Sli == kind_rank kind) ≡ true = ap (λ (k : Kind). kind_rank k == kind_rank kind) (sym is) ∙ l.0 in
-        absurd (other (sli_kind kind rank) (sym (same_bytes o.name name l.1) ∙ same_bytes o.name sli k.1))
+        let rank : (kind_rank kinds.Sli == kind_rank kind) ≡ true =
+        ap (λ (k : Kind). kind_rank k == kind_rank kind) (sym is) ∙ l.0 in
+        absurd (other (sli_kind kind rank)
+        (sym (same_bytes o.name name l.1) ∙ same_bytes o.name sli k.1))
 
-pub remove_read : (old : List Object) (rows : List Row) (kind : Kind) (name : List ℕ) → All (IsRead old) rows →
+pub remove_read : (old : List Object) (rows : List Row) (kind : Kind) (name : List ℕ) →
+    All (IsRead old) rows →
     (kind ≡ kinds.Sli → first_of rows name ≡ None) → All (IsRead (without kind name old)) rows
 unfolding reading_found
 remove_read old rows kind name read none =
     still_read old (without kind name old) rows read
-    (λ sli r first reading. ap reading_found (find_without kind name kinds.Sli sli (apart_keys kind name sli (λ is same. absurd_first sli first (none is) same)) old) ∙ reading)
+    (λ sli r first reading. ap reading_found (find_without kind name kinds.Sli sli (apart_keys kind
+    name sli (λ is same. absurd_first sli first (none is) same)) old) ∙ reading)
   where
     absurd_first : (sli : List ℕ) → HasFirst rows sli → first_of rows name ≡ None → name ≡ sli → ⊥
-    absurd_first sli first none same = let here : first_of rows sli ≡ None = ap (first_of rows) (sym same) ∙ none in let there = first.is in cc (here, there)
+    absurd_first sli first none same = let here : first_of rows sli ≡ None =
+        ap (first_of rows) (sym same) ∙ none in let there = first.is in cc (here, there)

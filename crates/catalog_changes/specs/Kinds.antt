@@ -1,20 +1,17 @@
--- The body of an object is of its kind (OpenSLO v1, general schema: `kind` and `spec`).
-use Rattle.std.specs.Prelude.{◌≡◌, List, Ok}
+-- The bodies of a text's objects are of their kinds (OpenSLO v1, general schema:
+-- `kind` and `spec`).
+use Rattle.std.specs.Prelude.{◌≡◌, ℕ, List, Ok}
 use Rattle.std.specs.List.{AllByRecursion}
+use Rattle.yaml_subset.specs.Text.{StandsFor}
 use Rattle.yaml_subset.specs.Tree.{Tree}
 use Rattle.slo_objects.specs.declared.Object.{Object}
-use Rattle.slo_objects.specs.declared.Body.{Body}
-use Rattle.slo_objects.specs.declared.Body.TheVariants as bodies
-use Rattle.slo_objects.specs.declared.Sli.{Sli}
-use Rattle.slo_objects.specs.declared.kind.Kind.{Kind}
-use Rattle.slo_objects.specs.declared.kind.Kind.TheVariants as kinds
-use Rattle.slo_objects.specs.Document.{objects_of}
+use Rattle.definition_verdict.specs.Documents.{objects_in}
+use Rattle.object_ranges.specs.Kinds.{kind_of}
 
--- what is called an indicator is one
-abbrev pub HasBody : Kind → Body → Type 0
-HasBody kinds.Sli body = (sli : Sli) × (body ≡ bodies.Sli sli)
-HasBody _ body = Unit {0}
+-- the body is of the object's kind
+abbrev pub HasKind : Object → Type 0
+HasKind o = kind_of o.body ≡ o.kind
 
-abbrev pub BodiesOfKinds : Type 0
-BodiesOfKinds = (document : Tree) (objects : List Object) → objects_of document ≡ Ok objects →
-    AllByRecursion (λ o. HasBody o.kind o.body) objects
+abbrev pub TextsHaveKinds : Type 0
+TextsHaveKinds = (text : List ℕ) (documents : List Tree) (objects : List Object) →
+    StandsFor text documents → objects_in documents ≡ Ok objects → AllByRecursion HasKind objects

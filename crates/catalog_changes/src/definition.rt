@@ -1,5 +1,5 @@
 //! Definitions.
-ghost use Rattle.std.specs.Prelude.{◌≡◌, Err, IfOk, length};
+ghost use Rattle.std.specs.Prelude.{◌≡◌, ◌<◌, ◌^◌, Err, IfOk, length};
 ghost use Rattle.std.specs.List.{All};
 ghost use Rattle.record_form.specs.declared.Command.TheVariants.{Define};
 ghost use Rattle.record_form.specs.declared.Refusal.{Refusal};
@@ -16,8 +16,8 @@ ghost use Rattle.catalog_changes.specs.Judging.{IsJudgedBy, IsPlanOver, IsTextWo
 
 use crate::copies::copy_of;
 use crate::days::passes_days;
-use crate::kinds::bodies_are_of_their_kinds;
-use definition_verdict::{Definition, VerdictError, judge_definition};
+use crate::kinds::texts_have_bodies_of_their_kinds;
+use definition_verdict::{Definition, VerdictError, a_text_defines_few_objects, judge_definition};
 use exact_fraction::Bytes;
 use kept_objectives::SumsPlan;
 use office_derived::{Derived, Judged, Work, accepted};
@@ -39,12 +39,14 @@ fn definition_over(
     ensures catalog { IfOk result
         (λ made. made.catalog ≡ put_all (text_objects text.now) derived.now.catalog) }
     ensures objects { IfOk result (λ made. made.objects ≡ length (text_objects text.now)) }
+    ensures few { IfOk result (λ made. made.objects < 2 ^ 32) }
     ensures read { IfOk result (λ made. All (IsRead made.catalog) derived.now.book.rows) }
     ensures refused { (refusal : Refusal) → result ≡ Err (VerdictError.Refused refusal) →
         IsRefused (known_by derived.now) text.now refusal }
 {
     // So each indicator that has samples keeps its reading.
-    bodies_are_of_their_kinds();
+    texts_have_bodies_of_their_kinds();
+    a_text_defines_few_objects();
     let Ok(zones) = derived.zones.names(alloc) else {
         return Err(VerdictError::NoMemory);
     };
@@ -56,16 +58,6 @@ fn definition_over(
         derived.origin + RANGE_MINUTES,
         text,
     )
-}
-
-/// How many objects a text has.
-fn applied_of(made: &Definition) -> Result<u32, AllocError>
-    ensures { IfOk result (λ applied. applied ≡ made.now.objects) }
-{
-    match u32::try_from(made.objects) {
-        Ok(applied) => Ok(applied),
-        Err(_) => Err(AllocError),
-    }
 }
 
 /// What becomes of a text that defines this.
@@ -122,9 +114,7 @@ fn judged_text(alloc: Global, derived: &Derived, text: &Bytes) -> Judged
         Err(VerdictError::Refused(refusal)) => return Judged::Refused(refusal),
         Err(VerdictError::NoMemory) => return Judged::NoMemory,
     };
-    let Ok(applied) = applied_of(&made) else {
-        return Judged::NoMemory;
-    };
+    let applied = made.objects as u32;
     match verdict_on(alloc, derived, &made, applied) {
         Ok(Judgement::Accepted) => match text_and_plan(alloc, derived, text, &made.catalog) {
             Ok((text, plan)) => Judged::Ready(Work::Define {
@@ -176,7 +166,7 @@ pub fn apply_define(
         result ≡ outcome_of o moment (Define text) }
 {
     // So each indicator that has samples keeps its reading.
-    bodies_are_of_their_kinds();
+    texts_have_bodies_of_their_kinds();
     let entry = derived.entries;
     derived.entries = entry + 1;
     derived.present = moment;

@@ -1,11 +1,13 @@
-//! The law of kinds and bodies.
-ghost use Rattle.catalog_changes.specs.Kinds.{BodiesOfKinds};
+//! The law of kinds and bodies, over texts.
+ghost use Rattle.catalog_changes.specs.Kinds.{TextsHaveKinds};
 
-use slo_objects::each_object_reads_back;
+use object_ranges::bodies_are_of_their_kinds;
+use yaml_subset::standing_nodes_are_writable;
 
-/// An object that a document stands for has the body of its kind.
-pub(crate) fn bodies_are_of_their_kinds()
-    ensures { BodiesOfKinds }
+/// The objects of a text have the bodies of their kinds.
+pub(crate) fn texts_have_bodies_of_their_kinds()
+    ensures { TextsHaveKinds }
 {
-    each_object_reads_back();
+    standing_nodes_are_writable();
+    bodies_are_of_their_kinds();
 }

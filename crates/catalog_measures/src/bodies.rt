@@ -1,10 +1,6 @@
 //! What stands under a name in a catalog.
 ghost use Rattle.std.specs.Prelude.{◌≡◌, IfSome};
 ghost use Rattle.std.specs.Option.{option_copied};
-ghost use Rattle.slo_objects.specs.AlertCondition.{condition_in as condition_in_lem};
-ghost use Rattle.slo_objects.specs.AlertPolicy.{policy_in as policy_in_lem};
-ghost use Rattle.slo_objects.specs.Sli.{sli_in as sli_in_lem};
-ghost use Rattle.slo_objects.specs.Slo.{slo_in as slo_in_lem};
 ghost use Rattle.slo_catalog.specs.Bindings.{policy_named as policy_named_lem};
 ghost use Rattle.slo_catalog.specs.References.{names_in as names_in_lem};
 ghost use Rattle.object_ranges.specs.Ranges.{HasObjectives, IsCondition, IsWindow};
@@ -16,44 +12,8 @@ use definition_verdict::reading_of;
 use exact_fraction::Label;
 use object_ranges::{conditions_are_in_range, objectives_are_in_range, windows_are_in_range};
 use slice_method::Reading;
-use slo_catalog::Catalog;
-use slo_objects::{AlertCondition, AlertPolicy, Body, Kind, Names, Object, Sli, Slo};
-
-fn slo_in(object: &Object) -> Option<&Slo>
-    ensures { option_copied result ≡ slo_in_lem object.now.body }
-{
-    match &object.body {
-        Body::Slo(slo) => Some(slo),
-        _ => None,
-    }
-}
-
-fn sli_in(object: &Object) -> Option<&Sli>
-    ensures { option_copied result ≡ sli_in_lem object.now.body }
-{
-    match &object.body {
-        Body::Sli(sli) => Some(sli),
-        _ => None,
-    }
-}
-
-fn policy_in(object: &Object) -> Option<&AlertPolicy>
-    ensures { option_copied result ≡ policy_in_lem object.now.body }
-{
-    match &object.body {
-        Body::AlertPolicy(policy) => Some(policy),
-        _ => None,
-    }
-}
-
-fn condition_in(object: &Object) -> Option<&AlertCondition>
-    ensures { option_copied result ≡ condition_in_lem object.now.body }
-{
-    match &object.body {
-        Body::AlertCondition(condition) => Some(condition),
-        _ => None,
-    }
-}
+use slo_catalog::{Catalog, condition_in, policy_in, sli_in, slo_in};
+use slo_objects::{AlertCondition, AlertPolicy, Kind, Names, Slo};
 
 /// The SLO of a name: none exactly where there is no such member.
 pub fn slo_named(catalog: &Catalog, name: Label) -> Option<&Slo>
@@ -63,14 +23,14 @@ pub fn slo_named(catalog: &Catalog, name: Label) -> Option<&Slo>
 {
     objectives_are_in_range();
     windows_are_in_range();
-    slo_in(catalog.find(Kind::Slo, name)?)
+    slo_in(&catalog.find(Kind::Slo, name)?.body)
 }
 
 /// How the amounts of the indicator of a name are read: none exactly where there is no such member.
 pub fn reading_named(catalog: &Catalog, name: Label) -> Option<Reading>
     ensures { result ≡ reading_named_lem catalog.now name }
 {
-    let sli = sli_in(catalog.find(Kind::Sli, name)?)?;
+    let sli = sli_in(&catalog.find(Kind::Sli, name)?.body)?;
     Some(reading_of(&sli.metric))
 }
 
@@ -78,7 +38,7 @@ pub fn reading_named(catalog: &Catalog, name: Label) -> Option<Reading>
 pub(crate) fn policy_named(catalog: &Catalog, name: Label) -> Option<&AlertPolicy>
     ensures { option_copied result ≡ policy_named_lem catalog.now name }
 {
-    policy_in(catalog.find(Kind::AlertPolicy, name)?)
+    policy_in(&catalog.find(Kind::AlertPolicy, name)?.body)
 }
 
 /// The alert condition of a name: none exactly where there is no such member.
@@ -87,7 +47,7 @@ pub(crate) fn condition_named(catalog: &Catalog, name: Label) -> Option<&AlertCo
     ensures ranges { IfSome result (λ condition. IsCondition condition.now.condition) }
 {
     conditions_are_in_range();
-    condition_in(catalog.find(Kind::AlertCondition, name)?)
+    condition_in(&catalog.find(Kind::AlertCondition, name)?.body)
 }
 
 /// The names of a list that may be omitted.

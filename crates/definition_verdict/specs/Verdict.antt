@@ -1,5 +1,6 @@
 -- The verdict on a text that is to be defined.
-use Rattle.std.specs.Prelude.{◌≡◌, ℕ, Bool, true, false, List, length, Option, Some, None, Result, Ok, Err}
+use Rattle.std.specs.Prelude.{◌≡◌, ℕ, Bool, true, false, List, length, Option, Some, None, Result}
+use Rattle.std.specs.Prelude.{Ok, Err}
 use Rattle.yaml_subset.specs.Tree.{Tree}
 use Rattle.yaml_subset.specs.Text.{StandsFor}
 use Rattle.sample_book.specs.declared.Row.{Row}

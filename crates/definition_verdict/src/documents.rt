@@ -1,5 +1,5 @@
 //! The documents of a text, and their objects.
-ghost use Rattle.std.specs.Prelude.{◌≡◌, ℕ, [], Ok, Err, IfOk, map};
+ghost use Rattle.std.specs.Prelude.{◌≡◌, ◌<◌, ◌^◌, ℕ, [], Ok, Err, IfOk, length, map};
 ghost use Rattle.std.specs.List.{AllByRecursion};
 ghost use Rattle.yaml_subset.specs.NodeView.{node_view, nodes_view};
 ghost use Rattle.yaml_subset.specs.Fits.{IsWritable};
@@ -9,7 +9,7 @@ ghost use Rattle.definition_verdict.specs.Texts.{IsYamlFault};
 
 use record_form::{Refusal, YamlWord};
 use slo_objects::{ObjectFault, Objects, ReadError, read_object};
-use std::alloc::{AllocError, Global};
+use std::alloc::Global;
 use yaml_subset::{Node, Nodes, YamlFault, read_documents, standing_nodes_are_writable};
 
 /// Why a text stands for no documents.
@@ -25,30 +25,22 @@ pub(crate) enum DocumentsError {
     NoMemory,
 }
 
-/// A number of lines or documents, which a text of a mebibyte has fewer of than 2^32.
-fn short(number: usize) -> Result<u32, AllocError>
-    ensures { IfOk result (λ short. short ≡ number) }
-{
-    match u32::try_from(number) {
-        Ok(number) => Ok(number),
-        Err(_) => Err(AllocError),
-    }
-}
-
+/// A fault of a line.
 fn form_fault(line: usize, word: YamlWord) -> TextError
-    ensures { (number : ℕ) (named : YamlWord) → result ≡ TextError.Fault number named →
-        (number ≡ line) × (named ≡ word) }
+    requires { line < 2 ^ 32 }
+    ensures { result ≡ TextError.Fault line word }
 {
-    match short(line) {
-        Ok(line) => TextError::Fault { line, word },
-        Err(AllocError) => TextError::NoMemory,
+    TextError::Fault {
+        line: line as u32,
+        word,
     }
 }
 
-/// The documents of a text.
+/// The documents of a text. It has at most `MAX_BYTES` bytes, so they are few, as its lines are.
 pub(crate) fn documents_in(alloc: Global, text: &[u8]) -> Result<Nodes, TextError>
     ensures ok { IfOk result (λ nodes. StandsFor text.now (nodes_view nodes.items)) }
     ensures writable { IfOk result (λ nodes. AllByRecursion IsWritable (nodes_view nodes.items)) }
+    ensures few { IfOk result (λ nodes. length nodes.items < 2 ^ 32) }
     ensures fault { (line : ℕ) (word : YamlWord) → result ≡ Err (TextError.Fault line word) →
         IsYamlFault text.now line word }
 {
@@ -69,30 +61,20 @@ pub(crate) fn documents_in(alloc: Global, text: &[u8]) -> Result<Nodes, TextErro
 }
 
 /// The refusal of a document that stands for no objects.
-fn broken(document: usize, fault: ObjectFault) -> Result<Refusal, AllocError>
-    ensures { IfOk result (λ refusal. refusal ≡ broken_document document fault) }
+fn broken(document: u32, fault: ObjectFault) -> Refusal
+    ensures { result ≡ broken_document document fault }
 {
-    let document = short(document)?;
     let ObjectFault { field, rule } = fault;
-    Ok(Refusal::Object {
+    Refusal::Object {
         document,
         field,
         rule,
-    })
-}
-
-fn broken_error(document: usize, fault: ObjectFault) -> DocumentsError
-    ensures { (refusal : Refusal) → result ≡ DocumentsError.Refused refusal →
-        refusal ≡ broken_document document fault }
-{
-    match broken(document, fault) {
-        Ok(refusal) => DocumentsError::Refused(refusal),
-        Err(AllocError) => DocumentsError::NoMemory,
     }
 }
 
 /// The objects of all documents in order.
 pub(crate) fn objects_in(alloc: Global, documents: &[Node]) -> Result<Objects, DocumentsError>
+    requires { length documents.now < 2 ^ 32 }
     ensures ok { IfOk result (λ objects. objects_in_lem (map node_view documents.now)
         ≡ Ok objects) }
     ensures refused { (refusal : Refusal) → result ≡ Err (DocumentsError.Refused refusal) →
@@ -103,7 +85,9 @@ pub(crate) fn objects_in(alloc: Global, documents: &[Node]) -> Result<Objects, D
     for node in documents {
         let own = match read_object(alloc, node) {
             Ok(own) => own,
-            Err(ReadError::Fault(fault)) => return Err(broken_error(number, fault)),
+            Err(ReadError::Fault(fault)) => {
+                return Err(DocumentsError::Refused(broken(number as u32, fault)));
+            }
             Err(ReadError::NoMemory) => return Err(DocumentsError::NoMemory),
         };
         if objects.append(own).is_err() {

@@ -12,8 +12,8 @@ ghost use Rattle.definition_verdict.specs.Readings.{same_reading as same_reading
 use exact_fraction::Label;
 use sample_book::{Row, SampleBook};
 use slice_method::Reading;
-use slo_catalog::Catalog;
-use slo_objects::{Body, Events, Kind, Metric, Object, Ratio, RawType, Sli};
+use slo_catalog::{Catalog, sli_in};
+use slo_objects::{Events, Kind, Metric, Object, Ratio, RawType, Sli};
 
 /// How the amounts of an indicator's rows are read (OpenSLO v1, `ratioMetric` and
 /// `thresholdMetric`).
@@ -48,21 +48,11 @@ fn same_reading(a: Reading, b: Reading) -> bool
     }
 }
 
-/// The indicator that an object is.
-fn sli_in(object: &Object) -> Option<&Sli>
-    ensures { option_copied result ≡ sli_in_lem object.now.body }
-{
-    match &object.body {
-        Body::Sli(sli) => Some(sli),
-        _ => None,
-    }
-}
-
 /// The indicator of that name.
 fn sli_named(catalog: &Catalog, name: Label) -> Option<&Sli>
     ensures { option_copied result ≡ sli_named_lem catalog.now name }
 {
-    sli_in(catalog.find(Kind::Sli, name)?)
+    sli_in(&catalog.find(Kind::Sli, name)?.body)
 }
 
 /// Whether the member of that name is there and read otherwise.
@@ -80,7 +70,7 @@ fn row_read_anew(catalog: &Catalog, book: &SampleBook, object: &Object) -> Optio
     ensures { result ≡ row_read_anew_lem catalog.now book.now.rows object.now.name
         (sli_in_lem object.now.body) }
 {
-    let sli = sli_in(object)?;
+    let sli = sli_in(&object.body)?;
     if is_other_reading(catalog, object.name, reading_of(&sli.metric)) {
         book.cell_of(object.name)
     } else {

@@ -4,10 +4,10 @@ ghost use Rattle.definition_verdict.specs.Starts.{begins_too_often as begins_too
 ghost use Rattle.definition_verdict.specs.Starts.{is_step as is_step_lem};
 ghost use Rattle.definition_verdict.specs.Starts.{one_begins_too_often as one_begins_too_often_lem};
 
-use slo_catalog::Member;
+use slo_catalog::{Member, slo_in};
 use slo_duration::{Duration, Unit, rolling_minutes};
 use slo_limits::MAX_WINDOW;
-use slo_objects::{Body, Object};
+use slo_objects::Object;
 use zone_calendar::has_too_many_starts;
 
 /// Whether the windows of a calendar may follow each other by a duration.
@@ -28,7 +28,7 @@ fn begins_too_often(horizon: u32, object: &Object) -> bool
     requires { horizon < 2 ^ 27 }
     ensures { result ≡ begins_too_often_lem horizon object.now }
 {
-    let Body::Slo(slo) = &object.body else {
+    let Some(slo) = slo_in(&object.body) else {
         return false;
     };
     let window = &slo.time_window;

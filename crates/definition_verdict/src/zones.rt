@@ -1,13 +1,14 @@
 //! The zones that the calendars of objects name.
 ghost use Rattle.std.specs.Prelude.{◌≡◌};
-ghost use Rattle.slo_objects.specs.Slo.{slo_in};
+ghost use Rattle.slo_objects.specs.Slo.{slo_in as slo_in_lem};
 ghost use Rattle.definition_verdict.specs.Zones.{first_unknown_zone as first_unknown_zone_lem};
 ghost use Rattle.definition_verdict.specs.Zones.{is_among as is_among_lem};
 ghost use Rattle.definition_verdict.specs.Zones.{is_known_zone as is_known_zone_lem};
 ghost use Rattle.definition_verdict.specs.Zones.{unknown_zone_in};
 
 use exact_fraction::ZoneName;
-use slo_objects::{Body, Object};
+use slo_catalog::slo_in;
+use slo_objects::Object;
 
 /// Whether a zone is one of these.
 fn is_among(zones: &[ZoneName], name: ZoneName) -> bool
@@ -30,11 +31,9 @@ fn is_known_zone(zones: &[ZoneName], name: ZoneName) -> bool
 
 /// The zone of an SLO's calendar, where it isn't known.
 fn unknown_zone(zones: &[ZoneName], object: &Object) -> Option<ZoneName>
-    ensures { result ≡ unknown_zone_in zones.now (slo_in object.now.body) }
+    ensures { result ≡ unknown_zone_in zones.now (slo_in_lem object.now.body) }
 {
-    let Body::Slo(slo) = &object.body else {
-        return None;
-    };
+    let slo = slo_in(&object.body)?;
     let Some(calendar) = &slo.time_window.calendar else {
         return None;
     };

@@ -36,9 +36,9 @@ use Rattle.sample_changes.proofs.GoodRows.{IsGood, good_rows}
 use Rattle.sample_changes.proofs.Judged.{accepted_keeps}
 use Rattle.sample_changes.proofs.Kept.{all_current}
 use Rattle.sample_changes.proofs.Tallies.{verdicts_each}
-use Rattle.catalog_changes.specs.Kinds.{BodiesOfKinds}
+use Rattle.catalog_changes.specs.Kinds.{TextsHaveKinds}
 use Rattle.catalog_changes.proofs.ChangeLemmas.{accepted_removal, accepted_text}
-use Rattle.catalog_changes.proofs.DefineLemmas.{bodies_of_text, events_put, made_of_text}
+use Rattle.catalog_changes.proofs.DefineLemmas.{events_put, kinds_of_text, made_of_text}
 use Rattle.catalog_changes.proofs.ReadingLemmas.{define_read, remove_read}
 use Rattle.history_laws.specs.Kept.{CurrentRowsAreRead, RowsAreRead}
 
@@ -121,7 +121,7 @@ same_read : (members : List Object) (rows : List Row) → AreRead members rows �
 same_read members rows read = subst (AreRead members) (sym (append-nil rows)) read
 
 -- what an accepted command leaves of the catalog reads all rows, those that it brings too
-read_after : BodiesOfKinds → (origin : ℕ) (h : List Entry) (m : ℕ) (c : Command) →
+read_after : TextsHaveKinds → (origin : ℕ) (h : List Entry) (m : ℕ) (c : Command) →
     AreRead (catalog_in h) (rows_in h) → Judges (office origin h) m c Accepted →
     AreRead (fold members_after (catalog_in h) (definitions_of c)) (rows_in h ++ rows_of c)
 read_after law origin h m (Define text) read v =
@@ -132,7 +132,7 @@ read_after law origin h m (Define text) read v =
     let old = All-from_recursion (IsRead (catalog_in h)) (rows_in h) read in
     let anew = none_anew (catalog_in h) (rows_in h) objects made.same_readings in
     let new = define_read (catalog_in h) (rows_in h) objects old
-    (bodies_of_text law known text a.made a.is) anew in
+    (kinds_of_text law known text a.made a.is) anew in
     subst (λ (members : List Object). AreRead members (rows_in h ++ []))
     (sym (events_put objects (catalog_in h)))
     (same_read (put_all objects (catalog_in h)) (rows_in h)
@@ -160,13 +160,13 @@ read_after law origin h m (Take number) read v = same_read (catalog_in h) (rows_
 
 -- HISTORIES
 
-pub rows_are_read : BodiesOfKinds → RowsAreRead
+pub rows_are_read : TextsHaveKinds → RowsAreRead
 rows_are_read law origin _ empty = tt
 rows_are_read law origin _ (followed {h = h} e legal may) =
     subst (λ (p : List Object × List Row). AreRead p.0 p.1)
     (λ i. (sym (catalog_more h e) i, sym (rows_more h e) i))
     (read_after law origin h e.moment e.command (rows_are_read law origin h legal) may.accepted)
 
-pub current_rows_are_read : BodiesOfKinds → CurrentRowsAreRead
+pub current_rows_are_read : TextsHaveKinds → CurrentRowsAreRead
 current_rows_are_read law origin h legal =
     all_current (IsRead (catalog_in h)) [] (rows_in h) tt (rows_are_read law origin h legal)

@@ -7,8 +7,9 @@ ghost use Rattle.history_laws.specs.Once.{ChangesActOnce, NoneStandsTwice};
 use catalog_changes::{a_history_begins_legally, a_zone_acts_once};
 use definition_verdict::one_verdict;
 use notice_changes::a_taking_acts_once;
+use object_ranges::bodies_are_of_their_kinds;
 use sample_changes::{a_lifting_acts_once, an_exclusion_acts_once};
-use slo_objects::each_object_reads_back;
+use yaml_subset::standing_nodes_are_writable;
 
 /// A command has one judgement at most over an office at a moment.
 pub fn one_judgement()
@@ -25,7 +26,8 @@ pub fn legal_rows_are_read()
     ensures current { CurrentRowsAreRead }
 {
     // So what is called an indicator is one.
-    each_object_reads_back();
+    standing_nodes_are_writable();
+    bodies_are_of_their_kinds();
 }
 
 /// In a legal history at most `MAX_DAYS` pairs of an objective and a day have a current row of the

@@ -1,5 +1,6 @@
 -- The days of an indicator, counted one by one.
-use Rattle.std.specs.Prelude.{ℕ, ◌+◌, ◌-◌, ◌/◌, ◌≤◌, ◌<◌, ◌||◌, Bool, false, cond, List, length, slice_index_or, Option, Some, None}
+use Rattle.std.specs.Prelude.{ℕ, ◌+◌, ◌-◌, ◌/◌, ◌≤◌, ◌<◌, ◌||◌, Bool, false, cond, List, length}
+use Rattle.std.specs.Prelude.{slice_index_or, Option, Some, None}
 use Rattle.slo_objects.specs.declared.Object.{Object}
 use Rattle.slo_objects.specs.declared.Slo.{Slo}
 use Rattle.slo_objects.specs.Slo.{slo_in}
@@ -36,7 +37,8 @@ days_passing test first count = sum_over (λ day. one_if (test day)) first count
 
 -- a day is marked, or has a row of the indicator; the first mark is that of the first day
 abbrev pub is_counted : List ℕ → List Row → ℕ → List Bool → ℕ → Bool
-is_counted sli rows first marks day = has_day sli rows day || slice_index_or marks (day - first) false
+is_counted sli rows first marks day =
+    has_day sli rows day || slice_index_or marks (day - first) false
 
 -- how many objectives an object has: those of an SLO, else none
 abbrev pub objectives_in : Option Slo → ℕ

@@ -11,18 +11,18 @@ ghost use Rattle.objective_days.specs.Days.{objectives_in};
 
 use crate::days::{Days, days_of};
 use sample_book::{Row, SampleBook};
-use slo_catalog::{Catalog, Member};
+use slo_catalog::{Catalog, Member, slo_in};
 use slo_limits::MAX_DAYS;
-use slo_objects::{Body, Object};
+use slo_objects::Object;
 use std::alloc::{AllocError, Global};
 
 /// How many objectives an object has.
 fn objectives_of(object: &Object) -> usize
     ensures { result ≡ objectives_of_lem object.now }
 {
-    match &object.body {
-        Body::Slo(slo) => slo.objectives.as_slice().len(),
-        _ => 0,
+    match slo_in(&object.body) {
+        Some(slo) => slo.objectives.as_slice().len(),
+        None => 0,
     }
 }
 
@@ -57,12 +57,12 @@ fn days_of_object(
         more.now)) (slo_in_lem object.now.body)) }
     ensures few { IfOk result (λ pairs. pairs ≤ 2 ^ 96) }
 {
-    match &object.body {
-        Body::Slo(slo) => {
+    match slo_in(&object.body) {
+        Some(slo) => {
             let count = days_of(alloc, days, book, slo.indicator, more)?;
             Ok(slo.objectives.as_slice().len() as u128 * u128::from(count))
         }
-        _ => Ok(0),
+        None => Ok(0),
     }
 }
 

@@ -1,5 +1,7 @@
 -- Elements of lists.
-use Rattle.std.proofs.Common.{◌≡◌, ℕ, zero, suc, ◌<◌, Bool, true, false, not, cond, ◌⊎◌, inl, inr, List, [], ◌∷◌, length, filter, slice_index_or, refl, sym, ap, ◌∙◌, subst, arith, true≢false, Contains}
+use Rattle.std.proofs.Common.{◌≡◌, ℕ, zero, suc, ◌<◌, Bool, true, false, not, cond, ◌⊎◌, inl, inr}
+use Rattle.std.proofs.Common.{List, [], ◌∷◌, length, filter, slice_index_or, refl, sym, ap, ◌∙◌}
+use Rattle.std.proofs.Common.{subst, arith, true≢false, Contains}
 use Rattle.std.specs.List.{AllByRecursion}
 
 -- x is an element of xs
@@ -17,11 +19,13 @@ contains_of [] x h = absurd h
 contains_of (y ∷ ys) x (inl same) = (zero, omega arith, same)
 contains_of (y ∷ ys) x (inr h) = let c = contains_of ys x h in (suc c.0, omega arith, c.2)
 
-pub all_weaker : {X : Type 0} (P Q : X → Type 0) → ((x : X) → P x → Q x) → (xs : List X) → AllByRecursion P xs → AllByRecursion Q xs
+pub all_weaker : {X : Type 0} (P Q : X → Type 0) → ((x : X) → P x → Q x) → (xs : List X)
+    → AllByRecursion P xs → AllByRecursion Q xs
 all_weaker P Q f [] h = tt
 all_weaker P Q f (x ∷ xs) h = (f x h.0, all_weaker P Q f xs h.1)
 
-pub all_among : {X : Type 0} (P : X → Type 0) (xs : List X) (x : X) → AllByRecursion P xs → Among xs x → P x
+pub all_among : {X : Type 0} (P : X → Type 0) (xs : List X) (x : X) → AllByRecursion P xs
+    → Among xs x → P x
 all_among P [] x all h = absurd h
 all_among P (y ∷ ys) x all (inl same) = subst P same all.0
 all_among P (y ∷ ys) x all (inr h) = all_among P ys x all.1 h

@@ -1,5 +1,7 @@
 -- What a definition that isn't refused makes of a catalog.
-use Rattle.std.proofs.Common.{◌≡◌, ℕ, Bool, true, false, not, ◌||◌, cond, List, [], ◌∷◌, ◌++◌, map, flat_map, find, Option, Some, None, Result, Ok, Err, IfOk, is_ok, is_some, is_none, refl, sym, ap, ◌∙◌, subst, true≢false}
+use Rattle.std.proofs.Common.{◌≡◌, ℕ, Bool, true, false, not, ◌||◌, cond, List, [], ◌∷◌, ◌++◌, map}
+use Rattle.std.proofs.Common.{flat_map, find, Option, Some, None, Result, Ok, Err, IfOk, is_ok}
+use Rattle.std.proofs.Common.{is_some, is_none, refl, sym, ap, ◌∙◌, subst, true≢false}
 use Rattle.slo_objects.specs.declared.object.Object.{Object}
 use Rattle.slo_catalog.specs.declared.fault.CatalogFault.{CatalogFault}
 use Rattle.slo_catalog.specs.declared.fault.CatalogFault.TheVariants as faults
@@ -8,14 +10,20 @@ use Rattle.slo_catalog.specs.declared.fault.DefineError.TheVariants as errors
 use Rattle.slo_catalog.specs.Keys.{IsSorted}
 use Rattle.slo_catalog.specs.Catalog.{Event, Defined, IsCatalog, put, put_all}
 use Rattle.slo_catalog.specs.References.{first_unresolved, IsLegal}
+use Rattle.slo_catalog.specs.Whole.{IsJoined, IsWhole}
 use Rattle.slo_catalog.specs.NeedsOp.{first_needing_op}
 use Rattle.slo_catalog.specs.Limits.{first_limit}
-use Rattle.slo_catalog.specs.Define.{unless, reserved, duplicate, unresolved, needs_op, first_reserved, first_duplicate, judged, proposed, then_within, defined, Defines}
+use Rattle.slo_catalog.specs.Define.{unless, reserved, duplicate, unresolved, needs_op}
+use Rattle.slo_catalog.specs.Define.{first_reserved, first_duplicate, judged, proposed}
+use Rattle.slo_catalog.specs.Define.{within_limits, then_within, defined, Defines}
 use Rattle.slo_catalog.proofs.LegalLemmas.{legal_defined}
+use Rattle.slo_catalog.proofs.WholeLemmas.{ops_of_none}
 use Rattle.slo_catalog.proofs.HistoryLemmas.{all_defined}
 
 -- nothing was found where the tests behind it gave members
-not_refused : {A : Type 0} (fault : A → CatalogFault) (found : Option A) (rest : Result (List Object) CatalogFault) (members : List Object) → unless fault found rest ≡ Ok members → (found ≡ None) × (rest ≡ Ok members)
+not_refused : {A : Type 0} (fault : A → CatalogFault)
+    (found : Option A) (rest : Result (List Object) CatalogFault) (members : List Object)
+    → unless fault found rest ≡ Ok members → (found ≡ None) × (rest ≡ Ok members)
 not_refused fault None rest members h = (refl, h)
 not_refused fault (Some x) rest members h = absurd (true≢false (sym (ap is_ok h)))
 
@@ -25,32 +33,55 @@ ok_of other (Err fault) = other
 
 pub record IsProposed (old objects members : List Object) : Type 0 where
   pub resolved : first_unresolved (put_all objects old) objects ≡ None
+  pub ops : first_needing_op (put_all objects old) objects ≡ None
   pub put : members ≡ put_all objects old
 
-pub proposed_of : (old objects members : List Object) → proposed old objects ≡ Ok members → IsProposed old objects members
+pub proposed_of : (old objects members : List Object) → proposed old objects ≡ Ok members
+    → IsProposed old objects members
 proposed_of old objects members h =
     let all : List Object = put_all objects old in
     let a = not_refused reserved (first_reserved objects) _ members h in
     let b = not_refused duplicate (first_duplicate objects) (judged all objects) members a.1 in
     let c = not_refused unresolved (first_unresolved all objects) _ members b.1 in
     let d = not_refused needs_op (first_needing_op all objects) (Ok all) members c.1 in
-    record { resolved = c.0; put = sym (ap (ok_of members) d.1) }
+    record { resolved = c.0; ops = d.0; put = sym (ap (ok_of members) d.1) }
 
 -- what is within the limits was proposed
-proposed_by : (r : Result (List Object) CatalogFault) (members : List Object) → then_within r ≡ Ok members → r ≡ Ok members
+proposed_by : (r : Result (List Object) CatalogFault) (members : List Object)
+    → then_within r ≡ Ok members → r ≡ Ok members
 proposed_by (Err fault) members h = absurd (true≢false (sym (ap is_ok h)))
 proposed_by (Ok all) members h = (not_refused faults.Limit (first_limit all) (Ok all) members h).1
 
-pub history_of : (old objects : List Object) (r : Result (List Object) DefineError) → Defines r (defined old objects) → (events : List Event) → IsCatalog events old → IfOk r (λ members. IsCatalog (events ++ map Defined objects) members)
+pub history_of : (old objects : List Object) (r : Result (List Object) DefineError)
+    → Defines r (defined old objects) → (events : List Event) → IsCatalog events old
+    → IfOk r (λ members. IsCatalog (events ++ map Defined objects) members)
 history_of old objects (Ok members) h events c =
-    subst (λ ms. IsCatalog (events ++ map Defined objects) ms) (sym (proposed_of old objects members (proposed_by (proposed old objects) members h)).put) (all_defined objects old events c)
+    subst (λ ms. IsCatalog (events ++ map Defined objects) ms)
+    (sym (proposed_of old objects members (proposed_by (proposed old objects) members h)).put)
+    (all_defined objects old events c)
 history_of old objects (Err e) h events c = tt
 
-pub legal_of : (old objects members : List Object) → proposed old objects ≡ Ok members → IsSorted old → IsLegal old → IsLegal members
-legal_of old objects members h s legal =
+pub joined_of : (old objects members : List Object) → proposed old objects ≡ Ok members
+    → IsSorted old → IsLegal old → IsJoined members
+joined_of old objects members h s legal =
     let a = proposed_of old objects members h in
-    subst IsLegal (sym a.put) (legal_defined objects old s legal a.resolved)
+    subst IsJoined (sym a.put) (record {
+      legal = legal_defined objects old s legal a.resolved;
+      ops = ops_of_none (put_all objects old) objects a.ops;
+    })
 
 -- the same of what a call gave
-pub legal_by : (old objects members : List Object) (r : Result (List Object) DefineError) → Defines r (proposed old objects) → r ≡ Ok members → IsSorted old → IsLegal old → IsLegal members
-legal_by old objects members r h e s legal = legal_of old objects members (subst (λ x. Defines x (proposed old objects)) e h) s legal
+pub joined_by : (old objects members : List Object) (r : Result (List Object) DefineError)
+    → Defines r (proposed old objects) → r ≡ Ok members → IsSorted old → IsLegal old
+    → IsJoined members
+joined_by old objects members r h e s legal =
+    joined_of old objects members (subst (λ x. Defines x (proposed old objects)) e h) s legal
+
+-- what a call gave that looked for limits
+pub within_by : (members after : List Object) (r : Result (List Object) DefineError)
+    → Defines r (within_limits members) → r ≡ Ok after → IsJoined members → IsWhole after
+within_by members after r h e joined =
+    let told : within_limits members ≡ Ok after =
+    subst (λ x. Defines x (within_limits members)) e h in
+    let n = not_refused faults.Limit (first_limit members) (Ok members) after told in
+    subst IsWhole (ap (ok_of members) n.1) (record { joined = joined; within = n.0 })

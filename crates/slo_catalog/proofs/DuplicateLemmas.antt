@@ -1,5 +1,8 @@
--- The first object that is another than an earlier one of its kind and name is another than the first one of them.
-use Rattle.std.proofs.Common.{◌≡◌, ℕ, Bool, true, false, not, ◌&&◌, ◌||◌, cond, ◌⊎◌, inl, inr, List, [], ◌∷◌, ◌++◌, find, Option, Some, None, is_some, is_eq, refl, sym, ap, ap₂, ◌∙◌, subst, true≢false, append_assoc}
+-- The first object that is another than an earlier one of its kind and name is another than the
+-- first one of them.
+use Rattle.std.proofs.Common.{◌≡◌, ℕ, Bool, true, false, not, ◌&&◌, ◌||◌, cond, ◌⊎◌, inl, inr, List}
+use Rattle.std.proofs.Common.{[], ◌∷◌, ◌++◌, find, Option, Some, None, is_some, is_eq, refl, sym}
+use Rattle.std.proofs.Common.{ap, ap₂, ◌∙◌, subst, true≢false, append_assoc}
 use Rattle.std.specs.List.{AllByRecursion, list_any}
 use Rattle.std.specs.Cmp.{IsEquivalence}
 use Rattle.std.proofs.lemmas.Cmp.{nat_list_eq_equiv}
@@ -8,7 +11,8 @@ use Rattle.slo_objects.specs.declared.kind.Kind.{Kind}
 use Rattle.slo_objects.specs.declared.object.Object.{Object}
 use Rattle.slo_objects.specs.Document.{written}
 use Rattle.slo_catalog.specs.Keys.{is_key, find_in, object_cmp}
-use Rattle.slo_catalog.specs.Define.{is_same, is_other_than, first_other, first_duplicate, differs, first_differing}
+use Rattle.slo_catalog.specs.Define.{is_same, is_other_than, first_other, first_duplicate, differs}
+use Rattle.slo_catalog.specs.Define.{first_differing}
 use Rattle.slo_catalog.proofs.AmongLemmas.{Among, all_among}
 use Rattle.slo_catalog.proofs.KeyLemmas.{object_order, same_key}
 use Rattle.slo_catalog.proofs.FindLemmas.{both_keys}
@@ -18,7 +22,8 @@ same_itself : (o : Object) → is_same o o ≡ true
 same_itself o = nat_list_eq_equiv.refl (writing 0 (written o))
 
 same_as_same : (p q o : Object) → is_same p q ≡ true → is_same p o ≡ is_same q o
-same_as_same p q o h = nat_list_eq_equiv.congr (writing 0 (written p)) (writing 0 (written q)) (writing 0 (written o)) h
+same_as_same p q o h = nat_list_eq_equiv.congr (writing 0 (written p)) (writing 0 (written q))
+    (writing 0 (written o)) h
 
 same_back : (p q : Object) → is_same p q ≡ true → is_same q p ≡ true
 same_back p q h = nat_list_eq_equiv.symm (writing 0 (written q)) (writing 0 (written p)) ∙ h
@@ -28,46 +33,62 @@ key_itself o = same_key o o ∙ ap is_eq (tied_itself object_order o)
 
 -- objects of one kind and name are all alike
 abbrev Agree : List Object → Type 0
-Agree os = (kind : Kind) (name : List ℕ) (p q : Object) → Among os p → Among os q → is_key kind name p ≡ true → is_key kind name q ≡ true → is_same p q ≡ true
+Agree os = (kind : Kind) (name : List ℕ) (p q : Object) → Among os p → Among os q
+    → is_key kind name p ≡ true → is_key kind name q ≡ true → is_same p q ≡ true
 
 abbrev NoneFound : List Object → Kind → List ℕ → Type 0
-NoneFound os kind name = (find_in os kind name ≡ None) × AllByRecursion (λ p. is_key kind name p ≡ false) os
+NoneFound os kind name = (find_in os kind name ≡ None)
+    × AllByRecursion (λ p. is_key kind name p ≡ false) os
 
 abbrev OneFound : List Object → Kind → List ℕ → Type 0
-OneFound os kind name = (p : Object) × (find_in os kind name ≡ Some p) × Among os p × (is_key kind name p ≡ true)
+OneFound os kind name = (p : Object) × (find_in os kind name ≡ Some p) × Among os p
+    × (is_key kind name p ≡ true)
 
-found : (os : List Object) (kind : Kind) (name : List ℕ) → NoneFound os kind name ⊎ OneFound os kind name
+found : (os : List Object) (kind : Kind) (name : List ℕ)
+    → NoneFound os kind name ⊎ OneFound os kind name
 found [] kind name = inl (refl, tt)
 found (o ∷ os) kind name = by (is_key kind name o) refl (found os kind name)
   where
-    by : (b : Bool) → is_key kind name o ≡ b → NoneFound os kind name ⊎ OneFound os kind name → NoneFound (o ∷ os) kind name ⊎ OneFound (o ∷ os) kind name
+    by : (b : Bool) → is_key kind name o ≡ b → NoneFound os kind name ⊎ OneFound os kind name
+        → NoneFound (o ∷ os) kind name ⊎ OneFound (o ∷ os) kind name
     by true e more = inr (o, ap (λ b. cond b (Some o) (find_in os kind name)) e, inl refl, e)
     by false e (inl n) = inl (ap (λ b. cond b (Some o) (find_in os kind name)) e ∙ n.0, (e, n.1))
-    by false e (inr f) = inr (f.0, ap (λ b. cond b (Some o) (find_in os kind name)) e ∙ f.1, inr f.2, f.3)
+    by false e (inr f) =
+        inr (f.0, ap (λ b. cond b (Some o) (find_in os kind name)) e ∙ f.1, inr f.2, f.3)
 
-find_rest : (kind : Kind) (name : List ℕ) (xs ys : List Object) → AllByRecursion (λ p. is_key kind name p ≡ false) xs → find_in (xs ++ ys) kind name ≡ find_in ys kind name
+find_rest : (kind : Kind) (name : List ℕ) (xs ys : List Object)
+    → AllByRecursion (λ p. is_key kind name p ≡ false) xs
+    → find_in (xs ++ ys) kind name ≡ find_in ys kind name
 find_rest kind name [] ys h = refl
-find_rest kind name (x ∷ xs) ys h = ap (λ b. cond b (Some x) (find_in (xs ++ ys) kind name)) h.0 ∙ find_rest kind name xs ys h.1
+find_rest kind name (x ∷ xs) ys h = ap (λ b. cond b (Some x) (find_in (xs ++ ys) kind name)) h.0
+    ∙ find_rest kind name xs ys h.1
 
-find_front : (kind : Kind) (name : List ℕ) (xs ys : List Object) (p : Object) → find_in xs kind name ≡ Some p → find_in (xs ++ ys) kind name ≡ Some p
+find_front : (kind : Kind) (name : List ℕ) (xs ys : List Object) (p : Object)
+    → find_in xs kind name ≡ Some p → find_in (xs ++ ys) kind name ≡ Some p
 find_front kind name [] ys p h = absurd (true≢false (sym (ap is_some h)))
 find_front kind name (x ∷ xs) ys p h = by (is_key kind name x) (find_front kind name xs ys p) h
   where
-    by : (b : Bool) → (find_in xs kind name ≡ Some p → find_in (xs ++ ys) kind name ≡ Some p) → cond b (Some x) (find_in xs kind name) ≡ Some p → cond b (Some x) (find_in (xs ++ ys) kind name) ≡ Some p
+    by : (b : Bool) → (find_in xs kind name ≡ Some p → find_in (xs ++ ys) kind name ≡ Some p)
+        → cond b (Some x) (find_in xs kind name) ≡ Some p
+        → cond b (Some x) (find_in (xs ++ ys) kind name) ≡ Some p
     by true again k = k
     by false again k = again k
 
-any_none : (test : Object → Bool) (xs : List Object) → ((q : Object) → Among xs q → test q ≡ false) → list_any test xs ≡ false
+any_none : (test : Object → Bool) (xs : List Object) → ((q : Object) → Among xs q → test q ≡ false)
+    → list_any test xs ≡ false
 any_none test [] h = refl
-any_none test (x ∷ xs) h = ap₂ (λ a b. a || b) (h x (inl refl)) (any_none test xs (λ q k. h q (inr k)))
+any_none test (x ∷ xs) h =
+    ap₂ (λ a b. a || b) (h x (inl refl)) (any_none test xs (λ q k. h q (inr k)))
 
 or_true : (a b : Bool) → b ≡ true → a || b ≡ true
 or_true true b h = refl
 or_true false b h = h
 
-any_one : (test : Object → Bool) (xs : List Object) (p : Object) → Among xs p → test p ≡ true → list_any test xs ≡ true
+any_one : (test : Object → Bool) (xs : List Object) (p : Object) → Among xs p → test p ≡ true
+    → list_any test xs ≡ true
 any_one test [] p k h = absurd k
-any_one test (x ∷ xs) p (inl same) h = ap (λ a. a || list_any test xs) (subst (λ y. test y ≡ true) (sym same) h)
+any_one test (x ∷ xs) p (inl same) h =
+    ap (λ a. a || list_any test xs) (subst (λ y. test y ≡ true) (sym same) h)
 any_one test (x ∷ xs) p (inr k) h = or_true (test x) (list_any test xs) (any_one test xs p k h)
 
 and_false : (a b : Bool) → a ≡ false → a && b ≡ false
@@ -82,25 +103,34 @@ abbrev test : Object → Object → Bool
 test o p = is_key o.kind o.name p && not (is_same p o)
 
 -- an object is another than the first of its kind and name where it is another than an earlier one
-other_now : (earlier os : List Object) (o : Object) → Agree earlier → is_other_than (find_in (earlier ++ o ∷ os) o.kind o.name) o ≡ differs earlier o
+other_now : (earlier os : List Object) (o : Object) → Agree earlier
+    → is_other_than (find_in (earlier ++ o ∷ os) o.kind o.name) o ≡ differs earlier o
 other_now earlier os o agree = by (found earlier o.kind o.name)
   where
-    none : (xs : List Object) → AllByRecursion (λ p. is_key o.kind o.name p ≡ false) xs → list_any (test o) xs ≡ false
-    none xs h = any_none (test o) xs (λ q k. and_false (is_key o.kind o.name q) (not (is_same q o)) (all_among (λ p. is_key o.kind o.name p ≡ false) xs q h k))
+    none : (xs : List Object) → AllByRecursion (λ p. is_key o.kind o.name p ≡ false) xs
+        → list_any (test o) xs ≡ false
+    none xs h = any_none (test o) xs (λ q k. and_false (is_key o.kind o.name q) (not (is_same q o))
+        (all_among (λ p. is_key o.kind o.name p ≡ false) xs q h k))
 
-    with_first : (p : Object) (b : Bool) → not (is_same p o) ≡ b → Among earlier p → is_key o.kind o.name p ≡ true → b ≡ list_any (test o) earlier
+    with_first : (p : Object) (b : Bool) → not (is_same p o) ≡ b → Among earlier p
+        → is_key o.kind o.name p ≡ true → b ≡ list_any (test o) earlier
     with_first p true e k h = sym (any_one (test o) earlier p k (ap₂ (λ a b. a && b) h e))
-    with_first p false e k h = sym (any_none (test o) earlier (λ q l. one_test (is_key o.kind o.name q) (not (is_same q o)) (not (is_same p o)) (λ i. ap not (same_as_same q p o (agree o.kind o.name q p l k i h))) e))
+    with_first p false e k h = sym (any_none (test o) earlier
+        (λ q l. one_test (is_key o.kind o.name q) (not (is_same q o)) (not (is_same p o))
+        (λ i. ap not (same_as_same q p o (agree o.kind o.name q p l k i h))) e))
 
-    by : NoneFound earlier o.kind o.name ⊎ OneFound earlier o.kind o.name → is_other_than (find_in (earlier ++ o ∷ os) o.kind o.name) o ≡ differs earlier o
+    by : NoneFound earlier o.kind o.name ⊎ OneFound earlier o.kind o.name
+        → is_other_than (find_in (earlier ++ o ∷ os) o.kind o.name) o ≡ differs earlier o
     by (inl n) =
-        ap (λ f. is_other_than f o) (find_rest o.kind o.name earlier (o ∷ os) n.1 ∙ ap (λ b. cond b (Some o) (find_in os o.kind o.name)) (key_itself o))
+        ap (λ f. is_other_than f o) (find_rest o.kind o.name earlier (o ∷ os) n.1
+        ∙ ap (λ b. cond b (Some o) (find_in os o.kind o.name)) (key_itself o))
         ∙ (ap not (same_itself o) ∙ sym (none earlier n.1))
     by (inr f) =
         ap (λ g. is_other_than g o) (find_front o.kind o.name earlier (o ∷ os) f.0 f.1)
         ∙ with_first f.0 (not (is_same f.0 o)) refl f.2 f.3
 
-either : (earlier : List Object) (o p : Object) → Among (earlier ++ o ∷ []) p → Among earlier p ⊎ (o ≡ p)
+either : (earlier : List Object) (o p : Object) → Among (earlier ++ o ∷ []) p
+    → Among earlier p ⊎ (o ≡ p)
 either [] o p (inl same) = inr same
 either [] o p (inr h) = absurd h
 either (x ∷ xs) o p (inl same) = inl (inl same)
@@ -118,9 +148,11 @@ or_right : (a b : Bool) → a || b ≡ false → b ≡ false
 or_right true b h = absurd (true≢false h)
 or_right false b h = h
 
-off : (test : Object → Bool) (xs : List Object) → list_any test xs ≡ false → (p : Object) → Among xs p → test p ≡ false
+off : (test : Object → Bool) (xs : List Object) → list_any test xs ≡ false → (p : Object)
+    → Among xs p → test p ≡ false
 off test [] h p k = absurd k
-off test (x ∷ xs) h p (inl same) = subst (λ y. test y ≡ false) same (or_left (test x) (list_any test xs) h)
+off test (x ∷ xs) h p (inl same) =
+    subst (λ y. test y ≡ false) same (or_left (test x) (list_any test xs) h)
 off test (x ∷ xs) h p (inr k) = off test xs (or_right (test x) (list_any test xs) h) p k
 
 still : (a b : Bool) → a ≡ true → a && not b ≡ false → b ≡ true
@@ -128,26 +160,39 @@ still true true h k = refl
 still true false h k = absurd (true≢false k)
 still false b h k = absurd (true≢false (sym h))
 
-agree_more : (earlier : List Object) (o : Object) → Agree earlier → differs earlier o ≡ false → Agree (earlier ++ o ∷ [])
-agree_more earlier o agree h kind name p q k l i j = by (either earlier o p k) (either earlier o q l)
+agree_more : (earlier : List Object) (o : Object) → Agree earlier → differs earlier o ≡ false
+    → Agree (earlier ++ o ∷ [])
+agree_more earlier o agree h kind name p q k l i j =
+    by (either earlier o p k) (either earlier o q l)
   where
-    alike : (p : Object) → Among earlier p → is_key kind name p ≡ true → is_key kind name o ≡ true → is_same p o ≡ true
-    alike p k i j = still (is_key o.kind o.name p) (is_same p o) (same_key p o ∙ both_keys p o kind name i j) (off (test o) earlier h p k)
+    alike : (p : Object) → Among earlier p → is_key kind name p ≡ true → is_key kind name o ≡ true
+        → is_same p o ≡ true
+    alike p k i j = still (is_key o.kind o.name p) (is_same p o)
+        (same_key p o ∙ both_keys p o kind name i j) (off (test o) earlier h p k)
 
     by : Among earlier p ⊎ (o ≡ p) → Among earlier q ⊎ (o ≡ q) → is_same p q ≡ true
     by (inl a) (inl b) = agree kind name p q a b i j
-    by (inl a) (inr b) = subst (λ x. is_same p x ≡ true) b (alike p a i (subst (λ x. is_key kind name x ≡ true) (sym b) j))
-    by (inr a) (inl b) = subst (λ x. is_same x q ≡ true) a (same_back q o (alike q b j (subst (λ x. is_key kind name x ≡ true) (sym a) i)))
-    by (inr a) (inr b) = subst (λ x. is_same x q ≡ true) a (subst (λ x. is_same o x ≡ true) b (same_itself o))
+    by (inl a) (inr b) = subst (λ x. is_same p x ≡ true) b
+        (alike p a i (subst (λ x. is_key kind name x ≡ true) (sym b) j))
+    by (inr a) (inl b) = subst (λ x. is_same x q ≡ true) a
+        (same_back q o (alike q b j (subst (λ x. is_key kind name x ≡ true) (sym a) i)))
+    by (inr a) (inr b) =
+        subst (λ x. is_same x q ≡ true) a (subst (λ x. is_same o x ≡ true) b (same_itself o))
 
-found_first : (earlier os : List Object) → Agree earlier → first_other (earlier ++ os) os ≡ first_differing earlier os
+found_first : (earlier os : List Object) → Agree earlier
+    → first_other (earlier ++ os) os ≡ first_differing earlier os
 found_first earlier [] agree = refl
 found_first earlier (o ∷ os) agree =
-    by (differs earlier o) (other_now earlier os o agree) refl (λ h. ap (λ all. first_other all os) (sym (append_assoc earlier (o ∷ []) os)) ∙ found_first (earlier ++ o ∷ []) os (agree_more earlier o agree h))
+    by (differs earlier o) (other_now earlier os o agree)
+    refl (λ h. ap (λ all. first_other all os) (sym (append_assoc earlier (o ∷ []) os))
+    ∙ found_first (earlier ++ o ∷ []) os (agree_more earlier o agree h))
   where
-    by : (b : Bool) → is_other_than (find_in (earlier ++ o ∷ os) o.kind o.name) o ≡ b → differs earlier o ≡ b
-        → (differs earlier o ≡ false → first_other (earlier ++ o ∷ os) os ≡ first_differing (earlier ++ o ∷ []) os)
-        → first_other (earlier ++ o ∷ os) (o ∷ os) ≡ cond b (Some o) (first_differing (earlier ++ o ∷ []) os)
+    by : (b : Bool) → is_other_than (find_in (earlier ++ o ∷ os) o.kind o.name) o ≡ b
+        → differs earlier o ≡ b
+        → (differs earlier o ≡ false
+        → first_other (earlier ++ o ∷ os) os ≡ first_differing (earlier ++ o ∷ []) os)
+        → first_other (earlier ++ o ∷ os) (o ∷ os)
+        ≡ cond b (Some o) (first_differing (earlier ++ o ∷ []) os)
     by true e f again = ap (λ b. cond b (Some o) (first_other (earlier ++ o ∷ os) os)) e
     by false e f again = ap (λ b. cond b (Some o) (first_other (earlier ++ o ∷ os) os)) e ∙ again f
 

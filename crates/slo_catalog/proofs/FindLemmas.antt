@@ -1,6 +1,9 @@
 -- Looking for an object among those that were put in their places.
-use Rattle.std.proofs.Common.{length, ◌≡◌, ℕ, Bool, true, false, ◌&&◌, ◌==◌, cond, List, [], ◌∷◌, Option, Some, None, IfSome, All, refl, sym, ap, ap₂, ◌∙◌, true≢false, subst, find, Ordering, Less, Equal, Greater, is_eq, bytes_eq, nat_cmp}
+use Rattle.std.proofs.Common.{length, ◌≡◌, ℕ, Bool, true, false, ◌&&◌, ◌==◌, cond, List, [], ◌∷◌}
+use Rattle.std.proofs.Common.{Option, Some, None, IfSome, All, refl, sym, ap, ap₂, ◌∙◌, true≢false}
+use Rattle.std.proofs.Common.{subst, find, Ordering, Less, Equal, Greater, is_eq, bytes_eq, nat_cmp}
 use Rattle.std.specs.Ordering.{match_ordering}
+use Rattle.std.specs.Prelude.{◌+◌, unwrap_or}
 use Rattle.std.specs.Cmp.Lexicographic.{slice_cmp}
 use Rattle.std.proofs.lemmas.List.Elements.{recursion_from_All}
 use Rattle.std.specs.List.{AllByRecursion}
@@ -17,16 +20,21 @@ use Rattle.slo_catalog.specs.Catalog.{put}
 use Rattle.std.proofs.lemmas.Slice.Eq.{bytes_eq-Decides}
 use Rattle.yaml_subset.specs.Spelling.{writing}
 use Rattle.slo_objects.specs.Document.{written}
-use Rattle.slo_catalog.specs.Limits.{written_bytes}
+use Rattle.slo_catalog.specs.Limits.{weight}
+use Rattle.slo_limits.specs.declared.TheConstants.{MAX_CATALOG_BYTES}
+use Rattle.yaml_subset.specs.Room.{up_to}
 use Rattle.slo_catalog.specs.Define.{is_same, firsts, is_other_than, first_other, first_duplicate}
 
 -- objects of one kind and name answer each question about kind and name alike
-alike : (o p : Object) (kind : Kind) (name : List ℕ) → object_cmp o p ≡ Equal → is_key kind name o ≡ is_key kind name p
+alike : (o p : Object) (kind : Kind) (name : List ℕ) → object_cmp o p ≡ Equal
+    → is_key kind name o ≡ is_key kind name p
 alike o p kind name e =
     ap (λ (x : ℕ × List ℕ). (x.0 == kind_rank kind) && bytes_eq x.1 name)
-    (exact_pairs nat_cmp (slice_cmp nat_cmp) exact_unsigned exact_bytes (kind_rank o.kind, o.name) (kind_rank p.kind, p.name) e)
+    (exact_pairs nat_cmp (slice_cmp nat_cmp) exact_unsigned exact_bytes (kind_rank o.kind, o.name)
+    (kind_rank p.kind, p.name) e)
 
-swap : {A : Type 0} (a b : Bool) (x y z : A) → (a ≡ true → b ≡ true → x ≡ y) → cond b y (cond a x z) ≡ cond a x (cond b y z)
+swap : {A : Type 0} (a b : Bool) (x y z : A) → (a ≡ true → b ≡ true → x ≡ y)
+    → cond b y (cond a x z) ≡ cond a x (cond b y z)
 swap true true x y z h = sym (h refl refl)
 swap true false x y z h = refl
 swap false true x y z h = refl
@@ -48,62 +56,83 @@ both : (a b : Bool) → a ≡ true → b ≡ true → a && b ≡ true
 both true b h k = k
 both false b h k = h
 
-tied : {X : Type 0} {E : X → X → Bool} → IsEquivalence E → (x y z : X) → E x z ≡ true → E y z ≡ true → E x y ≡ true
+tied : {X : Type 0} {E : X → X → Bool} → IsEquivalence E → (x y z : X) → E x z ≡ true → E y z ≡ true
+    → E x y ≡ true
 tied e x y z h k = e.congr x z y h ∙ (e.symm z y ∙ k)
 
 -- objects of one kind and name are of each other's
-pub both_keys : (o p : Object) (kind : Kind) (name : List ℕ) → is_key kind name o ≡ true → is_key kind name p ≡ true → is_eq (object_cmp o p) ≡ true
+pub both_keys : (o p : Object) (kind : Kind) (name : List ℕ) → is_key kind name o ≡ true
+    → is_key kind name p ≡ true → is_eq (object_cmp o p) ≡ true
 both_keys o p kind name h k =
     sym (same_key o p)
     ∙ both (kind_rank o.kind == kind_rank p.kind) (bytes_eq o.name p.name)
     (tied nat_eq_equiv (kind_rank o.kind) (kind_rank p.kind) (kind_rank kind)
-    (left (kind_rank o.kind == kind_rank kind) (bytes_eq o.name name) h) (left (kind_rank p.kind == kind_rank kind) (bytes_eq p.name name) k))
+    (left (kind_rank o.kind == kind_rank kind) (bytes_eq o.name name) h)
+    (left (kind_rank p.kind == kind_rank kind) (bytes_eq p.name name) k))
     (tied nat_list_eq_equiv o.name p.name name
-    (right (kind_rank o.kind == kind_rank kind) (bytes_eq o.name name) h) (right (kind_rank p.kind == kind_rank kind) (bytes_eq p.name name) k))
+    (right (kind_rank o.kind == kind_rank kind) (bytes_eq o.name name) h)
+    (right (kind_rank p.kind == kind_rank kind) (bytes_eq p.name name) k))
 
-pub find_put : (o : Object) (os : List Object) (kind : Kind) (name : List ℕ) → find_in (put o os) kind name ≡ cond (is_key kind name o) (Some o) (find_in os kind name)
+pub find_put : (o : Object) (os : List Object) (kind : Kind) (name : List ℕ)
+    → find_in (put o os) kind name ≡ cond (is_key kind name o) (Some o) (find_in os kind name)
 find_put o [] kind name = refl
 find_put o (p ∷ ps) kind name = by (object_cmp o p) refl (find_put o ps kind name)
   where
-    by : (r : Ordering) → object_cmp o p ≡ r → find_in (put o ps) kind name ≡ cond (is_key kind name o) (Some o) (find_in ps kind name)
-        → find_in (match_ordering r (o ∷ p ∷ ps) (o ∷ ps) (p ∷ put o ps)) kind name ≡ cond (is_key kind name o) (Some o) (find_in (p ∷ ps) kind name)
+    by : (r : Ordering) → object_cmp o p ≡ r
+        → find_in (put o ps) kind name ≡ cond (is_key kind name o) (Some o) (find_in ps kind name)
+        → find_in (match_ordering r (o ∷ p ∷ ps) (o ∷ ps) (p ∷ put o ps)) kind name
+        ≡ cond (is_key kind name o) (Some o) (find_in (p ∷ ps) kind name)
     by Less e again = refl
-    by Equal e again = once (is_key kind name o) (is_key kind name p) (Some o) (Some p) (find_in ps kind name) (alike o p kind name e)
+    by Equal e again = once (is_key kind name o) (is_key kind name p) (Some o) (Some p)
+        (find_in ps kind name) (alike o p kind name e)
     by Greater e again =
         ap (λ r. cond (is_key kind name p) (Some p) r) again
-        ∙ swap (is_key kind name o) (is_key kind name p) (Some o) (Some p) (find_in ps kind name) (λ h k. absurd (true≢false (sym (both_keys o p kind name h k) ∙ ap is_eq e)))
+        ∙ swap (is_key kind name o) (is_key kind name p) (Some o) (Some p) (find_in ps kind name)
+        (λ h k. absurd (true≢false (sym (both_keys o p kind name h k) ∙ ap is_eq e)))
 
-pub find_firsts : (objects : List Object) (kind : Kind) (name : List ℕ) → find_in (firsts objects) kind name ≡ find_in objects kind name
+pub find_firsts : (objects : List Object) (kind : Kind) (name : List ℕ)
+    → find_in (firsts objects) kind name ≡ find_in objects kind name
 find_firsts [] kind name = refl
-find_firsts (o ∷ rest) kind name = find_put o (firsts rest) kind name ∙ ap (λ r. cond (is_key kind name o) (Some o) r) (find_firsts rest kind name)
+find_firsts (o ∷ rest) kind name = find_put o (firsts rest) kind name
+    ∙ ap (λ r. cond (is_key kind name o) (Some o) r) (find_firsts rest kind name)
 
-find_true_by : (P : Object → Type 0) (os : List Object) (kind : Kind) (name : List ℕ) → AllByRecursion P os → IfSome (find_in os kind name) P
+find_true_by : (P : Object → Type 0) (os : List Object) (kind : Kind) (name : List ℕ)
+    → AllByRecursion P os → IfSome (find_in os kind name) P
 find_true_by P [] kind name h = tt
 find_true_by P (o ∷ os) kind name h = by (is_key kind name o) (find_true_by P os kind name h.1)
   where
-    by : (b : Bool) → IfSome (find_in os kind name) P → IfSome (cond b (Some o) (find_in os kind name)) P
+    by : (b : Bool) → IfSome (find_in os kind name) P
+        → IfSome (cond b (Some o) (find_in os kind name)) P
     by true more = h.0
     by false more = more
 
 -- what is true of all of them is true of the one that is found
-pub find_true : (P : Object → Type 0) (os : List Object) (kind : Kind) (name : List ℕ) → All P os → IfSome (find_in os kind name) P
+pub find_true : (P : Object → Type 0) (os : List Object) (kind : Kind) (name : List ℕ) → All P os
+    → IfSome (find_in os kind name) P
 find_true P os kind name h = find_true_by P os kind name (recursion_from_All P os h)
 
-seen : (P : Object → Type 0) (r : Option (Bor Object)) → IfSome (option_copied r) P → IfSome r (λ o. P o.now)
+seen : (P : Object → Type 0) (r : Option (Bor Object)) → IfSome (option_copied r) P
+    → IfSome r (λ o. P o.now)
 seen P None h = tt
 seen P (Some o) h = h
 
 -- and so of the reference to it
-pub find_seen : (P : Object → Type 0) (os : List Object) (kind : Kind) (name : List ℕ) (r : Option (Bor Object)) → option_copied r ≡ find_in os kind name → All P os → IfSome r (λ o. P o.now)
-find_seen P os kind name r h all = seen P r (subst (λ o. IfSome o P) (sym h) (find_true P os kind name all))
+pub find_seen : (P : Object → Type 0) (os : List Object) (kind : Kind)
+    (name : List ℕ) (r : Option (Bor Object)) → option_copied r ≡ find_in os kind name → All P os
+    → IfSome r (λ o. P o.now)
+find_seen P os kind name r h all =
+    seen P r (subst (λ o. IfSome o P) (sym h) (find_true P os kind name all))
 
-same_found : {A : Type 0} (f g : A → Bool) → ((x : A) → f x ≡ g x) → (xs : List A) → find f xs ≡ find g xs
+same_found : {A : Type 0} (f g : A → Bool) → ((x : A) → f x ≡ g x) → (xs : List A)
+    → find f xs ≡ find g xs
 same_found f g h [] = refl
 same_found f g h (x ∷ xs) = ap₂ (λ b r. cond b (Some x) r) (h x) (same_found f g h xs)
 
-pub other_than_firsts : (objects : List Object) → first_other (firsts objects) objects ≡ first_duplicate objects
+pub other_than_firsts : (objects : List Object)
+    → first_other (firsts objects) objects ≡ first_duplicate objects
 other_than_firsts objects =
-    same_found (λ o. is_other_than (find_in (firsts objects) o.kind o.name) o) (λ o. is_other_than (find_in objects o.kind o.name) o)
+    same_found (λ o. is_other_than (find_in (firsts objects) o.kind o.name) o)
+    (λ o. is_other_than (find_in objects o.kind o.name) o)
     (λ o. ap (λ r. is_other_than r o) (find_firsts objects o.kind o.name)) objects
 
 apart : (xs ys : List ℕ) → (length xs ≡ length ys → ⊥) → bytes_eq xs ys ≡ false
@@ -113,6 +142,7 @@ apart xs ys h = by (bytes_eq xs ys) refl
     by false e = refl
     by true e = absurd (h (ap length ((bytes_eq-Decides xs ys).0 e)))
 
--- objects whose writings have other lengths are written differently
-pub other_length : (o p : Object) → (written_bytes o ≡ written_bytes p → ⊥) → is_same o p ≡ false
-other_length o p h = apart (writing 0 (written o)) (writing 0 (written p)) h
+-- objects that weigh otherwise are written differently
+pub other_weight : (o p : Object) → (weight o ≡ weight p → ⊥) → is_same o p ≡ false
+other_weight o p h = apart (writing 0 (written o)) (writing 0 (written p))
+    (λ e. h (ap (λ n. unwrap_or (up_to MAX_CATALOG_BYTES n) (MAX_CATALOG_BYTES + 1)) e))

@@ -1,12 +1,16 @@
 -- What one more event makes of a catalog.
-use Rattle.std.proofs.Common.{◌≡◌, ℕ, Bool, true, false, not, ◌&&◌, ◌==◌, ◌⊎◌, inl, inr, List, [], ◌∷◌, ◌++◌, map, refl, sym, ap, ◌∙◌, subst, bytes_eq, append_assoc, append-nil, true≢false, ◌↔◌}
+use Rattle.std.proofs.Common.{◌≡◌, ℕ, Bool, true, false, not, ◌&&◌, ◌==◌, ◌⊎◌, inl, inr, List, []}
+use Rattle.std.proofs.Common.{◌∷◌, ◌++◌, map, refl, sym, ap, ◌∙◌, subst, bytes_eq, append_assoc}
+use Rattle.std.proofs.Common.{append-nil, true≢false, ◌↔◌}
 use Rattle.std.specs.List.{AllByRecursion, Contains}
 use Rattle.slo_objects.specs.declared.kind.Kind.{Kind}
 use Rattle.slo_objects.specs.declared.object.Object.{Object}
 use Rattle.slo_catalog.specs.Keys.{kind_rank, is_key, IsSorted}
-use Rattle.slo_catalog.specs.Catalog.{Event, Defined, Removed, is_about, IsMember, IsCatalog, put, put_all, without}
+use Rattle.slo_catalog.specs.Catalog.{Event, Defined, Removed, is_about, IsMember, IsCatalog, put}
+use Rattle.slo_catalog.specs.Catalog.{put_all, without}
 use Rattle.slo_catalog.proofs.AmongLemmas.{Among, among_of, contains_of}
-use Rattle.slo_catalog.proofs.PutLemmas.{put_sorted, in_put, put_there, put_keeps, without_sorted, in_without, without_keeps}
+use Rattle.slo_catalog.proofs.PutLemmas.{put_sorted, in_put, put_there, put_keeps, without_sorted}
+use Rattle.slo_catalog.proofs.PutLemmas.{in_without, without_keeps}
 
 abbrev NoneAbout : Object → List Event → Type 0
 NoneAbout o es = AllByRecursion (λ e. is_about o.kind o.name e ≡ false) es
@@ -16,7 +20,8 @@ abbrev Lasts : Object → List Event → Type 0
 Lasts o [] = ⊥
 Lasts o (e ∷ es) = ((e ≡ Defined o) × NoneAbout o es) ⊎ Lasts o es
 
-lasts_at : (o : Object) (before later : List Event) → NoneAbout o later → Lasts o (before ++ Defined o ∷ later)
+lasts_at : (o : Object) (before later : List Event) → NoneAbout o later
+    → Lasts o (before ++ Defined o ∷ later)
 lasts_at o [] later h = inl (refl, h)
 lasts_at o (e ∷ before) later h = inr (lasts_at o before later h)
 
@@ -25,16 +30,28 @@ lasts_of o es m = subst (λ es. Lasts o es) (sym m.defined) (lasts_at o m.before
 
 member_of : (o : Object) (es : List Event) → Lasts o es → IsMember es o
 member_of o [] h = absurd h
-member_of o (e ∷ es) (inl h) = record { before = []; later = es; defined = ap (λ d. d ∷ es) h.0; last = h.1 }
+member_of o (e ∷ es) (inl h) = record {
+  before = [];
+  later = es;
+  defined = ap (λ d. d ∷ es) h.0;
+  last = h.1;
+}
 member_of o (e ∷ es) (inr h) =
     let m = member_of o es h in
-    record { before = e ∷ m.before; later = m.later; defined = ap (λ ds. e ∷ ds) m.defined; last = m.last }
+    record {
+      before = e ∷ m.before;
+      later = m.later;
+      defined = ap (λ ds. e ∷ ds) m.defined;
+      last = m.last;
+    }
 
-none_push : (o : Object) (es : List Event) (e : Event) → NoneAbout o es → is_about o.kind o.name e ≡ false → NoneAbout o (es ++ e ∷ [])
+none_push : (o : Object) (es : List Event) (e : Event) → NoneAbout o es
+    → is_about o.kind o.name e ≡ false → NoneAbout o (es ++ e ∷ [])
 none_push o [] e h k = (k, tt)
 none_push o (d ∷ es) e h k = (h.0, none_push o es e h.1 k)
 
-none_pop : (o : Object) (es : List Event) (e : Event) → NoneAbout o (es ++ e ∷ []) → NoneAbout o es × (is_about o.kind o.name e ≡ false)
+none_pop : (o : Object) (es : List Event) (e : Event) → NoneAbout o (es ++ e ∷ [])
+    → NoneAbout o es × (is_about o.kind o.name e ≡ false)
 none_pop o [] e h = (tt, h.0)
 none_pop o (d ∷ es) e h = let n = none_pop o es e h.1 in ((h.0, n.0), n.1)
 
@@ -54,7 +71,8 @@ lasts_pop o (d ∷ es) e (inr h) = by (lasts_pop o es e h)
 lasts_now : (o : Object) (es : List Event) → Lasts o (es ++ Defined o ∷ [])
 lasts_now o es = lasts_at o es [] tt
 
-lasts_still : (o : Object) (es : List Event) (e : Event) → Lasts o es → is_about o.kind o.name e ≡ false → Lasts o (es ++ e ∷ [])
+lasts_still : (o : Object) (es : List Event) (e : Event) → Lasts o es
+    → is_about o.kind o.name e ≡ false → Lasts o (es ++ e ∷ [])
 lasts_still o [] e h k = absurd h
 lasts_still o (d ∷ es) e (inl h) k = inl (h.0, none_push o es e h.1 k)
 lasts_still o (d ∷ es) e (inr h) k = inr (lasts_still o es e h k)
@@ -63,21 +81,27 @@ abbrev defined_of : Event → Object → Object
 defined_of (Defined o) p = o
 defined_of (Removed k n) p = p
 
-pub defined_kept : (es : List Event) (os : List Object) (o : Object) → IsCatalog es os → IsCatalog (es ++ Defined o ∷ []) (put o os)
+pub defined_kept : (es : List Event) (os : List Object) (o : Object) → IsCatalog es os
+    → IsCatalog (es ++ Defined o ∷ []) (put o os)
 defined_kept es os o c = record { sorted = put_sorted o os c.sorted; members = λ q. (to q, from q) }
   where
     to : (q : Object) → Contains (put o os) q → IsMember (es ++ Defined o ∷ []) q
     to q h = by (in_put o q os c.sorted (among_of (put o os) q h))
       where
-        by : (o ≡ q) ⊎ (Among os q × (is_key q.kind q.name o ≡ false)) → IsMember (es ++ Defined o ∷ []) q
-        by (inl same) = subst (λ q. IsMember (es ++ Defined o ∷ []) q) same (member_of o (es ++ Defined o ∷ []) (lasts_now o es))
-        by (inr k) = member_of q (es ++ Defined o ∷ []) (lasts_still q es (Defined o) (lasts_of q es ((c.members q).0 (contains_of os q k.0))) k.1)
+        by : (o ≡ q) ⊎ (Among os q × (is_key q.kind q.name o ≡ false))
+            → IsMember (es ++ Defined o ∷ []) q
+        by (inl same) = subst (λ q. IsMember (es ++ Defined o ∷ []) q) same
+            (member_of o (es ++ Defined o ∷ []) (lasts_now o es))
+        by (inr k) = member_of q (es ++ Defined o ∷ []) (lasts_still q es (Defined o)
+            (lasts_of q es ((c.members q).0 (contains_of os q k.0))) k.1)
 
     from : (q : Object) → IsMember (es ++ Defined o ∷ []) q → Contains (put o os) q
-    from q m = contains_of (put o os) q (by (lasts_pop q es (Defined o) (lasts_of q (es ++ Defined o ∷ []) m)))
+    from q m = contains_of (put o os) q
+        (by (lasts_pop q es (Defined o) (lasts_of q (es ++ Defined o ∷ []) m)))
       where
         by : Pushed q es (Defined o) → Among (put o os) q
-        by (inl same) = subst (λ q. Among (put o os) q) (ap (λ e. defined_of e o) same) (put_there o os)
+        by (inl same) =
+            subst (λ q. Among (put o os) q) (ap (λ e. defined_of e o) same) (put_there o os)
         by (inr k) = put_keeps o q os (among_of os q ((c.members q).1 (member_of q es k.0))) k.1
 
 abbrev is_removal : Event → Bool
@@ -88,26 +112,40 @@ not_true : (b : Bool) → not b ≡ true → b ≡ false
 not_true true h = sym h
 not_true false h = refl
 
-pub removed_kept : (es : List Event) (os : List Object) (kind : Kind) (name : List ℕ) → IsCatalog es os → IsCatalog (es ++ Removed kind name ∷ []) (without kind name os)
-removed_kept es os kind name c = record { sorted = without_sorted kind name os c.sorted; members = λ q. (to q, from q) }
+pub removed_kept : (es : List Event) (os : List Object) (kind : Kind) (name : List ℕ)
+    → IsCatalog es os → IsCatalog (es ++ Removed kind name ∷ []) (without kind name os)
+removed_kept es os kind name c = record {
+  sorted = without_sorted kind name os c.sorted;
+  members = λ q. (to q, from q);
+}
   where
-    to : (q : Object) → Contains (without kind name os) q → IsMember (es ++ Removed kind name ∷ []) q
+    to : (q : Object) → Contains (without kind name os) q
+        → IsMember (es ++ Removed kind name ∷ []) q
     to q h =
         let k = in_without kind name q os (among_of (without kind name os) q h) in
-        member_of q (es ++ Removed kind name ∷ []) (lasts_still q es (Removed kind name) (lasts_of q es ((c.members q).0 (contains_of os q k.0))) (not_true _ k.1))
+        member_of q (es ++ Removed kind name ∷ []) (lasts_still q es (Removed kind name)
+        (lasts_of q es ((c.members q).0 (contains_of os q k.0))) (not_true _ k.1))
 
-    from : (q : Object) → IsMember (es ++ Removed kind name ∷ []) q → Contains (without kind name os) q
-    from q m = contains_of (without kind name os) q (by (lasts_pop q es (Removed kind name) (lasts_of q (es ++ Removed kind name ∷ []) m)))
+    from : (q : Object) → IsMember (es ++ Removed kind name ∷ []) q
+        → Contains (without kind name os) q
+    from q m = contains_of (without kind name os) q
+        (by (lasts_pop q es (Removed kind name) (lasts_of q (es ++ Removed kind name ∷ []) m)))
       where
         by : Pushed q es (Removed kind name) → Among (without kind name os) q
         by (inl same) = absurd (true≢false (ap is_removal same))
-        by (inr k) = without_keeps kind name q os (among_of os q ((c.members q).1 (member_of q es k.0))) (ap not k.1)
+        by (inr k) = without_keeps kind name q os
+            (among_of os q ((c.members q).1 (member_of q es k.0))) (ap not k.1)
 
-pub all_defined : (objects os : List Object) (es : List Event) → IsCatalog es os → IsCatalog (es ++ map Defined objects) (put_all objects os)
+pub all_defined : (objects os : List Object) (es : List Event) → IsCatalog es os
+    → IsCatalog (es ++ map Defined objects) (put_all objects os)
 all_defined [] os es c = subst (λ es. IsCatalog es os) (sym (append-nil es)) c
 all_defined (o ∷ rest) os es c =
-    subst (λ es. IsCatalog es (put_all rest (put o os))) (append_assoc es (Defined o ∷ []) (map Defined rest))
+    subst (λ es. IsCatalog es (put_all rest (put o os)))
+    (append_assoc es (Defined o ∷ []) (map Defined rest))
     (all_defined rest (put o os) (es ++ Defined o ∷ []) (defined_kept es os o c))
 
 pub no_events : IsCatalog [] []
-no_events = record { sorted = tt; members = λ o. (λ h. absurd (among_of [] o h), λ m. absurd (lasts_of o [] m)) }
+no_events = record {
+  sorted = tt;
+  members = λ o. (λ h. absurd (among_of [] o h), λ m. absurd (lasts_of o [] m));
+}

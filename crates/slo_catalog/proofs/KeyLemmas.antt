@@ -1,5 +1,7 @@
 -- The order of objects by kind and name.
-use Rattle.std.proofs.Common.{◌≡◌, ℕ, Bool, true, false, ◌&&◌, ◌==◌, ◌<◌, ◌⊎◌, inl, inr, List, [], ◌∷◌, refl, sym, ap, ◌∙◌, subst, arith, nat_cmp, is_eq, Ordering, Less, Equal, Greater, bytes_eq}
+use Rattle.std.proofs.Common.{◌≡◌, ℕ, Bool, true, false, ◌&&◌, ◌==◌, ◌<◌, ◌⊎◌, inl, inr, List, []}
+use Rattle.std.proofs.Common.{◌∷◌, refl, sym, ap, ◌∙◌, subst, arith, nat_cmp, is_eq, Ordering, Less}
+use Rattle.std.proofs.Common.{Equal, Greater, bytes_eq}
 use Rattle.std.specs.List.{AllByRecursion}
 use Rattle.std.specs.Ordering.{ordering_then, ordering_reverse}
 use Rattle.std.specs.Cmp.{IsTotalOrder}
@@ -13,18 +15,22 @@ use Rattle.slo_catalog.specs.Keys.{kind_rank, is_key, key_cmp, object_cmp, Comes
 use Rattle.slo_objects.specs.declared.kind.Kind.{Kind}
 
 pub object_order : IsTotalOrder object_cmp
-object_order = then_total (on_total (λ o. kind_rank o.kind) nat_cmp_total) (on_total (λ o. o.name) nat_list_cmp_total)
+object_order = then_total (on_total (λ o. kind_rank o.kind) nat_cmp_total)
+    (on_total (λ o. o.name) nat_list_cmp_total)
 
-is_eq-then : (m n : ℕ) (r s : Ordering) → r ≡ nat_cmp m n → is_eq (ordering_then r s) ≡ (m == n) && is_eq s
+is_eq-then : (m n : ℕ) (r s : Ordering) → r ≡ nat_cmp m n
+    → is_eq (ordering_then r s) ≡ (m == n) && is_eq s
 is_eq-then m n r s e = by r (ranked m n r e)
   where
-    by : (r : Ordering) → MatchOrdering r (m < n) (m ≡ n) (n < m) → is_eq (ordering_then r s) ≡ (m == n) && is_eq s
+    by : (r : Ordering) → MatchOrdering r (m < n) (m ≡ n) (n < m)
+        → is_eq (ordering_then r s) ≡ (m == n) && is_eq s
     by Less h = grind (arith, nat_tests)
     by Equal h = grind (arith, nat_tests)
     by Greater h = grind (arith, nat_tests)
 
 -- an object is of a kind and name where it comes neither before nor behind them
-pub same_as : (o : Object) (kind : Kind) (name : List ℕ) → is_key kind name o ≡ is_eq (key_cmp o.kind o.name kind name)
+pub same_as : (o : Object) (kind : Kind) (name : List ℕ)
+    → is_key kind name o ≡ is_eq (key_cmp o.kind o.name kind name)
 same_as o kind name =
     ap (λ b. (kind_rank o.kind == kind_rank kind) && b) (sym (is_eq-slice_cmp o.name name))
     ∙ sym (is_eq-then (kind_rank o.kind) (kind_rank kind) _ (slice_cmp nat_cmp o.name name) refl)

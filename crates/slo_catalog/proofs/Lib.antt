@@ -6,6 +6,8 @@ mod HistoryLemmas
 mod PlaceLemmas
 mod FindLemmas
 mod SearchLemmas
+mod WholeLemmas
+mod WeightLemmas
 mod DefineLemmas
 mod LegalLemmas
 mod RemoveLemmas

@@ -1,40 +1,65 @@
 -- What a removal that isn't refused makes of a catalog.
-use Rattle.std.proofs.Common.{◌≡◌, ℕ, List, [], ◌∷◌, ◌++◌, Option, Some, None, Result, Ok, Err, IfOk, is_ok, refl, sym, ap, ◌∙◌, subst, true≢false}
+use Rattle.std.proofs.Common.{◌≡◌, ℕ, List, [], ◌∷◌, ◌++◌, Option, Some, None, Result, Ok, Err}
+use Rattle.std.proofs.Common.{IfOk, is_ok, refl, sym, ap, ◌∙◌, subst, true≢false}
 use Rattle.slo_objects.specs.declared.kind.Kind.{Kind}
 use Rattle.slo_objects.specs.declared.object.Object.{Object}
 use Rattle.slo_catalog.specs.declared.fault.RemoveFault.{RemoveFault}
 use Rattle.slo_catalog.specs.declared.fault.RemoveError.{RemoveError}
 use Rattle.slo_catalog.specs.Keys.{find_in}
 use Rattle.slo_catalog.specs.Catalog.{Event, Removed, IsCatalog, without}
-use Rattle.slo_catalog.specs.References.{first_referrer, IsLegal}
+use Rattle.slo_catalog.specs.References.{first_referrer}
+use Rattle.slo_catalog.specs.Whole.{IsWhole}
 use Rattle.slo_catalog.specs.Remove.{unless_used, where_found, removed, Removes}
 use Rattle.slo_catalog.proofs.LegalLemmas.{legal_removed}
+use Rattle.slo_catalog.proofs.WholeLemmas.{ops_without, limits_without}
 use Rattle.slo_catalog.proofs.HistoryLemmas.{removed_kept}
 
 abbrev ok_of : List Object → Result (List Object) RemoveFault → List Object
 ok_of other (Ok members) = members
 ok_of other (Err fault) = other
 
-found_one : (found : Option Object) (rest : Result (List Object) RemoveFault) (members : List Object) → where_found found rest ≡ Ok members → rest ≡ Ok members
+found_one : (found : Option Object) (rest : Result (List Object) RemoveFault)
+    (members : List Object) → where_found found rest ≡ Ok members → rest ≡ Ok members
 found_one None rest members h = absurd (true≢false (sym (ap is_ok h)))
 found_one (Some o) rest members h = h
 
-not_used : (user : Option Object) (left members : List Object) → unless_used user left ≡ Ok members → (user ≡ None) × (members ≡ left)
+not_used : (user : Option Object) (left members : List Object) → unless_used user left ≡ Ok members
+    → (user ≡ None) × (members ≡ left)
 not_used None left members h = (refl, sym (ap (ok_of members) h))
 not_used (Some o) left members h = absurd (true≢false (sym (ap is_ok h)))
 
-left_by : (old members : List Object) (kind : Kind) (name : List ℕ) → removed old kind name ≡ Ok members → (first_referrer old kind name ≡ None) × (members ≡ without kind name old)
+left_by : (old members : List Object) (kind : Kind) (name : List ℕ)
+    → removed old kind name ≡ Ok members → (first_referrer old kind name ≡ None)
+    × (members ≡ without kind name old)
 left_by old members kind name h =
     not_used (first_referrer old kind name) (without kind name old) members
-    (found_one (find_in old kind name) (unless_used (first_referrer old kind name) (without kind name old)) members h)
+    (found_one (find_in old kind name)
+    (unless_used (first_referrer old kind name) (without kind name old)) members h)
 
-pub history_of : (old : List Object) (kind : Kind) (name : List ℕ) (r : Result (List Object) RemoveError) → Removes r (removed old kind name) → (events : List Event) → IsCatalog events old → IfOk r (λ members. IsCatalog (events ++ Removed kind name ∷ []) members)
+pub history_of : (old : List Object)
+    (kind : Kind) (name : List ℕ) (r : Result (List Object) RemoveError)
+    → Removes r (removed old kind name) → (events : List Event) → IsCatalog events old
+    → IfOk r (λ members. IsCatalog (events ++ Removed kind name ∷ []) members)
 history_of old kind name (Err e) h events c = tt
-history_of old kind name (Ok members) h events c = subst (λ ms. IsCatalog (events ++ Removed kind name ∷ []) ms) (sym (left_by old members kind name h).1) (removed_kept events old kind name c)
+history_of old kind name (Ok members) h events c =
+    subst (λ ms. IsCatalog (events ++ Removed kind name ∷ []) ms)
+    (sym (left_by old members kind name h).1) (removed_kept events old kind name c)
 
-pub legal_of : (old members : List Object) (kind : Kind) (name : List ℕ) → removed old kind name ≡ Ok members → IsLegal old → IsLegal members
-legal_of old members kind name h legal = let l = left_by old members kind name h in subst IsLegal (sym l.1) (legal_removed kind name old legal l.0)
+pub whole_of : (old members : List Object) (kind : Kind) (name : List ℕ)
+    → removed old kind name ≡ Ok members → IsWhole old → IsWhole members
+whole_of old members kind name h whole =
+    let l = left_by old members kind name h in
+    subst IsWhole (sym l.1) (record {
+      joined = record {
+        legal = legal_removed kind name old whole.joined.legal l.0;
+        ops = ops_without old kind name whole.joined.ops;
+      };
+      within = limits_without old kind name whole.within;
+    })
 
 -- the same of what a call gave
-pub legal_by : (old members : List Object) (kind : Kind) (name : List ℕ) (r : Result (List Object) RemoveError) → Removes r (removed old kind name) → r ≡ Ok members → IsLegal old → IsLegal members
-legal_by old members kind name r h e legal = legal_of old members kind name (subst (λ x. Removes x (removed old kind name)) e h) legal
+pub whole_by : (old members : List Object) (kind : Kind) (name : List ℕ)
+    (r : Result (List Object) RemoveError) → Removes r (removed old kind name) → r ≡ Ok members
+    → IsWhole old → IsWhole members
+whole_by old members kind name r h e whole =
+    whole_of old members kind name (subst (λ x. Removes x (removed old kind name)) e h) whole

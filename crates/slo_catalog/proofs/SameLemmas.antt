@@ -1,5 +1,7 @@
 -- A definition of what is there.
-use Rattle.std.proofs.Common.{◌≡◌, ℕ, Bool, true, false, ◌&&◌, cond, inl, inr, List, [], ◌∷◌, Option, Some, None, All, Ok, refl, sym, ap, ◌∙◌, subst, true≢false, Ordering, Less, Equal, Greater}
+use Rattle.std.proofs.Common.{◌≡◌, ℕ, Bool, true, false, ◌&&◌, cond, inl, inr, List, [], ◌∷◌}
+use Rattle.std.proofs.Common.{Option, Some, None, All, Ok, refl, sym, ap, ◌∙◌, subst, true≢false}
+use Rattle.std.proofs.Common.{Ordering, Less, Equal, Greater}
 use Rattle.std.specs.List.{AllByRecursion}
 use Rattle.std.specs.Ordering.{match_ordering}
 use Rattle.std.proofs.lemmas.Slice.Eq.{bytes_eq-Decides}
@@ -19,13 +21,16 @@ use Rattle.slo_catalog.proofs.AmongLemmas.{Among, among_of, all_among}
 
 -- objects of two documents with one text are one object
 abbrev pub OneText : Type 0
-OneText = (t u : Tree) (os ps : List Object) → IsWritable t → IsWritable u → objects_of t ≡ Ok os → objects_of u ≡ Ok ps
-    → AllByRecursion (λ o. AllByRecursion (λ p. writing 0 (written o) ≡ writing 0 (written p) → o ≡ p) ps) os
+OneText = (t u : Tree) (os ps : List Object) → IsWritable t → IsWritable u → objects_of t ≡ Ok os
+    → objects_of u ≡ Ok ps
+    → AllByRecursion (λ o. AllByRecursion
+    (λ p. writing 0 (written o) ≡ writing 0 (written p) → o ≡ p) ps) os
 
 one_text : OneText → (o p : Object) → IsOfDocument o → IsOfDocument p → is_same o p ≡ true → o ≡ p
 one_text law o p a b h =
     all_among (λ q. writing 0 (written o) ≡ writing 0 (written q) → o ≡ q) b.objects p
-    (all_among (λ r. AllByRecursion (λ q. writing 0 (written r) ≡ writing 0 (written q) → r ≡ q) b.objects) a.objects o
+    (all_among (λ r. AllByRecursion (λ q. writing 0 (written r) ≡ writing 0 (written q) → r ≡ q)
+    b.objects) a.objects o
     (law a.node b.node a.objects b.objects a.can_be_written b.can_be_written a.are_read b.are_read)
     (among_of a.objects o a.is_among))
     (among_of b.objects p b.is_among)
@@ -35,17 +40,21 @@ one_text law o p a b h =
 put_member : (p : Object) (os : List Object) → IsSorted os → Among os p → put p os ≡ os
 put_member p [] s h = absurd h
 put_member p (q ∷ qs) s (inl same) =
-    ap (λ r. match_ordering r (p ∷ q ∷ qs) (p ∷ qs) (q ∷ put p qs)) (subst (λ x. object_cmp p x ≡ Equal) (sym same) (tied_itself object_order p))
+    ap (λ r. match_ordering r (p ∷ q ∷ qs) (p ∷ qs) (q ∷ put p qs))
+    (subst (λ x. object_cmp p x ≡ Equal) (sym same) (tied_itself object_order p))
     ∙ ap (λ x. x ∷ qs) (sym same)
 put_member p (q ∷ qs) s (inr h) =
-    ap (λ r. match_ordering r (p ∷ q ∷ qs) (p ∷ qs) (q ∷ put p qs)) (before p q (all_among (ComesBefore q) qs p s.0 h))
+    ap (λ r. match_ordering r (p ∷ q ∷ qs) (p ∷ qs) (q ∷ put p qs))
+    (before p q (all_among (ComesBefore q) qs p s.0 h))
     ∙ ap (λ xs. q ∷ xs) (put_member p qs s.1 h)
 
-found_among : (os : List Object) (kind : Kind) (name : List ℕ) (p : Object) → find_in os kind name ≡ Some p → Among os p
+found_among : (os : List Object) (kind : Kind) (name : List ℕ) (p : Object)
+    → find_in os kind name ≡ Some p → Among os p
 found_among [] kind name p h = absurd (cc)
 found_among (o ∷ os) kind name p h = by (is_key kind name o) (found_among os kind name p) h
   where
-    by : (b : Bool) → (find_in os kind name ≡ Some p → Among os p) → cond b (Some o) (find_in os kind name) ≡ Some p → Among (o ∷ os) p
+    by : (b : Bool) → (find_in os kind name ≡ Some p → Among os p)
+        → cond b (Some o) (find_in os kind name) ≡ Some p → Among (o ∷ os) p
     by true again h = inl (cc)
     by false again h = inr (again h)
 
@@ -57,18 +66,25 @@ right : (a b : Bool) → a && b ≡ true → b ≡ true
 right true b h = h
 right false b h = absurd (true≢false (sym h))
 
-put_alike : OneText → (o : Object) (os : List Object) → IsSorted os → AllByRecursion IsOfDocument os → IsOfDocument o → (found : Option Object) → find_in os o.kind o.name ≡ found → is_alike found o ≡ true → put o os ≡ os
+put_alike : OneText → (o : Object) (os : List Object) → IsSorted os → AllByRecursion IsOfDocument os
+    → IsOfDocument o → (found : Option Object) → find_in os o.kind o.name ≡ found
+    → is_alike found o ≡ true → put o os ≡ os
 put_alike law o os s all a None e h = absurd (true≢false (sym h))
 put_alike law o os s all a (Some p) e h =
     let there : Among os p = found_among os o.kind o.name p e in
     let same : p ≡ o = one_text law p o (all_among IsOfDocument os p all there) a h in
     put_member o os s (subst (Among os) same there)
 
-each_alike : OneText → (objects os : List Object) → IsSorted os → AllByRecursion IsOfDocument os → AllByRecursion IsOfDocument objects → is_unchanged os objects ≡ true → put_all objects os ≡ os
+each_alike : OneText → (objects os : List Object) → IsSorted os → AllByRecursion IsOfDocument os
+    → AllByRecursion IsOfDocument objects → is_unchanged os objects ≡ true → put_all objects os ≡ os
 each_alike law [] os s all h e = refl
 each_alike law (o ∷ rest) os s all h e =
-    ap (put_all rest) (put_alike law o os s all h.0 (find_in os o.kind o.name) refl (left (is_alike (find_in os o.kind o.name) o) (is_unchanged os rest) e))
-    ∙ each_alike law rest os s all h.1 (right (is_alike (find_in os o.kind o.name) o) (is_unchanged os rest) e)
+    ap (put_all rest) (put_alike law o os s all h.0 (find_in os o.kind o.name) refl
+    (left (is_alike (find_in os o.kind o.name) o) (is_unchanged os rest) e))
+    ∙ each_alike law rest os s all h.1
+    (right (is_alike (find_in os o.kind o.name) o) (is_unchanged os rest) e)
 
-pub unchanged : OneText → (os objects : List Object) → IsSorted os → All IsOfDocument os → All IsOfDocument objects → is_unchanged os objects ≡ true → put_all objects os ≡ os
-unchanged law os objects s all h e = each_alike law objects os s (recursion_from_All IsOfDocument os all) (recursion_from_All IsOfDocument objects h) e
+pub unchanged : OneText → (os objects : List Object) → IsSorted os → All IsOfDocument os
+    → All IsOfDocument objects → is_unchanged os objects ≡ true → put_all objects os ≡ os
+unchanged law os objects s all h e = each_alike law objects os s
+    (recursion_from_All IsOfDocument os all) (recursion_from_All IsOfDocument objects h) e

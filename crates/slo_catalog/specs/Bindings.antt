@@ -1,5 +1,7 @@
--- Bindings: the alerts that are kept, each of an SLO's objective and a policy of the SLO that has a condition.
-use Rattle.std.specs.Prelude.{ℕ, ◌+◌, Bool, true, false, ◌||◌, not, List, [], ◌∷◌, ◌++◌, Option, Some, None, map, filter, flat_map, option_and_then}
+-- Bindings: the alerts that are kept, each of an SLO's objective and a policy of the SLO that
+-- has a condition.
+use Rattle.std.specs.Prelude.{ℕ, ◌+◌, Bool, true, false, ◌||◌, not, List, [], ◌∷◌, ◌++◌, Option}
+use Rattle.std.specs.Prelude.{Some, None, map, filter, flat_map, option_and_then}
 use Rattle.slo_objects.specs.declared.kind.Kind.TheVariants as kinds
 use Rattle.slo_objects.specs.declared.object.Object.{Object}
 use Rattle.slo_objects.specs.declared.alert_policy.AlertPolicy.{AlertPolicy}
@@ -17,7 +19,8 @@ is_empty [] = true
 is_empty (n ∷ ns) = false
 
 abbrev pub policy_named : List Object → List ℕ → Option AlertPolicy
-policy_named members name = option_and_then (λ o. policy_in o.body) (find_in members kinds.AlertPolicy name)
+policy_named members name =
+    option_and_then (λ o. policy_in o.body) (find_in members kinds.AlertPolicy name)
 
 abbrev pub lists_condition : Option AlertPolicy → Bool
 lists_condition None = false
@@ -33,13 +36,16 @@ bound slo policies n = map (λ p. record { slo = slo; objective = n; policy = p 
 
 abbrev pub bound_from : List ℕ → List (List ℕ) → ℕ → List Objective → List Binding
 bound_from slo policies n [] = []
-bound_from slo policies n (objective ∷ objectives) = bound slo policies n ++ bound_from slo policies (n + 1) objectives
+bound_from slo policies n (objective ∷ objectives) =
+    bound slo policies n ++ bound_from slo policies (n + 1) objectives
 
 -- the bindings of an SLO
 abbrev pub bindings_in : List Object → List ℕ → Option Slo → List Binding
 bindings_in members name None = []
-bindings_in members name (Some slo) = bound_from name (filter (has_condition members) (names_in slo.alert_policies)) 0 slo.objectives
+bindings_in members name (Some slo) =
+    bound_from name (filter (has_condition members) (names_in slo.alert_policies)) 0 slo.objectives
 
--- The bindings of a catalog: by SLO in its order, by objective from 0, by the policy's place in the SLO.
+-- The bindings of a catalog: by SLO in its order, by objective from 0, by the policy's place
+-- in the SLO.
 abbrev pub bindings : List Object → List Binding
 bindings members = flat_map (λ o. bindings_in members o.name (slo_in o.body)) members

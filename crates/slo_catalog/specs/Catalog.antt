@@ -1,5 +1,6 @@
 -- The catalog of a history of definitions and removals.
-use Rattle.std.specs.Prelude.{◌≡◌, ℕ, Bool, false, not, ◌&&◌, ◌==◌, ◌↔◌, cond, List, [], ◌∷◌, ◌++◌, filter}
+use Rattle.std.specs.Prelude.{◌≡◌, ℕ, Bool, false, not, ◌&&◌, ◌==◌, ◌↔◌, cond, List, [], ◌∷◌, ◌++◌}
+use Rattle.std.specs.Prelude.{filter}
 use Rattle.std.specs.Str.{bytes_eq}
 use Rattle.std.specs.List.{AllByRecursion, Contains}
 use Rattle.std.specs.Ordering.{match_ordering}
@@ -17,7 +18,8 @@ abbrev pub is_about : Kind → List ℕ → Event → Bool
 is_about kind name (Defined o) = is_key kind name o
 is_about kind name (Removed k n) = (kind_rank kind == kind_rank k) && bytes_eq name n
 
--- An object is a member after events where one of them defines it, and no later one is about its kind and name.
+-- An object is a member after events where one of them defines it, and no later one is about its
+-- kind and name.
 pub record IsMember (events : List Event) (o : Object) : Type 0 where
   pub before : List Event
   pub later : List Event

@@ -1,5 +1,6 @@
 -- What a text's objects make of a catalog, or why they are refused.
-use Rattle.std.specs.Prelude.{◌≡◌, ℕ, Bool, false, not, cond, ◌&&◌, ◌==◌, List, [], ◌∷◌, ◌++◌, Option, Some, None, Result, Ok, Err, find}
+use Rattle.std.specs.Prelude.{◌≡◌, ℕ, Bool, false, not, cond, ◌&&◌, ◌==◌, List, [], ◌∷◌, ◌++◌}
+use Rattle.std.specs.Prelude.{Option, Some, None, Result, Ok, Err, find}
 use Rattle.std.specs.List.{list_all, list_any}
 use Rattle.std.specs.Str.{bytes_eq}
 use Rattle.yaml_subset.specs.Spelling.{writing}
@@ -42,7 +43,8 @@ differs earlier o = list_any (λ p. is_key o.kind o.name p && not (is_same p o))
 -- the first such object behind the earlier ones
 abbrev pub first_differing : List Object → List Object → Option Object
 first_differing earlier [] = None
-first_differing earlier (o ∷ os) = cond (differs earlier o) (Some o) (first_differing (earlier ++ o ∷ []) os)
+first_differing earlier (o ∷ os) =
+    cond (differs earlier o) (Some o) (first_differing (earlier ++ o ∷ []) os)
 
 -- the first object of each kind and name
 abbrev pub firsts : List Object → List Object
@@ -70,18 +72,21 @@ abbrev pub needs_op : NeedsOp → CatalogFault
 needs_op n = faults.NeedsOp n.slo n.objective
 
 -- a fault where something was found, or what comes of the tests behind it
-abbrev pub unless : {A : Type 0} → (A → CatalogFault) → Option A → Result (List Object) CatalogFault → Result (List Object) CatalogFault
+abbrev pub unless : {A : Type 0} → (A → CatalogFault) → Option A → Result (List Object) CatalogFault
+    → Result (List Object) CatalogFault
 unless fault None rest = rest
 unless fault (Some found) rest = Err (fault found)
 
--- the members that would be there, unless a reference of the objects names none of them, or an objective lacks `op` or `value`
+-- the members that would be there, unless a reference of the objects names none of them, or an
+-- objective lacks `op` or `value`
 abbrev pub judged : List Object → List Object → Result (List Object) CatalogFault
 judged members objects =
     unless unresolved (first_unresolved members objects)
     (unless needs_op (first_needing_op members objects) (Ok members))
 
--- The members that are there with the objects of a text, each of which replaces the one of its kind and name; or the first
--- fault, in the order of these lines, where each names the first place that breaks its rule.
+-- The members that are there with the objects of a text, each of which replaces the one of its kind
+-- and name; or the first fault, in the order of these lines, where each names the first place that
+-- breaks its rule.
 abbrev pub proposed : List Object → List Object → Result (List Object) CatalogFault
 proposed old objects =
     unless reserved (first_reserved objects)
@@ -105,7 +110,8 @@ abbrev pub is_alike : Option Object → Object → Bool
 is_alike None o = false
 is_alike (Some p) o = is_same p o
 
--- A definition leaves a catalog as it is where each of its objects is written as the member of its kind and name.
+-- A definition leaves a catalog as it is where each of its objects is written as the member of its
+-- kind and name.
 abbrev pub is_unchanged : List Object → List Object → Bool
 is_unchanged old objects = list_all (λ o. is_alike (find_in old o.kind o.name) o) objects
 
@@ -116,7 +122,8 @@ Defines (Err (errors.Fault fault)) answer = answer ≡ Err fault
 Defines (Err errors.NoMemory) answer = Unit {0}
 
 -- the same of a proposal: its members, and whether they are those that were there
-abbrev pub Proposes : Result (List Object × Bool) DefineError → Result (List Object) CatalogFault → Type 0
+abbrev pub Proposes : Result (List Object × Bool) DefineError
+    → Result (List Object) CatalogFault → Type 0
 Proposes (Ok proposal) answer = answer ≡ Ok proposal.0
 Proposes (Err (errors.Fault fault)) answer = answer ≡ Err fault
 Proposes (Err errors.NoMemory) answer = Unit {0}

@@ -5,6 +5,7 @@ pub mod References
 pub mod NeedsOp
 pub mod Bindings
 pub mod Limits
+pub mod Whole
 pub mod Members
 pub mod Define
 pub mod Remove

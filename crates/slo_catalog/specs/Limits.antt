@@ -1,5 +1,7 @@
 -- How much a catalog holds.
-use Rattle.std.specs.Prelude.{ℕ, nat_lt, cond, ◌==◌, List, length, Option, Some, None, sum_by, count_by}
+use Rattle.std.specs.Prelude.{ℕ, ◌+◌, nat_lt, unwrap_or, cond, ◌==◌, List, length, Option, Some}
+use Rattle.std.specs.Prelude.{None, sum_by, count_by}
+use Rattle.yaml_subset.specs.Room.{up_to}
 use Rattle.yaml_subset.specs.Spelling.{writing}
 use Rattle.slo_objects.specs.declared.kind.Kind.{Kind}
 use Rattle.slo_objects.specs.declared.kind.Kind.TheVariants as kinds
@@ -7,14 +9,21 @@ use Rattle.slo_objects.specs.declared.object.Object.{Object}
 use Rattle.slo_objects.specs.Document.{written}
 use Rattle.slo_catalog.specs.declared.fault.CatalogLimit.{CatalogLimit}
 use Rattle.slo_catalog.specs.declared.fault.CatalogLimit.TheVariants as limits
-use Rattle.slo_limits.specs.declared.TheConstants.{MAX_OBJECTS, MAX_CATALOG_BYTES, MAX_SLIS, MAX_SLOS, MAX_BINDINGS}
+use Rattle.slo_limits.specs.declared.TheConstants.{MAX_OBJECTS, MAX_CATALOG_BYTES, MAX_SLIS}
+use Rattle.slo_limits.specs.declared.TheConstants.{MAX_SLOS, MAX_BINDINGS}
 use Rattle.slo_catalog.specs.Keys.{kind_rank}
 use Rattle.slo_catalog.specs.Bindings.{bindings}
 
--- how many bytes an object's canonical writing has, and those of all of them together
+-- how many bytes an object's canonical writing has
 abbrev pub written_bytes : Object → ℕ
 written_bytes o = length (writing 0 (written o))
 
+-- What an object weighs: these bytes, or one more than a catalog may have, where they are more than
+-- it may have.
+abbrev pub weight : Object → ℕ
+weight o = unwrap_or (up_to MAX_CATALOG_BYTES (written_bytes o)) (MAX_CATALOG_BYTES + 1)
+
+-- the bytes of all of them together
 abbrev pub catalog_bytes : List Object → ℕ
 catalog_bytes members = sum_by written_bytes members
 

@@ -1,5 +1,7 @@
--- Objectives over values (OpenSLO v1: where the indicator of an SLO has a `thresholdMetric`, each objective has `op` and `value`).
-use Rattle.std.specs.Prelude.{ℕ, Bool, false, ◌||◌, cond, is_none, List, ◌++◌, Option, Some, None, option_map, option_and_then}
+-- Objectives over values (OpenSLO v1: where the indicator of an SLO has a `thresholdMetric`, each
+-- objective has `op` and `value`).
+use Rattle.std.specs.Prelude.{ℕ, Bool, false, ◌||◌, cond, is_none, List, ◌++◌, Option, Some, None}
+use Rattle.std.specs.Prelude.{option_map, option_and_then}
 use Rattle.std.specs.List.{position_from}
 use Rattle.slo_objects.specs.declared.kind.Kind.TheVariants as kinds
 use Rattle.slo_objects.specs.declared.object.Object.{Object}
@@ -27,11 +29,14 @@ lacks_op objective = is_none objective.op || is_none objective.value
 -- the first such objective of an SLO over values, numbered from 0
 abbrev pub lacking_in : List Object → Option Slo → Option ℕ
 lacking_in members None = None
-lacking_in members (Some slo) = cond (gives_values (sli_named members slo.indicator)) (position_from lacks_op 0 slo.objectives) None
+lacking_in members (Some slo) = cond (gives_values (sli_named members slo.indicator))
+    (position_from lacks_op 0 slo.objectives) None
 
 abbrev pub needing_op : List Object → Object → Option NeedsOp
-needing_op members o = option_map (λ n. record { slo = o.name; objective = n }) (lacking_in members (slo_in o.body))
+needing_op members o =
+    option_map (λ n. record { slo = o.name; objective = n }) (lacking_in members (slo_in o.body))
 
--- The first objective that needs `op` or `value`: of the SLOs of the objects in their order, then of those of the catalog in its order.
+-- The first objective that needs `op` or `value`: of the SLOs of the objects in their order, then
+-- of those of the catalog in its order.
 abbrev pub first_needing_op : List Object → List Object → Option NeedsOp
 first_needing_op members objects = first_given (needing_op members) (objects ++ members)

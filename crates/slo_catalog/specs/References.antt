@@ -1,5 +1,7 @@
--- What objects refer to (OpenSLO v1: `metricSourceRef`, `service`, `indicatorRef`, `alertPolicyRef`, `conditionRef`, `targetRef`).
-use Rattle.std.specs.Prelude.{◌≡◌, ℕ, Bool, true, ◌&&◌, ◌||◌, ◌==◌, not, is_some, codes, List, [], ◌∷◌, ◌++◌, Option, None, map, find, flat_map, filter_map, unwrap_or}
+-- What objects refer to (OpenSLO v1: `metricSourceRef`, `service`, `indicatorRef`,
+-- `alertPolicyRef`, `conditionRef`, `targetRef`).
+use Rattle.std.specs.Prelude.{◌≡◌, ℕ, Bool, true, ◌&&◌, ◌||◌, ◌==◌, not, is_some, codes, List, []}
+use Rattle.std.specs.Prelude.{◌∷◌, ◌++◌, Option, None, map, find, flat_map, filter_map, unwrap_or}
 use Rattle.std.specs.Option.{option_or}
 use Rattle.std.specs.List.{list_any, AllByRecursion}
 use Rattle.std.specs.Str.{bytes_eq}
@@ -38,14 +40,19 @@ data_sources sources = filter_map (λ s. s.metric_source_ref) sources
 
 -- references of an object to the objects of a kind that it names
 abbrev pub referring : Object → Kind → List (List ℕ) → List Reference
-referring o kind names = map (λ n. record { from_kind = o.kind; from_name = o.name; kind = kind; name = n }) names
+referring o kind names =
+    map (λ n. record { from_kind = o.kind; from_name = o.name; kind = kind; name = n }) names
 
--- an SLO's are to its service, its indicator and its alert policies; a policy's to its conditions and its targets
+-- an SLO's are to its service, its indicator and its alert policies; a policy's to its conditions
+-- and its targets
 abbrev pub references_of_slo : (Kind → List (List ℕ) → List Reference) → Slo → List Reference
-references_of_slo to slo = to kinds.Service (slo.service ∷ []) ++ (to kinds.Sli (slo.indicator ∷ []) ++ to kinds.AlertPolicy (names_in slo.alert_policies))
+references_of_slo to slo = to kinds.Service (slo.service ∷ [])
+    ++ (to kinds.Sli (slo.indicator ∷ []) ++ to kinds.AlertPolicy (names_in slo.alert_policies))
 
-abbrev pub references_of_policy : (Kind → List (List ℕ) → List Reference) → AlertPolicy → List Reference
-references_of_policy to policy = to kinds.AlertCondition (names_in policy.conditions) ++ to kinds.AlertNotificationTarget (names_in policy.notification_targets)
+abbrev pub references_of_policy : (Kind → List (List ℕ) → List Reference) → AlertPolicy
+    → List Reference
+references_of_policy to policy = to kinds.AlertCondition (names_in policy.conditions)
+    ++ to kinds.AlertNotificationTarget (names_in policy.notification_targets)
 
 abbrev pub references_in : (Kind → List (List ℕ) → List Reference) → Body → List Reference
 references_in to (bodies.Sli sli) = to kinds.DataSource (data_sources (sources_of sli.metric))
@@ -60,7 +67,8 @@ references_in to (bodies.AlertNotificationTarget target) = []
 abbrev pub references : Object → List Reference
 references o = references_in (referring o) o.body
 
--- The policies of the Site Reliability Workbook ('Alerting on SLOs') are always there, and no object defines them.
+-- The policies of the Site Reliability Workbook ('Alerting on SLOs') are always there, and no
+-- object defines them.
 abbrev pub page : List ℕ
 page = codes "workbook-page"
 
@@ -70,7 +78,8 @@ ticket = codes "workbook-ticket"
 abbrev pub is_built_in : List ℕ → Bool
 is_built_in name = bytes_eq name page || bytes_eq name ticket
 
--- A reference names a member. One to an alert policy, which stands in an SLO's `alertPolicies` alone, may name a built-in policy.
+-- A reference names a member. One to an alert policy, which stands in an SLO's `alertPolicies`
+-- alone, may name a built-in policy.
 abbrev pub is_built_in_policy : Reference → Bool
 is_built_in_policy r = (kind_rank r.kind == kind_rank kinds.AlertPolicy) && is_built_in r.name
 
@@ -82,7 +91,8 @@ abbrev pub first_given : {A B : Type 0} → (A → Option B) → List A → Opti
 first_given f [] = None
 first_given f (x ∷ xs) = option_or (f x) (first_given f xs)
 
--- The first reference of the objects that isn't resolved, in the order of the objects and of their fields.
+-- The first reference of the objects that isn't resolved, in the order of the objects and
+-- of their fields.
 abbrev pub unresolved_of : List Object → Object → Option Reference
 unresolved_of members o = find (λ r. not (is_resolved members r)) (references o)
 

@@ -15,13 +15,16 @@ abbrev pub unless_used : Option Object → List Object → Result (List Object) 
 unless_used None left = Ok left
 unless_used (Some user) left = Err (faults.InUse user.kind user.name)
 
-abbrev pub where_found : Option Object → Result (List Object) RemoveFault → Result (List Object) RemoveFault
+abbrev pub where_found : Option Object → Result (List Object) RemoveFault
+    → Result (List Object) RemoveFault
 where_found None rest = Err faults.NotFound
 where_found (Some o) rest = rest
 
--- The catalog without the object of that kind and name; or that there is none; or the first member that refers to it.
+-- The catalog without the object of that kind and name; or that there is none; or the first member
+-- that refers to it.
 abbrev pub removed : List Object → Kind → List ℕ → Result (List Object) RemoveFault
-removed old kind name = where_found (find_in old kind name) (unless_used (first_referrer old kind name) (without kind name old))
+removed old kind name = where_found (find_in old kind name)
+    (unless_used (first_referrer old kind name) (without kind name old))
 
 -- what a call gives: what the definition gives, unless memory ran out
 abbrev pub Removes : Result (List Object) RemoveError → Result (List Object) RemoveFault → Type 0

@@ -1,6 +1,7 @@
 //! Bindings: the alerts that are kept.
-ghost use Rattle.std.specs.Prelude.{◌≡◌, ◌<◌, ◌^◌, ◌++◌, length, filter, Some, IfOk, OnOk};
+ghost use Rattle.std.specs.Prelude.{◌≡◌, ◌≤◌, ◌++◌, length, filter, Some, IfOk, OnOk};
 ghost use Rattle.std.specs.Option.{option_copied};
+ghost use Rattle.slo_limits.specs.declared.TheConstants.{MAX_OBJECTIVES};
 ghost use Rattle.slo_objects.specs.Slo.{slo_in as slo_in_lem};
 ghost use Rattle.slo_catalog.specs.References.{names_in as names_in_lem};
 ghost use Rattle.slo_catalog.specs.Bindings.{is_empty, policy_named as policy_named_lem};
@@ -104,7 +105,7 @@ fn bind_each(
     policies: &[Label],
     objectives: &[Objective],
 ) -> Result<(), AllocError>
-    requires { length objectives.now < 2 ^ 32 }
+    requires { length objectives.now ≤ MAX_OBJECTIVES }
     ensures { OnOk result (bindings.new.items
         ≡ bindings.old.items ++ bound_from slo.now policies.now 0 objectives.now) }
 {
@@ -127,7 +128,7 @@ fn bind_slo(
         ≡ bindings.old.items ++ bindings_in members.now name.now (Some slo.now)) }
 {
     let policies = policies_with_condition(alloc, members, names_in(&slo.alert_policies))?;
-    bind_each(bindings, name, &policies, objectives_of(slo)?)
+    bind_each(bindings, name, &policies, objectives_of(slo))
 }
 
 /// Adds the bindings of an object, which has some where it is an SLO.

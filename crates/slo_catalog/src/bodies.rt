@@ -1,18 +1,16 @@
 //! What stands in the `spec` of an object of one kind.
-ghost use Rattle.std.specs.Prelude.{◌≡◌, ◌<◌, ◌^◌, IfOk, length};
+ghost use Rattle.std.specs.Prelude.{◌≡◌, ◌≤◌, length};
 ghost use Rattle.std.specs.Option.{option_copied};
+ghost use Rattle.slo_limits.specs.declared.TheConstants.{MAX_OBJECTIVES};
+ghost use Rattle.slo_objects.specs.AlertCondition.{condition_in as condition_in_lem};
 ghost use Rattle.slo_objects.specs.AlertPolicy.{policy_in as policy_in_lem};
 ghost use Rattle.slo_objects.specs.Sli.{sli_in as sli_in_lem};
 ghost use Rattle.slo_objects.specs.Slo.{slo_in as slo_in_lem};
 
-use slo_objects::{AlertPolicy, Body, Objective, Sli, Slo};
-use std::alloc::AllocError;
-
-// The number of an objective is a `u32`.
-const MOST_OBJECTIVES: usize = 4_294_967_295;
+use slo_objects::{AlertCondition, AlertPolicy, Body, Objective, Sli, Slo};
 
 /// The indicator that a body is.
-pub(crate) fn sli_in(body: &Body) -> Option<&Sli>
+pub fn sli_in(body: &Body) -> Option<&Sli>
     ensures { option_copied result ≡ sli_in_lem body.now }
 {
     match body {
@@ -27,7 +25,7 @@ pub(crate) fn sli_in(body: &Body) -> Option<&Sli>
 }
 
 /// The objective over time that a body is.
-pub(crate) fn slo_in(body: &Body) -> Option<&Slo>
+pub fn slo_in(body: &Body) -> Option<&Slo>
     ensures { option_copied result ≡ slo_in_lem body.now }
 {
     match body {
@@ -42,7 +40,7 @@ pub(crate) fn slo_in(body: &Body) -> Option<&Slo>
 }
 
 /// The alert policy that a body is.
-pub(crate) fn policy_in(body: &Body) -> Option<&AlertPolicy>
+pub fn policy_in(body: &Body) -> Option<&AlertPolicy>
     ensures { option_copied result ≡ policy_in_lem body.now }
 {
     match body {
@@ -56,14 +54,27 @@ pub(crate) fn policy_in(body: &Body) -> Option<&AlertPolicy>
     }
 }
 
-/// The objectives of an SLO. No memory has room for so many that a number of one isn't a `u32`.
-pub(crate) fn objectives_of(slo: &Slo) -> Result<&[Objective], AllocError>
-    ensures all { IfOk result (λ objectives. objectives.now ≡ slo.now.objectives) }
-    ensures few { IfOk result (λ objectives. length objectives.now < 2 ^ 32) }
+/// The alert condition that a body is.
+pub fn condition_in(body: &Body) -> Option<&AlertCondition>
+    ensures { option_copied result ≡ condition_in_lem body.now }
 {
-    let objectives = slo.objectives.as_slice();
-    if objectives.len() > MOST_OBJECTIVES {
-        return Err(AllocError);
+    match body {
+        Body::AlertCondition(condition) => Some(condition),
+        Body::DataSource(_)
+        | Body::Service(_)
+        | Body::Sli(_)
+        | Body::Slo(_)
+        | Body::AlertPolicy(_)
+        | Body::AlertNotificationTarget(_) => None,
     }
-    Ok(objectives)
+}
+
+/// The objectives of an SLO, of which there are five at most.
+pub(crate) fn objectives_of(slo: &Slo) -> &[Objective]
+    ensures all { result.now ≡ slo.now.objectives }
+    ensures few { length slo.now.objectives ≤ MAX_OBJECTIVES }
+{
+    // The list says how many objectives it may have where it is counted.
+    let _ = slo.objectives.count();
+    slo.objectives.as_slice()
 }

@@ -5,6 +5,7 @@ ghost use Rattle.std.specs.Option.{option_copied};
 ghost use Rattle.slo_objects.specs.Document.{IsOfDocument};
 ghost use Rattle.slo_catalog.specs.Keys.{IsSorted, find_in};
 ghost use Rattle.slo_catalog.specs.References.{IsLegal};
+ghost use Rattle.slo_catalog.specs.Whole.{IsWhole};
 
 use crate::member::Member;
 use crate::members::Members;
@@ -14,7 +15,8 @@ use std::alloc::Global;
 use std::marker::Model;
 
 /// Objects by kind and name, each kind and name once. Each reference of each of them names one of
-/// them, or a policy that is always there.
+/// them, or a policy that is always there; each SLO has what its indicator asks for; and no limit
+/// is passed.
 #[derive(Drop)]
 pub struct Catalog {
     members: Members,
@@ -25,7 +27,7 @@ impl Model for Catalog {
     ghost use Rattle.std.specs.Coded.{coded_list};
     ghost use Rattle.slo_objects.specs.declared.object.Object.{Object};
     ghost use Rattle.slo_objects.specs.contracts.object.Object.{the_row};
-    ghost use Rattle.slo_catalog.specs.References.{IsLegal};
+    ghost use Rattle.slo_catalog.specs.Whole.{IsWhole};
 
     ghost Value = { List Object };
 
@@ -33,7 +35,7 @@ impl Model for Catalog {
 
     ghost view = { λ c. c.members };
 
-    ghost invariant = { λ c. IsLegal c.members };
+    ghost invariant = { λ c. IsWhole c.members };
 }
 
 impl Catalog {
@@ -46,9 +48,9 @@ impl Catalog {
         }
     }
 
-    /// The catalog of these members, whose references are resolved.
+    /// The catalog of these members, of which all holds that holds of a catalog.
     pub(crate) fn of(members: Members) -> Catalog
-        requires { IsLegal members }
+        requires { IsWhole members }
         ensures { result ≡ members }
     {
         Catalog { members }
@@ -59,10 +61,20 @@ impl Catalog {
         ensures all { result.now ≡ self.now }
         ensures sorted { IsSorted self.now }
         ensures legal { IsLegal self.now }
+        ensures whole { IsWhole self.now }
     {
         // Members are known to be sorted by the list that they give.
         let _ = self.members.as_slice();
         &self.members
+    }
+
+    /// What holds of each catalog: its references are resolved, objectives over values have `op`
+    /// and `value`, and no limit is passed.
+    pub fn is_whole(&self)
+        ensures { IsWhole self.now }
+    {
+        // What holds of the type is known where a field is used.
+        let _ = &self.members;
     }
 
     /// The members, by kind and then by the bytes of the name.

@@ -51,7 +51,7 @@ fn judged(alloc: Global, members: Members, objects: &[Member]) -> Result<Members
             name: reference.name,
         }));
     }
-    if let Some(needs) = first_needing_op(&members, objects)? {
+    if let Some(needs) = first_needing_op(&members, objects) {
         return Err(DefineError::Fault(CatalogFault::NeedsOp {
             slo: needs.slo,
             objective: needs.objective,

@@ -24,13 +24,12 @@ fn text_of(alloc: Global, object: &Object) -> Result<Vec<u8>, AllocError>
     Ok(text)
 }
 
-/// Whether two objects have the same content. They are written only where their writings have one
-/// length.
-#[tactic(auto, using(crate::proofs::FindLemmas::other_length))]
+/// Whether two objects have the same content. They are written only where they weigh the same.
+#[tactic(auto, using(crate::proofs::FindLemmas::other_weight))]
 pub(crate) fn is_same(alloc: Global, one: &Member, other: &Member) -> Result<bool, AllocError>
     ensures { IfOk result (λ same. same ≡ is_same_lem one.now other.now) }
 {
-    if one.bytes() != other.bytes() {
+    if one.weight() != other.weight() {
         return Ok(false);
     }
     let text = text_of(alloc, one.object())?;

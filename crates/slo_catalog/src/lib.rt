@@ -21,6 +21,7 @@ mod removal;
 mod same;
 
 pub use bindings::Binding;
+pub use bodies::{condition_in, policy_in, sli_in, slo_in};
 pub use catalog::Catalog;
 pub use definition::{define, propose};
 pub use fault::{CatalogFault, CatalogLimit, DefineError, RemoveError, RemoveFault};

@@ -18,7 +18,7 @@ fn is_above_bytes(members: &[Member]) -> bool
 {
     let mut total = 0;
     for member in members {
-        total += member.bytes();
+        total += member.weight();
         if total > MAX_CATALOG_BYTES {
             return true;
         }

@@ -1,10 +1,11 @@
 //! Members: the objects of a catalog, which catalogs share.
-ghost use Rattle.std.specs.Prelude.{◌≡◌, ◌<◌, ◌^◌, IfOk};
+ghost use Rattle.std.specs.Prelude.{◌≡◌, IfOk};
 ghost use Rattle.std.specs.List.{All};
 ghost use Rattle.slo_objects.specs.Document.{IsOfDocument};
-ghost use Rattle.slo_catalog.specs.Limits.{written_bytes as written_bytes_lem};
+ghost use Rattle.slo_catalog.specs.Limits.{weight as weight_lem};
 
-use slo_objects::{Object, copy_object, write_object};
+use slo_limits::MAX_CATALOG_BYTES;
+use slo_objects::{Object, copy_object, object_length};
 use std::alloc::{AllocError, Global};
 use std::marker::Model;
 use std::sync::Arc;
@@ -13,7 +14,7 @@ use std::sync::Arc;
 #[derive(Drop)]
 pub struct Member {
     object: Arc<Object, Global>,
-    bytes: usize,
+    weight: usize,
 }
 
 impl Model for Member {
@@ -28,33 +29,38 @@ impl Model for Member {
 
     ghost view = { λ m. arc_value m.object };
 
-    ghost invariant = { λ m. IsWeighed (arc_value m.object) m.bytes };
+    ghost invariant = { λ m. IsWeighed (arc_value m.object) m.weight };
 }
 
-/// How many bytes an object's canonical writing has.
-fn written_bytes(alloc: Global, object: &Object) -> Result<usize, AllocError>
+// What an object weighs that is above the limit by itself.
+const ABOVE: usize = MAX_CATALOG_BYTES + 1;
+
+/// The weight of an object: how many bytes its canonical writing has, which is counted up to the
+/// limit and not made.
+fn weight(alloc: Global, object: &Object) -> Result<usize, AllocError>
     requires { IsOfDocument object.now }
-    ensures exact { IfOk result (λ bytes. bytes ≡ written_bytes_lem object.now) }
-    ensures within { IfOk result (λ bytes. bytes < 2 ^ 63) }
+    ensures { IfOk result (λ weight. weight ≡ weight_lem object.now) }
 {
-    let mut text = Vec::new(alloc);
-    write_object(&mut text, object)?;
-    Ok(text.len())
+    match object_length(alloc, object, MAX_CATALOG_BYTES)? {
+        Some(bytes) => Ok(bytes),
+        None => Ok(ABOVE),
+    }
 }
 
 impl Member {
-    ghost use Rattle.std.specs.Prelude.{◌≡◌, ◌<◌, ◌^◌, IfOk};
+    ghost use Rattle.std.specs.Prelude.{◌≡◌, ◌+◌, ◌≤◌, IfOk};
+    ghost use Rattle.slo_limits.specs.declared.TheConstants.{MAX_CATALOG_BYTES};
     ghost use Rattle.slo_objects.specs.Document.{IsOfDocument};
-    ghost use Rattle.slo_catalog.specs.Limits.{written_bytes as written_bytes_lem};
+    ghost use Rattle.slo_catalog.specs.Limits.{weight as weight_lem};
 
-    /// A member that is a copy of an object. Its canonical writing is made once, here.
+    /// A member that is a copy of an object, which is weighed once, here.
     pub(crate) fn of(alloc: Global, object: &Object) -> Result<Member, AllocError>
         requires { IsOfDocument object.now }
         ensures { IfOk result (λ member. member ≡ object.now) }
     {
-        let bytes = written_bytes(alloc, object)?;
+        let weight = weight(alloc, object)?;
         let object = Arc::new(alloc, copy_object(alloc, object)?)?;
-        Ok(Member { object, bytes })
+        Ok(Member { object, weight })
     }
 
     /// The object.
@@ -65,12 +71,13 @@ impl Member {
         &self.object
     }
 
-    /// How many bytes its canonical writing has.
-    pub(crate) fn bytes(&self) -> usize
-        ensures exact { result ≡ written_bytes_lem self.now }
-        ensures within { result < 2 ^ 63 }
+    /// How many bytes its canonical writing has, or one more than the limit where it has more.
+    #[tactic(auto, using(crate::proofs::WeightLemmas::weight_few))]
+    pub(crate) fn weight(&self) -> usize
+        ensures exact { result ≡ weight_lem self.now }
+        ensures few { result ≤ MAX_CATALOG_BYTES + 1 }
     {
-        self.bytes
+        self.weight
     }
 
     /// The same member once more.
@@ -79,7 +86,7 @@ impl Member {
     {
         Ok(Member {
             object: Arc::try_clone(&self.object)?,
-            bytes: self.bytes,
+            weight: self.weight,
         })
     }
 }

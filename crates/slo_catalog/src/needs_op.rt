@@ -1,7 +1,8 @@
 //! Objectives over values that lack `op` or `value`.
-ghost use Rattle.std.specs.Prelude.{◌≡◌, ◌<◌, ◌^◌, Some, IfOk, length};
+ghost use Rattle.std.specs.Prelude.{◌≡◌, ◌≤◌, Some, length};
 ghost use Rattle.std.specs.Option.{option_copied};
 ghost use Rattle.std.specs.List.{position_from};
+ghost use Rattle.slo_limits.specs.declared.TheConstants.{MAX_OBJECTIVES};
 ghost use Rattle.slo_catalog.specs.References.{first_given};
 ghost use Rattle.slo_catalog.specs.NeedsOp.{sli_named as sli_named_lem};
 ghost use Rattle.slo_catalog.specs.NeedsOp.{gives_values as gives_values_lem};
@@ -15,7 +16,6 @@ use crate::member::Member;
 use crate::members::Members;
 use exact_fraction::Label;
 use slo_objects::{Kind, Metric, Object, Objective, Sli, Slo};
-use std::alloc::AllocError;
 
 /// An objective that needs `op` or `value`.
 #[derive(Clone, Copy, Debug)]
@@ -57,7 +57,7 @@ fn lacks_op(objective: &Objective) -> bool
 
 /// The number of the first objective that can be compared with no value.
 fn first_lacking(objectives: &[Objective]) -> Option<u32>
-    requires { length objectives.now < 2 ^ 32 }
+    requires { length objectives.now ≤ MAX_OBJECTIVES }
     ensures { result ≡ position_from lacks_op_lem 0 objectives.now }
 {
     let mut number = 0;
@@ -70,53 +70,50 @@ fn first_lacking(objectives: &[Objective]) -> Option<u32>
     None
 }
 
-fn lacking_in(members: &Members, slo: &Slo) -> Result<Option<u32>, AllocError>
-    ensures { IfOk result (λ number. number ≡ lacking_in_lem members.now (Some slo.now)) }
+fn lacking_in(members: &Members, slo: &Slo) -> Option<u32>
+    ensures { result ≡ lacking_in_lem members.now (Some slo.now) }
 {
     if gives_values(members, slo.indicator) {
-        Ok(first_lacking(objectives_of(slo)?))
+        first_lacking(objectives_of(slo))
     } else {
-        Ok(None)
+        None
     }
 }
 
-fn needing_op(members: &Members, object: &Object) -> Result<Option<NeedsOp>, AllocError>
-    ensures { IfOk result (λ needs. needs ≡ needing_op_lem members.now object.now) }
+fn needing_op(members: &Members, object: &Object) -> Option<NeedsOp>
+    ensures { result ≡ needing_op_lem members.now object.now }
 {
     let Some(slo) = slo_in(&object.body) else {
-        return Ok(None);
+        return None;
     };
-    match lacking_in(members, slo)? {
-        Some(objective) => Ok(Some(NeedsOp {
+    match lacking_in(members, slo) {
+        Some(objective) => Some(NeedsOp {
             slo: object.name,
             objective,
-        })),
-        None => Ok(None),
+        }),
+        None => None,
     }
 }
 
-fn first_in(members: &Members, objects: &[Member]) -> Result<Option<NeedsOp>, AllocError>
-    ensures { IfOk result (λ first. first ≡ first_given (needing_op_lem members.now) objects.now) }
+fn first_in(members: &Members, objects: &[Member]) -> Option<NeedsOp>
+    ensures { result ≡ first_given (needing_op_lem members.now) objects.now }
 {
     for member in objects {
-        if let Some(needs) = needing_op(members, member.object())? {
-            return Ok(Some(needs));
+        if let Some(needs) = needing_op(members, member.object()) {
+            return Some(needs);
         }
     }
-    Ok(None)
+    None
 }
 
 /// The first objective that needs `op` or `value`: of the SLOs of the objects in their order, then
 /// of those of the members in theirs.
 #[tactic(auto, using(crate::proofs::SearchLemmas::given_by_both))]
-pub(crate) fn first_needing_op(
-    members: &Members,
-    objects: &[Member],
-) -> Result<Option<NeedsOp>, AllocError>
-    ensures { IfOk result (λ first. first ≡ first_needing_op_lem members.now objects.now) }
+pub(crate) fn first_needing_op(members: &Members, objects: &[Member]) -> Option<NeedsOp>
+    ensures { result ≡ first_needing_op_lem members.now objects.now }
 {
-    match first_in(members, objects)? {
-        Some(needs) => Ok(Some(needs)),
+    match first_in(members, objects) {
+        Some(needs) => Some(needs),
         None => first_in(members, members.as_slice()),
     }
 }

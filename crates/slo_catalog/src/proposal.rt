@@ -1,7 +1,7 @@
 //! Proposals: what a definition would leave, before the limits are tried.
 ghost use Rattle.std.specs.Prelude.{◌≡◌};
 ghost use Rattle.slo_catalog.specs.Keys.{IsSorted};
-ghost use Rattle.slo_catalog.specs.References.{IsLegal};
+ghost use Rattle.slo_catalog.specs.Whole.{IsJoined};
 ghost use Rattle.slo_catalog.specs.Define.{Defines, within_limits};
 
 use crate::catalog::Catalog;
@@ -12,7 +12,8 @@ use crate::members::Members;
 use std::alloc::Global;
 use std::marker::Model;
 
-/// Members whose references are resolved, and which may pass a limit.
+/// Members whose references are resolved and whose SLOs have what their indicators ask for, and
+/// which may pass a limit.
 #[derive(Drop)]
 pub struct Proposal {
     members: Members,
@@ -24,7 +25,7 @@ impl Model for Proposal {
     ghost use Rattle.std.specs.Coded.{coded_list, coded_bool, coded×};
     ghost use Rattle.slo_objects.specs.declared.object.Object.{Object};
     ghost use Rattle.slo_objects.specs.contracts.object.Object.{the_row};
-    ghost use Rattle.slo_catalog.specs.References.{IsLegal};
+    ghost use Rattle.slo_catalog.specs.Whole.{IsJoined};
 
     ghost Value = { List Object × Bool };
 
@@ -32,7 +33,7 @@ impl Model for Proposal {
 
     ghost view = { λ p. (p.members, p.same) };
 
-    ghost invariant = { λ p. IsLegal p.members };
+    ghost invariant = { λ p. IsJoined p.members };
 }
 
 /// The catalog of members, unless they pass a limit.
@@ -46,9 +47,9 @@ fn admitted(alloc: Global, members: Members) -> Result<Members, DefineError>
 }
 
 impl Proposal {
-    /// The proposal of these members, whose references are resolved.
+    /// The proposal of these members, of which all but the limits holds.
     pub(crate) fn of(members: Members, same: bool) -> Proposal
-        requires { IsLegal members }
+        requires { IsJoined members }
         ensures { result ≡ (members, same) }
     {
         Proposal { members, same }

@@ -294,7 +294,6 @@ pub(crate) fn first_referrer(
 /// The reference that is named as unresolved is the first such one of all that the objects have, in
 /// the order of the objects and of their fields; and a list of objects is legal exactly where none
 /// of theirs is named.
-#[tactic(auto, using(crate::proofs::SearchLemmas::found_among_all, crate::proofs::SearchLemmas::resolved_in_none, crate::proofs::LegalLemmas::all_resolved))]
 pub fn the_first_reference_to_nothing_is_named()
     ensures first { (members objects : List Object)
         → first_unresolved_lem members objects

@@ -9,6 +9,8 @@ pub returns : goal.returns
 returns c =
     let rows : List Row = c.args.derived.now.book.rows in
     let current : current_rows rows ≡ rows = c.rows_are_current.ensures in
-    let told : IfOk c.passes_days_limit.result (λ passes. passes ≡ nat_lt MAX_DAYS (objective_days c.args.catalog.now (current_rows (rows ++ [])))) = search rules in
-    subst (λ (rs : List Row). IfOk c.passes_days_limit.result (λ passes. passes ≡ nat_lt MAX_DAYS (objective_days c.args.catalog.now rs)))
+    let told : IfOk c.passes_days_limit.result (λ passes. passes ≡ nat_lt MAX_DAYS
+    (objective_days c.args.catalog.now (current_rows (rows ++ [])))) = search rules in
+    subst (λ (rs : List Row). IfOk c.passes_days_limit.result
+    (λ passes. passes ≡ nat_lt MAX_DAYS (objective_days c.args.catalog.now rs)))
     (ap current_rows (append-nil rows) ∙ current) told

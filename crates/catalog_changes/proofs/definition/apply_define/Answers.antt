@@ -10,7 +10,8 @@ returns-clause-reflects c o next =
 pub returns-clause-sound : goal.returns-clause-sound
 returns-clause-sound c =
     let d = c.args.derived.now in
-    define_sound c.bodies_are_of_their_kinds.ensures d c.requires.next.0 c.args.moment c.args.text
+    define_sound c.texts_have_bodies_of_their_kinds.ensures d c.requires.next.0
+    c.args.moment c.args.text
     c.args.catalog c.args.applied c.args.plan c.take.new.self c.requires.sound c.requires.next.1
     (λ is. plan_taken d.catalog c.args.catalog d.book.exclusions d.book.rows c.args.plan d.sums.kept
     c.take.new.self.kept c.requires.sound.sums is

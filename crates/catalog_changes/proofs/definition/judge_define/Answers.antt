@@ -8,5 +8,6 @@ pub returns : goal.returns
 returns c o r =
     let d = c.args.derived.now in
     let text = c.args.text.now in
-    judged_over o c.args.moment (Define text) (JudgesText (known_by d) d.entries text) (IsTextWork d text) c.judged_text.result
+    judged_over o c.args.moment (Define text) (JudgesText (known_by d) d.entries text)
+    (IsTextWork d text) c.judged_text.result
     (text_over d o c.args.moment text r) (text_found d o c.args.moment text r) c.judged_text.ensures

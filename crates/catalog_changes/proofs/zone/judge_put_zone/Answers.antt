@@ -10,6 +10,8 @@ pub returns : goal.returns
 returns c o r =
     let d = c.args.derived.now in
     let bytes = c.args.bytes.now in
-    judged_over o c.args.moment (PutZone c.args.name bytes) (λ (j : Judgement). j ≡ zone_verdict d.zones.kept d.entries c.args.name bytes)
+    judged_over o c.args.moment (PutZone c.args.name bytes)
+    (λ (j : Judgement). j ≡ zone_verdict d.zones.kept d.entries c.args.name bytes)
     (IsZoneWork c.args.name bytes) c.judged_zone.result
-    (zone_over d o c.args.moment c.args.name bytes r) (zone_found o c.args.moment c.args.name bytes) c.judged_zone.ensures
+    (zone_over d o c.args.moment c.args.name bytes r) (zone_found o c.args.moment c.args.name bytes)
+    c.judged_zone.ensures

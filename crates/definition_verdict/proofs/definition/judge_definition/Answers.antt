@@ -1,4 +1,4 @@
-use Rattle.std.proofs.Common.{◌≡◌, ◌∙◌, Ok, Err, List, ap, rules, subst}
+use Rattle.std.proofs.Common.{◌≡◌, Ok, Err, ap, rules, subst}
 use Rattle.std.specs.List.{All}
 use Rattle.yaml_subset.specs.NodeView.{nodes_view}
 use Rattle.slo_objects.specs.Document.{IsOfDocument}
@@ -8,7 +8,8 @@ use Rattle.definition_verdict.specs.declared.definition.VerdictError.TheVariants
 use Rattle.definition_verdict.specs.Documents.{objects_in}
 use Rattle.definition_verdict.specs.Verdict.{IsRefused, defined_over, known, no_text}
 use Rattle.definition_verdict.proofs.DocumentLemmas.{all_of_documents}
-use Rattle.definition_verdict.proofs.VerdictLemmas.{refused_documents, refused_objects, same_refused}
+use Rattle.definition_verdict.proofs.VerdictLemmas.{refused_documents, refused_objects}
+use Rattle.definition_verdict.proofs.VerdictLemmas.{same_refused}
 use Rattle.definition_verdict.proofs.definition.judge_definition.Goals as goal
 
 -- the text stands for no documents
@@ -19,7 +20,8 @@ returns-in-Err-Fault-clause-refused c = λ refusal e.
     let told = rw c.in-Err-Fault.field-0-is at e in
     let first = Yaml c.in-Err-Fault.line c.in-Err-Fault.word in
     let is : first ≡ refusal = same_refused first refusal told in
-    let fault = c.in-Err-Fault.ensures.fault c.in-Err-Fault.line c.in-Err-Fault.word (ap Err c.in-Err-Fault.field-0-is) in
+    let fault = c.in-Err-Fault.ensures.fault c.in-Err-Fault.line c.in-Err-Fault.word
+    (ap Err c.in-Err-Fault.field-0-is) in
     subst P is (no_text fault)
 
 -- a document stands for no objects
@@ -41,7 +43,8 @@ judge_objects-requires-clause-documents c =
     let nodes = nodes_view c.in-Ok.nodes.items in
     let objects = c.objects.inside.items.items in
     let whole : objects_in nodes ≡ Ok objects = search rules in
-    let all : All IsOfDocument objects = all_of_documents nodes objects c.in-Ok.ensures.writable whole in
+    let all : All IsOfDocument objects =
+    all_of_documents nodes objects c.in-Ok.ensures.writable whole in
     search (rules, all)
 
 -- the objects can't be defined

@@ -9,4 +9,5 @@ pub record SoFar (P Q : Type 0) : Type 0 where
 
 abbrev pub invariant-loop-place : goal.invariant-loop-place
 invariant-loop-place l =
-    SoFar (l.count ≡ days_passing (is_counted l.sli l.book.rows l.first l.marks) l.first l.place) (l.count ≤ l.place)
+    SoFar (l.count ≡ days_passing (is_counted l.sli l.book.rows l.first l.marks) l.first l.place)
+    (l.count ≤ l.place)

@@ -10,4 +10,5 @@ pub record SoFar (P Q : Type 0) : Type 0 where
 abbrev pub invariant-loop-row : goal.invariant-loop-row
 invariant-loop-row l =
     SoFar (length l.marks.items ≡ l.days.count)
-    ((place : ℕ) → place < l.days.count → slice_index_or l.marks.items place false ≡ has_day l.sli (take l.row-index l.rows) (l.days.first + place))
+    ((place : ℕ) → place < l.days.count → slice_index_or l.marks.items place false
+    ≡ has_day l.sli (take l.row-index l.rows) (l.days.first + place))

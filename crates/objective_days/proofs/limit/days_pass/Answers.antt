@@ -10,6 +10,9 @@ pub returns-then-from-total : goal.returns-then-from-total
 returns-then-from-total c =
     let a = c.args in
     let rows = current_rows (a.book.now.rows ++ a.more.now) in
-    passes_already a.members.now rows c.loop-member.member-index c.loop-member.total c.in_ok-total.field-0 c.member-item.result c.loop-member-test.true c.member-item.is c.loop-member.invariant.counted
-    (c.in_ok-total.ensures.exact ∙ ap (λ (o : Object). days_of_slo rows (slo_in o.body)) c.object.ensures.all)
+    passes_already a.members.now rows c.loop-member.member-index c.loop-member.total
+    c.in_ok-total.field-0 c.member-item.result c.loop-member-test.true c.member-item.is
+    c.loop-member.invariant.counted
+    (c.in_ok-total.ensures.exact
+    ∙ ap (λ (o : Object). days_of_slo rows (slo_in o.body)) c.object.ensures.all)
     (omega (arith, c.if-from-total.true, c.from.ensures))

@@ -10,4 +10,5 @@ pub record SoFar (P Q : Type 0) : Type 0 where
   pub within : Q
 
 abbrev pub invariant-loop-member : goal.invariant-loop-member
-invariant-loop-member l = SoFar (l.total ≡ objective_days (take l.member-index l.members) (current_rows (l.book.rows ++ l.more))) (l.total ≤ MAX_DAYS)
+invariant-loop-member l = SoFar (l.total ≡ objective_days (take l.member-index l.members)
+    (current_rows (l.book.rows ++ l.more))) (l.total ≤ MAX_DAYS)

@@ -5,4 +5,5 @@ use Rattle.objective_days.proofs.limit.has_few_objectives.Given as goal
 
 -- what is left and what was taken are what there was
 abbrev pub invariant-loop-member : goal.invariant-loop-member
-invariant-loop-member l = l.left + sum_by objectives_of (take l.member-index l.members) ≡ MAX_DAYS / l.days
+invariant-loop-member l =
+    l.left + sum_by objectives_of (take l.member-index l.members) ≡ MAX_DAYS / l.days

@@ -11,6 +11,9 @@ returns-then-has_few_objectives c =
     let first = c.of-days.result.first in
     let count = c.of-days.result.count in
     never_passes a.catalog.now a.book.now.rows a.more.now first count c.rows_are_current.ensures
-    (on_days a.origin a.until first count a.book.now.rows c.of-days.ensures.first c.of-days.ensures.count c.requires.book)
-    (on_days a.origin a.until first count a.more.now c.of-days.ensures.first c.of-days.ensures.count c.requires.more)
-    (subst (λ (members : List Object). sum_by objectives_of members * count ≤ MAX_DAYS) c.members.ensures.all (c.if-has_few_objectives.ensures refl))
+    (on_days a.origin a.until first count a.book.now.rows c.of-days.ensures.first
+    c.of-days.ensures.count c.requires.book)
+    (on_days a.origin a.until first count a.more.now c.of-days.ensures.first c.of-days.ensures.count
+    c.requires.more)
+    (subst (λ (members : List Object). sum_by objectives_of members * count ≤ MAX_DAYS)
+    c.members.ensures.all (c.if-has_few_objectives.ensures refl))

@@ -7,5 +7,7 @@ abbrev pub invariant-loop-objective : goal.invariant-loop-objective
 invariant-loop-objective l =
     record {
       counted : l.number ≡ l._objective-index;
-      told : l.bindings.items ++ bound_from l.slo l.policies l.number (drop l._objective-index l.objectives) ≡ l.fn.bindings.items ++ bound_from l.slo l.policies 0 l.objectives;
+      told : l.bindings.items ++ bound_from
+          l.slo l.policies l.number (drop l._objective-index l.objectives) ≡ l.fn.bindings.items
+          ++ bound_from l.slo l.policies 0 l.objectives;
     }

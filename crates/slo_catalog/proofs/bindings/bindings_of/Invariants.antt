@@ -5,4 +5,6 @@ use Rattle.slo_catalog.proofs.bindings.bindings_of.Given as goal
 
 -- the bindings so far and those of the objects that are left are those of all
 abbrev pub invariant-loop-member : goal.invariant-loop-member
-invariant-loop-member l = l.bindings.items ++ flat_map (λ o. bindings_in l.members o.name (slo_in o.body)) (drop l.member-index l.members) ≡ bindings l.members
+invariant-loop-member l = l.bindings.items
+    ++ flat_map (λ o. bindings_in l.members o.name (slo_in o.body)) (drop l.member-index l.members)
+    ≡ bindings l.members

@@ -4,4 +4,5 @@ use Rattle.slo_catalog.proofs.bindings.policies_with_condition.Given as goal
 
 -- the policies that were kept so far and those that will be of the rest are those of all
 abbrev pub invariant-loop-name : goal.invariant-loop-name
-invariant-loop-name l = l.kept.items ++ filter (has_condition l.members) (drop l.name-index l.names) ≡ filter (has_condition l.members) l.names
+invariant-loop-name l = l.kept.items ++ filter (has_condition l.members) (drop l.name-index l.names)
+    ≡ filter (has_condition l.members) l.names

@@ -4,4 +4,5 @@ use Rattle.slo_catalog.specs.References.{first_given}
 use Rattle.slo_catalog.proofs.needs_op.first_in.Given as goal
 
 abbrev pub invariant-loop-member : goal.invariant-loop-member
-invariant-loop-member l = first_given (needing_op l.members) (drop l.member-index l.objects) ≡ first_given (needing_op l.members) l.objects
+invariant-loop-member l = first_given (needing_op l.members) (drop l.member-index l.objects)
+    ≡ first_given (needing_op l.members) l.objects

@@ -7,5 +7,6 @@ abbrev pub invariant-loop-objective : goal.invariant-loop-objective
 invariant-loop-objective l =
     record {
       counted : l.number ≡ l.objective-index;
-      rest : position_from lacks_op l.number (drop l.objective-index l.objectives) ≡ position_from lacks_op 0 l.objectives;
+      rest : position_from lacks_op l.number (drop l.objective-index l.objectives)
+          ≡ position_from lacks_op 0 l.objectives;
     }

@@ -3,4 +3,5 @@ use Rattle.slo_catalog.specs.References.{first_unresolved}
 use Rattle.slo_catalog.proofs.reference.first_unresolved.Given as goal
 
 abbrev pub invariant-loop-member : goal.invariant-loop-member
-invariant-loop-member l = first_unresolved l.members (drop l.member-index l.objects) ≡ first_unresolved l.members l.objects
+invariant-loop-member l = first_unresolved l.members (drop l.member-index l.objects)
+    ≡ first_unresolved l.members l.objects

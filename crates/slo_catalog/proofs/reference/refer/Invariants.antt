@@ -4,4 +4,5 @@ use Rattle.slo_catalog.proofs.reference.refer.Given as goal
 
 -- the references so far and those to the names that are left are those to all
 abbrev pub invariant-loop-name : goal.invariant-loop-name
-invariant-loop-name l = l.references.items ++ referring l.object l.kind (drop l.name-index l.names) ≡ l.fn.references.items ++ referring l.object l.kind l.names
+invariant-loop-name l = l.references.items ++ referring l.object l.kind (drop l.name-index l.names)
+    ≡ l.fn.references.items ++ referring l.object l.kind l.names

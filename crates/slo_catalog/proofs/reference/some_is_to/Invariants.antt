@@ -4,4 +4,5 @@ use Rattle.slo_catalog.specs.References.{is_to}
 use Rattle.slo_catalog.proofs.reference.some_is_to.Given as goal
 
 abbrev pub invariant-loop-reference : goal.invariant-loop-reference
-invariant-loop-reference l = list_any (is_to l.kind l.name) (drop l.reference-index l.references) ≡ list_any (is_to l.kind l.name) l.references
+invariant-loop-reference l = list_any (is_to l.kind l.name) (drop l.reference-index l.references)
+    ≡ list_any (is_to l.kind l.name) l.references

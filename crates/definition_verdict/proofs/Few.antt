@@ -1,0 +1,35 @@
+-- A text's lines, documents and objects are so few that 32 bits count them.
+use Rattle.std.proofs.Common.{ℕ, ◌<◌, ◌^◌, List, length, arith}
+use Rattle.std.proofs.lemmas.List.{length-map}
+use Rattle.yaml_subset.specs.NodeView.{node_view, nodes_view}
+use Rattle.yaml_subset.specs.ReadView.{NamesFault}
+use Rattle.yaml_subset.specs.Text.{StandsFor}
+use Rattle.yaml_subset.specs.declared.node.Node.{Node}
+use Rattle.yaml_subset.specs.declared.which.Which.{Which}
+use Rattle.yaml_subset.specs.declared.YamlFault.TheVariants as faults
+use Rattle.definition_verdict.specs.declared.definition.Definition.{Definition}
+use Rattle.definition_verdict.specs.Verdict.{IsDefinition, Known}
+use Rattle.definition_verdict.proofs.ObjectCounts.{few_objects}
+use Rattle.definition_verdict.proofs.SizeLemmas.{few_documents, few_lines}
+
+pub line_is_short : (text : List ℕ) (line : ℕ) (which : Which)
+    → NamesFault text (faults.Form line which) → line < 2 ^ 32
+line_is_short text line which f = omega (arith, f.0, few_lines text line which f.2)
+
+pub documents_are_few : (text : List ℕ) (nodes : List Node) → StandsFor text (nodes_view nodes)
+    → length nodes < 2 ^ 32
+documents_are_few text nodes s = omega (
+  arith,
+  s.small,
+  few_documents text (nodes_view nodes) s,
+  length-map nodes node_view,
+)
+
+pub objects_are_few : (known : Known) (text : List ℕ) (made : Definition)
+    → IsDefinition known text made → made.objects < 2 ^ 32
+objects_are_few known text made m = omega (
+  arith,
+  m.of_objects,
+  m.stands.small,
+  few_objects text m.nodes m.all m.stands m.read,
+)

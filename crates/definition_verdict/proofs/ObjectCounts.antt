@@ -1,0 +1,867 @@
+-- A text has few objects: each document has one of its own, and each that stands inline is a map
+-- with a key.
+use Rattle.std.proofs.Common.{◌≡◌, ℕ, ◌+◌, ◌≤◌, Bool, true, false, cond, List, [], ◌∷◌, ◌++◌}
+use Rattle.std.proofs.Common.{Option, Some, None, Result, Ok, Err, length, refl, sym, ◌∙◌, subst}
+use Rattle.std.proofs.Common.{arith, length-append, true≢false}
+use Rattle.std.specs.Prelude.{◌&&◌, ◌||◌, not, codes, is_none}
+use Rattle.std.specs.Str.{bytes_eq}
+use Rattle.std.proofs.lemmas.Slice.Eq.{bytes_eq-Decides}
+use Rattle.yaml_subset.specs.Tree.{Tree, mapping, sequence, scalar, Entries, no_entries, entry}
+use Rattle.yaml_subset.specs.Tree.{Trees, no_trees, item}
+use Rattle.yaml_subset.specs.Text.{StandsFor}
+use Rattle.slo_objects.specs.declared.Kind.{Kind}
+use Rattle.slo_objects.specs.declared.Kind.TheVariants as kinds
+use Rattle.slo_objects.specs.declared.Body.{Body}
+use Rattle.slo_objects.specs.declared.Body.TheVariants as bodies
+use Rattle.slo_objects.specs.declared.Object.{Object}
+use Rattle.slo_objects.specs.declared.MetricSource.{MetricSource}
+use Rattle.slo_objects.specs.declared.Metric.TheVariants as metrics
+use Rattle.slo_objects.specs.declared.Events.TheVariants.{Good, Bad}
+use Rattle.slo_objects.specs.declared.ObjectFault.{ObjectFault}
+use Rattle.slo_objects.specs.declared.Rule.{Rule}
+use Rattle.slo_objects.specs.declared.Rule.TheVariants as rules
+use Rattle.slo_objects.specs.declared.slo.BudgetingMethod.{BudgetingMethod}
+use Rattle.slo_objects.specs.Form.{Key, Answer, gives, refused, after, and_then, mapped, on_some}
+use Rattle.slo_objects.specs.Form.{told, closed, shown, is_among, is_null, field_of, scalar_in}
+use Rattle.slo_objects.specs.Form.{mapping_in, list_in, only_in, Form, Rows, done, row, run}
+use Rattle.slo_objects.specs.Form.{scalar_read, map_read, map_with, variant, single, free, free_map}
+use Rattle.slo_objects.specs.Form.{optional, required, required_where, required_unless}
+use Rattle.slo_objects.specs.Form.{barred_field, optional_alone, has_one_of, one_of, either_field}
+use Rattle.slo_objects.specs.Form.{holding, field_or, single_read, list_read, count, with_item}
+use Rattle.slo_objects.specs.Form.{each, free_map_read}
+use Rattle.slo_objects.specs.Scalars.{text, description, zone_name, version, kind, only_kind, op}
+use Rattle.slo_objects.specs.Scalars.{boolean, text_value, description_value, name_value}
+use Rattle.slo_objects.specs.Scalars.{zone_value, version_value, kind_value, only_kind_value}
+use Rattle.slo_objects.specs.Scalars.{op_value, boolean_value, number, number_value, percent}
+use Rattle.slo_objects.specs.Scalars.{percent_value, one, name, greatest}
+use Rattle.slo_objects.specs.Durations.{duration, duration_value, month, leap_year}
+use Rattle.slo_objects.specs.Moments.{moment, moment_value}
+use Rattle.slo_objects.specs.Metadata.{metadata}
+use Rattle.slo_objects.specs.Service.{service}
+use Rattle.slo_objects.specs.DataSource.{data_source}
+use Rattle.slo_objects.specs.Sli.{raw_type, is_good, is_threshold, metric_written, events_written}
+use Rattle.slo_objects.specs.Sli.{metric_source, source_map, source, raw_type_value, raw_ratio}
+use Rattle.slo_objects.specs.Sli.{counted_ratio, rest_of_ratio, ratio_metric, sli, sli_body}
+use Rattle.slo_objects.specs.AlertCondition.{condition_kind, condition_kind_value, condition}
+use Rattle.slo_objects.specs.AlertCondition.{alert_condition, condition_body, ten_thousand}
+use Rattle.slo_objects.specs.AlertNotificationTarget.{alert_notification_target, target_body}
+use Rattle.slo_objects.specs.AlertPolicy.{conditions, targets, condition_item, target_item}
+use Rattle.slo_objects.specs.AlertPolicy.{at_most_one, any_number_of, alert_policy, policy_body}
+use Rattle.slo_objects.specs.Inline.{inline_object, taken_out, inline_read, reference, item_read}
+use Rattle.slo_objects.specs.Inline.{reference_item}
+use Rattle.slo_objects.specs.Slo.{calendar, is_rolling, is_calendar_unit, time_window, method}
+use Rattle.slo_objects.specs.Slo.{target, is_target, slice_width, method_value, has_slice_target}
+use Rattle.slo_objects.specs.Slo.{has_slices, width_value, objective, one_to_five, objective_item}
+use Rattle.slo_objects.specs.Slo.{objectives, inline_indicator, unrepeated, policy_map, policy_form}
+use Rattle.slo_objects.specs.Slo.{policy_item, at_most_ten, policies, slo}
+use Rattle.slo_objects.specs.Document.{body, document, with_own, objects_of}
+use Rattle.definition_verdict.specs.Documents.{objects_from, objects_in, objects_next}
+use Rattle.definition_verdict.proofs.SizeLemmas.{keys, entry_keys, item_keys, size, few_keys}
+
+-- ANSWERS
+
+-- at most so many objects stood inline
+abbrev IsFew : {A : Type 0} → ℕ → Answer A → Type 0
+IsFew n (Ok p) = length p.0 ≤ n
+IsFew n (Err e) = Unit {0}
+
+weaker : {A : Type 0} (m n : ℕ) (a : Answer A) → m ≤ n → IsFew m a → IsFew n a
+weaker m n (Ok p) le h = omega (arith, le, h)
+weaker m n (Err e) le h = tt
+
+few_given : {A : Type 0} (n : ℕ) (a : A) → IsFew n (gives a)
+few_given n a = omega arith
+
+few_mapped : {A B : Type 0} (f : A → B) (n : ℕ) (a : Answer A) → IsFew n a → IsFew n (mapped f a)
+few_mapped f n (Ok p) h = h
+few_mapped f n (Err e) h = tt
+
+few_on_some : {A B : Type 0} (n : ℕ) (none : Answer B) (some : A → Answer B) (o : Option A)
+    → IsFew n none → ((a : A) → o ≡ Some a → IsFew n (some a)) → IsFew n (on_some none some o)
+few_on_some n none some None h go = h
+few_on_some n none some (Some a) h go = go a refl
+
+few_told : {A : Type 0} (n : ℕ) (key : Key) (r : Result A Rule) → IsFew n (told key r)
+few_told n key (Ok a) = omega arith
+few_told n key (Err rule) = tt
+
+few_cond : {A : Type 0} (n : ℕ) (b : Bool) (x y : Answer A) → IsFew n x → IsFew n y
+    → IsFew n (cond b x y)
+few_cond n true x y h k = h
+few_cond n false x y h k = k
+
+few_after : {A : Type 0} (m n : ℕ) (os : List Object) (a : Answer A) → length os ≤ m → IsFew n a
+    → IsFew (m + n) (after os a)
+few_after m n os (Ok p) h k = omega (arith, h, k, length-append os p.0)
+few_after m n os (Err e) h k = tt
+
+few_then : {A B : Type 0} (m n : ℕ) (a : Answer A) (f : A → Answer B) → IsFew m a
+    → ((x : A) → IsFew n (f x)) → IsFew (m + n) (and_then a f)
+few_then m n (Ok p) f h go = few_after m n p.0 (f p.1) h (go p.1)
+few_then m n (Err e) f h go = tt
+
+few_closed : (known : List Key) (es : Entries) → IsFew 0 (closed known es)
+few_closed known no_entries = omega arith
+few_closed known (entry k t es) = few_cond 0 (is_among known k || is_null t) (closed known es)
+    (refused (shown k) rules.UnknownField) (few_closed known es) tt
+
+-- TABLES
+
+-- what a table's lines take of so many objects
+abbrev Costs : {A : Type 0} → Rows A → Entries → ℕ → Type 0
+Costs (done a) es n = Unit {0}
+Costs (row {B = B} r part rest) es n = (k : ℕ) × (m : ℕ) × (k + m ≤ n) × IsFew k (r.read es)
+    × ((b : B) → Costs (rest b) es m)
+
+few_run : {A : Type 0} (rows : Rows A) (es : Entries) (n : ℕ) → Costs rows es n → (known : List Key)
+    → IsFew n (run rows known es)
+few_run (done a) es n h known = weaker (0 + 0) n (run (done a) known es) (omega arith)
+    (few_then 0 0 (closed known es) (λ _. gives a) (few_closed known es) (λ _. few_given 0 a))
+few_run (row r part rest) es n h known =
+    weaker (h.0 + h.1) n (run (row r part rest) known es) h.2
+    (few_then h.0 h.1 (r.read es) (λ b. run (rest b) (known ++ r.keys) es) h.3
+    (λ b. few_run (rest b) es h.1 (h.4 b) (known ++ r.keys)))
+
+-- a table none of whose lines holds an object
+abbrev AreBare : {A : Type 0} → Rows A → Entries → Type 0
+AreBare (done a) es = Unit {0}
+AreBare (row {B = B} r part rest) es = IsFew 0 (r.read es) × ((b : B) → AreBare (rest b) es)
+
+bare_costs : {A : Type 0} (rows : Rows A) (es : Entries) → AreBare rows es → Costs rows es 0
+bare_costs (done a) es h = tt
+bare_costs (row r part rest) es h = (0, 0, omega arith, h.0, λ b. bare_costs (rest b) es (h.1 b))
+
+-- FORMS
+
+-- a form that holds no object, and one that holds at most as many as it has keys
+abbrev IsBare : {A : Type 0} → Form A → Type 0
+IsBare f = (key : Key) (t : Tree) → IsFew 0 (f.read key t)
+
+abbrev IsThrifty : {A : Type 0} → Form A → Type 0
+IsThrifty f = (key : Key) (t : Tree) → IsFew (keys t) (f.read key t)
+
+bare_thrifty : {A : Type 0} (f : Form A) → IsBare f → IsThrifty f
+bare_thrifty f h key t = weaker 0 (keys t) (f.read key t) (omega arith) (h key t)
+
+bare_scalar : {A : Type 0} (rule : Rule) (parse : List ℕ → Result A Rule) (key : Key) (t : Tree)
+    → IsFew 0 (scalar_read rule parse key t)
+bare_scalar rule parse key t = few_on_some 0 (refused key rule) (λ bytes. told key (parse bytes))
+    (scalar_in t) tt (λ bytes e. few_told 0 key (parse bytes))
+
+bare_map : {A : Type 0} (rows : Rows A) → ((es : Entries) → AreBare rows es)
+    → IsBare (map_with rows)
+bare_map rows h key t = few_on_some 0 (refused key rules.NotMap) (λ es. run rows [] es)
+    (mapping_in t) tt (λ es e. few_run rows es 0 (bare_costs rows es (h es)) [])
+
+thrifty_map : {A : Type 0} (inside : Entries → Answer A)
+    → ((es : Entries) → IsFew (entry_keys es) (inside es)) → (key : Key) (t : Tree)
+    → IsFew (keys t) (map_read inside key t)
+thrifty_map inside h key (mapping es) = h es
+thrifty_map inside h key (sequence ts) = tt
+thrifty_map inside h key (scalar bytes plain) = tt
+
+thrifty_rows : {A : Type 0} (rows : Rows A) → ((es : Entries) → Costs rows es (entry_keys es))
+    → IsThrifty (map_with rows)
+thrifty_rows rows h key t =
+    thrifty_map (λ es. run rows [] es) (λ es. few_run rows es (entry_keys es) (h es) []) key t
+
+bare_free_map : (key : Key) (t : Tree) → IsFew 0 (free_map_read key t)
+bare_free_map key t = few_on_some 0 (refused key rules.NotMap) (λ _. gives t) (mapping_in t) tt
+    (λ es e. few_given 0 t)
+
+bare_single : {A : Type 0} (f : Form A) → IsBare f → (key : Key) (t : Tree)
+    → IsFew 0 (single_read f.read key t)
+bare_single f h key t = few_on_some 0 (refused key rules.NotList)
+    (λ ts. on_some (refused key rules.ListLength) (f.read key) (only_in ts)) (list_in t) tt
+    (λ ts e. few_on_some 0 (refused key rules.ListLength) (f.read key) (only_in ts) tt
+    (λ u g. h key u))
+
+-- lists, whose items hold no objects, or at most as many as they have keys
+bare_each : {A : Type 0} (read : List A → Tree → Answer A)
+    → ((before : List A) (t : Tree) → IsFew 0 (read before t))
+    → (os : List Object) (values : List A) (ts : Trees) → length os ≤ 0
+    → IsFew 0 (each read os values ts)
+bare_each read h os values no_trees few = few
+bare_each {A} read h os values (item t ts) few =
+    by (read values t) (h values t) (λ more next le. bare_each read h more next ts le)
+  where
+    by : (a : Answer A) → IsFew 0 a → ((more : List Object) (next : List A)
+        → length more ≤ 0 → IsFew 0 (each read more next ts))
+        → IsFew 0 (with_item os values a (λ more next. each read more next ts))
+    by (Ok p) few_here go =
+        go (os ++ p.0) (values ++ p.1 ∷ []) (omega (arith, few, few_here, length-append os p.0))
+    by (Err e) few_here go = tt
+
+thrifty_each : {A : Type 0} (read : List A → Tree → Answer A)
+    → ((before : List A) (t : Tree) → IsFew (keys t) (read before t))
+    → (os : List Object) (values : List A) (ts : Trees) (n : ℕ) → length os + item_keys ts ≤ n
+    → IsFew n (each read os values ts)
+thrifty_each read h os values no_trees n le = omega (arith, le)
+thrifty_each {A} read h os values (item t ts) n le =
+    by (read values t) (h values t) (λ more next few. thrifty_each read h more next ts n few)
+  where
+    by : (a : Answer A) → IsFew (keys t) a → ((more : List Object) (next : List A)
+        → length more + item_keys ts ≤ n → IsFew n (each read more next ts))
+        → IsFew n (with_item os values a (λ more next. each read more next ts))
+    by (Ok p) few_here go =
+        go (os ++ p.0) (values ++ p.1 ∷ []) (omega (arith, le, few_here, length-append os p.0))
+    by (Err e) few_here go = tt
+
+bare_list : {A : Type 0} (may_have : ℕ → Bool) (read : Key → List A → Tree → Answer A)
+    → ((key : Key) (before : List A) (t : Tree) → IsFew 0 (read key before t))
+    → (key : Key) (t : Tree) → IsFew 0 (list_read may_have read key t)
+bare_list may_have read h key t = few_on_some 0 (refused key rules.NotList) (λ ts. cond
+    (may_have (count ts)) (each (read key) [] [] ts) (refused key rules.ListLength)) (list_in t) tt
+    (λ ts e. few_cond 0 (may_have (count ts)) (each (read key) [] [] ts)
+    (refused key rules.ListLength) (bare_each (read key) (h key) [] [] ts (omega arith)) tt)
+
+thrifty_list : {A : Type 0} (may_have : ℕ → Bool) (read : Key → List A → Tree → Answer A)
+    → ((key : Key) (before : List A) (t : Tree) → IsFew (keys t) (read key before t))
+    → (key : Key) (t : Tree) → IsFew (keys t) (list_read may_have read key t)
+thrifty_list may_have read h key (sequence ts) =
+    few_cond (item_keys ts) (may_have (count ts))
+    (each (read key) [] [] ts) (refused key rules.ListLength)
+    (thrifty_each (read key) (h key) [] [] ts (item_keys ts) (omega arith)) tt
+thrifty_list may_have read h key (mapping es) = tt
+thrifty_list may_have read h key (scalar bytes plain) = tt
+
+-- LINES
+
+few_field_or : {A : Type 0} (n : ℕ) (omitted : Answer (Option A)) (f : Form A) (key : Key)
+    (o : Option Tree) → IsFew n omitted → ((t : Tree) → o ≡ Some t → IsFew n (f.read key t))
+    → IsFew n (field_or omitted f key o)
+few_field_or n omitted f key o h go = few_on_some n omitted (λ t. mapped Some (f.read key t)) o h
+    (λ t e. few_mapped Some n (f.read key t) (go t e))
+
+few_optional : {A : Type 0} (n : ℕ) (key : Key) (f : Form A) (es : Entries)
+    → ((t : Tree) → field_of key es ≡ Some t → IsFew n (f.read key t))
+    → IsFew n ((optional key f).read es)
+few_optional {A} n key f es go =
+    few_field_or n (gives None) f key (field_of key es) (few_given {A = Option A} n None) go
+
+few_required : {A : Type 0} (n : ℕ) (key : Key) (f : Form A) (es : Entries)
+    → ((t : Tree) → field_of key es ≡ Some t → IsFew n (f.read key t))
+    → IsFew n ((required key f).read es)
+few_required n key f es go =
+    few_on_some n (refused key rules.Missing) (f.read key) (field_of key es) tt go
+
+few_either : {A : Type 0} (n : ℕ) (f : Form A) (key : Key) (g : Form A) (other : Key)
+    (o p : Option Tree)
+    → ((t : Tree) → o ≡ Some t → IsFew n (f.read key t))
+    → ((t : Tree) → p ≡ Some t → IsFew n (g.read other t))
+    → IsFew n (either_field f key g other o p)
+few_either n f key g other None None h k = tt
+few_either n f key g other (Some t) None h k = h t refl
+few_either n f key g other None (Some t) h k = k t refl
+few_either n f key g other (Some t) (Some u) h k = tt
+
+bare_optional : {A : Type 0} (key : Key) (f : Form A) (es : Entries) → IsBare f
+    → IsFew 0 ((optional key f).read es)
+bare_optional key f es h = few_optional 0 key f es (λ t e. h key t)
+
+bare_required : {A : Type 0} (key : Key) (f : Form A) (es : Entries) → IsBare f
+    → IsFew 0 ((required key f).read es)
+bare_required key f es h = few_required 0 key f es (λ t e. h key t)
+
+bare_where : {A : Type 0} (needed : Bool) (key : Key) (f : Form A) (es : Entries) → IsBare f
+    → IsFew 0 ((required_where needed key f).read es)
+bare_where {A} needed key f es h =
+    few_field_or 0 (cond needed (refused key rules.Missing) (gives None)) f key (field_of key es)
+    (few_cond {A = Option A} 0 needed (refused key rules.Missing) (gives None) tt
+    (few_given {A = Option A} 0 None)) (λ t e. h key t)
+
+bare_unless : {A : Type 0} (barred : Bool) (key : Key) (f : Form A) (es : Entries) → IsBare f
+    → IsFew 0 ((required_unless barred key f).read es)
+bare_unless {A} barred key f es h = few_cond 0 barred (barred_field key (field_of key es))
+    (field_or (refused key rules.Missing) f key (field_of key es))
+    (few_on_some 0 (gives {A = Option A} None) (λ _. refused key rules.Both) (field_of key es)
+    (few_given {A = Option A} 0 None) (λ t e. tt))
+    (few_field_or 0 (refused key rules.Missing) f key (field_of key es) tt (λ t e. h key t))
+
+bare_alone : {A : Type 0} (key : Key) (others : List Key) (f : Form A) (es : Entries) → IsBare f
+    → IsFew 0 ((optional_alone key others f).read es)
+bare_alone {A} key others f es h = few_on_some 0 (gives {A = Option A} None)
+    (λ t. cond (has_one_of others es) (refused key rules.Both) (mapped Some (f.read key t)))
+    (field_of key es) (few_given {A = Option A} 0 None)
+    (λ t e. few_cond 0 (has_one_of others es) (refused key rules.Both) (mapped Some (f.read key t))
+    tt (few_mapped Some 0 (f.read key t) (h key t)))
+
+bare_one_of : {A : Type 0} (key : Key) (f : Form A) (other : Key) (g : Form A) (is_first : A → Bool)
+    (es : Entries) → IsBare f → IsBare g → IsFew 0 ((one_of key f other g is_first).read es)
+bare_one_of key f other g is_first es h k = few_either 0 f key g other (field_of key es)
+    (field_of other es) (λ t e. h key t) (λ t e. k other t)
+
+bare_holding : (holds : Bool) (key : Key) (rule : Rule) (es : Entries)
+    → IsFew 0 ((holding holds key rule).read es)
+bare_holding holds key rule es =
+    few_cond {A = Unit {0}} 0 holds (gives tt) (refused key rule) (few_given {A = Unit {0}} 0 tt) tt
+
+-- FIELDS OF A MAP
+
+field_one : (key : Key) (es : Entries) (t : Tree) → field_of key es ≡ Some t
+    → 1 + keys t ≤ entry_keys es
+field_one key no_entries t e = absurd (let f : ⊥ = cc e in f)
+field_one key (entry k x es) t e =
+    by (bytes_eq k key && not (is_null x)) e (λ f. field_one key es t f)
+  where
+    by : (b : Bool) → cond b (Some x) (field_of key es) ≡ Some t
+        → (field_of key es ≡ Some t → 1 + keys t ≤ entry_keys es)
+        → 1 + keys t ≤ 1 + (keys x + entry_keys es)
+    by true f go = subst (λ (u : Tree). 1 + keys u ≤ 1 + (keys x + entry_keys es))
+        (let same : x ≡ t = cc f in same) (omega arith)
+    by false f go = omega (arith, go f)
+
+-- how many keys stand in a field, if it is there
+abbrev held : Option Tree → ℕ
+held None = 0
+held (Some t) = keys t
+
+held_is : (o : Option Tree) (t : Tree) → o ≡ Some t → keys t ≤ held o
+held_is o t e = subst (λ (p : Option Tree). keys t ≤ held p) (sym e) (omega arith)
+
+held_one : (key : Key) (es : Entries) → held (field_of key es) ≤ entry_keys es
+held_one key es = by (field_of key es) refl
+  where
+    by : (o : Option Tree) → field_of key es ≡ o → held o ≤ entry_keys es
+    by None e = omega arith
+    by (Some t) e = omega (arith, field_one key es t e)
+
+-- no key is two
+abbrev AreApart : Key → Key → Type 0
+AreApart a b = (k : Key) → bytes_eq k a ≡ true → bytes_eq k b ≡ true → ⊥
+
+held_both : (a b : Key) → AreApart a b → (es : Entries)
+    → held (field_of a es) + held (field_of b es) ≤ entry_keys es
+held_both a b apart no_entries = omega arith
+held_both a b apart (entry k x es) =
+    by (bytes_eq k a) (bytes_eq k b) (not (is_null x)) refl refl (held_both a b apart es)
+  where
+    by : (p q r : Bool) → bytes_eq k a ≡ p → bytes_eq k b ≡ q
+        → held (field_of a es) + held (field_of b es) ≤ entry_keys es
+        → held (cond (p && r) (Some x) (field_of a es))
+        + held (cond (q && r) (Some x) (field_of b es)) ≤ 1 + (keys x + entry_keys es)
+    by true true r e f rest = absurd (apart k e f)
+    by true false true e f rest = omega (arith, held_one b es)
+    by true false false e f rest = omega (arith, rest)
+    by false true true e f rest = omega (arith, held_one a es)
+    by false true false e f rest = omega (arith, rest)
+    by false false r e f rest = omega (arith, rest)
+
+apart_of : (a b : Key) → bytes_eq a b ≡ false → AreApart a b
+apart_of a b differ k e f =
+    let same : a ≡ b = sym ((bytes_eq-Decides k a).0 e) ∙ (bytes_eq-Decides k b).0 f in
+    true≢false (sym ((bytes_eq-Decides a b).1 same) ∙ differ)
+
+-- TABLES WITHOUT OBJECTS
+
+metadata_bare : (es : Entries) → AreBare metadata es
+unfolding metadata
+metadata_bare es = (
+  bare_required (codes "name") name es (bare_scalar rules.BadName name_value),
+  λ _. (
+    bare_optional (codes "displayName") text es (bare_scalar rules.NotText text_value),
+    λ _. (
+      bare_optional (codes "labels") free_map es bare_free_map,
+      λ _. (bare_optional (codes "annotations") free_map es bare_free_map, λ _. tt),
+    ),
+  ),
+)
+
+service_bare : (es : Entries) → AreBare service es
+unfolding service
+service_bare es = (
+  bare_optional (codes "description") description es
+      (bare_scalar rules.NotText description_value),
+  λ _. tt,
+)
+
+data_source_bare : (es : Entries) → AreBare data_source es
+unfolding data_source
+data_source_bare es = (
+  bare_optional (codes "description") description es (bare_scalar rules.NotText description_value),
+  λ _. (
+    bare_required (codes "type") text es (bare_scalar rules.NotText text_value),
+    λ _. (bare_optional (codes "connectionDetails") free es (λ key t. few_given 0 t), λ _. tt),
+  ),
+)
+
+metric_source_bare : (es : Entries) → AreBare metric_source es
+unfolding metric_source
+metric_source_bare es = (
+  bare_optional (codes "metricSourceRef") name es (bare_scalar rules.BadName name_value),
+  λ _. (
+    bare_optional (codes "type") text es (bare_scalar rules.NotText text_value),
+    λ _. (bare_optional (codes "spec") free es (λ key t. few_given 0 t), λ _. tt),
+  ),
+)
+
+source_map_bare : (es : Entries) → AreBare source_map es
+unfolding source_map
+source_map_bare es = (
+  bare_required (codes "metricSource") (map_with metric_source) es
+      (bare_map metric_source metric_source_bare),
+  λ _. tt,
+)
+
+source_bare : IsBare source
+source_bare = bare_map source_map source_map_bare
+
+bare_variant : {A B : Type 0} (f : Form A) (made : A → B) → IsBare f → (key : Key) (t : Tree)
+    → IsFew 0 (mapped made (f.read key t))
+bare_variant f made h key t = few_mapped made 0 (f.read key t) (h key t)
+
+raw_bare : (counter : Option Bool) (raw : MetricSource) (es : Entries)
+    → AreBare (raw_ratio counter raw) es
+unfolding raw_ratio
+raw_bare counter raw es = (
+  bare_required (codes "rawType") raw_type es (bare_scalar rules.BadWord raw_type_value),
+  λ _. tt,
+)
+
+counted_bare : (counter : Option Bool) (es : Entries) → AreBare (counted_ratio counter) es
+unfolding counted_ratio
+counted_bare counter es = (
+  bare_required (codes "total") source es source_bare,
+  λ _. (
+    bare_one_of (codes "good") (variant source Good events_written) (codes "bad")
+        (variant source Bad events_written) is_good es
+        (bare_variant source Good source_bare) (bare_variant source Bad source_bare),
+    λ _. tt,
+  ),
+)
+
+rest_bare : (counter : Option Bool) (raw : Option MetricSource) (es : Entries)
+    → AreBare (rest_of_ratio counter raw) es
+rest_bare counter (Some raw) es = raw_bare counter raw es
+rest_bare counter None es = counted_bare counter es
+
+ratio_bare : (es : Entries) → AreBare ratio_metric es
+unfolding ratio_metric
+ratio_bare es = (
+  bare_optional (codes "counter") boolean es (bare_scalar rules.NotBool boolean_value),
+  λ counter. (
+    bare_alone (codes "raw") (codes "total" ∷ codes "good" ∷ codes "bad" ∷ []) source es
+        source_bare,
+    λ raw. rest_bare counter raw es,
+  ),
+)
+
+sli_bare : (es : Entries) → AreBare sli es
+unfolding sli
+sli_bare es = (
+  bare_optional (codes "description") description es (bare_scalar rules.NotText description_value),
+  λ _. (
+    bare_one_of (codes "thresholdMetric") (variant source metrics.Threshold metric_written)
+        (codes "ratioMetric") (variant (map_with ratio_metric) metrics.Ratio metric_written)
+        is_threshold es
+        (bare_variant source metrics.Threshold source_bare) (bare_variant (map_with ratio_metric)
+        metrics.Ratio (bare_map ratio_metric ratio_bare)),
+    λ _. tt,
+  ),
+)
+
+condition_bare : (es : Entries) → AreBare condition es
+unfolding condition
+condition_bare es = (
+  bare_optional (codes "kind") condition_kind es (bare_scalar rules.BadWord condition_kind_value),
+  λ _. (
+    bare_optional (codes "op") op es (bare_scalar rules.BadWord op_value),
+    λ _. (
+      bare_required (codes "threshold") (number 0 ten_thousand) es
+          (bare_scalar rules.NotNumber (number_value 0 ten_thousand)),
+      λ _. (
+        bare_required (codes "lookbackWindow") (duration 1 month) es
+            (bare_scalar rules.NotDuration (duration_value 1 month)),
+        λ _. (
+          bare_optional (codes "alertAfter") (duration 0 month) es
+              (bare_scalar rules.NotDuration (duration_value 0 month)),
+          λ _. tt,
+        ),
+      ),
+    ),
+  ),
+)
+
+alert_condition_bare : (es : Entries) → AreBare alert_condition es
+unfolding alert_condition
+alert_condition_bare es = (
+  bare_optional (codes "description") description es (bare_scalar rules.NotText description_value),
+  λ _. (
+    bare_required (codes "severity") text es (bare_scalar rules.NotText text_value),
+    λ _. (
+      bare_required (codes "condition") (map_with condition) es
+          (bare_map condition condition_bare),
+      λ _. tt,
+    ),
+  ),
+)
+
+target_bare : (es : Entries) → AreBare alert_notification_target es
+unfolding alert_notification_target
+target_bare es = (
+  bare_optional (codes "description") description es (bare_scalar rules.NotText description_value),
+  λ _. (bare_required (codes "target") text es (bare_scalar rules.NotText text_value), λ _. tt),
+)
+
+calendar_bare : (es : Entries) → AreBare calendar es
+unfolding calendar
+calendar_bare es = (
+  bare_required (codes "startTime") moment es (bare_scalar rules.NotMoment moment_value),
+  λ _. (
+    bare_required (codes "timeZone") zone_name es (bare_scalar rules.BadName zone_value),
+    λ _. tt,
+  ),
+)
+
+window_bare : (es : Entries) → AreBare time_window es
+unfolding time_window
+window_bare es = (
+  bare_required (codes "duration") (duration 1 leap_year) es
+      (bare_scalar rules.NotDuration (duration_value 1 leap_year)),
+  λ d. (
+    bare_optional (codes "isRolling") boolean es (bare_scalar rules.NotBool boolean_value),
+    λ r. (
+      bare_holding (is_rolling r || is_calendar_unit d.unit) (codes "duration")
+          rules.OutOfRange es,
+      λ _. (
+        bare_unless (is_rolling r) (codes "calendar") (map_with calendar) es
+            (bare_map calendar calendar_bare),
+        λ _. tt,
+      ),
+    ),
+  ),
+)
+
+objective_bare : (method : BudgetingMethod) (es : Entries) → AreBare (objective method) es
+unfolding objective
+objective_bare method es = (
+  bare_optional (codes "displayName") text es (bare_scalar rules.NotText text_value),
+  λ _. (
+    bare_optional (codes "op") op es (bare_scalar rules.BadWord op_value),
+    λ _. (
+      bare_optional (codes "value") (number 0 greatest) es
+          (bare_scalar rules.NotNumber (number_value 0 greatest)),
+      λ _. (
+        bare_one_of (codes "target") target (codes "targetPercent") percent
+            is_target es (bare_scalar rules.NotNumber (number_value 0 999_999_999))
+            (bare_scalar rules.NotNumber percent_value),
+        λ _. (
+          bare_where (has_slice_target method) (codes "timeSliceTarget") (number 1 one) es
+              (bare_scalar rules.NotNumber (number_value 1 one)),
+          λ _. (
+            bare_where (has_slices method) (codes "timeSliceWindow") slice_width es
+                (bare_scalar rules.NotDuration width_value),
+            λ _. tt,
+          ),
+        ),
+      ),
+    ),
+  ),
+)
+
+objectives_bare : (method : BudgetingMethod) → IsBare (objectives method)
+objectives_bare method = bare_list one_to_five (objective_item method)
+    (λ key before t. bare_map (objective method) (objective_bare method) key t)
+
+reference_bare : (key : Key) (es : Entries) → AreBare (reference key) es
+unfolding reference
+reference_bare key es = (bare_required key name es (bare_scalar rules.BadName name_value), λ _. tt)
+
+-- OBJECTS THAT STAND INLINE
+
+few_taken : (n : ℕ) (a : Answer Object) → IsFew n a → IsFew (n + 1) (taken_out a)
+few_taken n (Ok p) h = omega (arith, h, length-append p.0 (p.1 ∷ []))
+few_taken n (Err e) h = tt
+
+inline_costs : (kind : Kind) (f : Form Body) → IsThrifty f → (es : Entries) (n : ℕ)
+    → entry_keys es ≤ n + 1 → Costs (inline_object kind f) es n
+unfolding inline_object
+inline_costs kind f h es n le = (
+  0,
+  n,
+  omega arith,
+  bare_optional (codes "apiVersion") version es
+      (bare_scalar rules.BadVersion version_value),
+  λ _. (
+    0,
+    n,
+    omega arith,
+    bare_optional (codes "kind") (only_kind kind) es
+        (bare_scalar rules.BadKind (only_kind_value kind)),
+    λ _. (
+      0,
+      n,
+      omega arith,
+      bare_required (codes "metadata") (map_with metadata) es (bare_map metadata metadata_bare),
+      λ _. (
+        n,
+        0,
+        omega arith,
+        few_required n (codes "spec") f es (λ t e. weaker (keys t) n (f.read (codes "spec") t)
+            (omega (arith, le, field_one (codes "spec") es t e)) (h (codes "spec") t)),
+        λ _. tt,
+      ),
+    ),
+  ),
+)
+
+inline_thrifty : (kind : Kind) (f : Form Body) → IsThrifty f → (es : Entries)
+    → IsFew (entry_keys es) (inline_read kind f es)
+unfolding inline_object
+inline_thrifty kind f h no_entries = tt
+inline_thrifty kind f h (entry k t es) =
+    weaker (keys t + entry_keys es + 1) (1 + (keys t + entry_keys es))
+    (inline_read kind f (entry k t es)) (omega arith)
+    (few_taken (keys t + entry_keys es) (run (inline_object kind f) [] (entry k t es))
+    (few_run (inline_object kind f) (entry k t es) (keys t + entry_keys es)
+    (inline_costs kind f h (entry k t es) (keys t + entry_keys es) (omega arith)) []))
+
+item_thrifty : (key : Key) (kind : Kind) (f : Form Body) → IsThrifty f → (es : Entries)
+    → IsFew (entry_keys es) (item_read key kind f es)
+item_thrifty key kind f h es = few_cond (entry_keys es) (is_none (field_of key es))
+    (inline_read kind f es) (run (reference key) [] es) (inline_thrifty kind f h es)
+    (weaker 0 (entry_keys es) (run (reference key) [] es) (omega arith)
+    (few_run (reference key) es 0 (bare_costs (reference key) es (reference_bare key es)) []))
+
+thrifty_item : (key : Key) (kind : Kind) (f : Form Body)
+    → IsThrifty f → (listed : Key) (before : List Key) (t : Tree)
+    → IsFew (keys t) (reference_item key kind f listed before t)
+thrifty_item key kind f h listed before t =
+    thrifty_map (item_read key kind f) (item_thrifty key kind f h) listed t
+
+thrifty_variant : {A B : Type 0} (f : Form A) (made : A → B) → IsThrifty f → (key : Key) (t : Tree)
+    → IsFew (keys t) (mapped made (f.read key t))
+thrifty_variant f made h key t = few_mapped made (keys t) (f.read key t) (h key t)
+
+-- a body of a table that holds no objects
+thrifty_bare : {A : Type 0} (rows : Rows A) (made : A → Body) → ((es : Entries) → AreBare rows es)
+    → (key : Key) (t : Tree) → IsFew (keys t) (mapped made ((map_with rows).read key t))
+thrifty_bare rows made h =
+    thrifty_variant (map_with rows) made (bare_thrifty (map_with rows) (bare_map rows h))
+
+conditions_thrifty : IsThrifty conditions
+conditions_thrifty = thrifty_list at_most_one
+    condition_item (thrifty_item (codes "conditionRef") kinds.AlertCondition condition_body
+    (thrifty_bare alert_condition bodies.AlertCondition alert_condition_bare))
+
+targets_thrifty : IsThrifty targets
+targets_thrifty = thrifty_list any_number_of target_item
+    (thrifty_item (codes "targetRef") kinds.AlertNotificationTarget target_body
+    (thrifty_bare alert_notification_target bodies.AlertNotificationTarget target_bare))
+
+-- a field that holds at most as many objects as keys
+held_optional : {A : Type 0} (key : Key) (f : Form A) → IsThrifty f → (es : Entries)
+    → IsFew (held (field_of key es)) ((optional key f).read es)
+held_optional key f h es = few_optional (held (field_of key es)) key f es (λ t e. weaker (keys t)
+    (held (field_of key es)) (f.read key t) (held_is (field_of key es) t e) (h key t))
+
+policy_costs : (es : Entries) → Costs alert_policy es (entry_keys es)
+unfolding alert_policy
+policy_costs es =
+    let n = entry_keys es in
+    let k = held (field_of (codes "conditions") es) in
+    let m = held (field_of (codes "notificationTargets") es) in (
+      0,
+      n,
+      omega arith,
+      bare_optional (codes "description") description es
+          (bare_scalar rules.NotText description_value),
+      λ _. (
+        0,
+        n,
+        omega arith,
+        bare_optional (codes "alertWhenNoData") boolean es
+            (bare_scalar rules.NotBool boolean_value),
+        λ _. (
+          0,
+          n,
+          omega arith,
+          bare_optional (codes "alertWhenResolved") boolean es
+              (bare_scalar rules.NotBool boolean_value),
+          λ _. (
+            0,
+            n,
+            omega arith,
+            bare_optional (codes "alertWhenBreaching") boolean es
+                (bare_scalar rules.NotBool boolean_value),
+            λ _. (
+              k,
+              m,
+              held_both (codes "conditions") (codes "notificationTargets")
+                  (apart_of (codes "conditions") (codes "notificationTargets") refl) es,
+              held_optional (codes "conditions") conditions conditions_thrifty es,
+              λ _. (
+                m,
+                0,
+                omega arith,
+                held_optional (codes "notificationTargets") targets targets_thrifty es,
+                λ _. tt,
+              ),
+            ),
+          ),
+        ),
+      ),
+    )
+
+policy_thrifty : IsThrifty policy_body
+policy_thrifty = thrifty_variant (map_with alert_policy) bodies.AlertPolicy
+    (thrifty_rows alert_policy policy_costs)
+
+few_unrepeated : (n : ℕ) (listed : Key) (before : List Key) (a : Answer Key) → IsFew n a
+    → IsFew n (unrepeated listed before a)
+few_unrepeated n listed before (Ok p) h =
+    few_cond n (is_among before p.1) (refused listed rules.Repeated) (Ok p) tt h
+few_unrepeated n listed before (Err f) h = tt
+
+policy_item_thrifty : (listed : Key) (before : List Key) (t : Tree)
+    → IsFew (keys t) (policy_item listed before t)
+policy_item_thrifty listed before t = few_unrepeated (keys t) listed before (policy_form listed t)
+    (few_cond (keys t) (is_null t) (refused listed rules.BadName)
+    (on_some (policy_map listed t) (λ _. name.read listed t) (scalar_in t)) tt
+    (few_on_some (keys t) (policy_map listed t) (λ _. name.read listed t) (scalar_in t)
+    (thrifty_map (item_read (codes "alertPolicyRef") kinds.AlertPolicy policy_body) (item_thrifty
+    (codes "alertPolicyRef") kinds.AlertPolicy policy_body policy_thrifty) listed t)
+    (λ _ e. weaker 0 (keys t) (name.read listed t) (omega arith)
+    (bare_scalar rules.BadName name_value listed t))))
+
+policies_thrifty : IsThrifty policies
+policies_thrifty = thrifty_list at_most_ten policy_item policy_item_thrifty
+
+indicator_thrifty : IsThrifty inline_indicator
+indicator_thrifty key t = thrifty_map (inline_read kinds.Sli sli_body)
+    (inline_thrifty kinds.Sli sli_body (thrifty_bare sli bodies.Sli sli_bare)) key t
+
+slo_costs : (es : Entries) → Costs slo es (entry_keys es)
+unfolding slo
+slo_costs es =
+    let n = entry_keys es in
+    let k = held (field_of (codes "indicator") es) in
+    let m = held (field_of (codes "alertPolicies") es) in (
+      0,
+      n,
+      omega arith,
+      bare_optional (codes "description") description es
+          (bare_scalar rules.NotText description_value),
+      λ _. (
+        0,
+        n,
+        omega arith,
+        bare_required (codes "service") name es (bare_scalar rules.BadName name_value),
+        λ _. (
+          k,
+          m,
+          held_both (codes "indicator") (codes "alertPolicies")
+              (apart_of (codes "indicator") (codes "alertPolicies") refl) es,
+          few_either k inline_indicator (codes "indicator") name (codes "indicatorRef")
+              (field_of (codes "indicator") es) (field_of (codes "indicatorRef") es)
+              (λ t e. weaker (keys t) k (inline_indicator.read (codes "indicator") t) (held_is
+              (field_of (codes "indicator") es) t e) (indicator_thrifty (codes "indicator") t))
+              (λ t e. weaker 0 k (name.read (codes "indicatorRef") t) (omega arith)
+              (bare_scalar rules.BadName name_value (codes "indicatorRef") t)),
+          λ _. (
+            0,
+            m,
+            omega arith,
+            bare_required (codes "timeWindow") (single (map_with time_window)) es
+                (bare_single (map_with time_window) (bare_map time_window window_bare)),
+            λ _. (
+              0,
+              m,
+              omega arith,
+              bare_required (codes "budgetingMethod") method es
+                  (bare_scalar rules.BadWord method_value),
+              λ method. (
+                0,
+                m,
+                omega arith,
+                bare_required (codes "objectives") (objectives method) es (objectives_bare method),
+                λ _. (
+                  m,
+                  0,
+                  omega arith,
+                  held_optional (codes "alertPolicies") policies policies_thrifty es,
+                  λ _. tt,
+                ),
+              ),
+            ),
+          ),
+        ),
+      ),
+    )
+
+-- DOCUMENTS
+
+body_thrifty : (kind : Kind) → IsThrifty (body kind)
+unfolding body
+body_thrifty kinds.DataSource = thrifty_bare data_source bodies.DataSource data_source_bare
+body_thrifty kinds.Service = thrifty_bare service bodies.Service service_bare
+body_thrifty kinds.Sli = thrifty_bare sli bodies.Sli sli_bare
+body_thrifty kinds.Slo = thrifty_variant (map_with slo) bodies.Slo (thrifty_rows slo slo_costs)
+body_thrifty kinds.AlertPolicy = policy_thrifty
+body_thrifty kinds.AlertCondition =
+    thrifty_bare alert_condition bodies.AlertCondition alert_condition_bare
+body_thrifty kinds.AlertNotificationTarget =
+    thrifty_bare alert_notification_target bodies.AlertNotificationTarget target_bare
+
+document_costs : (es : Entries) → Costs document es (entry_keys es)
+unfolding document
+document_costs es =
+    let n = entry_keys es in (
+      0,
+      n,
+      omega arith,
+      bare_required (codes "apiVersion") version es
+          (bare_scalar rules.BadVersion version_value),
+      λ _. (
+        0,
+        n,
+        omega arith,
+        bare_required (codes "kind") kind es (bare_scalar rules.BadKind kind_value),
+        λ k. (
+          0,
+          n,
+          omega arith,
+          bare_required (codes "metadata") (map_with metadata) es (bare_map metadata metadata_bare),
+          λ _. (
+            n,
+            0,
+            omega arith,
+            few_required n (codes "spec")
+                (body k) es (λ t e. weaker (keys t) n ((body k).read (codes "spec") t)
+                (omega (arith, field_one (codes "spec") es t e)) (body_thrifty k (codes "spec") t)),
+            λ _. tt,
+          ),
+        ),
+      ),
+    )
+
+objects_few : (t : Tree) (os : List Object) → objects_of t ≡ Ok os → length os ≤ 1 + keys t
+objects_few t os e = by ((map_with document).read (codes "document") t)
+    (thrifty_rows document document_costs (codes "document") t) e
+  where
+    by : (a : Answer Object) → IsFew (keys t) a → with_own a ≡ Ok os → length os ≤ 1 + keys t
+    by (Ok p) h f = subst (λ (xs : List Object). length xs ≤ 1 + keys t)
+        (let same : p.0 ++ p.1 ∷ [] ≡ os = cc f in same)
+        (omega (arith, h, length-append p.0 (p.1 ∷ [])))
+    by (Err x) h f = absurd (let none : ⊥ = cc f in none)
+
+from_few : (before : List Object) (number : ℕ) (nodes : List Tree) (all : List Object)
+    → objects_from before number nodes ≡ Ok all → length all ≤ length before + size nodes
+from_few before number [] all e = subst (λ (xs : List Object). length xs ≤ length before + 0)
+    (let same : before ≡ all = cc e in same) (omega arith)
+from_few before number (t ∷ ts) all e =
+    by (objects_of t) refl e (λ own. from_few (before ++ own) (number + 1) ts all)
+  where
+    by : (r : Result (List Object) ObjectFault) → objects_of t ≡ r
+        → objects_next (λ more. objects_from more (number + 1) ts) before number r ≡ Ok all
+        → ((own : List Object) → objects_from (before ++ own) (number + 1) ts ≡ Ok all
+        → length all ≤ length (before ++ own) + size ts)
+        → length all ≤ length before + (1 + (keys t + size ts))
+    by (Ok own) f g go = omega (arith, objects_few t own f, go own g, length-append before own)
+    by (Err fault) f g go = absurd (let none : ⊥ = cc g in none)
+
+-- a text has at most so many objects as bytes, and two more
+pub few_objects : (text : List ℕ) (nodes : List Tree) (all : List Object) → StandsFor text nodes
+    → objects_in nodes ≡ Ok all → length all ≤ length text + 2
+few_objects text nodes all stands e =
+    omega (arith, from_few [] 1 nodes all e, few_keys text nodes stands)
