@@ -1,6 +1,7 @@
 -- The rows that an exclusion changes, day by day.
 use Rattle.std.proofs.Common.{◌≡◌, ◌≢◌, ◌⊎◌, inl, inr, ℕ, zero, suc, ◌+◌, ◌-◌, ◌/◌, ◌≤◌, ◌<◌, ◌&&◌}
-use Rattle.std.proofs.Common.{nat_eq, nat_le, nat_lt, Bool, true, false, refl, arith, ap, sym, subst}
+use Rattle.std.proofs.Common.{nat_eq, nat_le, nat_lt, Bool, true, false, refl, arith, ap, sym}
+use Rattle.std.proofs.Common.{subst}
 use Rattle.std.proofs.Common.{◌∙◌, List, [], ◌∷◌, take, length, slice_get, Option, Some}
 use Rattle.std.proofs.Common.{if◌then◌else◌}
 use Rattle.std.specs.Str.{bytes_eq}
@@ -61,7 +62,8 @@ record Taken (slo : List ℕ) (minute : ℕ) (value : Exclusion) : Type 0 where
 taken-is : (slo : List ℕ) (minute : ℕ) (value : Exclusion) →
     excludes slo minute (value, true) ≡ true → Taken slo minute value
 taken-is slo minute value e =
-    let p = and_parts (bytes_eq value.slo slo && nat_le value.from minute) (nat_lt minute value.to) e
+    let p =
+    and_parts (bytes_eq value.slo slo && nat_le value.from minute) (nat_lt minute value.to) e
     in
     let q = and_parts (bytes_eq value.slo slo) (nat_le value.from minute) p.0 in
     record {

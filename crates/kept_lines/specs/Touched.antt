@@ -89,7 +89,8 @@ pub record HasMovedBefore (m : Measure) (rows : List Row) (verdicts : List RowVe
   pub before : moved.place < at
 
 -- a row that counts otherwise with an exclusion than without it lies in a slice
-pub record LiesChanged (m : Measure) (made : List (Exclusion × Bool)) (value : Exclusion) (row : Row)
+pub record LiesChanged (m : Measure) (made : List (Exclusion × Bool))
+    (value : Exclusion) (row : Row)
     (slice : ℕ) : Type 0 where
   pub changed : row_counts m (made_on made value false) row ≢ row_counts m (made_on made value true)
       row

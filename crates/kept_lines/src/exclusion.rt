@@ -1,8 +1,7 @@
 //! What a line forgets before an exclusion or a lifting is followed.
-ghost use Rattle.std.specs.Prelude.{true, false, ◌≡◌, ◌≢◌, ◌<◌, ◌≤◌, ◌+◌, Some, length, slice_get};
+ghost use Rattle.std.specs.Prelude.{true, false, ◌≡◌, ◌≢◌, ◌<◌, ◌≤◌, ◌+◌};
 ghost use Rattle.std.specs.List.{AllByRecursion};
 ghost use Rattle.sample_book.specs.declared.Row.{Row};
-ghost use Rattle.sample_book.specs.Exclusions.{excludes};
 ghost use Rattle.burn_core.specs.Alert.{IsRule, reach_of};
 ghost use Rattle.window_sums.specs.Slices.{width_of};
 ghost use Rattle.alert_line.specs.Line.{Line};
@@ -14,44 +13,11 @@ ghost use Rattle.kept_lines.specs.Touched.{LAST_MINUTE, LiesChanged, Touches};
 use crate::run::{Run, forget_waiting, touch};
 use alert_line::AlertLine;
 use burn_core::AlertRule;
-use exact_fraction::Label;
+use kept_sums::{NOTHING, row_at, row_counts, takes};
 use office_history::Measure;
 use sample_book::{Exclusion, Row, SampleBook};
-use slice_method::{Counts, counts_of};
 
 const MINUTES_A_DAY: u32 = 1_440;
-
-const NOTHING: Counts = Counts { good: 0, total: 0 };
-
-// The row at a place of the book.
-fn row_at(book: &SampleBook, place: u32) -> Row
-    requires { place < length book.now.rows }
-    ensures { slice_get book.now.rows place ≡ Some result }
-{
-    match book.row_at(place) {
-        Some(row) => row,
-        None => unreachable!(),
-    }
-}
-
-// Whether an exclusion takes this minute from an objective of an SLO.
-fn takes(value: &Exclusion, slo: Label, minute: u32) -> bool
-    ensures { result ≡ excludes slo minute (value.now, true) }
-{
-    value.slo == slo && value.from <= minute && minute < value.to
-}
-
-// What a row counts for in an objective.
-fn row_counts(measure: &Measure, book: &SampleBook, row: &Row) -> Counts
-    requires { Fits measure.now row.now }
-    ensures { result ≡ row_counts_lem measure.now book.now.exclusions row.now }
-{
-    if row.sli == measure.sli && !book.is_excluded(measure.slo, row.minute) {
-        counts_of(measure.reading, measure.op, measure.value, row.amount)
-    } else {
-        NOTHING
-    }
-}
 
 // Whether a row counts otherwise with an exclusion than without it. Outside its range it doesn't,
 // so such a row is passed over first: whether it is excluded is asked of all exclusions.

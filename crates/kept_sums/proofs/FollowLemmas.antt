@@ -1,5 +1,7 @@
 -- Sums that follow a row that comes.
-use Rattle.std.proofs.Common.{◌≡◌, ◌≢◌, ℕ, suc, ◌+◌, ◌≤◌, ◌<◌, ◌&&◌, Bool, true, false, cond, refl, ap, sym, subst, ◌∙◌, arith, List, [], ◌∷◌, ◌++◌, take, length, append_assoc, slice_get, Some, IsTrue, if◌then◌else◌}
+use Rattle.std.proofs.Common.{◌≡◌, ◌≢◌, ℕ, suc, ◌+◌, ◌≤◌, ◌<◌, ◌&&◌, Bool, true, false, cond, refl}
+use Rattle.std.proofs.Common.{ap, sym, subst, ◌∙◌, arith, List, [], ◌∷◌, ◌++◌, take, length}
+use Rattle.std.proofs.Common.{append_assoc, slice_get, Some, IsTrue, if◌then◌else◌}
 use Rattle.std.specs.List.{AllByRecursion}
 use Rattle.std.specs.Str.{bytes_eq}
 use Rattle.std.proofs.lemmas.List.{append-nil}
@@ -8,7 +10,8 @@ use Rattle.sample_book.specs.declared.Cell.{Cell}
 use Rattle.sample_book.specs.declared.Exclusion.{Exclusion}
 use Rattle.sample_book.specs.declared.Row.{Row}
 use Rattle.sample_book.specs.declared.RowVerdict.{RowVerdict}
-use Rattle.sample_book.specs.declared.RowVerdict.TheVariants.{New, Newer, Repeated, Superseded, Conflict}
+use Rattle.sample_book.specs.declared.RowVerdict.TheVariants.{New, Newer, Repeated, Superseded}
+use Rattle.sample_book.specs.declared.RowVerdict.TheVariants.{Conflict}
 use Rattle.sample_book.specs.Counting.{is_of}
 use Rattle.sample_book.specs.History.{is_put}
 use Rattle.sample_book.specs.Puts.{IsPutInto, behind, in_place, is_new}
@@ -22,17 +25,22 @@ use Rattle.sample_book.proofs.StandingLemmas.{cell_laws}
 use Rattle.window_sums.specs.Shares.{IsSmall, IsSumOf, Share}
 use Rattle.window_sums.specs.Slices.{CountedDays, day_of, has_day}
 use Rattle.office_history.specs.declared.Measure.{Measure}
-use Rattle.kept_sums.specs.Replacing.{FitsReplaced, HasFollowed, MayFollow, MayReplace, among, moves, replaced_counts}
+use Rattle.kept_sums.specs.Replacing.{FitsReplaced, HasFollowed, MayFollow, MayReplace, among}
+use Rattle.kept_sums.specs.Replacing.{moves, replaced_counts}
 use Rattle.kept_sums.specs.Sums.{Fits, HasItsDay, IsKept, row_counts, share_by, shares_by}
-use Rattle.kept_sums.proofs.ListLemmas.{all_at, all_here, all_map, all_push, all_put, place_within, take_all, take_at}
+use Rattle.kept_sums.proofs.ListLemmas.{all_at, all_here, all_map, all_push, all_put, place_within}
+use Rattle.kept_sums.proofs.ListLemmas.{take_all, take_at}
 use Rattle.kept_sums.proofs.ReplaceLemmas.{nothing-added}
-use Rattle.kept_sums.proofs.RowLemmas.{length_around, shares_around, small_by, small_none, small_row, small_rows}
+use Rattle.kept_sums.proofs.RowLemmas.{length_around, shares_around, small_by, small_none}
+use Rattle.kept_sums.proofs.RowLemmas.{small_row, small_rows}
 
 -- where a row stands that is put
 pub standing : (came : List Row) (row : Row) → is_put (verdict_of (current_rows came) row) ≡ true →
-    IsPutInto (current_rows came) row (verdict_of (current_rows came) row) (current_rows (came ++ row ∷ []))
+    IsPutInto (current_rows came) row (verdict_of (current_rows came) row)
+    (current_rows (came ++ row ∷ []))
 standing came row put =
-    put_placed (current_rows came) (current_rows (came ++ row ∷ [])) row (cell_of row ∷ []) (current-distinct same_cell (λ row. row.revision) cell_laws came)
+    put_placed (current_rows came) (current_rows (came ++ row ∷ [])) row (cell_of row ∷ [])
+    (current-distinct same_cell (λ row. row.revision) cell_laws came)
     (may (verdict_of (current_rows came) row) put) (sym (put-current came row))
   where
     may : (v : RowVerdict) → is_put v ≡ true → MayPutAs v (cell_of row ∷ []) (cell_of row)
@@ -43,24 +51,36 @@ standing came row put =
     may (Conflict kept) e = cc e
 
 -- what the sums need to follow a row that is put
-pub record PutFacts (m : Measure) (made : List (Exclusion × Bool)) (row : Row) (verdict : RowVerdict) (rows' : List Row) (sums : CountedDays) : Type 0 where
+pub record PutFacts (m : Measure) (made : List (Exclusion × Bool)) (row : Row)
+    (verdict : RowVerdict) (rows' : List Row) (sums : CountedDays) : Type 0 where
   pub before : List Share
   pub after : List Share
-  pub may : MayReplace sums row.minute (replaced_counts m made verdict) (row_counts m made row) before after
-  pub put : shares_by (row_counts m made) rows' ≡ among before row.minute (row_counts m made row) after
+  pub may : MayReplace sums row.minute (replaced_counts m made verdict)
+      (row_counts m made row) before after
+  pub put : shares_by (row_counts m made) rows' ≡ among before row.minute
+      (row_counts m made row) after
 
 length_last : (rows : List Row) (row : Row) → length (rows ++ row ∷ []) ≡ length rows + 1
 length_last [] row = refl
 length_last (r ∷ rows) row = omega (arith, length_last rows row)
 
-few_behind : (f : Row → Counts) (rows : List Row) (row : Row) (s : Share) → length rows < 4000000 → length (shares_by f rows ++ s ∷ []) ≤ 4000000
-few_behind f rows row s few = omega (arith, length_around f f rows row s [], length_last rows row, few)
+few_behind : (f : Row → Counts) (rows : List Row) (row : Row) (s : Share) → length rows < 4000000
+    → length (shares_by f rows ++ s ∷ []) ≤ 4000000
+few_behind f rows row s few = omega (
+  arith,
+  length_around f f rows row s [],
+  length_last rows row,
+  few,
+)
 
-few_among : (f : Row → Counts) (xs : List Row) (x : Row) (ys : List Row) (s : Share) → length (xs ++ x ∷ ys) < 4000000 → length (shares_by f xs ++ s ∷ shares_by f ys) ≤ 4000000
+few_among : (f : Row → Counts) (xs : List Row) (x : Row) (ys : List Row) (s : Share)
+    → length (xs ++ x ∷ ys) < 4000000 → length (shares_by f xs ++ s ∷ shares_by f ys) ≤ 4000000
 few_among f xs x ys s few = omega (arith, length_around f f xs x s ys, few)
 
-pub put_facts : (m : Measure) (made : List (Exclusion × Bool)) (rows : List Row) (row : Row) (verdict : RowVerdict) (rows' : List Row) (sums : CountedDays) →
-    IsPutInto rows row verdict rows' → IsSumOf sums (shares_by (row_counts m made) rows) → AllByRecursion (Fits m) rows → Fits m row → length rows < 4000000 →
+pub put_facts : (m : Measure) (made : List (Exclusion × Bool)) (rows : List Row) (row : Row)
+    (verdict : RowVerdict) (rows' : List Row) (sums : CountedDays) →
+    IsPutInto rows row verdict rows' → IsSumOf sums (shares_by (row_counts m made) rows) →
+    AllByRecursion (Fits m) rows → Fits m row → length rows < 4000000 →
     PutFacts m made row verdict rows' sums
 put_facts m made _ _ _ _ sums (behind rows row) counted forms fits few =
     let f = row_counts m made in
@@ -70,8 +90,15 @@ put_facts m made _ _ _ _ sums (behind rows row) counted forms fits few =
       after = [];
       may = record {
         counted = λ k. counted k ∙ sym (nothing-added sums.method (shares_by f rows) row.minute k);
-        small = record { each = all_push IsSmall (shares_by f rows) _ each (small_none row.minute); few = few_behind f rows row _ few };
-        small_then = record { each = all_push IsSmall (shares_by f rows) (share_by f row) each (small_row m made row fits); few = few_behind f rows row _ few };
+        small = record {
+          each = all_push IsSmall (shares_by f rows) _ each (small_none row.minute);
+          few = few_behind f rows row _ few;
+        };
+        small_then = record {
+          each = all_push IsSmall (shares_by f rows) (share_by f row) each
+              (small_row m made row fits);
+          few = few_behind f rows row _ few;
+        };
       };
       put = shares_around f rows row [];
     }
@@ -82,7 +109,8 @@ put_facts m made _ _ _ _ sums (in_place before after kept row same) counted form
     subst (λ u. IsSumOf sums (among (shares_by f before) u (f kept) (shares_by f after))) minute
     (subst (IsSumOf sums) (shares_around f before kept after) counted) in
     let each : AllByRecursion IsSmall (shares_by f before ++ share_by f kept ∷ shares_by f after) =
-    subst (AllByRecursion IsSmall) (shares_around f before kept after) (small_by f (before ++ kept ∷ after) (small_rows m made (before ++ kept ∷ after) forms)) in
+    subst (AllByRecursion IsSmall) (shares_around f before kept after)
+    (small_by f (before ++ kept ∷ after) (small_rows m made (before ++ kept ∷ after) forms)) in
     let own = small_row m made kept (all_here (Fits m) before kept after forms) in
     record {
       before = shares_by f before;
@@ -90,11 +118,13 @@ put_facts m made _ _ _ _ sums (in_place before after kept row same) counted form
       may = record {
         counted = here;
         small = record {
-          each = all_put IsSmall (shares_by f before) (share_by f kept) _ (shares_by f after) each (record { part = own.part; few = own.few });
+          each = all_put IsSmall (shares_by f before) (share_by f kept) _ (shares_by f after) each
+              (record { part = own.part; few = own.few });
           few = few_among f before kept after _ few;
         };
         small_then = record {
-          each = all_put IsSmall (shares_by f before) (share_by f kept) (share_by f row) (shares_by f after) each (small_row m made row fits);
+          each = all_put IsSmall (shares_by f before) (share_by f kept) (share_by f row)
+              (shares_by f after) each (small_row m made row fits);
           few = few_among f before kept after _ few;
         };
       };
@@ -102,12 +132,16 @@ put_facts m made _ _ _ _ sums (in_place before after kept row same) counted form
     }
 
 -- the row that is replaced has the form of the reading
-pub fits_replaced : (m : Measure) (rows : List Row) (row : Row) (verdict : RowVerdict) (rows' : List Row) → IsPutInto rows row verdict rows' → AllByRecursion (Fits m) rows → FitsReplaced m verdict
+pub fits_replaced : (m : Measure) (rows : List Row) (row : Row) (verdict : RowVerdict)
+    (rows' : List Row) → IsPutInto rows row verdict rows' → AllByRecursion (Fits m) rows
+    → FitsReplaced m verdict
 fits_replaced m _ _ _ _ (behind rows row) forms = tt
-fits_replaced m _ _ _ _ (in_place before after kept row same) forms = all_here (Fits m) before kept after forms
+fits_replaced m _ _ _ _ (in_place before after kept row same) forms =
+    all_here (Fits m) before kept after forms
 
 -- a row of another indicator changes no counts
-no_change : (m : Measure) (made : List (Exclusion × Bool)) (rows : List Row) (row : Row) (verdict : RowVerdict) (rows' : List Row) → IsPutInto rows row verdict rows' →
+no_change : (m : Measure) (made : List (Exclusion × Bool)) (rows : List Row) (row : Row)
+    (verdict : RowVerdict) (rows' : List Row) → IsPutInto rows row verdict rows' →
     is_of m.sli row ≡ false → replaced_counts m made verdict ≡ row_counts m made row
 no_change m made _ _ _ _ (behind rows row) other = rw other refl
 no_change m made _ _ _ _ (in_place before after kept row same) other =
@@ -115,30 +149,40 @@ no_change m made _ _ _ _ (in_place before after kept row same) other =
     rw (other, also) refl
 
 -- all rows that are kept have what the old ones and the row have
-all_placed : (P : Row → Type 0) (rows : List Row) (row : Row) (verdict : RowVerdict) (rows' : List Row) → IsPutInto rows row verdict rows' →
+all_placed : (P : Row → Type 0) (rows : List Row) (row : Row) (verdict : RowVerdict)
+    (rows' : List Row) → IsPutInto rows row verdict rows' →
     AllByRecursion P rows → P row → AllByRecursion P rows'
 all_placed P _ _ _ _ (behind rows row) h p = all_push P rows row h p
 all_placed P _ _ _ _ (in_place before after kept row same) h p = all_put P before kept row after h p
 
 -- the current rows with one more have what the old ones and the row have
-pub all_next : (P : Row → Type 0) (came : List Row) (row : Row) → AllByRecursion P (current_rows came) → P row → AllByRecursion P (current_rows (came ++ row ∷ []))
+pub all_next : (P : Row → Type 0) (came : List Row) (row : Row)
+    → AllByRecursion P (current_rows came) → P row
+    → AllByRecursion P (current_rows (came ++ row ∷ []))
 all_next P came row h p = by (is_put (verdict_of (current_rows came) row)) refl
   where
-    by : (b : Bool) → is_put (verdict_of (current_rows came) row) ≡ b → AllByRecursion P (current_rows (came ++ row ∷ []))
-    by true e = all_placed P (current_rows came) row (verdict_of (current_rows came) row) (current_rows (came ++ row ∷ [])) (standing came row e) h p
+    by : (b : Bool) → is_put (verdict_of (current_rows came) row) ≡ b
+        → AllByRecursion P (current_rows (came ++ row ∷ []))
+    by true e = all_placed P (current_rows came) row (verdict_of (current_rows came) row)
+        (current_rows (came ++ row ∷ [])) (standing came row e) h p
     by false e = subst (AllByRecursion P) (sym (pass-current came row e)) h
 
 -- one row more is one cell more at most
-pub few_next : (came : List Row) (row : Row) → length (current_rows (came ++ row ∷ [])) ≤ length (current_rows came) + 1
+pub few_next : (came : List Row) (row : Row)
+    → length (current_rows (came ++ row ∷ [])) ≤ length (current_rows came) + 1
 few_next came row = by (is_new (verdict_of (current_rows came) row)) (length-current came row)
   where
-    by : (b : Bool) → length (current_rows (came ++ row ∷ [])) ≡ length (current_rows came) + cond b 1 0 → length (current_rows (came ++ row ∷ [])) ≤ length (current_rows came) + 1
+    by : (b : Bool) → length (current_rows (came ++ row ∷ [])) ≡ length (current_rows came)
+        + cond b 1 0 → length (current_rows (came ++ row ∷ [])) ≤ length (current_rows came) + 1
     by true e = omega (arith, e)
     by false e = omega (arith, e)
 
 -- sums with the same days
-pub same_days : (m : Measure) (rows : List Row) (old new : CountedDays) → ((day : ℕ) → has_day new day ≡ has_day old day) → AllByRecursion (HasItsDay m old) rows → AllByRecursion (HasItsDay m new) rows
-same_days m rows old new same = all_map (HasItsDay m old) (HasItsDay m new) (λ row has e. subst IsTrue (sym (same (day_of row.minute))) (has e)) rows
+pub same_days : (m : Measure) (rows : List Row) (old new : CountedDays)
+    → ((day : ℕ) → has_day new day ≡ has_day old day) → AllByRecursion (HasItsDay m old) rows
+    → AllByRecursion (HasItsDay m new) rows
+same_days m rows old new same = all_map (HasItsDay m old) (HasItsDay m new)
+    (λ row has e. subst IsTrue (sym (same (day_of row.minute))) (has e)) rows
 
 -- the row moves where it is of the indicator and put
 own_part : (a b : Bool) → (a && b) ≡ true → a ≡ true
@@ -149,23 +193,32 @@ put_part : (a b : Bool) → (a && b) ≡ true → b ≡ true
 put_part true b e = e
 put_part false b e = cc e
 
-pub moves_own : (m : Measure) (row : Row) (verdict : RowVerdict) → moves m row verdict ≡ true → is_of m.sli row ≡ true
+pub moves_own : (m : Measure) (row : Row) (verdict : RowVerdict) → moves m row verdict ≡ true
+    → is_of m.sli row ≡ true
 moves_own m row verdict = own_part (is_of m.sli row) (is_put verdict)
 
 -- where a row stands that moves
-pub moved : (m : Measure) (made : List (Exclusion × Bool)) (row : Row) (verdict : RowVerdict) (sums : CountedDays) (came : List Row) → MayFollow m made row verdict sums came → moves m row verdict ≡ true →
+pub moved : (m : Measure) (made : List (Exclusion × Bool)) (row : Row) (verdict : RowVerdict)
+    (sums : CountedDays) (came : List Row) → MayFollow m made row verdict sums came →
+    moves m row verdict ≡ true →
     IsPutInto (current_rows came) row verdict (current_rows (came ++ row ∷ []))
 moved m made row verdict sums came may is =
-    subst (λ v. IsPutInto (current_rows came) row v (current_rows (came ++ row ∷ []))) (sym may.comes)
+    subst (λ v. IsPutInto (current_rows came) row v (current_rows (came ++ row ∷ [])))
+    (sym may.comes)
     (standing came row (ap is_put (sym may.comes) ∙ put_part (is_of m.sli row) (is_put verdict) is))
 
-pub moved_facts : (m : Measure) (made : List (Exclusion × Bool)) (row : Row) (verdict : RowVerdict) (sums : CountedDays) (came : List Row) → MayFollow m made row verdict sums came → moves m row verdict ≡ true →
+pub moved_facts : (m : Measure) (made : List (Exclusion × Bool)) (row : Row) (verdict : RowVerdict)
+    (sums : CountedDays) (came : List Row) → MayFollow m made row verdict sums came →
+    moves m row verdict ≡ true →
     PutFacts m made row verdict (current_rows (came ++ row ∷ [])) sums
 moved_facts m made row verdict sums came may is =
-    put_facts m made (current_rows came) row verdict (current_rows (came ++ row ∷ [])) sums (moved m made row verdict sums came may is) may.kept.counted may.forms may.fits may.few
+    put_facts m made (current_rows came) row verdict (current_rows (came ++ row ∷ [])) sums
+    (moved m made row verdict sums came may is) may.kept.counted may.forms may.fits may.few
 
 -- a row that doesn't move leaves the sums as they are
-pub stayed : (m : Measure) (made : List (Exclusion × Bool)) (row : Row) (verdict : RowVerdict) (sums : CountedDays) (came : List Row) → MayFollow m made row verdict sums came → moves m row verdict ≡ false →
+pub stayed : (m : Measure) (made : List (Exclusion × Bool)) (row : Row) (verdict : RowVerdict)
+    (sums : CountedDays) (came : List Row) → MayFollow m made row verdict sums came →
+    moves m row verdict ≡ false →
     IsKept m made (current_rows (came ++ row ∷ [])) sums
 stayed m made row verdict sums came may is = by (is_put (verdict_of (current_rows came) row)) refl
   where
@@ -173,29 +226,39 @@ stayed m made row verdict sums came may is = by (is_put (verdict_of (current_row
     other true b e t = cc (sym t ∙ e)
     other false b e t = refl
 
-    by : (b : Bool) → is_put (verdict_of (current_rows came) row) ≡ b → IsKept m made (current_rows (came ++ row ∷ [])) sums
+    by : (b : Bool) → is_put (verdict_of (current_rows came) row) ≡ b
+        → IsKept m made (current_rows (came ++ row ∷ [])) sums
     by false e = subst (λ rows. IsKept m made rows sums) (sym (pass-current came row e)) may.kept
     by true e =
         let rows' = current_rows (came ++ row ∷ []) in
         let place = standing came row e in
-        let own : is_of m.sli row ≡ false = other (is_of m.sli row) (is_put verdict) is (ap is_put may.comes ∙ e) in
-        let facts = put_facts m made (current_rows came) row (verdict_of (current_rows came) row) rows' sums place may.kept.counted may.forms may.fits may.few in
-        let same = no_change m made (current_rows came) row (verdict_of (current_rows came) row) rows' place own in
+        let own : is_of m.sli row ≡ false =
+        other (is_of m.sli row) (is_put verdict) is (ap is_put may.comes ∙ e) in
+        let facts = put_facts m made (current_rows came) row (verdict_of (current_rows came) row)
+        rows' sums place may.kept.counted may.forms may.fits may.few in
+        let same = no_change m made (current_rows came) row (verdict_of (current_rows came) row)
+        rows' place own in
         record {
           method = may.kept.method;
-          counted = subst (IsSumOf sums) (ap (λ n. among facts.before row.minute n facts.after) same ∙ sym facts.put) facts.may.counted;
+          counted = subst (IsSumOf sums) (ap (λ n. among facts.before row.minute n facts.after) same
+              ∙ sym facts.put) facts.may.counted;
           days = all_next (HasItsDay m sums) came row may.kept.days may.day;
         }
 
 -- the rows that came with one more of a batch
-pub next_came : (came rows : List Row) (place : ℕ) (row : Row) → slice_get rows place ≡ Some row → (came ++ take place rows) ++ row ∷ [] ≡ came ++ take (suc place) rows
-next_came came rows place row at = append_assoc came (take place rows) (row ∷ []) ∙ ap (λ l. came ++ l) (sym (take_at rows place row at))
+pub next_came : (came rows : List Row) (place : ℕ) (row : Row) → slice_get rows place ≡ Some row
+    → (came ++ take place rows) ++ row ∷ [] ≡ came ++ take (suc place) rows
+next_came came rows place row at = append_assoc came (take place rows) (row ∷ [])
+    ∙ ap (λ l. came ++ l) (sym (take_at rows place row at))
 
 -- the rows of a book are the current ones of themselves, and none of the batch came yet
-pub follow_begins : (m : Measure) (made : List (Exclusion × Bool)) (before rows : List Row) (sums : CountedDays) → current_rows before ≡ before → IsKept m made before sums → AllByRecursion (Fits m) before →
+pub follow_begins : (m : Measure) (made : List (Exclusion × Bool)) (before rows : List Row)
+    (sums : CountedDays) → current_rows before ≡ before → IsKept m made before sums →
+    AllByRecursion (Fits m) before →
     HasFollowed m made before rows 0 sums sums
 follow_begins m made before rows sums current kept forms =
-    let same : current_rows (before ++ []) ≡ before = ap current_rows (append-nil before) ∙ current in
+    let same : current_rows (before ++ []) ≡ before =
+    ap current_rows (append-nil before) ∙ current in
     record {
       kept = subst (λ l. IsKept m made l sums) (sym same) kept;
       forms = subst (AllByRecursion (Fits m)) (sym same) forms;
@@ -207,9 +270,12 @@ follow_begins m made before rows sums current kept forms =
     plain n = omega arith
 
 -- the next row of the batch may be followed
-pub follow_may : (m : Measure) (made : List (Exclusion × Bool)) (before rows : List Row) (at : ℕ) (row : Row) (verdict : RowVerdict) (old sums : CountedDays) →
-    HasFollowed m made before rows at old sums → slice_get rows at ≡ Some row → slice_get (verdicts before rows) at ≡ Some verdict →
-    AllByRecursion (Fits m) rows → AllByRecursion (HasItsDay m old) rows → length before + length rows ≤ 4000000 →
+pub follow_may : (m : Measure) (made : List (Exclusion × Bool)) (before rows : List Row) (at : ℕ)
+    (row : Row) (verdict : RowVerdict) (old sums : CountedDays) →
+    HasFollowed m made before rows at old sums → slice_get rows at ≡ Some row →
+    slice_get (verdicts before rows) at ≡ Some verdict →
+    AllByRecursion (Fits m) rows → AllByRecursion (HasItsDay m old) rows →
+    length before + length rows ≤ 4000000 →
     MayFollow m made row verdict sums (before ++ take at rows)
 follow_may m made before rows at row verdict old sums so here judged fit days few = record {
   kept = so.kept;
@@ -220,22 +286,30 @@ follow_may m made before rows at row verdict old sums so here judged fit days fe
   few = omega (arith, so.few, place_within rows at row here, few);
 }
   where
-    same : slice_get (verdicts before rows) at ≡ Some (verdict_of (current_rows (before ++ take at rows)) row) → verdict ≡ verdict_of (current_rows (before ++ take at rows)) row
+    same : slice_get (verdicts before rows) at
+        ≡ Some (verdict_of (current_rows (before ++ take at rows)) row)
+        → verdict ≡ verdict_of (current_rows (before ++ take at rows)) row
     same e =
-        let both : ◌≡◌ {A = Rattle.std.proofs.Common.Option RowVerdict} (Some verdict) (Some (verdict_of (current_rows (before ++ take at rows)) row)) = sym judged ∙ e in
+        let both : ◌≡◌ {A = Rattle.std.proofs.Common.Option RowVerdict} (Some verdict)
+        (Some (verdict_of (current_rows (before ++ take at rows)) row)) = sym judged ∙ e in
         cc both
 
 -- one row further
-pub follow_next : (m : Measure) (made : List (Exclusion × Bool)) (before rows : List Row) (at : ℕ) (row : Row) (old sums new : CountedDays) →
+pub follow_next : (m : Measure) (made : List (Exclusion × Bool)) (before rows : List Row) (at : ℕ)
+    (row : Row) (old sums new : CountedDays) →
     HasFollowed m made before rows at old sums → slice_get rows at ≡ Some row → Fits m row →
-    IsKept m made (current_rows ((before ++ take at rows) ++ row ∷ [])) new → ((day : ℕ) → has_day new day ≡ has_day sums day) →
+    IsKept m made (current_rows ((before ++ take at rows) ++ row ∷ [])) new →
+    ((day : ℕ) → has_day new day ≡ has_day sums day) →
     HasFollowed m made before rows (at + 1) old new
 follow_next m made before rows at row old sums new so here fits kept days =
     let came = before ++ take at rows in
     subst (λ n. HasFollowed m made before rows n old new) (one at) (record {
-      kept = subst (λ l. IsKept m made (current_rows l) new) (next_came before rows at row here) kept;
-      forms = subst (λ l. AllByRecursion (Fits m) (current_rows l)) (next_came before rows at row here) (all_next (Fits m) came row so.forms fits);
-      few = subst (λ l. length (current_rows l) ≤ length before + suc at) (next_came before rows at row here) (more (few_next came row) so.few);
+      kept =
+          subst (λ l. IsKept m made (current_rows l) new) (next_came before rows at row here) kept;
+      forms = subst (λ l. AllByRecursion (Fits m) (current_rows l))
+          (next_came before rows at row here) (all_next (Fits m) came row so.forms fits);
+      few = subst (λ l. length (current_rows l) ≤ length before + suc at)
+          (next_came before rows at row here) (more (few_next came row) so.few);
       days = λ day. days day ∙ so.days day;
     })
   where
@@ -246,11 +320,16 @@ follow_next m made before rows at row old sums new so here fits kept days =
     more le few = omega (arith, le, few)
 
 -- all rows of the batch were followed
-pub follow_ends : (m : Measure) (made : List (Exclusion × Bool)) (before rows : List Row) (at : ℕ) (old sums : CountedDays) → HasFollowed m made before rows at old sums → at ≡ length rows →
+pub follow_ends : (m : Measure) (made : List (Exclusion × Bool)) (before rows : List Row) (at : ℕ)
+    (old sums : CountedDays) → HasFollowed m made before rows at old sums → at ≡ length rows →
     IsKept m made (current_rows (before ++ rows)) sums
-follow_ends m made before rows at old sums so e = subst (λ l. IsKept m made (current_rows (before ++ l)) sums) (take_all rows at e) so.kept
+follow_ends m made before rows at old sums so e =
+    subst (λ l. IsKept m made (current_rows (before ++ l)) sums) (take_all rows at e) so.kept
 
 -- what is judged of a row stands at its place
-pub verdict_there : (before rows : List Row) (found : List RowVerdict) (at : ℕ) (row : Row) → found ≡ verdicts before rows → slice_get rows at ≡ Some row → at < length found
+pub verdict_there : (before rows : List Row) (found : List RowVerdict) (at : ℕ) (row : Row)
+    → found ≡ verdicts before rows → slice_get rows at ≡ Some row → at < length found
 verdict_there before rows found at row is here =
-    subst (λ (l : List RowVerdict). at < length l) (sym is) (place_within (verdicts before rows) at (verdict_of (current_rows (before ++ take at rows)) row) (verdicts-at before rows at row here))
+    subst (λ (l : List RowVerdict). at < length l) (sym is) (place_within
+    (verdicts before rows) at (verdict_of (current_rows (before ++ take at rows)) row)
+    (verdicts-at before rows at row here))

@@ -4,5 +4,6 @@ pub mod RowLemmas
 pub mod FollowLemmas
 pub mod WalkLemmas
 pub mod DayLemmas
+pub mod DayWalks
 pub mod DaysLemmas
 pub mod MinuteLemmas

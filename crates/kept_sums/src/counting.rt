@@ -1,4 +1,4 @@
-// What rows count for in an objective.
+//! What rows count for in an objective.
 ghost use Rattle.std.specs.Prelude.{◌≡◌, ◌<◌, Some, length, slice_get, true};
 ghost use Rattle.sample_book.specs.Exclusions.{excludes};
 ghost use Rattle.sample_book.specs.History.{is_put as is_put_lem};
@@ -12,10 +12,11 @@ use office_history::Measure;
 use sample_book::{Exclusion, Row, RowVerdict, SampleBook};
 use slice_method::{Counts, counts_of};
 
-pub(crate) const NOTHING: Counts = Counts { good: 0, total: 0 };
+/// What a row counts for that is of another indicator, or whose minute is excluded.
+pub const NOTHING: Counts = Counts { good: 0, total: 0 };
 
-// The row at a place of the book.
-pub(crate) fn row_at(book: &SampleBook, place: u32) -> Row
+/// The row at a place of the book.
+pub fn row_at(book: &SampleBook, place: u32) -> Row
     requires { place < length book.now.rows }
     ensures { slice_get book.now.rows place ≡ Some result }
 {
@@ -25,8 +26,8 @@ pub(crate) fn row_at(book: &SampleBook, place: u32) -> Row
     }
 }
 
-// What a row counts for in an objective.
-pub(crate) fn row_counts(measure: &Measure, book: &SampleBook, row: &Row) -> Counts
+/// What a row counts for in an objective.
+pub fn row_counts(measure: &Measure, book: &SampleBook, row: &Row) -> Counts
     requires { Fits measure.now row.now }
     ensures { result ≡ row_counts_lem measure.now book.now.exclusions row.now }
 {
@@ -65,8 +66,8 @@ pub fn moves(measure: &Measure, row: &Row, verdict: &RowVerdict) -> bool
     row.sli == measure.sli && is_put(verdict)
 }
 
-// Whether an exclusion takes this minute from an objective of an SLO.
-fn takes(value: &Exclusion, slo: Label, minute: u32) -> bool
+/// Whether an exclusion takes this minute from an objective of an SLO.
+pub fn takes(value: &Exclusion, slo: Label, minute: u32) -> bool
     ensures { result ≡ excludes slo minute (value.now, true) }
 {
     value.slo == slo && value.from <= minute && minute < value.to

@@ -12,6 +12,6 @@ mod range;
 
 pub use anew::sums_over;
 pub use batch::{follow_rows, reserve_rows};
-pub use counting::moves;
+pub use counting::{NOTHING, moves, row_at, row_counts, takes};
 pub use laws::kept_counts_are_those_of_the_minutes;
 pub use range::follow_exclusion;

@@ -1,5 +1,7 @@
 -- What is kept of the sums, after a change and after a day was added.
-use Rattle.std.proofs.Common.{◌≡◌, ◌≢◌, ◌⊎◌, ℕ, ◌*◌, ◌%◌, ◌/◌, ◌<◌, ◌≤◌, ◌||◌, ◌==◌, nat_eq, Bool, true, false, inl, inr, IsTrue, All, length, List, [], ◌∷◌, ◌++◌, replicate, slice_set, sym, ap, subst, refl, ◌∙◌, arith, if◌then◌else◌}
+use Rattle.std.proofs.Common.{◌≡◌, ◌≢◌, ◌⊎◌, ℕ, ◌*◌, ◌%◌, ◌/◌, ◌<◌, ◌≤◌, ◌||◌, ◌==◌, nat_eq, Bool}
+use Rattle.std.proofs.Common.{true, false, inl, inr, IsTrue, All, length, List, [], ◌∷◌, ◌++◌}
+use Rattle.std.proofs.Common.{replicate, slice_set, sym, ap, subst, refl, ◌∙◌, arith, if◌then◌else◌}
 use Rattle.std.specs.Int.{◌∣◌}
 use Rattle.std.specs.Map.{set_value, values_of}
 use Rattle.std.proofs.lemmas.Bool.Decides.{eqb_tells}
@@ -15,19 +17,24 @@ use Rattle.slo_terms.specs.Sums.{AreFew, leaves_over}
 use Rattle.slo_terms.proofs.RangeLemmas.{sum_over-none, sum_over-same}
 use Rattle.sum_pages.specs.DayTables.{values_of_day}
 use Rattle.sum_pages.specs.Pages as paged
-use Rattle.sum_pages.proofs.DayLemmas.{days-added, days-changed, of_day, value_at-added, value_at-changed, values_of-push}
-use Rattle.window_sums.specs.Slices.{AreCounted, AreSoundCounts, CountedDays, IsKept, MayExchange, counts_after, counts_of, day_of, exchanged, has_day, leaf_at, no_counts, slice_of, slices_a_day, width_of}
+use Rattle.sum_pages.proofs.DayLemmas.{days-added, days-changed, of_day, value_at-added}
+use Rattle.sum_pages.proofs.DayLemmas.{value_at-changed, values_of-push}
+use Rattle.window_sums.specs.Slices.{AreCounted, AreSoundCounts, CountedDays, IsKept, MayExchange}
+use Rattle.window_sums.specs.Slices.{counts_after, counts_of, day_of, exchanged, has_day, leaf_at}
+use Rattle.window_sums.specs.Slices.{no_counts, slice_of, slices_a_day, width_of}
 use Rattle.window_sums.proofs.SoundFacts.{after-here, few-one, sound-same}
 use Rattle.window_sums.proofs.WidthFacts.{day_of_slice, slices-some}
 
 -- the day of a minute's slice is the minute's day
-pub its_day : (sums : CountedDays) (minute : ℕ) → AreCounted sums → slice_of sums.method minute / slices_a_day sums.method ≡ day_of minute
+pub its_day : (sums : CountedDays) (minute : ℕ) → AreCounted sums
+    → slice_of sums.method minute / slices_a_day sums.method ≡ day_of minute
 its_day sums minute counted = day_of_slice (width_of sums.method) minute counted.divides
 
 -- the days, each of `count` slices, once the counts of one are others
 abbrev pub days_at : List (ℕ × List Counts) → ℕ → ℕ → Counts → List (ℕ × List Counts)
 days_at days count slice counts =
-    set_value (nat_eq (slice / count)) days (slice_set (values_of_day days (slice / count)) (slice % count) counts)
+    set_value (nat_eq (slice / count)) days
+    (slice_set (values_of_day days (slice / count)) (slice % count) counts)
 
 abbrev pub days_with : CountedDays → ℕ → Counts → List (ℕ × List Counts)
 days_with sums slice counts = days_at sums.days (slices_a_day sums.method) slice counts
@@ -39,7 +46,8 @@ sums_with sums slice counts = record { method = sums.method; days = days_with su
 pub may_exchange : (sums : CountedDays) (minute : ℕ) (before after : Counts) →
     before.good ≤ (counts_of sums (slice_of sums.method minute)).good →
     before.total ≤ (counts_of sums (slice_of sums.method minute)).total →
-    (counts_after sums minute before after (slice_of sums.method minute)).good ≤ (counts_after sums minute before after (slice_of sums.method minute)).total →
+    (counts_after sums minute before after (slice_of sums.method minute)).good
+    ≤ (counts_after sums minute before after (slice_of sums.method minute)).total →
     AreFew (λ k. (counts_after sums minute before after k).total) →
     MayExchange (counts_of sums (slice_of sums.method minute)) before after
 may_exchange sums minute before after good total part events = record {
@@ -47,103 +55,144 @@ may_exchange sums minute before after good total part events = record {
   total = total;
   part = subst (λ (c : Counts). c.good ≤ c.total) (after-here sums minute before after) part;
   few = subst (λ (c : Counts). c.total ≤ 4000000000000000) (after-here sums minute before after)
-      (few-one (λ k. (counts_after sums minute before after k).total) events (slice_of sums.method minute));
+      (few-one (λ k. (counts_after sums minute before after k).total) events
+      (slice_of sums.method minute));
 }
 
-module _ (sums : CountedDays) (slice : ℕ) (counts : Counts) (counted : AreCounted sums) (there : IsTrue (has_day sums (slice / slices_a_day sums.method))) where
-  day_whole : length (values_of_day sums.days (slice / slices_a_day sums.method)) ≡ slices_a_day sums.method
-  day_whole = of_day no_counts sums.days (λ slices. length slices ≡ slices_a_day sums.method) counted.whole (slice / slices_a_day sums.method) there
+module _ (sums : CountedDays) (slice : ℕ) (counts : Counts) (counted : AreCounted sums)
+    (there : IsTrue (has_day sums (slice / slices_a_day sums.method))) where
+  day_whole : length (values_of_day sums.days (slice / slices_a_day sums.method))
+      ≡ slices_a_day sums.method
+  day_whole = of_day no_counts sums.days (λ slices. length slices ≡ slices_a_day sums.method)
+      counted.whole (slice / slices_a_day sums.method) there
 
-  pub place-within : slice % slices_a_day sums.method < length (values_of_day sums.days (slice / slices_a_day sums.method))
-  place-within = rw day_whole (mod_below slice (slices_a_day sums.method) (slices-some (width_of sums.method) counted.divides))
+  pub place-within : slice % slices_a_day sums.method < length
+      (values_of_day sums.days (slice / slices_a_day sums.method))
+  place-within = rw day_whole (mod_below slice (slices_a_day sums.method)
+      (slices-some (width_of sums.method) counted.divides))
 
-  with : (k : ℕ) → counts_of (sums_with sums slice counts) k ≡ (if k == slice then counts else counts_of sums k)
-  with k = value_at-changed no_counts sums.days (slices_a_day sums.method) slice counts there place-within k
+  with : (k : ℕ) → counts_of (sums_with sums slice counts) k
+      ≡ (if k == slice then counts else counts_of sums k)
+  with k = value_at-changed no_counts sums.days (slices_a_day sums.method) slice counts there
+      place-within k
 
-  AreCounted-with : AreSoundCounts sums.method (counts_of (sums_with sums slice counts)) → AreCounted (sums_with sums slice counts)
+  AreCounted-with : AreSoundCounts sums.method (counts_of (sums_with sums slice counts))
+      → AreCounted (sums_with sums slice counts)
   AreCounted-with sound = record {
     divides = counted.divides;
-    whole = All-values-set_value (nat_eq (slice / slices_a_day sums.method)) (λ slices. length slices ≡ slices_a_day sums.method) sums.days
-        (slice_set (values_of_day sums.days (slice / slices_a_day sums.method)) (slice % slices_a_day sums.method) counts) counted.whole
-        (length-set (values_of_day sums.days (slice / slices_a_day sums.method)) (slice % slices_a_day sums.method) counts ∙ day_whole);
+    whole = All-values-set_value (nat_eq (slice / slices_a_day sums.method))
+        (λ slices. length slices ≡ slices_a_day sums.method) sums.days
+        (slice_set (values_of_day sums.days (slice / slices_a_day sums.method))
+        (slice % slices_a_day sums.method) counts) counted.whole
+        (length-set (values_of_day sums.days (slice / slices_a_day sums.method))
+        (slice % slices_a_day sums.method) counts ∙ day_whole);
     sound = sound;
   }
 
 -- what the sums say of each slice after a change
 pub counts_of-after : (sums : CountedDays) (minute : ℕ) (before after : Counts) → AreCounted sums →
     IsTrue (has_day sums (slice_of sums.method minute / slices_a_day sums.method)) → (k : ℕ) →
-    counts_of (sums_with sums (slice_of sums.method minute) (exchanged (counts_of sums (slice_of sums.method minute)) before after)) k ≡ counts_after sums minute before after k
+    counts_of (sums_with sums (slice_of sums.method minute)
+    (exchanged (counts_of sums (slice_of sums.method minute)) before after)) k
+    ≡ counts_after sums minute before after k
 counts_of-after sums minute before after counted there k =
-    with sums (slice_of sums.method minute) (exchanged (counts_of sums (slice_of sums.method minute)) before after) counted there k
+    with sums (slice_of sums.method minute)
+    (exchanged (counts_of sums (slice_of sums.method minute)) before after) counted there k
     ∙ by (eqb_tells k (slice_of sums.method minute))
   where
-    by : ((nat_eq k (slice_of sums.method minute) ≡ true) × (k ≡ slice_of sums.method minute)) ⊎ ((nat_eq k (slice_of sums.method minute) ≡ false) × (k ≢ slice_of sums.method minute)) →
-        (if k == slice_of sums.method minute then exchanged (counts_of sums (slice_of sums.method minute)) before after else counts_of sums k) ≡ counts_after sums minute before after k
+    by : ((nat_eq k (slice_of sums.method minute) ≡ true) × (k ≡ slice_of sums.method minute))
+        ⊎ ((nat_eq k (slice_of sums.method minute) ≡ false) × (k ≢ slice_of sums.method minute)) →
+        (if k == slice_of sums.method minute
+        then exchanged (counts_of sums (slice_of sums.method minute)) before after
+        else counts_of sums k) ≡ counts_after sums minute before after k
     by (inl same) = rw same.0 (ap (λ j. exchanged (counts_of sums j) before after) (sym same.1))
     by (inr other) = rw other.0 refl
 
 -- the leaf of each slice after a change, by the leaf of the one that changed
-pub leaf-after : (sums : CountedDays) (pages : paged.LeafDays) (minute : ℕ) (before after : Counts) → IsKept sums pages → (k : ℕ) →
-    paged.leaf_after pages (slice_of sums.method minute) (leaf sums.method (exchanged (counts_of sums (slice_of sums.method minute)) before after)) k
+pub leaf-after : (sums : CountedDays) (pages : paged.LeafDays) (minute : ℕ)
+    (before after : Counts) → IsKept sums pages → (k : ℕ) →
+    paged.leaf_after pages (slice_of sums.method minute)
+    (leaf sums.method (exchanged (counts_of sums (slice_of sums.method minute)) before after)) k
     ≡ leaf sums.method (counts_after sums minute before after k)
 leaf-after sums pages minute before after kept k = by (eqb_tells k (slice_of sums.method minute))
   where
-    by : ((nat_eq k (slice_of sums.method minute) ≡ true) × (k ≡ slice_of sums.method minute)) ⊎ ((nat_eq k (slice_of sums.method minute) ≡ false) × (k ≢ slice_of sums.method minute)) →
-        paged.leaf_after pages (slice_of sums.method minute) (leaf sums.method (exchanged (counts_of sums (slice_of sums.method minute)) before after)) k
+    by : ((nat_eq k (slice_of sums.method minute) ≡ true) × (k ≡ slice_of sums.method minute))
+        ⊎ ((nat_eq k (slice_of sums.method minute) ≡ false) × (k ≢ slice_of sums.method minute)) →
+        paged.leaf_after pages (slice_of sums.method minute) (leaf sums.method
+        (exchanged (counts_of sums (slice_of sums.method minute)) before after)) k
         ≡ leaf sums.method (counts_after sums minute before after k)
-    by (inl same) = rw same.0 (ap (λ j. leaf sums.method (exchanged (counts_of sums j) before after)) (sym same.1))
+    by (inl same) = rw same.0
+        (ap (λ j. leaf sums.method (exchanged (counts_of sums j) before after)) (sym same.1))
     by (inr other) = rw other.0 (kept.leaves k)
 
 -- the same leaves have the same sum
-pub leaves_over-same : (f g : ℕ → Leaf) → ((k : ℕ) → f k ≡ g k) → (first count : ℕ) → leaves_over f first count ≡ leaves_over g first count
+pub leaves_over-same : (f g : ℕ → Leaf) → ((k : ℕ) → f k ≡ g k) → (first count : ℕ)
+    → leaves_over f first count ≡ leaves_over g first count
 leaves_over-same f g same first count = λ i. record { num = num i; den = den i }
   where
     num : (leaves_over f first count).num ≡ (leaves_over g first count).num
-    num = sum_over-same (λ k. (f k).num) (λ k. (g k).num) (λ k. ap (λ (l : Leaf). l.num) (same k)) first count
+    num = sum_over-same (λ k. (f k).num) (λ k. (g k).num)
+        (λ k. ap (λ (l : Leaf). l.num) (same k)) first count
 
     den : (leaves_over f first count).den ≡ (leaves_over g first count).den
-    den = sum_over-same (λ k. (f k).den) (λ k. (g k).den) (λ k. ap (λ (l : Leaf). l.den) (same k)) first count
+    den = sum_over-same (λ k. (f k).den) (λ k. (g k).den)
+        (λ k. ap (λ (l : Leaf). l.den) (same k)) first count
 
 -- the pages stay as few as the leaves after the change
-pub pages-few : (sums : CountedDays) (pages : paged.LeafDays) (minute : ℕ) (before after : Counts) → IsKept sums pages →
+pub pages-few : (sums : CountedDays) (pages : paged.LeafDays) (minute : ℕ) (before after : Counts) →
+    IsKept sums pages →
     AreFew (λ k. (leaf sums.method (counts_after sums minute before after k)).den) →
-    AreFew (λ k. (paged.leaf_after pages (slice_of sums.method minute) (leaf sums.method (exchanged (counts_of sums (slice_of sums.method minute)) before after)) k).den)
+    AreFew (λ k. (paged.leaf_after pages (slice_of sums.method minute) (leaf sums.method
+    (exchanged (counts_of sums (slice_of sums.method minute)) before after)) k).den)
 pages-few sums pages minute before after kept few first count =
     subst (λ n. n ≤ 4000000000000000)
     (sum_over-same (λ k. (leaf sums.method (counts_after sums minute before after k)).den)
-    (λ k. (paged.leaf_after pages (slice_of sums.method minute) (leaf sums.method (exchanged (counts_of sums (slice_of sums.method minute)) before after)) k).den)
-    (λ k. ap (λ (l : Leaf). l.den) (sym (leaf-after sums pages minute before after kept k))) first count) (few first count)
+    (λ k. (paged.leaf_after pages (slice_of sums.method minute) (leaf sums.method
+    (exchanged (counts_of sums (slice_of sums.method minute)) before after)) k).den)
+    (λ k. ap (λ (l : Leaf). l.den) (sym (leaf-after sums pages minute before after kept k))) first
+    count) (few first count)
 
 -- a day that the sums have is there for its leaves
 pub page-there : (sums : CountedDays) (pages : paged.LeafDays) (slice : ℕ) → IsKept sums pages →
-    IsTrue (has_day sums (slice / slices_a_day sums.method)) → IsTrue (paged.has_day pages (slice / paged.slots_a_day pages))
+    IsTrue (has_day sums (slice / slices_a_day sums.method)) →
+    IsTrue (paged.has_day pages (slice / paged.slots_a_day pages))
 page-there sums pages slice kept there =
-    subst (λ n. IsTrue (paged.has_day pages (slice / (24 * n)))) (sym kept.hour) (kept.ready (slice / slices_a_day sums.method) there)
+    subst (λ n. IsTrue (paged.has_day pages (slice / (24 * n)))) (sym kept.hour)
+    (kept.ready (slice / slices_a_day sums.method) there)
 
 -- The sums after a change.
-pub IsKept-after : (sums : CountedDays) (pages new : paged.LeafDays) (minute : ℕ) (before after : Counts) → IsKept sums pages →
+pub IsKept-after : (sums : CountedDays) (pages new : paged.LeafDays) (minute : ℕ)
+    (before after : Counts) → IsKept sums pages →
     IsTrue (has_day sums (slice_of sums.method minute / slices_a_day sums.method)) →
-    AreSoundCounts sums.method (counts_after sums minute before after) → new.per_hour ≡ pages.per_hour →
-    ((k : ℕ) → paged.leaf_at new k ≡ paged.leaf_after pages (slice_of sums.method minute) (leaf sums.method (exchanged (counts_of sums (slice_of sums.method minute)) before after)) k) →
+    AreSoundCounts sums.method (counts_after sums minute before after) →
+    new.per_hour ≡ pages.per_hour →
+    ((k : ℕ) → paged.leaf_at new k ≡ paged.leaf_after pages (slice_of sums.method minute) (leaf
+    sums.method (exchanged (counts_of sums (slice_of sums.method minute)) before after)) k) →
     ((day : ℕ) → paged.has_day new day ≡ paged.has_day pages day) →
-    IsKept (sums_with sums (slice_of sums.method minute) (exchanged (counts_of sums (slice_of sums.method minute)) before after)) new
+    IsKept (sums_with sums (slice_of sums.method minute)
+    (exchanged (counts_of sums (slice_of sums.method minute)) before after)) new
 IsKept-after sums pages new minute before after kept there sound hours leaves days = record {
-  counted = AreCounted-with sums (slice_of sums.method minute) (exchanged (counts_of sums (slice_of sums.method minute)) before after) kept.counted there
+  counted = AreCounted-with sums (slice_of sums.method minute)
+      (exchanged (counts_of sums (slice_of sums.method minute)) before after) kept.counted there
       (sound-same sums.method (counts_after sums minute before after)
-      (counts_of (sums_with sums (slice_of sums.method minute) (exchanged (counts_of sums (slice_of sums.method minute)) before after)))
+      (counts_of (sums_with sums (slice_of sums.method minute)
+      (exchanged (counts_of sums (slice_of sums.method minute)) before after)))
       (λ k. sym (counts_of-after sums minute before after kept.counted there k)) sound);
   hour = hours ∙ kept.hour;
   leaves = λ k. leaves k ∙ leaf-after sums pages minute before after kept k
-      ∙ ap (λ (c : Counts). leaf sums.method c) (sym (counts_of-after sums minute before after kept.counted there k));
+      ∙ ap (λ (c : Counts). leaf sums.method c)
+      (sym (counts_of-after sums minute before after kept.counted there k));
   ready = λ day has. subst IsTrue (sym (days day)) (kept.ready day (subst IsTrue
-      (days-changed no_counts sums.days (slice_of sums.method minute / slices_a_day sums.method) day _ there) has));
+      (days-changed no_counts sums.days (slice_of sums.method minute / slices_a_day sums.method) day
+      _ there) has));
 }
 
 nothing_below : {k : ℕ} → k < 0 → ⊥
 nothing_below less = omega arith
 
 -- the sums of no day
-pub IsKept-none : (method : Method) (pages : paged.LeafDays) → width_of method ∣ 60 → pages.per_hour ≡ 60 / width_of method → pages.days ≡ [] →
+pub IsKept-none : (method : Method) (pages : paged.LeafDays) → width_of method ∣ 60 →
+    pages.per_hour ≡ 60 / width_of method → pages.days ≡ [] →
     IsKept (record { method = method; days = [] }) pages
 IsKept-none method pages divides hour none = record {
   counted = record {
@@ -156,36 +205,51 @@ IsKept-none method pages divides hour none = record {
     };
   };
   hour = hour;
-  leaves = λ k. subst (λ days. paged.leaf_at (record { per_hour = pages.per_hour; days = days }) k ≡ record { num = 0; den = 0 }) (sym none) refl;
+  leaves = λ k. subst (λ days. paged.leaf_at (record { per_hour = pages.per_hour; days = days }) k
+      ≡ record { num = 0; den = 0 }) (sym none) refl;
   ready = λ day has. cc has;
 }
 
 -- the counts with one day more, in which nothing was counted
 abbrev pub sums_added : CountedDays → ℕ → CountedDays
-sums_added sums day = record { method = sums.method; days = sums.days ++ (day, replicate (slices_a_day sums.method) no_counts) ∷ [] }
+sums_added sums day = record {
+  method = sums.method;
+  days = sums.days ++ (day, replicate (slices_a_day sums.method) no_counts) ∷ [];
+}
 
-pub counts_of-added : (sums : CountedDays) (day k : ℕ) → counts_of (sums_added sums day) k ≡ counts_of sums k
-counts_of-added sums day k = value_at-added no_counts sums.days day (slices_a_day sums.method) (k / slices_a_day sums.method) (k % slices_a_day sums.method)
+pub counts_of-added : (sums : CountedDays) (day k : ℕ)
+    → counts_of (sums_added sums day) k ≡ counts_of sums k
+counts_of-added sums day k = value_at-added no_counts sums.days day (slices_a_day sums.method)
+    (k / slices_a_day sums.method) (k % slices_a_day sums.method)
 
-AreCounted-added : (sums : CountedDays) (day : ℕ) → AreCounted sums → AreCounted (sums_added sums day)
+AreCounted-added : (sums : CountedDays) (day : ℕ) → AreCounted sums
+    → AreCounted (sums_added sums day)
 AreCounted-added sums day counted = record {
   divides = counted.divides;
-  whole = subst (λ l. All (λ slices. length slices ≡ slices_a_day sums.method) l) (sym (values_of-push sums.days day (replicate (slices_a_day sums.method) no_counts)))
-      (All-push (λ slices. length slices ≡ slices_a_day sums.method) (values_of sums.days) (replicate (slices_a_day sums.method) no_counts) counted.whole (length-replicate (slices_a_day sums.method) no_counts));
-  sound = sound-same sums.method (counts_of sums) (counts_of (sums_added sums day)) (λ k. sym (counts_of-added sums day k)) counted.sound;
+  whole = subst (λ l. All (λ slices. length slices ≡ slices_a_day sums.method) l)
+      (sym (values_of-push sums.days day (replicate (slices_a_day sums.method) no_counts)))
+      (All-push (λ slices. length slices ≡ slices_a_day sums.method)
+      (values_of sums.days) (replicate (slices_a_day sums.method) no_counts) counted.whole
+      (length-replicate (slices_a_day sums.method) no_counts));
+  sound = sound-same sums.method (counts_of sums) (counts_of (sums_added sums day))
+      (λ k. sym (counts_of-added sums day k)) counted.sound;
 }
 
 -- The sums with one day more, which the pages have.
-pub IsKept-added : (sums : CountedDays) (pages new : paged.LeafDays) (day : ℕ) → IsKept sums pages → new.per_hour ≡ pages.per_hour →
+pub IsKept-added : (sums : CountedDays) (pages new : paged.LeafDays) (day : ℕ) → IsKept sums pages →
+    new.per_hour ≡ pages.per_hour →
     ((k : ℕ) → paged.leaf_at new k ≡ paged.leaf_at pages k) →
     ((other : ℕ) → paged.has_day new other ≡ (paged.has_day pages other || other == day)) →
     IsKept (sums_added sums day) new
 IsKept-added sums pages new day kept hours leaves days = record {
   counted = AreCounted-added sums day kept.counted;
   hour = hours ∙ kept.hour;
-  leaves = λ k. leaves k ∙ kept.leaves k ∙ ap (λ (c : Counts). leaf sums.method c) (sym (counts_of-added sums day k));
+  leaves = λ k. leaves k ∙ kept.leaves k
+      ∙ ap (λ (c : Counts). leaf sums.method c) (sym (counts_of-added sums day k));
   ready = λ other has. subst IsTrue (sym (days other))
-      (either (paged.has_day pages other) (has_day sums other) (other == day) (kept.ready other) (subst IsTrue (days-added sums.days day other (replicate (slices_a_day sums.method) no_counts)) has));
+      (either (paged.has_day pages other) (has_day sums other)
+      (other == day) (kept.ready other) (subst IsTrue (days-added sums.days day other
+      (replicate (slices_a_day sums.method) no_counts)) has));
 }
   where
     either : (p q r : Bool) → (IsTrue q → IsTrue p) → IsTrue (q || r) → IsTrue (p || r)

@@ -1,11 +1,14 @@
 -- Ranges of slots that are cut at whole hours or days.
-use Rattle.std.proofs.Common.{◌≡◌, ℕ, zero, suc, ◌+◌, ◌-◌, ◌*◌, ◌/◌, ◌%◌, ◌<◌, ◌≤◌, min, refl, sym, ap, subst, ◌∙◌, arith}
+use Rattle.std.proofs.Common.{◌≡◌, ℕ, zero, suc, ◌+◌, ◌-◌, ◌*◌, ◌/◌, ◌%◌, ◌<◌, ◌≤◌, min, refl, sym}
+use Rattle.std.proofs.Common.{ap, subst, ◌∙◌, arith}
 use Rattle.std.specs.Int.{div_ceil}
-use Rattle.std.proofs.Math.Nat.{div-mul-le_self, le_of_mul-le-mul_right, lt-div-mul-add, mul-le-mul_right}
+use Rattle.std.proofs.Math.Nat.{div-mul-le_self, le_of_mul-le-mul_right, lt-div-mul-add}
+use Rattle.std.proofs.Math.Nat.{mul-le-mul_right}
 use Rattle.std.proofs.lemmas.Grind.{div_ceil_times}
 use Rattle.exact_fraction.specs.declared.leaf.Leaf.{Leaf}
 use Rattle.slo_terms.specs.Sums.{AreSound, leaves_over, most_events, sum_over}
-use Rattle.slo_terms.proofs.RangeLemmas.{leaves-part, no_term, sum_over-join, sum_over-one, sum_over-split}
+use Rattle.slo_terms.proofs.RangeLemmas.{leaves-part, no_term, sum_over-join, sum_over-one}
+use Rattle.slo_terms.proofs.RangeLemmas.{sum_over-split}
 use Rattle.window_sums.specs.Ranges.{plus}
 
 -- a leaf by its numbers
@@ -28,67 +31,86 @@ times_one n = omega arith
 pub unit-slot : (f : ℕ → Leaf) (at : ℕ) → f at ≡ leaves_over f (at * 1) 1
 unit-slot f at =
     sym (ap (λ n. leaves_over f n 1) (times_one at)
-    ∙ same_leaf (leaves_over f at 1) (f at) (sum_over-one (λ k. (f k).num) at) (sum_over-one (λ k. (f k).den) at))
+    ∙ same_leaf (leaves_over f at 1) (f at) (sum_over-one (λ k. (f k).num) at)
+    (sum_over-one (λ k. (f k).den) at))
 
-pub slots-units : (f : ℕ → Leaf) (from count : ℕ) → leaves_over f (from * 1) (count * 1) ≡ leaves_over f from count
+pub slots-units : (f : ℕ → Leaf) (from count : ℕ)
+    → leaves_over f (from * 1) (count * 1) ≡ leaves_over f from count
 slots-units f from count = rw (times_one from, times_one count) refl
 
 -- no unit
-pub units-none : (f : ℕ → Leaf) (from u : ℕ) → record { num = 0; den = 0 } ≡ leaves_over f (from * u) ((from - from) * u)
+pub units-none : (f : ℕ → Leaf) (from u : ℕ)
+    → record { num = 0; den = 0 } ≡ leaves_over f (from * u) ((from - from) * u)
 units-none f from u =
     sym (ap (leaves_over f (from * u)) (no_units from u)
-    ∙ same_leaf (leaves_over f (from * u) 0) (record { num = 0; den = 0 }) (no_term (λ k. (f k).num) (from * u)) (no_term (λ k. (f k).den) (from * u)))
+    ∙ same_leaf (leaves_over f (from * u) 0) (record { num = 0; den = 0 })
+    (no_term (λ k. (f k).num) (from * u)) (no_term (λ k. (f k).den) (from * u)))
 
 units_times : (a d u : ℕ) → (a + d) * u ≡ a * u + d * u
 units_times a d u = omega arith
 
 -- a unit more
 pub units-next : (f : ℕ → Leaf) (from at u : ℕ) → from ≤ at →
-    leaves_over f (from * u) ((at + 1 - from) * u) ≡ plus (leaves_over f (from * u) ((at - from) * u)) (leaves_over f (at * u) u)
+    leaves_over f (from * u) ((at + 1 - from) * u)
+    ≡ plus (leaves_over f (from * u) ((at - from) * u)) (leaves_over f (at * u) u)
 units-next f from at u le =
     ap (leaves_over f (from * u)) (more at from le)
-    ∙ same_leaf (leaves_over f (from * u) ((at - from) * u + u)) (plus (leaves_over f (from * u) ((at - from) * u)) (leaves_over f (from * u + (at - from) * u) u))
-    (sum_over-split (λ k. (f k).num) (from * u) ((at - from) * u) u) (sum_over-split (λ k. (f k).den) (from * u) ((at - from) * u) u)
-    ∙ ap (λ n. plus (leaves_over f (from * u) ((at - from) * u)) (leaves_over f n u)) (there from at le)
+    ∙ same_leaf (leaves_over f (from * u) ((at - from) * u + u)) (plus
+    (leaves_over f (from * u) ((at - from) * u)) (leaves_over f (from * u + (at - from) * u) u))
+    (sum_over-split (λ k. (f k).num) (from * u) ((at - from) * u) u)
+    (sum_over-split (λ k. (f k).den) (from * u) ((at - from) * u) u)
+    ∙ ap (λ n. plus (leaves_over f (from * u) ((at - from) * u)) (leaves_over f n u))
+    (there from at le)
   where
     one : (n : ℕ) → (n + 1) * u ≡ n * u + u
     one n = omega arith
 
     more : (at from : ℕ) → from ≤ at → (at + 1 - from) * u ≡ (at - from) * u + u
-    more at from le = ap (λ n. n * u) (let e : at + 1 - from ≡ at - from + 1 = omega (arith, le) in e) ∙ one (at - from)
+    more at from le = ap (λ n. n * u) (let e : at + 1 - from ≡ at - from + 1 = omega (arith, le) in
+        e) ∙ one (at - from)
 
     there : (from at : ℕ) → from ≤ at → from * u + (at - from) * u ≡ at * u
-    there from at le = sym (units_times from (at - from) u) ∙ ap (λ n. n * u) (let e : from + (at - from) ≡ at = omega (arith, le) in e)
+    there from at le = sym (units_times from (at - from) u)
+        ∙ ap (λ n. n * u) (let e : from + (at - from) ≡ at = omega (arith, le) in e)
 
 -- what a sum of units may gain
 pub units-few : (f : ℕ → Leaf) → AreSound f → (from at u : ℕ) → from ≤ at →
-    ((leaves_over f (from * u) ((at - from) * u)).num + (leaves_over f (at * u) u).num ≤ (leaves_over f (from * u) ((at - from) * u)).den + (leaves_over f (at * u) u).den)
-    × ((leaves_over f (from * u) ((at - from) * u)).den + (leaves_over f (at * u) u).den ≤ most_events)
+    ((leaves_over f (from * u) ((at - from) * u)).num + (leaves_over f (at * u) u).num
+    ≤ (leaves_over f (from * u) ((at - from) * u)).den + (leaves_over f (at * u) u).den)
+    × ((leaves_over f (from * u) ((at - from) * u)).den + (leaves_over f (at * u) u).den
+    ≤ most_events)
 units-few f sound from at u le =
-    subst (λ (l : Leaf). (l.num ≤ l.den) × (l.den ≤ most_events)) (units-next f from at u le)
-    (leaves-part f sound (from * u) ((at + 1 - from) * u), sound.few (from * u) ((at + 1 - from) * u))
+    subst (λ (l : Leaf). (l.num ≤ l.den) × (l.den ≤ most_events)) (units-next f from at u le) (
+      leaves-part f sound (from * u) ((at + 1 - from) * u),
+      sound.few (from * u) ((at + 1 - from) * u),
+    )
 
 minus : (a b u : ℕ) → b ≤ a → (a - b) * u ≡ a * u - b * u
-minus a b u le = by (a - b) (ap (λ n. n * u) (let e : a ≡ b + (a - b) = omega (arith, le) in e) ∙ units_times b (a - b) u)
+minus a b u le = by (a - b)
+    (ap (λ n. n * u) (let e : a ≡ b + (a - b) = omega (arith, le) in e) ∙ units_times b (a - b) u)
   where
     by : (d : ℕ) → a * u ≡ b * u + d * u → d * u ≡ a * u - b * u
     by d e = omega (arith, e)
 
 -- units by their slots
-pub units-slots : (f : ℕ → Leaf) (from to u : ℕ) → from ≤ to → leaves_over f (from * u) ((to - from) * u) ≡ leaves_over f (from * u) (to * u - from * u)
+pub units-slots : (f : ℕ → Leaf) (from to u : ℕ) → from ≤ to
+    → leaves_over f (from * u) ((to - from) * u) ≡ leaves_over f (from * u) (to * u - from * u)
 units-slots f from to u le = ap (leaves_over f (from * u)) (minus to from u le)
 
 -- larger units, of `count` each, by their slots
 pub larger-slots : (f : ℕ → Leaf) (first end count u : ℕ) → first ≤ end →
-    leaves_over f (first * (count * u)) ((end - first) * (count * u)) ≡ leaves_over f (first * count * u) (end * count * u - first * count * u)
+    leaves_over f (first * (count * u)) ((end - first) * (count * u))
+    ≡ leaves_over f (first * count * u) (end * count * u - first * count * u)
 larger-slots f first end count u le =
     units-slots f first end (count * u) le
-    ∙ ap (λ n. leaves_over f n (end * (count * u) - n)) (regroup first) ∙ ap (λ n. leaves_over f (first * count * u) (n - first * count * u)) (regroup end)
+    ∙ ap (λ n. leaves_over f n (end * (count * u) - n)) (regroup first)
+    ∙ ap (λ n. leaves_over f (first * count * u) (n - first * count * u)) (regroup end)
   where
     regroup : (n : ℕ) → n * (count * u) ≡ n * count * u
     regroup n = omega arith
 
-two : (f : ℕ → Leaf) (a b c : ℕ) → a ≤ b → b ≤ c → plus (leaves_over f a (b - a)) (leaves_over f b (c - b)) ≡ leaves_over f a (c - a)
+two : (f : ℕ → Leaf) (a b c : ℕ) → a ≤ b → b ≤ c
+    → plus (leaves_over f a (b - a)) (leaves_over f b (c - b)) ≡ leaves_over f a (c - a)
 two f a b c le le2 =
     same_leaf (plus (leaves_over f a (b - a)) (leaves_over f b (c - b))) (leaves_over f a (c - a))
     (sum_over-join (λ k. (f k).num) a b c le le2) (sum_over-join (λ k. (f k).den) a b c le le2)
@@ -100,20 +122,29 @@ pub record AreParts (f : ℕ → Leaf) (a b c d : ℕ) (before middle after : Le
   pub middle_is : middle ≡ leaves_over f b (c - b)
   pub after_is : after ≡ leaves_over f c (d - c)
 
-module _ {f : ℕ → Leaf} {a b c d : ℕ} {before middle after : Leaf} (parts : AreParts f a b c d before middle after) where
+module _ {f : ℕ → Leaf} {a b c d : ℕ} {before middle after : Leaf}
+    (parts : AreParts f a b c d before middle after) where
   two_are : plus before middle ≡ leaves_over f a (c - a)
   two_are = rw (parts.before_is, parts.middle_is) (two f a b c parts.order.0 parts.order.1)
 
   pub parts-sum : plus (plus before middle) after ≡ leaves_over f a (d - a)
-  parts-sum = ap (λ l. plus l after) two_are ∙ ap (plus (leaves_over f a (c - a))) parts.after_is ∙ two f a c d (omega (arith, parts.order.0, parts.order.1)) parts.order.2
+  parts-sum = ap (λ l. plus l after) two_are ∙ ap (plus (leaves_over f a (c - a))) parts.after_is
+      ∙ two f a c d (omega (arith, parts.order.0, parts.order.1)) parts.order.2
 
   -- what may be added
-  pub first-few : AreSound f → (before.num + middle.num ≤ before.den + middle.den) × (before.den + middle.den ≤ most_events)
-  first-few sound = subst (λ (l : Leaf). (l.num ≤ l.den) × (l.den ≤ most_events)) (sym two_are) (leaves-part f sound a (c - a), sound.few a (c - a))
+  pub first-few : AreSound f → (before.num + middle.num ≤ before.den + middle.den)
+      × (before.den + middle.den ≤ most_events)
+  first-few sound = subst (λ (l : Leaf). (l.num ≤ l.den) × (l.den ≤ most_events)) (sym two_are)
+      (leaves-part f sound a (c - a), sound.few a (c - a))
 
-  pub second-few : AreSound f → (sum : Leaf) → sum ≡ plus before middle → (sum.num + after.num ≤ sum.den + after.den) × (sum.den + after.den ≤ most_events)
+  pub second-few : AreSound f → (sum : Leaf) → sum ≡ plus before middle
+      → (sum.num + after.num ≤ sum.den + after.den) × (sum.den + after.den ≤ most_events)
   second-few sound sum e =
-      subst (λ (l : Leaf). (l.num ≤ l.den) × (l.den ≤ most_events)) (sym (ap (λ l. plus l after) e ∙ parts-sum)) (leaves-part f sound a (d - a), sound.few a (d - a))
+      subst (λ (l : Leaf). (l.num ≤ l.den) × (l.den ≤ most_events))
+      (sym (ap (λ l. plus l after) e ∙ parts-sum)) (
+        leaves-part f sound a (d - a),
+        sound.few a (d - a),
+      )
 
 -- the whole units of `count` slots in a range: from `first` up to `end`
 pub record IsCut (from to count first end : ℕ) : Type 0 where
@@ -123,7 +154,8 @@ pub record IsCut (from to count first end : ℕ) : Type 0 where
   pub end_to : end * count ≤ to
   pub near_end : to < end * count + count
 
-pub is_cut : (from to count : ℕ) → 0 < count → IsCut from to count (div_ceil from count) (to / count)
+pub is_cut : (from to count : ℕ) → 0 < count
+    → IsCut from to count (div_ceil from count) (to / count)
 is_cut from to count some = record {
   some = some;
   from_first = (div_ceil_times from count some).0;
@@ -136,20 +168,26 @@ pub at_most : (a b : ℕ) → a < b → a ≤ b
 at_most a b less = omega (arith, less)
 
 -- A range of units that is cut at larger ones, of `count` units each ..
-pub larger-parts : (f : ℕ → Leaf) (from to first end count u : ℕ) (before middle after : Leaf) → IsCut from to count first end → first ≤ end →
+pub larger-parts : (f : ℕ → Leaf) (from to first end count u : ℕ) (before middle after : Leaf) →
+    IsCut from to count first end → first ≤ end →
     before ≡ leaves_over f (from * u) ((first * count - from) * u) →
     middle ≡ leaves_over f (first * (count * u)) ((end - first) * (count * u)) →
     after ≡ leaves_over f (end * count * u) ((to - end * count) * u) →
     AreParts f (from * u) (first * count * u) (end * count * u) (to * u) before middle after
 larger-parts f from to first end count u before middle after cut le x y z = record {
-  order = (mul-le-mul_right u cut.from_first, mul-le-mul_right u (mul-le-mul_right count le), mul-le-mul_right u cut.end_to);
+  order = (
+    mul-le-mul_right u cut.from_first,
+    mul-le-mul_right u (mul-le-mul_right count le),
+    mul-le-mul_right u cut.end_to,
+  );
   before_is = x ∙ units-slots f from (first * count) u cut.from_first;
   middle_is = y ∙ larger-slots f first end count u le;
   after_is = z ∙ units-slots f (end * count) to u cut.end_to;
 }
 
 -- .. and a range of slots.
-pub slot-parts : (f : ℕ → Leaf) (from to first end count : ℕ) (before middle after : Leaf) → IsCut from to count first end → first ≤ end →
+pub slot-parts : (f : ℕ → Leaf) (from to first end count : ℕ) (before middle after : Leaf) →
+    IsCut from to count first end → first ≤ end →
     before ≡ leaves_over f (from * 1) ((first * count - from) * 1) →
     middle ≡ leaves_over f (first * count) ((end - first) * count) →
     after ≡ leaves_over f (end * count * 1) ((to - end * count) * 1) →
@@ -165,7 +203,8 @@ slot-parts f from to first end count before middle after cut le x y z = record {
 pub cut-steps : (from to count first end : ℕ) → IsCut from to count first end → first ≤ end →
     first * count - from + (end - first) + (to - end * count) ≤ to - from
 cut-steps from to count first end cut le =
-    by (end - first) (ap (λ n. n * count) (let e : end ≡ first + (end - first) = omega (arith, le) in e) ∙ units_times first (end - first) count)
+    by (end - first) (ap (λ n. n * count) (let e : end ≡ first + (end - first) =
+    omega (arith, le) in e) ∙ units_times first (end - first) count)
     (grow (end - first) count cut.some)
   where
     grow : (d count : ℕ) → 0 < count → d ≤ d * count
@@ -175,14 +214,17 @@ cut-steps from to count first end cut le =
         none : 0 < 0 → ⊥
         none lt = omega arith
 
-    by : (d : ℕ) → end * count ≡ first * count + d * count → d ≤ d * count → first * count - from + d + (to - end * count) ≤ to - from
+    by : (d : ℕ) → end * count ≡ first * count + d * count → d ≤ d * count
+        → first * count - from + d + (to - end * count) ≤ to - from
     by d e less = omega (arith, e, less, cut.from_first, cut.end_to)
 
 -- the whole hours of 400 days
-pub cut-days : (from to count first end : ℕ) → IsCut from to count first end → first ≤ end → to - from ≤ 400 * (24 * count) → end - first ≤ 9600
+pub cut-days : (from to count first end : ℕ) → IsCut from to count first end → first ≤ end
+    → to - from ≤ 400 * (24 * count) → end - first ≤ 9600
 cut-days from to count first end cut le few =
     le_of_mul-le-mul_right
-    (by (end - first) (ap (λ n. n * count) (let e : end ≡ first + (end - first) = omega (arith, le) in e) ∙ units_times first (end - first) count)) cut.some
+    (by (end - first) (ap (λ n. n * count) (let e : end ≡ first + (end - first) =
+    omega (arith, le) in e) ∙ units_times first (end - first) count)) cut.some
   where
     by : (d : ℕ) → end * count ≡ first * count + d * count → d * count ≤ 9600 * count
     by d e = omega (arith, e, few, cut.from_first, cut.end_to)

@@ -1,7 +1,9 @@
 -- Widths that divide an hour, and the slices of a day.
-use Rattle.std.proofs.Common.{◌≡◌, ℕ, ◌+◌, ◌-◌, ◌*◌, min, ◌/◌, ◌%◌, ◌<◌, ◌≤◌, ◌⊎◌, inl, inr, nat_le, true, false, zero, suc, subst, ap, sym, ◌∙◌, arith}
+use Rattle.std.proofs.Common.{◌≡◌, ℕ, ◌+◌, ◌-◌, ◌*◌, min, ◌/◌, ◌%◌, ◌<◌, ◌≤◌, ◌⊎◌, inl, inr, nat_le}
+use Rattle.std.proofs.Common.{true, false, zero, suc, subst, ap, sym, ◌∙◌, arith}
 use Rattle.std.specs.Int.{◌∣◌, div_ceil}
-use Rattle.std.proofs.Math.Nat.{div-add-mod', div-div-eq-div-mul, div-mul-le_self, dvd-mul_left, le_of_mul-le-mul_right, mul-div_cancel', pos_of_dvd_of_pos}
+use Rattle.std.proofs.Math.Nat.{div-add-mod', div-div-eq-div-mul, div-mul-le_self, dvd-mul_left}
+use Rattle.std.proofs.Math.Nat.{le_of_mul-le-mul_right, mul-div_cancel', pos_of_dvd_of_pos}
 use Rattle.std.proofs.lemmas.Bool.Decides.{leb_tells}
 use Rattle.slice_method.specs.declared.method.Method.{Method}
 use Rattle.slice_method.specs.declared.method.Method.TheVariants.{Timeslices, RatioTimeslices}
@@ -17,7 +19,8 @@ pub width-few : (w : ℕ) → w ∣ 60 → w ≤ 60
 width-few w divides = le_of_dvd (omega arith) divides
 
 -- the width that a method names
-pub width-named : (method : Method) (w : ℕ) → ((target : ℕ) × (method ≡ Timeslices w target)) ⊎ (method ≡ RatioTimeslices w) →
+pub width-named : (method : Method) (w : ℕ) →
+    ((target : ℕ) × (method ≡ Timeslices w target)) ⊎ (method ≡ RatioTimeslices w) →
     width_of method ∣ 60 → w ∣ 60
 width-named method w (inl is) divides = subst (λ m. width_of m ∣ 60) is.1 divides
 width-named method w (inr is) divides = subst (λ m. width_of m ∣ 60) is divides
@@ -41,11 +44,13 @@ slices-some w divides = by (24 * (60 / w)) (day_long w divides)
 
 -- the day of a minute's slice is the minute's day
 pub day_of_slice : (w minute : ℕ) → w ∣ 60 → minute / w / (24 * (60 / w)) ≡ minute / 1440
-day_of_slice w minute divides = div-div-eq-div-mul minute w (24 * (60 / w)) ∙ ap (λ n. minute / n) (day_long w divides)
+day_of_slice w minute divides = div-div-eq-div-mul minute w (24 * (60 / w))
+    ∙ ap (λ n. minute / n) (day_long w divides)
 
 -- the first slice from a minute on, by a division that is rounded up
 pub slice_from-div_ceil : (w minute : ℕ) → 0 < w → div_ceil minute w ≡ slice_from w minute
-slice_from-div_ceil w minute some = by (minute / w) (minute % w) (sym (div-add-mod' minute w)) (mod_below minute w some)
+slice_from-div_ceil w minute some =
+    by (minute / w) (minute % w) (sym (div-add-mod' minute w)) (mod_below minute w some)
   where
     none : (q : ℕ) → q + min 1 0 ≡ q
     none q = omega arith
@@ -60,16 +65,21 @@ slice_from-div_ceil w minute some = by (minute / w) (minute % w) (sym (div-add-m
     next q r e = omega (arith, e)
 
     by : (q r : ℕ) → minute ≡ q * w + r → r < w → q + min 1 r ≡ (minute + (w - 1)) / w
-    by q zero e less = none q ∙ sym (ap (λ n. n / w) (short q e) ∙ div-mul-add q w (w - 1) (omega arith))
-    by q (suc r) e less = one q r ∙ sym (ap (λ n. n / w) (next q r e) ∙ div-mul-add (q + 1) w r (omega arith))
+    by q zero e less = none q
+        ∙ sym (ap (λ n. n / w) (short q e) ∙ div-mul-add q w (w - 1) (omega arith))
+    by q (suc r) e less = one q r
+        ∙ sym (ap (λ n. n / w) (next q r e) ∙ div-mul-add (q + 1) w r (omega arith))
 
 -- the slices of an hour divide an hour
 pub hour-divides : (w : ℕ) → w ∣ 60 → 60 / w ∣ 60
-hour-divides w divides = subst (λ n. 60 / w ∣ n) (mul-div_cancel' w divides) (dvd-mul_left (60 / w) w)
+hour-divides w divides =
+    subst (λ n. 60 / w ∣ n) (mul-div_cancel' w divides) (dvd-mul_left (60 / w) w)
 
 -- 400 days have the slices of 400 days at most
-pub slices-few : (w from to first : ℕ) → w ∣ 60 → from ≤ first * w → to - from ≤ 576000 → to / w - first ≤ 400 * (24 * (60 / w))
-slices-few w from to first divides begins few = le_of_mul-le-mul_right (by (leb_tells first (to / w))) (width-some w divides)
+pub slices-few : (w from to first : ℕ) → w ∣ 60 → from ≤ first * w → to - from ≤ 576000
+    → to / w - first ≤ 400 * (24 * (60 / w))
+slices-few w from to first divides begins few =
+    le_of_mul-le-mul_right (by (leb_tells first (to / w))) (width-some w divides)
   where
     times : (a b : ℕ) → (a + b) * w ≡ a * w + b * w
     times a b = omega arith
@@ -86,7 +96,10 @@ slices-few w from to first divides begins few = le_of_mul-le-mul_right (by (leb_
     some : (d : ℕ) → to / w * w ≡ first * w + d * w → d * w ≤ 576000
     some d e = omega (arith, e, begins, few, div-mul-le_self to w)
 
-    by : ((nat_le first (to / w) ≡ true) × (first ≤ to / w)) ⊎ ((nat_le first (to / w) ≡ false) × (to / w < first)) → (to / w - first) * w ≤ 400 * (24 * (60 / w)) * w
+    by : ((nat_le first (to / w) ≡ true) × (first ≤ to / w))
+        ⊎ ((nat_le first (to / w) ≡ false) × (to / w < first))
+        → (to / w - first) * w ≤ 400 * (24 * (60 / w)) * w
     by (inl e) = rw (all (60 / w) (day_long w divides))
-        (some (to / w - first) (ap (λ n. n * w) (let e2 : to / w ≡ first + (to / w - first) = omega (arith, e.1) in e2) ∙ times first (to / w - first)))
+        (some (to / w - first) (ap (λ n. n * w) (let e2 : to / w ≡ first + (to / w - first) =
+        omega (arith, e.1) in e2) ∙ times first (to / w - first)))
     by (inr e) = rw (all (60 / w) (day_long w divides)) (none (to / w - first) (omega (arith, e.1)))

@@ -15,8 +15,10 @@ pub record Share : Type 0 where
 -- The counts of a slice: the shares of its minutes, added up.
 abbrev pub slice_counts : Method → List Share → ℕ → Counts
 slice_counts method shares slice = record {
-  good = amount_at (λ share. slice_of method share.minute) (λ share. share.counts.good) shares slice;
-  total = amount_at (λ share. slice_of method share.minute) (λ share. share.counts.total) shares slice;
+  good =
+      amount_at (λ share. slice_of method share.minute) (λ share. share.counts.good) shares slice;
+  total =
+      amount_at (λ share. slice_of method share.minute) (λ share. share.counts.total) shares slice;
 }
 
 -- the sums have of each slice these counts

@@ -1,10 +1,12 @@
 -- The counts of each slice of time, kept day by day.
-use Rattle.std.specs.Prelude.{ℕ, Bool, ◌+◌, ◌-◌, ◌*◌, ◌/◌, ◌≤◌, ◌≡◌, ◌==◌, IsTrue, List, All, length, if◌then◌else◌}
+use Rattle.std.specs.Prelude.{ℕ, Bool, ◌+◌, ◌-◌, ◌*◌, ◌/◌, ◌≤◌, ◌≡◌, ◌==◌, IsTrue, List, All}
+use Rattle.std.specs.Prelude.{length, if◌then◌else◌}
 use Rattle.std.specs.Int.{◌∣◌}
 use Rattle.std.specs.Map.{values_of}
 use Rattle.slice_method.specs.declared.amount.Counts.{Counts}
 use Rattle.slice_method.specs.declared.method.Method.{Method}
-use Rattle.slice_method.specs.declared.method.Method.TheVariants.{Occurrences, Timeslices, RatioTimeslices}
+use Rattle.slice_method.specs.declared.method.Method.TheVariants.{Occurrences, Timeslices}
+use Rattle.slice_method.specs.declared.method.Method.TheVariants.{RatioTimeslices}
 use Rattle.slice_method.specs.Leaves.{leaf}
 use Rattle.exact_fraction.specs.declared.leaf.Leaf.{Leaf}
 use Rattle.sum_pages.specs.DayTables.{is_day_of, value_at}
@@ -29,7 +31,8 @@ day_of minute = minute / 1440
 abbrev pub slice_of : Method → ℕ → ℕ
 slice_of method minute = minute / width_of method
 
--- The method, and of each day that is there the counts of its slices, in the order in which the days came.
+-- The method, and of each day that is there the counts of its slices, in the order in which
+-- the days came.
 pub record CountedDays : Type 0 where
   pub method : Method
   pub days : List (ℕ × List Counts)
@@ -52,7 +55,10 @@ has_day sums day = is_day_of sums.days day
 -- counts that lose `before` and gain `after`
 abbrev pub exchanged : Counts → Counts → Counts → Counts
 exchanged counts before after =
-    record { good = counts.good - before.good + after.good; total = counts.total - before.total + after.total }
+    record {
+      good = counts.good - before.good + after.good;
+      total = counts.total - before.total + after.total;
+    }
 
 -- the counts have `before`, and are a part of few events with `after`
 pub record MayExchange (counts before after : Counts) : Type 0 where
@@ -64,7 +70,8 @@ pub record MayExchange (counts before after : Counts) : Type 0 where
 -- the counts of each slice once the slice of a minute has lost `before` and gained `after`
 abbrev pub counts_after : CountedDays → ℕ → Counts → Counts → ℕ → Counts
 counts_after sums minute before after slice =
-    if slice == slice_of sums.method minute then exchanged (counts_of sums slice) before after else counts_of sums slice
+    if slice == slice_of sums.method minute then exchanged (counts_of sums slice) before after
+    else counts_of sums slice
 
 -- the good events are a part of all
 abbrev pub IsPart : Counts → Type 0
@@ -76,11 +83,13 @@ pub record AreSoundCounts (method : Method) (counts : ℕ → Counts) : Type 0 w
   pub events : AreFew (λ slice. (counts slice).total)
   pub leaves : AreFew (λ slice. (leaf method (counts slice)).den)
 
--- the counts are parts, all slices together have so many events at most, and so does the den of their leaves
+-- the counts are parts, all slices together have so many events at most, and so does the den
+-- of their leaves
 pub record HasAtMost (method : Method) (counts : ℕ → Counts) (most : ℕ) : Type 0 where
   pub parts : (slice : ℕ) → IsPart (counts slice)
   pub events : (first count : ℕ) → sum_over (λ slice. (counts slice).total) first count ≤ most
-  pub leaves : (first count : ℕ) → sum_over (λ slice. (leaf method (counts slice)).den) first count ≤ most
+  pub leaves : (first count : ℕ)
+      → sum_over (λ slice. (leaf method (counts slice)).den) first count ≤ most
 
 -- what is kept of the counts
 pub record AreCounted (sums : CountedDays) : Type 0 where

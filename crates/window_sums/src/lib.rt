@@ -10,4 +10,5 @@ mod widths;
 mod window_sums;
 
 pub use laws::counts_of_rows_are_sound;
+pub use widths::width_of;
 pub use window_sums::WindowSums;

@@ -1,4 +1,4 @@
-// How a method cuts time into slices.
+//! How a method cuts time into slices.
 ghost use Rattle.std.specs.Prelude.{◌≡◌, ◌/◌, ◌<◌, ◌≤◌};
 ghost use Rattle.std.specs.Int.{◌∣◌};
 ghost use Rattle.window_sums.specs.Slices.{slices_a_day, width_of};
@@ -9,8 +9,8 @@ const MINUTES_AN_HOUR: u32 = 60;
 
 const HOURS_A_DAY: u32 = 24;
 
-// How many minutes a slice has.
-pub(crate) fn width_of(method: &Method) -> u32
+/// How many minutes a slice of a method has: a divisor of 60.
+pub fn width_of(method: &Method) -> u32
     requires { width_of method.now ∣ 60 }
     ensures value { result ≡ width_of method.now }
     ensures some { 0 < result }

@@ -1,4 +1,5 @@
-use Rattle.std.proofs.Common.{◌≡◌, ◌+◌, ◌/◌, ◌<◌, ◌≤◌, ℕ, List, ap, sym, subst, ◌∙◌, arith, suc, take}
+use Rattle.std.proofs.Common.{◌≡◌, ◌+◌, ◌/◌, ◌<◌, ◌≤◌, ℕ, List, ap, sym, subst, ◌∙◌, arith, suc}
+use Rattle.std.proofs.Common.{take}
 use Rattle.std.proofs.Common.{length}
 use Rattle.std.proofs.lemmas.Slice.Eq.{bytes_eq-Decides}
 use Rattle.sample_book.specs.declared.Row.{Row}

@@ -9,5 +9,8 @@ returns c =
     let run = c.args.run in
     let joined : run.first < run.last → 2 * width ≤ c.reach.result + 1 =
     λ less. subst (λ r. 2 * width ≤ r + 1) (sym c.reach.ensures) (c.requires.run.joined less) in
-    let reach : c.reach.result ≡ reach_of c.args.line.now.rule = c.reach.ensures ∙ ap reach_of (sym c.requires.rule) in
-    marked-run c.args.line.now c.mark.new.self width c.reach.result run.first run.last c.requires.some c.requires.run.order joined reach c.mark.ensures.alert c.mark.ensures.forgotten c.mark.ensures.agrees
+    let reach : c.reach.result ≡ reach_of c.args.line.now.rule = c.reach.ensures
+    ∙ ap reach_of (sym c.requires.rule) in
+    marked-run c.args.line.now c.mark.new.self width c.reach.result
+    run.first run.last c.requires.some c.requires.run.order joined reach c.mark.ensures.alert
+    c.mark.ensures.forgotten c.mark.ensures.agrees

@@ -9,7 +9,8 @@ use Rattle.kept_sums.proofs.anew.sums_over.Given as goal
 -- the rows of the indicator behind a place count, and their days are there
 abbrev pub invariant-loop-next : goal.invariant-loop-next
 invariant-loop-next l = record {
-  walking : IsWalking (is_of l.measure.sli) (λ row. no_counts) (row_counts l.measure l.book.exclusions) l.book.rows l.next l.sums;
+  walking : IsWalking (is_of l.measure.sli) (λ row. no_counts)
+      (row_counts l.measure l.book.exclusions) l.book.rows l.next l.sums;
   method : l.sums.method ≡ l.measure.method;
   days : AllByRecursion (HasItsDay l.measure l.sums) (drop (rows_until l.next) l.book.rows);
 }

@@ -1,22 +1,27 @@
-use Rattle.std.proofs.Common.{sym, ◌∙◌, refl, ap, ◌≡◌, ◌<◌, ◌++◌, take, subst, arith, length, slice_get, Some}
+use Rattle.std.proofs.Common.{sym, ◌∙◌, refl, ap, ◌≡◌, ◌<◌, ◌++◌, take, subst, arith, length}
+use Rattle.std.proofs.Common.{slice_get, Some}
 use Rattle.slice_method.specs.declared.Method.{Method}
 use Rattle.window_sums.specs.Slices.{slice_of}
 use Rattle.kept_sums.specs.Sums.{Fits}
-use Rattle.kept_sums.proofs.FollowLemmas.{follow_begins, follow_ends, follow_may, follow_next, verdict_there}
+use Rattle.kept_sums.proofs.FollowLemmas.{follow_begins, follow_ends, follow_may, follow_next}
+use Rattle.kept_sums.proofs.FollowLemmas.{verdict_there}
 use Rattle.kept_sums.proofs.ListLemmas.{all_at, get_index}
 use Rattle.kept_sums.proofs.batch.follow_rows.Goals as goal
 
 pub loop-place-init : goal.loop-place-init
 loop-place-init c = record {
-  followed = follow_begins c.args.measure.now c.args.book.now.exclusions c.args.book.now.rows c.args.rows.now c.args.sums.now
+  followed = follow_begins c.args.measure.now c.args.book.now.exclusions c.args.book.now.rows
+      c.args.rows.now c.args.sums.now
       c.rows_are_current.ensures c.requires.kept c.requires.forms;
   touched = λ slice none. refl;
 }
 
 pub bounds-verdicts-place : goal.bounds-verdicts-place
 bounds-verdicts-place c =
-    verdict_there c.args.book.now.rows c.args.rows.now c.args.verdicts.now c.loop-place.place c.index-rows-place.result c.requires.verdicts
-    (get_index c.args.rows.now c.loop-place.place c.index-rows-place.result c.loop-place-test.true c.index-rows-place.is)
+    verdict_there c.args.book.now.rows c.args.rows.now c.args.verdicts.now c.loop-place.place
+    c.index-rows-place.result c.requires.verdicts
+    (get_index c.args.rows.now c.loop-place.place c.index-rows-place.result c.loop-place-test.true
+    c.index-rows-place.is)
 
 pub follow_row-requires : goal.follow_row-requires
 follow_row-requires c =
@@ -25,12 +30,17 @@ follow_row-requires c =
     let at = c.loop-place.place in
     let row = c.index-rows-place.result in
     let here = get_index rows at row c.loop-place-test.true c.index-rows-place.is in
-    let less : at < length c.args.verdicts.now = verdict_there before rows c.args.verdicts.now at row c.requires.verdicts here in
-    let judged = subst (λ l. slice_get l at ≡ Some c.index-verdicts-place.result) c.requires.verdicts (get_index c.args.verdicts.now at c.index-verdicts-place.result less c.index-verdicts-place.is) in
+    let less : at < length c.args.verdicts.now =
+    verdict_there before rows c.args.verdicts.now at row c.requires.verdicts here in
+    let judged = subst (λ l. slice_get l at ≡ Some c.index-verdicts-place.result)
+    c.requires.verdicts (get_index c.args.verdicts.now at c.index-verdicts-place.result less
+    c.index-verdicts-place.is) in
     record {
       may = (
         before ++ take at rows,
-        follow_may c.args.measure.now c.args.book.now.exclusions before rows at row c.index-verdicts-place.result c.args.sums.now c.loop-place.sums c.loop-place.invariant.followed here judged
+        follow_may c.args.measure.now c.args.book.now.exclusions
+            before rows at row c.index-verdicts-place.result c.args.sums.now c.loop-place.sums
+            c.loop-place.invariant.followed here judged
             c.requires.fit c.requires.days c.requires.few,
       );
     }
@@ -42,14 +52,23 @@ loop-place-preserved c =
     let at = c.loop-place.place in
     let row = c.index-rows-place.result in
     let here = get_index rows at row c.loop-place-test.true c.index-rows-place.is in
-    let less : at < length c.args.verdicts.now = verdict_there before rows c.args.verdicts.now at row c.requires.verdicts here in
-    let judged = subst (λ l. slice_get l at ≡ Some c.index-verdicts-place.result) c.requires.verdicts (get_index c.args.verdicts.now at c.index-verdicts-place.result less c.index-verdicts-place.is) in
-    let given = get_index c.args.verdicts.now at c.index-verdicts-place.result less c.index-verdicts-place.is in
-    let may = follow_may c.args.measure.now c.args.book.now.exclusions before rows at row c.index-verdicts-place.result c.args.sums.now c.loop-place.sums c.loop-place.invariant.followed here judged
+    let less : at < length c.args.verdicts.now =
+    verdict_there before rows c.args.verdicts.now at row c.requires.verdicts here in
+    let judged = subst (λ l. slice_get l at ≡ Some c.index-verdicts-place.result)
+    c.requires.verdicts (get_index c.args.verdicts.now at c.index-verdicts-place.result less
+    c.index-verdicts-place.is) in
+    let given = get_index c.args.verdicts.now at c.index-verdicts-place.result less
+    c.index-verdicts-place.is in
+    let may = follow_may c.args.measure.now c.args.book.now.exclusions
+    before rows at row c.index-verdicts-place.result c.args.sums.now c.loop-place.sums
+    c.loop-place.invariant.followed here judged
     c.requires.fit c.requires.days c.requires.few in
     record {
-      followed = follow_next c.args.measure.now c.args.book.now.exclusions before rows at row c.args.sums.now c.loop-place.sums c.follow_row.new.sums c.loop-place.invariant.followed here
-          (all_at (Fits c.args.measure.now) rows at row here c.requires.fit) (c.follow_row.ensures.kept (before ++ take at rows) may) c.follow_row.ensures.days;
+      followed = follow_next c.args.measure.now c.args.book.now.exclusions before
+          rows at row c.args.sums.now c.loop-place.sums c.follow_row.new.sums
+          c.loop-place.invariant.followed here
+          (all_at (Fits c.args.measure.now) rows at row here c.requires.fit)
+          (c.follow_row.ensures.kept (before ++ take at rows) may) c.follow_row.ensures.days;
       touched = λ slice none.
           c.follow_row.ensures.touched slice (λ is same. none (record {
             place = at;
@@ -58,13 +77,15 @@ loop-place-preserved c =
             here = here;
             judged = given;
             moved = is;
-            lies = ap (λ (m : Method). slice_of m row.minute) (sym c.loop-place.invariant.followed.kept.method) ∙ sym same;
+            lies = ap (λ (m : Method). slice_of m row.minute)
+                (sym c.loop-place.invariant.followed.kept.method) ∙ sym same;
           })) ∙ c.loop-place.invariant.touched slice none;
     }
 
 pub returns-clause-kept : goal.returns-clause-kept
 returns-clause-kept c =
-    follow_ends c.args.measure.now c.args.book.now.exclusions c.args.book.now.rows c.args.rows.now c.loop-place.place c.args.sums.now c.loop-place.sums c.loop-place.invariant.followed
+    follow_ends c.args.measure.now c.args.book.now.exclusions c.args.book.now.rows c.args.rows.now
+    c.loop-place.place c.args.sums.now c.loop-place.sums c.loop-place.invariant.followed
     (omega (arith, c.loop-place-test.false, c.loop-place.auto.place-end))
 
 pub returns-clause-days : goal.returns-clause-days

@@ -7,5 +7,6 @@ use Rattle.kept_sums.proofs.batch.follow_rows.Given as goal
 abbrev pub invariant-loop-place : goal.invariant-loop-place
 invariant-loop-place l = record {
   followed : HasFollowed l.measure l.book.exclusions l.book.rows l.rows l.place l.fn.sums l.sums;
-  touched : (slice : ℕ) → (HasMoved l.measure l.rows l.verdicts slice → ⊥) → counts_of l.sums slice ≡ counts_of l.fn.sums slice;
+  touched : (slice : ℕ) → (HasMoved l.measure l.rows l.verdicts slice → ⊥)
+      → counts_of l.sums slice ≡ counts_of l.fn.sums slice;
 }

@@ -9,5 +9,6 @@ use Rattle.kept_sums.proofs.batch.reserve_rows.Given as goal
 abbrev pub invariant-loop-row : goal.invariant-loop-row
 invariant-loop-row l = record {
   days : AllByRecursion (HasItsDay l.measure l.sums) (take l.row-index l.rows);
-  kept : (made : List (Exclusion × Bool)) (before : List Row) → IsKept l.measure made before l.fn.sums → IsKept l.measure made before l.sums;
+  kept : (made : List (Exclusion × Bool)) (before : List Row)
+      → IsKept l.measure made before l.fn.sums → IsKept l.measure made before l.sums;
 }

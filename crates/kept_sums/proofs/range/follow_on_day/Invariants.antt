@@ -9,11 +9,15 @@ use Rattle.kept_sums.proofs.range.follow_on_day.Given as goal
 abbrev pub invariant-loop-next : goal.invariant-loop-next
 invariant-loop-next l = record {
   walking : IsWalking (is_on l.measure.sli l.day)
-      (up_to l.measure.sli l.first l.day (row_counts l.measure (made_on l.book.exclusions l.value (not l.taken))) (row_counts l.measure (made_on l.book.exclusions l.value l.taken)))
-      (up_to l.measure.sli l.first (l.day + 1) (row_counts l.measure (made_on l.book.exclusions l.value (not l.taken))) (row_counts l.measure (made_on l.book.exclusions l.value l.taken)))
+      (up_to l.measure.sli l.first l.day (row_counts l.measure (made_on l.book.exclusions l.value
+      (not l.taken))) (row_counts l.measure (made_on l.book.exclusions l.value l.taken)))
+      (up_to l.measure.sli l.first
+      (l.day + 1) (row_counts l.measure (made_on l.book.exclusions l.value (not l.taken)))
+      (row_counts l.measure (made_on l.book.exclusions l.value l.taken)))
       l.book.rows l.next l.sums;
   method : l.sums.method ≡ l.fn.sums.method;
-  touched : l.fn.sums.method ≡ l.measure.method → (slice : ℕ) → (IsChanged l.measure l.book.exclusions l.value l.book.rows slice → ⊥) →
+  touched : l.fn.sums.method ≡ l.measure.method → (slice : ℕ) →
+      (IsChanged l.measure l.book.exclusions l.value l.book.rows slice → ⊥) →
       counts_of l.sums slice ≡ counts_of l.fn.sums slice;
   days : (day : ℕ) → has_day l.sums day ≡ has_day l.fn.sums day;
 }

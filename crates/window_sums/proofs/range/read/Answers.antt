@@ -9,4 +9,6 @@ pub returns-in-Slot-clause-value : goal.returns-in-Slot-clause-value
 returns-in-Slot-clause-value g c =
     c.read_leaf.ensures.value
     ∙ unit-slot (leaf_at c.args.pages.now) c.args.at
-    ∙ ap (λ u. leaves_over (leaf_at c.args.pages.now) (c.args.at * slots_of u c.args.pages.now.per_hour) (slots_of u c.args.pages.now.per_hour)) (sym c.in-Slot.is)
+    ∙ ap (λ u. leaves_over (leaf_at c.args.pages.now)
+    (c.args.at * slots_of u c.args.pages.now.per_hour) (slots_of u c.args.pages.now.per_hour))
+    (sym c.in-Slot.is)

@@ -2,7 +2,9 @@ use Rattle.std.proofs.Common.{◌+◌, ◌-◌, ◌*◌, ◌/◌, ◌≤◌, ap,
 use Rattle.slo_terms.specs.Sums.{leaves_over}
 use Rattle.sum_pages.specs.Pages.{leaf_at}
 use Rattle.window_sums.specs.Ranges.{plus}
-use Rattle.window_sums.proofs.RangeFacts.{IsCut, cut-days, cut-steps, first-few, at_most, is_cut, larger-parts, parts-sum, second-few, slot-parts, units-slots}
+use Rattle.window_sums.proofs.RangeFacts.{IsCut, cut-days, cut-steps, first-few, at_most, is_cut}
+use Rattle.window_sums.proofs.RangeFacts.{larger-parts, parts-sum, second-few, slot-parts}
+use Rattle.window_sums.proofs.RangeFacts.{units-slots}
 use Rattle.window_sums.proofs.range.sum_hours.Goals as goal
 
 pub plus-requires-clause-part : goal.plus-requires-clause-part
@@ -10,9 +12,13 @@ plus-requires-clause-part g c =
     let leaf = leaf_at c.args.pages.now in
     let first = c.div_ceil-first.result in
     let end = c.args.to / 24 in
-    let cut : IsCut c.args.from c.args.to 24 first end = subst (λ n. IsCut c.args.from c.args.to 24 n end) (sym c.div_ceil-first.ensures) (is_cut c.args.from c.args.to 24 (omega arith)) in
-    let parts = larger-parts leaf c.args.from c.args.to first end 24 c.args.pages.now.per_hour c.sum_units-before.result c.sum_units-days.result c.sum_units-after.result cut
-    (at_most first end c.if-end-first.false) c.sum_units-before.ensures.value c.sum_units-days.ensures.value c.sum_units-after.ensures.value in
+    let cut : IsCut c.args.from c.args.to 24 first end =
+    subst (λ n. IsCut c.args.from c.args.to 24 n end) (sym c.div_ceil-first.ensures)
+    (is_cut c.args.from c.args.to 24 (omega arith)) in
+    let parts = larger-parts leaf c.args.from c.args.to first end 24 c.args.pages.now.per_hour
+    c.sum_units-before.result c.sum_units-days.result c.sum_units-after.result cut
+    (at_most first end c.if-end-first.false) c.sum_units-before.ensures.value
+    c.sum_units-days.ensures.value c.sum_units-after.ensures.value in
     (first-few parts c.sound.ensures).0
 
 pub plus-requires-clause-few : goal.plus-requires-clause-few
@@ -20,9 +26,13 @@ plus-requires-clause-few g c =
     let leaf = leaf_at c.args.pages.now in
     let first = c.div_ceil-first.result in
     let end = c.args.to / 24 in
-    let cut : IsCut c.args.from c.args.to 24 first end = subst (λ n. IsCut c.args.from c.args.to 24 n end) (sym c.div_ceil-first.ensures) (is_cut c.args.from c.args.to 24 (omega arith)) in
-    let parts = larger-parts leaf c.args.from c.args.to first end 24 c.args.pages.now.per_hour c.sum_units-before.result c.sum_units-days.result c.sum_units-after.result cut
-    (at_most first end c.if-end-first.false) c.sum_units-before.ensures.value c.sum_units-days.ensures.value c.sum_units-after.ensures.value in
+    let cut : IsCut c.args.from c.args.to 24 first end =
+    subst (λ n. IsCut c.args.from c.args.to 24 n end) (sym c.div_ceil-first.ensures)
+    (is_cut c.args.from c.args.to 24 (omega arith)) in
+    let parts = larger-parts leaf c.args.from c.args.to first end 24 c.args.pages.now.per_hour
+    c.sum_units-before.result c.sum_units-days.result c.sum_units-after.result cut
+    (at_most first end c.if-end-first.false) c.sum_units-before.ensures.value
+    c.sum_units-days.ensures.value c.sum_units-after.ensures.value in
     (first-few parts c.sound.ensures).1
 
 pub plus-requires-2-clause-part : goal.plus-requires-2-clause-part
@@ -30,9 +40,13 @@ plus-requires-2-clause-part g c =
     let leaf = leaf_at c.args.pages.now in
     let first = c.div_ceil-first.result in
     let end = c.args.to / 24 in
-    let cut : IsCut c.args.from c.args.to 24 first end = subst (λ n. IsCut c.args.from c.args.to 24 n end) (sym c.div_ceil-first.ensures) (is_cut c.args.from c.args.to 24 (omega arith)) in
-    let parts = larger-parts leaf c.args.from c.args.to first end 24 c.args.pages.now.per_hour c.sum_units-before.result c.sum_units-days.result c.sum_units-after.result cut
-    (at_most first end c.if-end-first.false) c.sum_units-before.ensures.value c.sum_units-days.ensures.value c.sum_units-after.ensures.value in
+    let cut : IsCut c.args.from c.args.to 24 first end =
+    subst (λ n. IsCut c.args.from c.args.to 24 n end) (sym c.div_ceil-first.ensures)
+    (is_cut c.args.from c.args.to 24 (omega arith)) in
+    let parts = larger-parts leaf c.args.from c.args.to first end 24 c.args.pages.now.per_hour
+    c.sum_units-before.result c.sum_units-days.result c.sum_units-after.result cut
+    (at_most first end c.if-end-first.false) c.sum_units-before.ensures.value
+    c.sum_units-days.ensures.value c.sum_units-after.ensures.value in
     (second-few parts c.sound.ensures c.plus.result c.plus.ensures).0
 
 pub plus-requires-2-clause-few : goal.plus-requires-2-clause-few
@@ -40,9 +54,13 @@ plus-requires-2-clause-few g c =
     let leaf = leaf_at c.args.pages.now in
     let first = c.div_ceil-first.result in
     let end = c.args.to / 24 in
-    let cut : IsCut c.args.from c.args.to 24 first end = subst (λ n. IsCut c.args.from c.args.to 24 n end) (sym c.div_ceil-first.ensures) (is_cut c.args.from c.args.to 24 (omega arith)) in
-    let parts = larger-parts leaf c.args.from c.args.to first end 24 c.args.pages.now.per_hour c.sum_units-before.result c.sum_units-days.result c.sum_units-after.result cut
-    (at_most first end c.if-end-first.false) c.sum_units-before.ensures.value c.sum_units-days.ensures.value c.sum_units-after.ensures.value in
+    let cut : IsCut c.args.from c.args.to 24 first end =
+    subst (λ n. IsCut c.args.from c.args.to 24 n end) (sym c.div_ceil-first.ensures)
+    (is_cut c.args.from c.args.to 24 (omega arith)) in
+    let parts = larger-parts leaf c.args.from c.args.to first end 24 c.args.pages.now.per_hour
+    c.sum_units-before.result c.sum_units-days.result c.sum_units-after.result cut
+    (at_most first end c.if-end-first.false) c.sum_units-before.ensures.value
+    c.sum_units-days.ensures.value c.sum_units-after.ensures.value in
     (second-few parts c.sound.ensures c.plus.result c.plus.ensures).1
 
 pub returns-clause-value : goal.returns-clause-value
@@ -50,7 +68,17 @@ returns-clause-value g c =
     let leaf = leaf_at c.args.pages.now in
     let first = c.div_ceil-first.result in
     let end = c.args.to / 24 in
-    let cut : IsCut c.args.from c.args.to 24 first end = subst (λ n. IsCut c.args.from c.args.to 24 n end) (sym c.div_ceil-first.ensures) (is_cut c.args.from c.args.to 24 (omega arith)) in
-    let parts = larger-parts leaf c.args.from c.args.to first end 24 c.args.pages.now.per_hour c.sum_units-before.result c.sum_units-days.result c.sum_units-after.result cut
-    (at_most first end c.if-end-first.false) c.sum_units-before.ensures.value c.sum_units-days.ensures.value c.sum_units-after.ensures.value in
-    c.plus-2.ensures ∙ ap (λ s. plus s c.sum_units-after.result) c.plus.ensures ∙ parts-sum parts ∙ sym (units-slots leaf c.args.from c.args.to c.args.pages.now.per_hour (omega (arith, cut.from_first, cut.end_to, at_most first end c.if-end-first.false)))
+    let cut : IsCut c.args.from c.args.to 24 first end =
+    subst (λ n. IsCut c.args.from c.args.to 24 n end) (sym c.div_ceil-first.ensures)
+    (is_cut c.args.from c.args.to 24 (omega arith)) in
+    let parts = larger-parts leaf c.args.from c.args.to first end 24 c.args.pages.now.per_hour
+    c.sum_units-before.result c.sum_units-days.result c.sum_units-after.result cut
+    (at_most first end c.if-end-first.false) c.sum_units-before.ensures.value
+    c.sum_units-days.ensures.value c.sum_units-after.ensures.value in
+    c.plus-2.ensures ∙ ap (λ s. plus s c.sum_units-after.result) c.plus.ensures ∙ parts-sum parts
+    ∙ sym (units-slots leaf c.args.from c.args.to c.args.pages.now.per_hour (omega (
+      arith,
+      cut.from_first,
+      cut.end_to,
+      at_most first end c.if-end-first.false,
+    )))

@@ -6,5 +6,9 @@ use Rattle.window_sums.proofs.window_sums.WindowSums.sound.Goals as goal
 
 pub returns : goal.returns
 returns c =
-    let sums : CountedDays = record { method = c.self.inside.method; days = c.self.inside.days.entries } in
-    subst (λ (s : CountedDays). AreSound (leaf_at s)) c.self.view_is (leaves-sound sums c.self.invariant.counted.sound)
+    let sums : CountedDays = record {
+      method = c.self.inside.method;
+      days = c.self.inside.days.entries;
+    } in
+    subst (λ (s : CountedDays). AreSound (leaf_at s)) c.self.view_is
+    (leaves-sound sums c.self.invariant.counted.sound)

@@ -12,57 +12,107 @@ use Rattle.window_sums.proofs.window_sums.WindowSums.sum.Goals as goal
 
 pub returns-clause-value : goal.returns-clause-value
 returns-clause-value g c =
-    let sums : CountedDays = record { method = c.self.inside.method; days = c.self.inside.days.entries } in
-    let width : c.width_of-width.result ≡ width_of c.args.self.now.method = c.width_of-width.ensures.value ∙ ap (λ (s : CountedDays). width_of s.method) c.self.view_is in
+    let sums : CountedDays = record {
+      method = c.self.inside.method;
+      days = c.self.inside.days.entries;
+    } in
+    let width : c.width_of-width.result ≡ width_of c.args.self.now.method =
+    c.width_of-width.ensures.value
+    ∙ ap (λ (s : CountedDays). width_of s.method) c.self.view_is in
     let first : c.div_ceil.result ≡ slice_from (width_of c.args.self.now.method) c.args.from =
-    c.div_ceil.ensures ∙ slice_from-div_ceil c.width_of-width.result c.args.from c.width_of-width.ensures.some ∙ ap (λ w. slice_from w c.args.from) width in
+    c.div_ceil.ensures ∙ slice_from-div_ceil c.width_of-width.result c.args.from
+    c.width_of-width.ensures.some ∙ ap (λ w. slice_from w c.args.from) width in
     let value = c.sum_slots.ensures.value
-    ∙ leaves_over-same (paged.leaf_at c.self.inside.pages) (leaf_at sums) c.self.invariant.leaves c.div_ceil.result (c.args.to / c.width_of-width.result - c.div_ceil.result)
-    ∙ ap (λ s. leaves_over (leaf_at s) c.div_ceil.result (c.args.to / c.width_of-width.result - c.div_ceil.result)) c.self.view_is
-    ∙ ap (λ n. leaves_over (leaf_at c.args.self.now) n (c.args.to / c.width_of-width.result - n)) first
-    ∙ ap (λ w. leaves_over (leaf_at c.args.self.now) (slice_from (width_of c.args.self.now.method) c.args.from) (c.args.to / w - slice_from (width_of c.args.self.now.method) c.args.from)) width in
+    ∙ leaves_over-same (paged.leaf_at c.self.inside.pages) (leaf_at sums) c.self.invariant.leaves
+    c.div_ceil.result (c.args.to / c.width_of-width.result - c.div_ceil.result)
+    ∙ ap (λ s. leaves_over (leaf_at s) c.div_ceil.result
+    (c.args.to / c.width_of-width.result - c.div_ceil.result)) c.self.view_is
+    ∙ ap (λ n. leaves_over (leaf_at c.args.self.now) n (c.args.to / c.width_of-width.result - n))
+    first
+    ∙ ap (λ w. leaves_over (leaf_at c.args.self.now)
+    (slice_from (width_of c.args.self.now.method) c.args.from)
+    (c.args.to / w - slice_from (width_of c.args.self.now.method) c.args.from)) width in
     value
 
 pub returns-clause-part : goal.returns-clause-part
 returns-clause-part g c =
-    let sums : CountedDays = record { method = c.self.inside.method; days = c.self.inside.days.entries } in
-    let width : c.width_of-width.result ≡ width_of c.args.self.now.method = c.width_of-width.ensures.value ∙ ap (λ (s : CountedDays). width_of s.method) c.self.view_is in
+    let sums : CountedDays = record {
+      method = c.self.inside.method;
+      days = c.self.inside.days.entries;
+    } in
+    let width : c.width_of-width.result ≡ width_of c.args.self.now.method =
+    c.width_of-width.ensures.value
+    ∙ ap (λ (s : CountedDays). width_of s.method) c.self.view_is in
     let first : c.div_ceil.result ≡ slice_from (width_of c.args.self.now.method) c.args.from =
-    c.div_ceil.ensures ∙ slice_from-div_ceil c.width_of-width.result c.args.from c.width_of-width.ensures.some ∙ ap (λ w. slice_from w c.args.from) width in
+    c.div_ceil.ensures ∙ slice_from-div_ceil c.width_of-width.result c.args.from
+    c.width_of-width.ensures.some ∙ ap (λ w. slice_from w c.args.from) width in
     let value = c.sum_slots.ensures.value
-    ∙ leaves_over-same (paged.leaf_at c.self.inside.pages) (leaf_at sums) c.self.invariant.leaves c.div_ceil.result (c.args.to / c.width_of-width.result - c.div_ceil.result)
-    ∙ ap (λ s. leaves_over (leaf_at s) c.div_ceil.result (c.args.to / c.width_of-width.result - c.div_ceil.result)) c.self.view_is
-    ∙ ap (λ n. leaves_over (leaf_at c.args.self.now) n (c.args.to / c.width_of-width.result - n)) first
-    ∙ ap (λ w. leaves_over (leaf_at c.args.self.now) (slice_from (width_of c.args.self.now.method) c.args.from) (c.args.to / w - slice_from (width_of c.args.self.now.method) c.args.from)) width in
-    subst (λ (l : Leaf). l.num ≤ l.den) (sym value) (leaves-part (leaf_at c.args.self.now) c.sound.ensures (slice_from (width_of c.args.self.now.method) c.args.from) (slices_until (width_of c.args.self.now.method) c.args.to - slice_from (width_of c.args.self.now.method) c.args.from))
+    ∙ leaves_over-same (paged.leaf_at c.self.inside.pages) (leaf_at sums) c.self.invariant.leaves
+    c.div_ceil.result (c.args.to / c.width_of-width.result - c.div_ceil.result)
+    ∙ ap (λ s. leaves_over (leaf_at s) c.div_ceil.result
+    (c.args.to / c.width_of-width.result - c.div_ceil.result)) c.self.view_is
+    ∙ ap (λ n. leaves_over (leaf_at c.args.self.now) n (c.args.to / c.width_of-width.result - n))
+    first
+    ∙ ap (λ w. leaves_over (leaf_at c.args.self.now)
+    (slice_from (width_of c.args.self.now.method) c.args.from)
+    (c.args.to / w - slice_from (width_of c.args.self.now.method) c.args.from)) width in
+    subst (λ (l : Leaf). l.num ≤ l.den) (sym value) (leaves-part (leaf_at c.args.self.now)
+    c.sound.ensures (slice_from (width_of c.args.self.now.method) c.args.from)
+    (slices_until (width_of c.args.self.now.method) c.args.to - slice_from
+    (width_of c.args.self.now.method) c.args.from))
 
 pub returns-clause-few : goal.returns-clause-few
 returns-clause-few g c =
-    let sums : CountedDays = record { method = c.self.inside.method; days = c.self.inside.days.entries } in
-    let width : c.width_of-width.result ≡ width_of c.args.self.now.method = c.width_of-width.ensures.value ∙ ap (λ (s : CountedDays). width_of s.method) c.self.view_is in
+    let sums : CountedDays = record {
+      method = c.self.inside.method;
+      days = c.self.inside.days.entries;
+    } in
+    let width : c.width_of-width.result ≡ width_of c.args.self.now.method =
+    c.width_of-width.ensures.value
+    ∙ ap (λ (s : CountedDays). width_of s.method) c.self.view_is in
     let first : c.div_ceil.result ≡ slice_from (width_of c.args.self.now.method) c.args.from =
-    c.div_ceil.ensures ∙ slice_from-div_ceil c.width_of-width.result c.args.from c.width_of-width.ensures.some ∙ ap (λ w. slice_from w c.args.from) width in
+    c.div_ceil.ensures ∙ slice_from-div_ceil c.width_of-width.result c.args.from
+    c.width_of-width.ensures.some ∙ ap (λ w. slice_from w c.args.from) width in
     let value = c.sum_slots.ensures.value
-    ∙ leaves_over-same (paged.leaf_at c.self.inside.pages) (leaf_at sums) c.self.invariant.leaves c.div_ceil.result (c.args.to / c.width_of-width.result - c.div_ceil.result)
-    ∙ ap (λ s. leaves_over (leaf_at s) c.div_ceil.result (c.args.to / c.width_of-width.result - c.div_ceil.result)) c.self.view_is
-    ∙ ap (λ n. leaves_over (leaf_at c.args.self.now) n (c.args.to / c.width_of-width.result - n)) first
-    ∙ ap (λ w. leaves_over (leaf_at c.args.self.now) (slice_from (width_of c.args.self.now.method) c.args.from) (c.args.to / w - slice_from (width_of c.args.self.now.method) c.args.from)) width in
-    subst (λ (l : Leaf). l.den ≤ most_events) (sym value) (c.sound.ensures.few (slice_from (width_of c.args.self.now.method) c.args.from) (slices_until (width_of c.args.self.now.method) c.args.to - slice_from (width_of c.args.self.now.method) c.args.from))
+    ∙ leaves_over-same (paged.leaf_at c.self.inside.pages) (leaf_at sums) c.self.invariant.leaves
+    c.div_ceil.result (c.args.to / c.width_of-width.result - c.div_ceil.result)
+    ∙ ap (λ s. leaves_over (leaf_at s) c.div_ceil.result
+    (c.args.to / c.width_of-width.result - c.div_ceil.result)) c.self.view_is
+    ∙ ap (λ n. leaves_over (leaf_at c.args.self.now) n (c.args.to / c.width_of-width.result - n))
+    first
+    ∙ ap (λ w. leaves_over (leaf_at c.args.self.now)
+    (slice_from (width_of c.args.self.now.method) c.args.from)
+    (c.args.to / w - slice_from (width_of c.args.self.now.method) c.args.from)) width in
+    subst (λ (l : Leaf). l.den ≤ most_events)
+    (sym value) (c.sound.ensures.few (slice_from (width_of c.args.self.now.method) c.args.from)
+    (slices_until (width_of c.args.self.now.method) c.args.to - slice_from
+    (width_of c.args.self.now.method) c.args.from))
 
 pub returns-clause-bounded : goal.returns-clause-bounded
 returns-clause-bounded g c = λ few.
     let hour = c.self.invariant.hour ∙ ap (λ w. 60 / w) (sym c.width_of-width.ensures.value) in
-    let divides = subst (λ w. w ∣ 60) (sym c.width_of-width.ensures.value) c.self.invariant.counted.divides in
-    let begins = subst (λ n. c.args.from ≤ n * c.width_of-width.result) (sym c.div_ceil.ensures) (div_ceil_times c.args.from c.width_of-width.result c.width_of-width.ensures.some).0 in
+    let divides =
+    subst (λ w. w ∣ 60) (sym c.width_of-width.ensures.value) c.self.invariant.counted.divides in
+    let begins = subst (λ n. c.args.from ≤ n * c.width_of-width.result) (sym c.div_ceil.ensures)
+    (div_ceil_times c.args.from c.width_of-width.result c.width_of-width.ensures.some).0 in
     c.sum_slots.ensures.bounded
-    (subst (λ n. c.args.to / c.width_of-width.result - c.div_ceil.result ≤ 400 * (24 * n)) (sym hour)
+    (subst (λ n. c.args.to / c.width_of-width.result - c.div_ceil.result ≤ 400 * (24 * n))
+    (sym hour)
     (slices-few c.width_of-width.result c.args.from c.args.to c.div_ceil.result divides begins few))
 
 pub returns-clause-short : goal.returns-clause-short
 returns-clause-short g c =
-    let sums : CountedDays = record { method = c.self.inside.method; days = c.self.inside.days.entries } in
-    let width : c.width_of-width.result ≡ width_of c.args.self.now.method = c.width_of-width.ensures.value ∙ ap (λ (s : CountedDays). width_of s.method) c.self.view_is in
+    let sums : CountedDays = record {
+      method = c.self.inside.method;
+      days = c.self.inside.days.entries;
+    } in
+    let width : c.width_of-width.result ≡ width_of c.args.self.now.method =
+    c.width_of-width.ensures.value
+    ∙ ap (λ (s : CountedDays). width_of s.method) c.self.view_is in
     let first : c.div_ceil.result ≡ slice_from (width_of c.args.self.now.method) c.args.from =
-    c.div_ceil.ensures ∙ slice_from-div_ceil c.width_of-width.result c.args.from c.width_of-width.ensures.some ∙ ap (λ w. slice_from w c.args.from) width in
-    subst (λ w. c.sum_slots.new.steps ≤ c.args.steps.now + (c.args.to / w - slice_from (width_of c.args.self.now.method) c.args.from)) width
-    (subst (λ n. c.sum_slots.new.steps ≤ c.args.steps.now + (c.args.to / c.width_of-width.result - n)) first c.sum_slots.ensures.short)
+    c.div_ceil.ensures ∙ slice_from-div_ceil c.width_of-width.result c.args.from
+    c.width_of-width.ensures.some ∙ ap (λ w. slice_from w c.args.from) width in
+    subst (λ w. c.sum_slots.new.steps ≤ c.args.steps.now
+    + (c.args.to / w - slice_from (width_of c.args.self.now.method) c.args.from)) width
+    (subst (λ n. c.sum_slots.new.steps ≤ c.args.steps.now
+    + (c.args.to / c.width_of-width.result - n)) first c.sum_slots.ensures.short)
