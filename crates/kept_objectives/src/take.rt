@@ -26,7 +26,8 @@ fn is_wanted(wanted: &[Measure], measure: &Measure) -> bool
 
 impl KeptSums {
     /// Keeps what a plan wants of the sums that were there and of those that it brings. There is
-    /// room for these, and no memory is taken.
+    /// room for these, and no memory is taken. What is kept then stands in the order of the SLOs'
+    /// names, in which `find` looks for it.
     pub fn take(&mut self, plan: SumsPlan)
         requires room { length plan.made.items ≤ self.old.spare }
         ensures sums { (made : List (Exclusion × Bool)) (rows : List Row)
@@ -42,5 +43,7 @@ impl KeptSums {
         self.objectives.append(&mut made).unwrap();
         self.objectives
             .retain(|kept| is_wanted(&wanted, &kept.measure));
+        self.objectives
+            .sort_unstable_by_key(|kept| kept.measure.slo);
     }
 }

@@ -2,11 +2,16 @@ use Rattle.std.proofs.Common.{rules, ◌≡◌, ◌++◌, List, if◌then◌else
 use Rattle.std.specs.Prelude.{is_ok}
 use Rattle.std.specs.List.{Contains}
 use Rattle.kept_sums.specs.Sums.{IsKept}
+use Rattle.office_history.specs.declared.Measure.{Measure}
 use Rattle.kept_objectives.specs.Objectives.{AreKept, KeptObjectives, measures_of}
 use Rattle.kept_objectives.specs.declared.kept.ObjectiveSums.{ObjectiveSums}
-use Rattle.kept_objectives.proofs.TakeLemmas.{all_append, one_of_both, retained_each}
-use Rattle.kept_objectives.proofs.TakeLemmas.{retained_there, retained_wanted}
+use Rattle.kept_objectives.proofs.TakeLemmas.{all_append, each_in_order, one_of_both}
+use Rattle.kept_objectives.proofs.TakeLemmas.{retained_each, retained_there, retained_wanted}
+use Rattle.kept_objectives.proofs.TakeLemmas.{there_in_order}
 use Rattle.kept_objectives.proofs.kept.KeptSums.take.Goals as goal
+
+abbrev key : ObjectiveSums → Measure
+key k = k.measure
 
 -- both lists stand together before those that aren't wanted go
 together : (c : goal.After-drop-wanted) →
@@ -20,21 +25,23 @@ together c =
 
 pub returns-clause-sums : goal.returns-clause-sums
 returns-clause-sums c = λ made rows old new.
-    retained_each _ _ (λ (k : ObjectiveSums). IsKept k.measure made rows k.sums) _
-    c.retain.new.self.items c.retain.ensures.filtered
+    let P = λ (k : ObjectiveSums). IsKept k.measure made rows k.sums in
+    each_in_order P c.retain.new.self.items _ c.sort_unstable_by_key.ensures.permutation
+    (retained_each _ _ P _ c.retain.new.self.items c.retain.ensures.filtered
     (subst (AreKept made rows) (sym (together c))
-    (all_append (λ (k : ObjectiveSums). IsKept k.measure made rows k.sums) c.args.self.now.kept
-    c.args.plan.made.items old new))
+    (all_append P c.args.self.now.kept c.args.plan.made.items old new)))
 
 pub returns-clause-wanted : goal.returns-clause-wanted
 returns-clause-wanted c =
-    retained_wanted _ c.args.plan.wanted.items _ (λ x b g k. search rules) _
-    c.retain.new.self.items c.retain.ensures.filtered
+    each_in_order (λ (k : ObjectiveSums). Contains c.args.plan.wanted.items k.measure)
+    c.retain.new.self.items _ c.sort_unstable_by_key.ensures.permutation
+    (retained_wanted key _ c.args.plan.wanted.items _ (λ x b g k. search rules) _
+    c.retain.new.self.items c.retain.ensures.filtered)
 
 pub returns-clause-there : goal.returns-clause-there
 returns-clause-there c = λ m want at.
-    retained_there _ c.args.plan.wanted.items _ (λ x b g k. search rules) _
+    there_in_order key c.retain.new.self.items _ m c.sort_unstable_by_key.ensures.permutation
+    (retained_there key _ c.args.plan.wanted.items _ (λ x b g k. search rules) _
     c.retain.new.self.items c.retain.ensures.filtered m want
-    (subst (λ (os : List ObjectiveSums). Contains (measures_of os) m)
-    (sym (together c))
-    (one_of_both c.args.self.now.kept c.args.plan.made.items m at))
+    (subst (λ (os : List ObjectiveSums). Contains (measures_of os) m) (sym (together c))
+    (one_of_both key c.args.self.now.kept c.args.plan.made.items m at)))
