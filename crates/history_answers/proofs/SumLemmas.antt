@@ -8,4 +8,5 @@ use Rattle.watched_objectives.specs.Sums.{AreSums}
 
 pub seen_sum : (s : Samples) (m : Measure) (sums : CountedDays) (from to : ℕ) → AreSums s m sums →
     sum_of_slices (width_of sums.method) (leaf_at sums) from to ≡ sum_between s m from to
-seen_sum s m sums from to are = λ i. sum_of_slices (width_of (are.method i)) (λ slice. are.leaves slice i) from to
+seen_sum s m sums from to are =
+    λ i. sum_of_slices (width_of (are.method i)) (λ slice. are.leaves slice i) from to

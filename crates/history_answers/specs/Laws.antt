@@ -8,4 +8,5 @@ use Rattle.office_history.specs.Answers.{Answers}
 -- two outcomes that answer one query over one office at one moment are the same
 abbrev pub EachQueryHasOneAnswer : Type 0
 EachQueryHasOneAnswer =
-    (o : Office) (moment : ℕ) (query : Query) (a b : Outcome) → Answers o moment query a → Answers o moment query b → a ≡ b
+    (o : Office) (moment : ℕ) (query : Query) (a b : Outcome) → Answers o moment query a
+    → Answers o moment query b → a ≡ b

@@ -1,3 +1,3 @@
 pub mod Laws
-pub mod Starts
+pub mod Learning
 pub mod States

@@ -9,4 +9,5 @@ use Rattle.office_history.specs.Notices.{samples_in}
 
 -- the state of a binding at a minute, where it is one of the catalog's
 abbrev pub binding_state : Office → Binding → ℕ → Option State
-binding_state o b at = option_map (λ w. state_at o.origin (samples_in o.history) w at) (watched (catalog_in o.history) b)
+binding_state o b at = option_map (λ w. state_at o.origin (samples_in o.history) w at)
+    (watched (catalog_in o.history) b)

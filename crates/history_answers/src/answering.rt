@@ -3,7 +3,9 @@ ghost use Rattle.std.specs.Prelude.{◌≡◌, ◌≤◌, ◌<◌, ◌⊎◌, If
 ghost use Rattle.office_history.specs.History.{Office, end_of};
 ghost use Rattle.office_history.specs.Answers.{Answers};
 ghost use Rattle.office_derived.specs.Derived.{IsSound, Reflects};
+ghost use Rattle.watched_objectives.specs.Known.{AllKnow};
 ghost use Rattle.watched_objectives.specs.Lines.{HasLines};
+ghost use Rattle.history_answers.specs.Learning.{KnowsAnswered};
 
 use crate::budget_list::budget_list;
 use crate::burn_rate::burn_rate;
@@ -30,6 +32,8 @@ fn answered(
     ensures answer { (o : Office) → Reflects derived.now o
         → IfOk result (Answers o moment query.now) }
     ensures lines { HasLines derived.now lines.new.kept }
+    ensures know { AllKnow lines.old.kept lines.new.kept }
+    ensures learnt { IfOk result (KnowsAnswered derived.now.catalog lines.new.kept query.now) }
     ensures spare { lines.new.spare ≡ lines.old.spare }
 {
     match *query {
@@ -54,13 +58,14 @@ fn answered(
                 objective,
                 policy,
             };
-            timeline(alloc, derived, lines, moment, &binding, from, to)
+            timeline(derived, lines, moment, &binding, from, to)
         }
         Query::Notices => notice_list(alloc, derived),
     }
 }
 
-/// The answer to a query at a moment of the office's range, or `NoMemory` where memory ran out.
+/// The answer to a query at a moment of the office's range, or `NoMemory` where memory ran out. No
+/// line forgets a minute, and a timeline that is given has its minutes known.
 pub fn answer(
     alloc: Global,
     derived: &Derived,
@@ -75,6 +80,8 @@ pub fn answer(
     ensures answer { (o : Office) → Reflects derived.now o
         → (Answers o moment query.now result ⊎ (result ≡ Outcome.NoMemory)) }
     ensures lines { HasLines derived.now lines.new.kept }
+    ensures know { AllKnow lines.old.kept lines.new.kept }
+    ensures learnt { KnowsAnswered derived.now.catalog lines.new.kept query.now result }
     ensures spare { lines.new.spare ≡ lines.old.spare }
 {
     match answered(alloc, derived, lines, moment, query) {

@@ -106,7 +106,7 @@ fn budgets_of(
         return Ok(Outcome::Refused(Refusal::Range));
     }
     let horizon = derived.origin + RANGE_MINUTES;
-    match window_start(alloc, &derived.zones, &slo.time_window, horizon, at)? {
+    match window_start(&derived.zones, &slo.time_window, horizon, at) {
         Some(from) => budgets_from(alloc, derived, name, from, at),
         None => Ok(Outcome::Refused(Refusal::NoWindow { at })),
     }

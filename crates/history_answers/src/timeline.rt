@@ -6,8 +6,11 @@ ghost use Rattle.record_form.specs.declared.Query.TheVariants.{Timeline};
 ghost use Rattle.office_history.specs.History.{Office, end_of};
 ghost use Rattle.office_history.specs.Answers.{Answers, AnswersTimeline};
 ghost use Rattle.office_derived.specs.Derived.{IsSound, Reflects};
-ghost use Rattle.watched_objectives.specs.Watches.{IsWatched};
+ghost use Rattle.office_history.specs.Alerts.{watched as watched_lem};
+ghost use Rattle.watched_objectives.specs.Known.{AllKnow};
 ghost use Rattle.watched_objectives.specs.Lines.{HasLines};
+ghost use Rattle.watched_objectives.specs.Watches.{IsWatched};
+ghost use Rattle.history_answers.specs.Learning.{KnowsGiven};
 ghost use Rattle.history_answers.specs.States.{binding_state};
 
 use burn_core::State;
@@ -16,7 +19,7 @@ use office_derived::Derived;
 use record_form::{Listed, Outcome, Refusal};
 use slo_catalog::Binding;
 use slo_limits::MAX_TIMELINE;
-use std::alloc::{AllocError, Global};
+use std::alloc::AllocError;
 use watched_objectives::{KeptLines, Watch, watched};
 
 // Whether [from, to) lies between the origin and the moment, and is short enough.
@@ -28,7 +31,6 @@ fn is_timeline(derived: &Derived, moment: u32, from: u32, to: u32) -> bool
 }
 
 fn timeline_of(
-    alloc: Global,
     derived: &Derived,
     lines: &mut KeptLines,
     moment: u32,
@@ -43,7 +45,10 @@ fn timeline_of(
     requires lines { HasLines derived.now lines.old.kept }
     ensures answer { (o : Office) → Reflects derived.now o
         → IfOk result (AnswersTimeline o moment from to (Some watch.now)) }
+    ensures learnt { IfOk result (λ outcome. KnowsGiven lines.new.kept from to outcome
+        (Some watch.now)) }
     ensures lines { HasLines derived.now lines.new.kept }
+    ensures know { AllKnow lines.old.kept lines.new.kept }
     ensures spare { lines.new.spare ≡ lines.old.spare }
 {
     if !is_timeline(derived, moment, from, to) {
@@ -60,7 +65,6 @@ fn timeline_of(
 
 /// The stretches of [from, to) in which a binding's alert is active, and its state at the moment.
 pub(crate) fn timeline(
-    alloc: Global,
     derived: &Derived,
     lines: &mut KeptLines,
     moment: u32,
@@ -75,39 +79,36 @@ pub(crate) fn timeline(
     ensures answer { (o : Office) → Reflects derived.now o
         → IfOk result (Answers o moment (Timeline binding.now.slo binding.now.objective
         binding.now.policy from to)) }
+    ensures learnt { IfOk result (λ outcome. KnowsGiven lines.new.kept from to outcome
+        (watched_lem derived.now.catalog binding.now)) }
     ensures lines { HasLines derived.now lines.new.kept }
+    ensures know { AllKnow lines.old.kept lines.new.kept }
     ensures spare { lines.new.spare ≡ lines.old.spare }
 {
-    let found = watched(alloc, &derived.catalog, binding)?;
-    match found {
-        Some(watch) => timeline_of(alloc, derived, lines, moment, &watch, from, to),
+    match watched(&derived.catalog, binding) {
+        Some(watch) => timeline_of(derived, lines, moment, &watch, from, to),
         None => Ok(Outcome::Refused(Refusal::NotFound)),
     }
 }
 
 /// The state of a binding at a minute of the office's range: none exactly where there is no such
-/// binding.
-///
-/// # Errors
-///
-/// Memory ran out.
+/// binding. Takes no memory.
 pub fn state_of(
-    alloc: Global,
     derived: &Derived,
     lines: &mut KeptLines,
     slo: Label,
     objective: u32,
     policy: Label,
     at: u32,
-) -> Result<Option<State>, AllocError>
+) -> Option<State>
     requires sound { IsSound derived.now }
     requires begun { derived.now.origin ≤ at }
     requires in_range { at < end_of derived.now.origin }
     requires lines { HasLines derived.now lines.old.kept }
-    ensures state { (o : Office) → Reflects derived.now o
-        → IfOk result (λ state. state ≡ binding_state o
-        (record { slo = slo; objective = objective; policy = policy }) at) }
+    ensures state { (o : Office) → Reflects derived.now o → result ≡ binding_state o
+        (record { slo = slo; objective = objective; policy = policy }) at }
     ensures lines { HasLines derived.now lines.new.kept }
+    ensures know { AllKnow lines.old.kept lines.new.kept }
     ensures spare { lines.new.spare ≡ lines.old.spare }
 {
     let binding = Binding {
@@ -115,9 +116,8 @@ pub fn state_of(
         objective,
         policy,
     };
-    let found = watched(alloc, &derived.catalog, &binding)?;
-    match found {
-        Some(watch) => Ok(Some(lines.state_at(derived, &watch, at))),
-        None => Ok(None),
+    match watched(&derived.catalog, &binding) {
+        Some(watch) => Some(lines.state_at(derived, &watch, at)),
+        None => None,
     }
 }

@@ -1,5 +1,7 @@
 -- What a tick finds and leaves.
-use Rattle.std.proofs.Common.{◌≡◌, ℕ, ◌+◌, ◌<◌, ◌≤◌, nat_lt, Bool, true, false, not, cond, refl, ap, sym, ◌∙◌, subst, arith, List, [], ◌∷◌, ◌++◌, map, max, length, length-append}
+use Rattle.std.proofs.Common.{◌≡◌, ℕ, ◌+◌, ◌<◌, ◌≤◌, nat_lt, Bool, true, false, not, cond, refl, ap}
+use Rattle.std.proofs.Common.{sym, ◌∙◌, subst, arith, List, [], ◌∷◌, ◌++◌, map, max, length}
+use Rattle.std.proofs.Common.{length-append}
 use Rattle.std.proofs.lemmas.List.{append-nil, length-map, map-append}
 use Rattle.slo_limits.specs.declared.TheConstants as most
 use Rattle.burn_core.specs.declared.State.{State}
@@ -14,12 +16,15 @@ use Rattle.record_form.specs.declared.Refusal.TheVariants as refusals
 use Rattle.record_form.specs.declared.LimitName.TheVariants as limits
 use Rattle.office_history.specs.declared.Judgement.{Judgement}
 use Rattle.office_history.specs.declared.Judgement.TheVariants.{Accepted, Same, Refused}
-use Rattle.office_history.specs.History.{Office, with_entry, present, rows_in, changes_in, events_in, accepted_rows}
+use Rattle.office_history.specs.History.{Office, with_entry, present, rows_in, changes_in}
+use Rattle.office_history.specs.History.{events_in, accepted_rows}
 use Rattle.office_history.specs.Catalog.{catalog_in}
 use Rattle.office_history.specs.Zones.{zones_in}
 use Rattle.office_history.specs.Alerts.{states_at}
 use Rattle.office_history.specs.Lists.{last_of}
-use Rattle.office_history.specs.Notices.{changes, is_taken, last_states, notice_of, notices_in, numbered, states_of_tick, states_over, tick_changes, ticks_in, told_at, told_in, waiting}
+use Rattle.office_history.specs.Notices.{changes, is_taken, last_states, notice_of, notices_in}
+use Rattle.office_history.specs.Notices.{numbered, states_of_tick, states_over, tick_changes}
+use Rattle.office_history.specs.Notices.{ticks_in, told_at, told_in, waiting}
 use Rattle.office_history.specs.Batches.{when}
 use Rattle.office_history.specs.Judges.{Judges}
 use Rattle.office_history.specs.Verdicts.{accepted, tick_verdict, unless_refused}
@@ -29,42 +34,59 @@ use Rattle.office_derived.specs.declared.Judged.TheVariants as judged
 use Rattle.office_derived.specs.declared.Work.{Work}
 use Rattle.office_derived.specs.Derived.{IsFound, IsJudged, IsSound, Reflects, command_of}
 use Rattle.office_derived.proofs.Lists.{last-push, map_ext}
-use Rattle.office_derived.proofs.More.{rows_more, changes_more, events_more, zones_more, catalog_more, present_more, told_more, ticks_more}
+use Rattle.office_derived.proofs.More.{rows_more, changes_more, events_more, zones_more}
+use Rattle.office_derived.proofs.More.{catalog_more, present_more, told_more, ticks_more}
 use Rattle.office_derived.proofs.Sound.{sound_still}
 use Rattle.office_derived.proofs.Still.{taken_still}
 use Rattle.watched_objectives.specs.Sums.{samples_of}
 use Rattle.notice_changes.specs.Works.{new_notices}
-use Rattle.notice_changes.proofs.BoxLemmas.{length_new, length_numbered, numbered_more, waiting_more, waiting_new}
+use Rattle.notice_changes.proofs.BoxLemmas.{length_new, length_numbered, numbered_more}
+use Rattle.notice_changes.proofs.BoxLemmas.{waiting_more, waiting_new}
 
 abbrev pub tick_at : ℕ → Entry
 tick_at moment = record { moment = moment; command = Tick }
 
 -- a tick leaves catalog, rows and exclusions
-pub catalog_still : (o : Office) (moment : ℕ) → catalog_in (o.history ++ tick_at moment ∷ []) ≡ catalog_in o.history
+pub catalog_still : (o : Office) (moment : ℕ)
+    → catalog_in (o.history ++ tick_at moment ∷ []) ≡ catalog_in o.history
 catalog_still o moment = catalog_more o.history (tick_at moment)
 
-rows_still : (o : Office) (moment : ℕ) → rows_in (o.history ++ tick_at moment ∷ []) ≡ rows_in o.history
+rows_still : (o : Office) (moment : ℕ)
+    → rows_in (o.history ++ tick_at moment ∷ []) ≡ rows_in o.history
 rows_still o moment = rows_more o.history (tick_at moment) ∙ append-nil (rows_in o.history)
 
-changes_still : (o : Office) (moment : ℕ) → changes_in (o.history ++ tick_at moment ∷ []) ≡ changes_in o.history
+changes_still : (o : Office) (moment : ℕ)
+    → changes_in (o.history ++ tick_at moment ∷ []) ≡ changes_in o.history
 changes_still o moment = changes_more o.history (tick_at moment) ∙ append-nil (changes_in o.history)
 
-pub states_still : (o : Office) (moment at : ℕ) → states_over (with_entry o (tick_at moment)) at ≡ states_over o at
+pub states_still : (o : Office) (moment at : ℕ)
+    → states_over (with_entry o (tick_at moment)) at ≡ states_over o at
 states_still o moment at = λ i.
-    states_at o.origin (catalog_still o moment i) (record { rows = current_rows (rows_still o moment i); exclusions = book.exclusions_of (changes_still o moment i) }) at
+    states_at o.origin (catalog_still o moment i)
+    (record {
+      rows = current_rows (rows_still o moment i);
+      exclusions = book.exclusions_of (changes_still o moment i);
+    }) at
 
 -- what a tick would tell is what it tells
-pub told_by_tick : (o : Office) (moment : ℕ) → told_at o (tick_at moment) ≡ map (λ c. (moment, c)) (tick_changes (last_states o) o moment)
-told_by_tick o moment = λ i. map (λ c. (moment, c)) (changes (catalog_still o moment i) (last_states o) (states_still o moment moment i))
+pub told_by_tick : (o : Office) (moment : ℕ)
+    → told_at o (tick_at moment) ≡ map (λ c. (moment, c)) (tick_changes (last_states o) o moment)
+told_by_tick o moment = λ i. map (λ c. (moment, c))
+    (changes (catalog_still o moment i) (last_states o) (states_still o moment moment i))
 
-pub count_told : (o : Office) (moment : ℕ) → length (told_at o (tick_at moment)) ≡ length (tick_changes (last_states o) o moment)
-count_told o moment = ap length (told_by_tick o moment) ∙ length-map (tick_changes (last_states o) o moment) (λ c. (moment, c))
+pub count_told : (o : Office) (moment : ℕ)
+    → length (told_at o (tick_at moment)) ≡ length (tick_changes (last_states o) o moment)
+count_told o moment = ap length (told_by_tick o moment)
+    ∙ length-map (tick_changes (last_states o) o moment) (λ c. (moment, c))
 
 -- what is kept gives the states and changes of the history
-pub found_states : (d : Derived) (o : Office) (moment : ℕ) → Reflects d o → states_at d.origin d.catalog (samples_of d.book) moment ≡ states_over o moment
-found_states d o moment r = λ i. states_at (r.origin i) (r.catalog i) (record { rows = r.rows i; exclusions = r.exclusions i }) moment
+pub found_states : (d : Derived) (o : Office) (moment : ℕ) → Reflects d o
+    → states_at d.origin d.catalog (samples_of d.book) moment ≡ states_over o moment
+found_states d o moment r = λ i. states_at (r.origin i) (r.catalog i)
+    (record { rows = r.rows i; exclusions = r.exclusions i }) moment
 
-pub found_changes : (d : Derived) (o : Office) (moment : ℕ) (states : List (Binding × State)) → Reflects d o → states ≡ states_over o moment →
+pub found_changes : (d : Derived) (o : Office) (moment : ℕ) (states : List (Binding × State)) →
+    Reflects d o → states ≡ states_over o moment →
     changes d.catalog d.states.items states ≡ tick_changes (last_states o) o moment
 found_changes d o moment states r e = λ i. changes (r.catalog i) (r.states i) (e i)
 
@@ -81,10 +103,12 @@ pub judged_tick : (d : Derived) (o : Office) (moment told : ℕ) (work : Work) �
     j ≡ tick_verdict d.notices.made d.entries told → IsJudged o moment Tick (judged_as j work)
 judged_tick d o moment told work r found command count j e = by j (e ∙ same)
   where
-    same : tick_verdict d.notices.made d.entries told ≡ tick_verdict (notices_in o) (length o.history) (length (told_at o (tick_at moment)))
+    same : tick_verdict d.notices.made d.entries told ≡ tick_verdict (notices_in o)
+        (length o.history) (length (told_at o (tick_at moment)))
     same = λ i. tick_verdict (r.notices i) (r.entries i) ((count ∙ sym (count_told o moment)) i)
 
-    by : (j : Judgement) → j ≡ tick_verdict (notices_in o) (length o.history) (length (told_at o (tick_at moment))) → IsJudged o moment Tick (judged_as j work)
+    by : (j : Judgement) → j ≡ tick_verdict (notices_in o) (length o.history)
+        (length (told_at o (tick_at moment))) → IsJudged o moment Tick (judged_as j work)
     by Accepted e = (e, command, found)
     by (Same outcome) e = e
     by (Refused refusal) e = e
@@ -92,69 +116,93 @@ judged_tick d o moment told work r found command count j e = by j (e ∙ same)
 pub entries_below : (n : ℕ) → accepted n ≡ Accepted → n < most.MAX_ENTRIES
 entries_below n h = by (nat_lt n most.MAX_ENTRIES) refl h
   where
-    by : (b : Bool) → nat_lt n most.MAX_ENTRIES ≡ b → cond b Accepted (Refused (refusals.Limit limits.Entries)) ≡ Accepted → n < most.MAX_ENTRIES
+    by : (b : Bool) → nat_lt n most.MAX_ENTRIES ≡ b
+        → cond b Accepted (Refused (refusals.Limit limits.Entries)) ≡ Accepted
+        → n < most.MAX_ENTRIES
     by true e h = grind (arith, e)
     by false e h = cc h
 
 -- A tick is accepted within the limits.
-pub tick_few : (made : List (Notice × Bool)) (n told : ℕ) → tick_verdict made n told ≡ Accepted → (waiting made + told ≤ most.MAX_NOTICES) × (n < most.MAX_ENTRIES)
+pub tick_few : (made : List (Notice × Bool)) (n told : ℕ) → tick_verdict made n told ≡ Accepted
+    → (waiting made + told ≤ most.MAX_NOTICES) × (n < most.MAX_ENTRIES)
 tick_few made n told h = by (nat_lt most.MAX_NOTICES (waiting made + told)) refl h
   where
-    by : (b : Bool) → nat_lt most.MAX_NOTICES (waiting made + told) ≡ b → unless_refused (when b (refusals.Limit limits.Notices)) (accepted n) ≡ Accepted →
+    by : (b : Bool) → nat_lt most.MAX_NOTICES (waiting made + told) ≡ b →
+        unless_refused (when b (refusals.Limit limits.Notices)) (accepted n) ≡ Accepted →
         (waiting made + told ≤ most.MAX_NOTICES) × (n < most.MAX_ENTRIES)
     by true e h = cc h
     by false e h = (grind (arith, e), entries_below n h)
 
 -- the limits of a tick that is the next, over what is kept
-pub next_few : (d : Derived) (o : Office) (moment : ℕ) (told : List (Binding × State)) → Reflects d o → Judges o moment Tick Accepted → told ≡ tick_changes (last_states o) o moment →
+pub next_few : (d : Derived) (o : Office) (moment : ℕ) (told : List (Binding × State)) →
+    Reflects d o → Judges o moment Tick Accepted → told ≡ tick_changes (last_states o) o moment →
     (waiting d.notices.made + length told ≤ most.MAX_NOTICES) × (d.entries < most.MAX_ENTRIES)
 next_few d o moment told r judged found =
-    let few = tick_few (notices_in o) (length o.history) (length (told_at o (tick_at moment))) (sym judged) in
-    let count : length told ≡ length (told_at o (tick_at moment)) = ap length found ∙ sym (count_told o moment) in
+    let few = tick_few (notices_in o) (length o.history) (length (told_at o (tick_at moment)))
+    (sym judged) in
+    let count : length told ≡ length (told_at o (tick_at moment)) = ap length found
+    ∙ sym (count_told o moment) in
     let wait : waiting d.notices.made ≡ waiting (notices_in o) = ap waiting r.notices in
     (omega (arith, wait, count, few.0), omega (arith, r.entries, few.1))
 
-fresh : (h : List Entry) (moment number : ℕ) (told : List (Binding × State)) → ((k : ℕ) → number ≤ k → is_taken h k ≡ false) →
-    map (λ (n : Notice). (n, not (is_taken h n.number))) (numbered number (map (λ c. (moment, c)) told)) ≡ new_notices moment number told
+fresh : (h : List Entry) (moment number : ℕ) (told : List (Binding × State)) →
+    ((k : ℕ) → number ≤ k → is_taken h k ≡ false) →
+    map (λ (n : Notice). (n, not (is_taken h n.number)))
+    (numbered number (map (λ c. (moment, c)) told)) ≡ new_notices moment number told
 fresh h moment number [] none = refl
 fresh h moment number (c ∷ told) none =
-    (λ i. (notice_of number (moment, c), not (none number (omega arith) i)) ∷ fresh h moment (number + 1) told (λ k l. none k (omega (arith, l))) i)
+    (λ i. (notice_of number (moment, c), not (none number (omega arith) i))
+    ∷ fresh h moment (number + 1) told (λ k l. none k (omega (arith, l))) i)
 
 -- the notices behind a tick
-pub notices_told : (o : Office) (moment : ℕ) (told : List (Binding × State)) → told ≡ tick_changes (last_states o) o moment →
+pub notices_told : (o : Office) (moment : ℕ) (told : List (Binding × State)) →
+    told ≡ tick_changes (last_states o) o moment →
     ((number : ℕ) → length (told_in o) < number → is_taken o.history number ≡ false) →
-    notices_in o ++ new_notices moment (length (notices_in o) + 1) told ≡ notices_in (with_entry o (tick_at moment))
+    notices_in o ++ new_notices moment (length (notices_in o) + 1) told
+    ≡ notices_in (with_entry o (tick_at moment))
 notices_told o moment told e none =
     let h' = o.history ++ tick_at moment ∷ [] in
     let flag : Notice → Notice × Bool = λ n. (n, not (is_taken h' n.number)) in
-    let many : length (notices_in o) ≡ length (told_in o) = length-map (numbered 1 (told_in o)) (λ (n : Notice). (n, not (is_taken o.history n.number))) ∙ length_numbered 1 (told_in o) in
+    let many : length (notices_in o) ≡ length (told_in o) =
+    length-map (numbered 1 (told_in o)) (λ (n : Notice). (n, not (is_taken o.history n.number)))
+    ∙ length_numbered 1 (told_in o) in
     let old : notices_in o ≡ map flag (numbered 1 (told_in o)) =
-    map_ext (λ (n : Notice). (n, not (is_taken o.history n.number))) flag (λ n. ap (λ b. (n, not b)) (sym (taken_still o.history (tick_at moment) n.number refl))) (numbered 1 (told_in o)) in
-    let new : new_notices moment (length (notices_in o) + 1) told ≡ map flag (numbered (1 + length (told_in o)) (map (λ c. (moment, c)) told)) =
+    map_ext (λ (n : Notice). (n, not (is_taken o.history n.number))) flag (λ n. ap (λ b. (n, not b))
+    (sym (taken_still o.history (tick_at moment) n.number refl))) (numbered 1 (told_in o)) in
+    let new : new_notices moment (length (notices_in o) + 1) told
+    ≡ map flag (numbered (1 + length (told_in o)) (map (λ c. (moment, c)) told)) =
     ap (λ k. new_notices moment k told) (omega (arith, many))
-    ∙ sym (fresh h' moment (1 + length (told_in o)) told (λ k l. taken_still o.history (tick_at moment) k refl ∙ none k (omega (arith, l)))) in
+    ∙ sym (fresh h' moment (1 + length (told_in o)) told
+    (λ k l. taken_still o.history (tick_at moment) k refl ∙ none k (omega (arith, l)))) in
     let all : told_in (with_entry o (tick_at moment)) ≡ told_in o ++ map (λ c. (moment, c)) told =
-    told_more o (tick_at moment) ∙ ap (λ ts. told_in o ++ ts) (told_by_tick o moment ∙ ap (map (λ c. (moment, c))) (sym e)) in
+    told_more o (tick_at moment) ∙ ap (λ ts. told_in o ++ ts) (told_by_tick o moment
+    ∙ ap (map (λ c. (moment, c))) (sym e)) in
     (λ i. old i ++ new i)
-    ∙ sym (map-append flag (numbered 1 (told_in o)) (numbered (1 + length (told_in o)) (map (λ c. (moment, c)) told)))
+    ∙ sym (map-append flag (numbered 1 (told_in o))
+    (numbered (1 + length (told_in o)) (map (λ c. (moment, c)) told)))
     ∙ ap (map flag) (sym (numbered_more 1 (told_in o) (map (λ c. (moment, c)) told)))
     ∙ ap (λ ts. map flag (numbered 1 ts)) (sym all)
 
 -- the last tick is this one
-pub last_tick : (o : Office) (moment : ℕ) → last_states (with_entry o (tick_at moment)) ≡ states_over o moment
+pub last_tick : (o : Office) (moment : ℕ)
+    → last_states (with_entry o (tick_at moment)) ≡ states_over o moment
 last_tick o moment =
     ap (λ ts. states_of_tick (last_of ts)) (ticks_more o (tick_at moment))
     ∙ ap states_of_tick (last-push (ticks_in o) (with_entry o (tick_at moment), moment))
     ∙ states_still o moment moment
 
 -- What is kept after a tick is what the longer history says.
-pub reflects_tick : (d d' : Derived) (o : Office) (moment : ℕ) (states told : List (Binding × State)) → Reflects d o → present o ≤ moment →
+pub reflects_tick : (d d' : Derived) (o : Office) (moment : ℕ)
+    (states told : List (Binding × State)) → Reflects d o → present o ≤ moment →
     states ≡ states_over o moment → told ≡ tick_changes (last_states o) o moment →
-    d'.origin ≡ d.origin → d'.entries ≡ d.entries + 1 → d'.present ≡ moment → d'.catalog ≡ d.catalog → d'.zones.kept ≡ d.zones.kept →
+    d'.origin ≡ d.origin → d'.entries ≡ d.entries + 1 → d'.present ≡ moment →
+    d'.catalog ≡ d.catalog → d'.zones.kept ≡ d.zones.kept →
     d'.book.rows ≡ d.book.rows → d'.book.exclusions ≡ d.book.exclusions → d'.accepted ≡ d.accepted →
-    d'.notices.made ≡ d.notices.made ++ new_notices moment (length d.notices.made + 1) told → d'.states.items ≡ states →
+    d'.notices.made ≡ d.notices.made ++ new_notices moment (length d.notices.made + 1) told →
+    d'.states.items ≡ states →
     Reflects d' (with_entry o (tick_at moment))
-reflects_tick d d' o moment states told r later are_states are_told origin entries now catalog zones rows exclusions accepted notices kept =
+reflects_tick d d' o moment states told r later are_states are_told origin entries now catalog zones
+    rows exclusions accepted notices kept =
     let e = tick_at moment in
     record {
       origin = origin ∙ r.origin;
@@ -164,21 +212,28 @@ reflects_tick d d' o moment states told r later are_states are_told origin entri
       zones = zones ∙ r.zones ∙ sym (zones_more o.history e ∙ append-nil (zones_in o.history));
       rows = rows ∙ r.rows ∙ ap current_rows (sym (rows_still o moment));
       exclusions = exclusions ∙ r.exclusions ∙ ap book.exclusions_of (sym (changes_still o moment));
-      held = subst (λ es. Holds es d'.book.rows d'.book.exclusions) (sym (events_more o.history e ∙ append-nil (events_in o.history)))
-          (subst (λ rs. Holds (events_in o.history) rs d'.book.exclusions) (sym rows) (subst (λ xs. Holds (events_in o.history) d.book.rows xs) (sym exclusions) r.held));
+      held = subst (λ es. Holds es d'.book.rows d'.book.exclusions)
+          (sym (events_more o.history e ∙ append-nil (events_in o.history)))
+          (subst (λ rs. Holds (events_in o.history) rs d'.book.exclusions) (sym rows)
+          (subst (λ xs. Holds (events_in o.history) d.book.rows xs) (sym exclusions) r.held));
       accepted = accepted ∙ r.accepted ∙ ap accepted_rows (sym (rows_still o moment));
-      notices = notices ∙ (λ i. r.notices i ++ new_notices moment (length (r.notices i) + 1) told) ∙ notices_told o moment told are_told r.numbers;
+      notices = notices ∙ (λ i. r.notices i ++ new_notices moment (length (r.notices i) + 1) told)
+          ∙ notices_told o moment told are_told r.numbers;
       states = kept ∙ are_states ∙ sym (last_tick o moment);
-      numbers = λ number above. taken_still o.history e number refl ∙ r.numbers number (before number above);
+      numbers = λ number above. taken_still o.history e number refl
+          ∙ r.numbers number (before number above);
     }
   where
     greater : (a b : ℕ) → a ≤ b → max a b ≡ b
     greater a b h = omega (arith, h)
 
-    before : (number : ℕ) → length (told_in (with_entry o (tick_at moment))) < number → length (told_in o) < number
+    before : (number : ℕ) → length (told_in (with_entry o (tick_at moment))) < number
+        → length (told_in o) < number
     before number above =
-        let more : length (told_in (with_entry o (tick_at moment))) ≡ length (told_in o) + length (told_at o (tick_at moment)) =
-        ap length (told_more o (tick_at moment)) ∙ length-append (told_in o) (told_at o (tick_at moment)) in
+        let more : length (told_in (with_entry o (tick_at moment)))
+        ≡ length (told_in o) + length (told_at o (tick_at moment)) =
+        ap length (told_more o (tick_at moment))
+        ∙ length-append (told_in o) (told_at o (tick_at moment)) in
         omega (arith, above, more)
 
 -- What a tick leaves is sound.
@@ -189,12 +244,15 @@ pub sound_tick : (d d' : Derived) (moment : ℕ) (told : List (Binding × State)
     d'.notices.made ≡ d.notices.made ++ new_notices moment (length d.notices.made + 1) told →
     waiting d.notices.made + length told ≤ most.MAX_NOTICES → d.entries < most.MAX_ENTRIES →
     IsSound d'
-sound_tick d d' moment told s origin entries catalog rows exclusions kept accepted notices few below =
+sound_tick d d' moment told s origin entries catalog rows exclusions kept accepted
+    notices few below =
     let new = new_notices moment (length d.notices.made + 1) told in
     let many : length d'.notices.made ≡ length d.notices.made + length told =
-    ap length notices ∙ length-append d.notices.made new ∙ ap (λ n. length d.notices.made + n) (length_new moment (length d.notices.made + 1) told) in
+    ap length notices ∙ length-append d.notices.made new ∙ ap (λ n. length d.notices.made + n)
+    (length_new moment (length d.notices.made + 1) told) in
     let wait : waiting d'.notices.made ≡ waiting d.notices.made + length told =
-    ap waiting notices ∙ waiting_more d.notices.made new ∙ ap (λ n. waiting d.notices.made + n) (waiting_new moment (length d.notices.made + 1) told) in
+    ap waiting notices ∙ waiting_more d.notices.made new ∙ ap (λ n. waiting d.notices.made + n)
+    (waiting_new moment (length d.notices.made + 1) told) in
     sound_still d d' s origin catalog exclusions rows kept accepted
     (omega (arith, entries, below))
     (omega (arith, wait, few))

@@ -13,7 +13,8 @@ use Rattle.office_history.specs.Notices.{is_taken, notices_in}
 
 -- a notice that a legal history takes may be taken again, and all stays the same
 abbrev pub ATakingActsOnce : Type 0
-ATakingActsOnce = (origin : ℕ) (h : List Entry) (number moment : ℕ) → IsLegal origin h → is_taken h number ≡ true →
+ATakingActsOnce = (origin : ℕ) (h : List Entry) (number moment : ℕ) → IsLegal origin h →
+    is_taken h number ≡ true →
     Judges (office origin h) moment (Take number) (Same (Changed None))
 
 abbrev pub NoticesAreInOrder : Type 0
@@ -21,4 +22,5 @@ NoticesAreInOrder = (o : Office) → AreNumbered 1 (notices_of (notices_in o))
 
 -- the notices behind an entry are those before it, and perhaps more
 abbrev pub NoticesStay : Type 0
-NoticesStay = (o : Office) (e : Entry) → (more : List Notice) × (notices_of (notices_in (with_entry o e)) ≡ notices_of (notices_in o) ++ more)
+NoticesStay = (o : Office) (e : Entry) → (more : List Notice)
+    × (notices_of (notices_in (with_entry o e)) ≡ notices_of (notices_in o) ++ more)

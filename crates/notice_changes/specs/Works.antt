@@ -8,4 +8,5 @@ use Rattle.office_history.specs.Notices.{notice_of}
 -- the notices of changes that are told at a moment, numbered from a number on; all wait
 abbrev pub new_notices : ℕ → ℕ → List (Binding × State) → List (Notice × Bool)
 new_notices at number [] = []
-new_notices at number (change ∷ told) = (notice_of number (at, change), true) ∷ new_notices at (number + 1) told
+new_notices at number (change ∷ told) =
+    (notice_of number (at, change), true) ∷ new_notices at (number + 1) told

@@ -10,8 +10,9 @@ ghost use Rattle.office_history.specs.Verdicts.{tick_verdict};
 ghost use Rattle.office_derived.specs.declared.Work.TheVariants as works;
 ghost use Rattle.office_derived.specs.Derived.{HasRoom, IsJudged, IsNext, IsSound, Reflects, Stays};
 ghost use Rattle.office_derived.specs.Derived.{entry_of};
-ghost use Rattle.watched_objectives.specs.Sums.{samples_of};
+ghost use Rattle.watched_objectives.specs.Known.{AllKnow};
 ghost use Rattle.watched_objectives.specs.Lines.{HasLines};
+ghost use Rattle.watched_objectives.specs.Sums.{samples_of};
 
 use crate::changes::changes;
 use crate::telling::tell;
@@ -65,6 +66,7 @@ fn states_and_changes(
     ensures told { IfOk result (λ found. found.1.items
         ≡ changes_lem derived.now.catalog derived.now.states.items found.0.items) }
     ensures lines { HasLines derived.now lines.new.kept }
+    ensures know { AllKnow lines.old.kept lines.new.kept }
     ensures spare { lines.new.spare ≡ lines.old.spare }
 {
     let states = states_over(alloc, derived, lines, moment)?;
@@ -72,7 +74,7 @@ fn states_and_changes(
     Ok((states, told))
 }
 
-/// What becomes of a tick at a moment of the office's range.
+/// What becomes of a tick at a moment of the office's range. No line forgets a minute.
 pub fn judge_tick(alloc: Global, derived: &Derived, lines: &mut KeptLines, moment: u32) -> Judged
     requires sound { IsSound derived.now }
     requires begun { derived.now.origin ≤ moment }
@@ -80,6 +82,7 @@ pub fn judge_tick(alloc: Global, derived: &Derived, lines: &mut KeptLines, momen
     requires lines { HasLines derived.now lines.old.kept }
     ensures judged { (o : Office) → Reflects derived.now o → IsJudged o moment Tick result }
     ensures lines { HasLines derived.now lines.new.kept }
+    ensures know { AllKnow lines.old.kept lines.new.kept }
     ensures spare { lines.new.spare ≡ lines.old.spare }
 {
     match states_and_changes(alloc, derived, lines, moment) {

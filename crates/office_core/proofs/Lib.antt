@@ -1,4 +1,8 @@
+pub mod CountLemmas
+pub mod ForgettingLemmas
+mod LentLemmas
 pub mod LinesLemmas
 pub mod MachineLemmas
 pub mod RangeLemmas
 pub mod Sending
+mod TouchedLemmas

@@ -1,5 +1,6 @@
 -- What an accepted command leaves of the catalog and the samples, which the lines are of.
-use Rattle.std.proofs.Common.{◌≡◌, ◌∙◌, ℕ, ◌<◌, ◌++◌, ◌∷◌, ◌||◌, [], Bool, true, false, List, Option}
+use Rattle.std.proofs.Common.{◌≡◌, ◌∙◌, ℕ, ◌<◌, ◌++◌, ◌∷◌, ◌||◌, [], Bool, true, false, List}
+use Rattle.std.proofs.Common.{Option}
 use Rattle.std.proofs.Common.{Some, None, ap, arith, cond, fold, length, refl, sym, subst}
 use Rattle.std.specs.Global.{Vec}
 use Rattle.std.specs.List.{AllByRecursion}
@@ -194,7 +195,8 @@ live_where : (kept : Option (Exclusion × Bool)) (n : ℕ) (value : Exclusion) (
     kept ≡ Some (value, live) → lift_where kept n ≡ Accepted → live ≡ true
 live_where None n value live is h = cc is
 live_where (Some kept) n value live is h =
-    let same : kept ≡ (value, live) = cc is in by live (subst (λ (k : Exclusion × Bool). cond k.1 (accepted n) (Same (Changed None)) ≡ Accepted) same h)
+    let same : kept ≡ (value, live) = cc is in by live (subst
+    (λ (k : Exclusion × Bool). cond k.1 (accepted n) (Same (Changed None)) ≡ Accepted) same h)
   where
     by : (b : Bool) → cond b (accepted n) (Same (Changed None)) ≡ Accepted → b ≡ true
     by true h = refl
@@ -207,7 +209,8 @@ pub lifted_live : (d : Derived) (o : Office) (m : ℕ) (id : List ℕ) (value : 
     exclusion_of d.book.exclusions id ≡ Some (value, true)
 lifted_live d o m id value live n is =
     let found : exclusion_of (exclusions_in o.history) id ≡ Some (value, live) =
-    ap (λ (made : List (Exclusion × Bool)). exclusion_of made id) (sym n.reflects.exclusions) ∙ is in
+    ap (λ (made : List (Exclusion × Bool)). exclusion_of made id) (sym n.reflects.exclusions)
+    ∙ is in
     let yes = live_where (exclusion_of (exclusions_in o.history) id)
     (length o.history) value live found (sym n.accepted) in
     is ∙ ap (λ (b : Bool). Some (value, b)) yes

@@ -1,5 +1,6 @@
 -- The machine with one entry more.
-use Rattle.std.proofs.Common.{◌≡◌, ℕ, ◌+◌, ◌<◌, ◌≤◌, List, [], ◌∷◌, ◌++◌, refl, ap, sym, subst, ◌∙◌, Bool, fold, max, length, Option, Some, None, IfSome, arith}
+use Rattle.std.proofs.Common.{◌≡◌, ℕ, ◌+◌, ◌<◌, ◌≤◌, List, [], ◌∷◌, ◌++◌, refl, ap, sym, subst, ◌∙◌}
+use Rattle.std.proofs.Common.{Bool, fold, max, length, Option, Some, None, IfSome, arith}
 use Rattle.std.specs.List.{All, AllByRecursion}
 use Rattle.std.proofs.lemmas.List.Elements.{All-from_recursion}
 use Rattle.slo_limits.specs.declared.TheConstants as most
@@ -22,7 +23,8 @@ use Rattle.office_history.specs.Legal.{IsLegal, MayFollow, empty, followed}
 use Rattle.kept_objectives.specs.declared.ObjectiveSums.{ObjectiveSums}
 use Rattle.kept_objectives.specs.Objectives.{KeepsSums}
 use Rattle.office_derived.specs.declared.Derived.{Derived}
-use Rattle.office_derived.specs.Derived.{HasRoom, IsFound, IsNext, IsPlaced, IsRead, IsSound, Reflects, Stays, command_of, entry_of}
+use Rattle.office_derived.specs.Derived.{HasRoom, IsFound, IsNext, IsPlaced, IsRead, IsSound}
+use Rattle.office_derived.specs.Derived.{Reflects, Stays, command_of, entry_of}
 use Rattle.office_derived.proofs.Sound.{sound_stays}
 use Rattle.office_core.specs.declared.machine.Pending.{Pending}
 use Rattle.office_history.specs.Counts.{Samples}
@@ -32,11 +34,16 @@ use Rattle.watched_objectives.specs.Sums.{samples_of}
 use Rattle.watched_objectives.specs.Lines.{HasLines, KeepsLines, LinesKept}
 use Rattle.watched_objectives.specs.Plans.{IsLinesPlan}
 use Rattle.watched_objectives.specs.declared.LinesPlan.{LinesPlan}
-use Rattle.office_core.specs.Machine.{HasLinesPlan, IsKept, IsReady, IsReadyIf, office_of, pending_of}
+use Rattle.watched_objectives.specs.declared.WatchLine.{WatchLine}
+use Rattle.office_core.specs.Forgetting.{ForgetsOnlyNear}
+use Rattle.office_core.specs.Machine.{HasLinesPlan, IsKept, IsReady, IsReadyIf, office_of}
+use Rattle.office_core.specs.Machine.{pending_of}
 
 -- the office of the bytes with one record more
-pub office_next : OneRecordMore → (d d' : Derived) (bytes bytes' : List ℕ) (e : Entry) → AreRecords bytes → FitsRecord e → bytes' ≡ bytes ++ record_of e →
-    Reflects d' (with_entry (office_of d bytes) e) → office_of d' bytes' ≡ with_entry (office_of d bytes) e
+pub office_next : OneRecordMore → (d d' : Derived) (bytes bytes' : List ℕ) (e : Entry) →
+    AreRecords bytes → FitsRecord e → bytes' ≡ bytes ++ record_of e →
+    Reflects d' (with_entry (office_of d bytes) e) →
+    office_of d' bytes' ≡ with_entry (office_of d bytes) e
 office_next law d d' bytes bytes' e r f is reflects i = record {
   origin = reflects.origin i;
   history = (ap history_of is ∙ (law bytes e r f).history) i;
@@ -51,25 +58,48 @@ pub record IsCommitted (d d' : Derived) (old new : List ℕ) (e : Entry) : Type 
   pub follows : MayFollow (office_of d old) e
   pub reflects : Reflects d' (with_entry (office_of d old) e)
 
-follows_next : (d : Derived) (o : Office) (p : Pending) → IsNext d o p.moment p.work → MayFollow o (entry_of p.moment p.work)
+follows_next : (d : Derived) (o : Office) (p : Pending) → IsNext d o p.moment p.work
+    → MayFollow o (entry_of p.moment p.work)
 follows_next d o p n = record { in_range = n.in_range; later = n.later; accepted = n.accepted }
 
-pub committed : (d d' : Derived) (lines : LinesKept) (bytes bytes' piece : List ℕ) (spare : ℕ) (kept : Option Pending) (p : Pending) (e : Entry) → IsKept d lines bytes spare kept → Some p ≡ kept →
+pub committed : (d d' : Derived) (lines : LinesKept) (bytes bytes' piece : List ℕ) (spare : ℕ)
+    (kept : Option Pending) (p : Pending) (e : Entry) → IsKept d lines bytes spare kept →
+    Some p ≡ kept →
     pending_of kept ≡ Some e → piece ≡ record_of e → bytes' ≡ bytes ++ piece →
-    ((o : Office) → IsNext d o p.moment p.work → Reflects d' (with_entry o (entry_of p.moment p.work))) → IsCommitted d d' bytes bytes' e
+    ((o : Office) → IsNext d o p.moment p.work
+    → Reflects d' (with_entry o (entry_of p.moment p.work))) → IsCommitted d d' bytes bytes' e
 committed d d' lines bytes bytes' piece spare kept p e k is pending piece-is added applied =
-    let ready : IsReady d lines (office_of d bytes) spare p = subst (IsReadyIf d lines (office_of d bytes) spare) (sym is) k.ready in
+    let ready : IsReady d lines (office_of d bytes) spare p =
+    subst (IsReadyIf d lines (office_of d bytes) spare) (sym is) k.ready in
     let same : entry_of p.moment p.work ≡ e = cc (ap pending_of is ∙ pending) in
     record {
       records = k.records;
       fits = subst FitsRecord same ready.fits;
       bytes = added ∙ ap (λ bs. bytes ++ bs) piece-is;
       legal = k.legal;
-      follows = subst (MayFollow (office_of d bytes)) same (follows_next d (office_of d bytes) p ready.next);
-      reflects = subst (λ (e : Entry). Reflects d' (with_entry (office_of d bytes) e)) same (applied (office_of d bytes) ready.next);
+      follows = subst (MayFollow (office_of d bytes)) same
+          (follows_next d (office_of d bytes) p ready.next);
+      reflects = subst (λ (e : Entry). Reflects d' (with_entry (office_of d bytes) e)) same
+          (applied (office_of d bytes) ready.next);
     }
 
-pub kept_next : OneRecordMore → (d d' : Derived) (lines : LinesKept) (bytes bytes' : List ℕ) (spare : ℕ) (pending : Option Pending) (e : Entry) → IsCommitted d d' bytes bytes' e → IsSound d' →
+-- and what the lines forget is what its entry allows
+pub forgotten : (d : Derived) (lines : LinesKept) (bytes : List ℕ) (spare : ℕ)
+    (kept : Option Pending) (p : Pending) (e : Entry) (new : List WatchLine) →
+    IsKept d lines bytes spare kept → Some p ≡ kept → pending_of kept ≡ Some e →
+    ((o : Office) → IsNext d o p.moment p.work →
+    ForgetsOnlyNear o (entry_of p.moment p.work) lines.kept new) →
+    ForgetsOnlyNear (office_of d bytes) e lines.kept new
+forgotten d lines bytes spare kept p e new k is pending forgets =
+    let ready : IsReady d lines (office_of d bytes) spare p =
+    subst (IsReadyIf d lines (office_of d bytes) spare) (sym is) k.ready in
+    let same : entry_of p.moment p.work ≡ e = cc (ap pending_of is ∙ pending) in
+    subst (λ (e : Entry). ForgetsOnlyNear (office_of d bytes) e lines.kept new) same
+    (forgets (office_of d bytes) ready.next)
+
+pub kept_next : OneRecordMore → (d d' : Derived)
+    (lines : LinesKept) (bytes bytes' : List ℕ) (spare : ℕ) (pending : Option Pending) (e : Entry) →
+    IsCommitted d d' bytes bytes' e → IsSound d' →
     HasLines d' lines.kept → pending ≡ None → IsKept d' lines bytes' spare pending
 kept_next law d d' lines bytes bytes' spare pending e k sound right none =
     let one = law bytes e k.records k.fits in
@@ -78,7 +108,8 @@ kept_next law d d' lines bytes bytes' spare pending e k sound right none =
       records = subst AreRecords (sym k.bytes) one.records;
       sound = sound;
       reflects = subst (Reflects d') (sym next) k.reflects;
-      legal = subst (λ (o : Office). IsLegal o.origin o.history) (sym next) (followed e k.legal k.follows);
+      legal = subst (λ (o : Office). IsLegal o.origin o.history) (sym next)
+          (followed e k.legal k.follows);
       lines_right = right;
       ready = subst (IsReadyIf d' lines (office_of d' bytes') spare) (sym none) tt;
     }
@@ -92,15 +123,22 @@ begun o = from o.origin o.history
     from a (e ∷ h) = omega (arith, from (max a e.moment) h)
 
 -- the present isn't past the last minute of records
-present_fits : (a : ℕ) (h : List Entry) → a ≤ most.MAX_MINUTE → AllByRecursion FitsRecord h → fold (λ greatest (e : Entry). max greatest e.moment) a h ≤ most.MAX_MINUTE
+present_fits : (a : ℕ) (h : List Entry) → a ≤ most.MAX_MINUTE → AllByRecursion FitsRecord h
+    → fold (λ greatest (e : Entry). max greatest e.moment) a h ≤ most.MAX_MINUTE
 present_fits a [] few all = few
-present_fits a (e ∷ h) few all = present_fits (max a e.moment) h (omega (arith, few, all.0.moment)) all.1
+present_fits a (e ∷ h) few all =
+    present_fits (max a e.moment) h (omega (arith, few, all.0.moment)) all.1
 
-pub readable : (d : Derived) (lines : LinesKept) (bytes : List ℕ) (spare : ℕ) (pending : Option Pending) → IsKept d lines bytes spare pending → present (office_of d bytes) ≤ most.MAX_MINUTE
-readable d lines bytes spare pending k = present_fits d.origin (history_of bytes) (omega (arith, k.sound.origin)) k.records.fit
+pub readable : (d : Derived) (lines : LinesKept)
+    (bytes : List ℕ) (spare : ℕ) (pending : Option Pending) → IsKept d lines bytes spare pending
+    → present (office_of d bytes) ≤ most.MAX_MINUTE
+readable d lines bytes spare pending k =
+    present_fits d.origin (history_of bytes) (omega (arith, k.sound.origin)) k.records.fit
 
 -- the entry that is pending has a record
-pub pending_fits : (d : Derived) (lines : LinesKept) (o : Office) (spare : ℕ) (pending : Option Pending) → IsReadyIf d lines o spare pending → IfSome (pending_of pending) FitsRecord
+pub pending_fits : (d : Derived) (lines : LinesKept)
+    (o : Office) (spare : ℕ) (pending : Option Pending) → IsReadyIf d lines o spare pending
+    → IfSome (pending_of pending) FitsRecord
 pending_fits d lines o spare None ready = tt
 pending_fits d lines o spare (Some p) ready = ready.fits
 
@@ -114,35 +152,44 @@ stays_reflects d d' o s r = record {
   zones = s.zones ∙ r.zones;
   rows = s.rows ∙ r.rows;
   exclusions = s.exclusions ∙ r.exclusions;
-  held = subst (λ (rows : List Row). Holds (events_in o.history) rows d'.book.exclusions) (sym s.rows) (subst (Holds (events_in o.history) d.book.rows) (sym s.exclusions) r.held);
+  held = subst (λ (rows : List Row). Holds (events_in o.history) rows d'.book.exclusions)
+      (sym s.rows) (subst (Holds (events_in o.history) d.book.rows) (sym s.exclusions) r.held);
   accepted = s.accepted ∙ r.accepted;
   notices = s.notices ∙ r.notices;
   states = s.states ∙ r.states;
   numbers = r.numbers;
 }
 
-office_stays : (d d' : Derived) (bytes : List ℕ) → Stays d d' → office_of d bytes ≡ office_of d' bytes
+office_stays : (d d' : Derived) (bytes : List ℕ) → Stays d d'
+    → office_of d bytes ≡ office_of d' bytes
 office_stays d d' bytes s i = record { origin = sym s.origin i; history = history_of bytes }
 
 -- the lines stay right where all but the room stays
-pub lines_stay : (d d' : Derived) (lines : LinesKept) → Stays d d' → HasLines d lines.kept → HasLines d' lines.kept
+pub lines_stay : (d d' : Derived) (lines : LinesKept) → Stays d d' → HasLines d lines.kept
+    → HasLines d' lines.kept
 lines_stay d d' lines s right =
     subst (λ (n : ℕ). KeepsLines n d'.catalog (samples_of d'.book) lines.kept) (sym s.origin)
-    (subst (λ (members : List Object). KeepsLines d.origin members (samples_of d'.book) lines.kept) (sym s.catalog)
+    (subst (λ (members : List Object). KeepsLines d.origin members (samples_of d'.book) lines.kept)
+    (sym s.catalog)
     (subst (λ (it : Samples). KeepsLines d.origin d.catalog it lines.kept) (sym same) right))
   where
     same : samples_of d'.book ≡ samples_of d.book
     same = λ i. record { rows = s.rows i; exclusions = s.exclusions i }
 
-plan_over : (d d' : Derived) (catalog : List Object) (plan : LinesPlan) → Stays d d' → IsLinesPlan d.origin d.catalog catalog plan → IsLinesPlan d'.origin d'.catalog catalog plan
+plan_over : (d d' : Derived) (catalog : List Object) (plan : LinesPlan) → Stays d d'
+    → IsLinesPlan d.origin d.catalog catalog plan → IsLinesPlan d'.origin d'.catalog catalog plan
 plan_over d d' catalog plan s is =
     subst (λ (n : ℕ). IsLinesPlan n d'.catalog catalog plan) (sym s.origin)
-    (subst (λ (members : List Object). IsLinesPlan d.origin members catalog plan) (sym s.catalog) is)
+    (subst (λ (members : List Object). IsLinesPlan d.origin members catalog plan)
+    (sym s.catalog) is)
 
 -- and so does the plan for them
-plan_stays : (d d' : Derived) (lines : LinesKept) (work : Work) (plan : Option LinesPlan) → Stays d d' → HasLinesPlan d lines work plan → HasLinesPlan d' lines work plan
-plan_stays d d' lines (works.Define text catalog applied sums) (Some plan) s has = (plan_over d d' catalog plan s has.0, has.1)
-plan_stays d d' lines (works.Remove kind name catalog sums) (Some plan) s has = (plan_over d d' catalog plan s has.0, has.1)
+plan_stays : (d d' : Derived) (lines : LinesKept) (work : Work) (plan : Option LinesPlan)
+    → Stays d d' → HasLinesPlan d lines work plan → HasLinesPlan d' lines work plan
+plan_stays d d' lines (works.Define text catalog applied sums) (Some plan) s has =
+    (plan_over d d' catalog plan s has.0, has.1)
+plan_stays d d' lines (works.Remove kind name catalog sums) (Some plan) s has =
+    (plan_over d d' catalog plan s has.0, has.1)
 plan_stays d d' lines (works.Define text catalog applied sums) None s has = has
 plan_stays d d' lines (works.Remove kind name catalog sums) None s has = has
 plan_stays d d' lines (works.PutZone name bytes zone) plan s has = tt
@@ -153,9 +200,12 @@ plan_stays d d' lines (works.Tick states told) plan s has = tt
 plan_stays d d' lines (works.Take number) plan s has = tt
 
 -- with room of the same size the plan has its room
-plan_learnt : (d : Derived) (lines lines' : LinesKept) (work : Work) (plan : Option LinesPlan) → lines'.spare ≡ lines.spare → HasLinesPlan d lines work plan → HasLinesPlan d lines' work plan
-plan_learnt d lines lines' (works.Define text catalog applied sums) (Some plan) same has = (has.0, subst (λ (n : ℕ). length plan.made.items ≤ n) (sym same) has.1)
-plan_learnt d lines lines' (works.Remove kind name catalog sums) (Some plan) same has = (has.0, subst (λ (n : ℕ). length plan.made.items ≤ n) (sym same) has.1)
+plan_learnt : (d : Derived) (lines lines' : LinesKept) (work : Work) (plan : Option LinesPlan)
+    → lines'.spare ≡ lines.spare → HasLinesPlan d lines work plan → HasLinesPlan d lines' work plan
+plan_learnt d lines lines' (works.Define text catalog applied sums) (Some plan) same has =
+    (has.0, subst (λ (n : ℕ). length plan.made.items ≤ n) (sym same) has.1)
+plan_learnt d lines lines' (works.Remove kind name catalog sums) (Some plan) same has =
+    (has.0, subst (λ (n : ℕ). length plan.made.items ≤ n) (sym same) has.1)
 plan_learnt d lines lines' (works.Define text catalog applied sums) None same has = has
 plan_learnt d lines lines' (works.Remove kind name catalog sums) None same has = has
 plan_learnt d lines lines' (works.PutZone name bytes zone) plan same has = tt
@@ -165,7 +215,8 @@ plan_learnt d lines lines' (works.Lift id) plan same has = tt
 plan_learnt d lines lines' (works.Tick states told) plan same has = tt
 plan_learnt d lines lines' (works.Take number) plan same has = tt
 
-ready_learnt : (d : Derived) (lines lines' : LinesKept) (o : Office) (spare : ℕ) (pending : Option Pending) → lines'.spare ≡ lines.spare → IsReadyIf d lines o spare pending →
+ready_learnt : (d : Derived) (lines lines' : LinesKept) (o : Office) (spare : ℕ)
+    (pending : Option Pending) → lines'.spare ≡ lines.spare → IsReadyIf d lines o spare pending →
     IsReadyIf d lines' o spare pending
 ready_learnt d lines lines' o spare None same ready = tt
 ready_learnt d lines lines' o spare (Some p) same ready = record {
@@ -177,7 +228,8 @@ ready_learnt d lines lines' o spare (Some p) same ready = record {
 }
 
 -- lines that know more are kept as well
-pub lines_learnt : (d : Derived) (lines lines' : LinesKept) (bytes : List ℕ) (spare : ℕ) (pending : Option Pending) → IsKept d lines bytes spare pending → HasLines d lines'.kept →
+pub lines_learnt : (d : Derived) (lines lines' : LinesKept) (bytes : List ℕ) (spare : ℕ)
+    (pending : Option Pending) → IsKept d lines bytes spare pending → HasLines d lines'.kept →
     lines'.spare ≡ lines.spare → IsKept d lines' bytes spare pending
 lines_learnt d lines lines' bytes spare pending k right same = record {
   records = k.records;
@@ -189,26 +241,43 @@ lines_learnt d lines lines' bytes spare pending k right same = record {
 }
 
 -- the machine whose derived part got room, with nothing pending
-pub kept_stays : (d d' : Derived) (lines lines' : LinesKept) (bytes bytes' : List ℕ) (spare spare' : ℕ) (pending pending' : Option Pending) → IsKept d lines bytes spare pending → Stays d d' →
-    HasLines d lines'.kept → bytes' ≡ bytes → pending' ≡ None → IsKept d' lines' bytes' spare' pending'
+pub kept_stays : (d d' : Derived) (lines lines' : LinesKept) (bytes bytes' : List ℕ)
+    (spare spare' : ℕ) (pending pending' : Option Pending) →
+    IsKept d lines bytes spare pending → Stays d d' →
+    HasLines d lines'.kept → bytes' ≡ bytes → pending' ≡ None →
+    IsKept d' lines' bytes' spare' pending'
 kept_stays d d' lines lines' bytes bytes' spare spare' pending pending' k s right is none =
     subst (λ (bs : List ℕ). IsKept d' lines' bs spare' pending') (sym is) (record {
       records = k.records;
       sound = sound_stays d d' s k.sound;
-      reflects = subst (Reflects d') (office_stays d d' bytes s) (stays_reflects d d' (office_of d bytes) s k.reflects);
+      reflects = subst (Reflects d') (office_stays d d' bytes s)
+          (stays_reflects d d' (office_of d bytes) s k.reflects);
       legal = subst (λ n. IsLegal n (history_of bytes)) (sym s.origin) k.legal;
       lines_right = lines_stay d d' lines' s right;
       ready = subst (IsReadyIf d' lines' (office_of d' bytes) spare') (sym none) tt;
     })
 
 -- the machine with a command that was accepted and found room
-pub kept_ready : (d d' : Derived) (lines lines' : LinesKept) (bytes bytes' : List ℕ) (spare spare' : ℕ) (pending pending' : Option Pending) (p : Pending) → IsKept d lines bytes spare pending → Stays d d' →
+pub kept_ready : (d d' : Derived) (lines lines' : LinesKept)
+    (bytes bytes' : List ℕ) (spare spare' : ℕ) (pending pending' : Option Pending) (p : Pending) →
+    IsKept d lines bytes spare pending → Stays d d' →
     HasLines d lines'.kept → HasLinesPlan d lines' p.work p.plan → bytes' ≡ bytes →
-    pending' ≡ Some p → present (office_of d bytes) ≤ p.moment → p.moment < end_of d.origin → Judges (office_of d bytes) p.moment (command_of p.work) Accepted → IsFound (office_of d bytes) p.moment p.work →
-    HasRoom d' p.work → FitsRecord (entry_of p.moment p.work) → length (record_of (entry_of p.moment p.work)) ≤ spare' → IsKept d' lines' bytes' spare' pending'
-kept_ready d d' lines lines' bytes bytes' spare spare' pending pending' p k s right planned is some later in_range accepted found room fits few =
-    let reflects : Reflects d' (office_of d bytes) = stays_reflects d d' (office_of d bytes) s k.reflects in
-    let next : IsNext d' (office_of d bytes) p.moment p.work = record { reflects = reflects; later = later; in_range = in_range; accepted = accepted; found = found } in
+    pending' ≡ Some p → present (office_of d bytes) ≤ p.moment →
+    p.moment < end_of d.origin → Judges (office_of d bytes) p.moment (command_of p.work) Accepted →
+    IsFound (office_of d bytes) p.moment p.work →
+    HasRoom d' p.work → FitsRecord (entry_of p.moment p.work) →
+    length (record_of (entry_of p.moment p.work)) ≤ spare' → IsKept d' lines' bytes' spare' pending'
+kept_ready d d' lines lines' bytes bytes' spare spare' pending pending' p k s right planned is some
+    later in_range accepted found room fits few =
+    let reflects : Reflects d' (office_of d bytes) =
+    stays_reflects d d' (office_of d bytes) s k.reflects in
+    let next : IsNext d' (office_of d bytes) p.moment p.work = record {
+      reflects = reflects;
+      later = later;
+      in_range = in_range;
+      accepted = accepted;
+      found = found;
+    } in
     let same = office_stays d d' bytes s in
     let ready : IsReady d' lines' (office_of d' bytes) spare' p = record {
       next = subst (λ (o : Office). IsNext d' o p.moment p.work) same next;
@@ -227,7 +296,9 @@ kept_ready d d' lines lines' bytes bytes' spare spare' pending pending' p k s ri
     })
 
 -- a new machine keeps what the empty history says
-empty_reflects : (d : Derived) → d.entries ≡ 0 → d.present ≡ d.origin → d.catalog ≡ [] → d.zones.kept ≡ [] → Holds [] d.book.rows d.book.exclusions → d.accepted ≡ 0 → d.notices.made ≡ [] →
+empty_reflects : (d : Derived) → d.entries ≡ 0 → d.present ≡ d.origin →
+    d.catalog ≡ [] → d.zones.kept ≡ [] → Holds [] d.book.rows d.book.exclusions → d.accepted ≡ 0 →
+    d.notices.made ≡ [] →
     d.states.items ≡ [] → Reflects d (record { origin = d.origin; history = [] })
 empty_reflects d entries now catalog zones held accepted notices states = record {
   origin = refl;
@@ -259,7 +330,8 @@ none_of : (P : Row → Type 0) (rows : List Row) → rows ≡ [] → All P rows
 none_of P rows is = subst (All P) (sym is) (All-from_recursion P [] tt)
 
 -- and watches nothing
-none_watched : (d : Derived) (lines : LinesKept) → d.catalog ≡ [] → lines.kept ≡ [] → HasLines d lines.kept
+none_watched : (d : Derived) (lines : LinesKept) → d.catalog ≡ [] → lines.kept ≡ []
+    → HasLines d lines.kept
 none_watched d lines none no_lines =
     subst (λ (os : List Object). KeepsLines d.origin os (samples_of d.book) lines.kept) (sym none)
     (subst (KeepsLines d.origin [] (samples_of d.book)) (sym no_lines) (record {
@@ -268,9 +340,14 @@ none_watched d lines none no_lines =
       all = λ w is. cc is.watches;
     }))
 
-pub kept_new : NoBytesAreNoHistory → (d : Derived) (lines : LinesKept) (bytes : List ℕ) (spare : ℕ) → lines.kept ≡ [] → bytes ≡ [] → d.origin ≤ most.MAX_MINUTE → d.entries ≡ 0 → d.present ≡ d.origin → d.catalog ≡ [] → d.zones.kept ≡ [] →
-    Holds [] d.book.rows d.book.exclusions → d.sums.kept ≡ [] → d.accepted ≡ 0 → d.notices.made ≡ [] → d.states.items ≡ [] → IsKept d lines bytes spare None
-kept_new law d lines bytes spare no_lines is origin entries now catalog zones held sums accepted notices states =
+pub kept_new : NoBytesAreNoHistory →
+    (d : Derived) (lines : LinesKept) (bytes : List ℕ) (spare : ℕ) → lines.kept ≡ [] → bytes ≡ [] →
+    d.origin ≤ most.MAX_MINUTE → d.entries ≡ 0 → d.present ≡ d.origin → d.catalog ≡ [] →
+    d.zones.kept ≡ [] →
+    Holds [] d.book.rows d.book.exclusions → d.sums.kept ≡ [] → d.accepted ≡ 0 →
+    d.notices.made ≡ [] → d.states.items ≡ [] → IsKept d lines bytes spare None
+kept_new law d lines bytes spare no_lines is origin entries now catalog zones held sums accepted
+    notices states =
     let rows : d.book.rows ≡ [] = rows-held [] d.book.rows d.book.exclusions held in
     subst (λ (bs : List ℕ). IsKept d lines bs spare None) (sym is) (record {
       records = law.0;
@@ -285,7 +362,8 @@ kept_new law d lines bytes spare no_lines is origin entries now catalog zones he
         placed = none_of (IsPlaced d.origin) d.book.rows rows;
         sums = none_kept d.catalog d.book.exclusions d.book.rows d.sums.kept catalog sums;
       };
-      reflects = subst (λ (h : List Entry). Reflects d (record { origin = d.origin; history = h })) (sym law.1)
+      reflects = subst (λ (h : List Entry). Reflects d (record { origin = d.origin; history = h }))
+          (sym law.1)
           (empty_reflects d entries now catalog zones held accepted notices states);
       legal = subst (IsLegal d.origin) (sym law.1) empty;
       lines_right = none_watched d lines catalog no_lines;

@@ -1,2 +1,4 @@
-pub mod Seen
+pub mod Forgetting
+pub mod Lent
 pub mod Machine
+pub mod Seen

@@ -69,12 +69,15 @@ pub record IsKept (d : Derived) (lines : LinesKept) (bytes : List ℕ) (spare : 
   pub lines_right : HasLines d lines.kept
   pub ready : IsReadyIf d lines (office_of d bytes) spare pending
 
--- What the preparing of a command answers: its verdict over the history, unless memory ran out. An accepted one is pending,
--- with its record; after every other answer nothing is.
+-- What the preparing of a command answers: its verdict over the history, unless memory ran out. An
+-- accepted one is pending, with its record; after every other answer nothing is.
 abbrev pub IsVerdict : Office → Entry → Verdict → Option Entry → Type 0
-IsVerdict o e (verdicts.Ready prepared) pending = Judges o e.moment e.command judgements.Accepted × (prepared ≡ record_of e) × (pending ≡ Some e)
-IsVerdict o e (verdicts.Same outcome) pending = Judges o e.moment e.command (judgements.Same outcome) × (pending ≡ None)
-IsVerdict o e (verdicts.Refused refusal) pending = Judges o e.moment e.command (judgements.Refused refusal) × (pending ≡ None)
+IsVerdict o e (verdicts.Ready prepared) pending = Judges o e.moment e.command judgements.Accepted
+    × (prepared ≡ record_of e) × (pending ≡ Some e)
+IsVerdict o e (verdicts.Same outcome) pending =
+    Judges o e.moment e.command (judgements.Same outcome) × (pending ≡ None)
+IsVerdict o e (verdicts.Refused refusal) pending =
+    Judges o e.moment e.command (judgements.Refused refusal) × (pending ≡ None)
 IsVerdict o e verdicts.NoMemory pending = pending ≡ None
 
 -- the entry is the one for which room was made

@@ -4,7 +4,9 @@ ghost use Rattle.office_history.specs.History.{Office, with_entry, end_of};
 ghost use Rattle.office_history.specs.Outcomes.{outcome_of};
 ghost use Rattle.office_derived.specs.Derived.{HasRoom, IsJudged, IsNext, IsSound, Reflects, Stays};
 ghost use Rattle.office_derived.specs.Derived.{command_of, entry_of};
+ghost use Rattle.watched_objectives.specs.Known.{AllKnow};
 ghost use Rattle.watched_objectives.specs.Lines.{HasLines};
+ghost use Rattle.office_core.specs.Forgetting.{ForgetsOnlyNear};
 ghost use Rattle.office_core.specs.Machine.{HasLinesPlan};
 
 use crate::lines::lift;
@@ -22,7 +24,7 @@ use sample_changes::{
 use std::alloc::{AllocError, Global};
 use watched_objectives::{KeptLines, LinesPlan};
 
-/// What becomes of a command at a moment.
+/// What becomes of a command at a moment. The lines may learn.
 pub(crate) fn judge(
     alloc: Global,
     derived: &Derived,
@@ -36,6 +38,7 @@ pub(crate) fn judge(
     requires lines { HasLines derived.now lines.old.kept }
     ensures judged { (o : Office) → Reflects derived.now o → IsJudged o moment command.now result }
     ensures lines { HasLines derived.now lines.new.kept }
+    ensures know { AllKnow lines.old.kept lines.new.kept }
 {
     match command {
         Command::Define(text) => judge_define(alloc, derived, moment, text),
@@ -65,7 +68,8 @@ pub(crate) fn make_room(derived: &mut Derived, work: &Work) -> Result<(), AllocE
     }
 }
 
-/// Does an accepted command, with no memory. The lines of alerts forget what it changes.
+/// Does an accepted command, with no memory. The lines of alerts forget what it changes, and no
+/// more.
 pub(crate) fn apply(
     derived: &mut Derived,
     lines: &mut KeptLines,
@@ -84,6 +88,8 @@ pub(crate) fn apply(
     ensures outcome { (o : Office) → IsNext derived.old o moment work
         → result ≡ outcome_of o moment (command_of work) }
     ensures lines { HasLines derived.new lines.new.kept }
+    ensures forgets { (o : Office) → IsNext derived.old o moment work
+        → ForgetsOnlyNear o (entry_of moment work) lines.old.kept lines.new.kept }
 {
     match work {
         Work::Define {

@@ -7,6 +7,7 @@ ghost use Rattle.office_derived.specs.declared.Work.TheVariants as works;
 ghost use Rattle.office_derived.specs.Derived.{IsNext, IsSound, Reflects, entry_of};
 ghost use Rattle.watched_objectives.specs.Lines.{HasLines};
 ghost use Rattle.watched_objectives.specs.Plans.{IsLinesPlan};
+ghost use Rattle.office_core.specs.Forgetting.{ForgetsOnlyNear};
 ghost use Rattle.office_core.specs.Machine.{HasLinesPlan};
 
 use exact_fraction::Label;
@@ -63,6 +64,8 @@ pub(crate) fn lift(derived: &mut Derived, lines: &mut KeptLines, moment: u32, id
     ensures outcome { (o : Office) → IsNext derived.old o moment (works.Lift id)
         → result ≡ outcome_of o moment (Lift id) }
     ensures lines { HasLines derived.new lines.new.kept }
+    ensures forgets { (o : Office) → IsNext derived.old o moment (works.Lift id)
+        → ForgetsOnlyNear o (entry_of moment (works.Lift id)) lines.old.kept lines.new.kept }
 {
     let lifted = derived.book.exclusion(id);
     let outcome = apply_lift(derived, moment, id);

@@ -8,23 +8,31 @@ ghost use Rattle.record_form.specs.declared.Entry.{Entry};
 ghost use Rattle.record_form.specs.declared.Outcome.TheVariants.{NoMemory};
 ghost use Rattle.record_form.specs.Records.{record_of};
 ghost use Rattle.record_form.specs.Ranges.{FitsRecord, IsEntryInRange};
+ghost use Rattle.office_history.specs.Alerts.{watched as watched_lem};
 ghost use Rattle.office_history.specs.Answers.{Answers};
 ghost use Rattle.office_history.specs.Catalog.{catalog_in};
 ghost use Rattle.office_history.specs.History.{Office, current_in, end_of, moment_of, present};
 ghost use Rattle.office_history.specs.History.{with_entry};
 ghost use Rattle.office_history.specs.Legal.{IsLegal};
 ghost use Rattle.office_history.specs.Notices.{notices_in, waiting};
+ghost use Rattle.office_history.specs.Objectives.{measure_at as measure_at_lem};
 ghost use Rattle.office_history.specs.Outcomes.{outcome_of};
 ghost use Rattle.office_derived.specs.Derived.{HasRoom, Stays, command_of, entry_of};
+ghost use Rattle.history_answers.specs.Learning.{KnowsAnswered};
 ghost use Rattle.history_answers.specs.States.{binding_state};
+ghost use Rattle.watched_objectives.specs.Known.{AllKnow};
 ghost use Rattle.watched_objectives.specs.Lines.{HasLines};
+ghost use Rattle.office_core.specs.Forgetting.{ForgetsOnlyNear};
+ghost use Rattle.office_core.specs.Lent.{CountTheSame, LendsLine, LendsSums};
 ghost use Rattle.office_core.specs.Machine.{HasLinesPlan, HasRevisions, IsKept, IsPending};
 ghost use Rattle.office_core.specs.Machine.{IsVerdict, office_of, pending_of};
 ghost use Rattle.office_core.specs.declared.machine.Pending.{Pending};
 
 use crate::commands::{apply, judge, make_room};
 use crate::lines::plan_of;
+use alert_line::AlertLine;
 use burn_core::State;
+use catalog_measures::measure_at;
 use exact_fraction::Label;
 use history_answers::{answer, state_of};
 use kept_objectives::KeptSums;
@@ -34,11 +42,12 @@ use record_form::{
     Command, Outcome, Query, Refusal, no_bytes_are_no_history, one_record_more, write_command,
 };
 use sample_book::SampleBook;
-use slo_catalog::Catalog;
+use slo_catalog::{Binding, Catalog};
 use slo_limits::RANGE_MINUTES;
 use std::alloc::{AllocError, Global};
 use std::marker::Model;
-use watched_objectives::{KeptLines, LinesPlan};
+use watched_objectives::{KeptLines, LinesPlan, objective_sums, watched};
+use window_sums::WindowSums;
 
 /// An entry for which room was made.
 #[derive(Drop)]
@@ -98,8 +107,9 @@ impl Model for Core {
 
     ghost view = { λ a. record {
       office = office_of a.derived a.records.items;
-      pending = pending_of
-          a.pending;
+      pending = pending_of a.pending;
+      sums = a.derived.sums.kept;
+      lines = a.lines.kept;
     } };
 
     ghost invariant = { λ a. IsKept a.derived a.lines a.records.items
@@ -197,7 +207,8 @@ impl Core {
     }
 
     /// Judges a command, and takes all memory that it needs where it is accepted. The entry is
-    /// pending then; after every other answer nothing is.
+    /// pending then; after every other answer nothing is. The sums stay as they are, but for their
+    /// room, and no line forgets a minute.
     pub fn prepare(&mut self, alloc: Global, moment: u32, command: &Command) -> Verdict
         requires later { present self.old.office ≤ moment }
         requires in_range { moment < end_of self.old.office.origin }
@@ -206,6 +217,8 @@ impl Core {
         ensures office { self.new.office ≡ self.old.office }
         ensures verdict { IsVerdict self.old.office
             (record { moment = moment; command = command.now }) result self.new.pending }
+        ensures sums { CountTheSame self.old.sums self.new.sums }
+        ensures know { AllKnow self.old.lines self.new.lines }
     {
         let (verdict, pending) = judge_and_make_room(
             alloc,
@@ -219,7 +232,9 @@ impl Core {
         verdict
     }
 
-    /// Adds the entry for which room was made, with no memory. It can't be refused.
+    /// Adds the entry for which room was made, with no memory. It can't be refused. Of an alert
+    /// that is watched before and after, the line forgets only minutes near slices that the entry
+    /// touches.
     pub fn commit(&mut self, value: Prepared) -> Outcome
         requires { (e : Entry) × IsPending self.old e × (value ≡ record_of e) }
         ensures office { (e : Entry) → IsPending self.old e
@@ -227,6 +242,8 @@ impl Core {
         ensures pending { self.new.pending ≡ None }
         ensures outcome { (e : Entry) → IsPending self.old e
             → result ≡ outcome_of self.old.office e.moment e.command }
+        ensures forgets { (e : Entry) → IsPending self.old e
+            → ForgetsOnlyNear self.old.office e self.old.lines self.new.lines }
     {
         let Some(Pending { moment, work, plan }) = self.pending.take() else {
             return Outcome::NoMemory;
@@ -236,18 +253,28 @@ impl Core {
         apply(&mut self.derived, &mut self.lines, moment, work, plan)
     }
 
-    /// Answers a query at a moment. The history and what is pending stay.
+    /// Answers a query at a moment. The history, what is pending and the sums stay, and no line
+    /// forgets a minute. The minutes of a timeline that is given are known then.
     pub fn answer(&mut self, alloc: Global, moment: u32, query: &Query) -> Outcome
         requires later { present self.old.office ≤ moment }
         requires in_range { moment < end_of self.old.office.origin }
-        ensures same { self.new ≡ self.old }
+        ensures office { self.new.office ≡ self.old.office }
+        ensures pending { self.new.pending ≡ self.old.pending }
+        ensures sums { self.new.sums ≡ self.old.sums }
+        ensures know { AllKnow self.old.lines self.new.lines }
         ensures answer { Answers self.old.office moment query.now result ⊎ (result ≡ NoMemory) }
+        ensures learnt { KnowsAnswered (catalog_in self.old.office.history) self.new.lines query.now
+            result }
     {
         answer(alloc, &self.derived, &mut self.lines, moment, query)
     }
 
-    /// The state of a binding at a minute; none exactly where there is no such binding. The history
-    /// and what is pending stay.
+    /// The state of a binding at a minute; none exactly where there is no such binding. The
+    /// history, what is pending and the sums stay, and no line forgets a minute.
+    ///
+    /// # Errors
+    ///
+    /// None: what is kept needs no memory for it.
     pub fn state_of(
         &mut self,
         alloc: Global,
@@ -258,20 +285,49 @@ impl Core {
     ) -> Result<Option<State>, AllocError>
         requires begun { self.old.office.origin ≤ at }
         requires in_range { at < end_of self.old.office.origin }
-        ensures same { self.new ≡ self.old }
+        ensures office { self.new.office ≡ self.old.office }
+        ensures pending { self.new.pending ≡ self.old.pending }
+        ensures sums { self.new.sums ≡ self.old.sums }
+        ensures know { AllKnow self.old.lines self.new.lines }
         ensures state { IfOk result (λ state. state
             ≡ binding_state self.old.office
             (record { slo = slo; objective = objective; policy = policy }) at) }
     {
-        state_of(
-            alloc,
-            &self.derived,
-            &mut self.lines,
+        Ok(state_of(&self.derived, &mut self.lines, slo, objective, policy, at))
+    }
+
+    /// The sums that are kept of the objective of this number of an SLO, from 0: none exactly where
+    /// there is no such SLO or number. They are of the objective's method, and each slice has the
+    /// counts of its minutes over the whole history. Takes no memory.
+    pub fn sums_of(&self, slo: Label, objective: u32) -> Option<&WindowSums>
+        ensures sums { IfSome result (λ sums. LendsSums self.now
+            (measure_at_lem (catalog_in self.now.office.history) slo objective) sums.now) }
+        ensures none { result ≡ None
+            → measure_at_lem (catalog_in self.now.office.history) slo objective ≡ None }
+    {
+        match measure_at(&self.derived.catalog, slo, objective) {
+            Some(measure) => Some(objective_sums(&self.derived, &measure)),
+            None => None,
+        }
+    }
+
+    /// The line that is kept for a binding: none exactly where there is no such binding. It is of
+    /// the policy's rule and the objective's target, begins at the origin, and agrees with the
+    /// sums of its objective. Takes no memory.
+    pub fn line_of(&self, slo: Label, objective: u32, policy: Label) -> Option<&AlertLine>
+        ensures line { IfSome result (λ line. LendsLine self.now
+            (watched_lem (catalog_in self.now.office.history)
+            (record { slo = slo; objective = objective; policy = policy })) line.now) }
+        ensures none { result ≡ None → watched_lem (catalog_in self.now.office.history)
+            (record { slo = slo; objective = objective; policy = policy }) ≡ None }
+    {
+        let binding = Binding {
             slo,
             objective,
             policy,
-            at,
-        )
+        };
+        let watch = watched(&self.derived.catalog, &binding)?;
+        Some(self.lines.line_of(&self.derived, &watch))
     }
 }
 
@@ -296,6 +352,8 @@ fn judge_and_make_room(
         ≡ office_of derived.old records.old.items }
     ensures verdict { IsVerdict (office_of derived.old records.old.items)
         (record { moment = moment; command = command.now }) result.0 (pending_of result.1) }
+    ensures sums { CountTheSame derived.old.sums.kept derived.new.sums.kept }
+    ensures know { AllKnow lines.old.kept lines.new.kept }
 {
     match judge(alloc, derived, lines, moment, command) {
         Judged::Same(outcome) => (Verdict::Same(outcome), None),

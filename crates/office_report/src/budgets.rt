@@ -47,7 +47,8 @@ fn rows_of(
 ) -> Result<Option<BudgetRows>, AllocError>
     requires begun { core.old.office.origin ≤ at }
     requires in_range { at < end_of core.old.office.origin }
-    ensures same { core.new ≡ core.old }
+    ensures office { core.new.office ≡ core.old.office }
+    ensures pending { core.new.pending ≡ core.old.pending }
     ensures rows { IfOk result (AreRows core.old.office at name) }
 {
     core.is_legal();
@@ -74,7 +75,8 @@ fn slo_lines(
 ) -> Result<Vec<u8>, AllocError>
     requires begun { core.old.office.origin ≤ at }
     requires in_range { at < end_of core.old.office.origin }
-    ensures same { core.new ≡ core.old }
+    ensures office { core.new.office ≡ core.old.office }
+    ensures pending { core.new.pending ≡ core.old.pending }
     ensures lines { IfOk result (λ lines. AreSloLines states.now core.old.office at name
         lines.items) }
 {
@@ -97,7 +99,8 @@ pub(crate) fn lines_of(
 ) -> Result<Vec<u8>, AllocError>
     requires begun { core.old.office.origin ≤ at }
     requires in_range { at < end_of core.old.office.origin }
-    ensures same { core.new ≡ core.old }
+    ensures office { core.new.office ≡ core.old.office }
+    ensures pending { core.new.pending ≡ core.old.pending }
     ensures lines { IfOk result (λ lines. AreLines states.now core.old.office at names.now
         lines.items) }
 {

@@ -11,7 +11,7 @@ use office_core::Core;
 use std::alloc::{AllocError, Global};
 
 /// The report of an office at a minute of its range, in minutes since 1970-01-01T00:00Z. The
-/// machine stays as it was.
+/// history and what is pending stay.
 ///
 /// # Errors
 ///
@@ -19,7 +19,8 @@ use std::alloc::{AllocError, Global};
 pub fn report(alloc: Global, core: &mut Core, at: u32) -> Result<Bytes, AllocError>
     requires begun { core.old.office.origin ≤ at }
     requires in_range { at < end_of core.old.office.origin }
-    ensures same { core.new ≡ core.old }
+    ensures office { core.new.office ≡ core.old.office }
+    ensures pending { core.new.pending ≡ core.old.pending }
     ensures report { IfOk result (IsReport core.old.office at) }
 {
     let names = slo_names(alloc, core.catalog())?;

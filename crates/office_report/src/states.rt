@@ -15,7 +15,8 @@ use std::alloc::{AllocError, Global};
 fn state_of(alloc: Global, core: &mut Core, at: u32, binding: &Binding) -> Result<State, AllocError>
     requires begun { core.old.office.origin ≤ at }
     requires in_range { at < end_of core.old.office.origin }
-    ensures same { core.new ≡ core.old }
+    ensures office { core.new.office ≡ core.old.office }
+    ensures pending { core.new.pending ≡ core.old.pending }
     ensures state { IfOk result (λ state. state
         ≡ unwrap_or (binding_state core.old.office binding.now at) Quiet) }
 {
@@ -31,7 +32,8 @@ fn states_of(
 ) -> Result<Vec<(Binding, State)>, AllocError>
     requires begun { core.old.office.origin ≤ at }
     requires in_range { at < end_of core.old.office.origin }
-    ensures same { core.new ≡ core.old }
+    ensures office { core.new.office ≡ core.old.office }
+    ensures pending { core.new.pending ≡ core.old.pending }
     ensures states { IfOk result (λ states. states.items
         ≡ map (with_state core.old.office at) bindings.now) }
 {
@@ -51,7 +53,8 @@ pub(crate) fn states_at(
 ) -> Result<Vec<(Binding, State)>, AllocError>
     requires begun { core.old.office.origin ≤ at }
     requires in_range { at < end_of core.old.office.origin }
-    ensures same { core.new ≡ core.old }
+    ensures office { core.new.office ≡ core.old.office }
+    ensures pending { core.new.pending ≡ core.old.pending }
     ensures states { IfOk result (λ states. states.items ≡ states_over core.old.office at) }
 {
     let bindings = core.catalog().bindings(alloc)?;

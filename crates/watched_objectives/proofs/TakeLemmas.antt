@@ -8,12 +8,14 @@ use Rattle.std.specs.List.Retain.{IsFiltered, ReturnsInTurn}
 use Rattle.std.proofs.lemmas.List.Elements.{All-contains, All-from_recursion}
 use Rattle.std.proofs.lemmas.List.Elements.{Contains-append_left, Contains-append_right}
 use Rattle.slo_objects.specs.declared.Object.{Object}
-use Rattle.alert_line.specs.Line.{known}
+use Rattle.alert_line.specs.Line.{Line, known}
 use Rattle.office_history.specs.Alerts.{Watch, holds_at}
 use Rattle.office_history.specs.Counts.{Samples}
 use Rattle.watched_objectives.specs.Watches.{IsWatched}
+use Rattle.watched_objectives.specs.Known.{IsLineOf}
 use Rattle.watched_objectives.specs.Lines.{AreRight, KeepsLines, watches_of}
 use Rattle.watched_objectives.specs.Plans.{IsFresh, IsLinesPlan}
+use Rattle.watched_objectives.proofs.KnownLemmas.{of_line}
 use Rattle.watched_objectives.specs.declared.kept.WatchLine.{WatchLine}
 use Rattle.watched_objectives.specs.declared.plan.LinesPlan.{LinesPlan}
 
@@ -81,6 +83,35 @@ module _ {F : Type 0} (R : F → WatchLine → Bool → F → Type 0) (wanted : 
       there_left bs xs q m k (omega (arith, len))
       (subst (λ (y : F). ReturnsInTurn R y bs xs q) (h x false t.0 t.1).1 t.2) want
       (omega (arith, less)) same
+
+  line_left : (bs : List Bool) (xs : List WatchLine) (q : F) (w : Watch) (before after : Line) →
+      ReturnsInTurn R f bs xs q → IsLineOf xs w before →
+      IsLineOf (items_where_true bs xs) w after → after ≡ before
+  line_left [] xs q w before after t was is = absurd is
+  line_left (b ∷ bs) [] q w before after t was is = absurd was
+  line_left (true ∷ bs) (x ∷ xs) q w before after t (inl was) (inl is) = sym is.1 ∙ was.1
+  line_left (true ∷ bs) (x ∷ xs) q w before after t (inl was) (inr is) = absurd (is.0 was.0)
+  line_left (true ∷ bs) (x ∷ xs) q w before after t (inr was) (inl is) = absurd (was.0 is.0)
+  line_left (true ∷ bs) (x ∷ xs) q w before after t (inr was) (inr is) =
+      line_left bs xs q w before after
+      (subst (λ (y : F). ReturnsInTurn R y bs xs q) (h x true t.0 t.1).1 t.2) was.1 is.1
+  line_left (false ∷ bs) (x ∷ xs) q w before after t (inl was) is =
+      let want = of_line (items_where_true bs xs) w after (λ (v : Watch). Contains wanted v)
+      (wanted_left bs xs q
+      (subst (λ (y : F). ReturnsInTurn R y bs xs q) (h x false t.0 t.1).1 t.2)) is in
+      let no_way : false ≡ true =
+      (h x false t.0 t.1).0.1 (subst (λ (v : Watch). Contains wanted v) (sym was.0) want) in
+      cc no_way
+  line_left (false ∷ bs) (x ∷ xs) q w before after t (inr was) is =
+      line_left bs xs q w before after
+      (subst (λ (y : F). ReturnsInTurn R y bs xs q) (h x false t.0 t.1).1 t.2) was.1 is
+
+  -- a line of an alert that was there and is there is the same
+  pub retained_line : (xs ys : List WatchLine) → IsFiltered R f xs ys → (w : Watch)
+      (before after : Line) → IsLineOf xs w before → IsLineOf ys w after → after ≡ before
+  retained_line xs ys k w before after was is =
+      line_left k.0 xs k.1 w before after k.3 was
+      (subst (λ (os : List WatchLine). IsLineOf os w after) k.4 is)
 
   pub retained_wanted : (xs ys : List WatchLine) → IsFiltered R f xs ys →
       AllByRecursion (λ (k : WatchLine). Contains wanted k.watch) ys

@@ -1,6 +1,6 @@
 -- What is known of a binding that watches an alert.
-use Rattle.std.proofs.Common.{◌≡◌, ◌==◌, ◌&&◌, Bool, true, false, List, Option, Some, None}
-use Rattle.std.proofs.Common.{IfSome, refl, sym}
+use Rattle.std.proofs.Common.{◌≡◌, ◌∙◌, ◌==◌, ◌&&◌, Bool, true, false, cond, List, Option, Some}
+use Rattle.std.proofs.Common.{None, IfSome, ap, refl, subst, sym}
 use Rattle.std.specs.List.{Contains, list_any}
 use Rattle.std.specs.Str.{bytes_eq}
 use Rattle.std.proofs.lemmas.Bool.{eqb-true}
@@ -9,7 +9,7 @@ use Rattle.std.proofs.lemmas.Slice.Eq.{bytes_eq-Decides}
 use Rattle.slo_objects.specs.declared.Object.{Object}
 use Rattle.slo_catalog.specs.declared.Binding.{Binding}
 use Rattle.slo_catalog.specs.Bindings.{bindings}
-use Rattle.office_history.specs.Alerts.{Watch, same_binding, watch_of}
+use Rattle.office_history.specs.Alerts.{Watch, same_binding, watch_of, watched}
 use Rattle.watched_objectives.specs.Watches.{IsWatched}
 
 both : (a b : Bool) → a && b ≡ true → (a ≡ true) × (b ≡ true)
@@ -44,3 +44,16 @@ watched_among members b (Some w) found is = record {
   among = binding_among b (bindings members) found;
   watches = sym is;
 }
+
+-- so what is found of a binding is watched
+pub watched_is : (members : List Object) (b : Binding) (w : Option Watch) →
+    w ≡ watched members b → IfSome w (IsWatched members)
+watched_is members b w is = by (list_any (same_binding b) (bindings members)) refl
+  where
+    by : (t : Bool) → list_any (same_binding b) (bindings members) ≡ t →
+        IfSome w (IsWatched members)
+    by true e =
+        watched_among members b w e (is ∙ ap (λ t. cond t (watch_of members b) None) e)
+    by false e =
+        subst (λ (v : Option Watch). IfSome v (IsWatched members))
+        (sym (is ∙ ap (λ t. cond t (watch_of members b) None) e)) tt

@@ -1,5 +1,5 @@
 -- What becomes of a book's samples, and of lines, as rows or an exclusion come.
-use Rattle.std.specs.Prelude.{◌≡◌, ◌++◌, ◌∷◌, [], ℕ, Bool, List}
+use Rattle.std.specs.Prelude.{◌≡◌, ◌++◌, ℕ, Bool, List}
 use Rattle.sample_book.specs.Book.{Book}
 use Rattle.sample_book.specs.declared.Exclusion.{Exclusion}
 use Rattle.sample_book.specs.declared.Row.{Row}
@@ -11,6 +11,7 @@ use Rattle.office_history.specs.Counts.{Samples}
 use Rattle.kept_sums.specs.Replacing.{HasMoved}
 use Rattle.kept_sums.specs.Walks.{IsChanged, made_on}
 use Rattle.kept_lines.specs.Touched.{Forgets}
+use Rattle.watched_objectives.specs.Known.{EachBecomes}
 use Rattle.watched_objectives.specs.declared.kept.WatchLine.{WatchLine}
 
 -- the samples of a book with the rows of a batch
@@ -39,6 +40,4 @@ pub record ForgetsNear (touched : Watch → ℕ → Type 0) (before after : Watc
 
 -- so does each of the lines
 abbrev pub AllForget : (Watch → ℕ → Type 0) → List WatchLine → List WatchLine → Type 0
-AllForget touched [] [] = Unit {0}
-AllForget touched (k ∷ old) (k' ∷ new) = ForgetsNear touched k k' × AllForget touched old new
-AllForget touched _ _ = ⊥
+AllForget touched old new = EachBecomes (ForgetsNear touched) old new

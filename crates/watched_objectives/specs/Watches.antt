@@ -1,9 +1,13 @@
 -- The alerts that a catalog watches.
-use Rattle.std.specs.Prelude.{◌≡◌, List, Some}
-use Rattle.std.specs.List.{Contains}
+use Rattle.std.specs.Prelude.{◌≡◌, ◌&&◌, ℕ, nat_lt, Bool, false, List, length, Option, None, Some}
+use Rattle.std.specs.List.{Contains, list_any}
+use Rattle.std.specs.Str.{bytes_eq}
+use Rattle.slo_objects.specs.Slo.{slo_in}
 use Rattle.slo_objects.specs.declared.Object.{Object}
+use Rattle.slo_objects.specs.declared.Slo.{Slo}
 use Rattle.slo_catalog.specs.declared.Binding.{Binding}
 use Rattle.slo_catalog.specs.Bindings.{bindings}
+use Rattle.slo_catalog.specs.References.{names_in}
 use Rattle.office_history.specs.Alerts.{Watch, watch_of}
 
 -- the catalog has a binding that watches this
@@ -11,3 +15,16 @@ pub record IsWatched (members : List Object) (w : Watch) : Type 0 where
   pub binding : Binding
   pub among : Contains (bindings members) binding
   pub watches : watch_of members binding ≡ Some w
+
+-- an SLO has the objective of a binding, and lists its policy
+abbrev pub has_both : Binding → Slo → Bool
+has_both b slo = nat_lt b.objective (length slo.objectives)
+    && list_any (bytes_eq b.policy) (names_in slo.alert_policies)
+
+-- an object of this name is the SLO of a binding, with its objective and its policy
+abbrev pub is_bound_by : Binding → List ℕ → Option Slo → Bool
+is_bound_by b name None = false
+is_bound_by b name (Some slo) = bytes_eq b.slo name && has_both b slo
+
+abbrev pub is_bound_in : Binding → Object → Bool
+is_bound_in b o = is_bound_by b o.name (slo_in o.body)

@@ -1,5 +1,6 @@
 //! The lines of alerts, each beside what it watches.
-ghost use Rattle.std.specs.Prelude.{◌≡◌, ◌≢◌, ◌≤◌, [], IfSome, None, OnOk, Some, slice_get};
+ghost use Rattle.std.specs.Prelude.{◌≡◌, ◌≢◌, ◌≤◌, [], IfSome, None, OnOk, Some, slice_get, take};
+ghost use Rattle.std.specs.Prelude.{true};
 ghost use Rattle.std.specs.Bool.{Decides};
 ghost use Rattle.std.specs.List.{AllByRecursion, Contains};
 ghost use Rattle.watched_objectives.specs.Lines.{watches_of};
@@ -36,10 +37,12 @@ impl Model for KeptLines {
     } };
 }
 
-// The place of an alert's line.
+// The place of an alert's line: the first that there is.
 pub(crate) fn place_of(lines: &[WatchLine], watch: &Watch) -> Option<usize>
     ensures some { IfSome result (λ place. slice_get (watches_of lines.now) place
         ≡ Some watch.now) }
+    ensures first { IfSome result (λ place. AllByRecursion
+        (λ (kept : WatchLine). kept.watch ≢ watch.now) (take place lines.now)) }
     ensures none { result ≡ None
         → AllByRecursion (λ (kept : WatchLine). kept.watch ≢ watch.now) lines.now }
 {
@@ -49,6 +52,16 @@ pub(crate) fn place_of(lines: &[WatchLine], watch: &Watch) -> Option<usize>
         }
     }
     None
+}
+
+// Whether the line at a place is an alert's.
+pub(crate) fn is_at(lines: &[WatchLine], place: usize, watch: &Watch) -> bool
+    ensures { result ≡ true → slice_get (watches_of lines.now) place ≡ Some watch.now }
+{
+    match lines.get(place) {
+        Some(kept) => is_same(&kept.watch, watch),
+        None => false,
+    }
 }
 
 // Whether there is a line of an alert.

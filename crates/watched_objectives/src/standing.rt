@@ -1,15 +1,22 @@
 // How a watched alert stands, and when it is active, by its line.
-ghost use Rattle.std.specs.Prelude.{◌≡◌, ◌+◌, ◌<◌, ◌≤◌, IfOk, Some, slice_get, true};
-ghost use Rattle.std.specs.List.{Contains};
+ghost use Rattle.std.specs.Prelude.{◌≡◌, ◌≢◌, ◌+◌, ◌<◌, ◌≤◌, ℕ, Bool, IfOk, OnOk, Some};
+ghost use Rattle.std.specs.Prelude.{slice_get, take, true};
+ghost use Rattle.std.specs.List.{AllByRecursion, Contains};
 ghost use Rattle.burn_core.specs.Timeline.{AreSpansOf, state_of};
+ghost use Rattle.window_sums.specs.Slices.{CountedDays};
+ghost use Rattle.alert_line.specs.Learnt.{IsLearnt, start_of};
 ghost use Rattle.alert_line.specs.Line.{Agrees, IsMinute, SameAlert, active_on, den_before};
+ghost use Rattle.alert_line.specs.Line.{known};
 ghost use Rattle.office_history.specs.Alerts.{is_watch_active, state_at};
 ghost use Rattle.office_derived.specs.Derived.{IsSound};
-ghost use Rattle.watched_objectives.specs.Sums.{samples_of};
-ghost use Rattle.watched_objectives.specs.Watches.{IsWatched};
+ghost use Rattle.kept_lines.specs.Right.{IsRight};
+ghost use Rattle.watched_objectives.specs.Known.{AllKnow, IsLineOf, LineKnows};
 ghost use Rattle.watched_objectives.specs.Lines.{HasLines, watches_of};
+ghost use Rattle.watched_objectives.specs.Sums.{AreSums, samples_of};
+ghost use Rattle.watched_objectives.specs.Watches.{IsWatched};
+ghost use Rattle.watched_objectives.specs.declared.kept.WatchLine.{WatchLine};
 
-use crate::kept::{KeptLines, place_of};
+use crate::kept::{KeptLines, is_at, place_of};
 use crate::sums::objective_sums;
 use crate::watch::Watch;
 use alert_line::{AlertLine, Spans};
@@ -35,6 +42,8 @@ fn state_of_line<L: Ledger>(
         (den_before line.old sums.now minute) }
     ensures alert { SameAlert line.old line.new }
     ensures agrees { Agrees line.new sums.now }
+    ensures kept { (u : ℕ) (holds : Bool) → known line.old u ≡ Some holds
+        → known line.new u ≡ Some holds }
 {
     let mut steps = Steps::<L>::new(blank);
     line.state_at(minute, sums, &mut steps)
@@ -57,6 +66,9 @@ fn spans_of_line<L: Ledger>(
         (λ minute. active_on line.old sums.now minute ≡ true) from to spans.items) }
     ensures alert { SameAlert line.old line.new }
     ensures agrees { Agrees line.new sums.now }
+    ensures kept { (u : ℕ) (holds : Bool) → known line.old u ≡ Some holds
+        → known line.new u ≡ Some holds }
+    ensures learnt { OnOk result (IsLearnt line.old line.new sums.now (start_of line.old from) to) }
 {
     let mut steps = Steps::<L>::new(blank);
     line.intervals(from, to, sums, &mut steps)
@@ -66,7 +78,9 @@ impl KeptLines {
     // The place of the line of an alert that has one.
     fn place(&self, watch: &Watch) -> usize
         requires { Contains (watches_of self.now.kept) watch.now }
-        ensures { slice_get (watches_of self.now.kept) result ≡ Some watch.now }
+        ensures there { slice_get (watches_of self.now.kept) result ≡ Some watch.now }
+        ensures first { AllByRecursion (λ (kept : WatchLine). kept.watch ≢ watch.now)
+            (take result self.now.kept) }
     {
         match place_of(&self.lines, watch) {
             Some(place) => place,
@@ -74,8 +88,33 @@ impl KeptLines {
         }
     }
 
+    // The place of the line of an alert that has one: this one if it is there, else the first.
+    fn place_near(&self, watch: &Watch, hint: usize) -> usize
+        requires { Contains (watches_of self.now.kept) watch.now }
+        ensures { slice_get (watches_of self.now.kept) result ≡ Some watch.now }
+    {
+        if is_at(&self.lines, hint, watch) {
+            return hint;
+        }
+        self.place(watch)
+    }
+
+    /// The line of a watched alert. It agrees with the sums of its objective.
+    pub fn line_of(&self, derived: &Derived, watch: &Watch) -> &AlertLine
+        requires lines { HasLines derived.now self.now.kept }
+        requires watched { IsWatched derived.now.catalog watch.now }
+        ensures line { IsLineOf self.now.kept watch.now result.now }
+        ensures right { IsRight derived.now.origin (samples_of derived.now.book) watch.now
+            result.now }
+        ensures agrees { (sums : CountedDays)
+            → AreSums (samples_of derived.now.book) watch.now.measure sums
+            → Agrees result.now sums }
+    {
+        &self.lines[self.place(watch)].line
+    }
+
     /// How a watched alert stands at a minute of the office's range. Afterwards its line knows the
-    /// minutes that decide about it.
+    /// minutes that decide about it, and no line forgets a minute.
     pub fn state_at(&mut self, derived: &Derived, watch: &Watch, minute: u32) -> State
         requires sound { IsSound derived.now }
         requires lines { HasLines derived.now self.old.kept }
@@ -86,16 +125,44 @@ impl KeptLines {
             watch.now minute }
         ensures lines { HasLines derived.now self.new.kept }
         ensures watches { watches_of self.new.kept ≡ watches_of self.old.kept }
+        ensures know { AllKnow self.old.kept self.new.kept }
+        ensures spare { self.new.spare ≡ self.old.spare }
+    {
+        let (state, _next) = self.state_near(derived, watch, minute, 0);
+        state
+    }
+
+    // How a watched alert stands, and the place behind its line. Lines stand in the order of their
+    // bindings, mostly, so the line is looked for where the one before it suggests.
+    pub(crate) fn state_near(
+        &mut self,
+        derived: &Derived,
+        watch: &Watch,
+        minute: u32,
+        hint: usize,
+    ) -> (State, usize)
+        requires sound { IsSound derived.now }
+        requires lines { HasLines derived.now self.old.kept }
+        requires watched { IsWatched derived.now.catalog watch.now }
+        requires begun { derived.now.origin ≤ minute }
+        requires in_range { minute < derived.now.origin + 2097152 }
+        ensures value { result.0 ≡ state_at derived.now.origin (samples_of derived.now.book)
+            watch.now minute }
+        ensures lines { HasLines derived.now self.new.kept }
+        ensures watches { watches_of self.new.kept ≡ watches_of self.old.kept }
+        ensures know { AllKnow self.old.kept self.new.kept }
         ensures spare { self.new.spare ≡ self.old.spare }
     {
         let sums = objective_sums(derived, watch.measure());
-        let place = self.place(watch);
+        let place = self.place_near(watch, hint);
         let line = &mut self.lines[place].line;
-        state_of_line::<Brand>(line, sums, minute, Blank::new(1))
+        let state = state_of_line::<Brand>(line, sums, minute, Blank::new(1));
+        (state, place.saturating_add(1))
     }
 
     /// The stretches of [from, to) in which a watched alert is active, of minutes of the office's
-    /// range. Afterwards its line knows the minutes that decide about them.
+    /// range. Afterwards its line knows these and the minutes that decide about them, and no line
+    /// forgets a minute.
     ///
     /// # Errors
     ///
@@ -118,6 +185,8 @@ impl KeptLines {
             spans.items) }
         ensures lines { HasLines derived.now self.new.kept }
         ensures watches { watches_of self.new.kept ≡ watches_of self.old.kept }
+        ensures know { AllKnow self.old.kept self.new.kept }
+        ensures learnt { OnOk result (LineKnows self.new.kept watch.now from to) }
         ensures spare { self.new.spare ≡ self.old.spare }
     {
         let sums = objective_sums(derived, watch.measure());

@@ -5,6 +5,7 @@ ghost use Rattle.office_history.specs.Alerts.{state_if, states_at, watch_of as w
 ghost use Rattle.office_derived.specs.Derived.{IsSound};
 ghost use Rattle.slo_catalog.specs.Bindings.{bindings as bindings_lem};
 ghost use Rattle.watched_objectives.specs.Sums.{samples_of};
+ghost use Rattle.watched_objectives.specs.Known.{AllKnow};
 ghost use Rattle.watched_objectives.specs.Lines.{HasLines, watches_of};
 ghost use Rattle.watched_objectives.specs.States.{with_state};
 
@@ -15,27 +16,29 @@ use office_derived::Derived;
 use slo_catalog::Binding;
 use std::alloc::{AllocError, Global};
 
-// How the alert of a binding stands.
+// How the alert of a binding stands, and the place behind its line.
 fn state_of_binding(
     derived: &Derived,
     lines: &mut KeptLines,
     binding: &Binding,
     minute: u32,
-) -> State
+    hint: usize,
+) -> (State, usize)
     requires sound { IsSound derived.now }
     requires lines { HasLines derived.now lines.old.kept }
     requires among { Contains (bindings_lem derived.now.catalog) binding.now }
     requires begun { derived.now.origin ≤ minute }
     requires in_range { minute < derived.now.origin + 2097152 }
-    ensures value { result ≡ state_if derived.now.origin (samples_of derived.now.book) minute
+    ensures value { result.0 ≡ state_if derived.now.origin (samples_of derived.now.book) minute
         (watch_of_lem derived.now.catalog binding.now) }
     ensures lines { HasLines derived.now lines.new.kept }
     ensures watches { watches_of lines.new.kept ≡ watches_of lines.old.kept }
+    ensures know { AllKnow lines.old.kept lines.new.kept }
     ensures spare { lines.new.spare ≡ lines.old.spare }
 {
     match watch_of(&derived.catalog, binding) {
-        Some(watch) => lines.state_at(derived, &watch, minute),
-        None => State::Quiet,
+        Some(watch) => lines.state_near(derived, &watch, minute, hint),
+        None => (State::Quiet, hint),
     }
 }
 
@@ -56,18 +59,21 @@ fn states_of(
         ≡ map (with_state derived.now minute) bindings.now) }
     ensures lines { HasLines derived.now lines.new.kept }
     ensures watches { watches_of lines.new.kept ≡ watches_of lines.old.kept }
+    ensures know { AllKnow lines.old.kept lines.new.kept }
     ensures spare { lines.new.spare ≡ lines.old.spare }
 {
     let mut states = Vec::new(alloc);
+    let mut hint = 0;
     for binding in bindings {
-        let state = state_of_binding(derived, lines, binding, minute);
+        let (state, next) = state_of_binding(derived, lines, binding, minute, hint);
+        hint = next;
         states.push((*binding, state))?;
     }
     Ok(states)
 }
 
 /// Each binding of the catalog with its state at a minute of the office's range. Afterwards the
-/// lines know the minutes that decide about the states.
+/// lines know the minutes that decide about the states, and no line forgets a minute.
 ///
 /// # Errors
 ///
@@ -86,6 +92,7 @@ pub fn states_over(
         ≡ states_at derived.now.origin derived.now.catalog (samples_of derived.now.book) minute) }
     ensures lines { HasLines derived.now lines.new.kept }
     ensures watches { watches_of lines.new.kept ≡ watches_of lines.old.kept }
+    ensures know { AllKnow lines.old.kept lines.new.kept }
     ensures spare { lines.new.spare ≡ lines.old.spare }
 {
     let bindings = derived.catalog.bindings(alloc)?;

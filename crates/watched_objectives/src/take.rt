@@ -1,9 +1,12 @@
 // The lines that a plan wants, kept, and those that it brings, taken.
-ghost use Rattle.std.specs.Prelude.{◌≤◌, ℕ, List, length};
+ghost use Rattle.std.specs.Prelude.{◌≡◌, ◌≤◌, ℕ, List, length};
 ghost use Rattle.std.specs.Bool.{Decides};
 ghost use Rattle.std.specs.List.{Contains};
+ghost use Rattle.alert_line.specs.Line.{Line};
 ghost use Rattle.slo_objects.specs.declared.Object.{Object};
+ghost use Rattle.office_history.specs.Alerts.{Watch};
 ghost use Rattle.office_history.specs.Counts.{Samples};
+ghost use Rattle.watched_objectives.specs.Known.{IsLineOf};
 ghost use Rattle.watched_objectives.specs.Lines.{KeepsLines};
 ghost use Rattle.watched_objectives.specs.Plans.{IsLinesPlan};
 
@@ -25,12 +28,15 @@ fn is_among(watches: &[Watch], watch: &Watch) -> bool
 
 impl KeptLines {
     /// Keeps the lines that a plan wants of those that were there and of those that it brings, as a
-    /// catalog takes the place of another. There is room for these, and no memory is taken.
+    /// catalog takes the place of another. There is room for these, and no memory is taken. A line
+    /// that stays is as it was.
     pub fn take(&mut self, plan: LinesPlan)
         requires room { length plan.made.items ≤ self.old.spare }
-        ensures { (begin : ℕ) (before after : List Object) (s : Samples)
+        ensures lines { (begin : ℕ) (before after : List Object) (s : Samples)
             → KeepsLines begin before s self.old.kept → IsLinesPlan begin before after plan
             → KeepsLines begin after s self.new.kept }
+        ensures stay { (w : Watch) (before after : Line) → IsLineOf self.old.kept w before
+            → IsLineOf self.new.kept w after → after ≡ before }
     {
         let LinesPlan { wanted, mut made } = plan;
         self.lines.append(&mut made).unwrap();

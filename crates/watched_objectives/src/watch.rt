@@ -1,18 +1,22 @@
 //! An alert that is watched, and how it stands.
-ghost use Rattle.std.specs.Prelude.{◌≡◌, IfOk, IfSome};
+ghost use Rattle.std.specs.Prelude.{◌≡◌, IfSome};
+ghost use Rattle.std.specs.List.{list_any};
+ghost use Rattle.std.specs.Str.{bytes_eq};
 ghost use Rattle.burn_core.specs.Alert.{IsRule};
 ghost use Rattle.kept_objectives.specs.Objectives.{IsObjective};
 ghost use Rattle.object_ranges.specs.Measures.{IsMeasure};
 ghost use Rattle.office_history.specs.Alerts.{same_binding as same_binding_lem};
 ghost use Rattle.office_history.specs.Alerts.{watch_of as watch_of_lem, watched as watched_lem};
-ghost use Rattle.std.specs.List.{list_any};
-ghost use Rattle.watched_objectives.specs.Watches.{IsWatched};
+ghost use Rattle.slo_catalog.specs.References.{names_in};
+ghost use Rattle.watched_objectives.specs.Watches.{IsWatched, has_both as has_both_lem};
+ghost use Rattle.watched_objectives.specs.Watches.{is_bound_in as is_bound_in_lem};
 
 use burn_core::AlertRule;
 use catalog_measures::{measure_at, rule_named};
+use exact_fraction::Label;
 use office_history::Measure;
 use slo_catalog::{Binding, Catalog};
-use std::alloc::{AllocError, Global};
+use slo_objects::{Body, Names, Object, Slo};
 use std::marker::Model;
 
 /// An objective, and the rule of an alert policy.
@@ -70,30 +74,52 @@ pub fn same_binding(a: &Binding, b: &Binding) -> bool
     a.slo == b.slo && a.objective == b.objective && a.policy == b.policy
 }
 
-fn is_among(bindings: &[Binding], binding: &Binding) -> bool
-    ensures { result ≡ list_any (same_binding_lem binding.now) bindings.now }
+// Whether a list of names that may be omitted has a policy.
+fn lists(names: &Option<Names>, policy: Label) -> bool
+    ensures { result ≡ list_any (bytes_eq policy) (names_in names.now) }
 {
-    bindings.iter().any(|other| same_binding(binding, other))
+    match names {
+        Some(names) => names.as_slice().iter().any(|name| policy == *name),
+        None => false,
+    }
 }
 
-/// What a binding of the catalog watches: none where it is no binding of the catalog.
-///
-/// # Errors
-///
-/// Memory ran out.
-pub fn watched(
-    alloc: Global,
-    catalog: &Catalog,
-    binding: &Binding,
-) -> Result<Option<Watch>, AllocError>
-    ensures value { IfOk result (λ watch. watch ≡ watched_lem catalog.now binding.now) }
-    ensures objective { IfOk result (λ watch. IfSome watch
-        (λ found. IsObjective catalog.now found.measure)) }
-    ensures watched { IfOk result (λ watch. IfSome watch (IsWatched catalog.now)) }
+// Whether an SLO has the objective of a binding, and lists its policy.
+fn has_both(slo: &Slo, binding: &Binding) -> bool
+    ensures { result ≡ has_both_lem binding.now slo.now }
 {
-    let bindings = catalog.bindings(alloc)?;
-    if !is_among(&bindings, binding) {
-        return Ok(None);
+    (binding.objective as usize) < slo.objectives.as_slice().len()
+        && lists(&slo.alert_policies, binding.policy)
+}
+
+// Whether an object is the SLO of a binding, with its objective and its policy.
+fn is_bound_in(object: &Object, binding: &Binding) -> bool
+    ensures { result ≡ is_bound_in_lem binding.now object.now }
+{
+    match &object.body {
+        Body::Slo(slo) => binding.slo == object.name && has_both(slo, binding),
+        _ => false,
     }
-    Ok(watch_of(catalog, binding))
+}
+
+fn is_bound(catalog: &Catalog, binding: &Binding) -> bool
+    ensures { result ≡ list_any (is_bound_in_lem binding.now) catalog.now }
+{
+    let members = catalog.members();
+    members
+        .iter()
+        .any(|member| is_bound_in(member.object(), binding))
+}
+
+/// What a binding of the catalog watches: none exactly where it is no binding of the catalog.
+/// Takes no memory.
+pub fn watched(catalog: &Catalog, binding: &Binding) -> Option<Watch>
+    ensures value { result ≡ watched_lem catalog.now binding.now }
+    ensures objective { IfSome result (λ found. IsObjective catalog.now found.measure) }
+    ensures watched { IfSome result (IsWatched catalog.now) }
+{
+    if !is_bound(catalog, binding) {
+        return None;
+    }
+    watch_of(catalog, binding)
 }

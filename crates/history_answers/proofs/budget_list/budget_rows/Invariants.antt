@@ -10,4 +10,6 @@ pub record SoFar (P Q : Type 0) : Type 0 where
 abbrev pub invariant-loop-measure : goal.invariant-loop-measure
 invariant-loop-measure l = SoFar
     (l.number ≡ l.measure-index)
-    (l.rows.items ++ budget_rows (samples_of l.derived.book) l.from l.at l.number (drop l.measure-index l.measures) ≡ budget_rows (samples_of l.derived.book) l.from l.at 0 l.measures)
+    (l.rows.items ++ budget_rows
+    (samples_of l.derived.book) l.from l.at l.number (drop l.measure-index l.measures)
+    ≡ budget_rows (samples_of l.derived.book) l.from l.at 0 l.measures)

@@ -4,4 +4,5 @@ use Rattle.notice_changes.proofs.changes.changes.Given as goal
 
 -- the changes so far and those of the bindings that are left are those of all
 abbrev pub invariant-loop-change : goal.invariant-loop-change
-invariant-loop-change l = l.told.items ++ filter (is_told l.catalog l.before) (drop l.change-index l.now) ≡ filter (is_told l.catalog l.before) l.now
+invariant-loop-change l = l.told.items ++ filter (is_told l.catalog l.before)
+    (drop l.change-index l.now) ≡ filter (is_told l.catalog l.before) l.now

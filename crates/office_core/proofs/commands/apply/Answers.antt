@@ -4,11 +4,15 @@ use Rattle.sample_book.specs.declared.Row.{Row}
 use Rattle.sample_book.specs.Rows.{current_rows}
 use Rattle.office_derived.specs.declared.Work.{Work}
 use Rattle.office_derived.specs.declared.Work.TheVariants as works
-use Rattle.office_derived.specs.Derived.{IsNext, IsPlaced}
+use Rattle.office_derived.specs.Derived.{IsNext, IsPlaced, entry_of}
 use Rattle.watched_objectives.specs.declared.LinesPlan.{LinesPlan}
+use Rattle.watched_objectives.specs.Changes.{AllForget, IsMovedBy}
 use Rattle.watched_objectives.specs.Lines.{KeepsLines}
 use Rattle.watched_objectives.specs.Sums.{samples_of}
+use Rattle.office_core.specs.Forgetting.{ForgetsOnlyNear}
 use Rattle.office_core.specs.Machine.{HasLinesFor, HasLinesPlan}
+use Rattle.office_core.proofs.ForgettingLemmas.{batch_forgets, exclusion_forgets, forgets_none}
+use Rattle.office_core.proofs.ForgettingLemmas.{forgets_still}
 use Rattle.office_core.proofs.LinesLemmas.{batch_lines, batch_placed, excluded_lines, new_lines}
 use Rattle.office_core.proofs.LinesLemmas.{still_lines}
 use Rattle.office_core.proofs.commands.apply.Goals as goal
@@ -34,7 +38,7 @@ returns-in-Some-clause-lines c =
     c.in-Define.is c.requires.plan) in
     new_lines d c.apply_define-outcome.new.derived o c.args.moment work catalog c.take.new.self.kept
     next (c.apply_define-outcome.ensures.reflects o next) next.found.0 refl refl
-    (c.take.ensures d.origin d.catalog catalog (samples_of d.book) c.requires.lines planned.0)
+    (c.take.ensures.lines d.origin d.catalog catalog (samples_of d.book) c.requires.lines planned.0)
 
 pub returns-in-Some-plan-clause-lines : goal.returns-in-Some-plan-clause-lines
 returns-in-Some-plan-clause-lines c =
@@ -50,7 +54,8 @@ returns-in-Some-plan-clause-lines c =
     new_lines d c.apply_remove-outcome.new.derived o c.args.moment work catalog
     c.take-in-Some-plan.new.self.kept next (c.apply_remove-outcome.ensures.reflects o next)
     next.found.0 refl refl
-    (c.take-in-Some-plan.ensures d.origin d.catalog catalog (samples_of d.book) c.requires.lines
+    (c.take-in-Some-plan.ensures.lines d.origin d.catalog catalog (samples_of d.book)
+    c.requires.lines
     planned.0)
 
 pub returns-in-PutZone-clause-lines : goal.returns-in-PutZone-clause-lines
@@ -81,3 +86,52 @@ returns-in-Exclude-clause-lines c =
     excluded_lines d c.apply_exclude.new.derived o c.args.moment c.in-Exclude.value
     c.forget_exclusion.new.self.kept next (c.apply_exclude.ensures.reflects o next)
     c.apply_exclude.ensures.made c.forget_exclusion.ensures.lines
+
+pub returns-in-Some-clause-forgets : goal.returns-in-Some-clause-forgets
+returns-in-Some-clause-forgets c = λ o next.
+    forgets_none o (entry_of c.args.moment c.args.work) c.args.lines.now.kept
+    c.take.new.self.kept c.take.ensures.stay
+
+pub returns-in-Some-plan-clause-forgets : goal.returns-in-Some-plan-clause-forgets
+returns-in-Some-plan-clause-forgets c = λ o next.
+    forgets_none o (entry_of c.args.moment c.args.work) c.args.lines.now.kept
+    c.take-in-Some-plan.new.self.kept c.take-in-Some-plan.ensures.stay
+
+pub returns-in-PutZone-clause-forgets : goal.returns-in-PutZone-clause-forgets
+returns-in-PutZone-clause-forgets c = λ o next.
+    forgets_still o (entry_of c.args.moment c.args.work) c.args.lines.now.kept
+
+pub returns-in-Tick-clause-forgets : goal.returns-in-Tick-clause-forgets
+returns-in-Tick-clause-forgets c = λ o next.
+    forgets_still o (entry_of c.args.moment c.args.work) c.args.lines.now.kept
+
+pub returns-in-Take-clause-forgets : goal.returns-in-Take-clause-forgets
+returns-in-Take-clause-forgets c = λ o next.
+    forgets_still o (entry_of c.args.moment c.args.work) c.args.lines.now.kept
+
+pub returns-in-Samples-clause-forgets : goal.returns-in-Samples-clause-forgets
+returns-in-Samples-clause-forgets c = λ o next.
+    let d = c.args.derived.now in
+    let rows = c.in-Samples.rows in
+    let old = c.args.lines.now.kept in
+    let new = c.forget_rows.new.self.kept in
+    let work : Work = works.Samples rows c.in-Samples.tally c.in-Samples.verdicts in
+    subst (λ (w : Work). ForgetsOnlyNear o (entry_of c.args.moment w) old new)
+    (sym c.in-Samples.is)
+    (batch_forgets d o c.args.moment rows c.in-Samples.tally c.in-Samples.verdicts
+    c.deref.result.now old new (subst (IsNext d o c.args.moment) c.in-Samples.is next)
+    c.deref.ensures.value c.requires.lines.right
+    (subst (λ (rs : List Row). AllForget (IsMovedBy rs c.deref.result.now) old new)
+    c.as_slice.ensures c.forget_rows.ensures.forget))
+
+pub returns-in-Exclude-clause-forgets : goal.returns-in-Exclude-clause-forgets
+returns-in-Exclude-clause-forgets c = λ o next.
+    let d = c.args.derived.now in
+    let old = c.args.lines.now.kept in
+    let new = c.forget_exclusion.new.self.kept in
+    let next' = subst (IsNext d o c.args.moment) c.in-Exclude.is next in
+    subst (λ (w : Work). ForgetsOnlyNear o (entry_of c.args.moment w) old new)
+    (sym c.in-Exclude.is)
+    (exclusion_forgets d c.apply_exclude.new.derived o c.args.moment c.in-Exclude.value old new
+    next' (c.apply_exclude.ensures.reflects o next') c.apply_exclude.ensures.made
+    c.requires.lines.right c.forget_exclusion.ensures.forget)

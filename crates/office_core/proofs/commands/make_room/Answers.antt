@@ -18,15 +18,18 @@ returns-in-Remove-clause-room c =
 
 pub returns-in-PutZone-clause-room : goal.returns-in-PutZone-clause-room
 returns-in-PutZone-clause-room c =
-    subst (λ (work : Work). OnOk c.room_for_put_zone.result (HasRoom c.room_for_put_zone.new.derived work)) (sym c.in-PutZone.is)
+    subst (λ (work : Work). OnOk c.room_for_put_zone.result
+    (HasRoom c.room_for_put_zone.new.derived work)) (sym c.in-PutZone.is)
     (c.room_for_put_zone.ensures.room c.in-PutZone.name c.in-PutZone.bytes c.in-PutZone.zone)
 
 pub returns-in-Samples-clause-room : goal.returns-in-Samples-clause-room
 returns-in-Samples-clause-room c =
-    subst (λ (work : Work). OnOk c.room_for_samples.result (HasRoom c.room_for_samples.new.derived work)) (sym c.in-Samples.is)
+    subst (λ (work : Work). OnOk c.room_for_samples.result
+    (HasRoom c.room_for_samples.new.derived work)) (sym c.in-Samples.is)
     (c.room_for_samples.ensures.room c.in-Samples.tally c.in-Samples.verdicts)
 
 pub returns-in-Exclude-clause-room : goal.returns-in-Exclude-clause-room
 returns-in-Exclude-clause-room c =
-    subst (λ (work : Work). OnOk c.room_for_exclude.result (HasRoom c.room_for_exclude.new.derived work)) (sym c.in-Exclude.is)
+    subst (λ (work : Work). OnOk c.room_for_exclude.result
+    (HasRoom c.room_for_exclude.new.derived work)) (sym c.in-Exclude.is)
     (c.room_for_exclude.ensures.room c.in-Exclude.field-0)

@@ -59,7 +59,8 @@ returns-in-Err-NotKept-clause-kept g c =
     c.in-Ok.ensures ∙ c.bytes.ensures ∙ c.requires.pending.2 in
     let is : c.append-appended.result ≡ Err NotKept = search rules in
     kept_of g.D.Disk.images _ _ _ _ c.requires.none refl
-    (appended g.D.Disk.images _ _ _ _ _ _ same is (c.append-appended.ensures.leaves _ _ c.requires.kept))
+    (appended g.D.Disk.images _ _ _ _ _ _ same is
+    (c.append-appended.ensures.leaves _ _ c.requires.kept))
 
 pub returns-in-Err-NotKept-clause-any_moment : goal.returns-in-Err-NotKept-clause-any_moment
 returns-in-Err-NotKept-clause-any_moment g c e pending =

@@ -6,6 +6,7 @@ use Rattle.office_report.proofs.budgets.lines_of.Given as goal
 abbrev pub invariant-loop-name : goal.invariant-loop-name
 invariant-loop-name l =
     record {
-      same : l.core ≡ l.fn.core;
+      office : l.core.office ≡ l.fn.core.office;
+      pending : l.core.pending ≡ l.fn.core.pending;
       told : Leads l.states l.fn.core.office l.at l.names l.name-index l.lines.items;
     }

@@ -6,7 +6,8 @@ use Rattle.office_report.proofs.states.states_of.Given as goal
 abbrev pub invariant-loop-binding : goal.invariant-loop-binding
 invariant-loop-binding l =
     record {
-      same : l.core ≡ l.fn.core;
+      office : l.core.office ≡ l.fn.core.office;
+      pending : l.core.pending ≡ l.fn.core.pending;
       told :
           l.states.items
           ++ map (with_state l.fn.core.office l.at) (drop l.binding-index l.bindings)

@@ -1,4 +1,5 @@
 use Rattle.std.proofs.Common.{◌≡◌, ◌++◌, drop, map}
+use Rattle.watched_objectives.specs.Known.{AllKnow}
 use Rattle.watched_objectives.specs.Lines.{HasLines, watches_of}
 use Rattle.watched_objectives.specs.States.{with_state}
 use Rattle.watched_objectives.proofs.states.states_of.Given as goal
@@ -10,5 +11,6 @@ invariant-loop-binding l = record {
       ≡ map (with_state l.derived l.minute) l.bindings;
   lines : HasLines l.derived l.lines.kept;
   watches : watches_of l.lines.kept ≡ watches_of l.initial.lines.kept;
+  know : AllKnow l.initial.lines.kept l.lines.kept;
   spare : l.lines.spare ≡ l.initial.lines.spare;
 }

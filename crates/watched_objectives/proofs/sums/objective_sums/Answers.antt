@@ -1,5 +1,7 @@
-use Rattle.std.proofs.Common.{◌<◌, ◌∙◌, ap, subst}
-use Rattle.window_sums.specs.Slices.{width_of}
+use Rattle.std.proofs.Common.{◌≡◌, ◌<◌, ◌∙◌, ℕ, ap, subst}
+use Rattle.window_sums.specs.Slices.{counts_of, width_of}
+use Rattle.office_history.specs.Counts.{slice_counts}
+use Rattle.kept_sums.specs.Sums.{IsKept}
 use Rattle.watched_objectives.specs.Sums.{samples_of}
 use Rattle.watched_objectives.proofs.KeptLemmas.{are_sums, kept_there, never_lacking}
 use Rattle.watched_objectives.proofs.sums.objective_sums.Goals as goal
@@ -9,14 +11,28 @@ unreachable-requires c =
     never_lacking c.args.derived.now c.args.measure.now c.requires.sound c.requires.objective
     (c.find.ensures.none c.in-None.is)
 
-pub returns : goal.returns
-returns c =
+-- the sums that are found are those of the rows
+found : (c : goal.After-width) → IsKept c.args.measure.now c.args.derived.now.book.exclusions
+    c.args.derived.now.book.rows c.in-Some.sums.now
+found c =
+    kept_there c.args.derived.now c.args.measure.now c.in-Some.sums.now c.requires.sound
+    c.in-Some.ensures.some
+
+counted : (c : goal.After-width) (slice : ℕ) → counts_of c.in-Some.sums.now slice
+    ≡ slice_counts (samples_of c.args.derived.now.book) c.args.measure.now slice
+counted c slice =
     let d = c.args.derived.now in
     let m = c.args.measure.now in
-    let sums = c.in-Some.sums.now in
-    let kept = kept_there d m sums c.requires.sound c.in-Some.ensures.some in
     let some : 0 < width_of m.method =
-    subst (λ n. 0 < n) (c.width.ensures.value ∙ ap width_of kept.method) c.width.ensures.some in
-    are_sums (samples_of d.book) m sums
-    (λ slice. c.kept_counts_are_those_of_the_minutes.ensures m d.book.exclusions d.book.rows sums
-    slice some kept) kept
+    subst (λ n. 0 < n) (c.width.ensures.value ∙ ap width_of (found c).method)
+    c.width.ensures.some in
+    c.kept_counts_are_those_of_the_minutes.ensures m d.book.exclusions d.book.rows
+    c.in-Some.sums.now slice some (found c)
+
+pub returns-clause-sums : goal.returns-clause-sums
+returns-clause-sums c =
+    are_sums (samples_of c.args.derived.now.book) c.args.measure.now c.in-Some.sums.now
+    (counted c) (found c)
+
+pub returns-clause-counts : goal.returns-clause-counts
+returns-clause-counts c = counted c

@@ -3,10 +3,12 @@ use Rattle.std.specs.Prelude.{is_ok}
 use Rattle.std.specs.List.{Contains}
 use Rattle.kept_lines.specs.Right.{IsRight}
 use Rattle.kept_objectives.proofs.TakeLemmas.{all_append}
+use Rattle.watched_objectives.specs.Known.{IsLineOf}
 use Rattle.watched_objectives.specs.Lines.{AreRight, LinesKept, watches_of}
 use Rattle.watched_objectives.specs.declared.kept.WatchLine.{WatchLine}
-use Rattle.watched_objectives.proofs.TakeLemmas.{one_of_both, retained_each, retained_there}
-use Rattle.watched_objectives.proofs.TakeLemmas.{retained_wanted, taken}
+use Rattle.watched_objectives.proofs.KnownLemmas.{line_among}
+use Rattle.watched_objectives.proofs.TakeLemmas.{one_of_both, retained_each, retained_line}
+use Rattle.watched_objectives.proofs.TakeLemmas.{retained_there, retained_wanted, taken}
 use Rattle.watched_objectives.proofs.kept.KeptLines.take.Goals as goal
 
 -- both lists stand together before those that aren't wanted go
@@ -19,8 +21,8 @@ together c =
     ∙ ap (λ r. if is_ok r then old ++ brought else old) c.unwrap.ensures
     ∙ ap (λ (k : LinesKept). k.kept ++ brought) c.self.view_is
 
-pub returns : goal.returns
-returns c = λ begin before after s keeps is.
+pub returns-clause-lines : goal.returns-clause-lines
+returns-clause-lines c = λ begin before after s keeps is.
     let old = c.args.self.now.kept in
     let made = c.args.plan.made.items in
     let filtered = c.retain.ensures.filtered in
@@ -35,3 +37,12 @@ returns c = λ begin before after s keeps is.
     c.retain.new.self.items filtered w want
     (subst (λ (ks : List WatchLine). Contains (watches_of ks) w) (sym (together c))
     (one_of_both old made w at)))
+
+pub returns-clause-stay : goal.returns-clause-stay
+returns-clause-stay c = λ w before after was is.
+    let old = c.args.self.now.kept in
+    let made = c.args.plan.made.items in
+    retained_line _ c.args.plan.wanted.items _ (λ x b g k. search rules) _
+    c.retain.new.self.items c.retain.ensures.filtered w before after
+    (subst (λ (ks : List WatchLine). IsLineOf ks w before) (sym (together c))
+    (line_among old made w before was)) is

@@ -1,0 +1,155 @@
+//! A machine with the objects of a shop, and what comes to it.
+ghost use Rattle.std.specs.Prelude.{◌≤◌, ◌≡◌, IfOk};
+ghost use Rattle.slo_limits.specs.declared.TheConstants.{MAX_MINUTE, MAX_REVISION};
+ghost use Rattle.office_core.specs.Machine.{HasRevisions};
+
+use exact_fraction::{Bytes, Label, read_label};
+use office_core::{Core, Verdict};
+use record_form::{Command, Listed};
+use sample_book::{Amount, Row};
+use std::alloc::{AllocError, Global};
+use std::process::Abort;
+
+// An SLO with one objective, and an alert where more than twice the budget burns in an hour, for
+// five minutes.
+const OBJECTS: &str = "\
+apiVersion: openslo/v1
+kind: Service
+metadata:
+  name: shop
+spec:
+  description: The shop.
+---
+apiVersion: openslo/v1
+kind: SLI
+metadata:
+  name: shop-good
+spec:
+  ratioMetric:
+    counter: true
+    good:
+      metricSource:
+        type: Prometheus
+        spec:
+          query: good
+    total:
+      metricSource:
+        type: Prometheus
+        spec:
+          query: total
+---
+apiVersion: openslo/v1
+kind: AlertCondition
+metadata:
+  name: fast-burn
+spec:
+  severity: page
+  condition:
+    kind: burnrate
+    op: gt
+    threshold: 2
+    lookbackWindow: 1h
+    alertAfter: 5m
+---
+apiVersion: openslo/v1
+kind: AlertPolicy
+metadata:
+  name: shop-alerts
+spec:
+  conditions:
+  - conditionRef: fast-burn
+---
+apiVersion: openslo/v1
+kind: SLO
+metadata:
+  name: shop-slo
+spec:
+  service: shop
+  indicatorRef: shop-good
+  timeWindow:
+  - duration: 30d
+    isRolling: true
+  budgetingMethod: Occurrences
+  objectives:
+  - displayName: Availability
+    target: 0.999
+  alertPolicies:
+  - shop-alerts
+";
+
+pub(crate) fn label(rt: &impl Abort, text: &[u8]) -> Label {
+    read_label(text).expect(rt, "a label")
+}
+
+fn definition(alloc: Global) -> Result<Command, AllocError>
+    ensures { IfOk result HasRevisions }
+{
+    let bytes = OBJECTS.as_bytes().to_vec(alloc)?;
+    Ok(Command::Define(Bytes::from_vec(bytes)))
+}
+
+fn batch(alloc: Global, row: Row) -> Result<Command, AllocError>
+    requires first { 1 ≤ row.revision }
+    requires last { row.revision ≤ MAX_REVISION }
+    ensures { IfOk result HasRevisions }
+{
+    let mut rows = Vec::new(alloc);
+    rows.extend_from_slice(&[row])?;
+    Ok(Command::Samples(Listed::from_vec(rows)))
+}
+
+// Makes a change, which has to be accepted.
+fn change(rt: &impl Abort, alloc: Global, core: &mut Core, reading: u32, command: &Command)
+    requires reading { reading ≤ MAX_MINUTE }
+    requires revisions { HasRevisions command.now }
+{
+    core.is_legal();
+    let moment = core.moment(reading);
+    assert!(rt; core.in_range(moment));
+    match core.prepare(alloc, moment, command) {
+        Verdict::Ready(value) => drop(core.commit(value)),
+        other => {
+            drop(other);
+            assert!(rt; false, "the change isn't accepted");
+        }
+    }
+}
+
+/// A machine with the objects of a shop, from minute 0 on.
+pub(crate) fn shop(rt: &impl Abort, alloc: Global) -> Core {
+    let mut core = Core::new(alloc, 0).expect(rt, "memory");
+    let command = definition(alloc).expect(rt, "memory");
+    change(rt, alloc, &mut core, 0, &command);
+    drop(command);
+    core
+}
+
+/// Sends one row of the shop's indicator: at a minute, of a revision, with so many good events of
+/// so many.
+pub(crate) fn send(
+    rt: &impl Abort,
+    alloc: Global,
+    core: &mut Core,
+    reading: u32,
+    sample: (u32, u32, u32, u32),
+)
+    requires reading { reading ≤ MAX_MINUTE }
+{
+    let (minute, revision, good, total) = sample;
+    assert!(rt; 1 <= revision && revision <= 1_000);
+    let row = Row {
+        sli: label(rt, b"shop-good"),
+        source: label(rt, b"web"),
+        minute,
+        revision,
+        amount: Amount::Counts { part: good, total },
+    };
+    let command = batch(alloc, row).expect(rt, "memory");
+    change(rt, alloc, core, reading, &command);
+    drop(command);
+}
+
+/// Ends a machine. The proof that all of it is let go is long, so it stands once.
+pub(crate) fn let_go(core: Core) {
+    drop(core);
+}
