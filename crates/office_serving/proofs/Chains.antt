@@ -1,7 +1,7 @@
 -- Visits one after another.
-use Rattle.std.proofs.Common.{◌≡◌, ◌<◌, ◌+◌, ℕ, List, [], ◌∷◌, ◌++◌, length, refl, sym, ap}
-use Rattle.std.proofs.Common.{subst, ◌∙◌, arith, map, append_assoc, append-nil, length-append}
-use Rattle.std.proofs.Common.{Some, None, true, false}
+use Rattle.std.proofs.Common.{◌≡◌, List, [], ◌∷◌, ◌++◌, length, refl, sym, ap}
+use Rattle.std.proofs.Common.{subst, ◌∙◌, arith, append_assoc, append-nil, length-append}
+use Rattle.std.proofs.Common.{Some, None}
 use Rattle.std.specs.declared.option.Option.{Option}
 use Rattle.std.proofs.lemmas.List.{map-append}
 use Rattle.office_doors.specs.Books.{Book, FailsToHand, FindsNone, HandsOut, HasAllBack, HasOneOut}
@@ -30,6 +30,13 @@ moves_to P F G to None (Some b) f p = absurd p
 moves_to P F G to (Some a) None f p = absurd p
 moves_to P F G to (Some a) (Some b) f p = to a b f p
 
+pub moves_more : {B : Type 0} (P Q : B → B → Type 0) → ((a b : B) → P a b → Q a b)
+    → (a b : Option B) → Moves P a b → Moves Q a b
+moves_more P Q more None None p = tt
+moves_more P Q more None (Some b) p = absurd p
+moves_more P Q more (Some a) None p = absurd p
+moves_more P Q more (Some a) (Some b) p = more a b p
+
 pub moves_still : {B : Type 0} (P : B → B → Type 0) → ((a : B) → P a a) → (a : Option B)
     → Moves P a a
 moves_still P still None = tt
@@ -44,37 +51,39 @@ module _ {V : Type 0} where
   }
 
   -- a visit goes out and comes back
-  gains_one : (out back : List V) (visit given : V) (a b c d : Book V) → Gains out back a b
-      → HandsOut visit b c → TakesBack given c d
-      → Gains (out ++ visit ∷ []) (back ++ given ∷ []) a d
-  gains_one out back visit given a b c d so_far hands takes = record {
-    handed = ap (λ (k : Book V). k.handed) takes ∙ hands.handed
-        ∙ ap (λ (l : List V). l ++ visit ∷ []) so_far.handed
-        ∙ append_assoc a.handed out (visit ∷ []);
+  gains_one : (visit given : V) (a b c : Book V) → HandsOut visit a b → TakesBack given b c
+      → Gains (visit ∷ []) (given ∷ []) a c
+  gains_one visit given a b c hands takes = record {
+    handed = ap (λ (k : Book V). k.handed) takes ∙ hands.handed;
     back_are = ap (λ (k : Book V). k.back) takes
-        ∙ ap (λ (l : List V). l ++ given ∷ []) (hands.back ∙ so_far.back_are)
-        ∙ append_assoc a.back back (given ∷ []);
-    first = so_far.first ∙ ap (λ (l : List V). out ++ l)
-        (hands.first ∙ ap (λ (l : List V). visit ∷ l) (sym (ap (λ (k : Book V). k.left) takes)))
-        ∙ sym (append_assoc out (visit ∷ []) d.left);
+        ∙ ap (λ (l : List V). l ++ given ∷ []) hands.back;
+    first = hands.first ∙ ap (λ (l : List V). visit ∷ l)
+        (sym (ap (λ (k : Book V). k.left) takes));
   }
 
-  gains_end : (out back : List V) (a b c : Book V) → Gains out back a b → FindsNone b c
-      → Gains out back a c
-  gains_end out back a b c so_far none = record {
-    handed = ap (λ (k : Book V). k.handed) none.same ∙ so_far.handed;
-    back_are = ap (λ (k : Book V). k.back) none.same ∙ so_far.back_are;
-    first = so_far.first
-        ∙ ap (λ (l : List V). out ++ l) (sym (ap (λ (k : Book V). k.left) none.same));
+  gains_end : (a b : Book V) → FindsNone a b → Gains [] [] a b
+  gains_end a b none = record {
+    handed = ap (λ (k : Book V). k.handed) none.same ∙ sym (append-nil a.handed);
+    back_are = ap (λ (k : Book V). k.back) none.same ∙ sym (append-nil a.back);
+    first = sym (ap (λ (k : Book V). k.left) none.same);
   }
 
-  gains_fault : (out back : List V) (a b c : Book V) → Gains out back a b → FailsToHand b c
-      → Gains out back a c
-  gains_fault out back a b c so_far fails = record {
-    handed = ap (λ (k : Book V). k.handed) fails ∙ so_far.handed;
-    back_are = ap (λ (k : Book V). k.back) fails ∙ so_far.back_are;
-    first = so_far.first
-        ∙ ap (λ (l : List V). out ++ l) (sym (ap (λ (k : Book V). k.left) fails));
+  gains_fault : (a b : Book V) → FailsToHand a b → Gains [] [] a b
+  gains_fault a b fails = record {
+    handed = ap (λ (k : Book V). k.handed) fails ∙ sym (append-nil a.handed);
+    back_are = ap (λ (k : Book V). k.back) fails ∙ sym (append-nil a.back);
+    first = sym (ap (λ (k : Book V). k.left) fails);
+  }
+
+  gains_both : (out back more rest : List V) (a b c : Book V) → Gains out back a b
+      → Gains more rest b c → Gains (out ++ more) (back ++ rest) a c
+  gains_both out back more rest a b c first then = record {
+    handed = then.handed ∙ ap (λ (l : List V). l ++ more) first.handed
+        ∙ append_assoc a.handed out more;
+    back_are = then.back_are ∙ ap (λ (l : List V). l ++ rest) first.back_are
+        ∙ append_assoc a.back back rest;
+    first = first.first ∙ ap (λ (l : List V). out ++ l) then.first
+        ∙ sym (append_assoc out more c.left);
   }
 
   ends_book : (b c : Book V) → FindsNone b c → HasEnded c
@@ -93,18 +102,17 @@ module _ {V : Type 0} where
         length-append b.handed (visit ∷ []),
       )
 
-  all_back : (b c d : Book V) (visit given : V) → HasAllBack b → HandsOut visit b c
-      → TakesBack given c d → HasAllBack d
-  all_back b c d visit given all hands takes =
+  all_back : (out back : List V) (a b : Book V) → length back ≡ length out → HasAllBack a
+      → Gains out back a b → HasAllBack b
+  all_back out back a b same all gains =
       omega (
         arith,
+        same,
         all,
-        ap length hands.handed,
-        ap length hands.back,
-        length-append b.handed (visit ∷ []),
-        length-append c.back (given ∷ []),
-        ap (λ (k : Book V). length k.handed) takes,
-        ap (λ (k : Book V). length k.back) takes,
+        ap length gains.handed,
+        ap length gains.back_are,
+        length-append a.handed out,
+        length-append a.back back,
       )
 
   -- in words of what is told
@@ -114,15 +122,25 @@ module _ {V : Type 0} where
       moves_to (HandsOut visit) HasAllBack HasOneOut (λ b c f p. one_out b c visit f p) b c all
       hands
 
-  pub told_all_back : (b c d : Option (Book V)) (visit given : V) → Tells HasAllBack b
-      → Moves (HandsOut visit) b c → Moves (TakesBack given) c d → Tells HasAllBack d
-  told_all_back None None None visit given all hands takes = tt
-  told_all_back None None (Some d) visit given all hands takes = absurd takes
-  told_all_back None (Some c) d visit given all hands takes = absurd hands
-  told_all_back (Some b) None d visit given all hands takes = absurd hands
-  told_all_back (Some b) (Some c) None visit given all hands takes = absurd takes
-  told_all_back (Some b) (Some c) (Some d) visit given all hands takes =
-      all_back b c d visit given all hands takes
+  pub told_all_back : (visit given : V) (a b c : Option (Book V)) → Tells HasAllBack a
+      → Moves (HandsOut visit) a b → Moves (TakesBack given) b c → Tells HasAllBack c
+  told_all_back visit given a b c all hands takes =
+      moves_to (Gains (visit ∷ []) (given ∷ [])) HasAllBack HasAllBack
+      (λ a b f p. all_back (visit ∷ []) (given ∷ []) a b refl f p) a c all
+      (moves_both (HandsOut visit) (TakesBack given) (Gains (visit ∷ []) (given ∷ []))
+      (gains_one visit given) a b c hands takes)
+
+  pub told_back_at_end : (a b : Option (Book V)) → Tells HasAllBack a → Moves FindsNone a b
+      → Tells HasAllBack b
+  told_back_at_end a b all none =
+      moves_to FindsNone HasAllBack HasAllBack
+      (λ a b f p. all_back [] [] a b refl f (gains_end a b p)) a b all none
+
+  pub told_back_at_fault : (a b : Option (Book V)) → Tells HasAllBack a → Moves FailsToHand a b
+      → Tells HasAllBack b
+  told_back_at_fault a b all fails =
+      moves_to FailsToHand HasAllBack HasAllBack
+      (λ a b f p. all_back [] [] a b refl f (gains_fault a b p)) a b all fails
 
   pub told_ended : (b c : Option (Book V)) → Moves FindsNone b c → Tells HasEnded c
   told_ended None None none = tt
@@ -130,46 +148,14 @@ module _ {V : Type 0} where
   told_ended (Some b) None none = absurd none
   told_ended (Some b) (Some c) none = ends_book b c none
 
-  pub told_back_at_end : (b c : Option (Book V)) → Tells HasAllBack b → Moves FindsNone b c
-      → Tells HasAllBack c
-  told_back_at_end b c all none =
-      moves_to FindsNone HasAllBack HasAllBack
-      (λ b c f p. ap (λ (k : Book V). length k.back) p.same ∙ f
-      ∙ sym (ap (λ (k : Book V). length k.handed) p.same)) b c all none
-
-  pub told_back_at_fault : (b c : Option (Book V)) → Tells HasAllBack b → Moves FailsToHand b c
-      → Tells HasAllBack c
-  told_back_at_fault b c all fails =
-      moves_to FailsToHand HasAllBack HasAllBack
-      (λ b c f p. ap (λ (k : Book V). length k.back) p ∙ f
-      ∙ sym (ap (λ (k : Book V). length k.handed) p)) b c all fails
-
-  told_gains_one : (out back : List V) (visit given : V) (a b c d : Option (Book V))
-      → Moves (Gains out back) a b → Moves (HandsOut visit) b c → Moves (TakesBack given) c d
-      → Moves (Gains (out ++ visit ∷ []) (back ++ given ∷ [])) a d
-  told_gains_one out back visit given None None None None g h t = tt
-  told_gains_one out back visit given None None None (Some d) g h t = absurd t
-  told_gains_one out back visit given None None (Some c) d g h t = absurd h
-  told_gains_one out back visit given None (Some b) c d g h t = absurd g
-  told_gains_one out back visit given (Some a) None c d g h t = absurd g
-  told_gains_one out back visit given (Some a) (Some b) None d g h t = absurd h
-  told_gains_one out back visit given (Some a) (Some b) (Some c) None g h t = absurd t
-  told_gains_one out back visit given (Some a) (Some b) (Some c) (Some d) g h t =
-      gains_one out back visit given a b c d g h t
-
 module _ {T I O C : Type 0} (asks : Asking T) (look : Looks I O C) where
-  chain_more : (old : T) (services : List (Service (Visit I O C))) (mid new : T)
-      (service : Service (Visit I O C)) → Chain asks look old services mid
-      → ServesVisit asks look service.visit service.given mid new
-      → Chain asks look old (services ++ service ∷ []) new
-  chain_more old [] mid new service chain serves = (
-    new,
-    subst (λ (t : T). ServesVisit asks look service.visit service.given t new) chain
-        serves,
-    refl,
-  )
-  chain_more old (s ∷ ss) mid new service (first, served, rest) serves =
-      (first, served, chain_more first ss mid new service rest serves)
+  chain_both : (old : T) (services more : List (Service (Visit I O C))) (mid new : T)
+      → Chain asks look old services mid → Chain asks look mid more new
+      → Chain asks look old (services ++ more) new
+  chain_both old [] more mid new same chain =
+      subst (λ (t : T). Chain asks look t more new) same chain
+  chain_both old (s ∷ ss) more mid new (next, served, rest) chain =
+      (next, served, chain_both next ss more mid new rest chain)
 
   pub works_none : (old : T) (told : Option (Book (Visit I O C)))
       → Works asks look old old told told
@@ -179,42 +165,49 @@ module _ {T I O C : Type 0} (asks : Asking T) (look : Looks I O C) where
     book = moves_still (Gains [] []) gains_none told;
   }
 
-  -- one visit more
-  pub works_more : (old mid new : T) (a b c d : Option (Book (Visit I O C)))
-      (visit given : Visit I O C) → Works asks look old mid a b → Moves (HandsOut visit) b c
-      → ServesVisit asks look visit given mid new → Moves (TakesBack given) c d
-      → Works asks look old new a d
-  works_more old mid new a b c d visit given works hands serves takes =
-      let one : Service (Visit I O C) = record { visit = visit; given = given } in
-      record {
-        services = works.services ++ one ∷ [];
-        chain = chain_more old works.services mid new one works.chain serves;
-        book = subst (λ (out : List (Visit I O C)).
-            Moves (Gains out (given_of (works.services ++ one ∷ []))) a d)
-            (sym (map-append (λ (s : Service (Visit I O C)). s.visit) works.services (one ∷ [])))
-            (subst (λ (back : List (Visit I O C)).
-            Moves (Gains (visits_of works.services ++ visit ∷ []) back) a d)
-            (sym (map-append (λ (s : Service (Visit I O C)). s.given) works.services (one ∷ [])))
-            (told_gains_one (visits_of works.services) (given_of works.services) visit given
-            a b c d works.book hands takes));
-      }
-
-  pub works_end : (old new : T) (a b c : Option (Book (Visit I O C)))
-      → Works asks look old new a b → Moves FindsNone b c → Works asks look old new a c
-  works_end old new a b c works none = record {
-    services = works.services;
-    chain = works.chain;
-    book = moves_both (Gains (visits_of works.services) (given_of works.services)) FindsNone
-        (Gains (visits_of works.services) (given_of works.services))
-        (gains_end (visits_of works.services) (given_of works.services)) a b c works.book none;
+  -- one visit
+  pub works_one : (old new : T) (a b c : Option (Book (Visit I O C))) (visit given : Visit I O C)
+      → Moves (HandsOut visit) a b → ServesVisit asks look visit given old new
+      → Moves (TakesBack given) b c → Works asks look old new a c
+  works_one old new a b c visit given hands serves takes = record {
+    services = record { visit = visit; given = given } ∷ [];
+    chain = (new, serves, refl);
+    book = moves_both (HandsOut visit) (TakesBack given) (Gains (visit ∷ []) (given ∷ []))
+        (gains_one visit given) a b c hands takes;
   }
 
-  pub works_fault : (old new : T) (a b c : Option (Book (Visit I O C)))
-      → Works asks look old new a b → Moves FailsToHand b c → Works asks look old new a c
-  works_fault old new a b c works fails = record {
-    services = works.services;
-    chain = works.chain;
-    book = moves_both (Gains (visits_of works.services) (given_of works.services)) FailsToHand
-        (Gains (visits_of works.services) (given_of works.services))
-        (gains_fault (visits_of works.services) (given_of works.services)) a b c works.book fails;
+  pub works_end : (old : T) (a b : Option (Book (Visit I O C))) → Moves FindsNone a b
+      → Works asks look old old a b
+  works_end old a b none = record {
+    services = [];
+    chain = refl;
+    book = moves_more FindsNone (Gains [] []) gains_end a b none;
+  }
+
+  pub works_fault : (old : T) (a b : Option (Book (Visit I O C))) → Moves FailsToHand a b
+      → Works asks look old old a b
+  works_fault old a b fails = record {
+    services = [];
+    chain = refl;
+    book = moves_more FailsToHand (Gains [] []) gains_fault a b fails;
+  }
+
+  -- more visits behind those that were served
+  pub works_both : (old mid new : T) (a b c : Option (Book (Visit I O C)))
+      → Works asks look old mid a b → Works asks look mid new b c → Works asks look old new a c
+  works_both old mid new a b c first then = record {
+    services = first.services ++ then.services;
+    chain = chain_both old first.services then.services mid new first.chain then.chain;
+    book = subst (λ (out : List (Visit I O C)).
+        Moves (Gains out (given_of (first.services ++ then.services))) a c)
+        (sym (map-append (λ (s : Service (Visit I O C)). s.visit) first.services then.services))
+        (subst (λ (back : List (Visit I O C)).
+        Moves (Gains (visits_of first.services ++ visits_of then.services) back) a c)
+        (sym (map-append (λ (s : Service (Visit I O C)). s.given) first.services then.services))
+        (moves_both (Gains (visits_of first.services) (given_of first.services))
+        (Gains (visits_of then.services) (given_of then.services))
+        (Gains (visits_of first.services ++ visits_of then.services)
+        (given_of first.services ++ given_of then.services))
+        (gains_both (visits_of first.services) (given_of first.services)
+        (visits_of then.services) (given_of then.services)) a b c first.book then.book));
   }

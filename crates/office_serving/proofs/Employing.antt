@@ -1,6 +1,6 @@
 -- What workers did, from what each of them did.
 use Rattle.std.proofs.Common.{◌≡◌, ◌<◌, ◌≤◌, ◌+◌, ◌⊎◌, ℕ, Bool, true, false, List, [], ◌∷◌, ◌++◌}
-use Rattle.std.proofs.Common.{length, refl, sym, ap, subst, ◌∙◌, arith, map, inl, inr}
+use Rattle.std.proofs.Common.{length, refl, sym, subst, arith, map, inl, inr}
 use Rattle.std.specs.Prelude.{All, slice_index_or}
 use Rattle.std.specs.declared.option.Option.{Option}
 use Rattle.office_outside.specs.Faults.{Rose, last_count}
@@ -72,7 +72,8 @@ module _ {A I O C W : Type 0} (site : Site A I O C) (pass_of : W → PassState) 
   abbrev Begins : W → Type 0
   Begins w = pass_of w ≡ start
 
-  works_each : (ws behind : List W) → Pairs (WorkedBy site pass_of door_of end_of) ws behind → Each Begins ws
+  works_each : (ws behind : List W) → Pairs (WorkedBy site pass_of door_of end_of) ws behind
+      → Each Begins ws
       → WorksEach site start (map door_of ws) (map door_of behind) (map pass_of behind)
   works_each [] [] pairs begins = tt
   works_each [] (a ∷ behind) pairs begins = absurd pairs
@@ -83,7 +84,8 @@ module _ {A I O C W : Type 0} (site : Site A I O C) (pass_of : W → PassState) 
     works_each ws behind rest more,
   )
 
-  goes_each : (ws behind : List W) → Pairs (WorkedBy site pass_of door_of end_of) ws behind → Each Begins ws
+  goes_each : (ws behind : List W) → Pairs (WorkedBy site pass_of door_of end_of) ws behind
+      → Each Begins ws
       → Each (λ p. GoesOn start p) (map pass_of behind)
   goes_each [] [] pairs begins = tt
   goes_each [] (a ∷ behind) pairs begins = absurd pairs
@@ -95,7 +97,8 @@ module _ {A I O C W : Type 0} (site : Site A I O C) (pass_of : W → PassState) 
 
   pub ran_workers : (ws behind : List W) (opened : List A) (passes : List PassState)
       (before after : Option (Entrance A (Visit I O C))) (well : Bool)
-      → Pairs (WorkedBy site pass_of door_of end_of) ws behind → All Begins ws → map door_of ws ≡ opened → passes ≡ map pass_of behind
+      → Pairs (WorkedBy site pass_of door_of end_of) ws behind → All Begins ws
+      → map door_of ws ≡ opened → passes ≡ map pass_of behind
       → (well ≡ true → All (λ a. end_of a ≡ Done) behind)
       → Moves (AreClosed (map door_of behind)) before after
       → RanWorkers site start opened before after passes well
@@ -111,7 +114,8 @@ module _ {A I O C W : Type 0} (site : Site A I O C) (pass_of : W → PassState) 
         back = all_of (λ d. Tells HasAllBack (site.told d)) (map door_of behind)
             (back_each site pass_of door_of end_of ws behind pairs);
         ended = λ yes. all_of (λ d. Tells HasEnded (site.told d)) (map door_of behind)
-            (ended_each site pass_of door_of end_of ws behind pairs (each_of (λ a. end_of a ≡ Done) behind (done yes)));
+            (ended_each site pass_of door_of end_of ws behind pairs
+            (each_of (λ a. end_of a ≡ Done) behind (done yes)));
         were_closed = closed;
       }
 

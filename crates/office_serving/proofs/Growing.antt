@@ -1,7 +1,5 @@
 -- What a pass has seen grows through visits.
-use Rattle.std.proofs.Common.{◌≡◌, ℕ, List, [], ◌∷◌, refl, sym, subst}
-use Rattle.record_form.specs.declared.Outcome.{Outcome}
-use Rattle.record_form.specs.declared.Request.{Request}
+use Rattle.std.proofs.Common.{ℕ, List, [], ◌∷◌, sym, subst}
 use Rattle.turn_desk.specs.Passes.{PassState}
 use Rattle.office_doors.specs.declared.Visit.{Visit}
 use Rattle.office_counter.specs.Laws.{Extends}

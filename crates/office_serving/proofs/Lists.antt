@@ -1,6 +1,6 @@
 -- Facts of each of a list, and of lists side by side.
 use Rattle.std.proofs.Common.{◌≡◌, ◌<◌, ℕ, zero, suc, ◌+◌, List, [], ◌∷◌, ◌++◌, length, refl}
-use Rattle.std.proofs.Common.{sym, ap, subst, ◌∙◌, arith, map, append_assoc}
+use Rattle.std.proofs.Common.{sym, ap, subst, ◌∙◌, arith, map}
 use Rattle.std.specs.Prelude.{All, slice_index_or, take}
 use Rattle.std.proofs.Math.Seq.{take-append_seam}
 use Rattle.std.proofs.lemmas.List.{map-append}

@@ -12,6 +12,7 @@ use Rattle.turn_counter.proofs.Sending.{held_send}
 use Rattle.turn_counter.specs.contracts.counter.TurnCounter as counter
 use Rattle.turn_desk.proofs.desk.Desk.TheSendSync as desk
 use Rattle.turn_desk.proofs.pass.Pass.TheSendSync as pass
+use Rattle.wire_session.proofs.Sending.{kit_send}
 use Rattle.office_serving.specs.contracts.workers.Worker as worker
 
 pub counter_send : (κ : NamedLft) (D R : RattleType) (d : disk.Ghosts D.Denot) → IsSend D → IsSync R
@@ -24,4 +25,4 @@ pub worker_send : (κ : NamedLft) (D A R I O T : RattleType)
     (o : sink.Ghosts O.Denot) (t : clock.Ghosts T.Denot) (d : disk.Ghosts D.Denot)
     → IsSend D → IsSend A → IsSync R → IsSend (worker.the_row κ D A R I O T a i o t d)
 worker_send κ D A R I O T a i o t d sent goes shared =
-    search (counter_send, sendable, crosses) depth 40 fits 100000
+    search (kit_send, counter_send, sendable, crosses) depth 40 fits 100000

@@ -1,10 +1,10 @@
 -- Visits that are served one after another at a door.
-use Rattle.std.specs.Prelude.{◌≡◌, ℕ, ◌≤◌, List, [], ◌∷◌, ◌++◌, map, true, Option}
+use Rattle.std.specs.Prelude.{◌≡◌, ◌≢◌, ℕ, ◌≤◌, List, [], ◌∷◌, ◌++◌, map, true, Option}
 use Rattle.office_outside.specs.Faults.{Rose}
 use Rattle.office_doors.specs.Books.{Book, Moves}
 use Rattle.office_doors.specs.declared.Visit.{Visit}
 use Rattle.office_session.specs.declared.SessionEnd.{SessionEnd}
-use Rattle.office_session.specs.declared.SessionEnd.TheVariants.{ReadFault, WriteFault}
+use Rattle.office_session.specs.declared.SessionEnd.TheVariants.{NoMemory, ReadFault, WriteFault}
 use Rattle.office_session.specs.Sessions.{EndsSo, Scene, scene}
 use Rattle.wire_session.specs.Treats.{Asking, Treats, refusal_text}
 
@@ -32,13 +32,15 @@ abbrev pub scene_at : {T I O C : Type 0} → Looks I O C → Visit I O C → T �
 scene_at look visit counter =
     scene (look.left visit.input) (look.to_come visit.clock) counter (look.held visit.output)
 
--- One session ran over the visit, as it was handed out and as it is given back. It ended so, asked
--- of the counter, and a fault is that of the visit's own source or sink.
+-- One session ran over the visit, as it was handed out and as it is given back, until its messages
+-- ended, one of them closed, or its source or its sink failed: no visit is given back unserved for
+-- want of memory. It asked of the counter, and a fault is that of the visit's own source or sink.
 pub record ServesVisit {T I O C : Type 0} (asks : Asking T) (look : Looks I O C)
     (visit given : Visit I O C) (old new : T) : Type 0 where
   pub end : SessionEnd
   pub ends : EndsSo (Treats asks) refusal_text end (scene_at look visit old)
       (scene_at look given new)
+  pub served : end ≢ NoMemory
   pub read : end ≡ ReadFault → Rose (look.reads visit.input) (look.reads given.input)
   pub read_later : look.reads visit.input ≤ look.reads given.input
   pub write : end ≡ WriteFault → Rose (look.writes visit.output) (look.writes given.output)

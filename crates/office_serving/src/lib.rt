@@ -3,6 +3,7 @@
 //! Promises that each visit is a session's, over one history that no worker forks.
 #![tactic(auto)]
 
+mod kits;
 mod ready;
 mod serving;
 mod visits;

@@ -9,6 +9,7 @@ ghost use Rattle.office_serving.specs.Visits.{looks};
 ghost use Rattle.office_serving.specs.Workers.{AreClosed, GoesOn, HasRoom, WorksEach, site};
 ghost use Rattle.office_serving.specs.Serving.{EndsServing, IsServed, front};
 
+use crate::kits::take_kits;
 use crate::ready::say_ready;
 use crate::workers::{WORKERS, run_workers};
 use office_doors::{Door, Doors, DoorsFault};
@@ -100,6 +101,9 @@ fn serve_at<R: Wait + Threads + Sync, D: Disk + Send + Drop, S: Doors, K: Sink>(
     if workers.reserve(WORKERS as usize).is_err() {
         return ServeEnd::NoMemory;
     }
+    let Ok(kits) = take_kits(alloc) else {
+        return ServeEnd::NoMemory;
+    };
     let opened = match doors.open(port, WORKERS as usize) {
         Ok(opened) => opened,
         Err(fault) => return end_of_fault(fault),
@@ -108,13 +112,14 @@ fn serve_at<R: Wait + Threads + Sync, D: Disk + Send + Drop, S: Doors, K: Sink>(
         shut(opened, doors);
         return ServeEnd::WriteFault;
     }
-    let well = run_workers(rt, alloc, desk, passes, opened, workers, doors);
+    let well = run_workers(rt, alloc, kits, desk, passes, opened, workers, doors);
     end_of_work(well)
 }
 
 /// Serves an office to the visitors of four doors, by four workers that take turns, and hands its
-/// disk back. `ready` is told when the doors are open, before any visit is taken. The doors are
-/// closed one by one after all workers have ended.
+/// disk back. Each worker has all the memory of its sessions before a door is opened. `ready` is
+/// told when the doors are open, before any visit is taken. The doors are closed one by one after
+/// all workers have ended.
 pub fn serve<R: Wait + Threads + Sync, D: Disk + Send + Drop, S: Doors, K: Sink>(
     rt: &R,
     alloc: Global,

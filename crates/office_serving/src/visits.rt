@@ -1,6 +1,6 @@
 //! The work at one door: its visits, one after another.
-ghost use Rattle.std.specs.Prelude.{◌≡◌, ◌≤◌};
-ghost use Rattle.office_outside.specs.Faults.{Rose};
+ghost use Rattle.std.specs.Prelude.{◌≡◌, ◌≤◌, Ok, false};
+ghost use Rattle.office_outside.specs.Faults.{HasCause, Rose};
 ghost use Rattle.office_doors.specs.Books.{HasAllBack, Tells};
 ghost use Rattle.office_serving.specs.Visits.{HasEnded, ServesVisit, Works, looks};
 
@@ -9,7 +9,7 @@ use office_doors::{Door, Visit};
 use office_outside::{Clock, Failed, Sink, Source};
 use std::alloc::Global;
 use std::sync::Wait;
-use wire_session::session;
+use wire_session::{SessionKit, session_with};
 
 /// How the work at a door ended.
 #[derive(Clone, Copy, Debug, Drop, PartialEq, Eq)]
@@ -20,17 +20,20 @@ pub enum WorkEnd {
     DoorFault,
 }
 
-/// Runs one session over a visit. However it ends, the visit can be given back.
+/// Runs one session over a visit: until its messages end, one of them closes, or its source or its
+/// sink fails.
 fn serve_visit<T: Counter, I: Source, O: Sink, C: Clock>(
     alloc: Global,
+    kit: &mut SessionKit,
     counter: &mut T,
     visit: &mut Visit<I, O, C>,
 )
     ensures { ServesVisit T.asks (looks I.left I.faults O.held O.faults C.to_come) visit.old
         visit.new counter.old counter.new }
 {
-    let _end = session(
+    let _end = session_with(
         alloc,
+        kit,
         counter,
         &mut visit.input,
         &mut visit.output,
@@ -38,12 +41,39 @@ fn serve_visit<T: Counter, I: Source, O: Sink, C: Clock>(
     );
 }
 
+/// Serves the next visit of a door and hands it back. It answers whether there was one.
+fn serve_next<T: Counter, A: Door>(
+    alloc: Global,
+    kit: &mut SessionKit,
+    counter: &mut T,
+    door: &mut A,
+) -> Result<bool, Failed>
+    requires { Tells HasAllBack (A.told door.old) }
+    ensures works { Works T.asks (looks A.In.left A.In.faults A.Out.held A.Out.faults
+        A.Time.to_come) counter.old counter.new (A.told door.old) (A.told door.new) }
+    ensures back { Tells HasAllBack (A.told door.new) }
+    ensures none { result ≡ Ok false → Tells HasEnded (A.told door.new) }
+    ensures cause { HasCause (A.faults door.old) (A.faults door.new) result }
+{
+    match door.next() {
+        Ok(Some(mut visit)) => {
+            serve_visit(alloc, kit, counter, &mut visit);
+            door.end(visit);
+            Ok(true)
+        }
+        Ok(None) => Ok(false),
+        Err(failed) => Err(failed),
+    }
+}
+
 /// Serves the visits of a door by a counter, one after another, and hands each back before it takes
-/// the next. It ends where there are no more, or the door fails; a session's own end ends that
+/// the next. The kit serves them all, so that no visit is given back unserved for want of memory.
+/// The work ends where there are no more visits, or the door fails; a session's own end ends that
 /// visit alone.
 pub fn work<R: Wait, T: Counter, A: Door>(
     rt: &R,
     alloc: Global,
+    kit: &mut SessionKit,
     counter: &mut T,
     door: &mut A,
 ) -> WorkEnd
@@ -56,12 +86,9 @@ pub fn work<R: Wait, T: Counter, A: Door>(
     ensures fault { result ≡ WorkEnd.DoorFault → Rose (A.faults door.old) (A.faults door.new) }
 {
     for _ in rt.forever() {
-        match door.next() {
-            Ok(Some(mut visit)) => {
-                serve_visit(alloc, counter, &mut visit);
-                door.end(visit);
-            }
-            Ok(None) => return WorkEnd::Done,
+        match serve_next(alloc, kit, counter, door) {
+            Ok(true) => {}
+            Ok(false) => return WorkEnd::Done,
             Err(Failed) => return WorkEnd::DoorFault,
         }
     }

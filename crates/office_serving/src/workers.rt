@@ -17,15 +17,17 @@ use std::sync::Wait;
 use std::thread::{Threads, for_each_mut};
 use turn_counter::{DeskOffice, TurnCounter};
 use turn_desk::{Desk, Pass};
+use wire_session::SessionKit;
 
 /// How many workers there are.
 pub const WORKERS: u32 = 4;
 
-/// A counter and a door, for one thread.
+/// A counter, a door and a kit, for one thread. It has its kit before its first visit.
 #[derive(Drop)]
 pub(crate) struct Worker<'a, D: Disk + Drop, A: Door + Drop, R: Wait> {
     rt: &'a R,
     alloc: Global,
+    kit: SessionKit,
     counter: TurnCounter<'a, D, R>,
     door: A,
     end: WorkEnd,
@@ -37,6 +39,7 @@ impl<'a, D: Disk + Drop, A: Door + Drop, R: Wait> Worker<'a, D, A, R> {
     fn hire(
         rt: &'a R,
         alloc: Global,
+        kit: SessionKit,
         desk: &'a Desk<DeskOffice<D>>,
         pass: Pass<DeskOffice<D>>,
         door: A,
@@ -49,6 +52,7 @@ impl<'a, D: Disk + Drop, A: Door + Drop, R: Wait> Worker<'a, D, A, R> {
         Worker {
             rt,
             alloc,
+            kit,
             counter: TurnCounter::new(rt, desk, pass),
             door,
             end: WorkEnd::Done,
@@ -63,7 +67,13 @@ impl<'a, D: Disk + Drop, A: Door + Drop, R: Wait> Worker<'a, D, A, R> {
             self.new.door self.new.end }
     {
         let rt = self.rt;
-        self.end = work(rt, self.alloc, &mut self.counter, &mut self.door);
+        self.end = work(
+            rt,
+            self.alloc,
+            &mut self.kit,
+            &mut self.counter,
+            &mut self.door,
+        );
     }
 }
 
@@ -90,10 +100,11 @@ fn run_all<R: Wait + Threads + Sync, D: Disk + Send + Drop, A: Door + Send + Dro
     for_each_mut(rt, workers, WORKERS as usize, &step);
 }
 
-/// A worker for each door, with a pass of its own.
+/// A worker for each door, with a kit and a pass of its own.
 fn post<'a, R: Wait, D: Disk + Drop, A: Door + Drop>(
     rt: &'a R,
     alloc: Global,
+    mut kits: Vec<SessionKit>,
     desk: &'a Desk<DeskOffice<D>>,
     passes: &mut Vec<Pass<DeskOffice<D>>>,
     doors: Vec<A>,
@@ -101,6 +112,7 @@ fn post<'a, R: Wait, D: Disk + Drop, A: Door + Drop>(
 )
     requires desk { All (λ p. p.desk ≡ desk.now) passes.old.items }
     requires count { length passes.old.items ≡ length doors.items }
+    requires kits { length kits.items ≡ length doors.items }
     requires empty { workers.old.items ≡ [] }
     requires room { length doors.items ≤ vec_capacity workers.old }
     requires back { All (λ d. Tells HasAllBack (A.told d)) doors.items }
@@ -114,7 +126,10 @@ fn post<'a, R: Wait, D: Disk + Drop, A: Door + Drop>(
         let Some(pass) = passes.pop() else {
             unreachable!()
         };
-        let worker = Worker::hire(rt, alloc, desk, pass, door);
+        let Some(kit) = kits.pop() else {
+            unreachable!()
+        };
+        let worker = Worker::hire(rt, alloc, kit, desk, pass, door);
         let _ = workers.push(worker);
     }
 }
@@ -163,11 +178,12 @@ fn dismiss<R: Wait, D: Disk + Drop, S: Doors>(
     well
 }
 
-/// Serves opened doors by workers at a desk, each with one of the passes, and closes the doors. The
-/// list of workers has room for them. It answers whether each worker ended well.
+/// Serves opened doors by workers at a desk, each with one of the kits and one of the passes, and
+/// closes the doors. The list of workers has room for them. It answers whether each ended well.
 pub(crate) fn run_workers<'a, R: Wait + Threads + Sync, D: Disk + Send + Drop, S: Doors>(
     rt: &'a R,
     alloc: Global,
+    kits: Vec<SessionKit>,
     desk: &'a Desk<DeskOffice<D>>,
     passes: &mut Vec<Pass<DeskOffice<D>>>,
     opened: Vec<S::One>,
@@ -176,6 +192,7 @@ pub(crate) fn run_workers<'a, R: Wait + Threads + Sync, D: Disk + Send + Drop, S
 ) -> bool
     requires desk { All (λ p. p.desk ≡ desk.now) passes.old.items }
     requires count { length passes.old.items ≡ length opened.items }
+    requires kits { length kits.items ≡ length opened.items }
     requires quiet { All (λ d. S.One.faults d ≡ 0) opened.items }
     requires fresh { All (λ d. Tells IsFresh (S.One.told d)) opened.items }
     requires empty { workers.items ≡ [] }
@@ -189,7 +206,7 @@ pub(crate) fn run_workers<'a, R: Wait + Threads + Sync, D: Disk + Send + Drop, S
     ensures count { length passes.new.items ≡ length opened.items }
     ensures cause { result ≡ false → Rose (S.faults doors.old) (S.faults doors.new) }
 {
-    post(rt, alloc, desk, passes, opened, &mut workers);
+    post(rt, alloc, kits, desk, passes, opened, &mut workers);
     run_all(rt, workers.as_mut_slice());
     dismiss(workers, passes, doors)
 }

@@ -10,7 +10,8 @@ use office_outside::{Failed, Source};
 use std::alloc::{AllocError, Global};
 use std::marker::Model;
 
-/// Bytes that wait, in a window of one allocation.
+/// The room for one message, in which a session's bytes wait. It can serve one session after
+/// another: each begins with no bytes waiting.
 #[derive(Drop)]
 pub struct Buffer {
     bytes: Vec<u8>,
@@ -63,6 +64,10 @@ fn read_behind<S: Source>(bytes: &mut [u8], end: usize, input: &mut S) -> Result
 
 impl Buffer {
     /// An empty buffer, with all the room that a session needs.
+    ///
+    /// # Errors
+    ///
+    /// `AllocError` where memory runs out.
     pub fn new(alloc: Global) -> Result<Buffer, AllocError>
         ensures { IfOk result (λ b. b ≡ []) }
     {
@@ -74,8 +79,16 @@ impl Buffer {
         })
     }
 
+    /// Lets all bytes go, and keeps the room.
+    pub(crate) fn clear(&mut self)
+        ensures { self.new ≡ [] }
+    {
+        self.start = 0;
+        self.end = 0;
+    }
+
     /// The bytes that wait.
-    pub fn bytes(&self) -> &[u8]
+    pub(crate) fn bytes(&self) -> &[u8]
         ensures bytes { result.now ≡ self.now }
         ensures few { length self.now ≤ MAX_MESSAGE_BYTES }
     {
@@ -83,7 +96,7 @@ impl Buffer {
     }
 
     /// How many wait.
-    pub fn len(&self) -> usize
+    pub(crate) fn len(&self) -> usize
         ensures len { result ≡ length self.now }
         ensures few { length self.now ≤ MAX_MESSAGE_BYTES }
     {
@@ -91,7 +104,7 @@ impl Buffer {
     }
 
     /// Lets the first bytes go.
-    pub fn skip(&mut self, count: usize)
+    pub(crate) fn skip(&mut self, count: usize)
         requires { count ≤ length self.old }
         ensures { self.new ≡ drop count self.old }
     {
@@ -99,7 +112,7 @@ impl Buffer {
     }
 
     /// Reads once, behind the bytes that wait.
-    pub fn read_more<S: Source>(&mut self, input: &mut S) -> Result<usize, Failed>
+    pub(crate) fn read_more<S: Source>(&mut self, input: &mut S) -> Result<usize, Failed>
         requires { length self.old < MAX_MESSAGE_BYTES }
         ensures fills { Fills self.old self.new (S.left input.old) (S.left input.new) }
         ensures grown { IfOk result (λ n. n ≡ length self.new - length self.old) }

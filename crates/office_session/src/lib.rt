@@ -8,5 +8,6 @@ mod handler;
 mod hearing;
 mod serving;
 
+pub use buffer::Buffer;
 pub use handler::Handler;
-pub use serving::{SessionEnd, session};
+pub use serving::{SessionEnd, session, session_with};

@@ -1,6 +1,6 @@
 //! A session over a source, a sink and a clock.
-ghost use Rattle.std.specs.Prelude.{◌≡◌, ◌<◌, ◌≤◌, ◌+◌, ◌||◌, ℕ, List, Bool, true, Option, nat_le};
-ghost use Rattle.std.specs.Prelude.{IfOk, OnOk, OnErr};
+ghost use Rattle.std.specs.Prelude.{◌≡◌, ◌≢◌, ◌<◌, ◌≤◌, ◌+◌, ◌||◌, ℕ, List, Bool, true, Option};
+ghost use Rattle.std.specs.Prelude.{IfOk, OnOk, OnErr, nat_le};
 ghost use Rattle.office_outside.specs.Told.{Gained, GainedPrefix};
 ghost use Rattle.office_outside.specs.Faults.{HasCause, Rose};
 ghost use Rattle.message_heads.specs.declared.message.Heard.TheVariants.{Whole};
@@ -98,7 +98,8 @@ fn take_turn<K: Sink, H: Handler<K>, C: Clock>(
 
 // The end of a session whose input has ended.
 fn end_at(waiting: usize) -> SessionEnd
-    ensures { EndsAt waiting result }
+    ensures ends { EndsAt waiting result }
+    ensures served { result ≢ SessionEnd.NoMemory }
 {
     if waiting == 0 {
         SessionEnd::Done
@@ -111,6 +112,7 @@ fn end_at(waiting: usize) -> SessionEnd
 fn refuse<K: Sink, H: Handler<K>>(handler: &H, status: u16, output: &mut K) -> SessionEnd
     ensures ends { EndsWriting (H.refusal handler.now status) result (K.held output.old)
         (K.held output.new) }
+    ensures served { result ≢ SessionEnd.NoMemory }
     ensures cause { result ≡ SessionEnd.WriteFault
         → Rose (K.faults output.old) (K.faults output.new) }
     ensures later { K.faults output.old ≤ K.faults output.new }
@@ -125,6 +127,7 @@ fn refuse<K: Sink, H: Handler<K>>(handler: &H, status: u16, output: &mut K) -> S
 fn flush_last<K: Sink>(output: &mut K) -> SessionEnd
     ensures ends { (text : List ℕ) (held : Option (List ℕ)) → Gained text held (K.held output.old)
         → EndsWriting text result held (K.held output.new) }
+    ensures served { result ≢ SessionEnd.NoMemory }
     ensures cause { result ≡ SessionEnd.WriteFault
         → Rose (K.faults output.old) (K.faults output.new) }
     ensures later { K.faults output.old ≤ K.faults output.new }
@@ -132,6 +135,59 @@ fn flush_last<K: Sink>(output: &mut K) -> SessionEnd
     match output.flush() {
         Ok(()) => SessionEnd::Done,
         Err(_) => SessionEnd::WriteFault,
+    }
+}
+
+/// Answers the messages of a source, one after another, in a buffer that the caller holds. It reads
+/// the clock once for each whole message before the message is looked at. After each answer it
+/// flushes the sink. The session ends with the input, with an answer that closes, with the answer
+/// to a bad message, after 1,000 answers, or with a fault, and never for want of memory. What the
+/// buffer held before is let go.
+pub fn session_with<K: Sink, H: Handler<K>, S: Source, C: Clock>(
+    buffer: &mut Buffer,
+    handler: &mut H,
+    input: &mut S,
+    output: &mut K,
+    clock: &mut C,
+) -> SessionEnd
+    ensures ends { EndsSo H.answers H.refusal result
+        (scene (S.left input.old) (C.to_come clock.old) handler.old (K.held output.old))
+        (scene (S.left input.new) (C.to_come clock.new) handler.new (K.held output.new)) }
+    ensures served { result ≢ SessionEnd.NoMemory }
+    ensures read { result ≡ SessionEnd.ReadFault → Rose (S.faults input.old) (S.faults input.new) }
+    ensures read_later { S.faults input.old ≤ S.faults input.new }
+    ensures write { result ≡ SessionEnd.WriteFault
+        → Rose (K.faults output.old) (K.faults output.new) }
+    ensures write_later { K.faults output.old ≤ K.faults output.new }
+{
+    buffer.clear();
+    let mut count = 0;
+    'serving: loop {
+        let Ok(heard) = hear_next(buffer, input) else {
+            return SessionEnd::ReadFault;
+        };
+        match heard {
+            Heard::More => return end_at(buffer.len()),
+            Heard::Bad(status) => return refuse(handler, status, output),
+            Heard::Whole(message, size) => {
+                let Ok(last) = take_turn(
+                    handler,
+                    clock,
+                    output,
+                    buffer.bytes(),
+                    message,
+                    size,
+                    count,
+                ) else {
+                    return SessionEnd::WriteFault;
+                };
+                if last {
+                    return SessionEnd::Done;
+                }
+                buffer.skip(size);
+                count += 1;
+            }
+        }
     }
 }
 
@@ -158,32 +214,5 @@ pub fn session<K: Sink, H: Handler<K>, S: Source, C: Clock>(
     let Ok(mut buffer) = Buffer::new(alloc) else {
         return SessionEnd::NoMemory;
     };
-    let mut count = 0;
-    'serving: loop {
-        let Ok(heard) = hear_next(&mut buffer, input) else {
-            return SessionEnd::ReadFault;
-        };
-        match heard {
-            Heard::More => return end_at(buffer.len()),
-            Heard::Bad(status) => return refuse(handler, status, output),
-            Heard::Whole(message, size) => {
-                let Ok(last) = take_turn(
-                    handler,
-                    clock,
-                    output,
-                    buffer.bytes(),
-                    message,
-                    size,
-                    count,
-                ) else {
-                    return SessionEnd::WriteFault;
-                };
-                if last {
-                    return SessionEnd::Done;
-                }
-                buffer.skip(size);
-                count += 1;
-            }
-        }
-    }
+    session_with(&mut buffer, handler, input, output, clock)
 }

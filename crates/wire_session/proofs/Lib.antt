@@ -3,3 +3,4 @@ pub mod Seeing
 pub mod Clerking
 pub mod Owning
 pub mod Replying
+pub mod Sending

@@ -4,8 +4,10 @@
 #![tactic(auto)]
 
 mod clerk;
+mod kit;
 mod laws;
 mod serving;
 
+pub use kit::SessionKit;
 pub use laws::{own_places_stay_in_a_session, what_is_seen_grows_in_a_session};
-pub use serving::session;
+pub use serving::{session, session_with};

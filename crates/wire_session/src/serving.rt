@@ -1,20 +1,24 @@
 //! Sessions over a counter.
-ghost use Rattle.std.specs.Prelude.{◌≡◌, ◌≤◌};
+ghost use Rattle.std.specs.Prelude.{◌≡◌, ◌≢◌, ◌≤◌};
 ghost use Rattle.office_outside.specs.Faults.{Rose};
 ghost use Rattle.office_session.specs.Sessions.{EndsSo, scene};
 ghost use Rattle.wire_session.specs.Treats.{Treats, refusal_text};
 
 use crate::clerk::Clerk;
+use crate::kit::SessionKit;
 use office_counter::Counter;
 use office_outside::{Clock, Sink, Source};
 use office_session::SessionEnd;
 use std::alloc::Global;
-use wire_routes::Routes;
 
-// A session over these routes.
-fn serve<T: Counter, S: Source, K: Sink, C: Clock>(
+/// Answers the messages of a source by a counter, one after another, with a kit that the caller
+/// holds. Each message that stands for a request is asked once, at the clock's reading that was
+/// taken for it. It ends as a session over messages does: with the input, with an answer that
+/// closes, with the answer to a bad message, after 1,000 answers, or with a fault, and never for
+/// want of memory.
+pub fn session_with<T: Counter, S: Source, K: Sink, C: Clock>(
     alloc: Global,
-    routes: &Routes,
+    kit: &mut SessionKit,
     counter: &mut T,
     input: &mut S,
     output: &mut K,
@@ -23,6 +27,7 @@ fn serve<T: Counter, S: Source, K: Sink, C: Clock>(
     ensures ends { EndsSo (Treats T.asks) refusal_text result
         (scene (S.left input.old) (C.to_come clock.old) counter.old (K.held output.old))
         (scene (S.left input.new) (C.to_come clock.new) counter.new (K.held output.new)) }
+    ensures served { result ≢ SessionEnd.NoMemory }
     ensures read { result ≡ SessionEnd.ReadFault
         → Rose (S.faults input.old) (S.faults input.new) }
     ensures read_later { S.faults input.old ≤ S.faults input.new }
@@ -32,10 +37,10 @@ fn serve<T: Counter, S: Source, K: Sink, C: Clock>(
 {
     let mut clerk = Clerk {
         alloc,
-        routes,
+        routes: &kit.routes,
         counter,
     };
-    office_session::session(alloc, &mut clerk, input, output, clock)
+    office_session::session_with(&mut kit.buffer, &mut clerk, input, output, clock)
 }
 
 /// Answers the messages of a source by a counter, one after another. Each message that stands for a
@@ -59,8 +64,8 @@ pub fn session<T: Counter, S: Source, K: Sink, C: Clock>(
         → Rose (K.faults output.old) (K.faults output.new) }
     ensures write_later { K.faults output.old ≤ K.faults output.new }
 {
-    let Ok(routes) = Routes::new(alloc) else {
+    let Ok(mut kit) = SessionKit::new(alloc) else {
         return SessionEnd::NoMemory;
     };
-    serve(alloc, &routes, counter, input, output, clock)
+    session_with(alloc, &mut kit, counter, input, output, clock)
 }

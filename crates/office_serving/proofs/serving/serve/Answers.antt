@@ -32,7 +32,8 @@ returns-in-Ok-clause-served g c =
     c.in-Ok.desk c.serve_at-end.new.passes.items c.serve_at-end.result _ _ c.into_disk.result
     c.disk_stands.ensures.whole was_low c.disk_stands-in-Ok.ensures.whole low c.into_disk.ensures
     c.disk_stands-in-Ok.ensures.stands c.serve_at-end.ensures.count
-    (c.serve_at-end.ensures.goes_on start c.in-Ok.ensures.passes) closed.root closed.seen closed.apart
+    (c.serve_at-end.ensures.goes_on start c.in-Ok.ensures.passes) closed.root
+    closed.seen closed.apart
     (c.serve_at-end.ensures.ends start c.in-Ok.ensures.passes)
 
 pub returns-in-Err-clause-served : goal.returns-in-Err-clause-served

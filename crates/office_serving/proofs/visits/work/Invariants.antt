@@ -1,4 +1,4 @@
-use Rattle.std.proofs.Common.{◌≡◌, ◌≤◌}
+use Rattle.std.proofs.Common.{◌≤◌}
 use Rattle.office_doors.specs.Books.{HasAllBack, Tells}
 use Rattle.office_serving.specs.Visits.{Works, looks}
 use Rattle.office_serving.proofs.visits.work.Given as goal

@@ -22,6 +22,7 @@ loop-door-preserved g c =
       made = mapped_more (λ w. w.door) at.workers.items now worker at.yielded door one
           c.hire-worker.ensures.door i.made;
       left = search rules;
+      kits = search rules;
       desk = all_pop (λ p. p.desk ≡ c.args.desk.now) at.passes.items left pass pops i.desk;
       back = all_rest (λ d. Tells HasAllBack (g.A.Door.told d)) _ door _ steps i.back;
       views = λ v begins. (

@@ -11,6 +11,7 @@ invariant-loop-door g l = record {
   len : into_iter_len l.door-iterator ≡ length (into_iter_items l.door-iterator);
   made : map (λ w. w.door) l.workers.items ≡ l.yielded;
   left : length l.passes.items ≡ length (into_iter_items l.door-iterator);
+  kits : length l.kits.items ≡ length (into_iter_items l.door-iterator);
   desk : All (λ p. p.desk ≡ l.desk) l.passes.items;
   back : All (λ d. Tells HasAllBack (g.A.Door.told d)) (into_iter_items l.door-iterator);
   views : (v : PassState) → All (λ p. p ≡ v) l.initial.passes.items

@@ -2,7 +2,8 @@ use Rattle.std.proofs.Common.{rules}
 use Rattle.office_session.proofs.Turns.{answered_over}
 use Rattle.office_session.proofs.serving.take_turn.Goals as goal
 
--- No answer names the reading: a turn whose reading is missing, or is another, leaves its goal open.
+-- No answer names the reading: a turn whose reading is missing, or is another, leaves its goal
+-- open.
 pub returns-in-Ok-clause-turn : goal.returns-in-Ok-clause-turn
 returns-in-Ok-clause-turn g c = search (rules, answered_over)
 
