@@ -1,7 +1,8 @@
 -- How `serve` ends, in statuses and lines.
-use Rattle.std.specs.Prelude.{◌≡◌, ℕ, List, Option}
+use Rattle.std.specs.Prelude.{◌≡◌, ◌≢◌, ℕ, List, Option, Some}
+use Rattle.office_keep.specs.Opening.{IsBad, Opens}
 use Rattle.office_doors.specs.declared.Visit.{Visit}
-use Rattle.office_serving.specs.Serving.{Front}
+use Rattle.office_serving.specs.Serving.{Front, IsServed}
 use Rattle.office_serving.specs.Workers.{Site}
 use Rattle.office_serving.specs.declared.ServeEnd.{ServeEnd}
 use Rattle.office_serving.specs.declared.ServeEnd.TheVariants as serving
@@ -39,3 +40,25 @@ pub record RunsServe {D A I O C : Type 0} (content : D → Option (List ℕ))
   pub end : ServerEnd
   pub settled : SettledServer end status said said_after tellings tellings_after
   pub serves : EndsServer content images moment since site end old new before after
+
+-- What the status of a run of `serve` says: BAD_FILE only where the file has no header, or is
+-- damaged; DONE only where the office for which the file stands was served until each door had
+-- handed out all its visits. It is never REFUSED.
+pub record SaysServeStatus {D A I O C : Type 0} (content : D → Option (List ℕ))
+    (images : D → List ℕ → Type 0) (moment : D → ℕ) (since : D → ℕ → List ℕ → Type 0)
+    (site : Site A I O C) (status : ℕ) (old new : Front A (Visit I O C)) (before after : D) :
+    Type 0 where
+  pub bad_file : status ≡ statuses.BAD_FILE → (file : List ℕ) → content before ≡ Some file →
+      IsBad file
+  pub done : status ≡ statuses.DONE → Opens content images moment since
+      (λ office. IsServed images site office serving.Done old new after) before
+  pub unrefused : status ≢ statuses.REFUSED
+
+-- Each run of `serve` ends with a status that says so.
+abbrev pub ServeStatusesSay : {D A I O C : Type 0} → (D → Option (List ℕ)) → (D → List ℕ → Type 0)
+    → (D → ℕ) → (D → ℕ → List ℕ → Type 0) → Site A I O C → Type 0
+ServeStatusesSay {D} {A} {I} {O} {C} content images moment since site =
+    (status : ℕ) (said said_after : Option (List ℕ)) (tellings tellings_after : ℕ)
+    (old new : Front A (Visit I O C)) (before after : D) →
+    RunsServe content images moment since site status said said_after tellings tellings_after old
+    new before after → SaysServeStatus content images moment since site status old new before after

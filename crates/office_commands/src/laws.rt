@@ -4,15 +4,12 @@ ghost use Rattle.office_session.specs.Sessions.{Reads};
 ghost use Rattle.office_outside.specs.Told.{Gained};
 ghost use Rattle.journal_commands.specs.Making.{HasHeader, origin_by};
 ghost use Rattle.journal_commands.specs.Reporting.{IsPrinted, IsUnprinted, OpensTo};
-ghost use Rattle.office_keep.specs.Opening.{IsBad, Opens};
+ghost use Rattle.office_keep.specs.Opening.{IsBad};
 ghost use Rattle.turn_counter.specs.Turns.{TurnAsks};
-ghost use Rattle.office_doors.specs.declared.Visit.{Visit};
-ghost use Rattle.office_serving.specs.Serving.{Front, IsServed};
 ghost use Rattle.office_serving.specs.Visits.{looks};
 ghost use Rattle.office_serving.specs.Workers.{site};
-ghost use Rattle.office_serving.specs.declared.ServeEnd.TheVariants.{Done};
 ghost use Rattle.office_commands.specs.Generate.{PrintsSummary};
-ghost use Rattle.office_commands.specs.Serve.{RunsServe};
+ghost use Rattle.office_commands.specs.Serve.{ServeStatusesSay};
 ghost use Rattle.office_commands.specs.Worlds.{RunsGenerate, RunsInit, RunsPipe, RunsReport, World};
 
 use crate::ending::{BAD_FILE, DONE, REFUSED};
@@ -75,35 +72,8 @@ pub fn statuses_of_report<D: Disk + Drop>()
 /// is done only where the office for which the file stands was served until each door had handed
 /// out all its visits. It refuses nothing.
 pub fn statuses_of_serve<D: Disk + Drop, S: Doors>()
-    ensures bad_file { (status : ℕ) (said said_after : Option (List ℕ))
-        (tellings tellings_after : ℕ)
-        (old new : Front S.One (Visit S.One.In S.One.Out S.One.Time)) (before after : D) →
-        RunsServe D.content D.images D.moment D.images_since
+    ensures { ServeStatusesSay D.content D.images D.moment D.images_since
         (site (TurnAsks D.images D.moment D.images_since D.faults)
         (looks S.One.In.left S.One.In.faults S.One.Out.held S.One.Out.faults S.One.Time.to_come)
-        (λ d. S.One.told d) (λ d. S.One.faults d)) status said said_after tellings
-        tellings_after old new before after →
-        status ≡ BAD_FILE → (file : List ℕ) → D.content before ≡ Some file → IsBad file }
-    ensures done { (status : ℕ) (said said_after : Option (List ℕ))
-        (tellings tellings_after : ℕ)
-        (old new : Front S.One (Visit S.One.In S.One.Out S.One.Time)) (before after : D) →
-        RunsServe D.content D.images D.moment D.images_since
-        (site (TurnAsks D.images D.moment D.images_since D.faults)
-        (looks S.One.In.left S.One.In.faults S.One.Out.held S.One.Out.faults S.One.Time.to_come)
-        (λ d. S.One.told d) (λ d. S.One.faults d)) status said said_after tellings
-        tellings_after old new before after →
-        status ≡ DONE → Opens D.content D.images D.moment D.images_since (λ office.
-        IsServed D.images (site (TurnAsks D.images D.moment D.images_since D.faults)
-        (looks S.One.In.left S.One.In.faults S.One.Out.held S.One.Out.faults S.One.Time.to_come)
-        (λ d. S.One.told d) (λ d. S.One.faults d)) office Done old new after)
-        before }
-    ensures unrefused { (status : ℕ) (said said_after : Option (List ℕ))
-        (tellings tellings_after : ℕ)
-        (old new : Front S.One (Visit S.One.In S.One.Out S.One.Time)) (before after : D) →
-        RunsServe D.content D.images D.moment D.images_since
-        (site (TurnAsks D.images D.moment D.images_since D.faults)
-        (looks S.One.In.left S.One.In.faults S.One.Out.held S.One.Out.faults S.One.Time.to_come)
-        (λ d. S.One.told d) (λ d. S.One.faults d)) status said said_after tellings
-        tellings_after old new before after →
-        status ≢ REFUSED }
+        (λ d. S.One.told d) (λ d. S.One.faults d)) }
 {}

@@ -17,13 +17,16 @@ numbers_stay old new is = record {
   root = refl;
 }
 
-pub numbers_go_on : (old new : List ℕ) (number : ℕ) (added : Bool) → (added ≡ true → new ≡ old ++ number ∷ []) → (added ≡ false → new ≡ old) → GoesOn (numbers old) (numbers new) added
+pub numbers_go_on : (old new : List ℕ) (number : ℕ) (added : Bool)
+    → (added ≡ true → new ≡ old ++ number ∷ []) → (added ≡ false → new ≡ old)
+    → GoesOn (numbers old) (numbers new) added
 numbers_go_on old new number true more same = record {
   settled = [];
   own = (number ∷ []) ∷ [];
   may = tt;
   one = refl;
-  grows = ap entries (more refl) ∙ map-append (λ n. n ∷ []) old (number ∷ []) ∙ ap (λ (l : List (List ℕ)). l ++ (number ∷ []) ∷ []) (sym (append-nil (entries old)));
+  grows = ap entries (more refl) ∙ map-append (λ n. n ∷ []) old (number ∷ [])
+      ∙ ap (λ (l : List (List ℕ)). l ++ (number ∷ []) ∷ []) (sym (append-nil (entries old)));
   root = refl;
 }
 numbers_go_on old new number false more same = numbers_stay old new (same refl)

@@ -1,8 +1,10 @@
 -- What a value with a history is seen as, and how it goes on in one turn.
-use Rattle.std.specs.Prelude.{◌≡◌, ℕ, ◌+◌, ◌-◌, ◌^◌, min, nat_le, Bool, List, [], ◌∷◌, ◌++◌, length, if◌then◌else◌, Some}
+use Rattle.std.specs.Prelude.{◌≡◌, ℕ, ◌+◌, ◌-◌, ◌^◌, min, nat_le, Bool, List, [], ◌∷◌, ◌++◌, length}
+use Rattle.std.specs.Prelude.{if◌then◌else◌, Some}
 use Rattle.std.specs.declared.option.Option.{Option}
 
--- Root and entries are lists of bytes. The entry in doubt is one of which the value can't say whether it was made.
+-- Root and entries are lists of bytes. The entry in doubt is one of which the value can't say
+-- whether it was made.
 pub record Ledger : Type 0 where
   pub root : List ℕ
   pub history : List (List ℕ)
@@ -15,7 +17,8 @@ MaySettle doubt [] = Unit {0}
 MaySettle doubt (e ∷ []) = doubt ≡ Some e
 MaySettle doubt (e ∷ f ∷ more) = ⊥
 
--- The root stays. The history goes on by the entry in doubt, if at all, and then by one entry of the caller's own where it added one.
+-- The root stays. The history goes on by the entry in doubt, if at all, and then by one entry of
+-- the caller's own where it added one.
 pub record GoesOn (old new : Ledger) (added : Bool) : Type 0 where
   pub settled : List (List ℕ)
   pub own : List (List ℕ)

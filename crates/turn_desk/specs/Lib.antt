@@ -3,5 +3,6 @@ pub mod Ledgers
 pub mod NumberLists
 pub mod Passes
 pub mod Rule
+pub mod Seats
 pub mod Turns
 pub mod Views

@@ -1,4 +1,5 @@
--- A plain list of numbers as a ledger: each number is an entry, nothing is in doubt, and nothing fails.
+-- A plain list of numbers as a ledger: each number is an entry, nothing is in doubt,
+-- and nothing fails.
 use Rattle.std.specs.Prelude.{ℕ, List, [], ◌∷◌, map, None}
 use Rattle.turn_desk.specs.Ledgers.{Ledger}
 

@@ -2,7 +2,8 @@
 use Rattle.std.specs.Prelude.{ℕ, ◌+◌, ◌-◌, Bool, List, [], ◌∷◌, ◌++◌, length, nat_lt, if◌then◌else◌}
 use Rattle.atomic_table.specs.Seated.{TableId}
 
--- The desk, the root of its value, the history that the pass has seen, the positions of its own entries in the order in which it made them, and how many of its turns had a fault.
+-- The desk, the root of its value, the history that the pass has seen, the positions of its own
+-- entries in the order in which it made them, and how many of its turns had a fault.
 pub record PassState : Type 0 where
   pub desk : TableId
   pub root : List ℕ
@@ -24,11 +25,16 @@ faults_after faults rose = if rose then faults + 1 else faults
 
 -- the pass after a turn that left this history
 abbrev pub after_turn : Bool → Bool → List (List ℕ) → PassState → PassState
-after_turn added rose history p = record p { seen = history; own = own_after p.own added (length history); faults = faults_after p.faults rose }
+after_turn added rose history p = record p {
+  seen = history;
+  own = own_after p.own added (length history);
+  faults = faults_after p.faults rose;
+}
 
 abbrev pub longer : List (List ℕ) → List (List ℕ) → List (List ℕ)
 longer a b = if nat_lt (length a) (length b) then b else a
 
--- one pass for two: it has seen the longer history and has both lists of own entries, and keeps its root and its count
+-- one pass for two: it has seen the longer history and has both lists of own entries, and keeps its
+-- root and its count
 abbrev pub joined : PassState → PassState → PassState
 joined p q = record p { seen = longer p.seen q.seen; own = p.own ++ q.own }

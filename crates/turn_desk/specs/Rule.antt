@@ -1,5 +1,5 @@
--- The rule of a desk between any two steps, and what each kind of step tells.
--- Word 0 of the table is the mark, word 1 the length of the history, and the one slot is the value's place.
+-- The rule of a desk between any two steps, and what each kind of step tells. Word 0 of the table
+-- is the mark, word 1 the length of the history, and the one slot is the value's place.
 use Rattle.std.specs.Prelude.{◌≡◌, ◌≢◌, ℕ, ◌<◌, Bool, true, List, [], ◌∷◌, length, Some}
 use Rattle.std.specs.declared.option.Option.{Option as Maybe}
 use mathlib.Core.Option.{Option, some}
@@ -15,7 +15,9 @@ use Rattle.turn_desk.specs.declared.view.View.{View}
 abbrev pub IsDesk : TableId → Type 0
 IsDesk table = (table.words ≡ 2) × (table.slots ≡ 1)
 
--- What the rule says of one view, over the history, the root and the mark. A live pass has the root. What it has seen begins the history, and its own positions lie in it. The holder has set the mark, and has seen all of the history.
+-- What the rule says of one view, over the history, the root and the mark. A live pass has the
+-- root. What it has seen begins the history, and its own positions lie in it. The holder has set
+-- the mark, and has seen all of the history.
 pub record Fits (history : List (List ℕ)) (root : List ℕ) (mark : ℕ) (v : View) : Type 0 where
   pub root_is : v.live ≡ true → v.root ≡ root
   pub other_root_is : v.live ≡ true → v.other_root ≡ root
@@ -27,18 +29,23 @@ pub record Fits (history : List (List ℕ)) (root : List ℕ) (mark : ℕ) (v : 
 
 -- some live pass holds the turn
 abbrev pub Held : List View → Type 0
-Held views = (i : ℕ) × (v : View) × (get_elem? views i ≡ some v) × (v.live ≡ true) × (v.holds ≡ true)
+Held views = (i : ℕ) × (v : View) × (get_elem? views i ≡ some v) × (v.live ≡ true)
+    × (v.holds ≡ true)
 
 -- one pass at most holds the turn
 abbrev pub One : List View → Type 0
-One views = (i j : ℕ) (u v : View) → get_elem? views i ≡ some u → get_elem? views j ≡ some v → u.holds ≡ true → v.holds ≡ true → i ≡ j
+One views = (i j : ℕ) (u v : View) → get_elem? views i ≡ some u → get_elem? views j ≡ some v
+    → u.holds ≡ true → v.holds ≡ true → i ≡ j
 
 -- no two passes have a position in common
 abbrev pub Apart : List View → Type 0
-Apart views = (i j : ℕ) (u v : View) → i ≢ j → get_elem? views i ≡ some u → get_elem? views j ≡ some v → (p : ℕ) → Has u.own p → Has v.own p → ⊥
+Apart views = (i j : ℕ) (u v : View) → i ≢ j → get_elem? views i ≡ some u
+    → get_elem? views j ≡ some v → (p : ℕ) → Has u.own p → Has v.own p → ⊥
 
 module _ {T : Type 0} (ledger : T → Ledger) where
-  -- The mark is 0 exactly where no pass holds the turn, and 1 exactly where one does; one at most does. While it is 0 the value is at home with the whole history. While it isn't, the history is the holder's.
+  -- The mark is 0 exactly where no pass holds the turn, and 1 exactly where one does; one at most
+  -- does. While it is 0 the value is at home with the whole history. While it isn't, the history
+  -- is the holder's.
   pub record Ruled (first : T) (s : State (Maybe T) View) : Type 0 where
     pub history : List (List ℕ)
     pub mark : ℕ
@@ -46,9 +53,11 @@ module _ {T : Type 0} (ledger : T → Ledger) where
     pub words_are : s.words ≡ mark ∷ length history ∷ []
     pub homes_are : s.homes ≡ home ∷ []
     pub extends : Extends (ledger first).history history
-    pub at_home : mark ≡ 0 → (y : T) × (home ≡ some (Some y)) × ((ledger y).history ≡ history) × ((ledger y).root ≡ (ledger first).root)
+    pub at_home : mark ≡ 0 → (y : T) × (home ≡ some (Some y)) × ((ledger y).history ≡ history)
+        × ((ledger y).root ≡ (ledger first).root)
     pub held : mark ≢ 0 → Held s.views
-    pub each : (i : ℕ) (v : View) → get_elem? s.views i ≡ some v → Fits history (ledger first).root mark v
+    pub each : (i : ℕ) (v : View) → get_elem? s.views i ≡ some v
+        → Fits history (ledger first).root mark v
     pub one : One s.views
     pub apart : Apart s.views
 
@@ -57,20 +66,25 @@ module _ {T : Type 0} (ledger : T → Ledger) where
   first_view first = visitor (ledger first).root (ledger first).history
 
   -- Where the mark was clear, the pass holds the turn and has the value; else nothing changes.
-  pub record Took (st : Step (Maybe T)) (m : Me (Maybe T) View) (n : ℕ) (m' : Me (Maybe T) View) : Type 0 where
-    pub won : n ≡ 0 → (y : T) × (m'.1 ≡ (0, Some y) ∷ m.1) × (m'.0 ≡ taken m.0 (ledger y).history) × Extends m.0.seen (ledger y).history × ((ledger y).root ≡ m.0.root)
+  pub record Took (st : Step (Maybe T)) (m : Me (Maybe T) View) (n : ℕ)
+      (m' : Me (Maybe T) View) : Type 0 where
+    pub won : n ≡ 0 → (y : T) × (m'.1 ≡ (0, Some y) ∷ m.1) × (m'.0 ≡ taken m.0 (ledger y).history)
+        × Extends m.0.seen (ledger y).history × ((ledger y).root ≡ m.0.root)
     pub lost : n ≢ 0 → m' ≡ m
 
   -- the holder has seen the history of the value that it has
-  abbrev pub Grew : Bool → Bool → Step (Maybe T) → Me (Maybe T) View → ℕ → Me (Maybe T) View → Type 0
-  Grew added rose st m n m' = (y : T) → m.1 ≡ (0, Some y) ∷ [] → m' ≡ (grown added rose m.0 (ledger y).history, m.1)
+  abbrev pub Grew : Bool → Bool → Step (Maybe T) → Me (Maybe T) View → ℕ
+      → Me (Maybe T) View → Type 0
+  Grew added rose st m n m' = (y : T) → m.1 ≡ (0, Some y) ∷ []
+      → m' ≡ (grown added rose m.0 (ledger y).history, m.1)
 
   -- the holder has given back the turn and the value
   abbrev pub Freed : Step (Maybe T) → Me (Maybe T) View → ℕ → Me (Maybe T) View → Type 0
   Freed st m n m' = m' ≡ (freed m.0, [])
 
   -- what a pass finds by a look, of itself and of the pass that was joined to it last
-  pub record Compared (st : Step (Maybe T)) (m : Me (Maybe T) View) (n : ℕ) (m' : Me (Maybe T) View) : Type 0 where
+  pub record Compared (st : Step (Maybe T)) (m : Me (Maybe T) View) (n : ℕ)
+      (m' : Me (Maybe T) View) : Type 0 where
     pub same : m' ≡ m
     pub one_root : m.0.live ≡ true → m.0.other_root ≡ m.0.root
     pub one_history : Comparable m.0.seen m.0.other_seen

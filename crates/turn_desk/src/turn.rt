@@ -1,9 +1,8 @@
 //! One turn over the table: how the value comes out, and how it goes back.
 ghost use Rattle.std.specs.Prelude.{◌≡◌, [], ◌∷◌, true, false, Some, None, ◌<◌, length};
-ghost use Rattle.atomic_table.specs.Seated.{TableId};
 ghost use Rattle.turn_desk.specs.Histories.{Extends};
 ghost use Rattle.turn_desk.specs.Views.{IsIdle, taken, grown, freed};
-ghost use Rattle.turn_desk.specs.Rule.{IsDesk};
+ghost use Rattle.turn_desk.specs.Seats.{Continues, HasTurn, IsSameSeat, IsSeatOf};
 
 use crate::bell::Bell;
 use crate::ledgered::{Call, Ledgered};
@@ -36,13 +35,10 @@ pub(crate) type Board<T> = Shared<Option<T>, View, Snapshot<T>, Turns>;
 
 /// Takes the turn, if it is free.
 fn try_turn<T: Ledgered>(board: &Board<T>, seat: &mut Seat<Option<T>, View>) -> bool
-    requires board { (seat.old.table_id ≡ board.now.table_id) × IsDesk board.now.table_id }
+    requires board { IsSeatOf board.now.table_id seat.old }
     requires idle { IsIdle seat.old.me }
-    ensures seat { (seat.new.table_id ≡ seat.old.table_id) × (seat.new.id ≡ seat.old.id) }
-    ensures won { result ≡ true → (y : T)
-        × (seat.new.me ≡ (taken seat.old.me.0 (T.ledger y).history, (0, Some y) ∷ []))
-        × Extends seat.old.me.0.seen (T.ledger y).history
-        × ((T.ledger y).root ≡ seat.old.me.0.root) }
+    ensures seat { IsSameSeat seat.old seat.new }
+    ensures won { result ≡ true → HasTurn T.ledger seat.old seat.new }
     ensures lost { result ≡ false → seat.new.me ≡ seat.old.me }
 {
     board.compare_exchange::<Take>(seat, MARK, FREE, TAKEN) == FREE
@@ -50,13 +46,10 @@ fn try_turn<T: Ledgered>(board: &Board<T>, seat: &mut Seat<Option<T>, View>) -> 
 
 /// Takes the turn, if it is free now or soon.
 fn try_for_a_while<T: Ledgered>(board: &Board<T>, seat: &mut Seat<Option<T>, View>) -> bool
-    requires board { (seat.old.table_id ≡ board.now.table_id) × IsDesk board.now.table_id }
+    requires board { IsSeatOf board.now.table_id seat.old }
     requires idle { IsIdle seat.old.me }
-    ensures seat { (seat.new.table_id ≡ seat.old.table_id) × (seat.new.id ≡ seat.old.id) }
-    ensures won { result ≡ true → (y : T)
-        × (seat.new.me ≡ (taken seat.old.me.0 (T.ledger y).history, (0, Some y) ∷ []))
-        × Extends seat.old.me.0.seen (T.ledger y).history
-        × ((T.ledger y).root ≡ seat.old.me.0.root) }
+    ensures seat { IsSameSeat seat.old seat.new }
+    ensures won { result ≡ true → HasTurn T.ledger seat.old seat.new }
     ensures lost { result ≡ false → seat.new.me ≡ seat.old.me }
 {
     for _ in 0..LOOKS {
@@ -75,13 +68,10 @@ fn take_turn<R: Wait, T: Ledgered>(
     bell: &Bell,
     seat: &mut Seat<Option<T>, View>,
 )
-    requires board { (seat.old.table_id ≡ board.now.table_id) × IsDesk board.now.table_id }
+    requires board { IsSeatOf board.now.table_id seat.old }
     requires idle { IsIdle seat.old.me }
-    ensures seat { (seat.new.table_id ≡ seat.old.table_id) × (seat.new.id ≡ seat.old.id) }
-    ensures value { (y : T) × (seat.new.me
-        ≡ (taken seat.old.me.0 (T.ledger y).history, (0, Some y) ∷ []))
-        × Extends seat.old.me.0.seen (T.ledger y).history
-        × ((T.ledger y).root ≡ seat.old.me.0.root) }
+    ensures seat { IsSameSeat seat.old seat.new }
+    ensures turn { HasTurn T.ledger seat.old seat.new }
 {
     if try_for_a_while(board, seat) {
         return;
@@ -103,11 +93,10 @@ pub(crate) fn take_out<R: Wait, T: Ledgered>(
     bell: &Bell,
     seat: &mut Seat<Option<T>, View>,
 ) -> T
-    requires board { (seat.old.table_id ≡ board.now.table_id) × IsDesk board.now.table_id }
+    requires board { IsSeatOf board.now.table_id seat.old }
     requires idle { IsIdle seat.old.me }
-    ensures seat { (seat.new.table_id ≡ seat.old.table_id) × (seat.new.id ≡ seat.old.id) }
-    ensures value { Extends seat.old.me.0.seen (T.ledger result).history
-        × ((T.ledger result).root ≡ seat.old.me.0.root) }
+    ensures seat { IsSameSeat seat.old seat.new }
+    ensures value { Continues seat.old.me.0 (T.ledger result) }
     ensures view { seat.new.me ≡ (taken seat.old.me.0 (T.ledger result).history, (0, None) ∷ []) }
 {
     take_turn(rt, board, bell, seat);
@@ -127,13 +116,13 @@ pub(crate) fn give_back<T: Ledgered, C: Call<T>, B: Did>(
     _before: Snapshot<T>,
     _out: &C::Out,
 )
-    requires board { (seat.old.table_id ≡ board.now.table_id) × IsDesk board.now.table_id }
+    requires board { IsSeatOf board.now.table_id seat.old }
     requires holds { (seat.old.me.1 ≡ (0, None) ∷ []) × (seat.old.me.0.holds ≡ true)
         × (seat.old.me.0.live ≡ true) }
     requires value { Extends seat.old.me.0.seen (T.ledger value).history
         × ((T.ledger value).root ≡ seat.old.me.0.root)
         × (B.added ≡ true → length seat.old.me.0.seen < length (T.ledger value).history) }
-    ensures seat { (seat.new.table_id ≡ seat.old.table_id) × (seat.new.id ≡ seat.old.id) }
+    ensures seat { IsSameSeat seat.old seat.new }
     ensures view { seat.new.me ≡ (
       freed (grown B.added B.rose seat.old.me.0
           (T.ledger value).history),

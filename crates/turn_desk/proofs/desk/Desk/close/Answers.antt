@@ -8,14 +8,21 @@ use Rattle.turn_desk.proofs.Taking.{compares}
 use Rattle.turn_desk.proofs.desk.Desk.close.Goals as goal
 
 pub load-requires : goal.load-requires
-load-requires g c =
-    (search rules, omega (arith, c.self.invariant.0), compares g.T.Ledgered.ledger c.self.inside.table.shared.key.value c.self.inside.table.shared.table_id.slots c.pass.inside.seat.id c.pass.inside.seat.me c.pass.invariant.none_out)
+load-requires g c = (
+  search rules,
+  omega (arith, c.self.invariant.0),
+  compares g.T.Ledgered.ledger
+      c.self.inside.table.shared.key.value c.self.inside.table.shared.table_id.slots
+      c.pass.inside.seat.id c.pass.inside.seat.me c.pass.invariant.none_out,
+)
 
 pub returns-clause-seen : goal.returns-clause-seen
 returns-clause-seen g c =
     let history = (g.T.Ledgered.ledger c.take_out.result).history in
-    let out = subst (λ m. Extends m.0.seen history) c.load.ensures.2.same c.take_out.ensures.value.0 in
-    extended c.args.passes.items c.gather-pass.result history c.gather-pass.ensures.seen (subst (λ (p : PassState). Extends p.seen history) c.pass.view_is out)
+    let out =
+    subst (λ m. Extends m.0.seen history) c.load.ensures.2.same c.take_out.ensures.value.0 in
+    extended c.args.passes.items c.gather-pass.result history c.gather-pass.ensures.seen
+    (subst (λ (p : PassState). Extends p.seen history) c.pass.view_is out)
 
 pub returns-clause-within : goal.returns-clause-within
 returns-clause-within g c =
@@ -24,5 +31,7 @@ returns-clause-within g c =
     let m = c.pass.inside.seat.me in
     let out = subst (λ n. Extends n.0.seen history) told.same c.take_out.ensures.value.0 in
     let fits = extends-length m.0.seen history out in
-    let own : m.0.own ≡ flat_map (λ p. p.own) c.args.passes.items = ap (λ (p : PassState). p.own) c.pass.view_is ∙ c.gather-pass.ensures.own in
-    subst (All (λ k. k < length history)) own (all_positions (λ k. k < length history) m.0.own (λ p had. let lt = told.within p had in omega (arith, lt, fits)))
+    let own : m.0.own ≡ flat_map (λ p. p.own) c.args.passes.items =
+    ap (λ (p : PassState). p.own) c.pass.view_is ∙ c.gather-pass.ensures.own in
+    subst (All (λ k. k < length history)) own (all_positions (λ k. k < length history) m.0.own
+    (λ p had. let lt = told.within p had in omega (arith, lt, fits)))

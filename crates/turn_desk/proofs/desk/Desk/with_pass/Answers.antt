@@ -9,6 +9,8 @@ new-requires g c =
     let ledger = g.T.Ledgered.ledger in
     let about = c.of-about.result.value in
     let items : c.push.new.self.items ≡ Some c.args.value ∷ [] = search rules in
-    subst (λ its. Ruled ledger about (opening (0 ∷ c.length-length.result ∷ []) its (first_view ledger about)))
+    subst (λ its. Ruled ledger about
+    (opening (0 ∷ c.length-length.result ∷ []) its (first_view ledger about)))
     (sym (items ∙ ap (λ v. Some v ∷ []) (sym c.of-about.ensures)))
-    (begins ledger about c.length-length.result (c.length-length.ensures ∙ ap (λ v. length (ledger v).history) (sym c.of-about.ensures)))
+    (begins ledger about c.length-length.result
+    (c.length-length.ensures ∙ ap (λ v. length (ledger v).history) (sym c.of-about.ensures)))

@@ -11,13 +11,19 @@ give_back-requires-clause-value g c =
     let after = (g.T.Ledgered.ledger c.act-out.new.value).history in
     let seen = ap (λ m. m.0.seen) c.take_out-value.ensures.view in (
       subst (λ (s : List (List ℕ)). Extends s after) (sym seen) (goes_extends _ _ _ goes),
-      goes.root ∙ c.take_out-value.ensures.value.1 ∙ sym (ap (λ m. m.0.root) c.take_out-value.ensures.view),
-      λ told. subst (λ (s : List (List ℕ)). length s < length after) (sym seen) (goes_more _ _ _ goes (search (rules, told))),
+      goes.root ∙ c.take_out-value.ensures.value.1
+          ∙ sym (ap (λ m. m.0.root) c.take_out-value.ensures.view),
+      λ told. subst (λ (s : List (List ℕ)). length s < length after) (sym seen)
+          (goes_more _ _ _ goes (search (rules, told))),
     )
 
 pub returns-clause-seen : goal.returns-clause-seen
 returns-clause-seen g c =
     let before = (g.T.Ledgered.ledger c.take_out-value.result).history in
     let after = (g.T.Ledgered.ledger c.act-out.new.value).history in
-    let began : Extends c.args.pass.now.seen before = subst (λ (p : PassState). Extends p.seen before) c.pass.view_is c.take_out-value.ensures.value.0 in
-    subst (λ (s : List (List ℕ)). Extends c.args.pass.now.seen s) (sym (ap (λ m. m.0.seen) c.give_back.ensures.view)) (extends_trans c.args.pass.now.seen before after began (goes_extends _ _ _ c.act-out.ensures.ledger))
+    let began : Extends c.args.pass.now.seen before =
+    subst (λ (p : PassState). Extends p.seen before) c.pass.view_is
+    c.take_out-value.ensures.value.0 in
+    subst (λ (s : List (List ℕ)). Extends c.args.pass.now.seen s)
+    (sym (ap (λ m. m.0.seen) c.give_back.ensures.view)) (extends_trans c.args.pass.now.seen
+    before after began (goes_extends _ _ _ c.act-out.ensures.ledger))
