@@ -1,5 +1,7 @@
 -- The minutes up to one at which the condition held without a break.
-use Rattle.std.proofs.Common.{◌≡◌, ◌≢◌, ◌⊎◌, ℕ, suc, ◌+◌, ◌-◌, ◌*◌, ◌≤◌, ◌<◌, ◌==◌, ◌&&◌, ◌||◌, max, nat_eq, nat_le, nat_lt, Bool, true, false, Option, Some, List, inl, inr, refl, arith, ap, sym, ◌∙◌, if◌then◌else◌}
+use Rattle.std.proofs.Common.{◌≡◌, ◌≢◌, ◌⊎◌, ℕ, suc, ◌+◌, ◌-◌, ◌*◌, ◌≤◌, ◌<◌, ◌==◌, ◌&&◌, ◌||◌, max}
+use Rattle.std.proofs.Common.{nat_eq, nat_le, nat_lt, Bool, true, false, Option, Some, List, inl}
+use Rattle.std.proofs.Common.{inr, refl, arith, ap, sym, ◌∙◌, if◌then◌else◌}
 use Rattle.std.specs.Option.{is_none}
 use Rattle.std.proofs.lemmas.Bool.Decides.{eqb_tells, leb_tells, nat_tests}
 use Rattle.window_sums.specs.Slices.{CountedDays, leaf_at, width_of}
@@ -13,26 +15,34 @@ use Rattle.burn_core.specs.Alert.{wait_of}
 use Rattle.alert_line.specs.Learnt.{IsLearnt, IsRun, start_of, unknown_in}
 use Rattle.alert_line.proofs.MinuteLemmas.{one-more}
 use Rattle.slo_terms.proofs.RangeLemmas.{sum_over-next, sum_over-within}
-use Rattle.alert_line.proofs.SpanLemmas.{AreSpansOf-active, AreSpansOf-idle, EndBy, EndBy-later, EndBy-with}
+use Rattle.alert_line.proofs.SpanLemmas.{AreSpansOf-active, AreSpansOf-idle, EndBy, EndBy-later}
+use Rattle.alert_line.proofs.SpanLemmas.{EndBy-with}
 
 pub IsRun-none : (holds : ℕ → Bool) (start : ℕ) → IsRun holds start start 0
-IsRun-none holds start = record { within = omega arith; each = λ u a b. absurd (no u a b); stops = inl (omega arith) }
+IsRun-none holds start = record {
+  within = omega arith;
+  each = λ u a b. absurd (no u a b);
+  stops = inl (omega arith);
+}
   where
     no : (u : ℕ) → start - 0 ≤ u → u < start → ⊥
     no u a b = omega arith
 
-pub IsRun-next : (holds : ℕ → Bool) (start at run : ℕ) (b : Bool) → start ≤ at → b ≡ holds at → IsRun holds start at run → IsRun holds start (at + 1) (if b then run + 1 else 0)
+pub IsRun-next : (holds : ℕ → Bool) (start at run : ℕ) (b : Bool) → start ≤ at → b ≡ holds at
+    → IsRun holds start at run → IsRun holds start (at + 1) (if b then run + 1 else 0)
 IsRun-next holds start at run true le is before = record {
   within = omega (arith, before.within);
   each = λ u a c. by u a c (eqb_tells u at);
   stops = on before.stops;
 }
   where
-    by : (u : ℕ) → at + 1 - (run + 1) ≤ u → u < at + 1 → ((nat_eq u at ≡ true) × (u ≡ at)) ⊎ ((nat_eq u at ≡ false) × (u ≢ at)) → holds u ≡ true
+    by : (u : ℕ) → at + 1 - (run + 1) ≤ u → u < at + 1 → ((nat_eq u at ≡ true) × (u ≡ at))
+        ⊎ ((nat_eq u at ≡ false) × (u ≢ at)) → holds u ≡ true
     by u a c (inl e) = ap holds e.1 ∙ sym is
     by u a c (inr e) = before.each u (omega arith) (omega (arith, e.1))
 
-    on : (start + run ≡ at) ⊎ ((u : ℕ) → u + 1 + run ≡ at → holds u ≡ false) → (start + (run + 1) ≡ at + 1) ⊎ ((u : ℕ) → u + 1 + (run + 1) ≡ at + 1 → holds u ≡ false)
+    on : (start + run ≡ at) ⊎ ((u : ℕ) → u + 1 + run ≡ at → holds u ≡ false)
+        → (start + (run + 1) ≡ at + 1) ⊎ ((u : ℕ) → u + 1 + (run + 1) ≡ at + 1 → holds u ≡ false)
     on (inl e) = inl (omega (arith, e))
     on (inr f) = inr (λ u e. f u (omega arith))
 IsRun-next holds start at run false le is before = record {
@@ -47,13 +57,15 @@ IsRun-next holds start at run false le is before = record {
     there : (u : ℕ) → u + 1 + 0 ≡ at + 1 → u ≡ at
     there u e = omega arith
 
-active-by-run : (holds : ℕ → Bool) (start minute run wait : ℕ) → wait < run → IsRun holds start (minute + 1) run → IsActive wait holds minute
+active-by-run : (holds : ℕ → Bool) (start minute run wait : ℕ) → wait < run
+    → IsRun holds start (minute + 1) run → IsActive wait holds minute
 active-by-run holds start minute run wait long is = record {
   enough = omega (arith, is.within);
   each = λ u a b. is.each u (omega arith) (omega arith);
 }
 
-run-by-active : (holds : ℕ → Bool) (origin from minute run wait : ℕ) → ((u : ℕ) → u < origin → holds u ≡ false) → from ≤ minute → run ≤ wait →
+run-by-active : (holds : ℕ → Bool) (origin from minute run wait : ℕ) →
+    ((u : ℕ) → u < origin → holds u ≡ false) → from ≤ minute → run ≤ wait →
     IsRun holds (max (from - wait) origin) (minute + 1) run → IsActive wait holds minute → ⊥
 run-by-active holds origin from minute run wait below le short is active = by is.stops
   where
@@ -66,22 +78,31 @@ run-by-active holds origin from minute run wait below le short is active = by is
     there : holds back ≡ true
     there = active.each back (omega arith) (omega arith)
 
-    by : (max (from - wait) origin + run ≡ minute + 1) ⊎ ((u : ℕ) → u + 1 + run ≡ minute + 1 → holds u ≡ false) → ⊥
+    by : (max (from - wait) origin + run ≡ minute + 1)
+        ⊎ ((u : ℕ) → u + 1 + run ≡ minute + 1 → holds u ≡ false) → ⊥
     by (inl e) = clash there (below back (omega (arith, e, active.enough)))
     by (inr f) = clash there (f back (omega (arith, active.enough)))
 
 -- the spans, and where they end, with one more minute
-pub spans-next : (holds : ℕ → Bool) (origin from minute run wait : ℕ) (spans : List (ℕ × ℕ)) (b : Bool) → ((u : ℕ) → u < origin → holds u ≡ false) →
-    b ≡ (nat_lt wait run && nat_le from minute) → IsRun holds (max (from - wait) origin) (minute + 1) run → EndBy minute spans →
-    AreSpansOf (IsActive wait holds) from minute spans → AreSpansOf (IsActive wait holds) from (minute + 1) (if b then with_minute spans minute else spans)
-spans-next holds origin from minute run wait spans b below is run_is ends all = by b (leb_tells (suc wait) run) (leb_tells from minute) is
+pub spans-next : (holds : ℕ → Bool) (origin from minute run wait : ℕ) (spans : List (ℕ × ℕ))
+    (b : Bool) → ((u : ℕ) → u < origin → holds u ≡ false) →
+    b ≡ (nat_lt wait run && nat_le from minute) →
+    IsRun holds (max (from - wait) origin) (minute + 1) run → EndBy minute spans →
+    AreSpansOf (IsActive wait holds) from minute spans → AreSpansOf (IsActive wait holds) from
+    (minute + 1) (if b then with_minute spans minute else spans)
+spans-next holds origin from minute run wait spans b below is run_is ends all =
+    by b (leb_tells (suc wait) run) (leb_tells from minute) is
   where
-    by : (b : Bool) → ((nat_lt wait run ≡ true) × (suc wait ≤ run)) ⊎ ((nat_lt wait run ≡ false) × (run < suc wait)) →
-        ((nat_le from minute ≡ true) × (from ≤ minute)) ⊎ ((nat_le from minute ≡ false) × (minute < from)) →
-        b ≡ (nat_lt wait run && nat_le from minute) → AreSpansOf (IsActive wait holds) from (minute + 1) (if b then with_minute spans minute else spans)
+    by : (b : Bool) → ((nat_lt wait run ≡ true) × (suc wait ≤ run))
+        ⊎ ((nat_lt wait run ≡ false) × (run < suc wait)) →
+        ((nat_le from minute ≡ true) × (from ≤ minute))
+        ⊎ ((nat_le from minute ≡ false) × (minute < from)) →
+        b ≡ (nat_lt wait run && nat_le from minute) → AreSpansOf (IsActive wait holds) from
+        (minute + 1) (if b then with_minute spans minute else spans)
     by b (inl p) (inl q) e =
         let yes : b ≡ true = e ∙ (rw (p.0, q.0) refl) in
-        rw yes (AreSpansOf-active (IsActive wait holds) from minute spans q.1 (active-by-run holds (max (from - wait) origin) minute run wait (omega (arith, p.1)) run_is) ends all)
+        rw yes (AreSpansOf-active (IsActive wait holds) from minute spans q.1 (active-by-run holds
+        (max (from - wait) origin) minute run wait (omega (arith, p.1)) run_is) ends all)
     by b (inl p) (inr q) e =
         let no : b ≡ false = e ∙ (rw (p.0, q.0) refl) in
         rw no (AreSpansOf-idle (IsActive wait holds) from minute spans (λ le a. early q.1 le) all)
@@ -90,108 +111,168 @@ spans-next holds origin from minute run wait spans b below is run_is ends all = 
         early a b = omega arith
     by b (inr p) q e =
         let no : b ≡ false = e ∙ (rw p.0 refl) in
-        rw no (AreSpansOf-idle (IsActive wait holds) from minute spans (λ le a. run-by-active holds origin from minute run wait below le (omega (arith, p.1)) run_is a) all)
+        rw no (AreSpansOf-idle (IsActive wait holds) from minute spans (λ le a. run-by-active holds
+        origin from minute run wait below le (omega (arith, p.1)) run_is a) all)
 
-pub ends-next : (minute : ℕ) (spans : List (ℕ × ℕ)) (b : Bool) → EndBy minute spans → EndBy (minute + 1) (if b then with_minute spans minute else spans)
+pub ends-next : (minute : ℕ) (spans : List (ℕ × ℕ)) (b : Bool) → EndBy minute spans
+    → EndBy (minute + 1) (if b then with_minute spans minute else spans)
 ends-next minute spans true ends = EndBy-with minute spans ends
 ends-next minute spans false ends = EndBy-later minute spans ends
 
-pub below-origin : (line : Line) (sums : CountedDays) (u : ℕ) → u < line.origin → condition_on line sums u ≡ false
-below-origin line sums u lt = condition-below line.rule line.target line.origin (width_of sums.method) (leaf_at sums) u lt
+pub below-origin : (line : Line) (sums : CountedDays) (u : ℕ) → u < line.origin
+    → condition_on line sums u ≡ false
+below-origin line sums u lt =
+    condition-below line.rule line.target line.origin (width_of sums.method) (leaf_at sums) u lt
 
-pub condition-alert : (before after : Line) (sums : CountedDays) (u : ℕ) → SameAlert before after → condition_on after sums u ≡ condition_on before sums u
-condition-alert before after sums u alert = λ i. condition (alert.rule i) (alert.target i) (alert.origin i) (width_of sums.method) (leaf_at sums) u
+pub condition-alert : (before after : Line) (sums : CountedDays) (u : ℕ) → SameAlert before after
+    → condition_on after sums u ≡ condition_on before sums u
+condition-alert before after sums u alert = λ i. condition (alert.rule i) (alert.target i)
+    (alert.origin i) (width_of sums.method) (leaf_at sums) u
 
-pub learnt-none : (line : Line) (sums : CountedDays) (start : ℕ) → IsLearnt line line sums start start
-learnt-none line sums start = record { each = λ u. by u (leb_tells start u) (leb_tells (suc u) start) }
+pub learnt-none : (line : Line) (sums : CountedDays) (start : ℕ)
+    → IsLearnt line line sums start start
+learnt-none line sums start =
+    record { each = λ u. by u (leb_tells start u) (leb_tells (suc u) start) }
   where
-    by : (u : ℕ) → ((nat_le start u ≡ true) × (start ≤ u)) ⊎ ((nat_le start u ≡ false) × (u < start)) → ((nat_lt u start ≡ true) × (suc u ≤ start)) ⊎ ((nat_lt u start ≡ false) × (start < suc u)) →
-        known line u ≡ (if nat_le start u && nat_lt u start then Some (condition_on line sums u) else known line u)
+    by : (u : ℕ) → ((nat_le start u ≡ true) × (start ≤ u))
+        ⊎ ((nat_le start u ≡ false) × (u < start)) →
+        ((nat_lt u start ≡ true) × (suc u ≤ start)) ⊎ ((nat_lt u start ≡ false) × (start < suc u)) →
+        known line u ≡ (if nat_le start u && nat_lt u start then Some (condition_on line sums u)
+        else known line u)
     by u (inl a) (inl b) = absurd (omega (arith, a.1, b.1))
     by u (inl a) (inr b) = rw (a.0, b.0) refl
     by u (inr a) b = rw a.0 refl
 
-pub learnt-next : (before at after : Line) (sums : CountedDays) (start minute : ℕ) (b : Bool) → start ≤ minute → b ≡ condition_on before sums minute → IsLearnt before at sums start minute →
-    ((u : ℕ) → known after u ≡ (if u == minute then Some b else known at u)) → IsLearnt before after sums start (minute + 1)
+pub learnt-next : (before at after : Line) (sums : CountedDays) (start minute : ℕ) (b : Bool) →
+    start ≤ minute → b ≡ condition_on before sums minute → IsLearnt before at sums start minute →
+    ((u : ℕ) → known after u ≡ (if u == minute then Some b else known at u)) →
+    IsLearnt before after sums start (minute + 1)
 learnt-next before at after sums start minute b le is learnt new = record {
-  each = λ u. two (nat_le start u && nat_lt u minute) (u == minute) (nat_le start u && nat_lt u (minute + 1)) u (known before u) (known at u) (known after u) (one-more u start minute le) (here u (eqb_tells u minute)) (learnt.each u) (new u);
+  each = λ u. two (nat_le start u && nat_lt u minute) (u == minute)
+      (nat_le start u && nat_lt u (minute + 1)) u (known before u) (known at u) (known after u)
+      (one-more u start minute le) (here u (eqb_tells u minute)) (learnt.each u) (new u);
 }
   where
-    here : (u : ℕ) → ((nat_eq u minute ≡ true) × (u ≡ minute)) ⊎ ((nat_eq u minute ≡ false) × (u ≢ minute)) → (u == minute) ≡ true → b ≡ condition_on before sums u
+    here : (u : ℕ) → ((nat_eq u minute ≡ true) × (u ≡ minute))
+        ⊎ ((nat_eq u minute ≡ false) × (u ≢ minute)) → (u == minute) ≡ true
+        → b ≡ condition_on before sums u
     here u (inl e) q = is ∙ ap (condition_on before sums) (sym e.1)
     here u (inr e) q = cc (sym e.0 ∙ q)
 
-    two : (b1 b2 b3 : Bool) (u : ℕ) (o a c : Option Bool) → b3 ≡ (b1 || b2) → (b2 ≡ true → b ≡ condition_on before sums u) →
-        a ≡ (if b1 then Some (condition_on before sums u) else o) → c ≡ (if b2 then Some b else a) → c ≡ (if b3 then Some (condition_on before sums u) else o)
+    two : (b1 b2 b3 : Bool) (u : ℕ) (o a c : Option Bool) → b3 ≡ (b1 || b2) →
+        (b2 ≡ true → b ≡ condition_on before sums u) →
+        a ≡ (if b1 then Some (condition_on before sums u) else o) → c ≡ (if b2 then Some b else a) →
+        c ≡ (if b3 then Some (condition_on before sums u) else o)
     two true true b3 u o a c e h p q = rw e (q ∙ ap (λ (x : Bool). Some x) (h refl))
     two true false b3 u o a c e h p q = rw e (q ∙ p)
     two false true b3 u o a c e h p q = rw e (q ∙ ap (λ (x : Bool). Some x) (h refl))
     two false false b3 u o a c e h p q = rw e (q ∙ p)
 
 -- a minute that the pass hasn't come to is known as it was
-pub learnt-ahead : (before after : Line) (sums : CountedDays) (start minute : ℕ) → IsLearnt before after sums start minute → known after minute ≡ known before minute
-learnt-ahead before after sums start minute learnt = learnt.each minute ∙ by (nat_le start minute) (leb_tells (suc minute) minute)
+pub learnt-ahead : (before after : Line) (sums : CountedDays) (start minute : ℕ)
+    → IsLearnt before after sums start minute → known after minute ≡ known before minute
+learnt-ahead before after sums start minute learnt = learnt.each minute
+    ∙ by (nat_le start minute) (leb_tells (suc minute) minute)
   where
-    by : (a : Bool) → ((nat_lt minute minute ≡ true) × (suc minute ≤ minute)) ⊎ ((nat_lt minute minute ≡ false) × (minute < suc minute)) →
-        (if a && nat_lt minute minute then Some (condition_on before sums minute) else known before minute) ≡ known before minute
+    by : (a : Bool) → ((nat_lt minute minute ≡ true) × (suc minute ≤ minute))
+        ⊎ ((nat_lt minute minute ≡ false) × (minute < suc minute)) →
+        (if a && nat_lt minute minute then Some (condition_on before sums minute)
+        else known before minute) ≡ known before minute
     by a (inl e) = absurd (omega (arith, e.1))
     by true (inr e) = rw e.0 refl
     by false (inr e) = refl
 
-pub Agrees-after : (before after : Line) (sums : CountedDays) (start minute : ℕ) → SameAlert before after → Agrees before sums → IsLearnt before after sums start minute → Agrees after sums
-Agrees-after before after sums start minute alert agrees learnt = record { each = λ u b e. by u b (nat_le start u && nat_lt u minute) (sym (learnt.each u) ∙ e) ∙ sym (condition-alert before after sums u alert) }
+pub Agrees-after : (before after : Line) (sums : CountedDays) (start minute : ℕ)
+    → SameAlert before after → Agrees before sums → IsLearnt before after sums start minute
+    → Agrees after sums
+Agrees-after before after sums start minute alert agrees learnt =
+    record {
+      each = λ u b e. by u b (nat_le start u && nat_lt u minute) (sym (learnt.each u) ∙ e)
+          ∙ sym (condition-alert before after sums u alert);
+    }
   where
-    by : (u : ℕ) (b q : Bool) → (if q then Some (condition_on before sums u) else known before u) ≡ Some b → b ≡ condition_on before sums u
+    by : (u : ℕ) (b q : Bool) → (if q then Some (condition_on before sums u) else known before u)
+        ≡ Some b → b ≡ condition_on before sums u
     by u b true e = cc e
     by u b false e = agrees.each u b e
 
-pub kept-after : (before after : Line) (sums : CountedDays) (start minute : ℕ) → Agrees before sums → IsLearnt before after sums start minute → (u : ℕ) (b : Bool) → known before u ≡ Some b → known after u ≡ Some b
-kept-after before after sums start minute agrees learnt u b e = learnt.each u ∙ by (nat_le start u && nat_lt u minute)
+pub kept-after : (before after : Line) (sums : CountedDays) (start minute : ℕ) → Agrees before sums
+    → IsLearnt before after sums start minute → (u : ℕ) (b : Bool) → known before u ≡ Some b
+    → known after u ≡ Some b
+kept-after before after sums start minute agrees learnt u b e = learnt.each u
+    ∙ by (nat_le start u && nat_lt u minute)
   where
     by : (q : Bool) → (if q then Some (condition_on before sums u) else known before u) ≡ Some b
     by true = ap (λ (x : Bool). Some x) (sym (agrees.each u b e))
     by false = e
 
 pub unknown-next : (line : Line) (start minute : ℕ) → start ≤ minute →
-    unknown_in line start (minute + 1 - start) ≡ unknown_in line start (minute - start) + (if is_none (known line minute) then 1 else 0)
-unknown-next line start minute le = sum_over-next (λ u. if is_none (known line u) then 1 else 0) start minute le
+    unknown_in line start (minute + 1 - start)
+    ≡ unknown_in line start (minute - start) + (if is_none (known line minute) then 1 else 0)
+unknown-next line start minute le =
+    sum_over-next (λ u. if is_none (known line u) then 1 else 0) start minute le
 
-pub unknown-part : (line : Line) (start at to : ℕ) → at ≤ to → unknown_in line start (at - start) ≤ unknown_in line start (to - start)
-unknown-part line start at to le = sum_over-within (λ u. if is_none (known line u) then 1 else 0) start (at - start) (to - start) (omega arith)
+pub unknown-part : (line : Line) (start at to : ℕ) → at ≤ to
+    → unknown_in line start (at - start) ≤ unknown_in line start (to - start)
+unknown-part line start at to le = sum_over-within (λ u. if is_none (known line u) then 1 else 0)
+    start (at - start) (to - start) (omega arith)
 
-pub alert-then : (before at after : Line) → SameAlert before at → SameAlert at after → SameAlert before after
-alert-then before at after p q = record { rule = q.rule ∙ p.rule; target = q.target ∙ p.target; origin = q.origin ∙ p.origin }
+pub alert-then : (before at after : Line) → SameAlert before at → SameAlert at after
+    → SameAlert before after
+alert-then before at after p q = record {
+  rule = q.rule ∙ p.rule;
+  target = q.target ∙ p.target;
+  origin = q.origin ∙ p.origin;
+}
 
 -- the steps of one minute more
-pub steps-next : (line at : Line) (start minute old was now : ℕ) → start ≤ minute → known at minute ≡ known line minute → was ≤ old + 2400 * unknown_in line start (minute - start) →
-    now ≤ was + 2400 * (if is_none (known at minute) then 1 else 0) → now ≤ old + 2400 * unknown_in line start (minute + 1 - start)
+pub steps-next : (line at : Line) (start minute old was now : ℕ) →
+    start ≤ minute → known at minute ≡ known line minute →
+    was ≤ old + 2400 * unknown_in line start (minute - start) →
+    now ≤ was + 2400 * (if is_none (known at minute) then 1 else 0) →
+    now ≤ old + 2400 * unknown_in line start (minute + 1 - start)
 steps-next line at start minute old was now le same p q =
-    by (unknown_in line start (minute - start)) (unknown_in line start (minute + 1 - start)) (if is_none (known line minute) then 1 else 0) (if is_none (known at minute) then 1 else 0)
-    (unknown-next line start minute le) (ap (λ (o : Option Bool). if is_none o then 1 else 0) same) p q
+    by (unknown_in line start (minute - start)) (unknown_in line start (minute + 1 - start))
+    (if is_none (known line minute) then 1 else 0) (if is_none (known at minute) then 1 else 0)
+    (unknown-next line start minute le)
+    (ap (λ (o : Option Bool). if is_none o then 1 else 0) same) p q
   where
-    by : (a b c d : ℕ) → b ≡ a + c → d ≡ c → was ≤ old + 2400 * a → now ≤ was + 2400 * d → now ≤ old + 2400 * b
+    by : (a b c d : ℕ) → b ≡ a + c → d ≡ c → was ≤ old + 2400 * a → now ≤ was + 2400 * d
+        → now ≤ old + 2400 * b
     by a b c d e f p q = omega arith
 
 -- a run longer than the wait is what makes an alert active
-pub run-tells : (holds : ℕ → Bool) (origin minute run wait : ℕ) → ((u : ℕ) → u < origin → holds u ≡ false) → IsRun holds (max (minute - wait) origin) (minute + 1) run →
+pub run-tells : (holds : ℕ → Bool) (origin minute run wait : ℕ) →
+    ((u : ℕ) → u < origin → holds u ≡ false) →
+    IsRun holds (max (minute - wait) origin) (minute + 1) run →
     (wait < run → IsActive wait holds minute) × (run ≤ wait → IsActive wait holds minute → ⊥)
-run-tells holds origin minute run wait below is =
-    (λ long. active-by-run holds (max (minute - wait) origin) minute run wait long is, λ short active. run-by-active holds origin minute minute run wait below (omega arith) short is active)
+run-tells holds origin minute run wait below is = (
+  λ long. active-by-run holds (max (minute - wait) origin) minute run wait long is,
+  λ short active.
+      run-by-active holds origin minute minute run wait below (omega arith) short is active,
+)
 
 -- a minute at which the condition holds makes the run one longer
-pub longer : (b : Bool) (wait run : ℕ) → (b && nat_le wait run) ≡ nat_lt wait (if b then run + 1 else 0)
+pub longer : (b : Bool) (wait run : ℕ)
+    → (b && nat_le wait run) ≡ nat_lt wait (if b then run + 1 else 0)
 longer true wait run = grind (arith, nat_tests)
 longer false wait run = grind (arith, nat_tests)
 
 -- whether an alert is active, by the run that ends with the minute
-pub active-is : (holds : ℕ → Bool) (origin minute run wait : ℕ) → ((u : ℕ) → u < origin → holds u ≡ false) →
-    IsRun holds (max (minute - wait) origin) (minute + 1) run → nat_lt wait run ≡ is_active wait holds minute
-active-is holds origin minute run wait below is = by (leb_tells (suc wait) run) (is_active wait holds minute) refl
+pub active-is : (holds : ℕ → Bool) (origin minute run wait : ℕ) →
+    ((u : ℕ) → u < origin → holds u ≡ false) →
+    IsRun holds (max (minute - wait) origin) (minute + 1) run →
+    nat_lt wait run ≡ is_active wait holds minute
+active-is holds origin minute run wait below is =
+    by (leb_tells (suc wait) run) (is_active wait holds minute) refl
   where
-    tells : (wait < run → IsActive wait holds minute) × (run ≤ wait → IsActive wait holds minute → ⊥)
+    tells : (wait < run → IsActive wait holds minute)
+        × (run ≤ wait → IsActive wait holds minute → ⊥)
     tells = run-tells holds origin minute run wait below is
 
-    by : ((nat_lt wait run ≡ true) × (suc wait ≤ run)) ⊎ ((nat_lt wait run ≡ false) × (run < suc wait)) → (b : Bool) → is_active wait holds minute ≡ b → nat_lt wait run ≡ is_active wait holds minute
+    by : ((nat_lt wait run ≡ true) × (suc wait ≤ run))
+        ⊎ ((nat_lt wait run ≡ false) × (run < suc wait)) → (b : Bool)
+        → is_active wait holds minute ≡ b → nat_lt wait run ≡ is_active wait holds minute
     by (inl p) b e = p.0 ∙ sym ((active-law wait holds minute).1 (tells.0 (omega (arith, p.1))))
     by (inr p) false e = p.0 ∙ sym e
     by (inr p) true e = absurd (tells.1 (omega (arith, p.1)) ((active-law wait holds minute).0 e))

@@ -1,38 +1,49 @@
 -- Spans that gain a minute at their end.
-use Rattle.std.proofs.Common.{◌≡◌, ◌≢◌, ◌⊎◌, ℕ, suc, ◌+◌, ◌-◌, ◌≤◌, ◌<◌, ◌==◌, nat_eq, ◌++◌, List, [], ◌∷◌, length, slice_index_or, slice_set, true, false, inl, inr, refl, arith, ap, sym, subst, if◌then◌else◌}
+use Rattle.std.proofs.Common.{◌≡◌, ◌≢◌, ◌⊎◌, ℕ, suc, ◌+◌, ◌-◌, ◌≤◌, ◌<◌, ◌==◌, nat_eq, ◌++◌, List}
+use Rattle.std.proofs.Common.{[], ◌∷◌, length, slice_index_or, slice_set, true, false, inl, inr}
+use Rattle.std.proofs.Common.{refl, arith, ap, sym, subst, if◌then◌else◌}
 use Rattle.std.specs.Bool.{⊤}
 use Rattle.std.proofs.lemmas.Bool.Decides.{eqb_tells}
 use Rattle.alert_line.specs.Spans.{one_minute, with_minute}
 use Rattle.burn_core.specs.Timeline.{AreApart, AreSpansOf, Lies}
 
 -- where the last span ends at the minute it takes it
-pub with_minute-last : (spans : List (ℕ × ℕ)) (minute : ℕ) (d : ℕ × ℕ) → 0 < length spans → (slice_index_or spans (length spans - 1) d).1 ≡ minute →
-    with_minute spans minute ≡ slice_set spans (length spans - 1) ((slice_index_or spans (length spans - 1) d).0, minute + 1)
+pub with_minute-last : (spans : List (ℕ × ℕ)) (minute : ℕ) (d : ℕ × ℕ) → 0 < length spans →
+    (slice_index_or spans (length spans - 1) d).1 ≡ minute →
+    with_minute spans minute ≡ slice_set spans (length spans - 1)
+    ((slice_index_or spans (length spans - 1) d).0, minute + 1)
 with_minute-last [] minute d some ends = absurd (omega arith)
 with_minute-last (span ∷ []) minute d some ends = by (eqb_tells span.1 minute)
   where
-    by : ((nat_eq span.1 minute ≡ true) × (span.1 ≡ minute)) ⊎ ((nat_eq span.1 minute ≡ false) × (span.1 ≢ minute)) →
-        (if span.1 == minute then (span.0, minute + 1) ∷ [] else span ∷ one_minute minute ∷ []) ≡ (span.0, minute + 1) ∷ []
+    by : ((nat_eq span.1 minute ≡ true) × (span.1 ≡ minute))
+        ⊎ ((nat_eq span.1 minute ≡ false) × (span.1 ≢ minute)) →
+        (if span.1 == minute then (span.0, minute + 1) ∷ [] else span ∷ one_minute minute ∷ [])
+        ≡ (span.0, minute + 1) ∷ []
     by (inl e) = rw e.0 refl
     by (inr e) = absurd (e.1 ends)
 with_minute-last (span ∷ next ∷ rest) minute d some ends =
     let there = same (length rest) in
-    rw there (ap (λ l. span ∷ l) (with_minute-last (next ∷ rest) minute d (omega arith) (rw there at ends)))
+    rw there (ap (λ l. span ∷ l)
+    (with_minute-last (next ∷ rest) minute d (omega arith) (rw there at ends)))
   where
     same : (n : ℕ) → suc (suc n) - 1 ≡ suc (suc n - 1)
     same n = omega arith
 
 -- else the minute is a span of its own
-pub with_minute-new : (spans : List (ℕ × ℕ)) (minute : ℕ) (d : ℕ × ℕ) → (0 < length spans → (slice_index_or spans (length spans - 1) d).1 ≢ minute) →
+pub with_minute-new : (spans : List (ℕ × ℕ)) (minute : ℕ) (d : ℕ × ℕ) →
+    (0 < length spans → (slice_index_or spans (length spans - 1) d).1 ≢ minute) →
     with_minute spans minute ≡ spans ++ one_minute minute ∷ []
 with_minute-new [] minute d ends = refl
 with_minute-new (span ∷ []) minute d ends = by (eqb_tells span.1 minute)
   where
-    by : ((nat_eq span.1 minute ≡ true) × (span.1 ≡ minute)) ⊎ ((nat_eq span.1 minute ≡ false) × (span.1 ≢ minute)) →
-        (if span.1 == minute then (span.0, minute + 1) ∷ [] else span ∷ one_minute minute ∷ []) ≡ span ∷ one_minute minute ∷ []
+    by : ((nat_eq span.1 minute ≡ true) × (span.1 ≡ minute))
+        ⊎ ((nat_eq span.1 minute ≡ false) × (span.1 ≢ minute)) →
+        (if span.1 == minute then (span.0, minute + 1) ∷ [] else span ∷ one_minute minute ∷ [])
+        ≡ span ∷ one_minute minute ∷ []
     by (inl e) = absurd (ends (omega arith) e.1)
     by (inr e) = rw e.0 refl
-with_minute-new (span ∷ next ∷ rest) minute d ends = ap (λ l. span ∷ l) (with_minute-new (next ∷ rest) minute d (λ h. rw (same (length rest)) at (ends (omega arith))))
+with_minute-new (span ∷ next ∷ rest) minute d ends = ap (λ l. span ∷ l)
+    (with_minute-new (next ∷ rest) minute d (λ h. rw (same (length rest)) at (ends (omega arith))))
   where
     same : (n : ℕ) → suc (suc n) - 1 ≡ suc (suc n - 1)
     same n = omega arith
@@ -42,42 +53,58 @@ abbrev pub EndBy : ℕ → List (ℕ × ℕ) → Type 0
 EndBy minute [] = ⊤
 EndBy minute (span ∷ rest) = (span.1 ≤ minute) × EndBy minute rest
 
-pub EndBy-later : (minute : ℕ) (spans : List (ℕ × ℕ)) → EndBy minute spans → EndBy (minute + 1) spans
+pub EndBy-later : (minute : ℕ) (spans : List (ℕ × ℕ)) → EndBy minute spans
+    → EndBy (minute + 1) spans
 EndBy-later minute [] ends = tt
 EndBy-later minute (span ∷ rest) ends = (omega (arith, ends.0), EndBy-later minute rest ends.1)
 
-pub EndBy-with : (minute : ℕ) (spans : List (ℕ × ℕ)) → EndBy minute spans → EndBy (minute + 1) (with_minute spans minute)
+pub EndBy-with : (minute : ℕ) (spans : List (ℕ × ℕ)) → EndBy minute spans
+    → EndBy (minute + 1) (with_minute spans minute)
 EndBy-with minute [] ends = (omega arith, tt)
 EndBy-with minute (span ∷ []) ends = by (nat_eq span.1 minute)
   where
-    by : (b : _) → EndBy (minute + 1) (if b then (span.0, minute + 1) ∷ [] else span ∷ one_minute minute ∷ [])
+    by : (b : _) → EndBy (minute + 1) (if b then (span.0, minute + 1) ∷ []
+        else span ∷ one_minute minute ∷ [])
     by true = (omega arith, tt)
     by false = (omega (arith, ends.0), (omega arith, tt))
-EndBy-with minute (span ∷ next ∷ rest) ends = (omega (arith, ends.0), EndBy-with minute (next ∷ rest) ends.1)
+EndBy-with minute (span ∷ next ∷ rest) ends =
+    (omega (arith, ends.0), EndBy-with minute (next ∷ rest) ends.1)
 
-pub AreApart-with : (low minute : ℕ) (spans : List (ℕ × ℕ)) → low ≤ minute → EndBy minute spans → AreApart low spans → AreApart low (with_minute spans minute)
+pub AreApart-with : (low minute : ℕ) (spans : List (ℕ × ℕ)) → low ≤ minute → EndBy minute spans
+    → AreApart low spans → AreApart low (with_minute spans minute)
 AreApart-with low minute [] le ends apart = (le, omega arith, tt)
 AreApart-with low minute (span ∷ []) le ends apart = by (eqb_tells span.1 minute)
   where
-    by : ((nat_eq span.1 minute ≡ true) × (span.1 ≡ minute)) ⊎ ((nat_eq span.1 minute ≡ false) × (span.1 ≢ minute)) →
-        AreApart low (if span.1 == minute then (span.0, minute + 1) ∷ [] else span ∷ one_minute minute ∷ [])
+    by : ((nat_eq span.1 minute ≡ true) × (span.1 ≡ minute))
+        ⊎ ((nat_eq span.1 minute ≡ false) × (span.1 ≢ minute)) →
+        AreApart low (if span.1 == minute then (span.0, minute + 1) ∷ []
+        else span ∷ one_minute minute ∷ [])
     by (inl e) = rw e.0 (apart.0, omega (arith, apart.1, e.1), tt)
     by (inr e) = rw e.0 (apart.0, apart.1, (omega (arith, ends.0, e.1), omega arith, tt))
-AreApart-with low minute (span ∷ next ∷ rest) le ends apart =
-    (apart.0, apart.1, AreApart-with (span.1 + 1) minute (next ∷ rest) (omega (arith, apart.2.0, apart.2.1, ends.1.0)) ends.1 apart.2)
+AreApart-with low minute (span ∷ next ∷ rest) le ends apart = (
+  apart.0,
+  apart.1,
+  AreApart-with (span.1 + 1) minute (next ∷ rest)
+      (omega (arith, apart.2.0, apart.2.1, ends.1.0)) ends.1 apart.2,
+)
 
 -- the minutes of the spans are those from before, and the new one
-pub Lies-with : (minute : ℕ) (spans : List (ℕ × ℕ)) (low : ℕ) → AreApart low spans → (u : ℕ) → Lies u (with_minute spans minute) → Lies u spans ⊎ (u ≡ minute)
+pub Lies-with : (minute : ℕ) (spans : List (ℕ × ℕ)) (low : ℕ) → AreApart low spans → (u : ℕ)
+    → Lies u (with_minute spans minute) → Lies u spans ⊎ (u ≡ minute)
 Lies-with minute [] low apart u (inl e) = inr (omega (arith, e.0, e.1))
 Lies-with minute [] low apart u (inr e) = absurd e
 Lies-with minute (span ∷ []) low apart u lies = by (eqb_tells span.1 minute) lies
   where
-    by : ((nat_eq span.1 minute ≡ true) × (span.1 ≡ minute)) ⊎ ((nat_eq span.1 minute ≡ false) × (span.1 ≢ minute)) →
-        Lies u (if span.1 == minute then (span.0, minute + 1) ∷ [] else span ∷ one_minute minute ∷ []) →
+    by : ((nat_eq span.1 minute ≡ true) × (span.1 ≡ minute))
+        ⊎ ((nat_eq span.1 minute ≡ false) × (span.1 ≢ minute)) →
+        Lies u (if span.1 == minute then (span.0, minute + 1) ∷ []
+        else span ∷ one_minute minute ∷ []) →
         Lies u (span ∷ []) ⊎ (u ≡ minute)
     by (inl e) lies = in_last (rw e.0 at lies)
       where
-        choose : ((nat_eq u minute ≡ true) × (u ≡ minute)) ⊎ ((nat_eq u minute ≡ false) × (u ≢ minute)) → span.0 ≤ u → u < minute + 1 → Lies u (span ∷ []) ⊎ (u ≡ minute)
+        choose : ((nat_eq u minute ≡ true) × (u ≡ minute))
+            ⊎ ((nat_eq u minute ≡ false) × (u ≢ minute)) → span.0 ≤ u → u < minute + 1
+            → Lies u (span ∷ []) ⊎ (u ≡ minute)
         choose (inl f) a b = inr f.1
         choose (inr f) a b = inl (inl (a, omega (arith, f.1, e.1)))
 
@@ -91,40 +118,54 @@ Lies-with minute (span ∷ []) low apart u lies = by (eqb_tells span.1 minute) l
         in_new (inr (inl f)) = inr (omega (arith, f.0, f.1))
         in_new (inr (inr f)) = absurd f
 Lies-with minute (span ∷ next ∷ rest) low apart u (inl e) = inl (inl e)
-Lies-with minute (span ∷ next ∷ rest) low apart u (inr e) = up (Lies-with minute (next ∷ rest) (span.1 + 1) apart.2 u e)
+Lies-with minute (span ∷ next ∷ rest) low apart u (inr e) =
+    up (Lies-with minute (next ∷ rest) (span.1 + 1) apart.2 u e)
   where
     up : Lies u (next ∷ rest) ⊎ (u ≡ minute) → Lies u (span ∷ next ∷ rest) ⊎ (u ≡ minute)
     up (inl f) = inl (inr f)
     up (inr f) = inr f
 
-pub Lies-kept : (minute : ℕ) (spans : List (ℕ × ℕ)) (low : ℕ) → AreApart low spans → (u : ℕ) → Lies u spans → Lies u (with_minute spans minute)
+pub Lies-kept : (minute : ℕ) (spans : List (ℕ × ℕ)) (low : ℕ) → AreApart low spans → (u : ℕ)
+    → Lies u spans → Lies u (with_minute spans minute)
 Lies-kept minute [] low apart u lies = absurd lies
 Lies-kept minute (span ∷ []) low apart u lies = by (eqb_tells span.1 minute) lies
   where
-    by : ((nat_eq span.1 minute ≡ true) × (span.1 ≡ minute)) ⊎ ((nat_eq span.1 minute ≡ false) × (span.1 ≢ minute)) → Lies u (span ∷ []) →
-        Lies u (if span.1 == minute then (span.0, minute + 1) ∷ [] else span ∷ one_minute minute ∷ [])
+    by : ((nat_eq span.1 minute ≡ true) × (span.1 ≡ minute))
+        ⊎ ((nat_eq span.1 minute ≡ false) × (span.1 ≢ minute)) → Lies u (span ∷ []) →
+        Lies u (if span.1 == minute then (span.0, minute + 1) ∷ []
+        else span ∷ one_minute minute ∷ [])
     by (inl e) (inl f) = rw e.0 (inl (f.0, omega (arith, f.1, e.1)))
     by (inl e) (inr f) = absurd f
     by (inr e) (inl f) = rw e.0 (inl f)
     by (inr e) (inr f) = absurd f
 Lies-kept minute (span ∷ next ∷ rest) low apart u (inl e) = inl e
-Lies-kept minute (span ∷ next ∷ rest) low apart u (inr e) = inr (Lies-kept minute (next ∷ rest) (span.1 + 1) apart.2 u e)
+Lies-kept minute (span ∷ next ∷ rest) low apart u (inr e) =
+    inr (Lies-kept minute (next ∷ rest) (span.1 + 1) apart.2 u e)
 
-pub Lies-new : (minute : ℕ) (spans : List (ℕ × ℕ)) (low : ℕ) → AreApart low spans → Lies minute (with_minute spans minute)
+pub Lies-new : (minute : ℕ) (spans : List (ℕ × ℕ)) (low : ℕ) → AreApart low spans
+    → Lies minute (with_minute spans minute)
 Lies-new minute [] low apart = inl (omega arith, omega arith)
 Lies-new minute (span ∷ []) low apart = by (eqb_tells span.1 minute)
   where
-    by : ((nat_eq span.1 minute ≡ true) × (span.1 ≡ minute)) ⊎ ((nat_eq span.1 minute ≡ false) × (span.1 ≢ minute)) →
-        Lies minute (if span.1 == minute then (span.0, minute + 1) ∷ [] else span ∷ one_minute minute ∷ [])
+    by : ((nat_eq span.1 minute ≡ true) × (span.1 ≡ minute))
+        ⊎ ((nat_eq span.1 minute ≡ false) × (span.1 ≢ minute)) →
+        Lies minute (if span.1 == minute then (span.0, minute + 1) ∷ []
+        else span ∷ one_minute minute ∷ [])
     by (inl e) = rw e.0 (inl (omega (arith, apart.1, e.1), omega arith))
     by (inr e) = rw e.0 (inr (inl (omega arith, omega arith)))
-Lies-new minute (span ∷ next ∷ rest) low apart = inr (Lies-new minute (next ∷ rest) (span.1 + 1) apart.2)
+Lies-new minute (span ∷ next ∷ rest) low apart =
+    inr (Lies-new minute (next ∷ rest) (span.1 + 1) apart.2)
 
 -- the spans of a range that has one more minute, where it is so at that minute
-pub AreSpansOf-active : (active : ℕ → Type 0) (from minute : ℕ) (spans : List (ℕ × ℕ)) → from ≤ minute → active minute → EndBy minute spans →
-    AreSpansOf active from minute spans → AreSpansOf active from (minute + 1) (with_minute spans minute)
+pub AreSpansOf-active : (active : ℕ → Type 0) (from minute : ℕ) (spans : List (ℕ × ℕ)) →
+    from ≤ minute → active minute → EndBy minute spans →
+    AreSpansOf active from minute spans →
+    AreSpansOf active from (minute + 1) (with_minute spans minute)
 AreSpansOf-active active from minute spans le is ends all = record {
-  exactly = λ u. (λ lies. to u (Lies-with minute spans 0 all.apart u lies), λ p. back u p (eqb_tells u minute));
+  exactly = λ u. (
+    λ lies. to u (Lies-with minute spans 0 all.apart u lies),
+    λ p. back u p (eqb_tells u minute),
+  );
   apart = AreApart-with 0 minute spans (omega arith) ends all.apart;
 }
   where
@@ -132,12 +173,17 @@ AreSpansOf-active active from minute spans le is ends all = record {
     to u (inl lies) = let p = (all.exactly u).0 lies in (p.0, omega (arith, p.1), p.2)
     to u (inr e) = (omega arith, omega arith, subst active (sym e) is)
 
-    back : (u : ℕ) → (from ≤ u) × (u < minute + 1) × active u → ((nat_eq u minute ≡ true) × (u ≡ minute)) ⊎ ((nat_eq u minute ≡ false) × (u ≢ minute)) → Lies u (with_minute spans minute)
-    back u p (inl e) = subst (λ v. Lies v (with_minute spans minute)) (sym e.1) (Lies-new minute spans 0 all.apart)
-    back u p (inr e) = Lies-kept minute spans 0 all.apart u ((all.exactly u).1 (p.0, omega (arith, p.1, e.1), p.2))
+    back : (u : ℕ) → (from ≤ u) × (u < minute + 1) × active u
+        → ((nat_eq u minute ≡ true) × (u ≡ minute)) ⊎ ((nat_eq u minute ≡ false) × (u ≢ minute))
+        → Lies u (with_minute spans minute)
+    back u p (inl e) =
+        subst (λ v. Lies v (with_minute spans minute)) (sym e.1) (Lies-new minute spans 0 all.apart)
+    back u p (inr e) =
+        Lies-kept minute spans 0 all.apart u ((all.exactly u).1 (p.0, omega (arith, p.1, e.1), p.2))
 
 -- .. and where it isn't, or the minute is before the range
-pub AreSpansOf-idle : (active : ℕ → Type 0) (from minute : ℕ) (spans : List (ℕ × ℕ)) → (from ≤ minute → active minute → ⊥) →
+pub AreSpansOf-idle : (active : ℕ → Type 0) (from minute : ℕ) (spans : List (ℕ × ℕ)) →
+    (from ≤ minute → active minute → ⊥) →
     AreSpansOf active from minute spans → AreSpansOf active from (minute + 1) spans
 AreSpansOf-idle active from minute spans idle all = record {
   exactly = λ u. (λ lies. to u ((all.exactly u).0 lies), λ p. back u p (eqb_tells u minute));
@@ -147,12 +193,16 @@ AreSpansOf-idle active from minute spans idle all = record {
     to : (u : ℕ) → (from ≤ u) × (u < minute) × active u → (from ≤ u) × (u < minute + 1) × active u
     to u p = (p.0, omega (arith, p.1), p.2)
 
-    back : (u : ℕ) → (from ≤ u) × (u < minute + 1) × active u → ((nat_eq u minute ≡ true) × (u ≡ minute)) ⊎ ((nat_eq u minute ≡ false) × (u ≢ minute)) → Lies u spans
+    back : (u : ℕ) → (from ≤ u) × (u < minute + 1) × active u
+        → ((nat_eq u minute ≡ true) × (u ≡ minute)) ⊎ ((nat_eq u minute ≡ false) × (u ≢ minute))
+        → Lies u spans
     back u p (inl e) = absurd (idle (omega (arith, p.0, e.1)) (subst active e.1 p.2))
     back u p (inr e) = (all.exactly u).1 (p.0, omega (arith, p.1, e.1), p.2)
 
-pub AreSpansOf-none : (active : ℕ → Type 0) (from start : ℕ) → start ≤ from → AreSpansOf active from start []
-AreSpansOf-none active from start le = record { exactly = λ u. (λ f. absurd f, λ p. absurd (none u p.0 p.1)); apart = tt }
+pub AreSpansOf-none : (active : ℕ → Type 0) (from start : ℕ) → start ≤ from
+    → AreSpansOf active from start []
+AreSpansOf-none active from start le =
+    record { exactly = λ u. (λ f. absurd f, λ p. absurd (none u p.0 p.1)); apart = tt }
   where
     none : (u : ℕ) → from ≤ u → u < start → ⊥
     none u a b = omega arith

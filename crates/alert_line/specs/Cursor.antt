@@ -19,7 +19,8 @@ pub record IsOver (width : ℕ) (leaf : ℕ → Leaf) (length minute : ℕ) (win
   pub few : window.sum.den ≤ most_events
 
 -- two windows hold the sums of a pair
-pub record AreOver (width : ℕ) (leaf : ℕ → Leaf) (long short above minute : ℕ) (windows : PairWindows) : Type 0 where
+pub record AreOver (width : ℕ) (leaf : ℕ → Leaf) (long short above minute : ℕ)
+    (windows : PairWindows) : Type 0 where
   pub pair : windows.pair ≡ record { long = long; short = short; above = above }
   pub long_is : IsOver width leaf long minute windows.long
   pub short_is : IsOver width leaf short minute windows.short
@@ -31,18 +32,22 @@ rule_of (OfTicket pair) = Ticket
 
 -- the windows hold the sums of their rule at a minute
 abbrev pub StandAt : ℕ → (ℕ → Leaf) → ℕ → Windows → Type 0
-StandAt width leaf minute (OfSingle op threshold lookback after window) = IsOver width leaf lookback minute window
+StandAt width leaf minute (OfSingle op threshold lookback after window) =
+    IsOver width leaf lookback minute window
 StandAt width leaf minute (OfPage fast slow) =
-    AreOver width leaf 60 5 14400000000 minute fast × AreOver width leaf 360 30 6000000000 minute slow
+    AreOver width leaf 60 5 14400000000 minute fast
+    × AreOver width leaf 360 30 6000000000 minute slow
 StandAt width leaf minute (OfTicket pair) = AreOver width leaf 4320 360 1000000000 minute pair
 
 -- a cursor of a rule, with the sums of the minute at which it stands
-pub record IsAt (alert : AlertRule) (width : ℕ) (leaf : ℕ → Leaf) (minute : ℕ) (cursor : Cursor) : Type 0 where
+pub record IsAt (alert : AlertRule) (width : ℕ) (leaf : ℕ → Leaf) (minute : ℕ)
+    (cursor : Cursor) : Type 0 where
   pub rule : rule_of cursor.windows ≡ alert
   pub at : cursor.minute ≡ minute
   pub stands : StandAt width leaf minute cursor.windows
 
 -- .. which is before a minute
-pub record IsBehind (alert : AlertRule) (width : ℕ) (leaf : ℕ → Leaf) (minute : ℕ) (cursor : Cursor) : Type 0 where
+pub record IsBehind (alert : AlertRule) (width : ℕ) (leaf : ℕ → Leaf) (minute : ℕ)
+    (cursor : Cursor) : Type 0 where
   pub before : cursor.minute < minute
   pub is : IsAt alert width leaf cursor.minute cursor

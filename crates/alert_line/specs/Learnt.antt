@@ -1,5 +1,6 @@
 -- What a line has learnt by a pass over its minutes.
-use Rattle.std.specs.Prelude.{◌≡◌, ℕ, Bool, true, false, ◌+◌, ◌-◌, ◌<◌, ◌≤◌, ◌⊎◌, ◌&&◌, nat_le, nat_lt, max, Some, is_none, if◌then◌else◌}
+use Rattle.std.specs.Prelude.{◌≡◌, ℕ, Bool, true, false, ◌+◌, ◌-◌, ◌<◌, ◌≤◌, ◌⊎◌, ◌&&◌, nat_le}
+use Rattle.std.specs.Prelude.{nat_lt, max, Some, is_none, if◌then◌else◌}
 use Rattle.slo_terms.specs.Sums.{sum_over}
 use Rattle.burn_core.specs.Alert.{wait_of}
 use Rattle.window_sums.specs.Slices.{CountedDays}
@@ -7,17 +8,22 @@ use Rattle.alert_line.specs.Line.{Line, condition_on, known}
 
 -- how many minutes of [from, from + count) a line doesn't know
 abbrev pub unknown_in : Line → ℕ → ℕ → ℕ
-unknown_in line from count = sum_over (λ minute. if is_none (known line minute) then 1 else 0) from count
+unknown_in line from count =
+    sum_over (λ minute. if is_none (known line minute) then 1 else 0) from count
 
--- where the pass over a range begins: the condition of minutes before `from` decides too, but not before the origin
+-- where the pass over a range begins: the condition of minutes before `from` decides too, but not
+-- before the origin
 abbrev pub start_of : Line → ℕ → ℕ
 start_of line from = max (from - wait_of line.rule) line.origin
 
--- `after` knows of the minutes of [start, at) their condition, and of each other minute what `before` knows.
+-- `after` knows of the minutes of [start, at) their condition, and of each other minute
+-- what `before` knows.
 pub record IsLearnt (before after : Line) (sums : CountedDays) (start at : ℕ) : Type 0 where
-  pub each : (minute : ℕ) → known after minute ≡ (if nat_le start minute && nat_lt minute at then Some (condition_on before sums minute) else known before minute)
+  pub each : (minute : ℕ) → known after minute ≡ (if nat_le start minute && nat_lt minute at
+      then Some (condition_on before sums minute) else known before minute)
 
--- The condition has held at just the last `run` minutes before `at`, as far as a pass from `start` on can tell.
+-- The condition has held at just the last `run` minutes before `at`, as far as a pass from `start`
+-- on can tell.
 pub record IsRun (holds : ℕ → Bool) (start at run : ℕ) : Type 0 where
   pub within : start + run ≤ at
   pub each : (u : ℕ) → at - run ≤ u → u < at → holds u ≡ true

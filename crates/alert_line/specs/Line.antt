@@ -1,5 +1,6 @@
 -- A line: the alert it is about, and what it remembers of the condition, minute by minute.
-use Rattle.std.specs.Prelude.{ℕ, Bool, ◌+◌, ◌-◌, ◌*◌, ◌^◌, ◌<◌, ◌≤◌, ◌≡◌, nat_lt, List, length, Option, Some, None, if◌then◌else◌}
+use Rattle.std.specs.Prelude.{ℕ, Bool, ◌+◌, ◌-◌, ◌*◌, ◌^◌, ◌<◌, ◌≤◌, ◌≡◌, nat_lt, List, length}
+use Rattle.std.specs.Prelude.{Option, Some, None, if◌then◌else◌}
 use Rattle.slo_limits.specs.declared.TheConstants.{RANGE_MINUTES}
 use Rattle.burn_core.specs.declared.alert.AlertRule.{AlertRule}
 use Rattle.burn_core.specs.Alert.{IsRule, lookback_of, wait_of}
@@ -26,11 +27,13 @@ IsMinute line minute = (line.origin ≤ minute) × (minute < line.origin + RANGE
 
 -- what the line remembers of a minute; nothing outside of its range
 abbrev pub known : Line → ℕ → Option Bool
-known line minute = if nat_lt minute line.origin then None else kept_at line.bytes (minute - line.origin)
+known line minute = if nat_lt minute line.origin then None
+    else kept_at line.bytes (minute - line.origin)
 
 -- the condition of the line's alert at a minute, computed from sums
 abbrev pub condition_on : Line → CountedDays → ℕ → Bool
-condition_on line sums minute = condition line.rule line.target line.origin (width_of sums.method) (leaf_at sums) minute
+condition_on line sums minute =
+    condition line.rule line.target line.origin (width_of sums.method) (leaf_at sums) minute
 
 -- whether the line's alert is active at a minute, computed from sums
 abbrev pub active_on : Line → CountedDays → ℕ → Bool
@@ -38,11 +41,13 @@ active_on line sums minute = is_active (wait_of line.rule) (condition_on line su
 
 -- the den over the lookback, of a built-in rule over the first pair's long window
 abbrev pub den_before : Line → CountedDays → ℕ → ℕ
-den_before line sums minute = (sum_of_slices (width_of sums.method) (leaf_at sums) (minute - lookback_of line.rule) minute).den
+den_before line sums minute = (sum_of_slices (width_of sums.method) (leaf_at sums)
+    (minute - lookback_of line.rule) minute).den
 
 -- Each minute that is known is the condition, computed from these sums.
 pub record Agrees (line : Line) (sums : CountedDays) : Type 0 where
-  pub each : (minute : ℕ) (holds : Bool) → known line minute ≡ Some holds → holds ≡ condition_on line sums minute
+  pub each : (minute : ℕ) (holds : Bool) → known line minute ≡ Some holds
+      → holds ≡ condition_on line sums minute
 
 -- two lines are about one alert
 pub record SameAlert (before after : Line) : Type 0 where

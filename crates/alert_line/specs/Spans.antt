@@ -7,5 +7,6 @@ one_minute minute = (minute, minute + 1)
 -- the minute joins the last stretch where that ends there; else it is one of its own
 abbrev pub with_minute : List (ℕ × ℕ) → ℕ → List (ℕ × ℕ)
 with_minute [] minute = one_minute minute ∷ []
-with_minute (span ∷ []) minute = if span.1 == minute then (span.0, minute + 1) ∷ [] else span ∷ one_minute minute ∷ []
+with_minute (span ∷ []) minute = if span.1 == minute then (span.0, minute + 1) ∷ []
+    else span ∷ one_minute minute ∷ []
 with_minute (span ∷ next ∷ rest) minute = span ∷ with_minute (next ∷ rest) minute

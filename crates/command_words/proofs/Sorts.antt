@@ -16,7 +16,8 @@ use Rattle.command_words.specs.Commands.{asked_of, is_dashed}
 use Rattle.command_words.specs.Forms.{whole_form}
 use Rattle.command_words.specs.Rows.{asked_by}
 use Rattle.command_words.proofs.Walks as walks
-use Rattle.command_words.proofs.Walks.{IsTaken, IsRefused, simple, simple_and_free, no_words, no_name}
+use Rattle.command_words.proofs.Walks.{IsTaken, IsRefused, simple, simple_and_free, no_words}
+use Rattle.command_words.proofs.Walks.{no_name}
 
 abbrev Sorts : List Text → Type 0
 Sorts ws = IsTaken ws ⊎ (IsRefused ws × (asked_of ws ≡ None))

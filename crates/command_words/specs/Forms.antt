@@ -14,7 +14,8 @@ one_word_form name id is_needed = with_rule (new_app name) (word_rule id is_need
 abbrev pub budget_form : App
 budget_form =
     with_rule
-    (with_rule (one_word_form (codes "budget") (codes "target") true) (word_rule (codes "from") true))
+    (with_rule (one_word_form (codes "budget") (codes "target") true)
+    (word_rule (codes "from") true))
     (word_rule (codes "to") true)
 
 abbrev pub check_form : App
@@ -57,4 +58,5 @@ with_forms program (form ∷ forms) = with_forms (with_subcommand program form.t
 abbrev pub whole_form : App
 whole_form =
     with_forms bare_form
-    (budget_form ∷ check_form ∷ init_form ∷ pipe_form ∷ report_form ∷ serve_form ∷ generate_form ∷ [])
+    (budget_form ∷ check_form ∷ init_form ∷ pipe_form ∷ report_form ∷ serve_form
+    ∷ generate_form ∷ [])

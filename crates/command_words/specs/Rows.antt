@@ -1,5 +1,6 @@
 -- What the command that `clap` found asks for, with the words that it holds.
-use Rattle.std.specs.Prelude.{ℕ, List, [], ◌∷◌, Option, Some, None, codes, if◌then◌else◌, option_map}
+use Rattle.std.specs.Prelude.{ℕ, List, [], ◌∷◌, Option, Some, None, codes, if◌then◌else◌}
+use Rattle.std.specs.Prelude.{option_map}
 use Rattle.std.specs.Str.{bytes_eq}
 use Rattle.clap.specs.Walk.{Row, Text, first_of}
 use Rattle.budget_command.specs.Order.{order_of}

@@ -1,5 +1,6 @@
 -- The records that a reader has left, from where it stands in its text.
-use Rattle.std.specs.Prelude.{◌≡◌, ℕ, suc, List, [], length, Option, Some, None, Bool, true, false, ⊤}
+use Rattle.std.specs.Prelude.{◌≡◌, ℕ, suc, List, [], length, Option, Some, None, Bool, true, false}
+use Rattle.std.specs.Prelude.{⊤}
 use Rattle.std.specs.Borrow.{Bor}
 use Rattle.csv.specs.Machine.{ends_at_end}
 use Rattle.csv.specs.Reading.{Ready, default_config, records_from, source_of}
@@ -26,7 +27,8 @@ abbrev pub records_of_unread : State → Option (List ℕ) → List Fields
 records_of_unread s None = []
 records_of_unread s (Some xs) = rest default_config s xs
 
--- a reader that reads on: set up for every record as it stands, of any length, and between two of them
+-- a reader that reads on: set up for every record as it stands, of any length, and between
+-- two of them
 pub record IsReading (rdr : Reader (Bor (List ℕ))) : Type 0 where
   pub trim : rdr.trim ≡ trim.None
   pub ready : Ready rdr

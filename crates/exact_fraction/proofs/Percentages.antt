@@ -1,4 +1,5 @@
-use Rattle.std.proofs.Common.{◌≡◌, ℕ, zero, suc, ◌+◌, ◌*◌, ◌/◌, ◌^◌, ◌<◌, ◌≤◌, ℤ, pos, negsuc, neg_ℤ, ◌+ℤ◌, ◌*ℤ◌, ◌≤ℤ◌, ◌<ℤ◌, refl, ap, ◌∙◌, arith}
+use Rattle.std.proofs.Common.{◌≡◌, ℕ, zero, suc, ◌+◌, ◌*◌, ◌/◌, ◌^◌, ◌<◌, ◌≤◌, ℤ, pos, negsuc}
+use Rattle.std.proofs.Common.{neg_ℤ, ◌+ℤ◌, ◌*ℤ◌, ◌≤ℤ◌, ◌<ℤ◌, refl, ap, ◌∙◌, arith}
 use Rattle.std.specs.Int.{int_div_euclid}
 use Rattle.std.proofs.Math.IntN.{pos-*ℤ-pos, negsuc-*ℤ-pos}
 use Rattle.std.proofs.Math.Nat.{div-add-mod', mod-lt, suc-mul}
@@ -45,5 +46,6 @@ floor (negsuc a) d h =
     }
 
 -- the percentage that is written is rounded toward minus infinity
-pub percent-floor : (r : Ratio) → IsLowest r → IsFloor (percent_parts r) (r.num *ℤ pos (10 ^ 6)) r.den
+pub percent-floor : (r : Ratio) → IsLowest r
+    → IsFloor (percent_parts r) (r.num *ℤ pos (10 ^ 6)) r.den
 percent-floor r h = floor (r.num *ℤ pos (10 ^ 6)) r.den h.positive

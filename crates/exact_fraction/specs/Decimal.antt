@@ -1,9 +1,12 @@
-use Rattle.std.specs.Prelude.{◌≡◌, ℕ, ◌+◌, ◌-◌, ◌*◌, ◌^◌, ◌<◌, ◌≤◌, IsTrue, List, [], ◌∷◌, ◌++◌, length, take, Result, Ok, Err}
+use Rattle.std.specs.Prelude.{◌≡◌, ℕ, ◌+◌, ◌-◌, ◌*◌, ◌^◌, ◌<◌, ◌≤◌, IsTrue, List, [], ◌∷◌, ◌++◌}
+use Rattle.std.specs.Prelude.{length, take, Result, Ok, Err}
 use Rattle.std.specs.Char.{is_ascii_digit}
 use Rattle.std.specs.List.{list_all}
 use Rattle.exact_fraction.specs.Digits.{is_number, number_of}
 use Rattle.exact_fraction.specs.declared.decimal.DecimalFault.{DecimalFault}
-use Rattle.exact_fraction.specs.declared.decimal.DecimalFault.TheVariants.{Empty, BadByte, TooManyDecimals, TooLarge}
+use Rattle.exact_fraction.specs.declared.decimal.DecimalFault.TheVariants.{Empty, BadByte}
+use Rattle.exact_fraction.specs.declared.decimal.DecimalFault.TheVariants.{TooManyDecimals}
+use Rattle.exact_fraction.specs.declared.decimal.DecimalFault.TheVariants.{TooLarge}
 
 -- nothing where there are no decimals, else a point (byte 46) and the decimals
 abbrev pub with_point : List ℕ → List ℕ
@@ -18,7 +21,8 @@ pub record IsDecimal (text whole decimals : List ℕ) : Type 0 where
 
 -- what at most nine decimals behind a whole number are worth, in billionths
 abbrev pub billionths_of : List ℕ → List ℕ → ℕ
-billionths_of whole decimals = number_of whole * 10 ^ 9 + number_of decimals * 10 ^ (9 - length decimals)
+billionths_of whole decimals =
+    number_of whole * 10 ^ 9 + number_of decimals * 10 ^ (9 - length decimals)
 
 -- the text is a decimal of at most nine decimals
 pub record IsShortDecimal (text whole decimals : List ℕ) : Type 0 where
@@ -28,11 +32,13 @@ pub record IsShortDecimal (text whole decimals : List ℕ) : Type 0 where
 -- the text stands for so many billionths, at most a thousand million whole ones
 abbrev pub StandsForBillionths : List ℕ → ℕ → Type 0
 StandsForBillionths text n =
-    (whole : List ℕ) × ((decimals : List ℕ) × (IsShortDecimal text whole decimals × (n ≡ billionths_of whole decimals) × (n ≤ 10 ^ 18)))
+    (whole : List ℕ) × ((decimals : List ℕ)
+    × (IsShortDecimal text whole decimals × (n ≡ billionths_of whole decimals) × (n ≤ 10 ^ 18)))
 
 -- some decimal text begins with these bytes
 abbrev pub BeginsDecimal : List ℕ → Type 0
-BeginsDecimal bytes = (rest : List ℕ) × ((whole : List ℕ) × ((decimals : List ℕ) × IsDecimal (bytes ++ rest) whole decimals))
+BeginsDecimal bytes = (rest : List ℕ)
+    × ((whole : List ℕ) × ((decimals : List ℕ) × IsDecimal (bytes ++ rest) whole decimals))
 
 -- the first byte that no decimal text can have there, or the end where a decimal text would go on
 pub record StopsAt (text : List ℕ) (place : ℕ) : Type 0 where
@@ -47,6 +53,8 @@ AnswersDecimal text (Ok n) = StandsForBillionths text n
 AnswersDecimal text (Err Empty) = text ≡ []
 AnswersDecimal text (Err (BadByte place)) = (text ≡ [] → ⊥) × StopsAt text place
 AnswersDecimal text (Err TooManyDecimals) =
-    (whole : List ℕ) × ((decimals : List ℕ) × (IsDecimal text whole decimals × (9 < length decimals)))
+    (whole : List ℕ) × ((decimals : List ℕ)
+    × (IsDecimal text whole decimals × (9 < length decimals)))
 AnswersDecimal text (Err TooLarge) =
-    (whole : List ℕ) × ((decimals : List ℕ) × (IsShortDecimal text whole decimals × (10 ^ 18 < billionths_of whole decimals)))
+    (whole : List ℕ) × ((decimals : List ℕ)
+    × (IsShortDecimal text whole decimals × (10 ^ 18 < billionths_of whole decimals)))

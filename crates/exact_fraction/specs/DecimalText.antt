@@ -1,4 +1,6 @@
-use Rattle.std.specs.Prelude.{ℕ, zero, suc, ◌+◌, ◌/◌, ◌%◌, ◌^◌, ◌==◌, ℤ, pos, negsuc, ◌+ℤ◌, ◌*ℤ◌, ◌≤ℤ◌, ◌<ℤ◌, unsigned_abs, List, [], ◌∷◌, ◌++◌, length, take, ◌-◌, decimal}
+use Rattle.std.specs.Prelude.{ℕ, zero, suc, ◌+◌, ◌/◌, ◌%◌, ◌^◌, ◌==◌, ℤ, pos, negsuc, ◌+ℤ◌, ◌*ℤ◌}
+use Rattle.std.specs.Prelude.{◌≤ℤ◌, ◌<ℤ◌, unsigned_abs, List, [], ◌∷◌, ◌++◌, length, take, ◌-◌}
+use Rattle.std.specs.Prelude.{decimal}
 use Rattle.std.specs.Int.{int_div_euclid}
 use Rattle.std.specs.List.{suffix_len}
 use Rattle.exact_fraction.specs.Decimal.{with_point}
@@ -13,9 +15,11 @@ last_digits (suc count) n = (48 + n / 10 ^ count % 10) ∷ last_digits count n
 abbrev pub without_last_zeros : List ℕ → List ℕ
 without_last_zeros digits = take (length digits - suffix_len (λ digit. digit == 48) digits) digits
 
--- billionths as people write them: no zeros at the end of the decimals, and no point where there are none
+-- billionths as people write them: no zeros at the end of the decimals, and no point where
+-- there are none
 abbrev pub decimal_text : ℕ → List ℕ
-decimal_text n = decimal (n / 10 ^ 9) ++ with_point (without_last_zeros (last_digits 9 (n % 10 ^ 9)))
+decimal_text n =
+    decimal (n / 10 ^ 9) ++ with_point (without_last_zeros (last_digits 9 (n % 10 ^ 9)))
 
 -- ten-thousandths with their four places
 abbrev pub four_places : ℕ → List ℕ

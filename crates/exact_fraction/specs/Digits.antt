@@ -1,4 +1,5 @@
-use Rattle.std.specs.Prelude.{ℕ, ◌+◌, ◌-◌, ◌*◌, Bool, ◌&&◌, cond, not, nat_le, nat_lt, ◌==◌, List, length, fold, Option, Some, None, option_and_then, slice_index}
+use Rattle.std.specs.Prelude.{ℕ, ◌+◌, ◌-◌, ◌*◌, Bool, ◌&&◌, cond, not, nat_le, nat_lt, ◌==◌, List}
+use Rattle.std.specs.Prelude.{length, fold, Option, Some, None, option_and_then, slice_index}
 use Rattle.std.specs.Char.{is_ascii_digit}
 use Rattle.std.specs.List.{list_all}
 

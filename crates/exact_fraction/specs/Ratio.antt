@@ -1,4 +1,5 @@
-use Rattle.std.specs.Prelude.{◌≡◌, ℕ, zero, suc, ◌%◌, ◌/◌, ◌<◌, ◌≤◌, ◌*◌, ◌^◌, ℤ, pos, negsuc, neg_ℤ, ◌*ℤ◌, unsigned_abs, List, ◌∷◌, ◌++◌, decimal, refl}
+use Rattle.std.specs.Prelude.{◌≡◌, ℕ, zero, suc, ◌%◌, ◌/◌, ◌<◌, ◌≤◌, ◌*◌, ◌^◌, ℤ, pos, negsuc}
+use Rattle.std.specs.Prelude.{neg_ℤ, ◌*ℤ◌, unsigned_abs, List, ◌∷◌, ◌++◌, decimal, refl}
 use Rattle.std.specs.Coded.{Coded, code_by, coded×, coded_ℕ, coded_ℤ}
 use Rattle.std.specs.Fmt.{signed_decimal}
 use Rattle.std.specs.Int.{IsGcd}
@@ -19,7 +20,8 @@ SameValue r n d = r.num *ℤ pos d ≡ n *ℤ pos r.den
 
 -- a ratio is stored as the pair of its fields
 abbrev pub ratio_code : Coded Ratio
-ratio_code = code_by (ℤ × ℕ) (coded× coded_ℤ coded_ℕ) (λ r. (r.num, r.den)) (λ p. record { num = p.0; den = p.1 }) (λ _. refl)
+ratio_code = code_by (ℤ × ℕ) (coded× coded_ℤ coded_ℕ) (λ r. (r.num, r.den))
+    (λ p. record { num = p.0; den = p.1 }) (λ _. refl)
 
 -- the greatest common divisor, by Euclid's remainders, in so many steps at most
 abbrev pub gcd_within : ℕ → ℕ → ℕ → ℕ
@@ -42,7 +44,8 @@ lowest n d =
     let common = gcd (unsigned_abs n) d in
     record { num = with_sign_of n (unsigned_abs n / common); den = d / common }
 
--- the limit of a numerator's size and of a denominator: a cross product with 10^13 billionths fits 128 bits
+-- the limit of a numerator's size and of a denominator: a cross product with 10^13 billionths
+-- fits 128 bits
 abbrev pub most_part : ℕ
 most_part = 4 * 10 ^ 24
 

@@ -63,7 +63,8 @@ module _ {D : Type 0} (old new : keep.OfficeOn D) (reading : ℕ) (outcome : Out
       record {
         made = made;
         comes =
-            subst (λ (o : Office). steps.Comes o reading (Change command) outcome made) same came_to;
+            subst (λ (o : Office). steps.Comes o reading (Change command) outcome made) same
+            came_to;
         office = now ∙ ap (λ (o : Office). steps.with_made o made) same;
         none = undoubted;
       }

@@ -1,5 +1,6 @@
 -- One decision.
-use Rattle.std.proofs.Common.{◌≡◌, ◌⊎◌, inl, inr, ◌≤◌, ◌<◌, ℕ, zero, suc, List, length, take, refl, sym, ap, ◌∙◌, subst, arith}
+use Rattle.std.proofs.Common.{◌≡◌, ◌⊎◌, inl, inr, ◌≤◌, ◌<◌, ℕ, zero, suc, List, length, take, refl}
+use Rattle.std.proofs.Common.{sym, ap, ◌∙◌, subst, arith}
 use Rattle.std.proofs.lemmas.Bool.{cases_lt}
 use Rattle.std.proofs.Common.{◌++◌, slice_range}
 use Rattle.std.proofs.lemmas.List.{length-append, take-append-le}
@@ -8,7 +9,8 @@ use Rattle.message_heads.specs.declared.message.Message.{Message}
 use Rattle.message_heads.specs.Laws.{AtMostOneDecision, HeardIsKept, IsOpen}
 use Rattle.message_heads.proofs.JudgeLemmas.{front_range}
 use Rattle.message_heads.proofs.WaitLemmas.{decided_more}
-use Rattle.message_heads.specs.Hearing.{Ruling, head_too_large, malformed, encoded, body_too_large, whole, place, Holds, IsDecided, IsMessage, IsPlace}
+use Rattle.message_heads.specs.Hearing.{Ruling, head_too_large, malformed, encoded, body_too_large}
+use Rattle.message_heads.specs.Hearing.{whole, place, Holds, IsDecided, IsMessage, IsPlace}
 
 abbrev named : ℕ → Ruling
 named zero = head_too_large
@@ -30,7 +32,8 @@ same_place r q e = sym (back r) ∙ ap named e ∙ back q
 pub one : AtMostOneDecision
 one bytes n m r q a b = by (cases_lt n m) (cases_lt m n)
   where
-    by : (n < m) ⊎ (m ≤ n) → (m < n) ⊎ (n ≤ m) → ((n ≡ m) × (r ≡ q)) ⊎ (IsOpen bytes n r ⊎ IsOpen bytes m q)
+    by : (n < m) ⊎ (m ≤ n) → (m < n) ⊎ (n ≤ m)
+        → ((n ≡ m) × (r ≡ q)) ⊎ (IsOpen bytes n r ⊎ IsOpen bytes m q)
     by (inl before) other = inr (inl (b.earlier n before r a.holds))
     by (inr past) (inl before) = inr (inr (a.earlier m before q b.holds))
     by (inr past) (inr upto) =
@@ -39,15 +42,19 @@ one bytes n m r q a b = by (cases_lt n m) (cases_lt m n)
         let g = b.first r (subst (λ k. Holds r (take k bytes)) e a.holds) in
         inl (e, same_place r q (omega (arith, f, g)))
 
-place_kept : (bytes more part : List ℕ) (n : ℕ) (p : ℕ × ℕ) → n ≤ length bytes → IsPlace n p → slice_range bytes p.0 p.1 ≡ part → slice_range (bytes ++ more) p.0 p.1 ≡ part
-place_kept bytes more part n p within (order, inside) is = front_range bytes more p.0 p.1 order (omega arith) ∙ is
+place_kept : (bytes more part : List ℕ) (n : ℕ) (p : ℕ × ℕ) → n ≤ length bytes → IsPlace n p
+    → slice_range bytes p.0 p.1 ≡ part → slice_range (bytes ++ more) p.0 p.1 ≡ part
+place_kept bytes more part n p within (order, inside) is =
+    front_range bytes more p.0 p.1 order (omega arith) ∙ is
 
-message_kept : (bytes more : List ℕ) (m : Message) (n : ℕ) (h : RequestHead) → IsMessage bytes m n h → IsMessage (bytes ++ more) m n h
+message_kept : (bytes more : List ℕ) (m : Message) (n : ℕ) (h : RequestHead) → IsMessage bytes m n h
+    → IsMessage (bytes ++ more) m n h
 message_kept bytes more m n h is =
     let w = is.within in
     let l = length-append bytes more in
     let t = take-append-le n bytes more w in
-    let b = place_kept bytes more (slice_range bytes m.body.0 m.body.1) n m.body w is.places.2 refl in
+    let b =
+    place_kept bytes more (slice_range bytes m.body.0 m.body.1) n m.body w is.places.2 refl in
     record {
       within = omega (arith, l, w);
       places = is.places;
@@ -60,6 +67,9 @@ message_kept bytes more m n h is =
 
 pub kept : HeardIsKept
 kept bytes more = (
-  λ m n heard. (decided_more bytes more n whole heard.0, (heard.1.0, message_kept bytes more m n heard.1.0 heard.1.1)),
+  λ m n heard. (
+    decided_more bytes more n whole heard.0,
+    (heard.1.0, message_kept bytes more m n heard.1.0 heard.1.1),
+  ),
   λ status heard. (heard.0, heard.1, decided_more bytes more heard.0 heard.1 heard.2, heard.3),
 )

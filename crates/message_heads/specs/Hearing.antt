@@ -1,7 +1,10 @@
 -- What is heard in bytes that came: the first message, a bad one, or that more has to come.
-use Rattle.std.specs.Prelude.{◌≡◌, ◌⊎◌, ℕ, ◌<◌, ◌≤◌, ◌+◌, true, List, [], ◌∷◌, ◌++◌, length, take, slice_range, Option, Some, None}
-use Rattle.httparse.specs.Grammar.{RequestHead, ReadsRequest, HasNoRequest, NeverHasRequest, EndsInTarget}
-use Rattle.slo_limits.specs.declared.TheConstants.{MAX_HEAD_BYTES, MAX_HEADER_FIELDS, MAX_BODY_BYTES}
+use Rattle.std.specs.Prelude.{◌≡◌, ◌⊎◌, ℕ, ◌<◌, ◌≤◌, ◌+◌, true, List, [], ◌∷◌, ◌++◌, length, take}
+use Rattle.std.specs.Prelude.{slice_range, Option, Some, None}
+use Rattle.httparse.specs.Grammar.{RequestHead, ReadsRequest, HasNoRequest, NeverHasRequest}
+use Rattle.httparse.specs.Grammar.{EndsInTarget}
+use Rattle.slo_limits.specs.declared.TheConstants.{MAX_HEAD_BYTES, MAX_HEADER_FIELDS}
+use Rattle.slo_limits.specs.declared.TheConstants.{MAX_BODY_BYTES}
 use Rattle.message_heads.specs.declared.reading.TheConstants.{MAX_MESSAGE_BYTES}
 use Rattle.message_heads.specs.Fields.{fields_of, counted_length, is_encoded, closes}
 use Rattle.message_heads.specs.declared.message.Message.{Message}
@@ -28,17 +31,21 @@ IsHead bytes h = ReadsRequest bytes h []
 -- a ruling holds of the bytes so far
 abbrev pub Holds : Ruling → List ℕ → Type 0
 Holds head_too_large bytes =
-    ((h : RequestHead) × IsHead bytes h × (MAX_HEADER_FIELDS < length h.fields)) ⊎ ((length bytes ≡ MAX_HEAD_BYTES) × HasNoRequest bytes)
+    ((h : RequestHead) × IsHead bytes h × (MAX_HEADER_FIELDS < length h.fields))
+    ⊎ ((length bytes ≡ MAX_HEAD_BYTES) × HasNoRequest bytes)
 Holds malformed bytes =
-    NeverHasRequest bytes ⊎ ((h : RequestHead) × IsHead bytes h × (counted_length (fields_of h) ≡ None))
+    NeverHasRequest bytes ⊎ ((h : RequestHead) × IsHead bytes h
+    × (counted_length (fields_of h) ≡ None))
 Holds encoded bytes = (h : RequestHead) × IsHead bytes h × (is_encoded (fields_of h) ≡ true)
 Holds body_too_large bytes =
-    (h : RequestHead) × (n : ℕ) × IsHead bytes h × (counted_length (fields_of h) ≡ Some n) × (MAX_BODY_BYTES < n)
+    (h : RequestHead) × (n : ℕ) × IsHead bytes h × (counted_length (fields_of h) ≡ Some n)
+    × (MAX_BODY_BYTES < n)
 Holds whole bytes =
-    (h : RequestHead) × (body : List ℕ) × ReadsRequest bytes h body × (counted_length (fields_of h) ≡ Some (length body))
+    (h : RequestHead) × (body : List ℕ) × ReadsRequest bytes h body
+    × (counted_length (fields_of h) ≡ Some (length body))
 
--- nothing holds, or, inside a request's target, that the bytes are malformed: a reader may wait for the
--- target's end before it says so
+-- nothing holds, or, inside a request's target, that the bytes are malformed: a reader may wait for
+-- the target's end before it says so
 abbrev pub IsPassed : List ℕ → Type 0
 IsPassed bytes = (r : Ruling) → Holds r bytes → (r ≡ malformed) × EndsInTarget bytes
 
@@ -72,7 +79,8 @@ pub record IsMessage (bytes : List ℕ) (m : Message) (n : ℕ) (h : RequestHead
 -- what is heard in the bytes
 abbrev pub Hears : List ℕ → Heard → Type 0
 Hears bytes (Whole m n) = IsDecided bytes n whole × ((h : RequestHead) × IsMessage bytes m n h)
-Hears bytes (Bad status) = (n : ℕ) × (r : Ruling) × IsDecided bytes n r × (status_of r ≡ Some status)
+Hears bytes (Bad status) = (n : ℕ) × (r : Ruling) × IsDecided bytes n r
+    × (status_of r ≡ Some status)
 Hears bytes More = (m : ℕ) → m ≤ length bytes → IsPassed (take m bytes)
 
 -- however the bytes go on, nothing is decided before there are n of them

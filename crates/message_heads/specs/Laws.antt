@@ -10,13 +10,16 @@ abbrev pub IsOpen : List ℕ → ℕ → Ruling → Type 0
 IsOpen bytes n r = (r ≡ malformed) × EndsInTarget (take n bytes)
 
 abbrev pub AtMostOneDecision : Type 0
-AtMostOneDecision = (bytes : List ℕ) (n m : ℕ) (r q : Ruling) → IsDecided bytes n r → IsDecided bytes m q
+AtMostOneDecision = (bytes : List ℕ) (n m : ℕ) (r q : Ruling) → IsDecided bytes n r
+    → IsDecided bytes m q
     → ((n ≡ m) × (r ≡ q)) ⊎ (IsOpen bytes n r ⊎ IsOpen bytes m q)
 
 abbrev pub DecidedIsNotPassed : Type 0
-DecidedIsNotPassed = (bytes : List ℕ) (n : ℕ) (r : Ruling) → IsDecided bytes n r → ((m : ℕ) → m ≤ length bytes → IsPassed (take m bytes)) → IsOpen bytes n r
+DecidedIsNotPassed = (bytes : List ℕ) (n : ℕ) (r : Ruling) → IsDecided bytes n r
+    → ((m : ℕ) → m ≤ length bytes → IsPassed (take m bytes)) → IsOpen bytes n r
 
 -- what was heard stays heard where more bytes follow
 abbrev pub HeardIsKept : Type 0
-HeardIsKept = (bytes more : List ℕ) → ((m : Message) (n : ℕ) → Hears bytes (Whole m n) → Hears (bytes ++ more) (Whole m n))
+HeardIsKept = (bytes more : List ℕ)
+    → ((m : Message) (n : ℕ) → Hears bytes (Whole m n) → Hears (bytes ++ more) (Whole m n))
     × ((status : ℕ) → Hears bytes (Bad status) → Hears (bytes ++ more) (Bad status))

@@ -42,7 +42,8 @@ said_in bytes m = record {
 -- the bytes are these messages, one after another, and then the rest
 abbrev pub AreMessages : List ℕ → List Said → List ℕ → Type 0
 AreMessages bytes [] rest = bytes ≡ rest
-AreMessages bytes (said ∷ saids) rest = (n : ℕ) × IsWhole bytes n said × AreMessages (drop n bytes) saids rest
+AreMessages bytes (said ∷ saids) rest = (n : ℕ) × IsWhole bytes n said
+    × AreMessages (drop n bytes) saids rest
 
 -- what a stream ends in: a bad message, with the status of its answer, or bytes that are none yet
 pub data StreamEnd : Type 0 where
@@ -51,10 +52,12 @@ pub data StreamEnd : Type 0 where
 
 -- the whole messages from the front, then one bad message or a rest to which more has to come
 abbrev pub IsStream : List ℕ → List Said → StreamEnd → Type 0
-IsStream bytes saids (bad status) = (rest : List ℕ) × AreMessages bytes saids rest × Hears rest (Bad status)
+IsStream bytes saids (bad status) = (rest : List ℕ) × AreMessages bytes saids rest
+    × Hears rest (Bad status)
 IsStream bytes saids (open_rest rest) = AreMessages bytes saids rest × Hears rest More
 
 -- as many messages from the front are the same, and leave the same bytes
 abbrev pub OneStream : Type 0
-OneStream = (bytes : List ℕ) (saids others : List Said) (rest left : List ℕ) → AreMessages bytes saids rest → AreMessages bytes others left
+OneStream = (bytes : List ℕ) (saids others : List Said) (rest left : List ℕ)
+    → AreMessages bytes saids rest → AreMessages bytes others left
     → length saids ≡ length others → (saids ≡ others) × (rest ≡ left)

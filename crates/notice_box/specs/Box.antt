@@ -1,5 +1,6 @@
 -- The notices that were made, and which of them wait.
-use Rattle.std.specs.Prelude.{◌≡◌, ℕ, Bool, true, false, ⊤, not, ◌+◌, ◌<◌, ◌≤◌, ◌==◌, ◌&&◌, List, [], ◌∷◌, length, map, filter, slice_index_or, Option, Some, None}
+use Rattle.std.specs.Prelude.{◌≡◌, ℕ, Bool, true, false, ⊤, not, ◌+◌, ◌<◌, ◌≤◌, ◌==◌, ◌&&◌, List}
+use Rattle.std.specs.Prelude.{[], ◌∷◌, length, map, filter, slice_index_or, Option, Some, None}
 use Rattle.burn_core.specs.declared.alert.State.TheVariants.{Quiet}
 use Rattle.notice_box.specs.declared.notice.Notice.{Notice}
 
@@ -31,7 +32,8 @@ abbrev pub taken : List (Notice × Bool) → ℕ → List (Notice × Bool)
 taken made number = map (λ kept. (kept.0, kept.1 && not (kept.0.number == number))) made
 
 abbrev pub no_notice : Notice × Bool
-no_notice = (record { number = 0; at = 0; slo = []; objective = 0; policy = []; state = Quiet }, false)
+no_notice =
+    (record { number = 0; at = 0; slo = []; objective = 0; policy = []; state = Quiet }, false)
 
 -- whether a notice waits at a place of the list; none behind its end
 abbrev pub waits : List (Notice × Bool) → ℕ → Bool
@@ -41,10 +43,12 @@ waits made place = (slice_index_or made place no_notice).1
 abbrev pub IsNext : (ℕ → Bool) → ℕ → Option ℕ → Type 0
 IsNext waiting from None = (place : ℕ) → from ≤ place → waiting place ≡ false
 IsNext waiting from (Some next) =
-    (from ≤ next) × (waiting next ≡ true) × ((place : ℕ) → from ≤ place → place < next → waiting place ≡ false)
+    (from ≤ next) × (waiting next ≡ true)
+    × ((place : ℕ) → from ≤ place → place < next → waiting place ≡ false)
 
 -- the last place before a place at which something waits
 abbrev pub IsLast : (ℕ → Bool) → ℕ → Option ℕ → Type 0
 IsLast waiting until None = (place : ℕ) → place < until → waiting place ≡ false
 IsLast waiting until (Some last) =
-    (last < until) × (waiting last ≡ true) × ((place : ℕ) → last < place → place < until → waiting place ≡ false)
+    (last < until) × (waiting last ≡ true)
+    × ((place : ℕ) → last < place → place < until → waiting place ≡ false)

@@ -1,5 +1,6 @@
 -- The places that wait, each linked with the one before and the one behind it.
-use Rattle.std.specs.Prelude.{◌≡◌, ℕ, Bool, true, false, ◌+◌, ◌<◌, ◌==◌, ◌^◌, List, length, slice_index_or, Option, Some, None}
+use Rattle.std.specs.Prelude.{◌≡◌, ℕ, Bool, true, false, ◌+◌, ◌<◌, ◌==◌, ◌^◌, List, length}
+use Rattle.std.specs.Prelude.{slice_index_or, Option, Some, None}
 use Rattle.notice_box.specs.declared.links.Link.{Link}
 use Rattle.notice_box.specs.declared.notice.Notice.{Notice}
 use Rattle.notice_box.specs.Box.{AreNumbered, IsLast, IsNext, count_waiting, notices_of, waits}
@@ -24,7 +25,8 @@ if_there None there else_ = else_
 if_there (Some at) there else_ = there
 
 -- The links of the places that wait lead to the next and to the last one that waits.
-pub record AreLinked (waiting : ℕ → Bool) (links : List Link) (first last : Option ℕ) (end : ℕ) : Type 0 where
+pub record AreLinked (waiting : ℕ → Bool) (links : List Link) (first last : Option ℕ)
+    (end : ℕ) : Type 0 where
   pub beyond : (place : ℕ) → waiting place ≡ true → place < end
   pub first_is : IsNext waiting 0 first
   pub last_is : IsLast waiting end last
@@ -32,7 +34,8 @@ pub record AreLinked (waiting : ℕ → Bool) (links : List Link) (first last : 
   pub later : (place : ℕ) → waiting place ≡ true → IsNext waiting (place + 1) (later_at links place)
 
 -- what is kept of a box
-pub record IsKept (made : List (Notice × Bool)) (links : List Link) (first last : Option ℕ) (waiting : ℕ) : Type 0 where
+pub record IsKept (made : List (Notice × Bool)) (links : List Link) (first last : Option ℕ)
+    (waiting : ℕ) : Type 0 where
   pub few : length made < 2 ^ 32
   pub numbered : AreNumbered 1 (notices_of made)
   pub lengths : length links ≡ length made

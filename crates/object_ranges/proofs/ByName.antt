@@ -1,5 +1,6 @@
 -- The ranges of what the objects of a catalog give by their names.
-use Rattle.std.proofs.Common.{◌≡◌, ℕ, zero, suc, ◌<◌, ◌≤◌, Bool, true, false, List, [], ◌∷◌, map, Option, Some, None, All, cond, refl, subst, arith}
+use Rattle.std.proofs.Common.{◌≡◌, ℕ, zero, suc, ◌<◌, ◌≤◌, Bool, true, false, List, [], ◌∷◌, map}
+use Rattle.std.proofs.Common.{Option, Some, None, All, cond, refl, subst, arith}
 use Rattle.std.specs.Prelude.{slice_get, option_map, option_and_then, unwrap_or, IfSome, IsSome}
 use Rattle.std.specs.List.{AllByRecursion}
 use Rattle.std.specs.Str.{bytes_eq}
@@ -32,31 +33,43 @@ use Rattle.slo_catalog.specs.References.{names_in, page, ticket}
 use Rattle.window_sums.specs.Slices.{width_of}
 use Rattle.office_history.specs.declared.Measure.{Measure}
 use Rattle.office_history.specs.Alerts.{rule_of, condition_named, first_condition, rule_named}
-use Rattle.office_history.specs.Objectives.{reading_named, method_of, measure_of, slo_named, measures_with, measures_of, measure_at}
-use Rattle.object_ranges.specs.Ranges.{IsWidth, IsSliceTarget, IsObjective, HasObjectives, IsWindow, IsCondition}
+use Rattle.office_history.specs.Objectives.{reading_named, method_of, measure_of, slo_named}
+use Rattle.office_history.specs.Objectives.{measures_with, measures_of, measure_at}
+use Rattle.object_ranges.specs.Ranges.{IsWidth, IsSliceTarget, IsObjective, HasObjectives, IsWindow}
+use Rattle.object_ranges.specs.Ranges.{IsCondition}
 use Rattle.object_ranges.specs.Measures.{HasSliceTarget, IsMeasure}
 use Rattle.object_ranges.proofs.Tables.{IsSlo}
 use Rattle.object_ranges.proofs.Documents.{ReadsBack, slos, conditions}
 
 -- OBJECTS BY THEIR NAMES
 
-found_of : (P : Object → Type 0) (os : List Object) (kind : Kind) (name : List ℕ) (p : Object) → find_in os kind name ≡ Some p → AllByRecursion P os → P p
+found_of : (P : Object → Type 0) (os : List Object) (kind : Kind) (name : List ℕ) (p : Object)
+    → find_in os kind name ≡ Some p → AllByRecursion P os → P p
 found_of P [] kind name p e all = absurd (let f : ⊥ = cc e in f)
-found_of P (o ∷ os) kind name p e all = by (is_key kind name o) e (λ f. found_of P os kind name p f all.1)
+found_of P (o ∷ os) kind name p e all =
+    by (is_key kind name o) e (λ f. found_of P os kind name p f all.1)
   where
-    by : (b : Bool) → cond b (Some o) (find_in os kind name) ≡ Some p → (find_in os kind name ≡ Some p → P p) → P p
+    by : (b : Bool) → cond b (Some o) (find_in os kind name) ≡ Some p
+        → (find_in os kind name ≡ Some p → P p) → P p
     by true f rest = subst P (let same : o ≡ p = cc f in same) all.0
     by false f rest = rest f
 
-named_of : {A : Type 0} (Q : A → Type 0) (part : Body → Option A) → ((o : Object) (a : A) → IsOfDocument o → part o.body ≡ Some a → Q a)
-    → (members : List Object) (kind : Kind) (name : List ℕ) (a : A) → All IsOfDocument members → option_and_then (λ o. part o.body) (find_in members kind name) ≡ Some a → Q a
-named_of Q part law members kind name a all e = option_and_then_some (λ o. part o.body) (find_in members kind name) a e
-    (λ o found told. law o a (found_of IsOfDocument members kind name o found (recursion_from_All IsOfDocument members all)) told)
+named_of : {A : Type 0} (Q : A → Type 0) (part : Body → Option A)
+    → ((o : Object) (a : A) → IsOfDocument o → part o.body ≡ Some a → Q a)
+    → (members : List Object) (kind : Kind) (name : List ℕ) (a : A) → All IsOfDocument members
+    → option_and_then (λ o. part o.body) (find_in members kind name) ≡ Some a → Q a
+named_of Q part law members kind name a all e =
+    option_and_then_some (λ o. part o.body) (find_in members kind name) a e
+    (λ o found told. law o a (found_of IsOfDocument members kind name o found
+    (recursion_from_All IsOfDocument members all)) told)
 
-slo_of_name : ReadsBack → (members : List Object) (name : List ℕ) (s : Slo) → All IsOfDocument members → slo_named members name ≡ Some s → IsSlo s
-slo_of_name law members name s all e = named_of IsSlo slo_in (slos law) members kinds.Slo name s all e
+slo_of_name : ReadsBack → (members : List Object) (name : List ℕ) (s : Slo)
+    → All IsOfDocument members → slo_named members name ≡ Some s → IsSlo s
+slo_of_name law members name s all e =
+    named_of IsSlo slo_in (slos law) members kinds.Slo name s all e
 
-pub windows_named : ReadsBack → (members : List Object) (name : List ℕ) (s : Slo) → All IsOfDocument members → slo_named members name ≡ Some s → IsWindow s.time_window
+pub windows_named : ReadsBack → (members : List Object) (name : List ℕ) (s : Slo)
+    → All IsOfDocument members → slo_named members name ≡ Some s → IsWindow s.time_window
 windows_named law members name s all e = (slo_of_name law members name s all e).window
 
 -- MEASURES
@@ -69,39 +82,58 @@ target_there : (o : Option ℕ) → IfSome o IsSliceTarget → IsSome o → IsSl
 target_there None h there = absurd (let f : ⊥ = cc there in f)
 target_there (Some n) h there = h
 
-method_width : (method : BudgetingMethod) (o : Objective) → IsObjective method o → IsWidth (width_of (method_of method o))
+method_width : (method : BudgetingMethod) (o : Objective) → IsObjective method o
+    → IsWidth (width_of (method_of method o))
 method_width budgeting.Occurrences o h = record { some = omega arith; divides = one-dvd 60 }
-method_width budgeting.Timeslices o h = width_there o.time_slice_window h.slice_width (h.has_width refl)
-method_width budgeting.RatioTimeslices o h = width_there o.time_slice_window h.slice_width (h.has_width refl)
+method_width budgeting.Timeslices o h =
+    width_there o.time_slice_window h.slice_width (h.has_width refl)
+method_width budgeting.RatioTimeslices o h =
+    width_there o.time_slice_window h.slice_width (h.has_width refl)
 
-method_target : (method : BudgetingMethod) (o : Objective) → IsObjective method o → HasSliceTarget (method_of method o)
+method_target : (method : BudgetingMethod) (o : Objective) → IsObjective method o
+    → HasSliceTarget (method_of method o)
 method_target budgeting.Occurrences o h = tt
-method_target budgeting.Timeslices o h = target_there o.time_slice_target h.slice_target (h.has_target refl)
+method_target budgeting.Timeslices o h =
+    target_there o.time_slice_target h.slice_target (h.has_target refl)
 method_target budgeting.RatioTimeslices o h = tt
 
-got_mapped : {A B : Type 0} (f : A → B) (P : A → Type 0) (Q : B → Type 0) → ((a : A) → P a → Q (f a)) → (xs : List A) → AllByRecursion P xs → (n : ℕ) (b : B) → slice_get (map f xs) n ≡ Some b → Q b
+got_mapped : {A B : Type 0} (f : A → B) (P : A → Type 0) (Q : B → Type 0)
+    → ((a : A) → P a → Q (f a)) → (xs : List A) → AllByRecursion P xs → (n : ℕ) (b : B)
+    → slice_get (map f xs) n ≡ Some b → Q b
 got_mapped f P Q h [] all n b e = absurd (let g : ⊥ = cc e in g)
 got_mapped f P Q h (x ∷ xs) all zero b e = subst Q (let same : f x ≡ b = cc e in same) (h x all.0)
 got_mapped f P Q h (x ∷ xs) all (suc n) b e = got_mapped f P Q h xs all.1 n b e
 
-pub objective_measure : (name : List ℕ) (s : Slo) (reading : Reading) (o : Objective) → IsObjective s.budgeting_method o → IsMeasure (measure_of name s reading o)
-objective_measure name s reading o h = record { target = h.target; width = method_width s.budgeting_method o h; slice_target = method_target s.budgeting_method o h }
+pub objective_measure : (name : List ℕ) (s : Slo) (reading : Reading) (o : Objective)
+    → IsObjective s.budgeting_method o → IsMeasure (measure_of name s reading o)
+objective_measure name s reading o h = record {
+  target = h.target;
+  width = method_width s.budgeting_method o h;
+  slice_target = method_target s.budgeting_method o h;
+}
 
-measure_with : (name : List ℕ) (s : Slo) → HasObjectives s → (reading : Option Reading) (n : ℕ) (m : Measure) → slice_get (measures_with name s reading) n ≡ Some m → IsMeasure m
+measure_with : (name : List ℕ) (s : Slo)
+    → HasObjectives s → (reading : Option Reading) (n : ℕ) (m : Measure)
+    → slice_get (measures_with name s reading) n ≡ Some m → IsMeasure m
 measure_with name s h None n m e = absurd (let f : ⊥ = cc e in f)
-measure_with name s h (Some reading) n m e = got_mapped (measure_of name s reading) (IsObjective s.budgeting_method) IsMeasure (objective_measure name s reading) s.objectives
+measure_with name s h (Some reading) n m e = got_mapped (measure_of name s reading)
+    (IsObjective s.budgeting_method) IsMeasure (objective_measure name s reading) s.objectives
     (recursion_from_All (IsObjective s.budgeting_method) s.objectives h.each) n m e
 
-pub measures : ReadsBack → (members : List Object) (name : List ℕ) (n : ℕ) (m : Measure) → All IsOfDocument members → measure_at members name n ≡ Some m → IsMeasure m
+pub measures : ReadsBack → (members : List Object) (name : List ℕ) (n : ℕ) (m : Measure)
+    → All IsOfDocument members → measure_at members name n ≡ Some m → IsMeasure m
 measures law members name n m all e = by (slo_named members name) refl e
   where
-    by : (s : Option Slo) → slo_named members name ≡ s → slice_get (measures_of members name s) n ≡ Some m → IsMeasure m
+    by : (s : Option Slo) → slo_named members name ≡ s
+        → slice_get (measures_of members name s) n ≡ Some m → IsMeasure m
     by None f g = absurd (let h : ⊥ = cc g in h)
-    by (Some s) f g = measure_with name s (slo_of_name law members name s all f).objectives (reading_named members s.indicator) n m g
+    by (Some s) f g = measure_with name s (slo_of_name law members name s all f).objectives
+        (reading_named members s.indicator) n m g
 
 -- RULES
 
-wait_short : (o : Option Duration) → IfSome o (λ d. minutes_of d ≤ 43_200) → unwrap_or (option_map minutes_of o) 0 ≤ 43_200
+wait_short : (o : Option Duration) → IfSome o (λ d. minutes_of d ≤ 43_200)
+    → unwrap_or (option_map minutes_of o) 0 ≤ 43_200
 wait_short None h = omega arith
 wait_short (Some d) h = h
 
@@ -110,26 +142,48 @@ pub record IsSomeRule (r : AlertRule) : Type 0 where
   pub looks_back : 0 < lookback_of r
 
 pub condition_rule : (c : Condition) → IsCondition c → IsSomeRule (rule_of c)
-condition_rule c h = record { rule = (h.threshold, h.short, wait_short c.alert_after h.wait); looks_back = h.some }
+condition_rule c h = record {
+  rule = (h.threshold, h.short, wait_short c.alert_after h.wait);
+  looks_back = h.some;
+}
 
-mapped_rule : (o : Option AlertCondition) → ((c : AlertCondition) → o ≡ Some c → IsCondition c.condition) → (r : AlertRule) → option_map (λ (c : AlertCondition). rule_of c.condition) o ≡ Some r → IsSomeRule r
+mapped_rule : (o : Option AlertCondition)
+    → ((c : AlertCondition) → o ≡ Some c → IsCondition c.condition) → (r : AlertRule)
+    → option_map (λ (c : AlertCondition). rule_of c.condition) o ≡ Some r → IsSomeRule r
 mapped_rule None h r e = absurd (let f : ⊥ = cc e in f)
-mapped_rule (Some c) h r e = subst IsSomeRule (let same : rule_of c.condition ≡ r = cc e in same) (condition_rule c.condition (h c refl))
+mapped_rule (Some c) h r e = subst IsSomeRule (let same : rule_of c.condition ≡ r = cc e in same)
+    (condition_rule c.condition (h c refl))
 
-condition_of_name : ReadsBack → (members : List Object) (name : List ℕ) (c : AlertCondition) → All IsOfDocument members → condition_named members name ≡ Some c → IsCondition c.condition
-condition_of_name law members name c all e = named_of (λ c. IsCondition c.condition) condition_in (conditions law) members kinds.AlertCondition name c all e
+condition_of_name : ReadsBack → (members : List Object) (name : List ℕ) (c : AlertCondition)
+    → All IsOfDocument members → condition_named members name ≡ Some c → IsCondition c.condition
+condition_of_name law members name c all e = named_of (λ c. IsCondition c.condition) condition_in
+    (conditions law) members kinds.AlertCondition name c all e
 
-first_of_policy : ReadsBack → (members : List Object) → All IsOfDocument members → (p : AlertPolicy) (c : AlertCondition) → first_condition members p ≡ Some c → IsCondition c.condition
-first_of_policy law members all p c e = option_and_then_some (condition_named members) (slice_get (names_in p.conditions) 0) c e (λ n _ told. condition_of_name law members n c all told)
+first_of_policy : ReadsBack → (members : List Object) → All IsOfDocument members
+    → (p : AlertPolicy) (c : AlertCondition) → first_condition members p ≡ Some c
+    → IsCondition c.condition
+first_of_policy law members all p c e =
+    option_and_then_some (condition_named members) (slice_get (names_in p.conditions) 0) c e
+    (λ n _ told. condition_of_name law members n c all told)
 
-pub rules : ReadsBack → (members : List Object) (name : List ℕ) (r : AlertRule) → All IsOfDocument members → rule_named members name ≡ Some r → IsSomeRule r
+pub rules : ReadsBack → (members : List Object) (name : List ℕ) (r : AlertRule)
+    → All IsOfDocument members → rule_named members name ≡ Some r → IsSomeRule r
 rules law members name r all e = by (bytes_eq name page) (bytes_eq name ticket) e
   where
-    of_policy : option_map (λ (c : AlertCondition). rule_of c.condition) (option_and_then (first_condition members) (policy_named members name)) ≡ Some r → IsSomeRule r
-    of_policy f = mapped_rule (option_and_then (first_condition members) (policy_named members name))
-        (λ c g. option_and_then_some (first_condition members) (policy_named members name) c g (λ p _ told. first_of_policy law members all p c told)) r f
+    of_policy : option_map (λ (c : AlertCondition). rule_of c.condition)
+        (option_and_then (first_condition members) (policy_named members name)) ≡ Some r
+        → IsSomeRule r
+    of_policy f =
+        mapped_rule (option_and_then (first_condition members) (policy_named members name))
+        (λ c g. option_and_then_some (first_condition members) (policy_named members name) c g
+        (λ p _ told. first_of_policy law members all p c told)) r f
 
-    by : (a b : Bool) → cond a (Some Page) (cond b (Some Ticket) (option_map (λ (c : AlertCondition). rule_of c.condition) (option_and_then (first_condition members) (policy_named members name)))) ≡ Some r → IsSomeRule r
-    by true b f = subst IsSomeRule (let same : Page ≡ r = cc f in same) (record { rule = tt; looks_back = omega arith })
-    by false true f = subst IsSomeRule (let same : Ticket ≡ r = cc f in same) (record { rule = tt; looks_back = omega arith })
+    by : (a b : Bool) → cond a
+        (Some Page) (cond b (Some Ticket) (option_map (λ (c : AlertCondition). rule_of c.condition)
+        (option_and_then (first_condition members) (policy_named members name)))) ≡ Some r
+        → IsSomeRule r
+    by true b f = subst IsSomeRule (let same : Page ≡ r = cc f in same)
+        (record { rule = tt; looks_back = omega arith })
+    by false true f = subst IsSomeRule (let same : Ticket ≡ r = cc f in same)
+        (record { rule = tt; looks_back = omega arith })
     by false false f = of_policy f

@@ -1,5 +1,6 @@
 -- What holds of each value that a line of a table gives, and of the items of a list.
-use Rattle.std.proofs.Common.{◌≡◌, ℕ, ◌+◌, Bool, true, false, List, [], ◌∷◌, ◌++◌, Option, Some, None, Ok, Err, cond, length, refl, ap, ◌∙◌, subst, arith}
+use Rattle.std.proofs.Common.{◌≡◌, ℕ, ◌+◌, Bool, true, false, List, [], ◌∷◌, ◌++◌, Option, Some}
+use Rattle.std.proofs.Common.{None, Ok, Err, cond, length, refl, ap, ◌∙◌, subst, arith}
 use Rattle.std.specs.Prelude.{IfSome, IsSome, IsNone}
 use Rattle.std.specs.List.{AllByRecursion}
 use Rattle.yaml_subset.specs.Tree.{Tree, mapping, sequence, scalar, Entries, Trees, no_trees, item}
@@ -7,10 +8,14 @@ use Rattle.yaml_subset.specs.Spelling.{Spelling}
 use Rattle.slo_objects.specs.declared.Object.{Object}
 use Rattle.slo_objects.specs.declared.Rule.{Rule}
 use Rattle.slo_objects.specs.declared.Rule.TheVariants.{Missing, Both, Neither, NotList, ListLength}
-use Rattle.slo_objects.specs.Form.{Key, Answer, gives, refused, mapped, on_some, field_of, Form, required, optional, required_where, required_unless, barred_field, field_or, either_field, one_of, holding, count, each, with_item, list_with, only_in, single}
+use Rattle.slo_objects.specs.Form.{Key, Answer, gives, refused, mapped, on_some, field_of, Form}
+use Rattle.slo_objects.specs.Form.{required, optional, required_where, required_unless}
+use Rattle.slo_objects.specs.Form.{barred_field, field_or, either_field, one_of, holding, count}
+use Rattle.slo_objects.specs.Form.{each, with_item, list_with, only_in, single}
 use Rattle.object_ranges.proofs.Reading.{ok_same, err_not_ok, refused_not_ok, Reads, mapped_gave}
 
-pub required_gave : {A : Type 0} (Q : A → Type 0) (key : Key) (f : Form A) → Reads f Q → (es : Entries) (y : List Object × A) → (required key f).read es ≡ Ok y → Q y.1
+pub required_gave : {A : Type 0} (Q : A → Type 0) (key : Key) (f : Form A) → Reads f Q
+    → (es : Entries) (y : List Object × A) → (required key f).read es ≡ Ok y → Q y.1
 required_gave {A} Q key f reads es y e = by (field_of key es) e
   where
     by : (o : Option Tree) → on_some (refused key Missing) (f.read key) o ≡ Ok y → Q y.1
@@ -18,41 +23,62 @@ required_gave {A} Q key f reads es y e = by (field_of key es) e
     by (Some t) g = reads key t y g
 
 -- a field that is there, where there is one
-field_gave : {A : Type 0} (Q : A → Type 0) (key : Key) (f : Form A) → Reads f Q → (t : Tree) (y : List Object × Option A) → mapped Some (f.read key t) ≡ Ok y → IfSome y.1 Q × IsSome y.1
-field_gave Q key f reads t y e = mapped_gave Q (λ o. IfSome o Q × IsSome o) Some (λ a q. (q, refl)) (f.read key t) (reads key t) y e
+field_gave : {A : Type 0} (Q : A → Type 0) (key : Key) (f : Form A)
+    → Reads f Q → (t : Tree) (y : List Object × Option A) → mapped Some (f.read key t) ≡ Ok y
+    → IfSome y.1 Q × IsSome y.1
+field_gave Q key f reads t y e = mapped_gave Q (λ o. IfSome o Q × IsSome o) Some (λ a q. (q, refl))
+    (f.read key t) (reads key t) y e
 
-none_gave : {A : Type 0} (R : Option A → Type 0) (y : List Object × Option A) → (let r : Answer (Option A) = gives None in r) ≡ Ok y → R None → R y.1
+none_gave : {A : Type 0} (R : Option A → Type 0) (y : List Object × Option A)
+    → (let r : Answer (Option A) = gives None in r) ≡ Ok y → R None → R y.1
 none_gave R y e h = subst R (ap (λ z. z.1) (ok_same ([], None) y e)) h
 
-pub optional_gave : {A : Type 0} (Q : A → Type 0) (key : Key) (f : Form A) → Reads f Q → (es : Entries) (y : List Object × Option A) → (optional key f).read es ≡ Ok y → IfSome y.1 Q
+pub optional_gave : {A : Type 0} (Q : A → Type 0) (key : Key) (f : Form A) → Reads f Q
+    → (es : Entries) (y : List Object × Option A) → (optional key f).read es ≡ Ok y → IfSome y.1 Q
 optional_gave {A} Q key f reads es y e = by (field_of key es) e
   where
     by : (o : Option Tree) → field_or (gives None) f key o ≡ Ok y → IfSome y.1 Q
     by None g = none_gave (λ o. IfSome o Q) y g tt
     by (Some t) g = (field_gave Q key f reads t y g).0
 
-pub required_where_gave : {A : Type 0} (Q : A → Type 0) (needed : Bool) (key : Key) (f : Form A) → Reads f Q → (es : Entries) (y : List Object × Option A) → (required_where needed key f).read es ≡ Ok y
+pub required_where_gave : {A : Type 0} (Q : A → Type 0) (needed : Bool) (key : Key) (f : Form A)
+    → Reads f Q → (es : Entries) (y : List Object × Option A)
+    → (required_where needed key f).read es ≡ Ok y
     → IfSome y.1 Q × (needed ≡ true → IsSome y.1)
 required_where_gave {A} Q needed key f reads es y e = by (field_of key es) needed e
   where
-    by : (o : Option Tree) (b : Bool) → field_or (cond b (refused key Missing) (gives None)) f key o ≡ Ok y → IfSome y.1 Q × (b ≡ true → IsSome y.1)
+    by : (o : Option Tree) (b : Bool) → field_or (cond b (refused key Missing) (gives None)) f key o
+        ≡ Ok y → IfSome y.1 Q × (b ≡ true → IsSome y.1)
     by None true g = refused_not_ok key Missing y g
-    by None false g = none_gave (λ o. IfSome o Q × (false ≡ true → IsSome o)) y g (tt, λ no. absurd (let f : ⊥ = cc in f))
+    by None false g = none_gave (λ o. IfSome o Q × (false ≡ true → IsSome o)) y g (
+      tt,
+      λ no. absurd (let f : ⊥ = cc in f),
+    )
     by (Some t) b g = let h = field_gave Q key f reads t y g in (h.0, λ _. h.1)
 
-pub required_unless_gave : {A : Type 0} (Q : A → Type 0) (barred : Bool) (key : Key) (f : Form A) → Reads f Q → (es : Entries) (y : List Object × Option A) → (required_unless barred key f).read es ≡ Ok y
+pub required_unless_gave : {A : Type 0} (Q : A → Type 0) (barred : Bool) (key : Key) (f : Form A)
+    → Reads f Q → (es : Entries) (y : List Object × Option A)
+    → (required_unless barred key f).read es ≡ Ok y
     → (barred ≡ false → IsSome y.1) × (barred ≡ true → IsNone y.1)
 required_unless_gave {A} Q barred key f reads es y e = by (field_of key es) barred e
   where
-    by : (o : Option Tree) (b : Bool) → cond b (barred_field key o) (field_or (refused key Missing) f key o) ≡ Ok y → (b ≡ false → IsSome y.1) × (b ≡ true → IsNone y.1)
-    by None true g = none_gave (λ o. (true ≡ false → IsSome o) × (true ≡ true → IsNone o)) y g (λ no. absurd (let f : ⊥ = cc in f), λ _. refl)
+    by : (o : Option Tree) (b : Bool)
+        → cond b (barred_field key o) (field_or (refused key Missing) f key o) ≡ Ok y
+        → (b ≡ false → IsSome y.1) × (b ≡ true → IsNone y.1)
+    by None true g = none_gave (λ o. (true ≡ false → IsSome o) × (true ≡ true → IsNone o)) y g
+        (λ no. absurd (let f : ⊥ = cc in f), λ _. refl)
     by None false g = refused_not_ok key Missing y g
     by (Some t) true g = refused_not_ok key Both y g
-    by (Some t) false g = (λ _. (field_gave Q key f reads t y g).1, λ no. absurd (let f : ⊥ = cc in f))
+    by (Some t) false g = (
+      λ _. (field_gave Q key f reads t y g).1,
+      λ no. absurd (let f : ⊥ = cc in f),
+    )
 
-pub one_of_gave : {A : Type 0} (Q : A → Type 0) (key : Key) (f : Form A) (other : Key) (g : Form A) (is_first : A → Bool) → Reads f Q → Reads g Q → (es : Entries) (y : List Object × A)
+pub one_of_gave : {A : Type 0} (Q : A → Type 0) (key : Key) (f : Form A) (other : Key) (g : Form A)
+    (is_first : A → Bool) → Reads f Q → Reads g Q → (es : Entries) (y : List Object × A)
     → (one_of key f other g is_first).read es ≡ Ok y → Q y.1
-one_of_gave {A} Q key f other g is_first first second es y e = by (field_of key es) (field_of other es) e
+one_of_gave {A} Q key f other g is_first first second es y e =
+    by (field_of key es) (field_of other es) e
   where
     by : (o p : Option Tree) → either_field f key g other o p ≡ Ok y → Q y.1
     by None None h = refused_not_ok key Neither y h
@@ -60,7 +86,8 @@ one_of_gave {A} Q key f other g is_first first second es y e = by (field_of key 
     by None (Some t) h = second other t y h
     by (Some t) (Some u) h = refused_not_ok key Both y h
 
-pub holding_gave : (holds : Bool) (key : Key) (rule : Rule) (es : Entries) (y : List Object × Unit {0}) → (holding holds key rule).read es ≡ Ok y → holds ≡ true
+pub holding_gave : (holds : Bool) (key : Key) (rule : Rule) (es : Entries)
+    (y : List Object × Unit {0}) → (holding holds key rule).read es ≡ Ok y → holds ≡ true
 holding_gave true key rule es y e = refl
 holding_gave false key rule es y e = refused_not_ok key rule y e
 
@@ -70,7 +97,8 @@ holding_gave false key rule es y e = refused_not_ok key rule y e
 abbrev pub HasItems : {A : Type 0} → (A → Type 0) → (ℕ → Bool) → List A → Type 0
 HasItems Q may_have list = AllByRecursion Q list × (may_have (length list) ≡ true)
 
-all_with : {A : Type 0} (Q : A → Type 0) (xs : List A) (x : A) → AllByRecursion Q xs → Q x → AllByRecursion Q (xs ++ x ∷ [])
+all_with : {A : Type 0} (Q : A → Type 0) (xs : List A) (x : A) → AllByRecursion Q xs → Q x
+    → AllByRecursion Q (xs ++ x ∷ [])
 all_with Q [] x h q = (q, tt)
 all_with Q (y ∷ ys) x h q = (h.0, all_with Q ys x h.1 q)
 
@@ -78,29 +106,42 @@ one_longer : {A : Type 0} (xs : List A) (x : A) → length (xs ++ x ∷ []) ≡ 
 one_longer [] x = refl
 one_longer (y ∷ ys) x = let e = one_longer ys x in omega arith
 
-each_gave : {A : Type 0} (Q : A → Type 0) (read : List A → Tree → Answer A) → ((before : List A) (t : Tree) (y : List Object × A) → read before t ≡ Ok y → Q y.1)
-    → (objects : List Object) (values : List A) (ts : Trees) (y : List Object × List A) → AllByRecursion Q values → each read objects values ts ≡ Ok y
+each_gave : {A : Type 0} (Q : A → Type 0) (read : List A → Tree → Answer A)
+    → ((before : List A) (t : Tree) (y : List Object × A) → read before t ≡ Ok y → Q y.1)
+    → (objects : List Object) (values : List A) (ts : Trees) (y : List Object × List A)
+    → AllByRecursion Q values → each read objects values ts ≡ Ok y
     → AllByRecursion Q y.1 × (length y.1 ≡ length values + count ts)
 each_gave Q read reads objects values no_trees y all e =
     let same = ap (λ z. z.1) (ok_same (objects, values) y e) in
-    subst (λ z. AllByRecursion Q z × (length z ≡ length values + 0)) same (all, let s : length values ≡ length values + 0 = omega arith in s)
-each_gave {A} Q read reads objects values (item t ts) y all e = by (read values t) refl e (λ os vs h g. each_gave Q read reads os vs ts y h g)
+    subst (λ z. AllByRecursion Q z × (length z ≡ length values + 0)) same (
+      all,
+      let s : length values ≡ length values + 0 = omega arith in s,
+    )
+each_gave {A} Q read reads objects values (item t ts) y all e =
+    by (read values t) refl e (λ os vs h g. each_gave Q read reads os vs ts y h g)
   where
-    by : (a : Answer A) → read values t ≡ a → with_item objects values a (λ os vs. each read os vs ts) ≡ Ok y
-        → ((os : List Object) (vs : List A) → AllByRecursion Q vs → each read os vs ts ≡ Ok y → AllByRecursion Q y.1 × (length y.1 ≡ length vs + count ts))
+    by : (a : Answer A) → read values t ≡ a
+        → with_item objects values a (λ os vs. each read os vs ts) ≡ Ok y
+        → ((os : List Object) (vs : List A) → AllByRecursion Q vs → each read os vs ts ≡ Ok y
+        → AllByRecursion Q y.1 × (length y.1 ≡ length vs + count ts))
         → AllByRecursion Q y.1 × (length y.1 ≡ length values + (1 + count ts))
     by (Ok p) f g rest =
-        let h = rest (objects ++ p.0) (values ++ p.1 ∷ []) (all_with Q values p.1 all (reads values t p f)) g in
+        let h = rest (objects ++ p.0) (values ++ p.1 ∷ [])
+        (all_with Q values p.1 all (reads values t p f)) g in
         let long = one_longer values p.1 in
         let total = h.1 in
         (h.0, omega arith)
     by (Err x) f g rest = absurd (err_not_ok x y g)
 
-pub list_reads : {A : Type 0} (Q : A → Type 0) (may_have : ℕ → Bool) (read : Key → List A → Tree → Answer A) (write : A → Spelling)
-    → ((listed : Key) (before : List A) (t : Tree) (y : List Object × A) → read listed before t ≡ Ok y → Q y.1) → Reads (list_with may_have read write) (HasItems Q may_have)
+pub list_reads : {A : Type 0} (Q : A → Type 0) (may_have : ℕ → Bool)
+    (read : Key → List A → Tree → Answer A) (write : A → Spelling)
+    → ((listed : Key) (before : List A) (t : Tree) (y : List Object × A) → read listed before t
+    ≡ Ok y → Q y.1) → Reads (list_with may_have read write) (HasItems Q may_have)
 list_reads {A} Q may_have read write reads key (sequence ts) y e = by (may_have (count ts)) refl e
   where
-    by : (b : Bool) → may_have (count ts) ≡ b → cond b (each (read key) [] [] ts) (refused key ListLength) ≡ Ok y → HasItems Q may_have y.1
+    by : (b : Bool) → may_have (count ts) ≡ b
+        → cond b (each (read key) [] [] ts) (refused key ListLength) ≡ Ok y
+        → HasItems Q may_have y.1
     by true f g = let h = each_gave Q (read key) (reads key) [] [] ts y tt g in
         let total = h.1 in
         let long : length y.1 ≡ count ts = omega arith in

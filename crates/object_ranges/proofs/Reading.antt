@@ -7,30 +7,42 @@ use Rattle.slo_objects.specs.declared.Object.{Object}
 use Rattle.slo_objects.specs.declared.Rule.{Rule}
 use Rattle.slo_objects.specs.declared.Rule.TheVariants.{NotMap}
 use Rattle.slo_objects.specs.declared.ObjectFault.{ObjectFault}
-use Rattle.slo_objects.specs.Form.{Key, Answer, gives, refused, after, and_then, mapped, told, closed, Form, Rows, done, row, run, scalar_form, map_with, variant}
+use Rattle.slo_objects.specs.Form.{Key, Answer, gives, refused, after, and_then, mapped, told}
+use Rattle.slo_objects.specs.Form.{closed, Form, Rows, done, row, run, scalar_form, map_with}
+use Rattle.slo_objects.specs.Form.{variant}
 
 pub ok_same : {X : Type 0} (x y : X) → (let r : Result X ObjectFault = Ok x in r) ≡ Ok y → x ≡ y
 ok_same x y e = cc
 
-pub err_not_ok : {X : Type 0} (f : ObjectFault) (y : X) → (let r : Result X ObjectFault = Err f in r) ≡ Ok y → ⊥
+pub err_not_ok : {X : Type 0} (f : ObjectFault) (y : X)
+    → (let r : Result X ObjectFault = Err f in r) ≡ Ok y → ⊥
 err_not_ok f y e = cc
 
-pub refused_not_ok : {A Q : Type 0} (key : Key) (rule : Rule) (y : List Object × A) → (let r : Answer A = refused key rule in r) ≡ Ok y → Q
+pub refused_not_ok : {A Q : Type 0} (key : Key) (rule : Rule) (y : List Object × A)
+    → (let r : Answer A = refused key rule in r) ≡ Ok y → Q
 refused_not_ok key rule y e = absurd (err_not_ok (record { field = key; rule = rule }) y e)
 
 -- two readings that gave a value
-pub record BothGave (A B : Type 0) (a : Answer A) (f : A → Answer B) (y : List Object × B) : Type 0 where
+pub record BothGave (A B : Type 0) (a : Answer A) (f : A → Answer B)
+    (y : List Object × B) : Type 0 where
   pub first : List Object × A
   pub second : List Object × B
   pub is_first : a ≡ Ok first
   pub is_second : f first.1 ≡ Ok second
   pub value : second.1 ≡ y.1
 
-pub both_gave : {A B : Type 0} (a : Answer A) (f : A → Answer B) (y : List Object × B) → and_then a f ≡ Ok y → BothGave A B a f y
+pub both_gave : {A B : Type 0} (a : Answer A) (f : A → Answer B) (y : List Object × B)
+    → and_then a f ≡ Ok y → BothGave A B a f y
 both_gave {A} {B} (Ok p) f y e = by (f p.1) refl e
   where
     by : (r : Answer B) → f p.1 ≡ r → after p.0 r ≡ Ok y → BothGave A B (Ok p) f y
-    by (Ok q) g h = record { first = p; second = q; is_first = refl; is_second = g; value = ap (λ z. z.1) (ok_same (p.0 ++ q.0, q.1) y h) }
+    by (Ok q) g h = record {
+      first = p;
+      second = q;
+      is_first = refl;
+      is_second = g;
+      value = ap (λ z. z.1) (ok_same (p.0 ++ q.0, q.1) y h);
+    }
     by (Err x) g h = absurd (err_not_ok x y h)
 both_gave (Err x) f y e = absurd (err_not_ok x y e)
 
@@ -41,35 +53,48 @@ Reads {A} f Q = (key : Key) (t : Tree) (y : List Object × A) → f.read key t �
 -- what holds of the value that a table gives, by what each of its lines read
 abbrev pub Makes : {A : Type 0} → Rows A → Entries → (A → Type 0) → Type 0
 Makes (done a) es Q = Q a
-Makes (row {B = B} r part rest) es Q = (p : List Object × B) → r.read es ≡ Ok p → Makes (rest p.1) es Q
+Makes (row {B = B} r part rest) es Q = (p : List Object × B) → r.read es ≡ Ok p
+    → Makes (rest p.1) es Q
 
-pub made : {A : Type 0} (rows : Rows A) (es : Entries) (Q : A → Type 0) → Makes rows es Q → (known : List Key) (y : List Object × A) → run rows known es ≡ Ok y → Q y.1
+pub made : {A : Type 0} (rows : Rows A) (es : Entries) (Q : A → Type 0) → Makes rows es Q
+    → (known : List Key) (y : List Object × A) → run rows known es ≡ Ok y → Q y.1
 made (done a) es Q h known y e =
     let t = both_gave (closed known es) (λ _. gives a) y e in
     subst Q (ap (λ z. z.1) (ok_same ([], a) t.second t.is_second) ∙ t.value) h
 made (row r part rest) es Q h known y e =
     let t = both_gave (r.read es) (λ b. run (rest b) (known ++ r.keys) es) y e in
-    subst Q t.value (made (rest t.first.1) es Q (h t.first t.is_first) (known ++ r.keys) t.second t.is_second)
+    subst Q t.value (made (rest t.first.1) es Q (h t.first t.is_first) (known ++ r.keys)
+    t.second t.is_second)
 
-pub map_reads : {A : Type 0} (rows : Rows A) (Q : A → Type 0) → ((es : Entries) → Makes rows es Q) → Reads (map_with rows) Q
+pub map_reads : {A : Type 0} (rows : Rows A) (Q : A → Type 0) → ((es : Entries) → Makes rows es Q)
+    → Reads (map_with rows) Q
 map_reads rows Q h key (mapping es) y e = made rows es Q (h es) [] y e
 map_reads rows Q h key (sequence ts) y e = refused_not_ok key NotMap y e
 map_reads rows Q h key (scalar text plain) y e = refused_not_ok key NotMap y e
 
 -- a reading whose value was made another
-pub mapped_gave : {A B : Type 0} (Q : A → Type 0) (R : B → Type 0) (f : A → B) → ((a : A) → Q a → R (f a)) → (a : Answer A) → ((p : List Object × A) → a ≡ Ok p → Q p.1) → (y : List Object × B) → mapped f a ≡ Ok y → R y.1
-mapped_gave Q R f h (Ok p) q y e = subst R (ap (λ z. z.1) (ok_same (p.0, f p.1) y e)) (h p.1 (q p refl))
+pub mapped_gave : {A B : Type 0} (Q : A → Type 0) (R : B → Type 0) (f : A → B)
+    → ((a : A) → Q a → R (f a)) → (a : Answer A) → ((p : List Object × A) → a ≡ Ok p → Q p.1)
+    → (y : List Object × B) → mapped f a ≡ Ok y → R y.1
+mapped_gave Q R f h (Ok p) q y e =
+    subst R (ap (λ z. z.1) (ok_same (p.0, f p.1) y e)) (h p.1 (q p refl))
 mapped_gave Q R f h (Err x) q y e = absurd (err_not_ok x y e)
 
-pub variant_reads : {A B : Type 0} (Q : A → Type 0) (R : B → Type 0) (f : Form A) (made : A → B) (write : B → Spelling) → ((a : A) → Q a → R (made a)) → Reads f Q → Reads (variant f made write) R
+pub variant_reads : {A B : Type 0} (Q : A → Type 0) (R : B → Type 0)
+    (f : Form A) (made : A → B) (write : B → Spelling) → ((a : A) → Q a → R (made a)) → Reads f Q
+    → Reads (variant f made write) R
 variant_reads Q R f made write h reads key t = mapped_gave Q R made h (f.read key t) (reads key t)
 
 -- a scalar, by what its text stands for
-told_gave : {A : Type 0} (Q : A → Type 0) (key : Key) (r : Result A Rule) (y : List Object × A) → told key r ≡ Ok y → IfOk r Q → Q y.1
+told_gave : {A : Type 0} (Q : A → Type 0) (key : Key) (r : Result A Rule) (y : List Object × A)
+    → told key r ≡ Ok y → IfOk r Q → Q y.1
 told_gave Q key (Ok a) y e h = subst Q (ap (λ z. z.1) (ok_same ([], a) y e)) h
 told_gave Q key (Err rule) y e h = refused_not_ok key rule y e
 
-pub scalar_reads : {A : Type 0} (Q : A → Type 0) (rule : Rule) (parse : List ℕ → Result A Rule) (write : A → Spelling) → ((text : List ℕ) → IfOk (parse text) Q) → Reads (scalar_form rule parse write) Q
-scalar_reads Q rule parse write h key (scalar text plain) y e = told_gave Q key (parse text) y e (h text)
+pub scalar_reads : {A : Type 0} (Q : A → Type 0) (rule : Rule) (parse : List ℕ → Result A Rule)
+    (write : A → Spelling) → ((text : List ℕ) → IfOk (parse text) Q)
+    → Reads (scalar_form rule parse write) Q
+scalar_reads Q rule parse write h key (scalar text plain) y e =
+    told_gave Q key (parse text) y e (h text)
 scalar_reads Q rule parse write h key (mapping es) y e = refused_not_ok key rule y e
 scalar_reads Q rule parse write h key (sequence ts) y e = refused_not_ok key rule y e

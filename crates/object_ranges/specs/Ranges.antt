@@ -1,7 +1,9 @@
--- The ranges of what stands in documents (OpenSLO v1, SLO and AlertCondition). Ratios and thresholds are in billionths, times in minutes.
+-- The ranges of what stands in documents (OpenSLO v1, SLO and AlertCondition). Ratios and
+-- thresholds are in billionths, times in minutes.
 use Rattle.std.specs.Prelude.{◌≡◌, ℕ, ◌<◌, ◌≤◌, true, false, All, length, IfSome, IsSome, IsNone}
 use Rattle.std.specs.Int.{◌∣◌}
-use Rattle.slo_limits.specs.declared.TheConstants.{WHOLE, MAX_THRESHOLD, MAX_WINDOW, MAX_LOOKBACK, MAX_OBJECTIVES, MAX_POLICIES}
+use Rattle.slo_limits.specs.declared.TheConstants.{WHOLE, MAX_THRESHOLD, MAX_WINDOW, MAX_LOOKBACK}
+use Rattle.slo_limits.specs.declared.TheConstants.{MAX_OBJECTIVES, MAX_POLICIES}
 use Rattle.slo_objects.specs.declared.Slo.{Slo}
 use Rattle.slo_objects.specs.declared.slo.TimeWindow.{TimeWindow}
 use Rattle.slo_objects.specs.declared.slo.BudgetingMethod.{BudgetingMethod}
@@ -21,7 +23,8 @@ pub record IsSliceTarget (target : ℕ) : Type 0 where
   pub some : 0 < target
   pub within_one : target ≤ WHOLE
 
--- An objective under a budgeting method: its target is below one, and what the method wants of slices is there.
+-- An objective under a budgeting method: its target is below one, and what the method wants of
+-- slices is there.
 pub record IsObjective (method : BudgetingMethod) (o : Objective) : Type 0 where
   pub target : o.target < WHOLE
   pub slice_target : IfSome o.time_slice_target IsSliceTarget
@@ -36,7 +39,8 @@ pub record HasObjectives (slo : Slo) : Type 0 where
   pub each : All (IsObjective slo.budgeting_method) slo.objectives
   pub few_policies : IfSome slo.alert_policies (λ policies. length policies ≤ MAX_POLICIES)
 
--- A window lasts at least a minute and at most 366 days; one that isn't rolling has a calendar, whose starts can follow each other so.
+-- A window lasts at least a minute and at most 366 days; one that isn't rolling has a calendar,
+-- whose starts can follow each other so.
 pub record IsWindow (window : TimeWindow) : Type 0 where
   pub some : 0 < minutes_of window.duration
   pub short : minutes_of window.duration ≤ MAX_WINDOW
@@ -44,7 +48,8 @@ pub record IsWindow (window : TimeWindow) : Type 0 where
   pub has_calendar : is_rolling window.is_rolling ≡ false → IsSome window.calendar
   pub has_none : is_rolling window.is_rolling ≡ true → IsNone window.calendar
 
--- A condition's threshold is at most 10,000, its lookback at least a minute and at most 30 days, and it waits at most 30 days.
+-- A condition's threshold is at most 10,000, its lookback at least a minute and at most 30 days,
+-- and it waits at most 30 days.
 pub record IsCondition (condition : Condition) : Type 0 where
   pub threshold : condition.threshold ≤ MAX_THRESHOLD
   pub some : 0 < minutes_of condition.lookback_window

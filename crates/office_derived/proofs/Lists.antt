@@ -6,16 +6,19 @@ use Rattle.std.proofs.lemmas.Grind.{flat_map-append}
 use Rattle.office_history.specs.Lists.{with_before, last_of}
 use Rattle.std.specs.Prelude.{Some}
 
-pub map-map : {A B C : Type 0} (f : B → C) (g : A → B) (xs : List A) → map f (map g xs) ≡ map (λ x. f (g x)) xs
+pub map-map : {A B C : Type 0} (f : B → C) (g : A → B) (xs : List A)
+    → map f (map g xs) ≡ map (λ x. f (g x)) xs
 map-map f g [] = refl
 map-map f g (x ∷ xs) = ap (λ ys. f (g x) ∷ ys) (map-map f g xs)
 
-pub map_ext : {A B : Type 0} (f g : A → B) → ((x : A) → f x ≡ g x) → (xs : List A) → map f xs ≡ map g xs
+pub map_ext : {A B : Type 0} (f g : A → B) → ((x : A) → f x ≡ g x) → (xs : List A)
+    → map f xs ≡ map g xs
 map_ext f g h [] = refl
 map_ext f g h (x ∷ xs) = ap (λ y. y ∷ map f xs) (h x) ∙ ap (λ ys. g x ∷ ys) (map_ext f g h xs)
 
 pub with_before-append : {A : Type 0} (xs ys : List A) →
-    with_before (xs ++ ys) ≡ with_before xs ++ map (λ (p : List A × A). (xs ++ p.0, p.1)) (with_before ys)
+    with_before (xs ++ ys) ≡ with_before xs
+    ++ map (λ (p : List A × A). (xs ++ p.0, p.1)) (with_before ys)
 with_before-append {A = A} [] ys = sym (map_same (with_before ys))
   where
     map_same : (ps : List (List A × A)) → map (λ (p : List A × A). ([] ++ p.0, p.1)) ps ≡ ps
@@ -24,13 +27,17 @@ with_before-append {A = A} [] ys = sym (map_same (with_before ys))
 with_before-append {A = A} (x ∷ xs) ys =
     ap (λ ps. ([], x) ∷ map (λ (p : List A × A). (x ∷ p.0, p.1)) ps) (with_before-append xs ys)
     ∙ ap (λ ps. ([], x) ∷ ps)
-    (map-append (λ (p : List A × A). (x ∷ p.0, p.1)) (with_before xs) (map (λ (p : List A × A). (xs ++ p.0, p.1)) (with_before ys))
+    (map-append (λ (p : List A × A). (x ∷ p.0, p.1)) (with_before xs)
+    (map (λ (p : List A × A). (xs ++ p.0, p.1)) (with_before ys))
     ∙ ap (λ ps. map (λ (p : List A × A). (x ∷ p.0, p.1)) (with_before xs) ++ ps)
-    (map-map (λ (p : List A × A). (x ∷ p.0, p.1)) (λ (p : List A × A). (xs ++ p.0, p.1)) (with_before ys)))
+    (map-map (λ (p : List A × A). (x ∷ p.0, p.1)) (λ (p : List A × A). (xs ++ p.0, p.1))
+    (with_before ys)))
 
 -- one item more comes with all before it
-pub with_before-push : {A : Type 0} (xs : List A) (x : A) → with_before (xs ++ x ∷ []) ≡ with_before xs ++ (xs, x) ∷ []
-with_before-push {A = A} xs x = with_before-append xs (x ∷ []) ∙ ap (λ (ys : List A). with_before xs ++ (ys, x) ∷ []) (append-nil xs)
+pub with_before-push : {A : Type 0} (xs : List A) (x : A)
+    → with_before (xs ++ x ∷ []) ≡ with_before xs ++ (xs, x) ∷ []
+with_before-push {A = A} xs x = with_before-append xs (x ∷ [])
+    ∙ ap (λ (ys : List A). with_before xs ++ (ys, x) ∷ []) (append-nil xs)
 
 -- what is made of each item with those before it gains what is made of one item more
 pub flat-push : {A B : Type 0} (f : List A × A → List B) (xs : List A) (x : A) →

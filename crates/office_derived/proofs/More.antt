@@ -1,5 +1,6 @@
 -- What one entry more does to what a history says.
-use Rattle.std.proofs.Common.{◌≡◌, ℕ, ◌||◌, List, [], ◌∷◌, ◌++◌, refl, ap, ◌∙◌, map, fold, max, Bool, true, false}
+use Rattle.std.proofs.Common.{◌≡◌, ℕ, ◌||◌, List, [], ◌∷◌, ◌++◌, refl, ap, ◌∙◌, map, fold, max}
+use Rattle.std.proofs.Common.{Bool, true, false}
 use Rattle.std.specs.List.{flat_map}
 use Rattle.std.proofs.lemmas.List.{append-nil}
 use Rattle.std.proofs.lemmas.List.Folds.{list_any-append}
@@ -8,49 +9,63 @@ use Rattle.sample_book.specs.declared.Row.{Row}
 use Rattle.sample_book.specs.History.{Event, Came, Changed}
 use Rattle.sample_book.specs.History as book
 use Rattle.record_form.specs.declared.Command.{Command}
-use Rattle.record_form.specs.declared.Command.TheVariants.{Define, Remove, PutZone, Samples, Exclude, Lift, Tick, Take}
+use Rattle.record_form.specs.declared.Command.TheVariants.{Define, Remove, PutZone, Samples}
+use Rattle.record_form.specs.declared.Command.TheVariants.{Exclude, Lift, Tick, Take}
 use Rattle.record_form.specs.declared.Entry.{Entry}
-use Rattle.office_history.specs.History.{Office, with_entry, present, rows_of, rows_in, changes_of, changes_in, events_of, events_in}
+use Rattle.office_history.specs.History.{Office, with_entry, present, rows_of, rows_in, changes_of}
+use Rattle.office_history.specs.History.{changes_in, events_of, events_in}
 use Rattle.office_history.specs.Catalog.{catalog_in, definitions_of, definitions_in, members_after}
 use Rattle.office_history.specs.Zones.{zones_of, zones_in}
 use Rattle.office_history.specs.Notices.{tick_of, ticks_in, told_at, told_in, takes, is_taken}
 use Rattle.office_derived.proofs.Lists.{flat-push}
 
 -- what is made of each entry gains what is made of one more
-pub flat_more : {B : Type 0} (f : Entry → List B) (h : List Entry) (e : Entry) → flat_map f (h ++ e ∷ []) ≡ flat_map f h ++ f e
+pub flat_more : {B : Type 0} (f : Entry → List B) (h : List Entry) (e : Entry)
+    → flat_map f (h ++ e ∷ []) ≡ flat_map f h ++ f e
 flat_more f h e = flat_map-append f h (e ∷ []) ∙ ap (λ ys. flat_map f h ++ ys) (append-nil (f e))
 
-pub rows_more : (h : List Entry) (e : Entry) → rows_in (h ++ e ∷ []) ≡ rows_in h ++ rows_of e.command
+pub rows_more : (h : List Entry) (e : Entry)
+    → rows_in (h ++ e ∷ []) ≡ rows_in h ++ rows_of e.command
 rows_more h e = flat_more (λ (e : Entry). rows_of e.command) h e
 
-pub changes_more : (h : List Entry) (e : Entry) → changes_in (h ++ e ∷ []) ≡ changes_in h ++ changes_of e.command
+pub changes_more : (h : List Entry) (e : Entry)
+    → changes_in (h ++ e ∷ []) ≡ changes_in h ++ changes_of e.command
 changes_more h e = flat_more (λ (e : Entry). changes_of e.command) h e
 
-pub events_more : (h : List Entry) (e : Entry) → events_in (h ++ e ∷ []) ≡ events_in h ++ events_of e.command
+pub events_more : (h : List Entry) (e : Entry)
+    → events_in (h ++ e ∷ []) ≡ events_in h ++ events_of e.command
 events_more h e = flat_more (λ (e : Entry). events_of e.command) h e
 
-pub zones_more : (h : List Entry) (e : Entry) → zones_in (h ++ e ∷ []) ≡ zones_in h ++ zones_of e.command
+pub zones_more : (h : List Entry) (e : Entry)
+    → zones_in (h ++ e ∷ []) ≡ zones_in h ++ zones_of e.command
 zones_more h e = flat_more (λ (e : Entry). zones_of e.command) h e
 
-pub definitions_more : (h : List Entry) (e : Entry) → definitions_in (h ++ e ∷ []) ≡ definitions_in h ++ definitions_of e.command
+pub definitions_more : (h : List Entry) (e : Entry)
+    → definitions_in (h ++ e ∷ []) ≡ definitions_in h ++ definitions_of e.command
 definitions_more h e = flat_more (λ (e : Entry). definitions_of e.command) h e
 
-pub catalog_more : (h : List Entry) (e : Entry) → catalog_in (h ++ e ∷ []) ≡ fold members_after (catalog_in h) (definitions_of e.command)
+pub catalog_more : (h : List Entry) (e : Entry)
+    → catalog_in (h ++ e ∷ []) ≡ fold members_after (catalog_in h) (definitions_of e.command)
 catalog_more h e =
     ap (fold members_after []) (definitions_more h e)
     ∙ fold-append members_after [] (definitions_in h) (definitions_of e.command)
 
 pub present_more : (o : Office) (e : Entry) → present (with_entry o e) ≡ max (present o) e.moment
-present_more o e = fold-append (λ greatest (e : Entry). max greatest e.moment) o.origin o.history (e ∷ [])
+present_more o e =
+    fold-append (λ greatest (e : Entry). max greatest e.moment) o.origin o.history (e ∷ [])
 
 pub told_more : (o : Office) (e : Entry) → told_in (with_entry o e) ≡ told_in o ++ told_at o e
-told_more o e = flat-push (λ (p : List Entry × Entry). told_at (record { origin = o.origin; history = p.0 }) p.1) o.history e
+told_more o e = flat-push (λ (p : List Entry × Entry).
+    told_at (record { origin = o.origin; history = p.0 }) p.1) o.history e
 
-pub ticks_more : (o : Office) (e : Entry) → ticks_in (with_entry o e) ≡ ticks_in o ++ tick_of o.origin o.history e
+pub ticks_more : (o : Office) (e : Entry)
+    → ticks_in (with_entry o e) ≡ ticks_in o ++ tick_of o.origin o.history e
 ticks_more o e = flat-push (λ (p : List Entry × Entry). tick_of o.origin p.0 p.1) o.history e
 
-pub taken_more : (h : List Entry) (e : Entry) (number : ℕ) → is_taken (h ++ e ∷ []) number ≡ (is_taken h number || takes number e.command)
-taken_more h e number = list_any-append (λ (e : Entry). takes number e.command) h (e ∷ []) ∙ ap (λ b. is_taken h number || b) (or-false (takes number e.command))
+pub taken_more : (h : List Entry) (e : Entry) (number : ℕ)
+    → is_taken (h ++ e ∷ []) number ≡ (is_taken h number || takes number e.command)
+taken_more h e number = list_any-append (λ (e : Entry). takes number e.command) h (e ∷ [])
+    ∙ ap (λ b. is_taken h number || b) (or-false (takes number e.command))
   where
     or-false : (b : Bool) → (b || false) ≡ b
     or-false true = refl
@@ -70,7 +85,8 @@ rows-append [] ys = refl
 rows-append (Came row ∷ xs) ys = ap (λ rs. row ∷ rs) (rows-append xs ys)
 rows-append (Changed change ∷ xs) ys = rows-append xs ys
 
-changes-append : (xs ys : List Event) → book.changes_in (xs ++ ys) ≡ book.changes_in xs ++ book.changes_in ys
+changes-append : (xs ys : List Event)
+    → book.changes_in (xs ++ ys) ≡ book.changes_in xs ++ book.changes_in ys
 changes-append [] ys = refl
 changes-append (Came row ∷ xs) ys = changes-append xs ys
 changes-append (Changed change ∷ xs) ys = ap (λ cs. change ∷ cs) (changes-append xs ys)
@@ -97,8 +113,10 @@ command_changes (Take number) = refl
 
 pub event_rows : (h : List Entry) → book.rows_in (events_in h) ≡ rows_in h
 event_rows [] = refl
-event_rows (e ∷ h) = rows-append (events_of e.command) (events_in h) ∙ (λ i. command_rows e.command i ++ event_rows h i)
+event_rows (e ∷ h) = rows-append (events_of e.command) (events_in h)
+    ∙ (λ i. command_rows e.command i ++ event_rows h i)
 
 pub event_changes : (h : List Entry) → book.changes_in (events_in h) ≡ changes_in h
 event_changes [] = refl
-event_changes (e ∷ h) = changes-append (events_of e.command) (events_in h) ∙ (λ i. command_changes e.command i ++ event_changes h i)
+event_changes (e ∷ h) = changes-append (events_of e.command) (events_in h)
+    ∙ (λ i. command_changes e.command i ++ event_changes h i)

@@ -14,14 +14,17 @@ use Rattle.slo_objects.specs.declared.Object.{Object}
 use Rattle.zone_calendar.specs.ZoneBytes.{zone_of}
 use Rattle.kept_objectives.specs.declared.SumsPlan.{SumsPlan}
 use Rattle.record_form.specs.declared.Command.{Command}
-use Rattle.record_form.specs.declared.Command.TheVariants.{Define, Remove, PutZone, Samples, Exclude, Lift, Tick, Take}
+use Rattle.record_form.specs.declared.Command.TheVariants.{Define, Remove, PutZone, Samples}
+use Rattle.record_form.specs.declared.Command.TheVariants.{Exclude, Lift, Tick, Take}
 use Rattle.record_form.specs.declared.Entry.{Entry}
 use Rattle.office_history.specs.declared.Judgement.TheVariants.{Accepted, Same, Refused}
-use Rattle.office_history.specs.History.{Office, end_of, present, rows_in, current_in, exclusions_in, events_in, accepted_rows}
+use Rattle.office_history.specs.History.{Office, end_of, present, rows_in, current_in}
+use Rattle.office_history.specs.History.{exclusions_in, events_in, accepted_rows}
 use Rattle.office_history.specs.Catalog.{catalog_in, text_objects}
 use Rattle.office_history.specs.Zones.{zones_in}
 use Rattle.office_history.specs.Objectives.{reading_named}
-use Rattle.office_history.specs.Notices.{last_states, notices_in, tick_changes, states_over, told_in, is_taken, waiting}
+use Rattle.office_history.specs.Notices.{last_states, notices_in, tick_changes, states_over}
+use Rattle.office_history.specs.Notices.{told_in, is_taken, waiting}
 use Rattle.office_history.specs.Judges.{Judges}
 use Rattle.office_derived.specs.declared.derived.Derived.{Derived}
 use Rattle.office_derived.specs.declared.work.Work.{Work}
@@ -32,7 +35,8 @@ use Rattle.office_derived.specs.Tallies.{tally_of}
 
 -- the row's indicator is a member, and reads its amount, which counts at most 10^9 events
 abbrev pub IsRead : List Object → Row → Type 0
-IsRead members row = (reading : Reading) × (reading_named members row.sli ≡ Some reading) × HasForm reading row.amount × IsSmall row.amount
+IsRead members row = (reading : Reading) × (reading_named members row.sli ≡ Some reading)
+    × HasForm reading row.amount × IsSmall row.amount
 
 -- the row's minute lies in the office's range
 abbrev pub IsPlaced : ℕ → Row → Type 0
@@ -103,7 +107,8 @@ HasPlan o catalog plan =
 -- what was found out of a work is right over a history
 abbrev pub IsFound : Office → ℕ → Work → Type 0
 IsFound o moment (works.Define text catalog applied plan) =
-    (catalog ≡ catalog_in (o.history ++ entry_of moment (works.Define text catalog applied plan) ∷ []))
+    (catalog ≡ catalog_in (o.history
+    ++ entry_of moment (works.Define text catalog applied plan) ∷ []))
     × (applied ≡ length (text_objects text)) × HasPlan o catalog plan
 IsFound o moment (works.Remove kind name catalog plan) =
     (catalog ≡ catalog_in (o.history ++ entry_of moment (works.Remove kind name catalog plan) ∷ []))
@@ -129,7 +134,8 @@ HasRoom d _ = Unit {0}
 
 -- what the judging of a command says of it
 abbrev pub IsJudged : Office → ℕ → Command → Judged → Type 0
-IsJudged o moment command (judged.Ready work) = Judges o moment command Accepted × (command_of work ≡ command) × IsFound o moment work
+IsJudged o moment command (judged.Ready work) = Judges o moment command Accepted
+    × (command_of work ≡ command) × IsFound o moment work
 IsJudged o moment command (judged.Same outcome) = Judges o moment command (Same outcome)
 IsJudged o moment command (judged.Refused refusal) = Judges o moment command (Refused refusal)
 IsJudged o moment command judged.NoMemory = Unit {0}

@@ -9,7 +9,12 @@ use Rattle.office_derived.specs.declared.tally.Tally.{Tally}
 
 -- how many of these became what
 abbrev pub tally_of : List RowVerdict → Tally
-tally_of vs = record { new = count is_new vs; newer = count is_newer vs; repeated = count is_repeated vs; superseded = count is_superseded vs }
+tally_of vs = record {
+  new = count is_new vs;
+  newer = count is_newer vs;
+  repeated = count is_repeated vs;
+  superseded = count is_superseded vs;
+}
 
 abbrev pub tally_outcome : Tally → Option ℕ → Outcome
 tally_outcome tally entry = Sampled entry tally.new tally.newer tally.repeated tally.superseded

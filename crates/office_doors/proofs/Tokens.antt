@@ -19,4 +19,7 @@ module _ {M : Type 1} {𝓤 : Ura M} (𝓛 : Logic 𝓤) (R : RattleType) where
   Data = (Struct (shape (given.the_type R))).own_val (tt, tt) (token ∷ [])
 
   pub made : ent 𝓤 (emp 𝓤) (sem 𝓛 Data)
-  made = makes_shadow 𝓛 Data (λ vss. (tt, ((λ uss. (tt, tt)), tt))) ((vstruct vnil ∷ [], tt), (refl, ((tt, (refl, tt)), tt)))
+  made = makes_shadow 𝓛 Data (λ vss. (tt, ((λ uss. (tt, tt)), tt))) (
+    (vstruct vnil ∷ [], tt),
+    (refl, ((tt, (refl, tt)), tt)),
+  )

@@ -1,5 +1,7 @@
--- The alerts of bindings: their rules, and their states at a minute (Site Reliability Workbook, 'Alerting on SLOs').
-use Rattle.std.specs.Prelude.{ℕ, ◌-◌, ◌==◌, ◌&&◌, Bool, true, false, cond, List, map, slice_get, Option, Some, None, option_map, option_and_then, unwrap_or}
+-- The alerts of bindings: their rules, and their states at a minute (Site Reliability Workbook,
+-- 'Alerting on SLOs').
+use Rattle.std.specs.Prelude.{ℕ, ◌-◌, ◌==◌, ◌&&◌, Bool, true, false, cond, List, map, slice_get}
+use Rattle.std.specs.Prelude.{Option, Some, None, option_map, option_and_then, unwrap_or}
 use Rattle.std.specs.List.{list_any}
 use Rattle.std.specs.Str.{bytes_eq}
 use Rattle.exact_fraction.specs.declared.Op.TheVariants.{Gte}
@@ -29,20 +31,24 @@ use Rattle.office_history.specs.Windows.{minutes_of}
 
 -- the rule of a condition; an omitted `op` is `gte`, an omitted `alertAfter` is `0m`
 abbrev pub rule_of : Condition → AlertRule
-rule_of c = Single (unwrap_or c.op Gte) c.threshold (minutes_of c.lookback_window) (unwrap_or (option_map minutes_of c.alert_after) 0)
+rule_of c = Single (unwrap_or c.op Gte) c.threshold (minutes_of c.lookback_window)
+    (unwrap_or (option_map minutes_of c.alert_after) 0)
 
 abbrev pub condition_named : List Object → List ℕ → Option AlertCondition
-condition_named members name = option_and_then (λ o. condition_in o.body) (find_in members kinds.AlertCondition name)
+condition_named members name =
+    option_and_then (λ o. condition_in o.body) (find_in members kinds.AlertCondition name)
 
 abbrev pub first_condition : List Object → AlertPolicy → Option AlertCondition
-first_condition members policy = option_and_then (condition_named members) (slice_get (names_in policy.conditions) 0)
+first_condition members policy =
+    option_and_then (condition_named members) (slice_get (names_in policy.conditions) 0)
 
 -- the rule of the policy of a name, where it has a condition
 abbrev pub rule_named : List Object → List ℕ → Option AlertRule
 rule_named members name =
     cond (bytes_eq name page) (Some Page)
     (cond (bytes_eq name ticket) (Some Ticket)
-    (option_map (λ (c : AlertCondition). rule_of c.condition) (option_and_then (first_condition members) (policy_named members name))))
+    (option_map (λ (c : AlertCondition). rule_of c.condition)
+    (option_and_then (first_condition members) (policy_named members name))))
 
 -- which changes a policy tells; of those that it omits, breaching alone
 abbrev pub flags_of : Option AlertPolicy → Flags
@@ -67,7 +73,8 @@ watch_with _ _ = None
 
 -- whether two bindings are of one SLO, objective and policy
 abbrev pub same_binding : Binding → Binding → Bool
-same_binding a b = bytes_eq a.slo b.slo && (a.objective == b.objective && bytes_eq a.policy b.policy)
+same_binding a b =
+    bytes_eq a.slo b.slo && (a.objective == b.objective && bytes_eq a.policy b.policy)
 
 -- what a binding watches
 abbrev pub watch_of : List Object → Binding → Option Watch
@@ -79,9 +86,11 @@ watched members b = cond (list_any (same_binding b) (bindings members)) (watch_o
 
 -- the condition of an alert at a minute; it holds at no minute below the origin
 abbrev pub holds_at : ℕ → Samples → Watch → ℕ → Bool
-holds_at origin s w minute = condition w.rule w.measure.target origin (width_of w.measure.method) (leaf_at s w.measure) minute
+holds_at origin s w minute = condition w.rule w.measure.target origin (width_of w.measure.method)
+    (leaf_at s w.measure) minute
 
--- an alert is active at a minute where its condition holds there and at each of the minutes before it for which it has to wait
+-- an alert is active at a minute where its condition holds there and at each of the minutes before
+-- it for which it has to wait
 abbrev pub is_watch_active : ℕ → Samples → Watch → ℕ → Bool
 is_watch_active origin s w minute = is_active (wait_of w.rule) (holds_at origin s w) minute
 
@@ -99,4 +108,5 @@ state_if origin s minute (Some w) = state_at origin s w minute
 
 -- each binding with its state at a minute
 abbrev pub states_at : ℕ → List Object → Samples → ℕ → List (Binding × State)
-states_at origin members s minute = map (λ b. (b, state_if origin s minute (watch_of members b))) (bindings members)
+states_at origin members s minute =
+    map (λ b. (b, state_if origin s minute (watch_of members b))) (bindings members)

@@ -1,5 +1,6 @@
 -- What a query answers over a history.
-use Rattle.std.specs.Prelude.{◌≡◌, ℕ, ◌+◌, ◌-◌, ◌||◌, ◌==◌, Bool, cond, nat_lt, nat_le, List, [], ◌∷◌, map, filter, take, length, Option, Some, None, ◌&&◌, true}
+use Rattle.std.specs.Prelude.{◌≡◌, ℕ, ◌+◌, ◌-◌, ◌||◌, ◌==◌, Bool, cond, nat_lt, nat_le, List, []}
+use Rattle.std.specs.Prelude.{◌∷◌, map, filter, take, length, Option, Some, None, ◌&&◌, true}
 use Rattle.slo_limits.specs.declared.TheConstants.{MAX_LOOKBACK, MAX_TIMELINE}
 use Rattle.exact_fraction.specs.declared.Leaf.{Leaf}
 use Rattle.slo_terms.specs.Budget.{burn_of, error_rate_of, remaining_of}
@@ -12,7 +13,8 @@ use Rattle.burn_core.specs.Timeline.{AreSpansOf}
 use Rattle.notice_box.specs.declared.Notice.{Notice}
 use Rattle.record_form.specs.declared.BudgetRow.{BudgetRow}
 use Rattle.record_form.specs.declared.Outcome.{Outcome}
-use Rattle.record_form.specs.declared.Outcome.TheVariants.{ObjectList, ObjectText, Budgets, Burn, Timeline, Notices, Refused}
+use Rattle.record_form.specs.declared.Outcome.TheVariants.{ObjectList, ObjectText, Budgets, Burn}
+use Rattle.record_form.specs.declared.Outcome.TheVariants.{Timeline, Notices, Refused}
 use Rattle.record_form.specs.declared.Query.{Query}
 use Rattle.record_form.specs.declared.Query.TheVariants as queries
 use Rattle.record_form.specs.declared.Refusal.{Refusal}
@@ -59,43 +61,51 @@ budget_row from number target sum = record {
 
 abbrev pub budget_rows : Samples → ℕ → ℕ → ℕ → List Measure → List BudgetRow
 budget_rows s from at number [] = []
-budget_rows s from at number (m ∷ ms) = budget_row from number m.target (sum_between s m from at) ∷ budget_rows s from at (number + 1) ms
+budget_rows s from at number (m ∷ ms) = budget_row from number m.target (sum_between s m from at)
+    ∷ budget_rows s from at (number + 1) ms
 
 abbrev pub budgets_from : Office → ℕ → List Measure → Option ℕ → Outcome
 budgets_from o at measures None = Refused (refusals.NoWindow at)
-budgets_from o at measures (Some from) = Budgets at (budget_rows (samples_in o.history) from at 0 measures) (length o.history)
+budgets_from o at measures (Some from) =
+    Budgets at (budget_rows (samples_in o.history) from at 0 measures) (length o.history)
 
 -- the budgets of an SLO at a minute
 abbrev pub AnswersBudgets : Office → ℕ → List ℕ → ℕ → Option Slo → Outcome → Type 0
 AnswersBudgets o moment name at None outcome = outcome ≡ Refused refusals.NotFound
 AnswersBudgets o moment name at (Some slo) outcome =
     cond (is_outside o moment at) (outcome ≡ Refused refusals.Range)
-    ((start : Option ℕ) × WindowBegins (zones_in o.history) slo.time_window (end_of o.origin) at start
+    ((start : Option ℕ) × WindowBegins (zones_in o.history) slo.time_window
+    (end_of o.origin) at start
     × (outcome ≡ budgets_from o at (measures_named (catalog_in o.history) name) start))
 
 abbrev pub burn_over : ℕ → ℕ → ℕ → Leaf → Outcome
 burn_over at entries target sum = Burn at (burn_of sum target) sum.den entries sum.num
 
 abbrev pub burn_fault : Office → ℕ → ℕ → ℕ → Option Refusal
-burn_fault o moment at lookback = when (is_outside o moment at || (lookback == 0 || nat_lt MAX_LOOKBACK lookback)) refusals.Range
+burn_fault o moment at lookback =
+    when (is_outside o moment at || (lookback == 0 || nat_lt MAX_LOOKBACK lookback)) refusals.Range
 
 -- the burn rate of an objective over the lookback that ends at a minute
 abbrev pub burn_answer : Office → ℕ → ℕ → ℕ → Option Measure → Outcome
 burn_answer o moment at lookback None = Refused refusals.NotFound
 burn_answer o moment at lookback (Some m) =
     refused_or (burn_fault o moment at lookback)
-    (burn_over at (length o.history) m.target (sum_between (samples_in o.history) m (at - lookback) at))
+    (burn_over at (length o.history) m.target
+    (sum_between (samples_in o.history) m (at - lookback) at))
 
 abbrev pub is_timeline : Office → ℕ → ℕ → ℕ → Bool
-is_timeline o moment from to = nat_le o.origin from && nat_le from to && nat_le to moment && nat_le (to - from) MAX_TIMELINE
+is_timeline o moment from to =
+    nat_le o.origin from && nat_le from to && nat_le to moment && nat_le (to - from) MAX_TIMELINE
 
 -- the stretches of [from, to) in which a binding's alert is active, and its state at the moment
 abbrev pub AnswersTimeline : Office → ℕ → ℕ → ℕ → Option Watch → Outcome → Type 0
 AnswersTimeline o moment from to None outcome = outcome ≡ Refused refusals.NotFound
 AnswersTimeline o moment from to (Some w) outcome =
     cond (is_timeline o moment from to)
-    ((spans : List (ℕ × ℕ)) × AreSpansOf (λ minute. is_watch_active o.origin (samples_in o.history) w minute ≡ true) from to spans
-    × (outcome ≡ Timeline (length o.history) spans (state_at o.origin (samples_in o.history) w moment)))
+    ((spans : List (ℕ × ℕ)) × AreSpansOf
+    (λ minute. is_watch_active o.origin (samples_in o.history) w minute ≡ true) from to spans
+    × (outcome ≡ Timeline (length o.history) spans
+    (state_at o.origin (samples_in o.history) w moment)))
     (outcome ≡ Refused refusals.Range)
 
 -- the first 1,000 of the notices that wait
@@ -105,12 +115,17 @@ first_waiting made = take 1000 (map (λ kept. kept.0) (filter (λ kept. kept.1) 
 -- the answer to a query at a moment
 abbrev pub Answers : Office → ℕ → Query → Outcome → Type 0
 Answers o moment queries.Objects outcome =
-    outcome ≡ ObjectList (length o.history) (map (λ (object : Object). (object.kind, object.name)) (catalog_in o.history))
-Answers o moment (queries.Object kind name) outcome = outcome ≡ object_answer (find_in (catalog_in o.history) kind name)
+    outcome ≡ ObjectList (length o.history)
+    (map (λ (object : Object). (object.kind, object.name)) (catalog_in o.history))
+Answers o moment (queries.Object kind name) outcome =
+    outcome ≡ object_answer (find_in (catalog_in o.history) kind name)
 Answers o moment (queries.Budgets slo at) outcome =
     AnswersBudgets o moment slo (asked_at moment at) (slo_named (catalog_in o.history) slo) outcome
 Answers o moment (queries.Burn slo objective lookback at) outcome =
-    outcome ≡ burn_answer o moment (asked_at moment at) (minutes_of lookback) (measure_at (catalog_in o.history) slo objective)
+    outcome ≡ burn_answer o moment (asked_at moment at) (minutes_of lookback)
+    (measure_at (catalog_in o.history) slo objective)
 Answers o moment (queries.Timeline slo objective policy from to) outcome =
-    AnswersTimeline o moment from to (watched (catalog_in o.history) (record { slo = slo; objective = objective; policy = policy })) outcome
-Answers o moment queries.Notices outcome = outcome ≡ Notices (length o.history) (first_waiting (notices_in o))
+    AnswersTimeline o moment from to (watched (catalog_in o.history)
+    (record { slo = slo; objective = objective; policy = policy })) outcome
+Answers o moment queries.Notices outcome =
+    outcome ≡ Notices (length o.history) (first_waiting (notices_in o))

@@ -1,10 +1,12 @@
 -- What becomes of a batch of rows, judged row by row, each behind those before it.
-use Rattle.std.specs.Prelude.{ℕ, ◌+◌, ◌*◌, ◌/◌, ◌||◌, ◌==◌, Bool, true, false, cond, nat_lt, nat_le, List, [], ◌∷◌, map, filter, length, sum_by, Option, Some, None}
+use Rattle.std.specs.Prelude.{ℕ, ◌+◌, ◌*◌, ◌/◌, ◌||◌, ◌==◌, Bool, true, false, cond, nat_lt, nat_le}
+use Rattle.std.specs.Prelude.{List, [], ◌∷◌, map, filter, length, sum_by, Option, Some, None}
 use Rattle.slo_limits.specs.declared.TheConstants.{WHOLE, MAX_AMOUNT}
 use Rattle.slice_method.specs.declared.Amount.{Amount}
 use Rattle.slice_method.specs.declared.Amount.TheVariants as amounts
 use Rattle.slice_method.specs.declared.Reading.{Reading}
-use Rattle.slice_method.specs.declared.Reading.TheVariants.{Good, Bad, Threshold, RawSuccess, RawFailure}
+use Rattle.slice_method.specs.declared.Reading.TheVariants.{Good, Bad, Threshold, RawSuccess}
+use Rattle.slice_method.specs.declared.Reading.TheVariants.{RawFailure}
 use Rattle.sample_book.specs.declared.Row.{Row}
 use Rattle.sample_book.specs.declared.RowVerdict.{RowVerdict}
 use Rattle.sample_book.specs.declared.RowVerdict.TheVariants.{Newer, Repeated, Superseded, Conflict}
@@ -25,17 +27,22 @@ use Rattle.office_history.specs.Objectives.{reading_named}
 abbrev pub when : Bool → Refusal → Option Refusal
 when stands refusal = cond stands (Some refusal) None
 
--- what an amount breaks under a reading: it has another form, or its numbers aren't those of a part and a whole
+-- what an amount breaks under a reading: it has another form, or its numbers aren't those of a part
+-- and a whole
 abbrev pub amount_fault : Reading → Amount → ℕ → Option Refusal
 amount_fault Threshold (amounts.Counts part total) number = Some (refusals.WrongKind number)
 amount_fault RawSuccess (amounts.Counts part total) number = Some (refusals.WrongKind number)
 amount_fault RawFailure (amounts.Counts part total) number = Some (refusals.WrongKind number)
 amount_fault Good (amounts.Value measured) number = Some (refusals.WrongKind number)
 amount_fault Bad (amounts.Value measured) number = Some (refusals.WrongKind number)
-amount_fault Good (amounts.Counts part total) number = when (nat_lt total part || nat_lt MAX_AMOUNT total) (refusals.Counts number)
-amount_fault Bad (amounts.Counts part total) number = when (nat_lt total part || nat_lt MAX_AMOUNT total) (refusals.Counts number)
-amount_fault RawSuccess (amounts.Value measured) number = when (nat_lt WHOLE measured) (refusals.Counts number)
-amount_fault RawFailure (amounts.Value measured) number = when (nat_lt WHOLE measured) (refusals.Counts number)
+amount_fault Good (amounts.Counts part total) number =
+    when (nat_lt total part || nat_lt MAX_AMOUNT total) (refusals.Counts number)
+amount_fault Bad (amounts.Counts part total) number =
+    when (nat_lt total part || nat_lt MAX_AMOUNT total) (refusals.Counts number)
+amount_fault RawSuccess (amounts.Value measured) number =
+    when (nat_lt WHOLE measured) (refusals.Counts number)
+amount_fault RawFailure (amounts.Value measured) number =
+    when (nat_lt WHOLE measured) (refusals.Counts number)
 amount_fault Threshold (amounts.Value measured) number = None
 
 -- what a row breaks by itself: its indicator isn't there, or its amount isn't read there
@@ -57,14 +64,18 @@ row_fault origin moment members row verdict number = first_some (
     ∷ [])
 
 -- each row of a batch from this number on, with what becomes of it behind those before it
-abbrev pub rows_faults : ℕ → ℕ → List Object → ℕ → List Row → List RowVerdict → List (Option Refusal)
+abbrev pub rows_faults : ℕ → ℕ → List Object → ℕ → List Row → List RowVerdict
+    → List (Option Refusal)
 rows_faults origin moment members number (row ∷ rows) (v ∷ vs) =
-    row_fault origin moment members row v number ∷ rows_faults origin moment members (number + 1) rows vs
+    row_fault origin moment members row v number
+    ∷ rows_faults origin moment members (number + 1) rows vs
 rows_faults origin moment members number _ _ = []
 
--- The first rule that a row of a batch breaks, each row judged behind those that came and those before it.
+-- The first rule that a row of a batch breaks, each row judged behind those that came and
+-- those before it.
 abbrev pub batch_fault : ℕ → ℕ → List Object → List Row → List Row → Option Refusal
-batch_fault origin moment members came rows = first_some (rows_faults origin moment members 1 rows (verdicts came rows))
+batch_fault origin moment members came rows =
+    first_some (rows_faults origin moment members 1 rows (verdicts came rows))
 
 abbrev pub is_newer : RowVerdict → Bool
 is_newer (Newer kept) = true
@@ -83,11 +94,13 @@ count p xs = length (filter p xs)
 
 -- the outcome of a batch: how many rows became what
 abbrev pub sampled : List RowVerdict → Option ℕ → Outcome
-sampled vs entry = Sampled entry (count is_new vs) (count is_newer vs) (count is_repeated vs) (count is_superseded vs)
+sampled vs entry = Sampled entry (count is_new vs) (count is_newer vs) (count is_repeated vs)
+    (count is_superseded vs)
 
 -- the days that have a current row of an indicator
 abbrev pub days_of : List Row → List ℕ → ℕ
-days_of rows sli = length (first_of_each (λ a b. a == b) (map (λ (row : Row). row.minute / 1440) (filter (is_of sli) rows)))
+days_of rows sli = length (first_of_each (λ a b. a == b)
+    (map (λ (row : Row). row.minute / 1440) (filter (is_of sli) rows)))
 
 abbrev pub days_of_slo : List Row → Option Slo → ℕ
 days_of_slo rows None = 0

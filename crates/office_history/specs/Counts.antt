@@ -10,14 +10,17 @@ use Rattle.sample_book.specs.Counting.{counted_in_minute}
 use Rattle.window_sums.specs.Slices.{width_of}
 use Rattle.office_history.specs.declared.measure.Measure.{Measure}
 
--- What stands of a history's samples: the current rows, and the exclusions, each with whether it is live.
+-- What stands of a history's samples: the current rows, and the exclusions, each with whether
+-- it is live.
 pub record Samples : Type 0 where
   pub rows : List Row
   pub exclusions : List (Exclusion × Bool)
 
--- the counts of a minute: none where it is excluded for the SLO, else the sums over the current rows of its indicator
+-- the counts of a minute: none where it is excluded for the SLO, else the sums over the current
+-- rows of its indicator
 abbrev pub counts_at : Samples → Measure → ℕ → Counts
-counts_at s m minute = counted_in_minute m.reading m.op m.value s.exclusions s.rows m.slo m.sli minute
+counts_at s m minute =
+    counted_in_minute m.reading m.op m.value s.exclusions s.rows m.slo m.sli minute
 
 -- the counts of a slice: the sums over its minutes
 abbrev pub slice_counts : Samples → Measure → ℕ → Counts

@@ -5,7 +5,8 @@ use Rattle.office_history.specs.declared.judgement.Judgement.TheVariants.{Accept
 use Rattle.office_history.specs.History.{Office, present, end_of}
 use Rattle.office_history.specs.Judges.{Judges}
 
--- An entry may follow a history: its moment is in range and not below the present, and its command is accepted at it.
+-- An entry may follow a history: its moment is in range and not below the present, and its command
+-- is accepted at it.
 pub record MayFollow (o : Office) (e : Entry) : Type 0 where
   pub in_range : e.moment < end_of o.origin
   pub later : present o ≤ e.moment
@@ -16,4 +17,5 @@ office origin history = record { origin = origin; history = history }
 
 pub data IsLegal (origin : ℕ) : List Entry → Type 0 where
   empty : IsLegal origin []
-  followed : {h : List Entry} (e : Entry) → IsLegal origin h → MayFollow (office origin h) e → IsLegal origin (h ++ e ∷ [])
+  followed : {h : List Entry} (e : Entry) → IsLegal origin h → MayFollow (office origin h) e
+      → IsLegal origin (h ++ e ∷ [])

@@ -1,5 +1,6 @@
 -- What ticks tell: the changes of states since the tick before, each tick over its own history.
-use Rattle.std.specs.Prelude.{ℕ, ◌+◌, ◌&&◌, ◌==◌, Bool, true, false, not, cond, List, [], ◌∷◌, ◌++◌, map, filter, length, Option, Some, None, option_map, unwrap_or}
+use Rattle.std.specs.Prelude.{ℕ, ◌+◌, ◌&&◌, ◌==◌, Bool, true, false, not, cond, List, [], ◌∷◌, ◌++◌}
+use Rattle.std.specs.Prelude.{map, filter, length, Option, Some, None, option_map, unwrap_or}
 use Rattle.std.specs.List.{flat_map, find, list_any}
 use Rattle.burn_core.specs.declared.State.{State}
 use Rattle.burn_core.specs.declared.State.TheVariants.{Quiet, NoData, Breaching}
@@ -29,7 +30,8 @@ is_tick Tick = true
 is_tick _ = false
 
 abbrev pub tick_of : ℕ → List Entry → Entry → List (Office × ℕ)
-tick_of origin before e = cond (is_tick e.command) ((record { origin = origin; history = before ++ e ∷ [] }, e.moment) ∷ []) []
+tick_of origin before e = cond (is_tick e.command)
+    ((record { origin = origin; history = before ++ e ∷ [] }, e.moment) ∷ []) []
 
 -- each tick: the office whose history ends with it, and its moment
 abbrev pub ticks_in : Office → List (Office × ℕ)
@@ -45,7 +47,8 @@ last_states o = states_of_tick (last_of (ticks_in o))
 
 -- the state of a binding among these; Quiet where it isn't among them
 abbrev pub state_among : List (Binding × State) → Binding → State
-state_among states b = unwrap_or (option_map (λ s. s.1) (find (λ s. same_binding s.0 b) states)) Quiet
+state_among states b =
+    unwrap_or (option_map (λ s. s.1) (find (λ s. same_binding s.0 b) states)) Quiet
 
 abbrev pub state_eq : State → State → Bool
 state_eq Quiet Quiet = true
@@ -55,10 +58,12 @@ state_eq _ _ = false
 
 -- a binding's state is told where it is another than before, and the policy's flag of it is set
 abbrev pub is_told : List Object → List (Binding × State) → Binding × State → Bool
-is_told members before now = not (state_eq (state_among before now.0) now.1) && flag_of (flags_named members now.0.policy) now.1
+is_told members before now = not (state_eq (state_among before now.0) now.1)
+    && flag_of (flags_named members now.0.policy) now.1
 
 -- the bindings whose change is told, with their new states
-abbrev pub changes : List Object → List (Binding × State) → List (Binding × State) → List (Binding × State)
+abbrev pub changes : List Object → List (Binding × State) → List (Binding × State)
+    → List (Binding × State)
 changes members before now = filter (is_told members before) now
 
 -- a change that is told: the moment of its tick, the binding and its new state
@@ -70,15 +75,24 @@ abbrev pub tick_changes : List (Binding × State) → Office → ℕ → List (B
 tick_changes before o moment = changes (catalog_in o.history) before (states_over o moment)
 
 abbrev pub told_at : Office → Entry → List Told
-told_at o e = cond (is_tick e.command) (map (λ c. (e.moment, c)) (tick_changes (last_states o) (with_entry o e) e.moment)) []
+told_at o e = cond (is_tick e.command)
+    (map (λ c. (e.moment, c)) (tick_changes (last_states o) (with_entry o e) e.moment)) []
 
 -- what the ticks of a history tell, each over the entries before it
 abbrev pub told_in : Office → List Told
-told_in o = flat_map (λ p. told_at (record { origin = o.origin; history = p.0 }) p.1) (with_before o.history)
+told_in o = flat_map (λ p. told_at (record { origin = o.origin; history = p.0 }) p.1)
+    (with_before o.history)
 
 -- the notice of a change
 abbrev pub notice_of : ℕ → Told → Notice
-notice_of number t = record { number = number; at = t.0; slo = t.1.0.slo; objective = t.1.0.objective; policy = t.1.0.policy; state = t.1.1 }
+notice_of number t = record {
+  number = number;
+  at = t.0;
+  slo = t.1.0.slo;
+  objective = t.1.0.objective;
+  policy = t.1.0.policy;
+  state = t.1.1;
+}
 
 abbrev pub numbered : ℕ → List Told → List Notice
 numbered number [] = []

@@ -1,5 +1,6 @@
 -- What an objective of an SLO counts, and what it aims at (OpenSLO v1, SLI and SLO).
-use Rattle.std.specs.Prelude.{ℕ, List, [], map, slice_get, Option, Some, None, option_map, option_and_then, unwrap_or}
+use Rattle.std.specs.Prelude.{ℕ, List, [], map, slice_get, Option, Some, None, option_map}
+use Rattle.std.specs.Prelude.{option_and_then, unwrap_or}
 use Rattle.exact_fraction.specs.declared.Op.TheVariants.{Gte}
 use Rattle.slice_method.specs.declared.Reading.{Reading}
 use Rattle.slice_method.specs.declared.Method.{Method}
@@ -24,8 +25,10 @@ reading_named members sli = option_map (λ (s : Sli). reading_of s.metric) (sli_
 -- the method of an objective, with the width of its slices and the ratio from which on one is good
 abbrev pub method_of : BudgetingMethod → Objective → Method
 method_of budgeting.Occurrences objective = methods.Occurrences
-method_of budgeting.Timeslices objective = methods.Timeslices (unwrap_or objective.time_slice_window 1) (unwrap_or objective.time_slice_target 0)
-method_of budgeting.RatioTimeslices objective = methods.RatioTimeslices (unwrap_or objective.time_slice_window 1)
+method_of budgeting.Timeslices objective = methods.Timeslices
+    (unwrap_or objective.time_slice_window 1) (unwrap_or objective.time_slice_target 0)
+method_of budgeting.RatioTimeslices objective =
+    methods.RatioTimeslices (unwrap_or objective.time_slice_window 1)
 
 -- an objective over an indicator of this reading; an omitted `op` is `gte`
 abbrev pub measure_of : List ℕ → Slo → Reading → Objective → Measure

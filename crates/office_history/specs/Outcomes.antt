@@ -3,10 +3,12 @@ use Rattle.std.specs.Prelude.{◌≡◌, ℕ, ◌+◌, cond, nat_lt, List, lengt
 use Rattle.slo_limits.specs.declared.TheConstants.{MAX_JOURNAL_BYTES}
 use Rattle.record_form.specs.Records.{record_of}
 use Rattle.record_form.specs.declared.Command.{Command}
-use Rattle.record_form.specs.declared.Command.TheVariants.{Define, Remove, PutZone, Samples, Exclude, Lift, Tick, Take}
+use Rattle.record_form.specs.declared.Command.TheVariants.{Define, Remove, PutZone, Samples}
+use Rattle.record_form.specs.declared.Command.TheVariants.{Exclude, Lift, Tick, Take}
 use Rattle.record_form.specs.declared.Entry.{Entry}
 use Rattle.record_form.specs.declared.Outcome.{Outcome}
-use Rattle.record_form.specs.declared.Outcome.TheVariants.{Defined, Changed, Ticked, Refused, ClockRange, JournalFull}
+use Rattle.record_form.specs.declared.Outcome.TheVariants.{Defined, Changed, Ticked, Refused}
+use Rattle.record_form.specs.declared.Outcome.TheVariants.{ClockRange, JournalFull}
 use Rattle.record_form.specs.declared.Request.{Request}
 use Rattle.record_form.specs.declared.Request.TheVariants.{Change, Ask}
 use Rattle.office_history.specs.declared.judgement.Judgement.{Judgement}
@@ -24,10 +26,12 @@ abbrev pub outcome_of : Office → ℕ → Command → Outcome
 outcome_of o moment (Define text) = Defined (length (text_objects text)) (Some (length o.history))
 outcome_of o moment (Remove kind name) = Changed (Some (length o.history))
 outcome_of o moment (PutZone name bytes) = Changed (Some (length o.history))
-outcome_of o moment (Samples rows) = sampled (verdicts (rows_in o.history) rows) (Some (length o.history))
+outcome_of o moment (Samples rows) =
+    sampled (verdicts (rows_in o.history) rows) (Some (length o.history))
 outcome_of o moment (Exclude value) = Changed (Some (length o.history))
 outcome_of o moment (Lift id) = Changed (Some (length o.history))
-outcome_of o moment Tick = Ticked (length o.history) (length (told_at o (record { moment = moment; command = Tick })))
+outcome_of o moment Tick =
+    Ticked (length o.history) (length (told_at o (record { moment = moment; command = Tick })))
 outcome_of o moment (Take number) = Changed (Some (length o.history))
 
 -- where the last gate of a journal of these entries stands
@@ -36,18 +40,21 @@ tail_of history = 13 + sum_by (λ e. 5 + length (record_of e)) history
 
 -- what is answered where there is room in the journal for one entry more
 abbrev pub if_it_fits : ℕ → ℕ → Outcome → Outcome
-if_it_fits tail needed outcome = cond (nat_lt MAX_JOURNAL_BYTES needed) (JournalFull needed tail) outcome
+if_it_fits tail needed outcome =
+    cond (nat_lt MAX_JOURNAL_BYTES needed) (JournalFull needed tail) outcome
 
 abbrev pub outcome_by : Office → Entry → Judgement → Outcome
 outcome_by o e (judgements.Refused refusal) = Refused refusal
 outcome_by o e (judgements.Same outcome) = outcome
 outcome_by o e judgements.Accepted =
-    if_it_fits (tail_of o.history) (tail_of o.history + (length (record_of e) + 6)) (outcome_of o e.moment e.command)
+    if_it_fits (tail_of o.history) (tail_of o.history + (length (record_of e) + 6))
+    (outcome_of o e.moment e.command)
 
 abbrev pub IsOutcomeAt : Office → ℕ → Request → Outcome → Type 0
 IsOutcomeAt o moment (Ask query) outcome = Answers o moment query outcome
 IsOutcomeAt o moment (Change command) outcome =
-    (j : Judgement) × Judges o moment command j × (outcome ≡ outcome_by o (record { moment = moment; command = command }) j)
+    (j : Judgement) × Judges o moment command j
+    × (outcome ≡ outcome_by o (record { moment = moment; command = command }) j)
 
 -- The outcome of a request that is read at a reading of the clock.
 abbrev pub IsOutcome : Office → ℕ → Request → Outcome → Type 0

@@ -1,6 +1,8 @@
--- What becomes of a command over a history: the first refusal, in the order in which they are tried; that all stays the same;
--- or that it is accepted.
-use Rattle.std.specs.Prelude.{ℕ, ◌+◌, ◌&&◌, ◌||◌, ◌==◌, Bool, true, false, not, cond, is_none, nat_lt, nat_le, List, [], ◌∷◌, ◌++◌, length, Option, Some, None, Result, Ok, Err}
+-- What becomes of a command over a history: the first refusal, in the order in which they are
+-- tried; that all stays the same; or that it is accepted.
+use Rattle.std.specs.Prelude.{ℕ, ◌+◌, ◌&&◌, ◌||◌, ◌==◌, Bool, true, false, not, cond, is_none}
+use Rattle.std.specs.Prelude.{nat_lt, nat_le, List, [], ◌∷◌, ◌++◌, length, Option, Some, None}
+use Rattle.std.specs.Prelude.{Result, Ok, Err}
 use Rattle.std.specs.List.{list_any}
 use Rattle.std.specs.Str.{bytes_eq}
 use Rattle.slo_limits.specs.declared.TheConstants as most
@@ -39,22 +41,27 @@ unless_refused (Some refusal) otherwise = Refused refusal
 
 -- the last of the limits, over a history of so many entries
 abbrev pub accepted : ℕ → Judgement
-accepted entries = cond (nat_lt entries most.MAX_ENTRIES) Accepted (Refused (refusals.Limit limits.Entries))
+accepted entries =
+    cond (nat_lt entries most.MAX_ENTRIES) Accepted (Refused (refusals.Limit limits.Entries))
 
 -- Samples: rows that come over those that came, whose indicators are members
 abbrev pub samples_fault : ℕ → ℕ → List Object → List Row → List Row → Option Refusal
 samples_fault origin moment members came rows = first_some (
     when (nat_lt most.MAX_BATCH_ROWS (length rows)) (refusals.Limit limits.Rows)
     ∷ batch_fault origin moment members came rows
-    ∷ when (nat_lt most.MAX_CELLS (length (current_rows (came ++ rows)))) (refusals.Limit limits.Cells)
-    ∷ when (nat_lt most.MAX_ACCEPTED_ROWS (accepted_rows (came ++ rows))) (refusals.Limit limits.Accepted)
-    ∷ when (nat_lt most.MAX_DAYS (objective_days members (current_rows (came ++ rows)))) (refusals.Limit limits.Days)
+    ∷ when (nat_lt most.MAX_CELLS (length (current_rows (came ++ rows))))
+    (refusals.Limit limits.Cells)
+    ∷ when (nat_lt most.MAX_ACCEPTED_ROWS (accepted_rows (came ++ rows)))
+    (refusals.Limit limits.Accepted)
+    ∷ when (nat_lt most.MAX_DAYS (objective_days members (current_rows (came ++ rows))))
+    (refusals.Limit limits.Days)
     ∷ [])
 
 abbrev pub samples_verdict : ℕ → ℕ → List Object → List Row → ℕ → List Row → Judgement
 samples_verdict origin moment members came entries rows =
     unless_refused (samples_fault origin moment members came rows)
-    (cond (list_any is_put (verdicts came rows)) (accepted entries) (Same (sampled (verdicts came rows) None)))
+    (cond (list_any is_put (verdicts came rows)) (accepted entries)
+    (Same (sampled (verdicts came rows) None)))
 
 -- Remove: an object that no other refers to, and no sample if it is an indicator
 abbrev pub removal_fault : RemoveFault → Refusal
@@ -78,7 +85,8 @@ unless_removal (Err fault) otherwise = Refused (removal_fault fault)
 
 abbrev pub remove_verdict : List Object → List Row → ℕ → Kind → List ℕ → Judgement
 remove_verdict members rows entries kind name =
-    unless_removal (removed members kind name) (unless_sampled (first_row_of rows kind name) (accepted entries))
+    unless_removal (removed members kind name)
+    (unless_sampled (first_row_of rows kind name) (accepted entries))
 
 -- PutZone: bytes that are a zone, under a name that has no other bytes
 abbrev pub new_zone_fault : ℕ → List ℕ → List ℕ → Option Refusal
@@ -88,8 +96,10 @@ new_zone_fault kept name bytes = first_some (
     ∷ [])
 
 abbrev pub zone_where : Option (List ℕ) → ℕ → ℕ → List ℕ → List ℕ → Judgement
-zone_where None kept entries name bytes = unless_refused (new_zone_fault kept name bytes) (accepted entries)
-zone_where (Some old) kept entries name bytes = cond (bytes_eq old bytes) (Same (Changed None)) (Refused (refusals.ZoneDiffers name))
+zone_where None kept entries name bytes =
+    unless_refused (new_zone_fault kept name bytes) (accepted entries)
+zone_where (Some old) kept entries name bytes =
+    cond (bytes_eq old bytes) (Same (Changed None)) (Refused (refusals.ZoneDiffers name))
 
 abbrev pub zone_verdict : List (List ℕ × List ℕ) → ℕ → List ℕ → List ℕ → Judgement
 zone_verdict zones entries name bytes =
@@ -104,7 +114,8 @@ abbrev pub same_content : Exclusion → Exclusion → Bool
 same_content a b = bytes_eq a.slo b.slo && (a.from == b.from && a.to == b.to)
 
 abbrev pub is_range : ℕ → Exclusion → Bool
-is_range origin value = nat_le origin value.from && (nat_lt value.from value.to && nat_le value.to (end_of origin))
+is_range origin value =
+    nat_le origin value.from && (nat_lt value.from value.to && nat_le value.to (end_of origin))
 
 abbrev pub new_exclusion_fault : ℕ → List Object → ℕ → Exclusion → Option Refusal
 new_exclusion_fault origin members made value = first_some (
@@ -113,15 +124,19 @@ new_exclusion_fault origin members made value = first_some (
     ∷ when (nat_le most.MAX_EXCLUSIONS made) (refusals.Limit limits.Exclusions)
     ∷ [])
 
-abbrev pub exclude_where : Option (Exclusion × Bool) → ℕ → List Object → ℕ → ℕ → Exclusion → Judgement
-exclude_where None origin members made entries value = unless_refused (new_exclusion_fault origin members made value) (accepted entries)
+abbrev pub exclude_where : Option (Exclusion × Bool) → ℕ → List Object → ℕ → ℕ
+    → Exclusion → Judgement
+exclude_where None origin members made entries value =
+    unless_refused (new_exclusion_fault origin members made value) (accepted entries)
 exclude_where (Some kept) origin members made entries value =
     cond kept.1
-    (cond (same_content kept.0 value) (Same (Changed None)) (Refused (refusals.ExclusionConflict kept.0.from kept.0.slo kept.0.to)))
+    (cond (same_content kept.0 value) (Same (Changed None))
+    (Refused (refusals.ExclusionConflict kept.0.from kept.0.slo kept.0.to)))
     (Refused (refusals.Withdrawn value.id))
 
 abbrev pub exclude_verdict : ℕ → List Object → List (Exclusion × Bool) → ℕ → Exclusion → Judgement
-exclude_verdict origin members made entries value = exclude_where (exclusion_of made value.id) origin members (length made) entries value
+exclude_verdict origin members made entries value =
+    exclude_where (exclusion_of made value.id) origin members (length made) entries value
 
 -- Lift: an exclusion that was made
 abbrev pub lift_where : Option (Exclusion × Bool) → ℕ → Judgement
@@ -134,7 +149,8 @@ lift_verdict made entries id = lift_where (exclusion_of made id) entries
 -- Tick, which would tell so many changes
 abbrev pub tick_verdict : List (Notice × Bool) → ℕ → ℕ → Judgement
 tick_verdict made entries told =
-    unless_refused (when (nat_lt most.MAX_NOTICES (waiting made + told)) (refusals.Limit limits.Notices)) (accepted entries)
+    unless_refused (when (nat_lt most.MAX_NOTICES (waiting made + told))
+    (refusals.Limit limits.Notices)) (accepted entries)
 
 -- Take: a notice that was made
 abbrev pub is_waiting : List (Notice × Bool) → ℕ → Bool
@@ -142,5 +158,6 @@ is_waiting made number = list_any (λ kept. (kept.0.number == number) && kept.1)
 
 abbrev pub take_verdict : List (Notice × Bool) → ℕ → ℕ → Judgement
 take_verdict made entries number =
-    cond (number == 0 || nat_lt (length made) number) (Refused (refusals.UnknownNotice (length made) number))
+    cond (number == 0 || nat_lt (length made) number)
+    (Refused (refusals.UnknownNotice (length made) number))
     (cond (is_waiting made number) (accepted entries) (Same (Changed None)))

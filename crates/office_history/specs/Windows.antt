@@ -13,29 +13,37 @@ abbrev pub minutes_of : Duration → ℕ
 minutes_of duration = duration.count * unit_minutes duration.unit
 
 -- the greatest start of a calendar at or before a minute, of all that lie below the horizon
-pub record IsLastStart (zone : ZoneText) (calendar : Calendar) (step : Duration) (horizon minute start : ℕ) : Type 0 where
+pub record IsLastStart (zone : ZoneText) (calendar : Calendar) (step : Duration)
+    (horizon minute start : ℕ) : Type 0 where
   pub number : ℕ
   pub counted : is_counted calendar.start_time step horizon number ≡ true
   pub started : start ≡ start_at zone calendar.start_time step number
   pub begun : start ≤ minute
   pub greatest : (k : ℕ) → is_counted calendar.start_time step horizon k ≡ true →
-      start_at zone calendar.start_time step k ≤ minute → start_at zone calendar.start_time step k ≤ start
+      start_at zone calendar.start_time step k ≤ minute →
+      start_at zone calendar.start_time step k ≤ start
 
 -- no start of a calendar is at or before a minute
 abbrev pub HasNotBegun : ZoneText → Calendar → Duration → ℕ → ℕ → Type 0
 HasNotBegun zone calendar step horizon minute =
-    (k : ℕ) → is_counted calendar.start_time step horizon k ≡ true → minute < start_at zone calendar.start_time step k
+    (k : ℕ) → is_counted calendar.start_time step horizon k ≡ true
+    → minute < start_at zone calendar.start_time step k
 
 abbrev pub BeginsIn : Option ZoneText → Calendar → Duration → ℕ → ℕ → Option ℕ → Type 0
 BeginsIn None calendar step horizon minute start = start ≡ None
-BeginsIn (Some zone) calendar step horizon minute None = HasNotBegun zone calendar step horizon minute
-BeginsIn (Some zone) calendar step horizon minute (Some start) = IsLastStart zone calendar step horizon minute start
+BeginsIn (Some zone) calendar step horizon minute None =
+    HasNotBegun zone calendar step horizon minute
+BeginsIn (Some zone) calendar step horizon minute (Some start) =
+    IsLastStart zone calendar step horizon minute start
 
-abbrev pub BeginsBy : List (List ℕ × List ℕ) → Duration → ℕ → ℕ → Option Calendar → Option ℕ → Type 0
+abbrev pub BeginsBy : List (List ℕ × List ℕ) → Duration → ℕ → ℕ → Option Calendar
+    → Option ℕ → Type 0
 BeginsBy zones duration horizon minute None start = start ≡ Some (minute - minutes_of duration)
-BeginsBy zones duration horizon minute (Some calendar) start = BeginsIn (zone_named zones calendar.time_zone) calendar duration horizon minute start
+BeginsBy zones duration horizon minute (Some calendar) start =
+    BeginsIn (zone_named zones calendar.time_zone) calendar duration horizon minute start
 
--- Where the window at a minute begins: so many minutes before it where it is rolling, and not before 0; else at the calendar's
--- last start at or before it, where there is one.
+-- Where the window at a minute begins: so many minutes before it where it is rolling, and not
+-- before 0; else at the calendar's last start at or before it, where there is one.
 abbrev pub WindowBegins : List (List ℕ × List ℕ) → TimeWindow → ℕ → ℕ → Option ℕ → Type 0
-WindowBegins zones window horizon minute start = BeginsBy zones window.duration horizon minute window.calendar start
+WindowBegins zones window horizon minute start =
+    BeginsBy zones window.duration horizon minute window.calendar start

@@ -1,5 +1,6 @@
 -- The zones of a history: `UTC`, and those whose bytes were kept under a name.
-use Rattle.std.specs.Prelude.{ℕ, cond, List, [], ◌∷◌, Option, Some, option_and_then, option_map, codes}
+use Rattle.std.specs.Prelude.{ℕ, cond, List, [], ◌∷◌, Option, Some, option_and_then, option_map}
+use Rattle.std.specs.Prelude.{codes}
 use Rattle.std.specs.List.{flat_map, find}
 use Rattle.std.specs.Str.{bytes_eq}
 use Rattle.zone_calendar.specs.Zone.{ZoneText, utc_text}
@@ -26,4 +27,5 @@ bytes_named zones name = option_map (λ kept. kept.1) (find (λ kept. bytes_eq k
 
 -- the zone of a name: Coordinated Universal Time, or what the kept bytes say
 abbrev pub zone_named : List (List ℕ × List ℕ) → List ℕ → Option ZoneText
-zone_named zones name = cond (bytes_eq name utc) (Some utc_text) (option_and_then zone_of (bytes_named zones name))
+zone_named zones name =
+    cond (bytes_eq name utc) (Some utc_text) (option_and_then zone_of (bytes_named zones name))

@@ -1,5 +1,6 @@
 -- The calls on a disk in memory, and the images that they leave.
-use Rattle.std.specs.Prelude.{◌≡◌, ◌⊎◌, ℕ, Bool, ◌≤◌, true, false, List, [], ◌∷◌, length, take, fold}
+use Rattle.std.specs.Prelude.{◌≡◌, ◌⊎◌, ℕ, Bool, ◌≤◌, true, false, List, [], ◌∷◌, length, take}
+use Rattle.std.specs.Prelude.{fold}
 use Rattle.std.proofs.Common.{subst, sym, arith}
 use Rattle.std.proofs.lemmas.List.{take_all}
 use Rattle.office_outside.specs.Disk.{Torn, written_over}
@@ -61,7 +62,8 @@ counts_now bytes calls t c le image = record {
 pub only_now : (bytes : List ℕ) (calls : List DiskCall) (c : List ℕ)
     → LeftSince bytes calls (length calls) c → IsImage (replay bytes calls) c
 only_now bytes calls c left =
-    subst (λ (l : List DiskCall). IsImage (replay bytes l) c) (take_all left.at calls left.not_before) left.image
+    subst (λ (l : List DiskCall). IsImage (replay bytes l) c)
+    (take_all left.at calls left.not_before) left.image
 
 -- what a read gives and what a stop leaves, after these calls
 pub record Left (s : State) (reads left : List ℕ) : Type 0 where

@@ -17,7 +17,13 @@ pub record Planned : Type 0 where
 
 -- a plan before its first call
 abbrev pub fresh_plan : List ℕ → List ℕ → Planned
-fresh_plan failing sizes = record { failing = failing; sizes = sizes; calls = 0; moves = 0; faults = 0 }
+fresh_plan failing sizes = record {
+  failing = failing;
+  sizes = sizes;
+  calls = 0;
+  moves = 0;
+  faults = 0;
+}
 
 -- a size as a bound: 0 counts as 1, and after the last size there is none
 abbrev pub cut_at : Option ℕ → ℕ → ℕ

@@ -1,4 +1,5 @@
--- What an object of the outside holds, or has left, where it tells. No call changes whether it tells.
+-- What an object of the outside holds, or has left, where it tells. No call changes
+-- whether it tells.
 use Rattle.std.specs.Prelude.{◌≡◌, ℕ, ◌≤◌, List, [], ◌++◌, length, take, Option, Some, None, ⊤}
 
 -- the object gained these bytes at its end

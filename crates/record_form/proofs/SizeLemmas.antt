@@ -1,5 +1,6 @@
 -- How long records are.
-use Rattle.std.proofs.Common.{◌≡◌, ℕ, suc, ◌+◌, ◌*◌, ◌≤◌, List, [], ◌∷◌, ◌++◌, length, refl, ap, ◌∙◌, arith, length-append}
+use Rattle.std.proofs.Common.{◌≡◌, ℕ, suc, ◌+◌, ◌*◌, ◌≤◌, List, [], ◌∷◌, ◌++◌, length, refl, ap}
+use Rattle.std.proofs.Common.{◌∙◌, arith, length-append}
 use Rattle.std.specs.Prelude.{IsTrue}
 use Rattle.std.specs.List.{AllByRecursion}
 use Rattle.std.proofs.lemmas.Bool.Decides.{nat_tests}
@@ -12,10 +13,12 @@ use Rattle.sample_book.specs.declared.exclusions.Exclusion.{Exclusion}
 use Rattle.slo_objects.specs.declared.kind.Kind.{Kind}
 use Rattle.slo_limits.specs.declared.TheConstants.{MAX_RECORD_BYTES, MAX_TEXT_BYTES, MAX_ZONE_BYTES}
 use Rattle.record_form.specs.declared.command.Command.{Command}
-use Rattle.record_form.specs.declared.command.Command.TheVariants.{Define, Remove, PutZone, Samples, Exclude, Lift, Tick, Take}
+use Rattle.record_form.specs.declared.command.Command.TheVariants.{Define, Remove, PutZone, Samples}
+use Rattle.record_form.specs.declared.command.Command.TheVariants.{Exclude, Lift, Tick, Take}
 use Rattle.record_form.specs.declared.entry.Entry.{Entry}
 use Rattle.record_form.specs.Form.{write_each}
-use Rattle.record_form.specs.Records.{number_within, label, zone_name, text_within, kind, amount, row, rows, exclusion, command, entry}
+use Rattle.record_form.specs.Records.{number_within, label, zone_name, text_within, kind, amount}
+use Rattle.record_form.specs.Records.{row, rows, exclusion, command, entry}
 use Rattle.record_form.specs.Ranges.{FitsRow, FitsExclusion, Fits, FitsRecord}
 
 -- numerals as they are counted
@@ -28,27 +31,32 @@ four n = omega arith
 nine : (n : ℕ) → suc (suc (suc (suc (suc (suc (suc (suc (suc n)))))))) ≡ 9 + n
 nine n = omega arith
 
-label_length : (name rest : List ℕ) → length (label.write name rest) ≡ suc (length name + length rest)
+label_length : (name rest : List ℕ)
+    → length (label.write name rest) ≡ suc (length name + length rest)
 unfolding label
 label_length name rest = ap suc (length-append name rest)
 
 short_label : (name : List ℕ) → IsTrue (is_label name) → length name ≤ 63
 short_label name h = grind (arith, nat_tests)
 
-zone_length : (name rest : List ℕ) → length (zone_name.write name rest) ≡ suc (length name + length rest)
+zone_length : (name rest : List ℕ)
+    → length (zone_name.write name rest) ≡ suc (length name + length rest)
 unfolding zone_name
 zone_length name rest = ap suc (length-append name rest)
 
 short_zone : (name : List ℕ) → IsTrue (is_zone_name name) → length name ≤ 63
 short_zone name h = grind (arith, nat_tests)
 
-number_length : (least most n : ℕ) (rest : List ℕ) → length ((number_within least most).write n rest) ≡ 4 + length rest
+number_length : (least most n : ℕ) (rest : List ℕ)
+    → length ((number_within least most).write n rest) ≡ 4 + length rest
 unfolding number_within
 number_length least most n rest = four (length rest)
 
-text_length : (most : ℕ) (bytes rest : List ℕ) → length ((text_within most).write bytes rest) ≡ 4 + (length bytes + length rest)
+text_length : (most : ℕ) (bytes rest : List ℕ)
+    → length ((text_within most).write bytes rest) ≡ 4 + (length bytes + length rest)
 unfolding text_within
-text_length most bytes rest = number_length 0 most (length bytes) (bytes ++ rest) ∙ ap (λ (n : ℕ). 4 + n) (length-append bytes rest)
+text_length most bytes rest = number_length 0 most (length bytes) (bytes ++ rest)
+    ∙ ap (λ (n : ℕ). 4 + n) (length-append bytes rest)
 
 amount_length : (x : Amount) (rest : List ℕ) → length (amount.write x rest) ≡ 9 + length rest
 unfolding amount
@@ -63,7 +71,8 @@ rows_length : (rs : List Row) → length (rows.write rs []) ≡ 2 + length (writ
 unfolding rows
 rows_length rs = two (length (write_each row rs []))
 
-exclusion_length : (x : Exclusion) (rest : List ℕ) → FitsExclusion x → length (exclusion.write x rest) ≤ 136 + length rest
+exclusion_length : (x : Exclusion) (rest : List ℕ) → FitsExclusion x
+    → length (exclusion.write x rest) ≤ 136 + length rest
 unfolding exclusion
 exclusion_length x rest fits =
     let to_end = (number_within 0 134217727).write x.to rest in
@@ -95,7 +104,8 @@ row_length r rest fits =
       amount_length r.amount rest,
     )
 
-each_length : (rs : List Row) → AllByRecursion FitsRow rs → length (write_each row rs []) ≤ 145 * length rs
+each_length : (rs : List Row) → AllByRecursion FitsRow rs
+    → length (write_each row rs []) ≤ 145 * length rs
 each_length [] h = omega arith
 each_length (r ∷ rs) h = omega (arith, row_length r (write_each row rs []) h.0, each_length rs h.1)
 
@@ -103,8 +113,20 @@ each_length (r ∷ rs) h = omega (arith, row_length r (write_each row rs []) h.0
 most_command : (c : Command) → Fits c → length (command.write c []) ≤ 1048581
 unfolding command
 most_command (Define documents) h = omega (arith, text_length MAX_TEXT_BYTES documents [], h)
-most_command (Remove k name) h = omega (arith, kind_length k (label.write name []), label_length name [], short_label name h)
-most_command (PutZone name bytes) h = omega (arith, zone_length name ((text_within MAX_ZONE_BYTES).write bytes []), short_zone name h.0, text_length MAX_ZONE_BYTES bytes [], h.1)
+most_command (Remove k name) h = omega (
+  arith,
+  kind_length k (label.write name []),
+  label_length name [],
+  short_label name h,
+)
+most_command (PutZone name bytes) h =
+    omega (
+      arith,
+      zone_length name ((text_within MAX_ZONE_BYTES).write bytes []),
+      short_zone name h.0,
+      text_length MAX_ZONE_BYTES bytes [],
+      h.1,
+    )
 most_command (Samples rs) h = omega (arith, rows_length rs, each_length rs h.1, h.0)
 most_command (Exclude x) h = omega (arith, exclusion_length x [] h)
 most_command (Lift id) h = omega (arith, label_length id [], short_label id h)

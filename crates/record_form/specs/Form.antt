@@ -1,8 +1,11 @@
--- Forms: how a value is spelled in front of what follows it, and how it is read from the front of bytes.
-use Rattle.std.specs.Prelude.{ℕ, zero, suc, Bool, nat_lt, cond, List, [], ◌∷◌, ◌++◌, length, take, drop, Option, Some, None}
+-- Forms: how a value is spelled in front of what follows it, and how it is read from the
+-- front of bytes.
+use Rattle.std.specs.Prelude.{ℕ, zero, suc, Bool, nat_lt, cond, List, [], ◌∷◌, ◌++◌, length, take}
+use Rattle.std.specs.Prelude.{drop, Option, Some, None}
 use Rattle.std.specs.Int.{Width, byte_len, to_be_bytes, from_be_bytes}
 
--- The spelling of a value in front of what follows; the value at the front of bytes, and what follows it.
+-- The spelling of a value in front of what follows; the value at the front of bytes, and
+-- what follows it.
 pub record Form (A : Type 0) : Type 0 where
   pub write : A → List ℕ → List ℕ
   pub read : List ℕ → Option (A × List ℕ)
@@ -24,12 +27,14 @@ byte = record { write = λ n rest. n ∷ rest; read = first_byte }
 abbrev pub number : Width → Form ℕ
 number w = record {
   write = λ n rest. to_be_bytes w n ++ rest;
-  read = λ bytes. cond (nat_lt (length bytes) (byte_len w)) None (Some (from_be_bytes w (take (byte_len w) bytes), drop (byte_len w) bytes));
+  read = λ bytes. cond (nat_lt (length bytes) (byte_len w)) None
+      (Some (from_be_bytes w (take (byte_len w) bytes), drop (byte_len w) bytes));
 }
 
 -- the next bytes, as many as the count says
 abbrev pub take_bytes : ℕ → List ℕ → Option (List ℕ × List ℕ)
-take_bytes count bytes = cond (nat_lt (length bytes) count) None (Some (take count bytes, drop count bytes))
+take_bytes count bytes =
+    cond (nat_lt (length bytes) count) None (Some (take count bytes, drop count bytes))
 
 -- a length, and that many bytes
 abbrev pub text : Form ℕ → Form (List ℕ)
@@ -50,7 +55,8 @@ infixr 12 ◌then◌
 abbrev pub ◌then◌ : {A B : Type 0} → Form A → Form B → Form (A × B)
 one then other = record {
   write = λ pair rest. one.write pair.0 (other.write pair.1 rest);
-  read = λ bytes. and_then (one.read bytes) (λ x. and_then (other.read x.1) (λ y. Some ((x.0, y.0), y.1)));
+  read = λ bytes. and_then (one.read bytes)
+      (λ x. and_then (other.read x.1) (λ y. Some ((x.0, y.0), y.1)));
 }
 
 -- a value that is made of what the form spells
@@ -70,7 +76,8 @@ write_each form (x ∷ xs) rest = form.write x (write_each form xs rest)
 
 abbrev pub read_each : {A : Type 0} → Form A → ℕ → List ℕ → Option (List A × List ℕ)
 read_each form zero bytes = Some ([], bytes)
-read_each form (suc n) bytes = and_then (form.read bytes) (λ x. and_then (read_each form n x.1) (λ xs. Some (x.0 ∷ xs.0, xs.1)))
+read_each form (suc n) bytes = and_then (form.read bytes)
+    (λ x. and_then (read_each form n x.1) (λ xs. Some (x.0 ∷ xs.0, xs.1)))
 
 -- a number, and that many values
 abbrev pub counted : {A : Type 0} → Form ℕ → Form A → Form (List A)

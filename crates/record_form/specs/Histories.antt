@@ -22,7 +22,8 @@ read_all (suc n) bytes = read_on (read_all n) (entry.read bytes)
 unfoldable pub history_of : List ℕ → List Entry
 history_of bytes = read_all (length bytes) bytes
 
--- The bytes are the records of the history that they stand for, and each of its entries has a record.
+-- The bytes are the records of the history that they stand for, and each of its entries
+-- has a record.
 pub record AreRecords (bytes : List ℕ) : Type 0 where
   pub spelled : bytes ≡ records_of (history_of bytes)
   pub fit : AllByRecursion FitsRecord (history_of bytes)

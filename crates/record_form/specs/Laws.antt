@@ -9,11 +9,13 @@ use Rattle.record_form.specs.Histories.{records_of, history_of, AreRecords}
 
 -- An entry is read back from its record, whatever follows.
 abbrev pub EntriesAreReadBack : Type 0
-EntriesAreReadBack = (e : Entry) (rest : List ℕ) → FitsRecord e → entry.read (record_of e ++ rest) ≡ Some (e, rest)
+EntriesAreReadBack = (e : Entry) (rest : List ℕ) → FitsRecord e
+    → entry.read (record_of e ++ rest) ≡ Some (e, rest)
 
 -- No record begins another, so records that begin alike are of one entry, and one has nothing more.
 abbrev pub NoRecordBeginsAnother : Type 0
-NoRecordBeginsAnother = (one other rest : List ℕ) (e f : Entry) → IsRecord one e → IsRecord other f → one ++ rest ≡ other → (e ≡ f) × (rest ≡ [])
+NoRecordBeginsAnother = (one other rest : List ℕ) (e f : Entry) → IsRecord one e → IsRecord other f
+    → one ++ rest ≡ other → (e ≡ f) × (rest ≡ [])
 
 -- A record has 5 bytes at least, the moment and the kind, and at most as many as the journal takes.
 pub record HasSize (e : Entry) : Type 0 where
@@ -25,7 +27,8 @@ RecordsHaveSizes = (e : Entry) → FitsRecord e → HasSize e
 
 -- A history is read back from its records.
 abbrev pub HistoriesAreReadBack : Type 0
-HistoriesAreReadBack = (history : List Entry) → AllByRecursion FitsRecord history → history_of (records_of history) ≡ history
+HistoriesAreReadBack = (history : List Entry) → AllByRecursion FitsRecord history
+    → history_of (records_of history) ≡ history
 
 -- One record more is one entry more.
 pub record AddsOne (bytes : List ℕ) (e : Entry) : Type 0 where

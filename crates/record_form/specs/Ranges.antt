@@ -1,4 +1,5 @@
--- Which entries have a record: the ranges of the numbers, and what the types themselves promise of their values.
+-- Which entries have a record: the ranges of the numbers, and what the types themselves promise
+-- of their values.
 use Rattle.std.specs.Prelude.{ℕ, ◌<◌, ◌≤◌, ◌^◌, ◌≡◌, List, length, IsTrue}
 use Rattle.std.specs.List.{AllByRecursion}
 use Rattle.exact_fraction.specs.Label.{is_label}
@@ -7,10 +8,12 @@ use Rattle.slice_method.specs.declared.amount.Amount.{Amount}
 use Rattle.slice_method.specs.declared.amount.Amount.TheVariants.{Counts, Value}
 use Rattle.sample_book.specs.declared.row.Row.{Row}
 use Rattle.sample_book.specs.declared.exclusions.Exclusion.{Exclusion}
-use Rattle.slo_limits.specs.declared.TheConstants.{MAX_BATCH_ROWS, MAX_DECIMAL, MAX_MINUTE, MAX_REVISION, MAX_TEXT_BYTES, MAX_ZONE_BYTES}
+use Rattle.slo_limits.specs.declared.TheConstants.{MAX_BATCH_ROWS, MAX_DECIMAL, MAX_MINUTE}
+use Rattle.slo_limits.specs.declared.TheConstants.{MAX_REVISION, MAX_TEXT_BYTES, MAX_ZONE_BYTES}
 use Rattle.record_form.specs.declared.fields.TheConstants.{MAX_EXCLUDED_MINUTE}
 use Rattle.record_form.specs.declared.command.Command.{Command}
-use Rattle.record_form.specs.declared.command.Command.TheVariants.{Define, Remove, PutZone, Samples, Exclude, Lift, Tick, Take}
+use Rattle.record_form.specs.declared.command.Command.TheVariants.{Define, Remove, PutZone, Samples}
+use Rattle.record_form.specs.declared.command.Command.TheVariants.{Exclude, Lift, Tick, Take}
 use Rattle.record_form.specs.declared.entry.Entry.{Entry}
 use Rattle.record_form.specs.Records.{record_of}
 

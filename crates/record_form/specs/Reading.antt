@@ -9,8 +9,10 @@ abbrev pub Fails : {Y : Type 0} → Unread → Option Y → Type 0
 Fails NoRecord read = read ≡ None
 Fails NoMemory read = Unit {0}
 
--- What was read of `before`, seen by `view`, is what stands there by the reading, and `after` follows it.
-abbrev pub ReadsAs : {X Y : Type 0} → (X → Y) → (List ℕ → Option (Y × List ℕ)) → Result X Unread → List ℕ → List ℕ → Type 0
+-- What was read of `before`, seen by `view`, is what stands there by the reading, and
+-- `after` follows it.
+abbrev pub ReadsAs : {X Y : Type 0} → (X → Y) → (List ℕ → Option (Y × List ℕ)) → Result X Unread
+    → List ℕ → List ℕ → Type 0
 ReadsAs view read (Ok x) before after = read before ≡ Some (view x, after)
 ReadsAs view read (Err e) before after = Fails e (read before)
 

@@ -4,8 +4,9 @@ use Rattle.sample_book.specs.declared.row.Cell.{Cell}
 use Rattle.sample_book.specs.declared.row.Row.{Row}
 use Rattle.sample_book.specs.declared.exclusions.Exclusion.{Exclusion}
 
--- the current rows in the order in which their cells first came, the exclusions in the order in which
--- they were made, each with whether it is live, the cells that have room for a row, and the room for exclusions
+-- the current rows in the order in which their cells first came, the exclusions in the order in
+-- which they were made, each with whether it is live, the cells that have room for a row, and the
+-- room for exclusions
 pub record Book : Type 0 where
   pub rows : List Row
   pub exclusions : List (Exclusion × Bool)

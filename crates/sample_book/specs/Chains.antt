@@ -1,5 +1,7 @@
 -- Rows of an indicator, or of an indicator on a day, each linked to the one before it.
-use Rattle.std.specs.Prelude.{◌≡◌, ◌<◌, ◌≤◌, ◌+◌, ◌/◌, ◌&&◌, ℕ, zero, suc, Bool, true, false, cond, nat_eq, List, [], ◌∷◌, ◌++◌, length, map, slice_get, Option, Some, None, vec_capacity}
+use Rattle.std.specs.Prelude.{◌≡◌, ◌<◌, ◌≤◌, ◌+◌, ◌/◌, ◌&&◌, ℕ, zero, suc, Bool, true, false, cond}
+use Rattle.std.specs.Prelude.{nat_eq, List, [], ◌∷◌, ◌++◌, length, map, slice_get, Option, Some}
+use Rattle.std.specs.Prelude.{None, vec_capacity}
 use Rattle.std.specs.Str.{bytes_eq}
 use Rattle.indexmap.specs.IndexMap.{get, spare}
 use Rattle.sample_book.specs.Counting.{is_of}
@@ -56,11 +58,13 @@ link_of (Some link) = link
 -- the link of each item to the one before it of its group
 abbrev pub links_after : List Group → List Group → List ℕ
 links_after before [] = []
-links_after before (group ∷ groups) = last (group_eq group) before ∷ links_after (before ++ group ∷ []) groups
+links_after before (group ∷ groups) =
+    last (group_eq group) before ∷ links_after (before ++ group ∷ []) groups
 
 -- the last item of each group is known, and each item has its link
 pub record AreLinked (groups : List Group) (chains : Chains) : Type 0 where
-  pub lasts : (group : Group) → link_of (get group_eq chains.lasts group) ≡ last (group_eq group) groups
+  pub lasts : (group : Group)
+      → link_of (get group_eq chains.lasts group) ≡ last (group_eq group) groups
   pub links : chains.links.items ≡ links_after [] groups
 
 -- so many items can be added without memory

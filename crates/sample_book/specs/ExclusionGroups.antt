@@ -1,5 +1,7 @@
--- Exclusions of an objective by the day on which they begin, the ones that are longer than a day together.
-use Rattle.std.specs.Prelude.{◌&&◌, ◌-◌, ◌+◌, ◌/◌, ℕ, Bool, List, length, map, min, nat_le, if◌then◌else◌, vec_capacity}
+-- Exclusions of an objective by the day on which they begin, the ones that are longer than
+-- a day together.
+use Rattle.std.specs.Prelude.{◌&&◌, ◌-◌, ◌+◌, ◌/◌, ℕ, Bool, List, length, map, min, nat_le}
+use Rattle.std.specs.Prelude.{if◌then◌else◌, vec_capacity}
 use Rattle.indexmap.specs.IndexMap.{spare}
 use Rattle.sample_book.specs.Chains.{AreLinked, group_eq}
 use Rattle.sample_book.specs.Exclusions.{AreExclusions, MOST_EXCLUSIONS, excludes}
@@ -19,7 +21,8 @@ group_of_kept kept = group_of kept.0
 
 -- an exclusion of a group is live and takes the minute from the group's objective
 abbrev pub excludes_in : Group → ℕ → Exclusion × Bool → Bool
-excludes_in group minute kept = group_eq group (group_of_kept kept) && excludes group.name minute kept
+excludes_in group minute kept =
+    group_eq group (group_of_kept kept) && excludes group.name minute kept
 
 abbrev pub excludes_on : List ℕ → ℕ → ℕ → Exclusion × Bool → Bool
 excludes_on slo day minute kept = excludes_in (record { name = slo; day = day }) minute kept
@@ -27,7 +30,8 @@ excludes_on slo day minute kept = excludes_in (record { name = slo; day = day })
 -- so many more can be made without memory
 abbrev pub room_left : List (Exclusion × Bool) → ℕ → Chains → ℕ
 room_left made capacity groups =
-    min (min capacity MOST_EXCLUSIONS - length made) (min (vec_capacity groups.links - length groups.links.items) (spare groups.lasts))
+    min (min capacity MOST_EXCLUSIONS - length made)
+    (min (vec_capacity groups.links - length groups.links.items) (spare groups.lasts))
 
 pub record AreGrouped (made : List (Exclusion × Bool)) (groups : Chains) : Type 0 where
   pub exclusions : AreExclusions made

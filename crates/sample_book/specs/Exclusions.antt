@@ -1,5 +1,6 @@
 -- Exclusions: stretches of time that don't count for an objective.
-use Rattle.std.specs.Prelude.{◌≡◌, ℕ, Bool, true, not, IfSome, IsSome, ◌&&◌, nat_le, nat_lt, List, [], ◌∷◌, map, length, ◌≤◌, Option, None}
+use Rattle.std.specs.Prelude.{◌≡◌, ℕ, Bool, true, not, IfSome, IsSome, ◌&&◌, nat_le, nat_lt, List}
+use Rattle.std.specs.Prelude.{[], ◌∷◌, map, length, ◌≤◌, Option, None}
 use Rattle.std.specs.List.{find, list_any}
 use Rattle.std.specs.Str.{bytes_eq}
 use Rattle.sample_book.specs.declared.exclusions.Exclusion.{Exclusion}
@@ -33,7 +34,8 @@ pub record AreExclusions (made : List (Exclusion × Bool)) : Type 0 where
 
 -- a live exclusion of this objective has the minute: from <= minute < to
 abbrev pub excludes : List ℕ → ℕ → Exclusion × Bool → Bool
-excludes slo minute kept = kept.1 && bytes_eq kept.0.slo slo && nat_le kept.0.from minute && nat_lt minute kept.0.to
+excludes slo minute kept = kept.1 && bytes_eq kept.0.slo slo && nat_le kept.0.from minute
+    && nat_lt minute kept.0.to
 
 -- a minute is excluded where some live exclusion of the objective has it
 abbrev pub is_excluded : List (Exclusion × Bool) → List ℕ → ℕ → Bool
@@ -45,7 +47,8 @@ lifted made id = map (λ kept. (kept.0, kept.1 && not (has_id id kept))) made
 
 -- the exclusion of this id is live
 abbrev pub IsLive : List (Exclusion × Bool) → List ℕ → Type 0
-IsLive made id = IfSome (exclusion_of made id) (λ kept. kept.1 ≡ true) × IsSome (exclusion_of made id)
+IsLive made id = IfSome (exclusion_of made id) (λ kept. kept.1 ≡ true)
+    × IsSome (exclusion_of made id)
 
 -- what happens to exclusions: one is made, or the one of an id is lifted
 pub data Change : Type 0 where
@@ -67,7 +70,8 @@ lifted_in (Lifted id ∷ changes) = id ∷ lifted_in changes
 -- an exclusion of the objective that isn't lifted has the minute: from <= minute < to
 abbrev pub excludes_in : List Change → List ℕ → ℕ → Exclusion → Bool
 excludes_in changes slo minute value =
-    not (list_any (bytes_eq value.id) (lifted_in changes)) && bytes_eq value.slo slo && nat_le value.from minute && nat_lt minute value.to
+    not (list_any (bytes_eq value.id) (lifted_in changes)) && bytes_eq value.slo slo
+    && nat_le value.from minute && nat_lt minute value.to
 
 -- a minute is excluded where some exclusion of the objective that isn't lifted has it
 abbrev pub is_excluded_in : List Change → List ℕ → ℕ → Bool

@@ -11,7 +11,10 @@ use Rattle.sample_book.specs.declared.row.Row.{Row}
 
 -- the place of the first row of an indicator, and the number of its days, where it has rows
 abbrev pub extent_of : List Row → List ℕ → Option Extent
-extent_of rows sli = option_map (λ place. record { first = place; days = length (days_with_rows rows sli) }) (position (is_of sli) rows)
+extent_of rows sli = option_map (λ place. record {
+  first = place;
+  days = length (days_with_rows rows sli);
+}) (position (is_of sli) rows)
 
 -- that is known of each indicator
 pub record AreExtents (rows : List Row) (extents : Extents) : Type 0 where

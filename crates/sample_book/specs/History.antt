@@ -1,5 +1,6 @@
 -- What a book holds after all that came: rows, exclusions and liftings, in any order.
-use Rattle.std.specs.Prelude.{◌≡◌, ℕ, Bool, true, false, not, List, [], ◌∷◌, ◌++◌, map, drop, if◌then◌else◌, None}
+use Rattle.std.specs.Prelude.{◌≡◌, ℕ, Bool, true, false, not, List, [], ◌∷◌, ◌++◌, map, drop}
+use Rattle.std.specs.Prelude.{if◌then◌else◌, None}
 use Rattle.std.specs.List.{list_any}
 use Rattle.std.specs.Str.{bytes_eq}
 use Rattle.sample_book.specs.declared.row.Cell.{Cell}
@@ -8,7 +9,8 @@ use Rattle.sample_book.specs.declared.row.RowVerdict.{RowVerdict}
 use Rattle.sample_book.specs.declared.row.RowVerdict.TheVariants.{New, Newer}
 use Rattle.sample_book.specs.declared.exclusions.Exclusion.{Exclusion}
 use Rattle.sample_book.specs.Book.{Book}
-use Rattle.sample_book.specs.Exclusions.{Change, Excluded, Lifted, IsLive, exclusion_of, lifted, excluded_in, lifted_in}
+use Rattle.sample_book.specs.Exclusions.{Change, Excluded, Lifted, IsLive, exclusion_of, lifted}
+use Rattle.sample_book.specs.Exclusions.{excluded_in, lifted_in}
 use Rattle.sample_book.specs.Rows.{MayPutAs, cell_of, current_rows, verdict_of}
 
 -- what happens to a book: a row comes, an exclusion is made, or the one of an id is lifted
@@ -30,7 +32,8 @@ changes_in (Changed change ∷ events) = change ∷ changes_in events
 
 -- The exclusions that were made, each live unless its id was lifted.
 abbrev pub exclusions_of : List Change → List (Exclusion × Bool)
-exclusions_of changes = map (λ value. (value, not (list_any (bytes_eq value.id) (lifted_in changes)))) (excluded_in changes)
+exclusions_of changes = map
+    (λ value. (value, not (list_any (bytes_eq value.id) (lifted_in changes)))) (excluded_in changes)
 
 -- a row is put where it is new or newer, and passed over else
 abbrev pub is_put : RowVerdict → Bool
@@ -38,22 +41,30 @@ is_put New = true
 is_put (Newer kept) = true
 is_put _ = false
 
--- The rows and exclusions of a book after these events, one call after another: each row that came was put or passed over,
--- each exclusion was of an id that was unused, each lifting of one that was live.
+-- The rows and exclusions of a book after these events, one call after another: each row that
+-- came was put or passed over, each exclusion was of an id that was unused, each lifting of one
+-- that was live.
 pub data Holds : List Event → List Row → List (Exclusion × Bool) → Type 0 where
   empty : Holds [] [] []
-  put : {events : List Event} {rows : List Row} {made : List (Exclusion × Bool)} (row : Row) → Holds events rows made →
-      is_put (verdict_of rows row) ≡ true → Holds (events ++ Came row ∷ []) (current_rows (rows ++ row ∷ [])) made
-  passed : {events : List Event} {rows : List Row} {made : List (Exclusion × Bool)} (row : Row) → Holds events rows made →
+  put : {events : List Event} {rows : List Row} {made : List (Exclusion × Bool)} (row : Row) →
+      Holds events rows made →
+      is_put (verdict_of rows row) ≡ true →
+      Holds (events ++ Came row ∷ []) (current_rows (rows ++ row ∷ [])) made
+  passed : {events : List Event} {rows : List Row} {made : List (Exclusion × Bool)} (row : Row) →
+      Holds events rows made →
       is_put (verdict_of rows row) ≡ false → Holds (events ++ Came row ∷ []) rows made
-  excluded : {events : List Event} {rows : List Row} {made : List (Exclusion × Bool)} (value : Exclusion) → Holds events rows made →
-      exclusion_of made value.id ≡ None → Holds (events ++ Changed (Excluded value) ∷ []) rows (made ++ (value, true) ∷ [])
-  lifted_one : {events : List Event} {rows : List Row} {made : List (Exclusion × Bool)} (id : List ℕ) → Holds events rows made →
+  excluded : {events : List Event} {rows : List Row} {made : List (Exclusion × Bool)}
+      (value : Exclusion) → Holds events rows made →
+      exclusion_of made value.id ≡ None →
+      Holds (events ++ Changed (Excluded value) ∷ []) rows (made ++ (value, true) ∷ [])
+  lifted_one : {events : List Event} {rows : List Row} {made : List (Exclusion × Bool)}
+      (id : List ℕ) → Holds events rows made →
       IsLive made id → Holds (events ++ Changed (Lifted id) ∷ []) rows (lifted made id)
 
 -- a book of some events becomes the book of these and one more
 abbrev pub Gains : Book → Event → Book → Type 0
-Gains before event after = (events : List Event) → Holds events before.rows before.exclusions → Holds (events ++ event ∷ []) after.rows after.exclusions
+Gains before event after = (events : List Event) → Holds events before.rows before.exclusions
+    → Holds (events ++ event ∷ []) after.rows after.exclusions
 
 -- the rows of a book after a row came: a row is put where it is new or newer
 abbrev pub rows_after : List Row → Row → List Row

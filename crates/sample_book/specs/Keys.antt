@@ -1,5 +1,6 @@
 -- Cells by the numbers of their names.
-use Rattle.std.specs.Prelude.{◌≡◌, ◌<◌, ◌≤◌, ℕ, Bool, ◌&&◌, nat_eq, List, [], ◌∷◌, length, take, Some, None, ◌⊎◌}
+use Rattle.std.specs.Prelude.{◌≡◌, ◌<◌, ◌≤◌, ℕ, Bool, ◌&&◌, nat_eq, List, [], ◌∷◌, length, take}
+use Rattle.std.specs.Prelude.{Some, None, ◌⊎◌}
 use Rattle.std.specs.List.{IsDistinct, position}
 use Rattle.std.specs.Str.{bytes_eq}
 use Rattle.sample_book.specs.declared.cells.Key.{Key}
@@ -12,7 +13,11 @@ key_eq a b = nat_eq a.sli b.sli && (nat_eq a.source b.source && nat_eq a.minute 
 
 -- the cell of a key, by the names of its numbers
 abbrev pub cell_named : List (List ℕ) → List (List ℕ) → Key → Cell
-cell_named slis sources key = record { sli = named slis key.sli; source = named sources key.source; minute = key.minute }
+cell_named slis sources key = record {
+  sli = named slis key.sli;
+  source = named sources key.source;
+  minute = key.minute;
+}
 
 -- the numbers of a key have names
 pub record IsNamed (slis sources : List (List ℕ)) (key : Key) : Type 0 where
@@ -33,15 +38,18 @@ pub record IsKeyOf (slis sources : List (List ℕ)) (cell : Cell) (key : Key) : 
 
 -- one of the cell's names has no number
 abbrev pub HasNoKey : List (List ℕ) → List (List ℕ) → Cell → Type 0
-HasNoKey slis sources cell = (position (bytes_eq cell.sli) slis ≡ None) ⊎ (position (bytes_eq cell.source) sources ≡ None)
+HasNoKey slis sources cell = (position (bytes_eq cell.sli) slis ≡ None)
+    ⊎ (position (bytes_eq cell.source) sources ≡ None)
 
 -- the keys have the first so many numbers alone
 abbrev pub AreNumbered : ℕ → ℕ → List Key → Type 0
 AreNumbered slis sources [] = Unit {0}
-AreNumbered slis sources (key ∷ keys) = (key.sli < slis) × (key.source < sources) × AreNumbered slis sources keys
+AreNumbered slis sources (key ∷ keys) = (key.sli < slis) × (key.source < sources)
+    × AreNumbered slis sources keys
 
 -- each key has names, and the first keys have the first so many names alone
-pub record AreKnown (slis sources : List (List ℕ)) (keys : List Key) (settled settled_slis settled_sources : ℕ) : Type 0 where
+pub record AreKnown (slis sources : List (List ℕ)) (keys : List Key)
+    (settled settled_slis settled_sources : ℕ) : Type 0 where
   pub named : AreNamed slis sources keys
   pub within : settled ≤ length keys
   pub numbered : AreNumbered settled_slis settled_sources (take settled keys)

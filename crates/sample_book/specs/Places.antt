@@ -1,5 +1,6 @@
 -- Where keys stand: the keys are shared out among buckets, and those of a bucket are linked.
-use Rattle.std.specs.Prelude.{◌≡◌, ◌<◌, ◌≤◌, ◌+◌, ◌*◌, ◌/◌, ◌%◌, ◌^◌, ℕ, Bool, nat_eq, List, length, take, slice_get, slice_index, Some}
+use Rattle.std.specs.Prelude.{◌≡◌, ◌<◌, ◌≤◌, ◌+◌, ◌*◌, ◌/◌, ◌%◌, ◌^◌, ℕ, Bool, nat_eq, List, length}
+use Rattle.std.specs.Prelude.{take, slice_get, slice_index, Some}
 use Rattle.std.specs.List.{position}
 use Rattle.sample_book.specs.Chains.{below, last}
 use Rattle.sample_book.specs.Keys.{key_eq}
@@ -12,7 +13,8 @@ spread key =
     ((key.sli * 11400714819323198485 % 2 ^ 64 + key.source * 14029467366897019727 % 2 ^ 64) % 2 ^ 64
     + key.minute / 16 * 15485863157411823079 % 2 ^ 64) % 2 ^ 64 / 2 ^ 32
 
--- the bucket of a key among so many blocks of sixteen buckets: the minutes of a sixteen have the buckets of one block
+-- the bucket of a key among so many blocks of sixteen buckets: the minutes of a sixteen have the
+-- buckets of one block
 unfoldable pub bucket_of : ℕ → Key → ℕ
 bucket_of blocks key = spread key * blocks / 2 ^ 32 * 16 + (spread key + key.minute % 16) % 16
 

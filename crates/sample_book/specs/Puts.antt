@@ -3,10 +3,12 @@ use Rattle.std.specs.Prelude.{◌≡◌, Bool, true, false, Option, Some, None, 
 use Rattle.slo_terms.specs.Rows.{newer}
 use Rattle.sample_book.specs.declared.row.Row.{Row}
 use Rattle.sample_book.specs.declared.row.RowVerdict.{RowVerdict}
-use Rattle.sample_book.specs.declared.row.RowVerdict.TheVariants.{New, Newer, Repeated, Superseded, Conflict}
+use Rattle.sample_book.specs.declared.row.RowVerdict.TheVariants.{New, Newer, Repeated, Superseded}
+use Rattle.sample_book.specs.declared.row.RowVerdict.TheVariants.{Conflict}
 use Rattle.sample_book.specs.Rows.{cell_of, current_rows, verdict_of}
 
--- A row that is put stands behind all others where it is new, and else in the place of its cell's row.
+-- A row that is put stands behind all others where it is new, and else in the place of
+-- its cell's row.
 pub data IsPutInto : List Row → Row → RowVerdict → List Row → Type 0 where
   behind : (rows : List Row) (row : Row) → IsPutInto rows row New (rows ++ row ∷ [])
   in_place : (before after : List Row) (kept row : Row) → cell_of kept ≡ cell_of row →
@@ -17,7 +19,8 @@ abbrev pub replaced : RowVerdict → List Row
 replaced (Newer kept) = kept ∷ []
 replaced _ = []
 
--- of a kept row and a later one of the cell the one that counts: the later one where its revision is greater
+-- of a kept row and a later one of the cell the one that counts: the later one where its
+-- revision is greater
 abbrev pub later_of : Option Row → Option Row → Option Row
 later_of None later = later
 later_of (Some kept) None = Some kept

@@ -1,5 +1,6 @@
 -- Rows, their cells, and how an arriving row stands to what is kept.
-use Rattle.std.specs.Prelude.{Bool, false, ◌&&◌, nat_eq, nat_lt, List, [], ◌∷◌, ◌++◌, ◌≡◌, Option, Some, None, if◌then◌else◌, not, map, filter, slice_get}
+use Rattle.std.specs.Prelude.{Bool, false, ◌&&◌, nat_eq, nat_lt, List, [], ◌∷◌, ◌++◌, ◌≡◌, Option}
+use Rattle.std.specs.Prelude.{Some, None, if◌then◌else◌, not, map, filter, slice_get}
 use Rattle.std.specs.List.{find, list_any}
 use Rattle.std.specs.Str.{bytes_eq}
 use Rattle.slice_method.specs.declared.Amount.{Amount}
@@ -8,7 +9,8 @@ use Rattle.slo_terms.specs.Rows.{current, first_of_each}
 use Rattle.sample_book.specs.declared.row.Cell.{Cell}
 use Rattle.sample_book.specs.declared.row.Row.{Row}
 use Rattle.sample_book.specs.declared.row.RowVerdict.{RowVerdict}
-use Rattle.sample_book.specs.declared.row.RowVerdict.TheVariants.{New, Newer, Repeated, Superseded, Conflict}
+use Rattle.sample_book.specs.declared.row.RowVerdict.TheVariants.{New, Newer, Repeated, Superseded}
+use Rattle.sample_book.specs.declared.row.RowVerdict.TheVariants.{Conflict}
 
 -- the cell that a row is about: an indicator, a source and a minute
 abbrev pub cell_of : Row → Cell
@@ -22,8 +24,8 @@ cell_eq a b = bytes_eq a.sli b.sli && (bytes_eq a.source b.source && nat_eq a.mi
 abbrev pub same_cell : Row → Row → Bool
 same_cell a b = cell_eq (cell_of a) (cell_of b)
 
--- The current rows of a list of rows: of each cell the row of the greatest revision, each cell once,
--- in the order in which the cells first came.
+-- The current rows of a list of rows: of each cell the row of the greatest revision, each cell
+-- once, in the order in which the cells first came.
 abbrev pub current_rows : List Row → List Row
 current_rows = current same_cell (λ row. row.revision)
 
@@ -53,7 +55,8 @@ verdict_where (Some kept) row = verdict_on kept row
 abbrev pub verdict_of : List Row → Row → RowVerdict
 verdict_of rows row = verdict_where (kept_of rows row) row
 
--- A row may be put where it is newer than the kept one, or where it is new and its cell is the first with room.
+-- A row may be put where it is newer than the kept one, or where it is new and its cell is the
+-- first with room.
 abbrev pub MayPutAs : RowVerdict → List Cell → Cell → Type 0
 MayPutAs New room cell = slice_get room 0 ≡ Some cell
 MayPutAs (Newer kept) room cell = Unit {0}
@@ -67,7 +70,8 @@ with_cell cells cell = if list_any (cell_eq cell) cells then cells else cells ++
 
 -- the cells of these rows that are none of `cells`, each once, in the order of the rows
 abbrev pub new_cells : List Cell → List Row → List Cell
-new_cells cells came = map cell_of (first_of_each same_cell (filter (λ row. not (list_any (cell_eq (cell_of row)) cells)) came))
+new_cells cells came = map cell_of
+    (first_of_each same_cell (filter (λ row. not (list_any (cell_eq (cell_of row)) cells)) came))
 
 -- the cells of these rows that have no current row, each once, in the order of the rows
 abbrev pub room_for : List Row → List Row → List Cell

@@ -12,14 +12,23 @@ pub record Standing : Type 0 where
 
 -- the row of a cell, with what is stored for it
 abbrev pub row_stored : Cell → Stored → Row
-row_stored cell stored = record { sli = cell.sli; source = cell.source; minute = cell.minute; revision = stored.revision; amount = stored.amount }
+row_stored cell stored = record {
+  sli = cell.sli;
+  source = cell.source;
+  minute = cell.minute;
+  revision = stored.revision;
+  amount = stored.amount;
+}
 
 abbrev pub rows_stored : List Cell → List Stored → List Row
 rows_stored cells stored = map (λ place. row_stored place.0 place.1) (zip cells stored)
 
 -- The first cells have rows, the cells behind them have room.
 abbrev pub standing_of : List Cell → List Stored → Standing
-standing_of cells stored = record { rows = rows_stored cells stored; room = drop (length stored) cells }
+standing_of cells stored = record {
+  rows = rows_stored cells stored;
+  room = drop (length stored) cells;
+}
 
 -- A place in the list is a `u32`.
 abbrev pub MOST_CELLS : ℕ

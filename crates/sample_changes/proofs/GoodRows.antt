@@ -1,26 +1,31 @@
 -- What rows are that break no rule.
-use Rattle.std.proofs.Common.{◌≡◌, ℕ, ◌+◌, ◌≤◌, ◌<◌, ◌||◌, List, [], ◌∷◌, Bool, true, false, nat_lt, nat_le, refl, arith, length, Option, Some, None}
+use Rattle.std.proofs.Common.{◌≡◌, ℕ, ◌+◌, ◌≤◌, ◌<◌, ◌||◌, List, [], ◌∷◌, Bool, true, false, nat_lt}
+use Rattle.std.proofs.Common.{nat_le, refl, arith, length, Option, Some, None}
 use Rattle.std.specs.List.{AllByRecursion}
 use Rattle.std.proofs.lemmas.Bool.Decides.{nat_tests}
 use Rattle.slo_limits.specs.declared.TheConstants.{WHOLE, MAX_AMOUNT}
 use Rattle.slice_method.specs.declared.Amount.{Amount}
 use Rattle.slice_method.specs.declared.Amount.TheVariants as amounts
 use Rattle.slice_method.specs.declared.Reading.{Reading}
-use Rattle.slice_method.specs.declared.Reading.TheVariants.{Good, Bad, Threshold, RawSuccess, RawFailure}
+use Rattle.slice_method.specs.declared.Reading.TheVariants.{Good, Bad, Threshold, RawSuccess}
+use Rattle.slice_method.specs.declared.Reading.TheVariants.{RawFailure}
 use Rattle.slice_method.specs.Readings.{HasForm, IsSmall}
 use Rattle.sample_book.specs.declared.Row.{Row}
 use Rattle.sample_book.specs.declared.RowVerdict.{RowVerdict}
-use Rattle.sample_book.specs.declared.RowVerdict.TheVariants.{New, Newer, Repeated, Superseded, Conflict}
+use Rattle.sample_book.specs.declared.RowVerdict.TheVariants.{New, Newer, Repeated, Superseded}
+use Rattle.sample_book.specs.declared.RowVerdict.TheVariants.{Conflict}
 use Rattle.sample_book.specs.Puts.{is_conflict}
 use Rattle.slo_objects.specs.declared.Object.{Object}
 use Rattle.record_form.specs.declared.Refusal.{Refusal}
 use Rattle.record_form.specs.declared.Refusal.TheVariants as refusals
 use Rattle.office_history.specs.Lists.{first_some}
 use Rattle.office_history.specs.Objectives.{reading_named}
-use Rattle.office_history.specs.Batches.{when, amount_fault, form_fault, conflict_fault, row_fault, rows_faults}
+use Rattle.office_history.specs.Batches.{when, amount_fault, form_fault, conflict_fault, row_fault}
+use Rattle.office_history.specs.Batches.{rows_faults}
 use Rattle.office_derived.specs.Derived.{IsRead}
 
--- A row that breaks no rule of its own: it is read, and its minute is over and not before the origin.
+-- A row that breaks no rule of its own: it is read, and its minute is over and not
+-- before the origin.
 pub record IsGood (origin moment : ℕ) (members : List Object) (row : Row) : Type 0 where
   pub read : IsRead members row
   pub begun : origin ≤ row.minute
@@ -34,32 +39,48 @@ pub record IsForm (reading : Reading) (amount : Amount) : Type 0 where
   pub form : HasForm reading amount
   pub small : IsSmall amount
 
-counts_form : (part total : ℕ) → (nat_lt total part || nat_lt MAX_AMOUNT total) ≡ false → (part ≤ total) × (total ≤ WHOLE)
+counts_form : (part total : ℕ) → (nat_lt total part || nat_lt MAX_AMOUNT total) ≡ false
+    → (part ≤ total) × (total ≤ WHOLE)
 counts_form part total h = (grind (arith, nat_tests, h), grind (arith, nat_tests, h))
 
 share_form : (measured : ℕ) → nat_lt WHOLE measured ≡ false → measured ≤ WHOLE
 share_form measured h = grind (arith, nat_tests, h)
 
-has_form : (reading : Reading) (amount : Amount) (number : ℕ) → amount_fault reading amount number ≡ None → IsForm reading amount
+has_form : (reading : Reading) (amount : Amount) (number : ℕ)
+    → amount_fault reading amount number ≡ None → IsForm reading amount
 has_form Good (amounts.Counts part total) number h =
-    let parts = counts_form part total (no_fault (nat_lt total part || nat_lt MAX_AMOUNT total) (refusals.Counts number) h) in record { form = parts.0; small = parts.1 }
+    let parts = counts_form part total
+    (no_fault (nat_lt total part || nat_lt MAX_AMOUNT total) (refusals.Counts number) h) in
+    record { form = parts.0; small = parts.1 }
 has_form Bad (amounts.Counts part total) number h =
-    let parts = counts_form part total (no_fault (nat_lt total part || nat_lt MAX_AMOUNT total) (refusals.Counts number) h) in record { form = parts.0; small = parts.1 }
+    let parts = counts_form part total
+    (no_fault (nat_lt total part || nat_lt MAX_AMOUNT total) (refusals.Counts number) h) in
+    record { form = parts.0; small = parts.1 }
 has_form Threshold (amounts.Counts part total) number h = cc h
 has_form RawSuccess (amounts.Counts part total) number h = cc h
 has_form RawFailure (amounts.Counts part total) number h = cc h
 has_form Good (amounts.Value measured) number h = cc h
 has_form Bad (amounts.Value measured) number h = cc h
 has_form Threshold (amounts.Value measured) number h = record { form = tt; small = tt }
-has_form RawSuccess (amounts.Value measured) number h = record { form = share_form measured (no_fault (nat_lt WHOLE measured) (refusals.Counts number) h); small = tt }
-has_form RawFailure (amounts.Value measured) number h = record { form = share_form measured (no_fault (nat_lt WHOLE measured) (refusals.Counts number) h); small = tt }
+has_form RawSuccess (amounts.Value measured) number h = record {
+  form =
+      share_form measured (no_fault (nat_lt WHOLE measured) (refusals.Counts number) h);
+  small = tt;
+}
+has_form RawFailure (amounts.Value measured) number h = record {
+  form =
+      share_form measured (no_fault (nat_lt WHOLE measured) (refusals.Counts number) h);
+  small = tt;
+}
 
-is_read : (members : List Object) (row : Row) (o : Option Reading) (number : ℕ) → reading_named members row.sli ≡ o → form_fault o row number ≡ None → IsRead members row
+is_read : (members : List Object) (row : Row) (o : Option Reading) (number : ℕ)
+    → reading_named members row.sli ≡ o → form_fault o row number ≡ None → IsRead members row
 is_read members row None number e h = cc h
 is_read members row (Some reading) number e h =
     let f = has_form reading row.amount number h in (reading, e, f.form, f.small)
 
-pub first_parts : {A : Type 0} (x : Option A) (xs : List (Option A)) → first_some (x ∷ xs) ≡ None → (x ≡ None) × (first_some xs ≡ None)
+pub first_parts : {A : Type 0} (x : Option A) (xs : List (Option A)) → first_some (x ∷ xs) ≡ None
+    → (x ≡ None) × (first_some xs ≡ None)
 first_parts None xs h = (refl, h)
 first_parts (Some a) xs h = cc h
 
@@ -71,23 +92,30 @@ no_conflict (Superseded revision) number h = refl
 no_conflict (Conflict kept) number h = cc h
 
 -- a row that breaks no rule, and its verdict
-pub record IsClean (origin moment : ℕ) (members : List Object) (row : Row) (v : RowVerdict) : Type 0 where
+pub record IsClean (origin moment : ℕ) (members : List Object) (row : Row)
+    (v : RowVerdict) : Type 0 where
   pub good : IsGood origin moment members row
   pub agrees : is_conflict v ≡ false
 
-pub clean_row : (origin moment : ℕ) (members : List Object) (row : Row) (v : RowVerdict) (number : ℕ) → row_fault origin moment members row v number ≡ None → IsClean origin moment members row v
+pub clean_row : (origin moment : ℕ) (members : List Object)
+    (row : Row) (v : RowVerdict) (number : ℕ) → row_fault origin moment members row v number ≡ None
+    → IsClean origin moment members row v
 clean_row origin moment members row v number h =
     let early = when (nat_lt row.minute origin) (refusals.Early row.minute origin number) in
-    let open_minute = when (nat_le moment row.minute) (refusals.OpenMinute row.minute moment number) in
-    let a = first_parts (form_fault (reading_named members row.sli) row number) (early ∷ open_minute ∷ conflict_fault v number ∷ []) h in
+    let open_minute =
+    when (nat_le moment row.minute) (refusals.OpenMinute row.minute moment number) in
+    let a = first_parts (form_fault (reading_named members row.sli) row number)
+    (early ∷ open_minute ∷ conflict_fault v number ∷ []) h in
     let b = first_parts early (open_minute ∷ conflict_fault v number ∷ []) a.1 in
     let c = first_parts open_minute (conflict_fault v number ∷ []) b.1 in
     let d = first_parts (conflict_fault v number) [] c.1 in
     record {
       good = record {
         read = is_read members row (reading_named members row.sli) number refl a.0;
-        begun = begun row.minute origin (no_fault (nat_lt row.minute origin) (refusals.Early row.minute origin number) b.0);
-        over = over moment row.minute (no_fault (nat_le moment row.minute) (refusals.OpenMinute row.minute moment number) c.0);
+        begun = begun row.minute origin
+            (no_fault (nat_lt row.minute origin) (refusals.Early row.minute origin number) b.0);
+        over = over moment row.minute (no_fault (nat_le moment row.minute)
+            (refusals.OpenMinute row.minute moment number) c.0);
       };
       agrees = no_conflict v number d.0;
     }
@@ -99,10 +127,15 @@ clean_row origin moment members row v number h =
     over m n h = grind (arith, nat_tests, h)
 
 -- The rows of a batch that breaks no rule are good.
-pub good_rows : (origin moment : ℕ) (members : List Object) (number : ℕ) (rows : List Row) (vs : List RowVerdict) → length vs ≡ length rows →
-    first_some (rows_faults origin moment members number rows vs) ≡ None → AllByRecursion (IsGood origin moment members) rows
+pub good_rows : (origin moment : ℕ) (members : List Object) (number : ℕ) (rows : List Row)
+    (vs : List RowVerdict) → length vs ≡ length rows →
+    first_some (rows_faults origin moment members number rows vs) ≡ None →
+    AllByRecursion (IsGood origin moment members) rows
 good_rows origin moment members number [] vs each h = tt
 good_rows origin moment members number (row ∷ rows) [] each h = absurd (omega (arith, each))
 good_rows origin moment members number (row ∷ rows) (v ∷ vs) each h =
-    let parts = first_parts (row_fault origin moment members row v number) (rows_faults origin moment members (number + 1) rows vs) h in
-    ((clean_row origin moment members row v number parts.0).good, good_rows origin moment members (number + 1) rows vs (omega (arith, each)) parts.1)
+    let parts = first_parts (row_fault origin moment members row v number)
+    (rows_faults origin moment members (number + 1) rows vs) h in (
+      (clean_row origin moment members row v number parts.0).good,
+      good_rows origin moment members (number + 1) rows vs (omega (arith, each)) parts.1,
+    )

@@ -1,5 +1,6 @@
 -- A batch over what is kept is judged as over all rows that came, and what an accepted one keeps.
-use Rattle.std.proofs.Common.{◌≡◌, ℕ, ◌+◌, ◌≤◌, ◌<◌, ◌++◌, List, [], ◌∷◌, Bool, true, false, cond, nat_lt, refl, ap, sym, ◌∙◌, arith, length, Option, Some, None}
+use Rattle.std.proofs.Common.{◌≡◌, ℕ, ◌+◌, ◌≤◌, ◌<◌, ◌++◌, List, [], ◌∷◌, Bool, true, false, cond}
+use Rattle.std.proofs.Common.{nat_lt, refl, ap, sym, ◌∙◌, arith, length, Option, Some, None}
 use Rattle.std.specs.List.{list_any, All, AllByRecursion}
 use Rattle.std.proofs.lemmas.List.Elements.{All-from_recursion}
 use Rattle.std.proofs.lemmas.Bool.{ltb-true, ltb-false, le-ltb, lt-ltb}
@@ -19,7 +20,8 @@ use Rattle.office_history.specs.declared.Judgement.TheVariants.{Accepted, Same, 
 use Rattle.office_history.specs.Lists.{first_some}
 use Rattle.office_history.specs.History.{Office, accepted_rows, current_in, rows_in}
 use Rattle.office_history.specs.Catalog.{catalog_in}
-use Rattle.office_history.specs.Batches.{when, batch_fault, count, objective_days, rows_faults, sampled}
+use Rattle.office_history.specs.Batches.{when, batch_fault, count, objective_days, rows_faults}
+use Rattle.office_history.specs.Batches.{sampled}
 use Rattle.office_history.specs.Verdicts.{accepted, samples_verdict, unless_refused}
 use Rattle.office_derived.specs.declared.Derived.{Derived}
 use Rattle.office_derived.specs.Derived.{IsJudged, Reflects}
@@ -59,51 +61,74 @@ with_rows many fault cells taken days vs entries =
 
 over_current : (origin m : ℕ) (members : List Object) (came : List Row) (n : ℕ) (rows : List Row) →
     rows_verdict origin m members (current_rows came) (accepted_rows came) n rows
-    ≡ by_parts (batch_fault origin m members came rows) (length (current_rows (came ++ rows))) (accepted_rows (came ++ rows)) (objective_days members (current_rows (came ++ rows))) (verdicts came rows) n
+    ≡ by_parts (batch_fault origin m members came rows) (length (current_rows (came ++ rows)))
+    (accepted_rows (came ++ rows)) (objective_days members (current_rows (came ++ rows)))
+    (verdicts came rows) n
 over_current origin m members came n rows =
-    λ i. by_parts (first_some (rows_faults origin m members 1 rows (verdicts-over came rows i))) (length (current-append came rows i)) (taken i)
+    λ i. by_parts (first_some (rows_faults origin m members 1 rows (verdicts-over came rows i)))
+    (length (current-append came rows i)) (taken i)
     (objective_days members (current-append came rows i)) (verdicts-over came rows i) n
   where
-    taken : accepted_rows came + count is_put (verdicts (current_rows came) rows) ≡ accepted_rows (came ++ rows)
-    taken = ap (λ vs. accepted_rows came + count is_put vs) (verdicts-over came rows) ∙ sym (accepted-more came rows)
+    taken : accepted_rows came + count is_put (verdicts (current_rows came) rows)
+        ≡ accepted_rows (came ++ rows)
+    taken = ap (λ vs. accepted_rows came + count is_put vs) (verdicts-over came rows)
+        ∙ sym (accepted-more came rows)
 
 -- What is kept judges a batch as the history does.
-pub verdict_seen : (d : Derived) (o : Office) (m : ℕ) (rows : List Row) → Reflects d o → length rows ≤ most.MAX_BATCH_ROWS →
-    samples_verdict o.origin m (catalog_in o.history) (rows_in o.history) (length o.history) rows ≡ rows_verdict d.origin m d.catalog d.book.rows d.accepted d.entries rows
+pub verdict_seen : (d : Derived) (o : Office) (m : ℕ) (rows : List Row) → Reflects d o →
+    length rows ≤ most.MAX_BATCH_ROWS →
+    samples_verdict o.origin m (catalog_in o.history) (rows_in o.history) (length o.history) rows
+    ≡ rows_verdict d.origin m d.catalog d.book.rows d.accepted d.entries rows
 verdict_seen d o m rows r few =
     let came = rows_in o.history in
-    ap (λ many. with_rows many (batch_fault o.origin m (catalog_in o.history) came rows) (length (current_rows (came ++ rows))) (accepted_rows (came ++ rows))
-    (objective_days (catalog_in o.history) (current_rows (came ++ rows))) (verdicts came rows) (length o.history)) (le-ltb most.MAX_BATCH_ROWS (length rows) few)
+    ap (λ many. with_rows many (batch_fault o.origin m (catalog_in o.history) came rows)
+    (length (current_rows (came ++ rows))) (accepted_rows (came ++ rows))
+    (objective_days (catalog_in o.history) (current_rows (came ++ rows))) (verdicts came rows)
+    (length o.history)) (le-ltb most.MAX_BATCH_ROWS (length rows) few)
     ∙ sym (over_current o.origin m (catalog_in o.history) came (length o.history) rows)
-    ∙ sym (λ i. rows_verdict (r.origin i) m (r.catalog i) (r.rows i) (r.accepted i) (r.entries i) rows)
+    ∙ sym (λ i. rows_verdict (r.origin i) m (r.catalog i) (r.rows i) (r.accepted i)
+    (r.entries i) rows)
 
 -- A batch of too many rows is refused for it.
-pub too_many : (origin m : ℕ) (members : List Object) (came : List Row) (n : ℕ) (rows : List Row) → most.MAX_BATCH_ROWS < length rows →
+pub too_many : (origin m : ℕ) (members : List Object) (came : List Row) (n : ℕ) (rows : List Row) →
+    most.MAX_BATCH_ROWS < length rows →
     samples_verdict origin m members came n rows ≡ Refused (refusals.Limit limits.Rows)
 too_many origin m members came n rows h =
-    ap (λ many. with_rows many (batch_fault origin m members came rows) (length (current_rows (came ++ rows))) (accepted_rows (came ++ rows))
-    (objective_days members (current_rows (came ++ rows))) (verdicts came rows) n) (lt-ltb most.MAX_BATCH_ROWS (length rows) h)
+    ap (λ many. with_rows many (batch_fault origin m members came rows)
+    (length (current_rows (came ++ rows))) (accepted_rows (came ++ rows))
+    (objective_days members (current_rows (came ++ rows))) (verdicts came rows) n)
+    (lt-ltb most.MAX_BATCH_ROWS (length rows) h)
 
 -- What an accepted batch keeps.
-pub record IsAccepted (origin m : ℕ) (members : List Object) (came : List Row) (n : ℕ) (rows : List Row) : Type 0 where
+pub record IsAccepted (origin m : ℕ) (members : List Object) (came : List Row) (n : ℕ)
+    (rows : List Row) : Type 0 where
   pub few : length rows ≤ most.MAX_BATCH_ROWS
   pub clean : batch_fault origin m members came rows ≡ None
   pub cells : length (current_rows (came ++ rows)) ≤ most.MAX_CELLS
   pub taken : accepted_rows (came ++ rows) ≤ most.MAX_ACCEPTED_ROWS
   pub room : n < most.MAX_ENTRIES
 
-pub accepted_keeps : (origin m : ℕ) (members : List Object) (came : List Row) (n : ℕ) (rows : List Row) → samples_verdict origin m members came n rows ≡ Accepted →
+pub accepted_keeps : (origin m : ℕ) (members : List Object) (came : List Row) (n : ℕ)
+    (rows : List Row) → samples_verdict origin m members came n rows ≡ Accepted →
     IsAccepted origin m members came n rows
 accepted_keeps origin m members came n rows h =
-    by (nat_lt most.MAX_BATCH_ROWS (length rows)) (batch_fault origin m members came rows) (nat_lt most.MAX_CELLS (length (current_rows (came ++ rows))))
-    (nat_lt most.MAX_ACCEPTED_ROWS (accepted_rows (came ++ rows))) (nat_lt most.MAX_DAYS (objective_days members (current_rows (came ++ rows))))
+    by (nat_lt most.MAX_BATCH_ROWS (length rows)) (batch_fault origin m members came rows)
+    (nat_lt most.MAX_CELLS (length (current_rows (came ++ rows))))
+    (nat_lt most.MAX_ACCEPTED_ROWS (accepted_rows (came ++ rows)))
+    (nat_lt most.MAX_DAYS (objective_days members (current_rows (came ++ rows))))
     (list_any is_put (verdicts came rows)) (nat_lt n most.MAX_ENTRIES) refl refl refl refl refl h
   where
-    by : (a : Bool) (f : Option Refusal) (b c d p q : Bool) → nat_lt most.MAX_BATCH_ROWS (length rows) ≡ a → batch_fault origin m members came rows ≡ f →
-        nat_lt most.MAX_CELLS (length (current_rows (came ++ rows))) ≡ b → nat_lt most.MAX_ACCEPTED_ROWS (accepted_rows (came ++ rows)) ≡ c → nat_lt n most.MAX_ENTRIES ≡ q →
+    by : (a : Bool) (f : Option Refusal) (b c d p q : Bool) →
+        nat_lt most.MAX_BATCH_ROWS (length rows) ≡ a → batch_fault origin m members came rows ≡ f →
+        nat_lt most.MAX_CELLS (length (current_rows (came ++ rows))) ≡ b →
+        nat_lt most.MAX_ACCEPTED_ROWS (accepted_rows (came ++ rows)) ≡ c →
+        nat_lt n most.MAX_ENTRIES ≡ q →
         unless_refused (first_some (
-        when a (refusals.Limit limits.Rows) ∷ f ∷ when b (refusals.Limit limits.Cells) ∷ when c (refusals.Limit limits.Accepted) ∷ when d (refusals.Limit limits.Days) ∷ []))
-        (cond p (cond q Accepted (Refused (refusals.Limit limits.Entries))) (Same (sampled (verdicts came rows) None))) ≡ Accepted → IsAccepted origin m members came n rows
+        when a (refusals.Limit limits.Rows) ∷ f ∷ when b (refusals.Limit limits.Cells)
+        ∷ when c (refusals.Limit limits.Accepted) ∷ when d (refusals.Limit limits.Days) ∷ []))
+        (cond p (cond q Accepted (Refused (refusals.Limit limits.Entries)))
+        (Same (sampled (verdicts came rows) None))) ≡ Accepted
+        → IsAccepted origin m members came n rows
     by true f b c d p q ea ef eb ec eq h = cc h
     by false (Some r) b c d p q ea ef eb ec eq h = cc h
     by false None true c d p q ea ef eb ec eq h = cc h
@@ -128,54 +153,75 @@ fault_by fault cells taken days = first_some (
     ∷ when (nat_lt most.MAX_DAYS days) (refusals.Limit limits.Days)
     ∷ [])
 
-pub over_cells : (fault : Option Refusal) (cells taken days : ℕ) → fault ≡ None → most.MAX_CELLS < cells → Some (refusals.Limit limits.Cells) ≡ fault_by fault cells taken days
+pub over_cells : (fault : Option Refusal) (cells taken days : ℕ) → fault ≡ None
+    → most.MAX_CELLS < cells → Some (refusals.Limit limits.Cells) ≡ fault_by fault cells taken days
 over_cells fault cells taken days e h =
     sym (λ i. first_some (
-    e i ∷ when (lt-ltb most.MAX_CELLS cells h i) (refusals.Limit limits.Cells) ∷ when (nat_lt most.MAX_ACCEPTED_ROWS taken) (refusals.Limit limits.Accepted)
+    e i ∷ when (lt-ltb most.MAX_CELLS cells h i) (refusals.Limit limits.Cells)
+    ∷ when (nat_lt most.MAX_ACCEPTED_ROWS taken) (refusals.Limit limits.Accepted)
     ∷ when (nat_lt most.MAX_DAYS days) (refusals.Limit limits.Days) ∷ []))
 
-pub over_taken : (fault : Option Refusal) (cells taken days : ℕ) → fault ≡ None → cells ≤ most.MAX_CELLS → most.MAX_ACCEPTED_ROWS < taken →
+pub over_taken : (fault : Option Refusal) (cells taken days : ℕ) → fault ≡ None →
+    cells ≤ most.MAX_CELLS → most.MAX_ACCEPTED_ROWS < taken →
     Some (refusals.Limit limits.Accepted) ≡ fault_by fault cells taken days
 over_taken fault cells taken days e f h =
     sym (λ i. first_some (
-    e i ∷ when (le-ltb most.MAX_CELLS cells f i) (refusals.Limit limits.Cells) ∷ when (lt-ltb most.MAX_ACCEPTED_ROWS taken h i) (refusals.Limit limits.Accepted)
+    e i ∷ when (le-ltb most.MAX_CELLS cells f i) (refusals.Limit limits.Cells)
+    ∷ when (lt-ltb most.MAX_ACCEPTED_ROWS taken h i) (refusals.Limit limits.Accepted)
     ∷ when (nat_lt most.MAX_DAYS days) (refusals.Limit limits.Days) ∷ []))
 
-pub by_days : (fault : Option Refusal) (cells taken days : ℕ) (b : Bool) → fault ≡ None → cells ≤ most.MAX_CELLS → taken ≤ most.MAX_ACCEPTED_ROWS → nat_lt most.MAX_DAYS days ≡ b →
+pub by_days : (fault : Option Refusal) (cells taken days : ℕ) (b : Bool) → fault ≡ None →
+    cells ≤ most.MAX_CELLS → taken ≤ most.MAX_ACCEPTED_ROWS → nat_lt most.MAX_DAYS days ≡ b →
     first_some (when b (refusals.Limit limits.Days) ∷ []) ≡ fault_by fault cells taken days
 by_days fault cells taken days b e f g h =
     sym (λ i. first_some (
-    e i ∷ when (le-ltb most.MAX_CELLS cells f i) (refusals.Limit limits.Cells) ∷ when (le-ltb most.MAX_ACCEPTED_ROWS taken g i) (refusals.Limit limits.Accepted)
+    e i ∷ when (le-ltb most.MAX_CELLS cells f i) (refusals.Limit limits.Cells)
+    ∷ when (le-ltb most.MAX_ACCEPTED_ROWS taken g i) (refusals.Limit limits.Accepted)
     ∷ when (h i) (refusals.Limit limits.Days) ∷ []))
 
 -- how many cells there are then, and how many rows were accepted
-pub batch_cells : (kept rows : List Row) (tally : Tally) → current_rows kept ≡ kept → tally ≡ tally_of (verdicts kept rows) → length (current_rows (kept ++ rows)) ≡ length kept + tally.new
-batch_cells kept rows tally current e = length-verdicts kept rows ∙ (λ i. length (current i) + count is_new (verdicts kept rows)) ∙ ap (λ (t : Tally). length kept + t.new) (sym e)
+pub batch_cells : (kept rows : List Row) (tally : Tally) → current_rows kept ≡ kept → tally
+    ≡ tally_of (verdicts kept rows) → length (current_rows (kept ++ rows)) ≡ length kept + tally.new
+batch_cells kept rows tally current e = length-verdicts kept rows
+    ∙ (λ i. length (current i) + count is_new (verdicts kept rows))
+    ∙ ap (λ (t : Tally). length kept + t.new) (sym e)
 
-pub batch_taken : (taken : ℕ) (kept rows : List Row) (tally : Tally) → tally ≡ tally_of (verdicts kept rows) → taken + count is_put (verdicts kept rows) ≡ taken + (tally.new + tally.newer)
-batch_taken taken kept rows tally e = ap (λ n. taken + n) (count_put (verdicts kept rows)) ∙ ap (λ (t : Tally). taken + (t.new + t.newer)) (sym e)
+pub batch_taken : (taken : ℕ) (kept rows : List Row) (tally : Tally)
+    → tally ≡ tally_of (verdicts kept rows)
+    → taken + count is_put (verdicts kept rows) ≡ taken + (tally.new + tally.newer)
+batch_taken taken kept rows tally e = ap (λ n. taken + n) (count_put (verdicts kept rows))
+    ∙ ap (λ (t : Tally). taken + (t.new + t.newer)) (sym e)
 
 -- a batch without a fault
-pub batch_clean : (origin m : ℕ) (members : List Object) (kept rows : List Row) (vs : List RowVerdict) (found : Option Refusal) → vs ≡ verdicts kept rows →
-    found ≡ first_some (rows_faults origin m members 1 rows vs) → found ≡ None → batch_fault origin m members kept rows ≡ None
-batch_clean origin m members kept rows vs found judged is none = ap (λ vs. first_some (rows_faults origin m members 1 rows vs)) (sym judged) ∙ sym is ∙ none
+pub batch_clean : (origin m : ℕ) (members : List Object) (kept rows : List Row)
+    (vs : List RowVerdict) (found : Option Refusal) → vs ≡ verdicts kept rows →
+    found ≡ first_some (rows_faults origin m members 1 rows vs) → found ≡ None →
+    batch_fault origin m members kept rows ≡ None
+batch_clean origin m members kept rows vs found judged is none =
+    ap (λ vs. first_some (rows_faults origin m members 1 rows vs)) (sym judged) ∙ sym is ∙ none
 
-pub batch_within : (origin m until : ℕ) (members : List Object) (kept rows : List Row) → batch_fault origin m members kept rows ≡ None → m ≤ until → All (IsWithin origin until) rows
+pub batch_within : (origin m until : ℕ) (members : List Object) (kept rows : List Row)
+    → batch_fault origin m members kept rows ≡ None → m ≤ until → All (IsWithin origin until) rows
 batch_within origin m until members kept rows clean later =
     All-from_recursion (IsWithin origin until) rows
-    (within rows (good_rows origin m members 1 rows (verdicts kept rows) (verdicts_each kept rows) clean))
+    (within rows (good_rows origin m members 1 rows (verdicts kept rows)
+    (verdicts_each kept rows) clean))
   where
-    within : (rows : List Row) → AllByRecursion (IsGood origin m members) rows → AllByRecursion (IsWithin origin until) rows
+    within : (rows : List Row) → AllByRecursion (IsGood origin m members) rows
+        → AllByRecursion (IsWithin origin until) rows
     within [] h = tt
     within (row ∷ rows) h = ((h.0.begun, omega (arith, h.0.over, later)), within rows h.1)
 
-pub refused_by : (fault : Option Refusal) (refusal : Refusal) (otherwise : Judgement) → fault ≡ Some refusal → Refused refusal ≡ unless_refused fault otherwise
+pub refused_by : (fault : Option Refusal) (refusal : Refusal) (otherwise : Judgement)
+    → fault ≡ Some refusal → Refused refusal ≡ unless_refused fault otherwise
 refused_by fault refusal otherwise e = ap (λ f. unless_refused f otherwise) (sym e)
 
-pub passed_by : (fault : Option Refusal) (otherwise : Judgement) → fault ≡ None → otherwise ≡ unless_refused fault otherwise
+pub passed_by : (fault : Option Refusal) (otherwise : Judgement) → fault ≡ None
+    → otherwise ≡ unless_refused fault otherwise
 passed_by fault otherwise e = ap (λ f. unless_refused f otherwise) (sym e)
 
-pub faultless_by : (vs : List RowVerdict) (tally : Tally) (n : ℕ) → tally ≡ tally_of vs → cond (changes tally) (accepted n) (Same (tally_outcome tally None)) ≡ faultless_verdict vs n
+pub faultless_by : (vs : List RowVerdict) (tally : Tally) (n : ℕ) → tally ≡ tally_of vs
+    → cond (changes tally) (accepted n) (Same (tally_outcome tally None)) ≡ faultless_verdict vs n
 faultless_by vs tally n e =
     (λ i. cond (changes (e i)) (accepted n) (Same (tally_outcome (e i) None)))
     ∙ ap (λ b. cond b (accepted n) (Same (sampled vs None))) (sym (any_put vs))
@@ -189,13 +235,17 @@ pub comes_to : (d : Derived) (o : Office) (m : ℕ) (rows batch : List Row) (j :
     IsJudged o m (commands.Samples rows) x
 comes_to d o m rows batch j tally each x r same few is counted judged_each h = by x h
   where
-    seen : samples_verdict o.origin m (catalog_in o.history) (rows_in o.history) (length o.history) rows ≡ j
+    seen : samples_verdict o.origin m (catalog_in o.history) (rows_in o.history)
+        (length o.history) rows ≡ j
     seen =
-        ap (λ rows. samples_verdict o.origin m (catalog_in o.history) (rows_in o.history) (length o.history) rows) (sym same)
+        ap (λ rows. samples_verdict o.origin m (catalog_in o.history) (rows_in o.history)
+        (length o.history) rows) (sym same)
         ∙ verdict_seen d o m batch r few ∙ sym is
 
-    all : (copy : List Row) → copy ≡ batch → verdicts d.book.rows batch ≡ verdicts (rows_in o.history) copy
-    all copy e = (λ i. verdicts (r.rows i) batch) ∙ verdicts-over (rows_in o.history) batch ∙ ap (verdicts (rows_in o.history)) (sym e)
+    all : (copy : List Row) → copy ≡ batch
+        → verdicts d.book.rows batch ≡ verdicts (rows_in o.history) copy
+    all copy e = (λ i. verdicts (r.rows i) batch) ∙ verdicts-over (rows_in o.history) batch
+        ∙ ap (verdicts (rows_in o.history)) (sym e)
 
     over : (copy : List Row) → copy ≡ batch → verdicts d.book.rows batch ≡ verdicts
         (current_in o.history) copy

@@ -1,5 +1,7 @@
 -- What is kept after a change that is no tick and no taking, and that it is sound.
-use Rattle.std.proofs.Common.{◌≡◌, ℕ, ◌+◌, ◌≤◌, ◌<◌, ◌++◌, List, [], ◌∷◌, Bool, true, false, cond, if◌then◌else◌, nat_lt, refl, ap, sym, ◌∙◌, subst, arith, length, append_assoc, Option, Some, None}
+use Rattle.std.proofs.Common.{◌≡◌, ℕ, ◌+◌, ◌≤◌, ◌<◌, ◌++◌, List, [], ◌∷◌, Bool, true, false, cond}
+use Rattle.std.proofs.Common.{if◌then◌else◌, nat_lt, refl, ap, sym, ◌∙◌, subst, arith, length}
+use Rattle.std.proofs.Common.{append_assoc, Option, Some, None}
 use Rattle.std.proofs.lemmas.Bool.{ltb-true}
 use Rattle.std.specs.List.{All, AllByRecursion}
 use Rattle.std.proofs.lemmas.List.{append-nil}
@@ -24,7 +26,8 @@ use Rattle.record_form.specs.declared.Refusal.TheVariants as refusals
 use Rattle.sample_book.specs.declared.Exclusion.{Exclusion}
 use Rattle.sample_book.specs.Exclusions.{exclusion_of}
 use Rattle.office_history.specs.declared.Judgement.TheVariants.{Accepted, Same, Refused}
-use Rattle.office_history.specs.Verdicts.{accepted, exclude_where, lift_where, new_exclusion_fault, same_content, unless_refused}
+use Rattle.office_history.specs.Verdicts.{accepted, exclude_where, lift_where, new_exclusion_fault}
+use Rattle.office_history.specs.Verdicts.{same_content, unless_refused}
 use Rattle.office_history.specs.Catalog.{catalog_in}
 use Rattle.office_history.specs.History.{Office, accepted_rows, exclusions_in, rows_in, with_entry}
 use Rattle.kept_objectives.specs.Objectives.{KeepsSums}
@@ -37,23 +40,30 @@ use Rattle.sample_changes.proofs.GoodRows.{IsGood, good_rows}
 use Rattle.sample_changes.proofs.Judged.{IsAccepted, accepted_keeps}
 use Rattle.sample_changes.proofs.Tallies.{accepted-more, count_put, verdicts_each}
 
-all_settled : (P : Row → Type 0) (rows : List Row) (x : Row) → AllByRecursion P rows → P x → AllByRecursion P (settle same_cell (λ row. row.revision) rows x)
+all_settled : (P : Row → Type 0) (rows : List Row) (x : Row) → AllByRecursion P rows → P x
+    → AllByRecursion P (settle same_cell (λ row. row.revision) rows x)
 all_settled P [] x h p = (p, tt)
-all_settled P (k ∷ ks) x h p = by (same_cell x k) (nat_lt k.revision x.revision) (all_settled P ks x h.1 p)
+all_settled P (k ∷ ks) x h p =
+    by (same_cell x k) (nat_lt k.revision x.revision) (all_settled P ks x h.1 p)
   where
     by : (b c : Bool) → AllByRecursion P (settle same_cell (λ row. row.revision) ks x) →
-        AllByRecursion P (if b then (if c then x else k) ∷ ks else k ∷ settle same_cell (λ row. row.revision) ks x)
+        AllByRecursion P (if b then (if c then x else k) ∷ ks
+        else k ∷ settle same_cell (λ row. row.revision) ks x)
     by true true rest = (p, h.1)
     by true false rest = h
     by false c rest = (h.0, rest)
 
 -- what holds of current rows and of others that come holds of the current rows of all
-pub all_current : (P : Row → Type 0) (came more : List Row) → AllByRecursion P (current_rows came) → AllByRecursion P more → AllByRecursion P (current_rows (came ++ more))
-all_current P came [] old new = subst (λ (rows : List Row). AllByRecursion P (current_rows rows)) (sym (append-nil came)) old
+pub all_current : (P : Row → Type 0) (came more : List Row) → AllByRecursion P (current_rows came)
+    → AllByRecursion P more → AllByRecursion P (current_rows (came ++ more))
+all_current P came [] old new =
+    subst (λ (rows : List Row). AllByRecursion P (current_rows rows)) (sym (append-nil came)) old
 all_current P came (x ∷ more) old new =
-    subst (λ (rows : List Row). AllByRecursion P (current_rows rows)) (append_assoc came (x ∷ []) more)
+    subst (λ (rows : List Row). AllByRecursion P (current_rows rows))
+    (append_assoc came (x ∷ []) more)
     (all_current P (came ++ x ∷ []) more
-    (subst (AllByRecursion P) (sym (current-push same_cell (λ row. row.revision) cell_laws came x)) (all_settled P (current_rows came) x old new.0)) new.1)
+    (subst (AllByRecursion P) (sym (current-push same_cell (λ row. row.revision) cell_laws came x))
+    (all_settled P (current_rows came) x old new.0)) new.1)
 
 pub each : {A : Type 0} (P Q : A → Type 0) → ((x : A) → P x → Q x) → (xs : List A) →
     AllByRecursion P xs → AllByRecursion Q xs
@@ -90,14 +100,18 @@ samples_few d o m rows tally becomes n =
     }
 
 -- the room that was made is enough
-pub may_come : (d : Derived) (o : Office) (rows : List Row) → Reflects d o → d.book.room ≡ room_for d.book.rows rows → MayComeAll d.book.rows d.book.room rows
+pub may_come : (d : Derived) (o : Office) (rows : List Row) → Reflects d o
+    → d.book.room ≡ room_for d.book.rows rows → MayComeAll d.book.rows d.book.room rows
 may_come d o rows r room =
     subst (λ room. MayComeAll d.book.rows room rows) (sym room)
-    (subst (λ (kept : List Row). MayComeAll kept (room_for kept rows) rows) (sym r.rows) (room-enough (rows_in o.history) rows))
+    (subst (λ (kept : List Row). MayComeAll kept (room_for kept rows) rows) (sym r.rows)
+    (room-enough (rows_in o.history) rows))
 
 -- What is kept stays sound, where its rows are good and few.
-pub sound_kept : (d d' : Derived) → IsSound d → d.entries < most.MAX_ENTRIES → d'.origin ≡ d.origin → d'.entries ≡ d.entries + 1 → d'.catalog ≡ d.catalog →
-    d'.notices.made ≡ d.notices.made → length d'.book.rows ≤ most.MAX_CELLS → d'.accepted ≤ most.MAX_ACCEPTED_ROWS →
+pub sound_kept : (d d' : Derived) → IsSound d → d.entries < most.MAX_ENTRIES →
+    d'.origin ≡ d.origin → d'.entries ≡ d.entries + 1 → d'.catalog ≡ d.catalog →
+    d'.notices.made ≡ d.notices.made → length d'.book.rows ≤ most.MAX_CELLS →
+    d'.accepted ≤ most.MAX_ACCEPTED_ROWS →
     AllByRecursion (IsRead d.catalog) d'.book.rows →
     AllByRecursion (IsPlaced d.origin) d'.book.rows →
     KeepsSums d'.catalog d'.book.exclusions d'.book.rows d'.sums.kept → IsSound d'
@@ -106,10 +120,14 @@ sound_kept d d' s few origin entries catalog notices cells taken read placed sum
   entries = omega (arith, few, entries);
   cells = cells;
   accepted = taken;
-  few_waiting = subst (λ (made : List (Notice × Bool)). waiting made ≤ most.MAX_NOTICES) (sym notices) s.few_waiting;
-  made = subst (λ (made : List (Notice × Bool)). length made ≤ waiting made + d'.entries) (sym notices) (omega (arith, s.made, entries));
-  read = subst (λ (members : List Object). All (IsRead members) d'.book.rows) (sym catalog) (All-from_recursion (IsRead d.catalog) d'.book.rows read);
-  placed = subst (λ (n : ℕ). All (IsPlaced n) d'.book.rows) (sym origin) (All-from_recursion (IsPlaced d.origin) d'.book.rows placed);
+  few_waiting = subst (λ (made : List (Notice × Bool)). waiting made ≤ most.MAX_NOTICES)
+      (sym notices) s.few_waiting;
+  made = subst (λ (made : List (Notice × Bool)). length made ≤ waiting made + d'.entries)
+      (sym notices) (omega (arith, s.made, entries));
+  read = subst (λ (members : List Object). All (IsRead members) d'.book.rows) (sym catalog)
+      (All-from_recursion (IsRead d.catalog) d'.book.rows read);
+  placed = subst (λ (n : ℕ). All (IsPlaced n) d'.book.rows) (sym origin)
+      (All-from_recursion (IsPlaced d.origin) d'.book.rows placed);
   sums = sums;
 }
 
@@ -119,7 +137,8 @@ pub rows_good : (d : Derived) (o : Office) (m : ℕ) (rows : List Row) (tally : 
     AllByRecursion (IsGood d.origin m d.catalog) rows
 rows_good d o m rows tally becomes n =
     subst (λ (origin : ℕ). AllByRecursion (IsGood origin m d.catalog) rows) (sym n.reflects.origin)
-    (subst (λ (members : List Object). AllByRecursion (IsGood o.origin m members) rows) (sym n.reflects.catalog)
+    (subst (λ (members : List Object). AllByRecursion (IsGood o.origin m members) rows)
+    (sym n.reflects.catalog)
     (good_rows o.origin m (catalog_in o.history) 1 rows (verdicts (rows_in o.history) rows)
     (verdicts_each (rows_in o.history) rows) (batch_keeps d o m rows tally becomes n).clean))
 
@@ -133,52 +152,69 @@ samples_sound d d' o m rows tally becomes s n r' origin entries catalog notices 
     let keeps = batch_keeps d o m rows tally becomes n in
     let e = entry_of m (works.Samples rows tally becomes) in
     let came = rows_in o.history in
-    let is : d'.book.rows ≡ current_rows (came ++ rows) = r'.rows ∙ ap current_rows (rows_more o.history e) in
+    let is : d'.book.rows ≡ current_rows (came ++ rows) = r'.rows
+    ∙ ap current_rows (rows_more o.history e) in
     let good = rows_good d o m rows tally becomes n in
-    let placed : (row : Row) → IsGood d.origin m d.catalog row → IsPlaced d.origin row = λ row g. (g.begun, omega (arith, g.over, n.in_range, n.reflects.origin)) in
+    let placed : (row : Row) → IsGood d.origin m d.catalog row → IsPlaced d.origin row =
+    λ row g. (g.begun, omega (arith, g.over, n.in_range, n.reflects.origin)) in
     sound_kept d d' s (samples_few d o m rows tally becomes n).entries origin entries catalog
     notices
     (omega (arith, ap length is, keeps.cells))
     (omega (arith, r'.accepted ∙ ap accepted_rows (rows_more o.history e), keeps.taken))
     (subst (AllByRecursion (IsRead d.catalog)) (sym is)
-    (all_current (IsRead d.catalog) came rows (subst (AllByRecursion (IsRead d.catalog)) n.reflects.rows (recursion_from_All (IsRead d.catalog) d.book.rows s.read))
+    (all_current (IsRead d.catalog) came rows (subst (AllByRecursion (IsRead d.catalog))
+    n.reflects.rows (recursion_from_All (IsRead d.catalog) d.book.rows s.read))
     (each (IsGood d.origin m d.catalog) (IsRead d.catalog) (λ row g. g.read) rows good)))
     (subst (AllByRecursion (IsPlaced d.origin)) (sym is)
-    (all_current (IsPlaced d.origin) came rows (subst (AllByRecursion (IsPlaced d.origin)) n.reflects.rows (recursion_from_All (IsPlaced d.origin) d.book.rows s.placed))
+    (all_current (IsPlaced d.origin) came rows (subst (AllByRecursion (IsPlaced d.origin))
+    n.reflects.rows (recursion_from_All (IsPlaced d.origin) d.book.rows s.placed))
     (each (IsGood d.origin m d.catalog) (IsPlaced d.origin) placed rows good)))
     sums
 
 -- what is kept of rows stays
-pub sound_still : (d d' : Derived) → IsSound d → d.entries < most.MAX_ENTRIES → d'.origin ≡ d.origin → d'.entries ≡ d.entries + 1 → d'.catalog ≡ d.catalog →
+pub sound_still : (d d' : Derived) → IsSound d → d.entries < most.MAX_ENTRIES →
+    d'.origin ≡ d.origin → d'.entries ≡ d.entries + 1 → d'.catalog ≡ d.catalog →
     d'.notices.made ≡ d.notices.made → d'.book.rows ≡ d.book.rows → d'.accepted ≡ d.accepted →
     KeepsSums d'.catalog d'.book.exclusions d'.book.rows d'.sums.kept → IsSound d'
 sound_still d d' s few origin entries catalog notices rows taken sums =
-    sound_kept d d' s few origin entries catalog notices (omega (arith, ap length rows, s.cells)) (omega (arith, taken, s.accepted))
-    (subst (AllByRecursion (IsRead d.catalog)) (sym rows) (recursion_from_All (IsRead d.catalog) d.book.rows s.read))
-    (subst (AllByRecursion (IsPlaced d.origin)) (sym rows) (recursion_from_All (IsPlaced d.origin) d.book.rows s.placed))
+    sound_kept d d' s few origin entries catalog notices (omega (arith, ap length rows, s.cells))
+    (omega (arith, taken, s.accepted))
+    (subst (AllByRecursion (IsRead d.catalog)) (sym rows)
+    (recursion_from_All (IsRead d.catalog) d.book.rows s.read))
+    (subst (AllByRecursion (IsPlaced d.origin)) (sym rows)
+    (recursion_from_All (IsPlaced d.origin) d.book.rows s.placed))
     sums
 
 room_for_one : (n : ℕ) → accepted n ≡ Accepted → n < most.MAX_ENTRIES
 room_for_one n h = by (nat_lt n most.MAX_ENTRIES) refl h
   where
-    by : (b : Bool) → nat_lt n most.MAX_ENTRIES ≡ b → cond b Accepted (Refused (refusals.Limit limits.Entries)) ≡ Accepted → n < most.MAX_ENTRIES
+    by : (b : Bool) → nat_lt n most.MAX_ENTRIES ≡ b
+        → cond b Accepted (Refused (refusals.Limit limits.Entries)) ≡ Accepted
+        → n < most.MAX_ENTRIES
     by true e h = ltb-true n most.MAX_ENTRIES e
     by false e h = cc h
 
-excluded_room : (kept : Option (Exclusion × Bool)) (origin : ℕ) (members : List Object) (made n : ℕ) (value : Exclusion) → exclude_where kept origin members made n value ≡ Accepted → n < most.MAX_ENTRIES
-excluded_room None origin members made n value h = by (new_exclusion_fault origin members made value) h
+excluded_room : (kept : Option (Exclusion × Bool)) (origin : ℕ) (members : List Object) (made n : ℕ)
+    (value : Exclusion) → exclude_where kept origin members made n value ≡ Accepted
+    → n < most.MAX_ENTRIES
+excluded_room None origin members made n value h =
+    by (new_exclusion_fault origin members made value) h
   where
-    by : (fault : Option Refusal) → unless_refused fault (accepted n) ≡ Accepted → n < most.MAX_ENTRIES
+    by : (fault : Option Refusal) → unless_refused fault (accepted n) ≡ Accepted
+        → n < most.MAX_ENTRIES
     by None h = room_for_one n h
     by (Some refusal) h = cc h
 excluded_room (Some kept) origin members made n value h = by kept.1 (same_content kept.0 value) h
   where
-    by : (b c : Bool) → cond b (cond c (Same (Changed None)) (Refused (refusals.ExclusionConflict kept.0.from kept.0.slo kept.0.to))) (Refused (refusals.Withdrawn value.id)) ≡ Accepted → n < most.MAX_ENTRIES
+    by : (b c : Bool) → cond b (cond c (Same (Changed None))
+        (Refused (refusals.ExclusionConflict kept.0.from kept.0.slo kept.0.to)))
+        (Refused (refusals.Withdrawn value.id)) ≡ Accepted → n < most.MAX_ENTRIES
     by true true h = cc h
     by true false h = cc h
     by false c h = cc h
 
-lifted_room : (kept : Option (Exclusion × Bool)) (n : ℕ) → lift_where kept n ≡ Accepted → n < most.MAX_ENTRIES
+lifted_room : (kept : Option (Exclusion × Bool)) (n : ℕ) → lift_where kept n ≡ Accepted
+    → n < most.MAX_ENTRIES
 lifted_room None n h = cc h
 lifted_room (Some kept) n h = by kept.1 h
   where
@@ -186,17 +222,25 @@ lifted_room (Some kept) n h = by kept.1 h
     by true h = room_for_one n h
     by false h = cc h
 
-pub exclude_entries : (d : Derived) (o : Office) (m : ℕ) (value : Exclusion) → IsNext d o m (works.Exclude value) → d.entries < most.MAX_ENTRIES
+pub exclude_entries : (d : Derived) (o : Office) (m : ℕ) (value : Exclusion)
+    → IsNext d o m (works.Exclude value) → d.entries < most.MAX_ENTRIES
 exclude_entries d o m value n =
     omega (
       arith,
       n.reflects.entries,
-      excluded_room (exclusion_of (exclusions_in o.history) value.id) o.origin (catalog_in o.history) (length (exclusions_in o.history)) (length o.history) value (sym n.accepted),
+      excluded_room (exclusion_of (exclusions_in o.history) value.id) o.origin (catalog_in
+          o.history) (length (exclusions_in o.history)) (length o.history) value (sym n.accepted),
     )
 
-pub lift_entries : (d : Derived) (o : Office) (m : ℕ) (id : List ℕ) → IsNext d o m (works.Lift id) → d.entries < most.MAX_ENTRIES
-lift_entries d o m id n = omega (arith, n.reflects.entries, lifted_room (exclusion_of (exclusions_in o.history) id) (length o.history) (sym n.accepted))
+pub lift_entries : (d : Derived) (o : Office) (m : ℕ) (id : List ℕ) → IsNext d o m (works.Lift id)
+    → d.entries < most.MAX_ENTRIES
+lift_entries d o m id n = omega (
+  arith,
+  n.reflects.entries,
+  lifted_room (exclusion_of (exclusions_in o.history) id) (length o.history) (sym n.accepted),
+)
 
 -- a command that brings no rows
-pub accepted_still : (d : Derived) (o : Office) → Reflects d o → d.accepted ≡ accepted_rows (rows_in o.history ++ [])
+pub accepted_still : (d : Derived) (o : Office) → Reflects d o
+    → d.accepted ≡ accepted_rows (rows_in o.history ++ [])
 accepted_still d o r = r.accepted ∙ ap accepted_rows (sym (append-nil (rows_in o.history)))

@@ -21,9 +21,12 @@ use Rattle.office_history.specs.Verdicts.{unless_refused, accepted}
 abbrev pub rows_fault : ℕ → ℕ → List Object → List Row → ℕ → List Row → Option Refusal
 rows_fault origin moment members kept taken rows = first_some (
     batch_fault origin moment members kept rows
-    ∷ when (nat_lt most.MAX_CELLS (length (current_rows (kept ++ rows)))) (refusals.Limit limits.Cells)
-    ∷ when (nat_lt most.MAX_ACCEPTED_ROWS (taken + count is_put (verdicts kept rows))) (refusals.Limit limits.Accepted)
-    ∷ when (nat_lt most.MAX_DAYS (objective_days members (current_rows (kept ++ rows)))) (refusals.Limit limits.Days)
+    ∷ when (nat_lt most.MAX_CELLS (length (current_rows (kept ++ rows))))
+    (refusals.Limit limits.Cells)
+    ∷ when (nat_lt most.MAX_ACCEPTED_ROWS (taken + count is_put (verdicts kept rows)))
+    (refusals.Limit limits.Accepted)
+    ∷ when (nat_lt most.MAX_DAYS (objective_days members (current_rows (kept ++ rows))))
+    (refusals.Limit limits.Days)
     ∷ [])
 
 -- what becomes of rows that break no rule

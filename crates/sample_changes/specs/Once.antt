@@ -25,17 +25,24 @@ is_lifted h id = list_any (bytes_eq id) (lifted_in (changes_in h))
 
 -- a lifting that is an entry leaves all as it is when it comes again
 abbrev pub LiftActsOnce : Type 0
-LiftActsOnce = (origin : ℕ) (h before after : List Entry) (e : Entry) (id : List ℕ) (moment : ℕ) → IsLegal origin h → h ≡ before ++ e ∷ after → e.command ≡ Lift id →
+LiftActsOnce = (origin : ℕ) (h before after : List Entry) (e : Entry) (id : List ℕ) (moment : ℕ) →
+    IsLegal origin h → h ≡ before ++ e ∷ after → e.command ≡ Lift id →
     Judges (office origin h) moment (Lift id) (Same (Changed None))
 
 -- so does an exclusion, unless its id was lifted: then it is refused as withdrawn
 abbrev pub ExcludeActsOnce : Type 0
-ExcludeActsOnce = (origin : ℕ) (h before after : List Entry) (e : Entry) (value : Exclusion) (moment : ℕ) → IsLegal origin h → h ≡ before ++ e ∷ after → e.command ≡ Exclude value →
-    Judges (office origin h) moment (Exclude value) (cond (is_lifted h value.id) (Refused (refusals.Withdrawn value.id)) (Same (Changed None)))
+ExcludeActsOnce =
+    (origin : ℕ) (h before after : List Entry) (e : Entry) (value : Exclusion) (moment : ℕ) →
+    IsLegal origin h → h ≡ before ++ e ∷ after → e.command ≡ Exclude value →
+    Judges (office origin h) moment (Exclude value)
+    (cond (is_lifted h value.id) (Refused (refusals.Withdrawn value.id)) (Same (Changed None)))
 
--- A batch that is an entry leaves all as it is when it comes again, where the catalog still reads its rows and the days of the
--- history are within their limit.
+-- A batch that is an entry leaves all as it is when it comes again, where the catalog still reads
+-- its rows and the days of the history are within their limit.
 abbrev pub BatchActsOnce : Type 0
-BatchActsOnce = (origin : ℕ) (h before after : List Entry) (e : Entry) (rows : List Row) (moment : ℕ) → IsLegal origin h → h ≡ before ++ e ∷ after → e.command ≡ Samples rows →
-    present (office origin h) ≤ moment → AllByRecursion (IsRead (catalog_in h)) rows → objective_days (catalog_in h) (current_in h) ≤ MAX_DAYS →
+BatchActsOnce =
+    (origin : ℕ) (h before after : List Entry) (e : Entry) (rows : List Row) (moment : ℕ) →
+    IsLegal origin h → h ≡ before ++ e ∷ after → e.command ≡ Samples rows →
+    present (office origin h) ≤ moment → AllByRecursion (IsRead (catalog_in h)) rows →
+    objective_days (catalog_in h) (current_in h) ≤ MAX_DAYS →
     Judges (office origin h) moment (Samples rows) (Same (sampled (verdicts (rows_in h) rows) None))

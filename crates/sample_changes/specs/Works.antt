@@ -2,7 +2,8 @@
 use Rattle.std.specs.Prelude.{◌≡◌, ◌+◌, List}
 use Rattle.sample_book.specs.declared.Row.{Row}
 use Rattle.sample_book.specs.declared.RowVerdict.{RowVerdict}
-use Rattle.sample_book.specs.declared.RowVerdict.TheVariants.{New, Newer, Repeated, Superseded, Conflict}
+use Rattle.sample_book.specs.declared.RowVerdict.TheVariants.{New, Newer, Repeated, Superseded}
+use Rattle.sample_book.specs.declared.RowVerdict.TheVariants.{Conflict}
 use Rattle.office_history.specs.declared.Judgement.{Judgement}
 use Rattle.office_history.specs.declared.Judgement.TheVariants.{Accepted, Same, Refused}
 use Rattle.office_derived.specs.declared.Tally.{Tally}
@@ -12,10 +13,30 @@ use Rattle.office_derived.specs.declared.Judged.TheVariants as judged
 
 -- one row more
 abbrev pub tallied : Tally → RowVerdict → Tally
-tallied tally New = record { new = tally.new + 1; newer = tally.newer; repeated = tally.repeated; superseded = tally.superseded }
-tallied tally (Newer kept) = record { new = tally.new; newer = tally.newer + 1; repeated = tally.repeated; superseded = tally.superseded }
-tallied tally Repeated = record { new = tally.new; newer = tally.newer; repeated = tally.repeated + 1; superseded = tally.superseded }
-tallied tally (Superseded revision) = record { new = tally.new; newer = tally.newer; repeated = tally.repeated; superseded = tally.superseded + 1 }
+tallied tally New = record {
+  new = tally.new + 1;
+  newer = tally.newer;
+  repeated = tally.repeated;
+  superseded = tally.superseded;
+}
+tallied tally (Newer kept) = record {
+  new = tally.new;
+  newer = tally.newer + 1;
+  repeated = tally.repeated;
+  superseded = tally.superseded;
+}
+tallied tally Repeated = record {
+  new = tally.new;
+  newer = tally.newer;
+  repeated = tally.repeated + 1;
+  superseded = tally.superseded;
+}
+tallied tally (Superseded revision) = record {
+  new = tally.new;
+  newer = tally.newer;
+  repeated = tally.repeated;
+  superseded = tally.superseded + 1;
+}
 tallied tally (Conflict kept) = tally
 
 -- what the judging of rows comes to: where they are accepted, the work of a copy of them

@@ -1,9 +1,8 @@
 //! Exclusions and their liftings.
 ghost use Rattle.std.specs.Prelude.{◌≡◌, ◌<◌, ◌++◌, ◌∷◌, ◌||◌, [], ℕ, List, true, OnOk, Some};
-ghost use Rattle.std.specs.Prelude.{is_none, is_some, length};
+ghost use Rattle.std.specs.Prelude.{is_none, length};
 ghost use Rattle.sample_book.specs.declared.Exclusion.{Exclusion};
 ghost use Rattle.sample_book.specs.Exclusions.{IsLive, excludes, exclusion_of, is_excluded};
-ghost use Rattle.slo_objects.specs.Slo.{slo_in};
 ghost use Rattle.record_form.specs.declared.Command.TheVariants as commands;
 ghost use Rattle.office_history.specs.History.{Office, with_entry};
 ghost use Rattle.office_history.specs.Objectives.{slo_named};
@@ -23,26 +22,17 @@ use office_derived::{Derived, Judged, Work, accepted};
 use office_history::Judgement;
 use record_form::{LimitName, Outcome, Refusal};
 use sample_book::{Exclusion, SampleBook};
-use slo_catalog::Catalog;
+use slo_catalog::{Catalog, slo_in};
 use slo_limits::{MAX_EXCLUSIONS, RANGE_MINUTES};
-use slo_objects::{Body, Kind, Object};
+use slo_objects::Kind;
 use std::alloc::AllocError;
-
-fn is_slo(object: &Object) -> bool
-    ensures { result ≡ is_some (slo_in object.now.body) }
-{
-    match &object.body {
-        Body::Slo(_) => true,
-        _ => false,
-    }
-}
 
 /// Whether no SLO has the name.
 fn has_no_slo(catalog: &Catalog, name: Label) -> bool
     ensures { result ≡ is_none (slo_named catalog.now name) }
 {
     match catalog.find(Kind::Slo, name) {
-        Some(object) => !is_slo(object),
+        Some(object) => slo_in(&object.body).is_none(),
         None => true,
     }
 }

@@ -8,7 +8,8 @@ use Rattle.slice_method.specs.declared.amount.Counts.{Counts}
 use Rattle.slice_method.specs.declared.amount.Amount.{Amount}
 use Rattle.slice_method.specs.declared.amount.Amount.TheVariants as amount
 use Rattle.slice_method.specs.declared.amount.Reading.{Reading}
-use Rattle.slice_method.specs.declared.amount.Reading.TheVariants.{Good, Bad, Threshold, RawSuccess, RawFailure}
+use Rattle.slice_method.specs.declared.amount.Reading.TheVariants.{Good, Bad, Threshold, RawSuccess}
+use Rattle.slice_method.specs.declared.amount.Reading.TheVariants.{RawFailure}
 
 -- The amount has the form of the reading: a part of a total, a value, or a share of at most 1.
 abbrev pub HasForm : Reading → Amount → Type 0
@@ -36,7 +37,8 @@ counts_of_events _ part total = record { good = 0; total = 0 }
 
 -- a value that is compared with the objective's own, or a share of all in billionths
 abbrev pub counts_of_value : Reading → Op → ℕ → ℕ → Counts
-counts_of_value Threshold op value measured = record { good = if holds_of op (nat_cmp measured value) then 1 else 0; total = 1 }
+counts_of_value Threshold op value measured =
+    record { good = if holds_of op (nat_cmp measured value) then 1 else 0; total = 1 }
 counts_of_value RawSuccess op value measured = record { good = measured; total = WHOLE }
 counts_of_value RawFailure op value measured = record { good = WHOLE - measured; total = WHOLE }
 counts_of_value _ op value measured = record { good = 0; total = 0 }

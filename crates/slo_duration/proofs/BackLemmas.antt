@@ -1,5 +1,6 @@
 -- What is written reads back.
-use Rattle.std.proofs.Common.{◌≡◌, ℕ, ◌*◌, ◌<◌, ◌≤◌, ◌^◌, false, nat_eq, List, [], ◌∷◌, ◌++◌, length, Some, Ok, refl, ◌∙◌, arith}
+use Rattle.std.proofs.Common.{◌≡◌, ℕ, ◌*◌, ◌<◌, ◌≤◌, ◌^◌, false, nat_eq, List, [], ◌∷◌, ◌++◌}
+use Rattle.std.proofs.Common.{length, Some, Ok, refl, ◌∙◌, arith}
 use Rattle.std.specs.Char.{is_ascii_digit}
 use Rattle.std.specs.List.{prefix_len}
 use Rattle.std.proofs.Math.Seq.{take-append_seam, drop-append_seam}
@@ -10,7 +11,8 @@ use Rattle.slo_duration.specs.Unit.{letter, unit_of_letter, unit_minutes}
 use Rattle.slo_duration.specs.Reading.{duration_of, fitting}
 use Rattle.slo_duration.specs.Writing.{duration_text}
 use Rattle.slo_duration.specs.declared.unit.Unit.{Unit}
-use Rattle.slo_duration.specs.declared.unit.Unit.TheVariants.{Minute, Hour, Day, Week, Month, Quarter, Year}
+use Rattle.slo_duration.specs.declared.unit.Unit.TheVariants.{Minute, Hour, Day, Week, Month}
+use Rattle.slo_duration.specs.declared.unit.Unit.TheVariants.{Quarter, Year}
 use Rattle.slo_duration.specs.declared.duration.Duration.{Duration}
 use Rattle.slo_duration.proofs.DigitLemmas.{AreDigits, decimal_are_digits}
 
@@ -42,20 +44,37 @@ count_small count Quarter fits = omega arith
 count_small count Year fits = omega arith
 
 -- the digits at the front of digits and a letter
-front : (digits : List ℕ) (unit : Unit) → prefix_len is_ascii_digit digits ≡ length digits → prefix_len is_ascii_digit (digits ++ letter unit ∷ []) ≡ length digits
-front digits unit all = prefix_len-append is_ascii_digit digits (letter unit ∷ []) ∙ rw (no_digit unit, all) (grind (arith, nat_tests))
+front : (digits : List ℕ) (unit : Unit) → prefix_len is_ascii_digit digits ≡ length digits
+    → prefix_len is_ascii_digit (digits ++ letter unit ∷ []) ≡ length digits
+front digits unit all = prefix_len-append is_ascii_digit digits (letter unit ∷ [])
+    ∙ rw (no_digit unit, all) (grind (arith, nat_tests))
 
-fits_in : (count : ℕ) (unit : Unit) → count * unit_minutes unit ≤ 4_294_967_295 → fitting count unit ≡ Ok (count, unit)
+fits_in : (count : ℕ) (unit : Unit) → count * unit_minutes unit ≤ 4_294_967_295
+    → fitting count unit ≡ Ok (count, unit)
 fits_in count unit fits = grind (arith, nat_tests)
 
-of_parts : (count : ℕ) (unit : Unit) (digits : List ℕ) → AreDigits count digits → count * unit_minutes unit ≤ 4_294_967_295 → duration_of (digits ++ letter unit ∷ []) ≡ Ok (count, unit)
+of_parts : (count : ℕ) (unit : Unit) (digits : List ℕ) → AreDigits count digits
+    → count * unit_minutes unit ≤ 4_294_967_295
+    → duration_of (digits ++ letter unit ∷ []) ≡ Ok (count, unit)
 of_parts count unit digits are fits =
-    let some : nat_eq (length digits) 0 ≡ false = (let above = are.some in grind (arith, nat_tests)) in
-    let filled : nat_eq (length (digits ++ letter unit ∷ [])) 0 ≡ false = (let long = length-append digits (letter unit ∷ []) in grind (arith, nat_tests)) in
-    rw (filled, front digits unit are.all, some, take-append_seam digits (letter unit ∷ []), drop-append_seam digits (letter unit ∷ []), are.value, unit_of_letter-letter unit)
+    let some : nat_eq (length digits) 0 ≡ false =
+    (let above = are.some in grind (arith, nat_tests)) in
+    let filled : nat_eq (length (digits ++ letter unit ∷ [])) 0 ≡ false =
+    (let long = length-append digits (letter unit ∷ []) in grind (arith, nat_tests)) in
+    rw (
+      filled,
+      front digits unit are.all,
+      some,
+      take-append_seam digits (letter unit ∷ []),
+      drop-append_seam digits (letter unit ∷ []),
+      are.value,
+      unit_of_letter-letter unit,
+    )
     (fits_in count unit fits)
 
 -- the text of a duration is that of its count and its unit
-pub duration_of-text : (value : Duration) → duration_of (duration_text value) ≡ Ok (value.count, value.unit)
+pub duration_of-text : (value : Duration)
+    → duration_of (duration_text value) ≡ Ok (value.count, value.unit)
 duration_of-text value =
-    of_parts value.count value.unit _ (decimal_are_digits value.count (count_small value.count value.unit value.fits)) value.fits
+    of_parts value.count value.unit _
+    (decimal_are_digits value.count (count_small value.count value.unit value.fits)) value.fits

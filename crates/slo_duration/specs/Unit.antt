@@ -1,7 +1,8 @@
 -- The units of OpenSLO's duration shorthand.
 use Rattle.std.specs.Prelude.{ℕ, List, [], ◌∷◌, Option, Some, None, ◌==◌, if◌then◌else◌}
 use Rattle.slo_duration.specs.declared.unit.Unit.{Unit}
-use Rattle.slo_duration.specs.declared.unit.Unit.TheVariants.{Minute, Hour, Day, Week, Month, Quarter, Year}
+use Rattle.slo_duration.specs.declared.unit.Unit.TheVariants.{Minute, Hour, Day, Week, Month}
+use Rattle.slo_duration.specs.declared.unit.Unit.TheVariants.{Quarter, Year}
 
 -- OpenSLO v1, duration shorthand: the letter of a unit, `m h d w M Q Y`
 abbrev pub letter : Unit → ℕ
@@ -30,7 +31,8 @@ unit_of [] = None
 unit_of (byte ∷ []) = unit_of_letter byte
 unit_of (byte ∷ next ∷ more) = None
 
--- a unit's minutes in rolling windows and lookbacks: a month counts 30 days, a quarter 90, a year 365
+-- a unit's minutes in rolling windows and lookbacks: a month counts 30 days, a quarter 90,
+-- a year 365
 abbrev pub unit_minutes : Unit → ℕ
 unit_minutes Minute = 1
 unit_minutes Hour = 60

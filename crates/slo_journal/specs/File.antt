@@ -1,5 +1,6 @@
 -- What the bytes of a journal's file stand for.
-use Rattle.std.specs.Prelude.{◌≡◌, ◌≢◌, ℕ, ◌+◌, ◌-◌, ◌≤◌, ◌<◌, List, [], ◌∷◌, ◌++◌, length, codes, take, drop, Bool, false, not, ◌==◌}
+use Rattle.std.specs.Prelude.{◌≡◌, ◌≢◌, ℕ, ◌+◌, ◌-◌, ◌≤◌, ◌<◌, List, [], ◌∷◌, ◌++◌, length, codes}
+use Rattle.std.specs.Prelude.{take, drop, Bool, false, not, ◌==◌}
 use Rattle.std.specs.Int.{to_be_bytes, w32}
 use Rattle.slo_limits.specs.declared.TheConstants.{MAX_JOURNAL_BYTES, MAX_RECORD_BYTES, MAX_MINUTE}
 
@@ -29,14 +30,16 @@ pub record IsFrame (bytes : List ℕ) : Type 0 where
   pub same : bytes ≡ frame_of (record_in bytes)
   pub is_record : IsRecord (record_in bytes)
 
--- these records, each behind an open gate, and then bytes that are P; a gate is open where it isn't 0
+-- these records, each behind an open gate, and then bytes that are P; a gate is open where
+-- it isn't 0
 abbrev pub Records : (List ℕ → Type 0) → List (List ℕ) → List ℕ → Type 0
 Records P [] bytes = P bytes
 Records P (r ∷ rs) bytes = (gate : ℕ) × (rest : List ℕ) × (gate ≢ 0) × IsRecord r
     × (bytes ≡ gate ∷ (four (length r) ++ (r ++ rest))) × Records P rs rest
 
 -- the header with an open gate and the origin, the records, and then bytes that are P
-pub record Parts (P : List ℕ → Type 0) (origin : ℕ) (records : List (List ℕ)) (bytes : List ℕ) : Type 0 where
+pub record Parts (P : List ℕ → Type 0) (origin : ℕ) (records : List (List ℕ))
+    (bytes : List ℕ) : Type 0 where
   pub gate : ℕ
   pub rest : List ℕ
   pub is_open : gate ≢ 0
@@ -57,8 +60,8 @@ size_of (r ∷ rs) = 5 + length r + size_of rs
 abbrev pub tail_of : List (List ℕ) → ℕ
 tail_of records = 13 + size_of records
 
--- The bytes stand for the origin and the records: the header, the records, and a closed gate among the
--- first bytes. Any bytes may follow.
+-- The bytes stand for the origin and the records: the header, the records, and a closed gate among
+-- the first bytes. Any bytes may follow.
 pub record Stands (origin : ℕ) (records : List (List ℕ)) (bytes : List ℕ) : Type 0 where
   pub small : tail_of records < limit
   pub parts : Parts Closed origin records bytes

@@ -51,9 +51,10 @@ header_of origin = codes "OSLOJRN1" ++ (four origin ++ 0 ∷ [])
 abbrev pub NoneOrWhole : ℕ → List ℕ → Type 0
 NoneOrWhole origin file = HasNoHeader file ⊎ Stands origin [] file
 
--- Up to some moment of the call no image came up; from it on each image has no header, or stands for the
--- origin and no records.
-pub record IsMaking {D : Type 0} (images : D → List ℕ → Type 0) (moment : D → ℕ) (since : D → ℕ → List ℕ → Type 0) (origin : ℕ) (old new : D) : Type 0 where
+-- Up to some moment of the call no image came up; from it on each image has no header, or stands
+-- for the origin and no records.
+pub record IsMaking {D : Type 0} (images : D → List ℕ → Type 0) (moment : D → ℕ)
+    (since : D → ℕ → List ℕ → Type 0) (origin : ℕ) (old new : D) : Type 0 where
   pub between : D
   pub before : IsQuiet images moment since old between
   pub after : Always images moment since between new (NoneOrWhole origin)

@@ -1,5 +1,7 @@
--- How a journal keeps its records on a disk: what an append and a settling leave, by how they ended.
-use Rattle.std.specs.Prelude.{◌≡◌, ◌⊎◌, ℕ, ◌+◌, ◌<◌, ◌≤◌, List, [], ◌∷◌, ◌++◌, length, Option, Some, None, Bool, true, false, Result, Ok, Err}
+-- How a journal keeps its records on a disk: what an append and a settling leave, by
+-- how they ended.
+use Rattle.std.specs.Prelude.{◌≡◌, ◌⊎◌, ℕ, ◌+◌, ◌<◌, ◌≤◌, List, [], ◌∷◌, ◌++◌, length, Option, Some}
+use Rattle.std.specs.Prelude.{None, Bool, true, false, Result, Ok, Err}
 use Rattle.office_outside.specs.Disk.{All}
 use Rattle.office_outside.specs.Faults.{Rose}
 use Rattle.slo_journal.specs.File.{Stands, StandsInDoubt, tail_of, limit}
@@ -7,8 +9,8 @@ use Rattle.slo_journal.specs.declared.fault.AppendFault.{AppendFault}
 use Rattle.slo_journal.specs.declared.fault.AppendFault.TheVariants.{JournalFull, NotKept, InDoubt}
 use Rattle.slo_journal.specs.declared.fault.DiskFault.{DiskFault}
 
--- a journal: its disk, where its closed gate stands, and, where a record is in doubt, where the gate
--- behind that record does
+-- a journal: its disk, where its closed gate stands, and, where a record is in doubt, where the
+-- gate behind that record does
 pub record JournalOn (D : Type 0) : Type 0 where
   pub disk : D
   pub tail : ℕ
@@ -21,40 +23,47 @@ AreWithin tail (Some end) = (tail < limit) × (end < limit)
 
 -- the file stands for the records, or for them and this one more
 abbrev pub WithOrWithout : ℕ → List (List ℕ) → List ℕ → List ℕ → Type 0
-WithOrWithout origin records r bytes = Stands origin records bytes ⊎ Stands origin (records ++ r ∷ []) bytes
+WithOrWithout origin records r bytes = Stands origin records bytes
+    ⊎ Stands origin (records ++ r ∷ []) bytes
 
 -- nothing is in doubt, and each image of the disk stands for these records
-pub record Keeps {D : Type 0} (images : D → List ℕ → Type 0) (origin : ℕ) (records : List (List ℕ)) (journal : JournalOn D) : Type 0 where
+pub record Keeps {D : Type 0} (images : D → List ℕ → Type 0) (origin : ℕ) (records : List (List ℕ))
+    (journal : JournalOn D) : Type 0 where
   pub tail : journal.tail ≡ tail_of records
   pub none : journal.doubt ≡ None
   pub each : All (Stands origin records) (images journal.disk)
 
 -- this record is in doubt: each image stands for these records, or for them and this one more
-pub record Doubts {D : Type 0} (images : D → List ℕ → Type 0) (origin : ℕ) (records : List (List ℕ)) (r : List ℕ) (journal : JournalOn D) : Type 0 where
+pub record Doubts {D : Type 0} (images : D → List ℕ → Type 0) (origin : ℕ) (records : List (List ℕ))
+    (r : List ℕ) (journal : JournalOn D) : Type 0 where
   pub tail : journal.tail ≡ tail_of records
   pub doubt : journal.doubt ≡ Some (tail_of (records ++ r ∷ []))
   pub each : All (StandsInDoubt origin records r) (images journal.disk)
 
 -- what stands after an append follows from how it ended
-abbrev pub Appended : {D : Type 0} → (D → List ℕ → Type 0) → ℕ → List (List ℕ) → List ℕ → Result Prim.Unit AppendFault → JournalOn D → Type 0
+abbrev pub Appended : {D : Type 0} → (D → List ℕ → Type 0) → ℕ → List (List ℕ) → List ℕ
+    → Result Prim.Unit AppendFault → JournalOn D → Type 0
 Appended images o rs r (Ok x) journal = Keeps images o (rs ++ r ∷ []) journal
 Appended images o rs r (Err (JournalFull tail needed)) journal = Keeps images o rs journal
 Appended images o rs r (Err NotKept) journal = Keeps images o rs journal
 Appended images o rs r (Err InDoubt) journal = Doubts images o rs r journal
 
--- how many bytes a journal takes with one more record: its gate, length and bytes, and the closed gate
+-- how many bytes a journal takes with one more record: its gate, length and bytes, and
+-- the closed gate
 abbrev pub needed_for : ℕ → List ℕ → ℕ
 needed_for tail r = tail + 6 + length r
 
 -- `JournalFull` comes exactly where the record doesn't fit, with these numbers
 abbrev pub FullExactly : ℕ → List ℕ → Result Prim.Unit AppendFault → Type 0
-FullExactly tail r (Err (JournalFull at needed)) = (at ≡ tail) × (needed ≡ needed_for tail r) × (limit < needed)
+FullExactly tail r (Err (JournalFull at needed)) = (at ≡ tail) × (needed ≡ needed_for tail r)
+    × (limit < needed)
 FullExactly tail r (Err NotKept) = needed_for tail r ≤ limit
 FullExactly tail r (Err InDoubt) = needed_for tail r ≤ limit
 FullExactly tail r (Ok x) = needed_for tail r ≤ limit
 
 -- where the journal stands after an append
-abbrev pub Moves : {D : Type 0} → List ℕ → Result Prim.Unit AppendFault → JournalOn D → JournalOn D → Type 0
+abbrev pub Moves : {D : Type 0} → List ℕ → Result Prim.Unit AppendFault → JournalOn D
+    → JournalOn D → Type 0
 Moves r (Ok x) old new = (new.tail ≡ old.tail + 5 + length r) × (new.doubt ≡ None)
 Moves r (Err (JournalFull tail needed)) old new = new ≡ old
 Moves r (Err NotKept) old new = (new.tail ≡ old.tail) × (new.doubt ≡ None)
@@ -67,7 +76,8 @@ pub record HasDiskCause (before now : ℕ) (result : Result Prim.Unit AppendFaul
   pub in_doubt : result ≡ Err InDoubt → Rose before now
 
 -- what stands after a settling follows from how it ended
-abbrev pub Settled : {D : Type 0} → (D → List ℕ → Type 0) → ℕ → List (List ℕ) → List ℕ → Result Bool DiskFault → JournalOn D → Type 0
+abbrev pub Settled : {D : Type 0} → (D → List ℕ → Type 0) → ℕ → List (List ℕ) → List ℕ
+    → Result Bool DiskFault → JournalOn D → Type 0
 Settled images o rs r (Ok true) journal = Keeps images o (rs ++ r ∷ []) journal
 Settled images o rs r (Ok false) journal = Keeps images o rs journal
 Settled images o rs r (Err fault) journal = Doubts images o rs r journal

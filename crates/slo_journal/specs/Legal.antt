@@ -4,19 +4,22 @@ use Rattle.slo_journal.specs.File.{Parts, tail_of, Stands}
 
 -- each record is legal behind those before it
 abbrev pub Legal : (List (List ℕ) → List ℕ → Type 0) → List (List ℕ) → Type 0
-Legal legal history = (before : List (List ℕ)) (r : List ℕ) (after : List (List ℕ)) → history ≡ before ++ r ∷ after → legal before r
+Legal legal history = (before : List (List ℕ)) (r : List ℕ) (after : List (List ℕ))
+    → history ≡ before ++ r ∷ after → legal before r
 
 abbrev pub Anything : List ℕ → Type 0
 Anything bytes = ⊤
 
 -- before this place the file holds a header and these records, a legal history
-pub record Walks (legal : List (List ℕ) → List ℕ → Type 0) (origin : ℕ) (history : List (List ℕ)) (at : ℕ) (file : List ℕ) : Type 0 where
+pub record Walks (legal : List (List ℕ) → List ℕ → Type 0) (origin : ℕ) (history : List (List ℕ))
+    (at : ℕ) (file : List ℕ) : Type 0 where
   pub parts : Parts Anything origin history file
   pub place : at ≡ tail_of history
   pub is_legal : Legal legal history
 
 -- this is the first place at which the bytes stop standing for a legal history
-pub record StopsAt (legal : List (List ℕ) → List ℕ → Type 0) (origin : ℕ) (at : ℕ) (file : List ℕ) : Type 0 where
+pub record StopsAt (legal : List (List ℕ) → List ℕ → Type 0) (origin : ℕ) (at : ℕ)
+    (file : List ℕ) : Type 0 where
   pub history : List (List ℕ)
   pub before : Walks legal origin history at file
   pub none : (p : ℕ) (longer : List (List ℕ)) → Stands p longer file → Legal legal longer → ⊥

@@ -1,5 +1,6 @@
 -- What stands in a file from a place on, and what a scan finds there.
-use Rattle.std.specs.Prelude.{◌≡◌, ◌≢◌, ℕ, ◌+◌, ◌-◌, ◌≤◌, List, [], ◌∷◌, ◌++◌, length, take, drop, ⊤, Bool, true, false, Option, Some, Result, Ok, Err}
+use Rattle.std.specs.Prelude.{◌≡◌, ◌≢◌, ℕ, ◌+◌, ◌-◌, ◌≤◌, List, [], ◌∷◌, ◌++◌, length, take, drop}
+use Rattle.std.specs.Prelude.{⊤, Bool, true, false, Option, Some, Result, Ok, Err}
 use Rattle.office_outside.specs.Disk.{OnlyAsRead}
 use Rattle.slo_limits.specs.declared.TheConstants.{MAX_RECORD_BYTES, MAX_MINUTE}
 use Rattle.slo_journal.specs.File.{limit, four, IsRecord, Closed}
@@ -45,12 +46,14 @@ pub record HasRecord (r bytes : List ℕ) : Type 0 where
 abbrev pub IsNext : List ℕ → ℕ → Result Bool ScanFault → List ℕ → Type 0
 IsNext bytes at (Ok true) out = HasRecord out bytes
 IsNext bytes at (Ok false) out = Closed bytes
-IsNext bytes at (Err (Damaged place)) out = (place ≡ at) × (Closed bytes → ⊥) × ((r : List ℕ) → HasRecord r bytes → ⊥)
+IsNext bytes at (Err (Damaged place)) out = (place ≡ at) × (Closed bytes → ⊥)
+    × ((r : List ℕ) → HasRecord r bytes → ⊥)
 IsNext bytes at (Err DiskFault) out = ⊤
 IsNext bytes at (Err NoMemory) out = ⊤
 
 -- where the disk tells, a header stands at the front of its file, and each image now is this file
-pub record HasBegun {D : Type 0} (content : D → Option (List ℕ)) (images : D → List ℕ → Type 0) (old : D) (scan : ScanOn D) : Type 0 where
+pub record HasBegun {D : Type 0} (content : D → Option (List ℕ)) (images : D → List ℕ → Type 0)
+    (old : D) (scan : ScanOn D) : Type 0 where
   pub at : scan.at ≡ 13
   pub range : scan.origin ≤ MAX_MINUTE
   pub header : (file : List ℕ) → content old ≡ Some file → IsHeader scan.origin (take 13 file)

@@ -12,9 +12,11 @@ newest same_cell revision_of rows row = fold (newer revision_of) row (filter (sa
 -- the first row of each cell, in the order in which they came
 abbrev pub first_of_each : {A : Type 0} → (A → A → Bool) → List A → List A
 first_of_each same_cell [] = []
-first_of_each same_cell (row ∷ rows) = row ∷ filter (λ later. not (same_cell row later)) (first_of_each same_cell rows)
+first_of_each same_cell (row ∷ rows) =
+    row ∷ filter (λ later. not (same_cell row later)) (first_of_each same_cell rows)
 
--- The current rows of a list of rows: of each cell the row of the greatest revision, each cell once,
--- in the order in which the cells first came.
+-- The current rows of a list of rows: of each cell the row of the greatest revision, each cell
+-- once, in the order in which the cells first came.
 abbrev pub current : {A : Type 0} → (A → A → Bool) → (A → ℕ) → List A → List A
-current same_cell revision_of rows = map (newest same_cell revision_of rows) (first_of_each same_cell rows)
+current same_cell revision_of rows =
+    map (newest same_cell revision_of rows) (first_of_each same_cell rows)

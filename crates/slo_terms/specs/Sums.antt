@@ -1,5 +1,6 @@
 -- Sums over the slices of a range of time.
-use Rattle.std.specs.Prelude.{ℕ, zero, suc, nat_le, nat_lt, ◌&&◌, ◌+◌, ◌-◌, ◌*◌, ◌/◌, ◌^◌, ◌≤◌, List, sum_by, ◌==◌, if◌then◌else◌}
+use Rattle.std.specs.Prelude.{ℕ, zero, suc, nat_le, nat_lt, ◌&&◌, ◌+◌, ◌-◌, ◌*◌, ◌/◌, ◌^◌, ◌≤◌}
+use Rattle.std.specs.Prelude.{List, sum_by, ◌==◌, if◌then◌else◌}
 use Rattle.exact_fraction.specs.declared.Leaf.{Leaf}
 
 -- what f gives at `count` places from `first` on, added up
@@ -19,7 +20,10 @@ slices_until width minute = minute / width
 -- the leaves of `count` slices from `first` on, added up
 abbrev pub leaves_over : (ℕ → Leaf) → ℕ → ℕ → Leaf
 leaves_over leaf first count =
-    record { num = sum_over (λ k. (leaf k).num) first count; den = sum_over (λ k. (leaf k).den) first count }
+    record {
+      num = sum_over (λ k. (leaf k).num) first count;
+      den = sum_over (λ k. (leaf k).den) first count;
+    }
 
 -- The sum over a range: the leaves of all slices that lie wholly in it.
 abbrev pub sum_of_slices : ℕ → (ℕ → Leaf) → ℕ → ℕ → Leaf
@@ -41,8 +45,10 @@ pub record AreSound (leaf : ℕ → Leaf) : Type 0 where
 
 -- What the rows of one minute add up to.
 abbrev pub amount_at : {A : Type 0} → (A → ℕ) → (A → ℕ) → List A → ℕ → ℕ
-amount_at minute_of amount_of rows minute = sum_by (λ row. if minute_of row == minute then amount_of row else 0) rows
+amount_at minute_of amount_of rows minute =
+    sum_by (λ row. if minute_of row == minute then amount_of row else 0) rows
 
 -- the amount of a row whose minute lies in [from, to)
 abbrev pub share_within : {A : Type 0} → (A → ℕ) → (A → ℕ) → ℕ → ℕ → A → ℕ
-share_within minute_of amount_of from to row = if nat_le from (minute_of row) && nat_lt (minute_of row) to then amount_of row else 0
+share_within minute_of amount_of from to row =
+    if nat_le from (minute_of row) && nat_lt (minute_of row) to then amount_of row else 0

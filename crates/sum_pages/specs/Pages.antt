@@ -1,12 +1,14 @@
 -- The leaf of each slot of time, kept day by day.
-use Rattle.std.specs.Prelude.{ℕ, Bool, ◌+◌, ◌-◌, ◌*◌, ◌/◌, ◌<◌, ◌≤◌, ◌≡◌, ◌==◌, List, All, length, slice_index_or, if◌then◌else◌}
+use Rattle.std.specs.Prelude.{ℕ, Bool, ◌+◌, ◌-◌, ◌*◌, ◌/◌, ◌<◌, ◌≤◌, ◌≡◌, ◌==◌, List, All, length}
+use Rattle.std.specs.Prelude.{slice_index_or, if◌then◌else◌}
 use Rattle.std.specs.Int.{◌∣◌}
 use Rattle.std.specs.Map.{values_of}
 use Rattle.exact_fraction.specs.declared.leaf.Leaf.{Leaf}
 use Rattle.slo_terms.specs.Sums.{AreSound, leaves_over, most_events, sum_over}
 use Rattle.sum_pages.specs.DayTables.{is_day_of, value_at}
 
--- How many slots an hour has, and of each day that is there the leaves of its slots, in the order in which the days came.
+-- How many slots an hour has, and of each day that is there the leaves of its slots, in the order
+-- in which the days came.
 pub record LeafDays : Type 0 where
   pub per_hour : ℕ
   pub days : List (ℕ × List Leaf)
@@ -55,7 +57,8 @@ pub record IsPage (leaves hours : List Leaf) (total : Leaf) : Type 0 where
   pub even : length leaves ≡ 24 * (length leaves / 24)
   pub all : length hours ≡ 24
   pub each : (hour : ℕ) → hour < 24 →
-      leaf_in hours hour ≡ leaves_over (leaf_in leaves) (hour * (length leaves / 24)) (length leaves / 24)
+      leaf_in hours hour ≡ leaves_over (leaf_in leaves) (hour * (length leaves / 24))
+      (length leaves / 24)
   pub day : total ≡ leaves_over (leaf_in leaves) 0 (length leaves)
   pub parts : (place : ℕ) → (leaf_in leaves place).num ≤ (leaf_in leaves place).den
   pub few : (leaves_over (leaf_in leaves) 0 (length leaves)).den ≤ most_events

@@ -20,7 +20,8 @@ use Rattle.office_counter.proofs.Steps.{extends_with_others}
 use Rattle.turn_counter.specs.Holding.{HoldsEntry}
 
 -- what stands behind these
-at_seam : (xs : List Entry) (y : Entry) (ys : List Entry) → slice_get (xs ++ y ∷ ys) (length xs) ≡ Some y
+at_seam : (xs : List Entry) (y : Entry) (ys : List Entry)
+    → slice_get (xs ++ y ∷ ys) (length xs) ≡ Some y
 at_seam xs y ys =
     slice_get-get_or (xs ++ y ∷ ys) (length xs) y (omega (arith, length-append xs (y ∷ ys)))
     ∙ ap Some (get_or-append_seam xs y ys y)

@@ -61,7 +61,8 @@ module _ (old new : Standing) (taken put : Office) (before now : ℕ) (reading :
       → Step (at_office taken old before) reading request outcome (at_office put new now)
       → Step old reading request outcome new
   step_told goes_on step =
-      let point : with_others taken step.others ≡ with_others old.office (goes_on.more ++ step.others) =
+      let point : with_others taken step.others
+      ≡ with_others old.office (goes_on.more ++ step.others) =
       ap (λ (o : Office). with_others o step.others) (extended old.office taken goes_on)
       ∙ with_both old.office goes_on.more step.others in
       record {

@@ -2,7 +2,11 @@
 use Rattle.std.proofs.Common.{◌≡◌, refl}
 use Rattle.record_form.specs.Words.{failure_of}
 use Rattle.record_form.specs.declared.outcome.Outcome.{Outcome}
-use Rattle.record_form.specs.declared.outcome.Outcome.TheVariants.{Defined, Sampled, Changed, Ticked, ObjectList, ObjectText, Budgets, Burn, Timeline, Notices, Refused, ClockRange, DiskFault, JournalFull, NoMemory}
+use Rattle.record_form.specs.declared.outcome.Outcome.TheVariants.{Defined, Sampled, Changed}
+use Rattle.record_form.specs.declared.outcome.Outcome.TheVariants.{Ticked, ObjectList, ObjectText}
+use Rattle.record_form.specs.declared.outcome.Outcome.TheVariants.{Budgets, Burn, Timeline, Notices}
+use Rattle.record_form.specs.declared.outcome.Outcome.TheVariants.{Refused, ClockRange, DiskFault}
+use Rattle.record_form.specs.declared.outcome.Outcome.TheVariants.{JournalFull, NoMemory}
 use Rattle.wire_replies.specs.Laws.{status_by}
 use Rattle.wire_replies.specs.Outcomes.{answer_of}
 

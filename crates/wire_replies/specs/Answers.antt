@@ -1,6 +1,7 @@
 -- The answer to a message, however it is kept until it is written.
 use Rattle.std.specs.Prelude.{◌≡◌, ◌⊎◌, ℕ, List, [], ◌∷◌, Bool, true, false, codes}
-use Rattle.serde_json.specs.Data.{Data, number, unsigned, object, string, Members, member, no_members}
+use Rattle.serde_json.specs.Data.{Data, number, unsigned, object, string, Members, member}
+use Rattle.serde_json.specs.Data.{no_members}
 use Rattle.serde_json.specs.Written.{compact_text}
 use Rattle.wire_terms.specs.declared.immediate.Allow.{Allow}
 use Rattle.wire_terms.specs.declared.immediate.Allow.TheVariants as allow

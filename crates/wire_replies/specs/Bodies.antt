@@ -33,7 +33,10 @@ defined_data applied entry =
 -- {"entry":2,"new":1,"newer":0,"repeated":0,"superseded":0}
 abbrev pub sampled_data : Option ℕ → ℕ → ℕ → ℕ → ℕ → Data
 sampled_data entry new newer repeated superseded =
-    object_of ((codes "entry", entry_data entry) ∷ (codes "new", whole new) ∷ (codes "newer", whole newer)
+    object_of ((codes "entry", entry_data entry) ∷ (
+      codes "new",
+      whole new,
+    ) ∷ (codes "newer", whole newer)
     ∷ (codes "repeated", whole repeated) ∷ (codes "superseded", whole superseded) ∷ [])
 
 -- {"entry":3}
@@ -42,7 +45,8 @@ changed_data entry = object_of ((codes "entry", entry_data entry) ∷ [])
 
 -- {"entry":3,"notices":2}
 abbrev pub ticked_data : ℕ → ℕ → Data
-ticked_data entry notices = object_of ((codes "entry", whole entry) ∷ (codes "notices", whole notices) ∷ [])
+ticked_data entry notices =
+    object_of ((codes "entry", whole entry) ∷ (codes "notices", whole notices) ∷ [])
 
 -- {"kind":"Service","name":"shop"}
 abbrev pub object_data : Kind × List ℕ → Data
@@ -51,24 +55,39 @@ object_data o = object_of ((codes "kind", string (kind_word o.0)) ∷ (codes "na
 -- {"entries":2,"objects":[..]}
 abbrev pub objects_data : ℕ → List (Kind × List ℕ) → Data
 objects_data entries objects =
-    object_of ((codes "entries", whole entries) ∷ (codes "objects", list_of object_data objects) ∷ [])
+    object_of ((codes "entries", whole entries) ∷ (
+      codes "objects",
+      list_of object_data objects,
+    ) ∷ [])
 
 -- {"burn":"500/1","den":20,"error":"1/2","from":0,"num":10,"objective":0,"remaining":"-499/1"}
 abbrev pub budget_data : BudgetRow → Data
 budget_data row =
-    object_of ((codes "burn", fraction_data row.burn) ∷ (codes "den", whole row.den) ∷ (codes "error", fraction_data row.error)
-    ∷ (codes "from", whole row.from) ∷ (codes "num", whole row.num) ∷ (codes "objective", whole row.objective)
+    object_of ((codes "burn", fraction_data row.burn) ∷ (
+      codes "den",
+      whole row.den,
+    ) ∷ (codes "error", fraction_data row.error)
+    ∷ (codes "from", whole row.from) ∷ (codes "num", whole row.num) ∷ (
+      codes "objective",
+      whole row.objective,
+    )
     ∷ (codes "remaining", fraction_data row.remaining) ∷ [])
 
 -- {"at":200,"budgets":[..],"entries":3}
 abbrev pub budgets_data : ℕ → List BudgetRow → ℕ → Data
 budgets_data at budgets entries =
-    object_of ((codes "at", whole at) ∷ (codes "budgets", list_of budget_data budgets) ∷ (codes "entries", whole entries) ∷ [])
+    object_of ((codes "at", whole at) ∷ (
+      codes "budgets",
+      list_of budget_data budgets,
+    ) ∷ (codes "entries", whole entries) ∷ [])
 
 -- {"at":200,"burn":"1/2","den":20,"entries":3,"num":10}
 abbrev pub burn_data : ℕ → Option Ratio → ℕ → ℕ → ℕ → Data
 burn_data at burn den entries num =
-    object_of ((codes "at", whole at) ∷ (codes "burn", fraction_data burn) ∷ (codes "den", whole den)
+    object_of ((codes "at", whole at) ∷ (
+      codes "burn",
+      fraction_data burn,
+    ) ∷ (codes "den", whole den)
     ∷ (codes "entries", whole entries) ∷ (codes "num", whole num) ∷ [])
 
 -- [1006,1061]
@@ -78,16 +97,28 @@ interval_data i = array (items_of (whole i.0 ∷ whole i.1 ∷ []))
 -- {"entries":3,"intervals":[[1006,1061]],"state":"no_data"}
 abbrev pub timeline_data : ℕ → List (ℕ × ℕ) → State → Data
 timeline_data entries intervals state =
-    object_of ((codes "entries", whole entries) ∷ (codes "intervals", list_of interval_data intervals)
+    object_of ((codes "entries", whole entries) ∷ (
+      codes "intervals",
+      list_of interval_data intervals,
+    )
     ∷ (codes "state", string (state_word state)) ∷ [])
 
 -- {"at":1010,"number":1,"objective":0,"policy":"shop-alerts","slo":"shop-slo","state":"breaching"}
 abbrev pub notice_data : Notice → Data
 notice_data n =
-    object_of ((codes "at", whole n.at) ∷ (codes "number", whole n.number) ∷ (codes "objective", whole n.objective)
-    ∷ (codes "policy", string n.policy) ∷ (codes "slo", string n.slo) ∷ (codes "state", string (state_word n.state)) ∷ [])
+    object_of ((codes "at", whole n.at) ∷ (codes "number", whole n.number) ∷ (
+      codes "objective",
+      whole n.objective,
+    )
+    ∷ (codes "policy", string n.policy) ∷ (codes "slo", string n.slo) ∷ (
+      codes "state",
+      string (state_word n.state),
+    ) ∷ [])
 
 -- {"entries":3,"notices":[..]}
 abbrev pub notices_data : ℕ → List Notice → Data
 notices_data entries notices =
-    object_of ((codes "entries", whole entries) ∷ (codes "notices", list_of notice_data notices) ∷ [])
+    object_of ((codes "entries", whole entries) ∷ (
+      codes "notices",
+      list_of notice_data notices,
+    ) ∷ [])

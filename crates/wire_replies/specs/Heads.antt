@@ -1,5 +1,6 @@
 -- The bytes of an answer (RFC 9112, section 4).
-use Rattle.std.specs.Prelude.{ℕ, Bool, true, false, List, [], ◌++◌, length, codes, decimal, unwrap_or}
+use Rattle.std.specs.Prelude.{ℕ, Bool, true, false, List, [], ◌++◌, length, codes, decimal}
+use Rattle.std.specs.Prelude.{unwrap_or}
 use Rattle.http.specs.StatusCode.{reason_phrase}
 use Rattle.wire_terms.specs.declared.immediate.Allow.{Allow}
 use Rattle.wire_terms.specs.declared.immediate.Allow.TheVariants as allow
@@ -15,7 +16,8 @@ abbrev pub type_of : Form → List ℕ
 type_of Json = codes "application/json"
 type_of Yaml = codes "application/yaml"
 
--- the line of the methods that a resource has (RFC 9110, section 10.2.1), where the answer names them
+-- the line of the methods that a resource has (RFC 9110, section 10.2.1), where the
+-- answer names them
 abbrev pub allow_line : Allow → List ℕ
 allow_line allow.None = []
 allow_line allow.PostGet = codes "Allow: POST, GET\r\n"

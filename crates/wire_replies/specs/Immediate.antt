@@ -3,7 +3,8 @@ use Rattle.std.specs.Prelude.{ℕ, [], ◌∷◌, codes}
 use Rattle.serde_json.specs.Data.{Data, string}
 use Rattle.serde_json.specs.Written.{compact_text}
 use Rattle.wire_terms.specs.declared.immediate.Immediate.{Immediate}
-use Rattle.wire_terms.specs.declared.immediate.Immediate.TheVariants.{NotFound, Method, Query, Body, Record}
+use Rattle.wire_terms.specs.declared.immediate.Immediate.TheVariants.{NotFound, Method, Query, Body}
+use Rattle.wire_terms.specs.declared.immediate.Immediate.TheVariants.{Record}
 use Rattle.wire_replies.specs.Answers.{Answer, error_data, in_json, json, object_of, whole}
 
 -- {"error":"body","record":1}

@@ -11,4 +11,5 @@ status_by (Some failure) = failure.0
 
 -- an outcome that failed is answered with its status, and any other with 200
 abbrev pub AnswersHaveTheirStatuses : Type 0
-AnswersHaveTheirStatuses = (outcome : Outcome) → (answer_of outcome).status ≡ status_by (failure_of outcome)
+AnswersHaveTheirStatuses = (outcome : Outcome)
+    → (answer_of outcome).status ≡ status_by (failure_of outcome)

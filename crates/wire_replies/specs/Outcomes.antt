@@ -3,27 +3,40 @@ use Rattle.std.specs.Prelude.{ℕ, [], ◌∷◌, Bool, true, false, codes}
 use Rattle.serde_json.specs.Data.{Data, string}
 use Rattle.record_form.specs.Words.{reply_of}
 use Rattle.record_form.specs.declared.outcome.Outcome.{Outcome}
-use Rattle.record_form.specs.declared.outcome.Outcome.TheVariants.{Defined, Sampled, Changed, Ticked, ObjectList, ObjectText, Budgets, Burn, Timeline, Notices, Refused, ClockRange, DiskFault, JournalFull, NoMemory}
+use Rattle.record_form.specs.declared.outcome.Outcome.TheVariants.{Defined, Sampled, Changed}
+use Rattle.record_form.specs.declared.outcome.Outcome.TheVariants.{Ticked, ObjectList, ObjectText}
+use Rattle.record_form.specs.declared.outcome.Outcome.TheVariants.{Budgets, Burn, Timeline, Notices}
+use Rattle.record_form.specs.declared.outcome.Outcome.TheVariants.{Refused, ClockRange, DiskFault}
+use Rattle.record_form.specs.declared.outcome.Outcome.TheVariants.{JournalFull, NoMemory}
 use Rattle.wire_terms.specs.declared.immediate.Allow.TheVariants.{None}
 use Rattle.wire_replies.specs.declared.reply.Form.TheVariants.{Yaml}
 use Rattle.wire_replies.specs.Answers.{Answer, error_data, json, no_memory_answer, object_of, whole}
-use Rattle.wire_replies.specs.Bodies.{budgets_data, burn_data, changed_data, defined_data, notices_data, objects_data, sampled_data, ticked_data, timeline_data}
+use Rattle.wire_replies.specs.Bodies.{budgets_data, burn_data, changed_data, defined_data}
+use Rattle.wire_replies.specs.Bodies.{notices_data, objects_data, sampled_data, ticked_data}
+use Rattle.wire_replies.specs.Bodies.{timeline_data}
 use Rattle.wire_replies.specs.Refusals.{refusal_data}
 
 -- {"end":2097152,"error":"clock_range","reading":2097152}
 abbrev pub clock_range_data : ℕ → ℕ → Data
 clock_range_data end reading =
-    object_of ((codes "end", whole end) ∷ (codes "error", string (codes "clock_range")) ∷ (codes "reading", whole reading) ∷ [])
+    object_of ((codes "end", whole end) ∷ (
+      codes "error",
+      string (codes "clock_range"),
+    ) ∷ (codes "reading", whole reading) ∷ [])
 
 -- {"error":"journal_full","needed":268435457,"tail":268435440}
 abbrev pub journal_full_data : ℕ → ℕ → Data
 journal_full_data needed tail =
-    object_of ((codes "error", string (codes "journal_full")) ∷ (codes "needed", whole needed) ∷ (codes "tail", whole tail) ∷ [])
+    object_of ((codes "error", string (codes "journal_full")) ∷ (
+      codes "needed",
+      whole needed,
+    ) ∷ (codes "tail", whole tail) ∷ [])
 
 -- the answer to an outcome
 abbrev pub answer_of : Outcome → Answer
 answer_of (Defined applied entry) = json 200 (defined_data applied entry)
-answer_of (Sampled entry new newer repeated superseded) = json 200 (sampled_data entry new newer repeated superseded)
+answer_of (Sampled entry new newer repeated superseded) =
+    json 200 (sampled_data entry new newer repeated superseded)
 answer_of (Changed entry) = json 200 (changed_data entry)
 answer_of (Ticked entry notices) = json 200 (ticked_data entry notices)
 answer_of (ObjectList entries objects) = json 200 (objects_data entries objects)

@@ -18,12 +18,16 @@ amount_text (Value value) = decimal_text value
 
 -- {"error":"limit","which":"rows"}
 abbrev pub limit_data : List ℕ → List ℕ → Data
-limit_data error which = object_of ((codes "error", string error) ∷ (codes "which", string which) ∷ [])
+limit_data error which =
+    object_of ((codes "error", string error) ∷ (codes "which", string which) ∷ [])
 
 -- {"error":"yaml","line":33,"which":"too_deep"}
 abbrev pub yaml_data : List ℕ → ℕ → List ℕ → Data
 yaml_data error line which =
-    object_of ((codes "error", string error) ∷ (codes "line", whole line) ∷ (codes "which", string which) ∷ [])
+    object_of ((codes "error", string error) ∷ (codes "line", whole line) ∷ (
+      codes "which",
+      string which,
+    ) ∷ [])
 
 -- {"document":1,"error":"object","field":"kind","rule":"bad_kind"}
 abbrev pub field_data : ℕ → List ℕ → List ℕ → List ℕ → Data
@@ -38,18 +42,27 @@ name_data error name = object_of ((codes "error", string error) ∷ (codes "name
 -- {"error":"duplicate","kind":"Service","name":"shop"}
 abbrev pub object_name_data : List ℕ → List ℕ → List ℕ → Data
 object_name_data error kind name =
-    object_of ((codes "error", string error) ∷ (codes "kind", string kind) ∷ (codes "name", string name) ∷ [])
+    object_of ((codes "error", string error) ∷ (codes "kind", string kind) ∷ (
+      codes "name",
+      string name,
+    ) ∷ [])
 
 -- {"error":"unresolved","from_kind":"SLO","from_name":"shop-slo","kind":"Service","name":"shop"}
 abbrev pub unresolved_data : List ℕ → List ℕ → List ℕ → List ℕ → List ℕ → Data
 unresolved_data error from_kind from_name kind name =
-    object_of ((codes "error", string error) ∷ (codes "from_kind", string from_kind) ∷ (codes "from_name", string from_name)
+    object_of ((codes "error", string error) ∷ (
+      codes "from_kind",
+      string from_kind,
+    ) ∷ (codes "from_name", string from_name)
     ∷ (codes "kind", string kind) ∷ (codes "name", string name) ∷ [])
 
 -- {"error":"needs_op","objective":0,"slo":"shop-slo"}
 abbrev pub needs_op_data : List ℕ → ℕ → List ℕ → Data
 needs_op_data error objective slo =
-    object_of ((codes "error", string error) ∷ (codes "objective", whole objective) ∷ (codes "slo", string slo) ∷ [])
+    object_of ((codes "error", string error) ∷ (codes "objective", whole objective) ∷ (
+      codes "slo",
+      string slo,
+    ) ∷ [])
 
 -- {"error":"has_samples","minute":999,"name":"shop-good","source":"web"}
 abbrev pub has_samples_data : List ℕ → ℕ → List ℕ → List ℕ → Data
@@ -60,12 +73,18 @@ has_samples_data error minute name source =
 -- {"by_kind":"SLO","by_name":"shop-slo","error":"in_use"}
 abbrev pub in_use_data : List ℕ → List ℕ → List ℕ → Data
 in_use_data by_kind by_name error =
-    object_of ((codes "by_kind", string by_kind) ∷ (codes "by_name", string by_name) ∷ (codes "error", string error) ∷ [])
+    object_of ((codes "by_kind", string by_kind) ∷ (
+      codes "by_name",
+      string by_name,
+    ) ∷ (codes "error", string error) ∷ [])
 
 -- {"error":"unknown_sli","name":"nope","row":1}
 abbrev pub unknown_sli_data : List ℕ → List ℕ → ℕ → Data
 unknown_sli_data error name row =
-    object_of ((codes "error", string error) ∷ (codes "name", string name) ∷ (codes "row", whole row) ∷ [])
+    object_of ((codes "error", string error) ∷ (codes "name", string name) ∷ (
+      codes "row",
+      whole row,
+    ) ∷ [])
 
 -- {"error":"wrong_kind","row":1}
 abbrev pub row_data : List ℕ → ℕ → Data
@@ -102,7 +121,10 @@ exclusion_data error from slo to =
 -- {"error":"unknown_notice","made":4,"number":5}
 abbrev pub unknown_notice_data : List ℕ → ℕ → ℕ → Data
 unknown_notice_data error made number =
-    object_of ((codes "error", string error) ∷ (codes "made", whole made) ∷ (codes "number", whole number) ∷ [])
+    object_of ((codes "error", string error) ∷ (codes "made", whole made) ∷ (
+      codes "number",
+      whole number,
+    ) ∷ [])
 
 -- {"at":99,"error":"no_window"}
 abbrev pub no_window_data : ℕ → List ℕ → Data
@@ -112,7 +134,8 @@ no_window_data at error = object_of ((codes "at", whole at) ∷ (codes "error", 
 abbrev pub refusal_body : List ℕ → Refusal → Data
 refusal_body error (refusals.Limit which) = limit_data error (limit_word which)
 refusal_body error (refusals.Yaml line which) = yaml_data error line (yaml_word which)
-refusal_body error (refusals.Object document field rule) = field_data document error field (rule_word rule)
+refusal_body error (refusals.Object document field rule) =
+    field_data document error field (rule_word rule)
 refusal_body error (refusals.ReservedPolicy name) = name_data error name
 refusal_body error (refusals.ReservedZone name) = name_data error name
 refusal_body error (refusals.Duplicate kind name) = object_name_data error (kind_word kind) name
@@ -121,7 +144,8 @@ refusal_body error (refusals.Unresolved from_kind from_name kind name) =
 refusal_body error (refusals.NoSuchSlo kind name) = object_name_data error (kind_word kind) name
 refusal_body error (refusals.NeedsOp objective slo) = needs_op_data error objective slo
 refusal_body error (refusals.UnknownZone name) = name_data error name
-refusal_body error (refusals.HasSamples minute name source) = has_samples_data error minute name source
+refusal_body error (refusals.HasSamples minute name source) =
+    has_samples_data error minute name source
 refusal_body error refusals.NotFound = error_data error
 refusal_body error (refusals.InUse by_kind by_name) = in_use_data (kind_word by_kind) by_name error
 refusal_body error (refusals.ZoneDiffers name) = name_data error name
@@ -130,8 +154,10 @@ refusal_body error (refusals.UnknownSli name row) = unknown_sli_data error name 
 refusal_body error (refusals.WrongKind row) = row_data error row
 refusal_body error (refusals.Counts row) = row_data error row
 refusal_body error (refusals.Early minute origin row) = early_data error minute origin row
-refusal_body error (refusals.OpenMinute minute moment row) = open_minute_data error minute moment row
-refusal_body error (refusals.RowConflict amount revision row) = conflict_data (amount_text amount) error revision row
+refusal_body error (refusals.OpenMinute minute moment row) =
+    open_minute_data error minute moment row
+refusal_body error (refusals.RowConflict amount revision row) =
+    conflict_data (amount_text amount) error revision row
 refusal_body error (refusals.Withdrawn id) = withdrawn_data error id
 refusal_body error (refusals.ExclusionConflict from slo to) = exclusion_data error from slo to
 refusal_body error refusals.Range = error_data error

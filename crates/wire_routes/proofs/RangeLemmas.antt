@@ -1,5 +1,7 @@
 -- What was read is in range.
-use Rattle.std.proofs.Common.{◌≡◌, ◌≤◌, ◌<◌, ◌+◌, ℕ, List, [], ◌∷◌, ◌++◌, length, take, slice_range, Bool, true, false, cond, Option, Some, None, Ok, Err, sym, ap, ◌∙◌, refl, subst, arith}
+use Rattle.std.proofs.Common.{◌≡◌, ◌≤◌, ◌<◌, ◌+◌, ℕ, List, [], ◌∷◌, ◌++◌, length, take, slice_range}
+use Rattle.std.proofs.Common.{Bool, true, false, cond, Option, Some, None, Ok, Err, sym, ap, ◌∙◌}
+use Rattle.std.proofs.Common.{refl, subst, arith}
 use Rattle.std.specs.Prelude.{◌==◌, nat_le}
 use Rattle.std.specs.List.{AllByRecursion, cons_option, filter_map}
 use Rattle.std.proofs.lemmas.Bool.Decides.{nat_tests}
@@ -29,8 +31,10 @@ use Rattle.wire_routes.specs.declared.routed.Routed.TheVariants as routed
 use Rattle.wire_routes.specs.Exclusions.{exclusion_of}
 use Rattle.wire_routes.specs.Keys.{alerts_keys, budgets_keys, burns_keys}
 use Rattle.wire_routes.specs.Ranges.{IsRequestInRange, IsRoutedInRange}
-use Rattle.wire_routes.specs.Requests.{Answer, Tells, answer_at, exclusion_answer, samples_answer, with_keys, without_keys}
-use Rattle.wire_routes.specs.Samples.{amount_of, revision_of, row_of, row_of_six, rows_before, samples_of, unless_zero}
+use Rattle.wire_routes.specs.Requests.{Answer, Tells, answer_at, exclusion_answer, samples_answer}
+use Rattle.wire_routes.specs.Requests.{with_keys, without_keys}
+use Rattle.wire_routes.specs.Samples.{amount_of, revision_of, row_of, row_of_six, rows_before}
+use Rattle.wire_routes.specs.Samples.{samples_of, unless_zero}
 use Rattle.wire_routes.proofs.CutLemmas.{cond_back, map_back, then_back}
 
 -- the numbers of a row
@@ -73,14 +77,16 @@ row_in_range fields row h =
     let now : minute ≤ MAX_MINUTE = within MAX_MINUTE f.2 minute c in
     subst IsRowInRange is (record { minute = now; first_revision = some; last_revision = few })
 
-one_more : (read : Option Row) (rows : List Row) → ((row : Row) → read ≡ Some row → IsRowInRange row) → AllByRecursion IsRowInRange rows
+one_more : (read : Option Row) (rows : List Row)
+    → ((row : Row) → read ≡ Some row → IsRowInRange row) → AllByRecursion IsRowInRange rows
     → AllByRecursion IsRowInRange (cons_option read rows)
 one_more None rows here more = more
 one_more (Some row) rows here more = (here row refl, more)
 
 rows_in_range : (records : List Fields) → AllByRecursion IsRowInRange (filter_map row_of records)
 rows_in_range [] = tt
-rows_in_range (fields ∷ records) = one_more (row_of fields) (filter_map row_of records) (row_in_range fields) (rows_in_range records)
+rows_in_range (fields ∷ records) = one_more (row_of fields) (filter_map row_of records)
+    (row_in_range fields) (rows_in_range records)
 
 -- the answers of the routes
 
@@ -88,7 +94,8 @@ abbrev IsInRange : Answer → Type 0
 IsInRange (Ok request) = IsRequestInRange request
 IsInRange (Err reason) = Unit {0}
 
-plain : (query : Option (List ℕ)) (answer : Answer) → IsInRange answer → IsInRange (without_keys query answer)
+plain : (query : Option (List ℕ)) (answer : Answer) → IsInRange answer
+    → IsInRange (without_keys query answer)
 plain None answer is = is
 plain (Some query) answer is = tt
 
@@ -99,7 +106,8 @@ keyed question (Some keys) = tt
 samples_in_range : (body : List ℕ) → IsInRange (samples_answer (samples_of body))
 samples_in_range body = by (rows_before (csv_records body) == length (csv_records body))
   where
-    by : (b : Bool) → IsInRange (samples_answer (cond b (Ok (filter_map row_of (csv_records body))) (Err (rows_before (csv_records body) + 1))))
+    by : (b : Bool) → IsInRange (samples_answer (cond b (Ok (filter_map row_of (csv_records body)))
+        (Err (rows_before (csv_records body) + 1))))
     by true = rows_in_range (csv_records body)
     by false = tt
 
@@ -107,7 +115,8 @@ exclusion_in_range : (read : Option Exclusion) → IsInRange (exclusion_answer r
 exclusion_in_range None = tt
 exclusion_in_range (Some exclusion) = tt
 
-in_range : (p : Place) (m : Method) (query : Option (List ℕ)) (body : List ℕ) → length body ≤ MAX_BODY_BYTES → IsInRange (answer_at p m query body)
+in_range : (p : Place) (m : Method) (query : Option (List ℕ)) (body : List ℕ)
+    → length body ≤ MAX_BODY_BYTES → IsInRange (answer_at p m query body)
 in_range place.Objects Delete query body few = tt
 in_range place.Objects Get query body few = plain query _ tt
 in_range place.Objects Post query body few = plain query _ few
@@ -131,7 +140,8 @@ in_range place.Samples Other query body few = tt
 in_range (place.Exclusion id) Delete query body few = plain query _ tt
 in_range (place.Exclusion id) Get query body few = tt
 in_range (place.Exclusion id) Post query body few = tt
-in_range (place.Exclusion id) Put query body few = plain query _ (exclusion_in_range (exclusion_of id body))
+in_range (place.Exclusion id) Put query body few =
+    plain query _ (exclusion_in_range (exclusion_of id body))
 in_range (place.Exclusion id) Other query body few = tt
 in_range place.Tick Delete query body few = tt
 in_range place.Tick Get query body few = tt
@@ -164,9 +174,11 @@ in_range (place.Alerts s n l) Post query body few = tt
 in_range (place.Alerts s n l) Put query body few = tt
 in_range (place.Alerts s n l) Other query body few = tt
 
-pub told : (p : Place) (m : Method) (query : Option (List ℕ)) (body : List ℕ) (r : Routed) → length body ≤ MAX_BODY_BYTES
+pub told : (p : Place) (m : Method) (query : Option (List ℕ)) (body : List ℕ) (r : Routed)
+    → length body ≤ MAX_BODY_BYTES
     → Tells (answer_at p m query body) r → IsRoutedInRange r
-told p m query body (routed.Request request) few tells = subst IsInRange tells (in_range p m query body few)
+told p m query body (routed.Request request) few tells =
+    subst IsInRange tells (in_range p m query body few)
 told p m query body (routed.Immediate reason) few tells = tt
 told p m query body routed.NoMemory few tells = tt
 
@@ -175,12 +187,15 @@ told p m query body routed.NoMemory few tells = tt
 no_more : (a b : ℕ) → (a < b → ⊥) → b ≤ a
 no_more a b h = omega arith
 
-head_alone : (bytes head body : List ℕ) (n : ℕ) → take n bytes ≡ head ++ body → length head ≤ n → take (length head) bytes ≡ head
+head_alone : (bytes head body : List ℕ) (n : ℕ) → take n bytes ≡ head ++ body → length head ≤ n
+    → take (length head) bytes ≡ head
 head_alone bytes head body n is shorter =
-    sym (take-take (length head) n bytes shorter) ∙ ap (take (length head)) is ∙ take-append_seam head body
+    sym (take-take (length head) n bytes shorter) ∙ ap (take (length head)) is
+    ∙ take-append_seam head body
 
 -- a body that is too large is refused at the end of its head
-not_large : (bytes : List ℕ) (n : ℕ) (h : RequestHead) (body : List ℕ) → IsDecided bytes n whole → ReadsRequest (take n bytes) h body
+not_large : (bytes : List ℕ) (n : ℕ) (h : RequestHead) (body : List ℕ) → IsDecided bytes n whole
+    → ReadsRequest (take n bytes) h body
     → counted_length (fields_of h) ≡ Some (length body) → MAX_BODY_BYTES < length body → ⊥
 not_large bytes n h body decided (is, printed) counted large =
     let within = decided.within in
@@ -188,15 +203,27 @@ not_large bytes n h body decided (is, printed) counted large =
     let b = length-append (print_request h) body in
     let c = length-take-le n bytes within in
     let shorter : length (print_request h) < n = omega arith in
-    let alone : take (length (print_request h)) bytes ≡ print_request h ++ [] = head_alone bytes (print_request h) body n printed (omega arith) ∙ sym (append-nil (print_request h)) in
-    let passed = decided.earlier (length (print_request h)) shorter body_too_large (h, length body, (is, alone), counted, large) in
+    let alone : take (length (print_request h)) bytes ≡ print_request h ++ [] =
+    head_alone bytes (print_request h) body n printed (omega arith)
+    ∙ sym (append-nil (print_request h)) in
+    let passed = decided.earlier (length (print_request h)) shorter body_too_large (
+      h,
+      length body,
+      (is, alone),
+      counted,
+      large,
+    ) in
     absurd (cc passed.0)
 
-decided_body : (bytes : List ℕ) (n : ℕ) (h : RequestHead) (body : List ℕ) → IsDecided bytes n whole → ReadsRequest (take n bytes) h body → length body ≤ MAX_BODY_BYTES
+decided_body : (bytes : List ℕ) (n : ℕ) (h : RequestHead) (body : List ℕ) → IsDecided bytes n whole
+    → ReadsRequest (take n bytes) h body → length body ≤ MAX_BODY_BYTES
 decided_body bytes n h body decided reads =
     let (g, found, also, counted) = decided.holds in
     let same = request_unique (take n bytes) g h found body also reads in
-    no_more MAX_BODY_BYTES (length body) (λ large. not_large bytes n g found decided also counted (rw same.1 large))
+    no_more MAX_BODY_BYTES (length body)
+    (λ large. not_large bytes n g found decided also counted (rw same.1 large))
 
-pub heard_body : (bytes : List ℕ) (m : Message) (n : ℕ) → Hears bytes (Whole m n) → length (slice_range bytes m.body.0 m.body.1) ≤ MAX_BODY_BYTES
-heard_body bytes m n (decided, (h, is)) = decided_body bytes n h (slice_range bytes m.body.0 m.body.1) decided is.reads
+pub heard_body : (bytes : List ℕ) (m : Message) (n : ℕ) → Hears bytes (Whole m n)
+    → length (slice_range bytes m.body.0 m.body.1) ≤ MAX_BODY_BYTES
+heard_body bytes m n (decided, (h, is)) =
+    decided_body bytes n h (slice_range bytes m.body.0 m.body.1) decided is.reads

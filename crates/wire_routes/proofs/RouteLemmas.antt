@@ -1,5 +1,6 @@
 -- A path of a place has the place's route, and no other place.
-use Rattle.std.proofs.Common.{◌≡◌, ◌<◌, ℕ, false, List, [], ◌∷◌, ◌++◌, Option, Some, None, codes, refl, sym, ap, ◌∙◌, arith}
+use Rattle.std.proofs.Common.{◌≡◌, ◌<◌, ℕ, false, List, [], ◌∷◌, ◌++◌, Option, Some, None, codes}
+use Rattle.std.proofs.Common.{refl, sym, ap, ◌∙◌, arith}
 use Rattle.matchit.specs.Router.{RouteOf}
 use Rattle.matchit.specs.Seek.{first, has_slash}
 use Rattle.matchit.proofs.OnLiterals.{matchit_on_literals}
@@ -9,48 +10,63 @@ use Rattle.slo_objects.specs.declared.kind.Kind.{Kind}
 use Rattle.slo_objects.specs.declared.kind.Kind.TheVariants as kinds
 use Rattle.wire_routes.specs.declared.place.Route.{Route}
 use Rattle.wire_routes.specs.declared.place.Place.{Place}
-use Rattle.wire_routes.specs.declared.place.Place.TheVariants.{Objects, Object, Zone, Samples, Exclusion, Tick, Notices, Take, Budgets, Burns, Alerts}
+use Rattle.wire_routes.specs.declared.place.Place.TheVariants.{Objects, Object, Zone, Samples}
+use Rattle.wire_routes.specs.declared.place.Place.TheVariants.{Exclusion, Tick, Notices, Take}
+use Rattle.wire_routes.specs.declared.place.Place.TheVariants.{Budgets, Burns, Alerts}
 use Rattle.wire_routes.specs.Laws.{OneAnswer, SomeAnswer}
 use Rattle.wire_routes.specs.Places.{Finds, IsPath}
 use Rattle.wire_routes.specs.Readers.{place_by, route_of}
 use Rattle.wire_routes.specs.Requests.{answer_of}
-use Rattle.wire_routes.specs.Table.{table, alerts_row, budgets_row, burns_row, exclusion_row, take_row, notices_row, object_row, objects_row, samples_row, tick_row, zone_row}
+use Rattle.wire_routes.specs.Table.{table, alerts_row, budgets_row, burns_row, exclusion_row}
+use Rattle.wire_routes.specs.Table.{take_row, notices_row, object_row, objects_row, samples_row}
+use Rattle.wire_routes.specs.Table.{tick_row, zone_row}
 use Rattle.wire_routes.proofs.CutLemmas.{IsPart, digits_part, label_part, zone_parts}
 use Rattle.wire_routes.proofs.ReaderLemmas.{back, there}
 use Rattle.wire_routes.proofs.SeekLemmas.{seek_last, seek_literal, seek_name, seek_rest}
 
 -- the routes of paths that begin with a word and go on with parts
 
-first_object : (x : ℕ) (k : List ℕ) (y : ℕ) (n : List ℕ) → x < 256 → has_slash (x ∷ k) ≡ false → y < 256 → has_slash (y ∷ n) ≡ false
+first_object : (x : ℕ) (k : List ℕ) (y : ℕ) (n : List ℕ) → x < 256 → has_slash (x ∷ k) ≡ false
+    → y < 256 → has_slash (y ∷ n) ≡ false
     → first table (codes "/objects/" ++ ((x ∷ k) ++ 47 ∷ y ∷ n)) ≡ Some object_row.1
 first_object x k y n a b c d =
     seek_literal (codes "/objects/") table ((x ∷ k) ++ 47 ∷ y ∷ n) object_row.1
     (seek_name x k (256 ∷ []) (y ∷ n) object_row.1 a b ∙ seek_last y n object_row.1 c d)
 
-first_zone : (y : ℕ) (n : List ℕ) → y < 256 → first table (codes "/zones/" ++ (y ∷ n)) ≡ Some zone_row.1
-first_zone y n c = seek_literal (codes "/zones/") table (y ∷ n) zone_row.1 (seek_rest y n zone_row.1 c)
+first_zone : (y : ℕ) (n : List ℕ) → y < 256
+    → first table (codes "/zones/" ++ (y ∷ n)) ≡ Some zone_row.1
+first_zone y n c =
+    seek_literal (codes "/zones/") table (y ∷ n) zone_row.1 (seek_rest y n zone_row.1 c)
 
-first_exclusion : (y : ℕ) (n : List ℕ) → y < 256 → has_slash (y ∷ n) ≡ false → first table (codes "/exclusions/" ++ (y ∷ n)) ≡ Some exclusion_row.1
-first_exclusion y n c d = seek_literal (codes "/exclusions/") table (y ∷ n) exclusion_row.1 (seek_last y n exclusion_row.1 c d)
+first_exclusion : (y : ℕ) (n : List ℕ) → y < 256 → has_slash (y ∷ n) ≡ false
+    → first table (codes "/exclusions/" ++ (y ∷ n)) ≡ Some exclusion_row.1
+first_exclusion y n c d = seek_literal (codes "/exclusions/") table (y ∷ n) exclusion_row.1
+    (seek_last y n exclusion_row.1 c d)
 
-first_take : (y : ℕ) (n : List ℕ) → y < 256 → has_slash (y ∷ n) ≡ false → first table (codes "/notices/" ++ ((y ∷ n) ++ codes "/take")) ≡ Some take_row.1
+first_take : (y : ℕ) (n : List ℕ) → y < 256 → has_slash (y ∷ n) ≡ false
+    → first table (codes "/notices/" ++ ((y ∷ n) ++ codes "/take")) ≡ Some take_row.1
 unfolding matchit_on_literals
 first_take y n c d =
     seek_literal (codes "/notices/") table ((y ∷ n) ++ codes "/take") take_row.1
     (seek_name y n (codes "take") (codes "take") take_row.1 c d)
 
-first_budgets : (y : ℕ) (n : List ℕ) → y < 256 → has_slash (y ∷ n) ≡ false → first table (codes "/budgets/" ++ (y ∷ n)) ≡ Some budgets_row.1
-first_budgets y n c d = seek_literal (codes "/budgets/") table (y ∷ n) budgets_row.1 (seek_last y n budgets_row.1 c d)
+first_budgets : (y : ℕ) (n : List ℕ) → y < 256 → has_slash (y ∷ n) ≡ false
+    → first table (codes "/budgets/" ++ (y ∷ n)) ≡ Some budgets_row.1
+first_budgets y n c d =
+    seek_literal (codes "/budgets/") table (y ∷ n) budgets_row.1 (seek_last y n budgets_row.1 c d)
 
-first_burns : (x : ℕ) (k : List ℕ) (y : ℕ) (n : List ℕ) → x < 256 → has_slash (x ∷ k) ≡ false → y < 256 → has_slash (y ∷ n) ≡ false
+first_burns : (x : ℕ) (k : List ℕ) (y : ℕ) (n : List ℕ) → x < 256 → has_slash (x ∷ k) ≡ false
+    → y < 256 → has_slash (y ∷ n) ≡ false
     → first table (codes "/burns/" ++ ((x ∷ k) ++ 47 ∷ y ∷ n)) ≡ Some burns_row.1
 first_burns x k y n a b c d =
     seek_literal (codes "/burns/") table ((x ∷ k) ++ 47 ∷ y ∷ n) burns_row.1
     (seek_name x k (256 ∷ []) (y ∷ n) burns_row.1 a b ∙ seek_last y n burns_row.1 c d)
 
 first_alerts : (x : ℕ) (k : List ℕ) (y : ℕ) (n : List ℕ) (z : ℕ) (l : List ℕ)
-    → x < 256 → has_slash (x ∷ k) ≡ false → y < 256 → has_slash (y ∷ n) ≡ false → z < 256 → has_slash (z ∷ l) ≡ false
-    → first table (codes "/alerts/" ++ ((x ∷ k) ++ 47 ∷ ((y ∷ n) ++ 47 ∷ z ∷ l))) ≡ Some alerts_row.1
+    → x < 256 → has_slash (x ∷ k) ≡ false → y < 256 → has_slash (y ∷ n) ≡ false → z < 256
+    → has_slash (z ∷ l) ≡ false
+    → first table (codes "/alerts/" ++ ((x ∷ k) ++ 47 ∷ ((y ∷ n) ++ 47 ∷ z ∷ l)))
+    ≡ Some alerts_row.1
 first_alerts x k y n z l a b c d e f =
     seek_literal (codes "/alerts/") table ((x ∷ k) ++ 47 ∷ ((y ∷ n) ++ 47 ∷ z ∷ l)) alerts_row.1
     (seek_name x k (256 ∷ 47 ∷ 256 ∷ []) ((y ∷ n) ++ 47 ∷ z ∷ l) alerts_row.1 a b
@@ -73,53 +89,129 @@ unfolding matchit_on_literals
 first_notices = refl
 
 kind_part : (k : Kind) → IsPart (kind_word k)
-kind_part kinds.DataSource = record { first = 68; rest = codes "ataSource"; is = refl; byte = omega arith; router = refl; plain = refl }
-kind_part kinds.Service = record { first = 83; rest = codes "ervice"; is = refl; byte = omega arith; router = refl; plain = refl }
-kind_part kinds.Sli = record { first = 83; rest = codes "LI"; is = refl; byte = omega arith; router = refl; plain = refl }
-kind_part kinds.Slo = record { first = 83; rest = codes "LO"; is = refl; byte = omega arith; router = refl; plain = refl }
-kind_part kinds.AlertPolicy = record { first = 65; rest = codes "lertPolicy"; is = refl; byte = omega arith; router = refl; plain = refl }
-kind_part kinds.AlertCondition = record { first = 65; rest = codes "lertCondition"; is = refl; byte = omega arith; router = refl; plain = refl }
+kind_part kinds.DataSource = record {
+  first = 68;
+  rest = codes "ataSource";
+  is = refl;
+  byte = omega arith;
+  router = refl;
+  plain = refl;
+}
+kind_part kinds.Service = record {
+  first = 83;
+  rest = codes "ervice";
+  is = refl;
+  byte = omega arith;
+  router = refl;
+  plain = refl;
+}
+kind_part kinds.Sli = record {
+  first = 83;
+  rest = codes "LI";
+  is = refl;
+  byte = omega arith;
+  router = refl;
+  plain = refl;
+}
+kind_part kinds.Slo = record {
+  first = 83;
+  rest = codes "LO";
+  is = refl;
+  byte = omega arith;
+  router = refl;
+  plain = refl;
+}
+kind_part kinds.AlertPolicy = record {
+  first = 65;
+  rest = codes "lertPolicy";
+  is = refl;
+  byte = omega arith;
+  router = refl;
+  plain = refl;
+}
+kind_part kinds.AlertCondition = record {
+  first = 65;
+  rest = codes "lertCondition";
+  is = refl;
+  byte = omega arith;
+  router = refl;
+  plain = refl;
+}
 kind_part kinds.AlertNotificationTarget =
-    record { first = 65; rest = codes "lertNotificationTarget"; is = refl; byte = omega arith; router = refl; plain = refl }
+    record {
+      first = 65;
+      rest = codes "lertNotificationTarget";
+      is = refl;
+      byte = omega arith;
+      router = refl;
+      plain = refl;
+    }
 
 -- the same with the parts by themselves
 
-object_first : (k n : List ℕ) → IsPart k → IsPart n → first table (codes "/objects/" ++ (k ++ 47 ∷ n)) ≡ Some object_row.1
-object_first k n a b = rw (a.is, b.is) (first_object a.first a.rest b.first b.rest a.byte a.router b.byte b.router)
+object_first : (k n : List ℕ) → IsPart k → IsPart n
+    → first table (codes "/objects/" ++ (k ++ 47 ∷ n)) ≡ Some object_row.1
+object_first k n a b =
+    rw (a.is, b.is) (first_object a.first a.rest b.first b.rest a.byte a.router b.byte b.router)
 
-burns_first : (k n : List ℕ) → IsPart k → IsPart n → first table (codes "/burns/" ++ (k ++ 47 ∷ n)) ≡ Some burns_row.1
-burns_first k n a b = rw (a.is, b.is) (first_burns a.first a.rest b.first b.rest a.byte a.router b.byte b.router)
+burns_first : (k n : List ℕ) → IsPart k → IsPart n
+    → first table (codes "/burns/" ++ (k ++ 47 ∷ n)) ≡ Some burns_row.1
+burns_first k n a b =
+    rw (a.is, b.is) (first_burns a.first a.rest b.first b.rest a.byte a.router b.byte b.router)
 
-alerts_first : (k n l : List ℕ) → IsPart k → IsPart n → IsPart l → first table (codes "/alerts/" ++ (k ++ 47 ∷ (n ++ 47 ∷ l))) ≡ Some alerts_row.1
+alerts_first : (k n l : List ℕ) → IsPart k → IsPart n → IsPart l
+    → first table (codes "/alerts/" ++ (k ++ 47 ∷ (n ++ 47 ∷ l))) ≡ Some alerts_row.1
 alerts_first k n l a b c =
-    rw (a.is, b.is, c.is) (first_alerts a.first a.rest b.first b.rest c.first c.rest a.byte a.router b.byte b.router c.byte c.router)
+    rw (a.is, b.is, c.is) (first_alerts a.first a.rest b.first b.rest c.first c.rest a.byte a.router
+    b.byte b.router c.byte c.router)
 
-take_first : (n : List ℕ) → IsPart n → first table (codes "/notices/" ++ (n ++ codes "/take")) ≡ Some take_row.1
+take_first : (n : List ℕ) → IsPart n
+    → first table (codes "/notices/" ++ (n ++ codes "/take")) ≡ Some take_row.1
 take_first n a = rw a.is (first_take a.first a.rest a.byte a.router)
 
-exclusion_first : (n : List ℕ) → IsPart n → first table (codes "/exclusions/" ++ n) ≡ Some exclusion_row.1
+exclusion_first : (n : List ℕ) → IsPart n
+    → first table (codes "/exclusions/" ++ n) ≡ Some exclusion_row.1
 exclusion_first n a = rw a.is (first_exclusion a.first a.rest a.byte a.router)
 
 budgets_first : (n : List ℕ) → IsPart n → first table (codes "/budgets/" ++ n) ≡ Some budgets_row.1
 budgets_first n a = rw a.is (first_budgets a.first a.rest a.byte a.router)
 
 -- a place's path has the place's route
-located : (path : List ℕ) (p : Place) → IsPath path p → (r : RouteOf Route) × (first table path ≡ Some r) × (r.value ≡ route_of p)
+located : (path : List ℕ) (p : Place) → IsPath path p
+    → (r : RouteOf Route) × (first table path ≡ Some r) × (r.value ≡ route_of p)
 located path Objects at = (objects_row.1, ap (first table) at ∙ first_objects, refl)
-located path (Object k n) (at, legal) = (object_row.1, ap (first table) at ∙ object_first (kind_word k) n (kind_part k) (label_part n legal), refl)
+located path (Object k n) (at, legal) = (
+  object_row.1,
+  ap (first table) at ∙ object_first (kind_word k) n (kind_part k) (label_part n legal),
+  refl,
+)
 located path (Zone n) (at, legal) =
-    let (y, ys, is, small) = zone_parts n legal in
-    (zone_row.1, ap (first table) (at ∙ ap (λ x. codes "/zones/" ++ x) is) ∙ first_zone y ys small, refl)
+    let (y, ys, is, small) = zone_parts n legal in (
+      zone_row.1,
+      ap (first table) (at ∙ ap (λ x. codes "/zones/" ++ x) is) ∙ first_zone y ys small,
+      refl,
+    )
 located path Samples at = (samples_row.1, ap (first table) at ∙ first_samples, refl)
-located path (Exclusion id) (at, legal) = (exclusion_row.1, ap (first table) at ∙ exclusion_first id (label_part id legal), refl)
+located path (Exclusion id) (at, legal) =
+    (exclusion_row.1, ap (first table) at ∙ exclusion_first id (label_part id legal), refl)
 located path Tick at = (tick_row.1, ap (first table) at ∙ first_tick, refl)
 located path Notices at = (notices_row.1, ap (first table) at ∙ first_notices, refl)
-located path (Take n) (digits, at, number) = (take_row.1, ap (first table) at ∙ take_first digits (digits_part digits n number), refl)
-located path (Budgets s) (at, legal) = (budgets_row.1, ap (first table) at ∙ budgets_first s (label_part s legal), refl)
-located path (Burns s n) (digits, at, legal, number) =
-    (burns_row.1, ap (first table) at ∙ burns_first s digits (label_part s legal) (digits_part digits n number), refl)
-located path (Alerts s n l) (digits, at, legal, number, named) =
-    (alerts_row.1, ap (first table) at ∙ alerts_first s digits l (label_part s legal) (digits_part digits n number) (label_part l named), refl)
+located path (Take n) (digits, at, number) =
+    (take_row.1, ap (first table) at ∙ take_first digits (digits_part digits n number), refl)
+located path (Budgets s) (at, legal) =
+    (budgets_row.1, ap (first table) at ∙ budgets_first s (label_part s legal), refl)
+located path (Burns s n) (digits, at, legal, number) = (
+  burns_row.1,
+  ap (first table) at
+      ∙ burns_first s digits (label_part s legal) (digits_part digits n number),
+  refl,
+)
+located path (Alerts s n l) (digits, at, legal, number, named) = (
+  alerts_row.1,
+  ap (first table) at ∙ alerts_first s digits l (label_part s legal)
+      (digits_part digits n number) (label_part l named),
+  refl,
+)
 
 same_row : (s r : RouteOf Route) → Some s ≡ Some r → s ≡ r
 same_row s r e = cc e
@@ -129,13 +221,16 @@ pub found_none : (path : List ℕ) → first table path ≡ None → (p : Place)
 found_none path none p at = let (r, is, value) = located path p at in absurd (cc (none, is))
 
 -- a place of the path is what its route's reader gives
-read_of_row : (path : List ℕ) (r : RouteOf Route) (p : Place) → first table path ≡ Some r → IsPath path p → place_by r.value path ≡ Some p
+read_of_row : (path : List ℕ) (r : RouteOf Route) (p : Place) → first table path ≡ Some r
+    → IsPath path p → place_by r.value path ≡ Some p
 read_of_row path r p is at =
     let (s, other, value) = located path p at in
-    let same : route_of p ≡ r.value = sym value ∙ ap (λ x. x.value) (same_row s r (sym other ∙ is)) in
+    let same : route_of p ≡ r.value = sym value
+    ∙ ap (λ x. x.value) (same_row s r (sym other ∙ is)) in
     rw (← same) (there path p at)
 
-pub found_some : (path : List ℕ) (r : RouteOf Route) (o : Option Place) → first table path ≡ Some r → o ≡ place_by r.value path → Finds path o
+pub found_some : (path : List ℕ) (r : RouteOf Route) (o : Option Place) → first table path ≡ Some r
+    → o ≡ place_by r.value path → Finds path o
 found_some path r (Some p) is read = back r.value path p (sym read)
 found_some path r None is read = λ p at. absurd (cc (read, read_of_row path r p is at))
 
@@ -164,7 +259,8 @@ some_finding path = by (first table path) refl
     by (Some r) e = (place_by r.value path, found_some path r (place_by r.value path) e refl)
 
 pub one_answer : OneAnswer
-one_answer said a b (p, finds, is) (q, also, other) = is ∙ ap (λ o. answer_of o said) (one_finding (path_of said.target) p q finds also) ∙ sym other
+one_answer said a b (p, finds, is) (q, also, other) = is
+    ∙ ap (λ o. answer_of o said) (one_finding (path_of said.target) p q finds also) ∙ sym other
 
 pub some_answer : SomeAnswer
 some_answer said =

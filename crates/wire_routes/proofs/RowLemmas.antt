@@ -1,5 +1,7 @@
 -- The samples of a body, record by record and as a whole.
-use Rattle.std.proofs.Common.{◌≡◌, ◌∙◌, ap, sym, refl, append_assoc, zero-add, arith, ℕ, suc, ◌+◌, List, [], ◌∷◌, ◌++◌, length, Bool, true, false, cond, Option, Some, None, Result, Ok, Err}
+use Rattle.std.proofs.Common.{◌≡◌, ◌∙◌, ap, sym, refl, append_assoc, zero-add, arith, ℕ, suc, ◌+◌}
+use Rattle.std.proofs.Common.{List, [], ◌∷◌, ◌++◌, length, Bool, true, false, cond, Option, Some}
+use Rattle.std.proofs.Common.{None, Result, Ok, Err}
 use Rattle.std.specs.Prelude.{◌==◌, is_some}
 use Rattle.std.specs.List.{cons_option, filter_map}
 use Rattle.std.proofs.lemmas.Bool.Decides.{nat_tests}
@@ -8,31 +10,40 @@ use Rattle.sample_book.specs.declared.row.Row.{Row}
 use Rattle.wire_routes.specs.RowByRow.{Adds, before_row, behind, rows_from, rows_with}
 use Rattle.wire_routes.specs.Samples.{row_of, rows_before, rows_or_number}
 
-behind_row : (rows : List Row) (row : Row) (rest : Result (List Row) ℕ) → behind (rows ++ row ∷ []) rest ≡ behind rows (before_row row rest)
+behind_row : (rows : List Row) (row : Row) (rest : Result (List Row) ℕ)
+    → behind (rows ++ row ∷ []) rest ≡ behind rows (before_row row rest)
 behind_row rows row (Ok more) = ap Ok (append_assoc rows (row ∷ []) more)
 behind_row rows row (Err number) = refl
 
 -- one record more, which is a row
-pub one_more : (rows more : List Row) (number : ℕ) (records : List Fields) (fields : Fields) (rest : List Fields) (all : Result (List Row) ℕ)
-    → behind rows (rows_from number records) ≡ all → records ≡ fields ∷ rest → Adds true (row_of fields) rows more
+pub one_more : (rows more : List Row) (number : ℕ) (records : List Fields) (fields : Fields)
+    (rest : List Fields) (all : Result (List Row) ℕ)
+    → behind rows (rows_from number records) ≡ all → records ≡ fields ∷ rest
+    → Adds true (row_of fields) rows more
     → behind more (rows_from (number + 1) rest) ≡ all
 one_more rows more number records fields rest all so_far is (row, read, grown) =
     ap (λ rs. behind rs (rows_from (number + 1) rest)) grown
-    ∙ behind_row rows row (rows_from (number + 1) rest) ∙ ap (behind rows) (ap (λ o. rows_with o number (rows_from (number + 1) rest)) read)
+    ∙ behind_row rows row (rows_from (number + 1) rest)
+    ∙ ap (behind rows) (ap (λ o. rows_with o number (rows_from (number + 1) rest)) read)
     ∙ ap (λ rs. behind rows (rows_from number rs)) (sym is) ∙ so_far
 
 -- and one that is none
-pub no_more : (rows : List Row) (number : ℕ) (records : List Fields) (fields : Fields) (rest : List Fields) (all : Result (List Row) ℕ)
-    → behind rows (rows_from number records) ≡ all → records ≡ fields ∷ rest → None ≡ row_of fields → all ≡ Err number
+pub no_more : (rows : List Row) (number : ℕ) (records : List Fields) (fields : Fields)
+    (rest : List Fields) (all : Result (List Row) ℕ)
+    → behind rows (rows_from number records) ≡ all → records ≡ fields ∷ rest → None ≡ row_of fields
+    → all ≡ Err number
 no_more rows number records fields rest all so_far is read =
-    sym so_far ∙ ap (λ rs. behind rows (rows_from number rs)) is ∙ ap (behind rows) (ap (λ o. rows_with o number (rows_from (number + 1) rest)) (sym read))
+    sym so_far ∙ ap (λ rs. behind rows (rows_from number rs)) is
+    ∙ ap (behind rows) (ap (λ o. rows_with o number (rows_from (number + 1) rest)) (sym read))
 
--- what records from that number on give, of which `count` are rows before one that is none, and `rows` are rows
+-- what records from that number on give, of which `count` are rows before one that is none, and
+-- `rows` are rows
 abbrev given : ℕ → ℕ → ℕ → List Row → Result (List Row) ℕ
 given number count size rows = cond (count == size) (Ok rows) (Err (count + number))
 
 given_row : (row : Row) (number count size : ℕ) (rows : List Row) (b : Bool) → (count == size) ≡ b
-    → before_row row (given (number + 1) count size rows) ≡ given number (1 + count) (suc size) (row ∷ rows)
+    → before_row row (given (number + 1) count size rows)
+    ≡ given number (1 + count) (suc size) (row ∷ rows)
 given_row row number count size rows true e =
     let more : (1 + count == suc size) ≡ true = grind (arith, nat_tests) in
     rw (e, more) refl
@@ -47,11 +58,14 @@ given_none number size rows =
     rw (none, zero-add number) refl
 
 given_more : (read : Option Row) (number count size : ℕ) (rows : List Row)
-    → rows_with read number (given (number + 1) count size rows) ≡ given number (cond (is_some read) (1 + count) 0) (suc size) (cons_option read rows)
+    → rows_with read number (given (number + 1) count size rows)
+    ≡ given number (cond (is_some read) (1 + count) 0) (suc size) (cons_option read rows)
 given_more None number count size rows = given_none number size rows
-given_more (Some row) number count size rows = given_row row number count size rows (count == size) refl
+given_more (Some row) number count size rows =
+    given_row row number count size rows (count == size) refl
 
-from_number : (number : ℕ) (records : List Fields) → rows_from number records ≡ given number (rows_before records) (length records) (filter_map row_of records)
+from_number : (number : ℕ) (records : List Fields) → rows_from number records
+    ≡ given number (rows_before records) (length records) (filter_map row_of records)
 from_number number [] = refl
 from_number number (fields ∷ rest) =
     ap (rows_with (row_of fields) number) (from_number (number + 1) rest)
@@ -66,5 +80,7 @@ nothing_behind (Ok rows) = refl
 nothing_behind (Err number) = refl
 
 -- no rows so far
-pub none_so_far : (rows : List Row) (records left : List Fields) → rows ≡ [] → left ≡ records → behind rows (rows_from 1 left) ≡ rows_or_number records
-none_so_far rows records left none all = rw (none, all) (nothing_behind (rows_from 1 records) ∙ as_a_whole records)
+pub none_so_far : (rows : List Row) (records left : List Fields) → rows ≡ [] → left ≡ records
+    → behind rows (rows_from 1 left) ≡ rows_or_number records
+none_so_far rows records left none all =
+    rw (none, all) (nothing_behind (rows_from 1 records) ∙ as_a_whole records)

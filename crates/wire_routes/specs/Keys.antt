@@ -17,18 +17,23 @@ minute_or_none (Some digits) = option_map (λ n. Some n) (number32 digits)
 
 -- the key `at`, which may be left out
 abbrev pub budgets_keys : Option (List ℕ) → Option (Option ℕ)
-budgets_keys query = option_and_then (λ p. minute_or_none p.0) (asked query (codes "at") (codes "at"))
+budgets_keys query =
+    option_and_then (λ p. minute_or_none p.0) (asked query (codes "at") (codes "at"))
 
 -- the keys `lookback`, which is needed, and `at`, which may be left out
 abbrev pub burn_of : Option (List ℕ) → Option (List ℕ) → Option (Duration × Option ℕ)
-burn_of lookback at = option_and_then (λ d. option_map (λ m. (d, m)) (minute_or_none at)) (option_and_then lookback_of lookback)
+burn_of lookback at = option_and_then (λ d. option_map (λ m. (d, m)) (minute_or_none at))
+    (option_and_then lookback_of lookback)
 
 abbrev pub burns_keys : Option (List ℕ) → Option (Duration × Option ℕ)
-burns_keys query = option_and_then (λ p. burn_of p.0 p.1) (asked query (codes "lookback") (codes "at"))
+burns_keys query =
+    option_and_then (λ p. burn_of p.0 p.1) (asked query (codes "lookback") (codes "at"))
 
 -- the keys `from` and `to`, which are needed
 abbrev pub stretch_of : Option (List ℕ) → Option (List ℕ) → Option (ℕ × ℕ)
-stretch_of from to = option_and_then (λ f. option_map (λ t. (f, t)) (option_and_then number32 to)) (option_and_then number32 from)
+stretch_of from to = option_and_then (λ f. option_map (λ t. (f, t)) (option_and_then number32 to))
+    (option_and_then number32 from)
 
 abbrev pub alerts_keys : Option (List ℕ) → Option (ℕ × ℕ)
-alerts_keys query = option_and_then (λ p. stretch_of p.0 p.1) (asked query (codes "from") (codes "to"))
+alerts_keys query =
+    option_and_then (λ p. stretch_of p.0 p.1) (asked query (codes "from") (codes "to"))

@@ -5,21 +5,26 @@ use Rattle.exact_fraction.specs.ZoneName.{is_zone_name}
 use Rattle.slo_objects.specs.Scalars.{kind_word}
 use Rattle.wire_routes.specs.Cuts.{number32}
 use Rattle.wire_routes.specs.declared.place.Place.{Place}
-use Rattle.wire_routes.specs.declared.place.Place.TheVariants.{Objects, Object, Zone, Samples, Exclusion, Tick, Notices, Take, Budgets, Burns, Alerts}
+use Rattle.wire_routes.specs.declared.place.Place.TheVariants.{Objects, Object, Zone, Samples}
+use Rattle.wire_routes.specs.declared.place.Place.TheVariants.{Exclusion, Tick, Notices, Take}
+use Rattle.wire_routes.specs.declared.place.Place.TheVariants.{Budgets, Burns, Alerts}
 
 -- the path is the place's, slashes (47) and all
 abbrev pub IsPath : List ℕ → Place → Type 0
 IsPath path Objects = path ≡ codes "/objects"
-IsPath path (Object kind name) = (path ≡ codes "/objects/" ++ (kind_word kind ++ 47 ∷ name)) × (is_label name ≡ true)
+IsPath path (Object kind name) = (path ≡ codes "/objects/" ++ (kind_word kind ++ 47 ∷ name))
+    × (is_label name ≡ true)
 IsPath path (Zone name) = (path ≡ codes "/zones/" ++ name) × (is_zone_name name ≡ true)
 IsPath path Samples = path ≡ codes "/samples"
 IsPath path (Exclusion id) = (path ≡ codes "/exclusions/" ++ id) × (is_label id ≡ true)
 IsPath path Tick = path ≡ codes "/tick"
 IsPath path Notices = path ≡ codes "/notices"
-IsPath path (Take number) = (digits : List ℕ) × (path ≡ codes "/notices/" ++ (digits ++ codes "/take")) × (number32 digits ≡ Some number)
+IsPath path (Take number) = (digits : List ℕ)
+    × (path ≡ codes "/notices/" ++ (digits ++ codes "/take")) × (number32 digits ≡ Some number)
 IsPath path (Budgets slo) = (path ≡ codes "/budgets/" ++ slo) × (is_label slo ≡ true)
 IsPath path (Burns slo objective) =
-    (digits : List ℕ) × (path ≡ codes "/burns/" ++ (slo ++ 47 ∷ digits)) × (is_label slo ≡ true) × (number32 digits ≡ Some objective)
+    (digits : List ℕ) × (path ≡ codes "/burns/" ++ (slo ++ 47 ∷ digits)) × (is_label slo ≡ true)
+    × (number32 digits ≡ Some objective)
 IsPath path (Alerts slo objective policy) =
     (digits : List ℕ) × (path ≡ codes "/alerts/" ++ (slo ++ 47 ∷ (digits ++ 47 ∷ policy)))
     × (is_label slo ≡ true) × (number32 digits ≡ Some objective) × (is_label policy ≡ true)

@@ -1,5 +1,7 @@
--- What stands behind the `?` of a target: items between `&`s (38), each a key, `=` (61) and a value. Nothing is percent-decoded.
-use Rattle.std.specs.Prelude.{ℕ, ◌==◌, ◌||◌, Bool, false, cond, List, [], ◌∷◌, Option, Some, None, option_map, option_and_then}
+-- What stands behind the `?` of a target: items between `&`s (38), each a key, `=` (61) and a
+-- value. Nothing is percent-decoded.
+use Rattle.std.specs.Prelude.{ℕ, ◌==◌, ◌||◌, Bool, false, cond, List, [], ◌∷◌, Option, Some, None}
+use Rattle.std.specs.Prelude.{option_map, option_and_then}
 use Rattle.std.specs.Borrow.{Bor}
 use Rattle.std.specs.List.{list_all, slice_split, filter_map}
 use Rattle.std.specs.Str.{bytes_eq}
@@ -42,7 +44,8 @@ only_of _ = None
 abbrev pub asked_in : List (List ℕ) → List ℕ → List ℕ → Option (Option (List ℕ) × Option (List ℕ))
 asked_in items first second =
     cond (list_all (is_known first second) items)
-    (option_and_then (λ a. option_map (λ b. (a, b)) (only_of (values_of second items))) (only_of (values_of first items))) None
+    (option_and_then (λ a. option_map (λ b. (a, b)) (only_of (values_of second items)))
+    (only_of (values_of first items))) None
 
 -- the same of a target, which may have no query
 abbrev pub asked : Option (List ℕ) → List ℕ → List ℕ → Option (Option (List ℕ) × Option (List ℕ))

@@ -2,7 +2,8 @@
 use Rattle.std.specs.Prelude.{◌≤◌, length}
 use Rattle.std.specs.List.{AllByRecursion}
 use Rattle.record_form.specs.declared.command.Command.{Command}
-use Rattle.record_form.specs.declared.command.Command.TheVariants.{Define, Remove, PutZone, Samples, Exclude, Lift, Tick, Take}
+use Rattle.record_form.specs.declared.command.Command.TheVariants.{Define, Remove, PutZone, Samples}
+use Rattle.record_form.specs.declared.command.Command.TheVariants.{Exclude, Lift, Tick, Take}
 use Rattle.record_form.specs.declared.query.Request.{Request}
 use Rattle.record_form.specs.declared.query.Request.TheVariants.{Change, Ask}
 use Rattle.record_form.specs.Ranges.{IsRowInRange}

@@ -6,7 +6,9 @@ use Rattle.exact_fraction.specs.ZoneName.{zone_name_of}
 use Rattle.slo_objects.specs.Scalars.{all_kinds, kind_word, of_word}
 use Rattle.wire_routes.specs.Cuts.{after_word, cut_at, number32}
 use Rattle.wire_routes.specs.declared.place.Place.{Place}
-use Rattle.wire_routes.specs.declared.place.Place.TheVariants.{Objects, Object, Zone, Samples, Exclusion, Tick, Notices, Take, Budgets, Burns, Alerts}
+use Rattle.wire_routes.specs.declared.place.Place.TheVariants.{Objects, Object, Zone, Samples}
+use Rattle.wire_routes.specs.declared.place.Place.TheVariants.{Exclusion, Tick, Notices, Take}
+use Rattle.wire_routes.specs.declared.place.Place.TheVariants.{Budgets, Burns, Alerts}
 use Rattle.wire_routes.specs.declared.place.Route.{Route}
 use Rattle.wire_routes.specs.declared.place.Route.TheVariants as route
 
@@ -28,41 +30,52 @@ abbrev pub fixed_at : List ℕ → Place → List ℕ → Option Place
 fixed_at word place path = cond (bytes_eq path word) (Some place) None
 
 abbrev pub object_of : List ℕ → List ℕ → Option Place
-object_of kind name = option_and_then (λ k. option_map (λ n. Object k n) (label_of name)) (of_word kind_word all_kinds kind)
+object_of kind name = option_and_then (λ k. option_map (λ n. Object k n) (label_of name))
+    (of_word kind_word all_kinds kind)
 
 abbrev pub object_at : List ℕ → Option Place
-object_at path = option_and_then (λ rest. option_and_then (λ p. object_of p.0 p.1) (cut_at 47 rest)) (after_word (codes "/objects/") path)
+object_at path = option_and_then (λ rest. option_and_then (λ p. object_of p.0 p.1) (cut_at 47 rest))
+    (after_word (codes "/objects/") path)
 
 abbrev pub zone_at : List ℕ → Option Place
-zone_at path = option_and_then (λ rest. option_map (λ n. Zone n) (zone_name_of rest)) (after_word (codes "/zones/") path)
+zone_at path = option_and_then (λ rest. option_map (λ n. Zone n) (zone_name_of rest))
+    (after_word (codes "/zones/") path)
 
 abbrev pub exclusion_at : List ℕ → Option Place
-exclusion_at path = option_and_then (λ rest. option_map (λ n. Exclusion n) (label_of rest)) (after_word (codes "/exclusions/") path)
+exclusion_at path = option_and_then (λ rest. option_map (λ n. Exclusion n) (label_of rest))
+    (after_word (codes "/exclusions/") path)
 
 abbrev pub take_of : List ℕ → List ℕ → Option Place
-take_of digits last = cond (bytes_eq last (codes "take")) (option_map (λ n. Take n) (number32 digits)) None
+take_of digits last =
+    cond (bytes_eq last (codes "take")) (option_map (λ n. Take n) (number32 digits)) None
 
 abbrev pub take_at : List ℕ → Option Place
-take_at path = option_and_then (λ rest. option_and_then (λ p. take_of p.0 p.1) (cut_at 47 rest)) (after_word (codes "/notices/") path)
+take_at path = option_and_then (λ rest. option_and_then (λ p. take_of p.0 p.1) (cut_at 47 rest))
+    (after_word (codes "/notices/") path)
 
 abbrev pub budgets_at : List ℕ → Option Place
-budgets_at path = option_and_then (λ rest. option_map (λ n. Budgets n) (label_of rest)) (after_word (codes "/budgets/") path)
+budgets_at path = option_and_then (λ rest. option_map (λ n. Budgets n) (label_of rest))
+    (after_word (codes "/budgets/") path)
 
 abbrev pub burns_of : List ℕ → List ℕ → Option Place
-burns_of slo digits = option_and_then (λ s. option_map (λ n. Burns s n) (number32 digits)) (label_of slo)
+burns_of slo digits =
+    option_and_then (λ s. option_map (λ n. Burns s n) (number32 digits)) (label_of slo)
 
 abbrev pub burns_at : List ℕ → Option Place
-burns_at path = option_and_then (λ rest. option_and_then (λ p. burns_of p.0 p.1) (cut_at 47 rest)) (after_word (codes "/burns/") path)
+burns_at path = option_and_then (λ rest. option_and_then (λ p. burns_of p.0 p.1) (cut_at 47 rest))
+    (after_word (codes "/burns/") path)
 
 abbrev pub alerts_of : List ℕ → List ℕ → List ℕ → Option Place
 alerts_of slo digits policy =
-    option_and_then (λ s. option_and_then (λ n. option_map (λ l. Alerts s n l) (label_of policy)) (number32 digits)) (label_of slo)
+    option_and_then (λ s. option_and_then (λ n. option_map (λ l. Alerts s n l) (label_of policy))
+    (number32 digits)) (label_of slo)
 
 abbrev pub alerts_in : List ℕ → List ℕ → Option Place
 alerts_in slo rest = option_and_then (λ q. alerts_of slo q.0 q.1) (cut_at 47 rest)
 
 abbrev pub alerts_at : List ℕ → Option Place
-alerts_at path = option_and_then (λ rest. option_and_then (λ p. alerts_in p.0 p.1) (cut_at 47 rest)) (after_word (codes "/alerts/") path)
+alerts_at path = option_and_then (λ rest. option_and_then (λ p. alerts_in p.0 p.1) (cut_at 47 rest))
+    (after_word (codes "/alerts/") path)
 
 -- the place of that route that a path names
 abbrev pub place_by : Route → List ℕ → Option Place

@@ -2,7 +2,8 @@
 use Rattle.std.specs.Prelude.{◌≡◌, ℕ, List, Option, Some, None, Result, Ok, Err}
 use Rattle.message_heads.specs.Streams.{Said}
 use Rattle.message_heads.specs.Targets.{path_of, query_of}
-use Rattle.record_form.specs.declared.command.Command.TheVariants.{Define, Remove, PutZone, Samples, Exclude, Lift, Tick, Take}
+use Rattle.record_form.specs.declared.command.Command.TheVariants.{Define, Remove, PutZone, Samples}
+use Rattle.record_form.specs.declared.command.Command.TheVariants.{Exclude, Lift, Tick, Take}
 use Rattle.record_form.specs.declared.query.Query.{Query}
 use Rattle.record_form.specs.declared.query.Query.TheVariants as ask
 use Rattle.record_form.specs.declared.query.Request.{Request}
@@ -47,20 +48,24 @@ abbrev pub exclusion_answer : Option Exclusion → Answer
 exclusion_answer None = Err immediate.Body
 exclusion_answer (Some exclusion) = Ok (Change (Exclude exclusion))
 
--- The table of routes: what each method of a path asks, of its query and its body. Other methods are refused with the path's own,
--- then a query that isn't of its keys and forms, then a body that isn't of its form. Bodies of other rows aren't looked at.
+-- The table of routes: what each method of a path asks, of its query and its body. Other methods
+-- are refused with the path's own, then a query that isn't of its keys and forms, then a body that
+-- isn't of its form. Bodies of other rows aren't looked at.
 abbrev pub answer_at : Place → Method → Option (List ℕ) → List ℕ → Answer
 answer_at place.Objects Post query body = without_keys query (Ok (Change (Define body)))
 answer_at place.Objects Get query body = without_keys query (Ok (Ask ask.Objects))
 answer_at place.Objects _ query body = Err (immediate.Method allow.PostGet)
-answer_at (place.Object kind name) Get query body = without_keys query (Ok (Ask (ask.Object kind name)))
-answer_at (place.Object kind name) Delete query body = without_keys query (Ok (Change (Remove kind name)))
+answer_at (place.Object kind name) Get query body =
+    without_keys query (Ok (Ask (ask.Object kind name)))
+answer_at (place.Object kind name) Delete query body =
+    without_keys query (Ok (Change (Remove kind name)))
 answer_at (place.Object kind name) _ query body = Err (immediate.Method allow.GetDelete)
 answer_at (place.Zone name) Put query body = without_keys query (Ok (Change (PutZone name body)))
 answer_at (place.Zone name) _ query body = Err (immediate.Method allow.Put)
 answer_at place.Samples Post query body = without_keys query (samples_answer (samples_of body))
 answer_at place.Samples _ query body = Err (immediate.Method allow.Post)
-answer_at (place.Exclusion id) Put query body = without_keys query (exclusion_answer (exclusion_of id body))
+answer_at (place.Exclusion id) Put query body =
+    without_keys query (exclusion_answer (exclusion_of id body))
 answer_at (place.Exclusion id) Delete query body = without_keys query (Ok (Change (Lift id)))
 answer_at (place.Exclusion id) _ query body = Err (immediate.Method allow.PutDelete)
 answer_at place.Tick Post query body = without_keys query (Ok (Change Tick))
@@ -69,11 +74,14 @@ answer_at place.Notices Get query body = without_keys query (Ok (Ask ask.Notices
 answer_at place.Notices _ query body = Err (immediate.Method allow.Get)
 answer_at (place.Take number) Post query body = without_keys query (Ok (Change (Take number)))
 answer_at (place.Take number) _ query body = Err (immediate.Method allow.Post)
-answer_at (place.Budgets slo) Get query body = with_keys (λ at. ask.Budgets slo at) (budgets_keys query)
+answer_at (place.Budgets slo) Get query body =
+    with_keys (λ at. ask.Budgets slo at) (budgets_keys query)
 answer_at (place.Budgets slo) _ query body = Err (immediate.Method allow.Get)
-answer_at (place.Burns slo objective) Get query body = with_keys (λ k. ask.Burn slo objective k.0 k.1) (burns_keys query)
+answer_at (place.Burns slo objective) Get query body =
+    with_keys (λ k. ask.Burn slo objective k.0 k.1) (burns_keys query)
 answer_at (place.Burns slo objective) _ query body = Err (immediate.Method allow.Get)
-answer_at (place.Alerts slo objective policy) Get query body = with_keys (λ k. ask.Timeline slo objective policy k.0 k.1) (alerts_keys query)
+answer_at (place.Alerts slo objective policy) Get query body =
+    with_keys (λ k. ask.Timeline slo objective policy k.0 k.1) (alerts_keys query)
 answer_at (place.Alerts slo objective policy) _ query body = Err (immediate.Method allow.Get)
 
 -- a path without a route comes first of all
@@ -83,7 +91,8 @@ answer_of (Some p) said = answer_at p (method_of said.method) (query_of said.tar
 
 -- the message stands for that answer, by what its path names
 abbrev pub StandsFor : Said → Answer → Type 0
-StandsFor said answer = (named : Option Place) × Finds (path_of said.target) named × (answer ≡ answer_of named said)
+StandsFor said answer = (named : Option Place) × Finds (path_of said.target) named
+    × (answer ≡ answer_of named said)
 
 -- what was routed is the answer; memory may run out anywhere
 abbrev pub Tells : Answer → Routed → Type 0

@@ -1,5 +1,6 @@
 -- The samples of a body as a reader meets them, one record after another.
-use Rattle.std.specs.Prelude.{◌≡◌, ℕ, ◌+◌, Bool, true, false, List, [], ◌∷◌, ◌++◌, Option, Some, None, Result, Ok, Err}
+use Rattle.std.specs.Prelude.{◌≡◌, ℕ, ◌+◌, Bool, true, false, List, [], ◌∷◌, ◌++◌, Option, Some}
+use Rattle.std.specs.Prelude.{None, Result, Ok, Err}
 use Rattle.csv_records.specs.Records.{Fields}
 use Rattle.sample_book.specs.declared.row.Row.{Row}
 use Rattle.wire_routes.specs.Samples.{row_of}

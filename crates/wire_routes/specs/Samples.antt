@@ -1,5 +1,6 @@
 -- The samples of a body: CSV without a header line, `sli,source,minute,revision,amount,total`.
-use Rattle.std.specs.Prelude.{ℕ, ◌+◌, ◌==◌, cond, List, length, Option, Some, None, option_map, option_and_then, is_some, Result, Ok, Err}
+use Rattle.std.specs.Prelude.{ℕ, ◌+◌, ◌==◌, cond, List, length, Option, Some, None, option_map}
+use Rattle.std.specs.Prelude.{option_and_then, is_some, Result, Ok, Err}
 use Rattle.std.specs.List.{filter_map, prefix_len}
 use Rattle.csv_records.specs.Records.{Fields, csv_records}
 use Rattle.csv_records.specs.Columns.{six_fields}
@@ -28,9 +29,11 @@ revision_of text = option_and_then unless_zero (number_within MAX_REVISION text)
 -- a row of the six fields, where each has its form
 abbrev pub row_of_six : List ℕ × List ℕ × List ℕ × List ℕ × List ℕ × List ℕ → Option Row
 row_of_six f =
-    option_and_then (λ sli. option_and_then (λ source. option_and_then (λ minute. option_and_then (λ revision. option_map (λ amount.
+    option_and_then (λ sli. option_and_then
+    (λ source. option_and_then (λ minute. option_and_then (λ revision. option_map (λ amount.
     record { sli = sli; source = source; minute = minute; revision = revision; amount = amount })
-    (amount_of f.4 f.5)) (revision_of f.3)) (number_within MAX_MINUTE f.2)) (label_of f.1)) (label_of f.0)
+    (amount_of f.4 f.5)) (revision_of f.3)) (number_within MAX_MINUTE f.2)) (label_of f.1))
+    (label_of f.0)
 
 abbrev pub row_of : Fields → Option Row
 row_of fields = option_and_then row_of_six (six_fields fields)
@@ -42,7 +45,8 @@ rows_before records = prefix_len (λ fields. is_some (row_of fields)) records
 -- the rows, where all records are rows; else the number of the first that is none, counted from 1
 abbrev pub rows_or_number : List Fields → Result (List Row) ℕ
 rows_or_number records =
-    cond (rows_before records == length records) (Ok (filter_map row_of records)) (Err (rows_before records + 1))
+    cond (rows_before records == length records) (Ok (filter_map row_of records))
+    (Err (rows_before records + 1))
 
 -- the same of the records of a body
 abbrev pub samples_of : List ℕ → Result (List Row) ℕ

@@ -7,8 +7,11 @@ use Rattle.burn_core.proofs.budget.above.Goals as goal
 pub returns : goal.returns
 returns c =
     let some : 0 < c.args.sum.den = omega arith in
-    let threshold : c.from-2.result ≡ c.args.threshold = c.from-2.ensures ∙ c.billionths.ensures.value in
+    let threshold : c.from-2.result ≡ c.args.threshold = c.from-2.ensures
+    ∙ c.billionths.ensures.value in
     c.holds.ensures
     ∙ ap (holds_of c.args.op)
-    (c.cmp.ensures ∙ (λ i. nat_cmp (c.from.ensures i * 1000000000000000000) (threshold i * c.allowed_errors.ensures.value i)))
-    ∙ sym (above-is c.args.sum c.args.target c.args.op c.args.threshold some c.requires.part c.requires.below_one)
+    (c.cmp.ensures ∙ (λ i. nat_cmp (c.from.ensures i * 1000000000000000000)
+    (threshold i * c.allowed_errors.ensures.value i)))
+    ∙ sym (above-is c.args.sum c.args.target c.args.op c.args.threshold some c.requires.part
+    c.requires.below_one)

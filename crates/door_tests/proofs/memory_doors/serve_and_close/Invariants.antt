@@ -6,5 +6,6 @@ use Rattle.door_tests.proofs.memory_doors.serve_and_close.Given as goal
 abbrev pub invariant-loop-door : goal.invariant-loop-door
 invariant-loop-door l = record {
   len : into_iter_len l.door-iterator ≡ length (into_iter_items l.door-iterator);
-  open_ones : length (entrance_of l.doors).closed + length (into_iter_items l.door-iterator) ≤ (entrance_of l.doors).opened;
+  open_ones : length (entrance_of l.doors).closed + length (into_iter_items l.door-iterator)
+      ≤ (entrance_of l.doors).opened;
 }

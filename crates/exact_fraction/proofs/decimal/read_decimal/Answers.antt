@@ -10,4 +10,5 @@ returns-clause-answer c =
     subst P (sym c.read_by_cuts.ensures) (answers-by_cuts c.args.text.now)
 
 pub returns-clause-only : goal.returns-clause-only
-returns-clause-only c other h = c.read_by_cuts.ensures ∙ answers-unique c.args.text.now _ other (answers-by_cuts c.args.text.now) h
+returns-clause-only c other h = c.read_by_cuts.ensures
+    ∙ answers-unique c.args.text.now _ other (answers-by_cuts c.args.text.now) h

@@ -8,5 +8,7 @@ use Rattle.message_heads.proofs.fields.closes.Given as goal
 -- the fields that are left say what all say
 abbrev pub invariant-loop-field : goal.invariant-loop-field
 invariant-loop-field l =
-    list_any (λ f. is_named (codes "connection") f && has_close f.1) (map (header_bytes l.bytes) (drop l.field-index l.fields))
-    ≡ list_any (λ f. is_named (codes "connection") f && has_close f.1) (map (header_bytes l.bytes) l.fields)
+    list_any (λ f. is_named (codes "connection") f && has_close f.1)
+    (map (header_bytes l.bytes) (drop l.field-index l.fields))
+    ≡ list_any (λ f. is_named (codes "connection") f && has_close f.1)
+    (map (header_bytes l.bytes) l.fields)

@@ -8,4 +8,5 @@ use Rattle.message_heads.proofs.fields.counted_length.Goals as goal
 pub returns-then-value-le19 : goal.returns-then-value-le19
 returns-then-value-le19 c =
     c.read_number.ensures.value ∙ fits c.in-One.value.now c.if-value-le19.true
-    ∙ only c.in-One.value.now (values_named (codes "content-length") (map (header_bytes c.args.bytes.now) c.args.fields.now)) c.in-One.ensures
+    ∙ only c.in-One.value.now (values_named (codes "content-length")
+    (map (header_bytes c.args.bytes.now) c.args.fields.now)) c.in-One.ensures

@@ -6,4 +6,5 @@ use Rattle.message_heads.proofs.fields.is_encoded.Given as goal
 
 -- the fields that are left say what all say
 abbrev pub invariant-loop-field : goal.invariant-loop-field
-invariant-loop-field l = is_encoded (map (header_bytes l.bytes) (drop l.field-index l.fields)) ≡ is_encoded (map (header_bytes l.bytes) l.fields)
+invariant-loop-field l = is_encoded (map (header_bytes l.bytes) (drop l.field-index l.fields))
+    ≡ is_encoded (map (header_bytes l.bytes) l.fields)

@@ -5,4 +5,5 @@ use Rattle.message_heads.proofs.reading.read_request.Goals as goal
 
 pub returns : goal.returns
 returns c =
-    subst (Hears c.args.bytes.now) (sym c.heard.ensures) (heard_alone c.args.bytes.now c.hear.result c.hear.ensures)
+    subst (Hears c.args.bytes.now) (sym c.heard.ensures)
+    (heard_alone c.args.bytes.now c.hear.result c.hear.ensures)

@@ -7,7 +7,8 @@ use Rattle.message_heads.proofs.start.wide_start.Goals as goal
 
 pub returns-in-Ok-Complete : goal.returns-in-Ok-Complete
 returns-in-Ok-Complete c slots =
-    wide c.args.front.now c.parse_request.new.headers c.in-Ok-Complete.head c.requires.wide (search rules)
+    wide c.args.front.now c.parse_request.new.headers c.in-Ok-Complete.head c.requires.wide
+    (search rules)
 
 pub returns-in-Err : goal.returns-in-Err
 returns-in-Err c slots =

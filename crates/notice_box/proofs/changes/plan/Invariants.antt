@@ -6,5 +6,6 @@ use Rattle.notice_box.proofs.changes.plan.Given as goal
 
 abbrev pub invariant-loop-place : goal.invariant-loop-place
 invariant-loop-place l = record {
-  planned : l.plan.items ≡ filter (λ change. is_due_at l.before l.now l.flags change.0) (map (λ place. (place, slice_index_or l.now place Quiet)) (range_with_len 0 l.place));
+  planned : l.plan.items ≡ filter (λ change. is_due_at l.before l.now l.flags change.0)
+      (map (λ place. (place, slice_index_or l.now place Quiet)) (range_with_len 0 l.place));
 }

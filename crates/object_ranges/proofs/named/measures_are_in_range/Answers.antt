@@ -2,13 +2,17 @@ use Rattle.object_ranges.proofs.ByName.{measures}
 use Rattle.object_ranges.proofs.named.measures_are_in_range.Goals as goal
 
 pub returns-clause-target : goal.returns-clause-target
-returns-clause-target c = λ members slo number m all e. (measures c.each_object_reads_back.ensures members slo number m all e).target
+returns-clause-target c = λ members slo number m all e.
+    (measures c.each_object_reads_back.ensures members slo number m all e).target
 
 pub returns-clause-width : goal.returns-clause-width
-returns-clause-width c = λ members slo number m all e. (measures c.each_object_reads_back.ensures members slo number m all e).width.divides
+returns-clause-width c = λ members slo number m all e.
+    (measures c.each_object_reads_back.ensures members slo number m all e).width.divides
 
 pub returns-clause-some : goal.returns-clause-some
-returns-clause-some c = λ members slo number m all e. (measures c.each_object_reads_back.ensures members slo number m all e).width.some
+returns-clause-some c = λ members slo number m all e.
+    (measures c.each_object_reads_back.ensures members slo number m all e).width.some
 
 pub returns-clause-slices : goal.returns-clause-slices
-returns-clause-slices c = λ members slo number m all e. (measures c.each_object_reads_back.ensures members slo number m all e).slice_target
+returns-clause-slices c = λ members slo number m all e.
+    (measures c.each_object_reads_back.ensures members slo number m all e).slice_target

@@ -6,4 +6,5 @@ use Rattle.office_derived.proofs.zones.kept_as.Given as goal
 
 -- none so far has that name
 abbrev pub invariant-loop-zone : goal.invariant-loop-zone
-invariant-loop-zone l = find (λ (zone : KeptZone). bytes_eq zone.name l.name) (drop l.zone-index l.kept) ≡ find (λ (zone : KeptZone). bytes_eq zone.name l.name) l.kept
+invariant-loop-zone l = find (λ (zone : KeptZone). bytes_eq zone.name l.name)
+    (drop l.zone-index l.kept) ≡ find (λ (zone : KeptZone). bytes_eq zone.name l.name) l.kept

@@ -11,11 +11,15 @@ loop-room-preserved g c =
     let steps = c.in-Some.ensures.steps.0 in
     let door = c.open_door-door.result in
     let more = c.push_reserved.ensures.items in record {
-      all = append_assoc at.yielded (c.in-Some.room ∷ []) _ ∙ ap (λ l. at.yielded ++ l) (sym steps) ∙ i.all;
+      all = append_assoc at.yielded (c.in-Some.room ∷ []) _
+          ∙ ap (λ l. at.yielded ++ l) (sym steps) ∙ i.all;
       len = search rules;
       count = counted_more at.doors.items _ door at.yielded c.in-Some.room more i.count;
-      new = all_with IsNew at.doors.items c.push_reserved.new.self.items door more i.new c.open_door-door.ensures.new;
+      new = all_with IsNew at.doors.items c.push_reserved.new.self.items door more i.new
+          c.open_door-door.ensures.new;
       space = search rules;
-      shares = λ some. shares_less (λ r. r.share) _ _ c.in-Some.room _ _ steps (i.shares some) c.open_door-door.ensures.count;
-      shared = dealt_more (λ d. (book_of d).left) _ _ _ at.doors.items _ door more i.shared c.open_door-door.ensures.shared;
+      shares = λ some. shares_less (λ r. r.share) _ _ c.in-Some.room _ _ steps (i.shares some)
+          c.open_door-door.ensures.count;
+      shared = dealt_more (λ d. (book_of d).left) _ _ _ at.doors.items _ door more i.shared
+          c.open_door-door.ensures.shared;
     }

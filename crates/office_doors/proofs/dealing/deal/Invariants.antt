@@ -12,6 +12,7 @@ invariant-loop-room g l = record {
   count : length l.doors.items ≡ length l.yielded;
   new : All IsNew l.doors.items;
   space : length l.doors.items + length (into_iter_items l.room-iterator) ≤ vec_capacity l.doors;
-  shares : 0 < length (into_iter_items l.initial.room-iterator) → sum_by (λ r. r.share) (into_iter_items l.room-iterator) ≡ length l.held.items;
+  shares : 0 < length (into_iter_items l.initial.room-iterator)
+      → sum_by (λ r. r.share) (into_iter_items l.room-iterator) ≡ length l.held.items;
   shared : l.initial.held.items ≡ flat_map (λ d. (book_of d).left) l.doors.items ++ l.held.items;
 }

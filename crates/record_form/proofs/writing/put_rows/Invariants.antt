@@ -13,5 +13,6 @@ pub record SoFar (P Q : Type 0) : Type 0 where
 
 abbrev pub invariant-loop-row : goal.invariant-loop-row
 invariant-loop-row l =
-    SoFar (l.out.items ≡ (l.fn.out.items ++ (number w16).write (length l.rows) []) ++ write_each row (take l.row-index l.rows) [])
+    SoFar (l.out.items ≡ (l.fn.out.items ++ (number w16).write (length l.rows) [])
+    ++ write_each row (take l.row-index l.rows) [])
     (AllByRecursion FitsRow (take l.row-index l.rows))

@@ -4,4 +4,5 @@ use Rattle.sample_book.proofs.batch.judge_rows.Given as goal
 
 -- the rows so far are judged and taken
 abbrev pub invariant-loop-row : goal.invariant-loop-row
-invariant-loop-row l = AreJudged l.kept.rows (take l.row-index l.rows) (drop l.row-index l.rows) l.found.items l.earlier.rows l.earlier.room
+invariant-loop-row l = AreJudged l.kept.rows (take l.row-index l.rows) (drop l.row-index l.rows)
+    l.found.items l.earlier.rows l.earlier.room

@@ -10,7 +10,8 @@ use Rattle.sample_book.proofs.chains.exchange.Goals as goal
 pub returns-then-is_at-clause-after : goal.returns-then-is_at-clause-after
 returns-then-is_at-clause-after c =
     let there = c.is_at.ensures.there c.if-is_at.true in
-    (updates-with_value_at c.args.lasts.now c.args.guess c.args.link group_laws c.is_at.ensures.unique c.args.group there.0 there.1).0
+    (updates-with_value_at c.args.lasts.now c.args.guess c.args.link group_laws
+    c.is_at.ensures.unique c.args.group there.0 there.1).0
 
 pub returns-then-is_at-clause-before : goal.returns-then-is_at-clause-before
 returns-then-is_at-clause-before c =

@@ -10,8 +10,10 @@ pub loop-row-preserved : goal.loop-row-preserved
 loop-row-preserved c =
     let rows = c.args.rows.now in
     let n = c.loop-row.row-index in
-    let more = take_more rows n c.row-item.result c.loop-row-test.true ∙ ap (λ (r : Row). take n rows ++ r ∷ []) (sym c.row-item.is) in
-    new_cells-step c.args.cells.now c.loop-row.cells c.add_new.new.self (take n rows) c.row-item.result c.loop-row.invariant
+    let more = take_more rows n c.row-item.result c.loop-row-test.true
+    ∙ ap (λ (r : Row). take n rows ++ r ∷ []) (sym c.row-item.is) in
+    new_cells-step c.args.cells.now c.loop-row.cells c.add_new.new.self (take n rows)
+    c.row-item.result c.loop-row.invariant
     (c.in_ok-add_new.ensures.ok ∙ ap (with_cell c.loop-row.cells) c.cell.ensures)
     ∙ ap (λ came. c.args.cells.now ++ new_cells c.args.cells.now came) (sym more)
 

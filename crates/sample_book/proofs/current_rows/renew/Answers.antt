@@ -10,27 +10,64 @@ use Rattle.sample_book.proofs.ArriveLemmas.{renewed}
 use Rattle.sample_book.proofs.current_rows.renew.Goals as goal
 
 pub returns-then-is_put-clause-verdict : goal.returns-then-is_put-clause-verdict
-returns-then-is_put-clause-verdict c = c.verdict_on-verdict.ensures ∙ (renewed c.args.cells.now c.args.stored.now.items c.args.row.now c.args.place c.at.result c.index.result.now c.row_stored-kept.result c.requires.step.apart c.requires.there c.at.ensures (slice_get_read c.args.stored.now.items (length c.args.stored.now.items) c.args.place c.index.result.now refl c.requires.within c.index.ensures) c.row_stored-kept.ensures).stands
+returns-then-is_put-clause-verdict c = c.verdict_on-verdict.ensures ∙ (renewed c.args.cells.now
+    c.args.stored.now.items c.args.row.now c.args.place c.at.result c.index.result.now
+    c.row_stored-kept.result c.requires.step.apart c.requires.there c.at.ensures
+    (slice_get_read c.args.stored.now.items (length c.args.stored.now.items) c.args.place
+    c.index.result.now refl c.requires.within c.index.ensures) c.row_stored-kept.ensures).stands
 
 pub returns-then-is_put-clause-rows : goal.returns-then-is_put-clause-rows
 returns-then-is_put-clause-rows c =
-    let same : c.stored_of.result ≡ record { revision = c.args.row.now.revision; amount = c.args.row.now.amount } = (λ i. record { revision = c.stored_of.ensures.revision i; amount = c.stored_of.ensures.amount i }) in
-    ap (λ (s : Stored). rows_stored c.args.cells.now (set c.args.stored.now.items c.args.place s)) same
-    ∙ (renewed c.args.cells.now c.args.stored.now.items c.args.row.now c.args.place c.at.result c.index.result.now c.row_stored-kept.result c.requires.step.apart c.requires.there c.at.ensures (slice_get_read c.args.stored.now.items (length c.args.stored.now.items) c.args.place c.index.result.now refl c.requires.within c.index.ensures) c.row_stored-kept.ensures).taken (sym (ap is_put c.verdict_on-verdict.ensures) ∙ sym c.is_put.ensures ∙ c.if-is_put.true)
+    let same : c.stored_of.result ≡ record {
+      revision = c.args.row.now.revision;
+      amount = c.args.row.now.amount;
+    } = (λ i. record {
+      revision = c.stored_of.ensures.revision i;
+      amount = c.stored_of.ensures.amount i;
+    }) in
+    ap (λ (s : Stored). rows_stored c.args.cells.now (set c.args.stored.now.items c.args.place s))
+    same
+    ∙ (renewed c.args.cells.now c.args.stored.now.items c.args.row.now c.args.place c.at.result
+    c.index.result.now c.row_stored-kept.result c.requires.step.apart c.requires.there
+    c.at.ensures (slice_get_read c.args.stored.now.items (length c.args.stored.now.items)
+    c.args.place c.index.result.now refl c.requires.within c.index.ensures)
+    c.row_stored-kept.ensures).taken
+    (sym (ap is_put c.verdict_on-verdict.ensures) ∙ sym c.is_put.ensures ∙ c.if-is_put.true)
 
 pub returns-then-is_put-clause-step : goal.returns-then-is_put-clause-step
 returns-then-is_put-clause-step c =
-    let same : c.stored_of.result ≡ record { revision = c.args.row.now.revision; amount = c.args.row.now.amount } = (λ i. record { revision = c.stored_of.ensures.revision i; amount = c.stored_of.ensures.amount i }) in
+    let same : c.stored_of.result ≡ record {
+      revision = c.args.row.now.revision;
+      amount = c.args.row.now.amount;
+    } = (λ i. record {
+      revision = c.stored_of.ensures.revision i;
+      amount = c.stored_of.ensures.amount i;
+    }) in
     record {
       within = omega (arith, c.requires.step.within, length-set {A = Stored});
       ready = c.requires.step.ready;
       few = c.requires.step.few;
-      apart = subst (λ (s : Stored). IsDistinct same_cell (rows_stored c.args.cells.now (set c.args.stored.now.items c.args.place s))) (sym same)
-          ((renewed c.args.cells.now c.args.stored.now.items c.args.row.now c.args.place c.at.result c.index.result.now c.row_stored-kept.result c.requires.step.apart c.requires.there c.at.ensures (slice_get_read c.args.stored.now.items (length c.args.stored.now.items) c.args.place c.index.result.now refl c.requires.within c.index.ensures) c.row_stored-kept.ensures).distinct (sym (ap is_put c.verdict_on-verdict.ensures) ∙ sym c.is_put.ensures ∙ c.if-is_put.true));
+      apart = subst (λ (s : Stored). IsDistinct same_cell
+          (rows_stored c.args.cells.now (set c.args.stored.now.items c.args.place s))) (sym same)
+          ((renewed c.args.cells.now c.args.stored.now.items c.args.row.now c.args.place c.at.result
+          c.index.result.now c.row_stored-kept.result c.requires.step.apart c.requires.there
+          c.at.ensures (slice_get_read c.args.stored.now.items (length c.args.stored.now.items)
+          c.args.place c.index.result.now refl c.requires.within c.index.ensures)
+          c.row_stored-kept.ensures).distinct (sym (ap is_put c.verdict_on-verdict.ensures)
+          ∙ sym c.is_put.ensures ∙ c.if-is_put.true));
     }
 
 pub returns-else-is_put-clause-verdict : goal.returns-else-is_put-clause-verdict
-returns-else-is_put-clause-verdict c = c.verdict_on-verdict.ensures ∙ (renewed c.args.cells.now c.args.stored.now.items c.args.row.now c.args.place c.at.result c.index.result.now c.row_stored-kept.result c.requires.step.apart c.requires.there c.at.ensures (slice_get_read c.args.stored.now.items (length c.args.stored.now.items) c.args.place c.index.result.now refl c.requires.within c.index.ensures) c.row_stored-kept.ensures).stands
+returns-else-is_put-clause-verdict c = c.verdict_on-verdict.ensures ∙ (renewed c.args.cells.now
+    c.args.stored.now.items c.args.row.now c.args.place c.at.result c.index.result.now
+    c.row_stored-kept.result c.requires.step.apart c.requires.there c.at.ensures
+    (slice_get_read c.args.stored.now.items (length c.args.stored.now.items) c.args.place
+    c.index.result.now refl c.requires.within c.index.ensures) c.row_stored-kept.ensures).stands
 
 pub returns-else-is_put-clause-rows : goal.returns-else-is_put-clause-rows
-returns-else-is_put-clause-rows c = (renewed c.args.cells.now c.args.stored.now.items c.args.row.now c.args.place c.at.result c.index.result.now c.row_stored-kept.result c.requires.step.apart c.requires.there c.at.ensures (slice_get_read c.args.stored.now.items (length c.args.stored.now.items) c.args.place c.index.result.now refl c.requires.within c.index.ensures) c.row_stored-kept.ensures).passed (sym (ap is_put c.verdict_on-verdict.ensures) ∙ sym c.is_put.ensures ∙ c.if-is_put.false)
+returns-else-is_put-clause-rows c = (renewed c.args.cells.now
+    c.args.stored.now.items c.args.row.now c.args.place c.at.result c.index.result.now
+    c.row_stored-kept.result c.requires.step.apart c.requires.there c.at.ensures
+    (slice_get_read c.args.stored.now.items (length c.args.stored.now.items) c.args.place
+    c.index.result.now refl c.requires.within c.index.ensures) c.row_stored-kept.ensures).passed
+    (sym (ap is_put c.verdict_on-verdict.ensures) ∙ sym c.is_put.ensures ∙ c.if-is_put.false)

@@ -9,24 +9,34 @@ use Rattle.sample_book.proofs.tally.counts_at.Goals as goal
 
 pub loop-next-init : goal.loop-next-init
 loop-next-init c =
-    counting_from c.args.reading c.args.op c.args.value c.args.rows.now.rows c.args.sli c.args.minute c.last_on_day-next.result
+    counting_from c.args.reading c.args.op c.args.value c.args.rows.now.rows c.args.sli
+    c.args.minute c.last_on_day-next.result
     (c.last_on_day-next.ensures c.args.rows.now.rows c.requires.indexed)
 
 pub loop-next-smaller : goal.loop-next-smaller
 loop-next-smaller c =
     let row = c.row.result in
-    let below = last_below (is_on row.sli (row.minute / 1440)) c.args.rows.now.rows (c.loop-next.next - 1) c.before_on_day-next.result
+    let below = last_below (is_on row.sli (row.minute / 1440)) c.args.rows.now.rows
+    (c.loop-next.next - 1) c.before_on_day-next.result
     (c.before_on_day-next.ensures c.args.rows.now.rows row c.requires.indexed c.row.ensures) in
     omega (arith, below, c.loop-next-test.true)
 
 pub loop-next-preserved : goal.loop-next-preserved
 loop-next-preserved c =
-    let whole : c.loop-next.next ≡ suc (c.loop-next.next - 1) = omega (arith, c.loop-next-test.true) in
-    counting_on c.args.reading c.args.op c.args.value c.args.rows.now.rows c.args.sli c.args.minute (c.loop-next.next - 1) c.before_on_day-next.result c.row.result c.loop-next.sum c.share_of-counts.result
-    c.row.ensures c.share_of-counts.ensures.share c.share_of-counts.ensures.part c.share_of-counts.ensures.few
-    (c.before_on_day-next.ensures c.args.rows.now.rows c.row.result c.requires.indexed c.row.ensures)
-    (subst (λ next. IsCounting c.args.reading c.args.op c.args.value c.args.rows.now.rows c.args.sli c.args.minute next c.loop-next.sum) whole c.loop-next.invariant)
+    let whole : c.loop-next.next ≡ suc (c.loop-next.next - 1) =
+    omega (arith, c.loop-next-test.true) in
+    counting_on c.args.reading c.args.op c.args.value c.args.rows.now.rows c.args.sli c.args.minute
+    (c.loop-next.next - 1) c.before_on_day-next.result c.row.result c.loop-next.sum
+    c.share_of-counts.result
+    c.row.ensures c.share_of-counts.ensures.share c.share_of-counts.ensures.part
+    c.share_of-counts.ensures.few
+    (c.before_on_day-next.ensures c.args.rows.now.rows c.row.result c.requires.indexed
+    c.row.ensures)
+    (subst (λ next. IsCounting c.args.reading c.args.op c.args.value c.args.rows.now.rows c.args.sli
+    c.args.minute next c.loop-next.sum) whole c.loop-next.invariant)
 
 pub share_of-counts-requires : goal.share_of-counts-requires
 share_of-counts-requires c =
-    all_at (λ (row : Row). is_of c.args.sli row ≡ true → row.minute ≡ c.args.minute → HasForm c.args.reading row.amount) c.args.rows.now.rows (c.loop-next.next - 1) c.row.result c.requires.form c.row.ensures
+    all_at (λ (row : Row). is_of c.args.sli row ≡ true → row.minute ≡ c.args.minute
+    → HasForm c.args.reading row.amount) c.args.rows.now.rows (c.loop-next.next - 1)
+    c.row.result c.requires.form c.row.ensures

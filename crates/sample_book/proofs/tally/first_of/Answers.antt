@@ -5,7 +5,9 @@ use Rattle.sample_book.proofs.tally.first_of.Goals as goal
 
 pub returns-in-Some : goal.returns-in-Some
 returns-in-Some c =
-    c.at.ensures ∙ find-position (is_of c.args.sli) c.args.rows.now.rows c.in-Some.place (sym c.in-Some.is ∙ c.first_of.ensures c.args.rows.now.rows c.requires)
+    c.at.ensures ∙ find-position (is_of c.args.sli) c.args.rows.now.rows c.in-Some.place
+    (sym c.in-Some.is ∙ c.first_of.ensures c.args.rows.now.rows c.requires)
 
 pub returns-in-None : goal.returns-in-None
-returns-in-None c = sym (none-position (is_of c.args.sli) c.args.rows.now.rows (sym c.in-None.is ∙ c.first_of.ensures c.args.rows.now.rows c.requires))
+returns-in-None c = sym (none-position (is_of c.args.sli) c.args.rows.now.rows
+    (sym c.in-None.is ∙ c.first_of.ensures c.args.rows.now.rows c.requires))

@@ -22,8 +22,10 @@ returns-clause-reflects c o next =
       entries = d.entries + 1;
       present = c.args.moment;
     } in
-    reflects_still d d' o c.args.moment (works.Exclude c.args.value) next.reflects next.later (record { no_tick = refl; no_taking = λ number. refl }) refl refl refl refl refl refl
-    (sym (append-nil d.zones.kept)) (c.exclude.ensures.history (events_in o.history) next.reflects.held) (accepted_still d o next.reflects)
+    reflects_still d d' o c.args.moment (works.Exclude c.args.value) next.reflects next.later
+    (record { no_tick = refl; no_taking = λ number. refl }) refl refl refl refl refl refl
+    (sym (append-nil d.zones.kept)) (c.exclude.ensures.history (events_in o.history)
+    next.reflects.held) (accepted_still d o next.reflects)
 
 pub returns-clause-sound : goal.returns-clause-sound
 returns-clause-sound c =

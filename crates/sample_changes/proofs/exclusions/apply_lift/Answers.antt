@@ -37,8 +37,10 @@ returns-clause-reflects c o next =
       entries = d.entries + 1;
       present = c.args.moment;
     } in
-    reflects_still d d' o c.args.moment (works.Lift c.args.id) next.reflects next.later (record { no_tick = refl; no_taking = λ number. refl }) refl refl refl refl refl refl
-    (sym (append-nil d.zones.kept)) (c.lift.ensures.history (events_in o.history) next.reflects.held) (accepted_still d o next.reflects)
+    reflects_still d d' o c.args.moment (works.Lift c.args.id) next.reflects next.later
+    (record { no_tick = refl; no_taking = λ number. refl }) refl refl refl refl refl refl
+    (sym (append-nil d.zones.kept)) (c.lift.ensures.history (events_in o.history)
+    next.reflects.held) (accepted_still d o next.reflects)
 
 pub returns-clause-sound : goal.returns-clause-sound
 returns-clause-sound c =
@@ -49,7 +51,8 @@ returns-clause-sound c =
       entries = d.entries + 1;
       present = c.args.moment;
     } in
-    sound_still d d' c.requires.sound (lift_entries d c.requires.next.0 c.args.moment c.args.id c.requires.next.1) refl refl refl refl c.lift.ensures.rows refl
+    sound_still d d' c.requires.sound (lift_entries d c.requires.next.0 c.args.moment c.args.id
+    c.requires.next.1) refl refl refl refl c.lift.ensures.rows refl
     (change_followed d d' c.requires.sound refl c.lift.ensures.rows
     c.follow_exclusion.ensures.measures c.follow_exclusion.ensures.kept)
 

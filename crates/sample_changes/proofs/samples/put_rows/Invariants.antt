@@ -10,5 +10,6 @@ pub record SoFar (P Q R : Type 0) : Type 0 where
 
 abbrev pub invariant-loop-row : goal.invariant-loop-row
 invariant-loop-row l = SoFar (MayComeAll l.book.rows l.book.room (drop l.row-index l.rows))
-    ((events : List Event) → Holds events l.fn.book.rows l.fn.book.exclusions → Holds (events ++ map Came (take l.row-index l.rows)) l.book.rows l.book.exclusions)
+    ((events : List Event) → Holds events l.fn.book.rows l.fn.book.exclusions
+    → Holds (events ++ map Came (take l.row-index l.rows)) l.book.rows l.book.exclusions)
     (l.book.exclusions ≡ l.fn.book.exclusions)

@@ -5,65 +5,117 @@ use Rattle.sample_book.specs.Puts.{verdicts}
 use Rattle.sample_book.specs.Rows.{current_rows}
 use Rattle.office_history.specs.Batches.{batch_fault, count, objective_days}
 use Rattle.office_derived.specs.Tallies.{tally_of}
-use Rattle.sample_changes.proofs.Judged.{batch_cells, batch_clean, batch_taken, batch_within, by_days, over_cells, over_taken}
+use Rattle.sample_changes.proofs.Judged.{batch_cells, batch_clean, batch_taken, batch_within}
+use Rattle.sample_changes.proofs.Judged.{by_days, over_cells, over_taken}
 use Rattle.sample_changes.proofs.Tallies.{verdicts_each}
 use Rattle.sample_changes.proofs.samples.rows_fault.Goals as goal
 
 pub batch_fault-requires-clause-each : goal.batch_fault-requires-clause-each
-batch_fault-requires-clause-each c = ap length c.requires.judged ∙ verdicts_each c.args.derived.now.book.rows c.args.rows.now
+batch_fault-requires-clause-each c = ap length c.requires.judged
+    ∙ verdicts_each c.args.derived.now.book.rows c.args.rows.now
 
 pub returns-then-cells-tally-gt-MAX_CELLS : goal.returns-then-cells-tally-gt-MAX_CELLS
 returns-then-cells-tally-gt-MAX_CELLS c =
     let a = c.args in
     let d = a.derived.now in
-    let tally : a.tally ≡ tally_of (verdicts d.book.rows a.rows.now) = c.requires.counted ∙ ap tally_of c.requires.judged in
+    let tally : a.tally ≡ tally_of (verdicts d.book.rows a.rows.now) = c.requires.counted
+    ∙ ap tally_of c.requires.judged in
     ap (λ (refusal : Refusal). Some refusal) c.limit.ensures
-    ∙ over_cells (batch_fault d.origin a.moment d.catalog d.book.rows a.rows.now) (length (current_rows (d.book.rows ++ a.rows.now))) (d.accepted + count is_put (verdicts d.book.rows a.rows.now))
+    ∙ over_cells (batch_fault d.origin a.moment d.catalog d.book.rows a.rows.now)
+    (length (current_rows (d.book.rows ++ a.rows.now)))
+    (d.accepted + count is_put (verdicts d.book.rows a.rows.now))
     (objective_days d.catalog (current_rows (d.book.rows ++ a.rows.now)))
-    (batch_clean d.origin a.moment d.catalog d.book.rows a.rows.now a.verdicts.now c.batch_fault.result c.requires.judged c.batch_fault.ensures c.in-None.is)
-    (omega (arith, batch_cells d.book.rows a.rows.now a.tally c.rows_are_current.ensures tally, c.cells.ensures, c.if-cells-tally-gt-MAX_CELLS.true))
+    (batch_clean d.origin a.moment d.catalog d.book.rows a.rows.now a.verdicts.now
+    c.batch_fault.result c.requires.judged c.batch_fault.ensures c.in-None.is)
+    (omega (
+      arith,
+      batch_cells d.book.rows a.rows.now a.tally c.rows_are_current.ensures tally,
+      c.cells.ensures,
+      c.if-cells-tally-gt-MAX_CELLS.true,
+    ))
 
-pub returns-then-derived-tally-gt-MAX_ACCEPTED_ROWS : goal.returns-then-derived-tally-gt-MAX_ACCEPTED_ROWS
+pub returns-then-derived-tally-gt-MAX_ACCEPTED_ROWS :
+    goal.returns-then-derived-tally-gt-MAX_ACCEPTED_ROWS
 returns-then-derived-tally-gt-MAX_ACCEPTED_ROWS c =
     let a = c.args in
     let d = a.derived.now in
-    let tally : a.tally ≡ tally_of (verdicts d.book.rows a.rows.now) = c.requires.counted ∙ ap tally_of c.requires.judged in
+    let tally : a.tally ≡ tally_of (verdicts d.book.rows a.rows.now) = c.requires.counted
+    ∙ ap tally_of c.requires.judged in
     ap (λ (refusal : Refusal). Some refusal) c.limit-then-derived-tally-gt-MAX_ACCEPTED_ROWS.ensures
-    ∙ over_taken (batch_fault d.origin a.moment d.catalog d.book.rows a.rows.now) (length (current_rows (d.book.rows ++ a.rows.now))) (d.accepted + count is_put (verdicts d.book.rows a.rows.now))
+    ∙ over_taken (batch_fault d.origin a.moment d.catalog d.book.rows a.rows.now)
+    (length (current_rows (d.book.rows ++ a.rows.now)))
+    (d.accepted + count is_put (verdicts d.book.rows a.rows.now))
     (objective_days d.catalog (current_rows (d.book.rows ++ a.rows.now)))
-    (batch_clean d.origin a.moment d.catalog d.book.rows a.rows.now a.verdicts.now c.batch_fault.result c.requires.judged c.batch_fault.ensures c.in-None.is)
-    (omega (arith, batch_cells d.book.rows a.rows.now a.tally c.rows_are_current.ensures tally, c.cells.ensures, c.if-cells-tally-gt-MAX_CELLS.false))
-    (omega (arith, batch_taken d.accepted d.book.rows a.rows.now a.tally tally, c.if-derived-tally-gt-MAX_ACCEPTED_ROWS.true))
+    (batch_clean d.origin a.moment d.catalog d.book.rows a.rows.now a.verdicts.now
+    c.batch_fault.result c.requires.judged c.batch_fault.ensures c.in-None.is)
+    (omega (
+      arith,
+      batch_cells d.book.rows a.rows.now a.tally c.rows_are_current.ensures tally,
+      c.cells.ensures,
+      c.if-cells-tally-gt-MAX_CELLS.false,
+    ))
+    (omega (
+      arith,
+      batch_taken d.accepted d.book.rows a.rows.now a.tally tally,
+      c.if-derived-tally-gt-MAX_ACCEPTED_ROWS.true,
+    ))
 
 pub passes_days_limit-requires-clause-more : goal.passes_days_limit-requires-clause-more
 passes_days_limit-requires-clause-more c =
     let a = c.args in
     let d = a.derived.now in
     batch_within d.origin a.moment c.end_of_rows-end.result d.catalog d.book.rows a.rows.now
-    (batch_clean d.origin a.moment d.catalog d.book.rows a.rows.now a.verdicts.now c.batch_fault.result c.requires.judged c.batch_fault.ensures c.in-None.is)
+    (batch_clean d.origin a.moment d.catalog d.book.rows a.rows.now a.verdicts.now
+    c.batch_fault.result c.requires.judged c.batch_fault.ensures c.in-None.is)
     c.end_of_rows-end.ensures.moment
 
 pub returns-then-passes : goal.returns-then-passes
 returns-then-passes c =
     let a = c.args in
     let d = a.derived.now in
-    let tally : a.tally ≡ tally_of (verdicts d.book.rows a.rows.now) = c.requires.counted ∙ ap tally_of c.requires.judged in
+    let tally : a.tally ≡ tally_of (verdicts d.book.rows a.rows.now) = c.requires.counted
+    ∙ ap tally_of c.requires.judged in
     ap (λ (refusal : Refusal). Some refusal) c.limit-then-passes.ensures
-    ∙ by_days (batch_fault d.origin a.moment d.catalog d.book.rows a.rows.now) (length (current_rows (d.book.rows ++ a.rows.now))) (d.accepted + count is_put (verdicts d.book.rows a.rows.now))
+    ∙ by_days (batch_fault d.origin a.moment d.catalog d.book.rows a.rows.now)
+    (length (current_rows (d.book.rows ++ a.rows.now)))
+    (d.accepted + count is_put (verdicts d.book.rows a.rows.now))
     (objective_days d.catalog (current_rows (d.book.rows ++ a.rows.now))) true
-    (batch_clean d.origin a.moment d.catalog d.book.rows a.rows.now a.verdicts.now c.batch_fault.result c.requires.judged c.batch_fault.ensures c.in-None.is)
-    (omega (arith, batch_cells d.book.rows a.rows.now a.tally c.rows_are_current.ensures tally, c.cells.ensures, c.if-cells-tally-gt-MAX_CELLS.false))
-    (omega (arith, batch_taken d.accepted d.book.rows a.rows.now a.tally tally, c.if-derived-tally-gt-MAX_ACCEPTED_ROWS.false))
+    (batch_clean d.origin a.moment d.catalog d.book.rows a.rows.now a.verdicts.now
+    c.batch_fault.result c.requires.judged c.batch_fault.ensures c.in-None.is)
+    (omega (
+      arith,
+      batch_cells d.book.rows a.rows.now a.tally c.rows_are_current.ensures tally,
+      c.cells.ensures,
+      c.if-cells-tally-gt-MAX_CELLS.false,
+    ))
+    (omega (
+      arith,
+      batch_taken d.accepted d.book.rows a.rows.now a.tally tally,
+      c.if-derived-tally-gt-MAX_ACCEPTED_ROWS.false,
+    ))
     (sym c.in_ok-passes.ensures ∙ c.if-passes.true)
 
 pub returns : goal.returns
 returns c =
     let a = c.args in
     let d = a.derived.now in
-    let tally : a.tally ≡ tally_of (verdicts d.book.rows a.rows.now) = c.requires.counted ∙ ap tally_of c.requires.judged in
-    by_days (batch_fault d.origin a.moment d.catalog d.book.rows a.rows.now) (length (current_rows (d.book.rows ++ a.rows.now))) (d.accepted + count is_put (verdicts d.book.rows a.rows.now))
+    let tally : a.tally ≡ tally_of (verdicts d.book.rows a.rows.now) = c.requires.counted
+    ∙ ap tally_of c.requires.judged in
+    by_days (batch_fault d.origin a.moment d.catalog d.book.rows a.rows.now)
+    (length (current_rows (d.book.rows ++ a.rows.now)))
+    (d.accepted + count is_put (verdicts d.book.rows a.rows.now))
     (objective_days d.catalog (current_rows (d.book.rows ++ a.rows.now))) false
-    (batch_clean d.origin a.moment d.catalog d.book.rows a.rows.now a.verdicts.now c.batch_fault.result c.requires.judged c.batch_fault.ensures c.in-None.is)
-    (omega (arith, batch_cells d.book.rows a.rows.now a.tally c.rows_are_current.ensures tally, c.cells.ensures, c.if-cells-tally-gt-MAX_CELLS.false))
-    (omega (arith, batch_taken d.accepted d.book.rows a.rows.now a.tally tally, c.if-derived-tally-gt-MAX_ACCEPTED_ROWS.false))
+    (batch_clean d.origin a.moment d.catalog d.book.rows a.rows.now a.verdicts.now
+    c.batch_fault.result c.requires.judged c.batch_fault.ensures c.in-None.is)
+    (omega (
+      arith,
+      batch_cells d.book.rows a.rows.now a.tally c.rows_are_current.ensures tally,
+      c.cells.ensures,
+      c.if-cells-tally-gt-MAX_CELLS.false,
+    ))
+    (omega (
+      arith,
+      batch_taken d.accepted d.book.rows a.rows.now a.tally tally,
+      c.if-derived-tally-gt-MAX_ACCEPTED_ROWS.false,
+    ))
     (sym c.in_ok-passes.ensures ∙ c.if-passes.false)

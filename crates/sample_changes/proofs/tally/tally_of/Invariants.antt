@@ -8,4 +8,5 @@ pub record SoFar (P Q : Type 0) : Type 0 where
   pub few : Q
 
 abbrev pub invariant-loop-verdict : goal.invariant-loop-verdict
-invariant-loop-verdict l = SoFar (l.tally ≡ tally_of (take l.verdict-index l.verdicts)) (l.tally.new + l.tally.newer + l.tally.repeated + l.tally.superseded ≤ l.verdict-index)
+invariant-loop-verdict l = SoFar (l.tally ≡ tally_of (take l.verdict-index l.verdicts))
+    (l.tally.new + l.tally.newer + l.tally.repeated + l.tally.superseded ≤ l.verdict-index)

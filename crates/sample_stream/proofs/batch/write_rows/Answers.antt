@@ -23,7 +23,8 @@ loop-place-preserved g c =
       gained_more (row_at c.args.batch) c.loop-place.place
           (held c.args.output.now) (held c.loop-place.output) (held c.write_whole.new.output)
           c.loop-place.invariant.0
-          (subst (λ (l : List ℕ). Gained l (held c.loop-place.output) (held c.write_whole.new.output)) row
+          (subst (λ (l : List ℕ). Gained l (held c.loop-place.output)
+          (held c.write_whole.new.output)) row
           c.in_ok-write_whole.ensures.gained),
       search rules,
     )

@@ -28,7 +28,8 @@ loop-number-preserved g c =
           (held c.args.output.now) (held c.loop-number.output) (held c.write_samples.new.output)
           c.loop-number.invariant.0
           (subst
-          (λ (b : Batch). Gained (samples b) (held c.loop-number.output) (held c.write_samples.new.output))
+          (λ (b : Batch). Gained (samples b) (held c.loop-number.output)
+          (held c.write_samples.new.output))
           c.batch_of.ensures c.in_ok-write_samples.ensures.gained),
       search rules,
     )

@@ -12,5 +12,7 @@ pub record SoFar (P Q R S : Type 0) : Type 0 where
   pub few : S
 
 abbrev pub invariant-loop-row : goal.invariant-loop-row
-invariant-loop-row l = SoFar (MayComeAll l.book.rows l.book.room (drop l.row-index l.rows)) (AllByRecursion HasEvents (drop l.row-index l.rows))
-    (AllByRecursion HasEvents l.book.rows) (length l.book.rows ≤ length l.fn.book.rows + l.row-index)
+invariant-loop-row l = SoFar (MayComeAll l.book.rows l.book.room (drop l.row-index l.rows))
+    (AllByRecursion HasEvents (drop l.row-index l.rows))
+    (AllByRecursion HasEvents l.book.rows)
+    (length l.book.rows ≤ length l.fn.book.rows + l.row-index)

@@ -25,4 +25,5 @@ returns-clause-text c =
       c.allow_line.ensures.text,
       c.connection_line.ensures.text,
     )
-    (head_joined (decimal c.args.status) (phrase_of c.args.status) (type_of c.args.form) (decimal c.args.count) (allow_line c.args.allow) (connection_line c.args.last))
+    (head_joined (decimal c.args.status) (phrase_of c.args.status) (type_of c.args.form)
+    (decimal c.args.count) (allow_line c.args.allow) (connection_line c.args.last))

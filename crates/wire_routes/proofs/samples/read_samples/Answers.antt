@@ -7,17 +7,23 @@ use Rattle.wire_routes.proofs.samples.read_samples.Goals as goal
 
 pub records-init : goal.records-init
 records-init c = record {
-  so_far = none_so_far c.new-rows.result (csv_records c.args.body.now) c.new-reader.result c.new-rows.ensures c.new-reader.ensures.records;
+  so_far = none_so_far c.new-rows.result (csv_records c.args.body.now) c.new-reader.result
+      c.new-rows.ensures c.new-reader.ensures.records;
   few = (let few = c.new-reader.ensures.few in omega arith);
 }
 
 pub records-preserved : goal.records-preserved
 records-preserved c =
-    let taken : Takes true c.records.reader c.read.new.into c.read.new.self = subst (λ b. Takes b c.records.reader c.read.new.into c.read.new.self) c.if-branch.true c.in_ok-read.ensures.reads in
+    let taken : Takes true c.records.reader c.read.new.into c.read.new.self =
+    subst (λ b. Takes b c.records.reader c.read.new.into c.read.new.self) c.if-branch.true
+    c.in_ok-read.ensures.reads in
     let added : Adds true (row_of c.read.new.into) c.records.rows c.add_row.new.rows =
-    subst (λ b. Adds b (row_of c.read.new.into) c.records.rows c.add_row.new.rows) c.if-not-branch.false c.in_ok-add_row.ensures in
+    subst (λ b. Adds b (row_of c.read.new.into) c.records.rows c.add_row.new.rows)
+    c.if-not-branch.false c.in_ok-add_row.ensures in
     record {
-      so_far = one_more c.records.rows c.add_row.new.rows c.records.number c.records.reader c.read.new.into c.read.new.self (samples_of c.args.body.now)
+      so_far = one_more c.records.rows c.add_row.new.rows c.records.number c.records.reader
+          c.read.new.into c.read.new.self (samples_of c.args.body.now)
           c.records.invariant.so_far taken added;
-      few = (let fewer = ap (λ (rs : List Fields). length rs) taken in let few = c.records.invariant.few in omega arith);
+      few = (let fewer = ap (λ (rs : List Fields). length rs) taken in
+          let few = c.records.invariant.few in omega arith);
     }

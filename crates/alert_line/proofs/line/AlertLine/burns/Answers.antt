@@ -11,5 +11,7 @@ returns c =
     let sums = c.args.sums.now in
     let minute = c.args.cursor.now.minute in
     let target : c.self.inside.target ≡ line.target = ap (λ (l : Line). l.target) c.self.view_is in
-    c.burns.ensures ∙ (λ i. burns_by (c.requires.stands.rule i) (target i) (width_of sums.method) (leaf_at sums) minute)
-    ∙ sym (condition-from line.rule line.target line.origin (width_of sums.method) (leaf_at sums) minute c.requires.minute.0)
+    c.burns.ensures ∙ (λ i. burns_by (c.requires.stands.rule i) (target i) (width_of sums.method)
+    (leaf_at sums) minute)
+    ∙ sym (condition-from line.rule line.target line.origin (width_of sums.method) (leaf_at sums)
+    minute c.requires.minute.0)

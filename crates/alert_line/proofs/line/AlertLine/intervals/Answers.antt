@@ -1,4 +1,5 @@
-use Rattle.std.proofs.Common.{ℕ, ◌≡◌, ◌≤◌, ◌+◌, ◌-◌, ◌*◌, true, ap, sym, subst, ◌∙◌, arith, IfSome, nat_le, nat_lt, ◌&&◌, List}
+use Rattle.std.proofs.Common.{ℕ, ◌≡◌, ◌≤◌, ◌+◌, ◌-◌, ◌*◌, true, ap, sym, subst, ◌∙◌, arith, IfSome}
+use Rattle.std.proofs.Common.{nat_le, nat_lt, ◌&&◌, List}
 use Rattle.burn_core.specs.Alert.{wait_of}
 use Rattle.burn_core.specs.Timeline.{AreSpansOf, IsActive}
 use Rattle.burn_core.proofs.TimelineLemmas.{AreSpansOf-same, active-law}
@@ -7,7 +8,9 @@ use Rattle.alert_line.specs.Cursor.{IsBehind}
 use Rattle.alert_line.specs.Learnt.{IsRun, unknown_in}
 use Rattle.alert_line.specs.Line.{active_on, condition_on}
 use Rattle.alert_line.proofs.SpanLemmas.{EndBy}
-use Rattle.alert_line.proofs.RunLemmas.{Agrees-after, IsRun-next, alert-then, condition-alert, below-origin, ends-next, kept-after, learnt-ahead, learnt-next, spans-next, steps-next, unknown-part}
+use Rattle.alert_line.proofs.RunLemmas.{Agrees-after, IsRun-next, alert-then, condition-alert}
+use Rattle.alert_line.proofs.RunLemmas.{below-origin, ends-next, kept-after, learnt-ahead}
+use Rattle.alert_line.proofs.RunLemmas.{learnt-next, spans-next, steps-next, unknown-part}
 use Rattle.alert_line.proofs.line.AlertLine.intervals.Goals as goal
 
 pub loop-minute-preserved : goal.loop-minute-preserved
@@ -22,21 +25,34 @@ loop-minute-preserved g c =
     let wait = wait_of before.rule in
     let inv = c.loop-minute.invariant in
     let from : start ≤ minute = omega arith in
-    let is : b ≡ condition_on before sums minute = c.evaluate-holds.ensures.value ∙ condition-alert before at sums minute inv.alert in
+    let is : b ≡ condition_on before sums minute = c.evaluate-holds.ensures.value
+    ∙ condition-alert before at sums minute inv.alert in
     let run : IsRun (condition_on before sums) start (minute + 1) c.next_run-run.result =
-    subst (IsRun (condition_on before sums) start (minute + 1)) (sym c.next_run-run.ensures) (IsRun-next (condition_on before sums) start minute c.loop-minute.run b from is inv.run) in
-    let active : c.is_active-active.result ≡ (nat_lt wait c.next_run-run.result && nat_le c.args.from minute) =
-    c.is_active-active.ensures ∙ ap (λ w. nat_lt w c.next_run-run.result && nat_le c.args.from minute) c.wait-wait.ensures.value in
+    subst (IsRun (condition_on before sums) start (minute + 1)) (sym c.next_run-run.ensures)
+    (IsRun-next (condition_on before sums) start minute c.loop-minute.run b from is inv.run) in
+    let active : c.is_active-active.result
+    ≡ (nat_lt wait c.next_run-run.result && nat_le c.args.from minute) =
+    c.is_active-active.ensures ∙ ap (λ w. nat_lt w c.next_run-run.result
+    && nat_le c.args.from minute) c.wait-wait.ensures.value in
     record {
-      learnt = learnt-next before at after sums start minute b from is inv.learnt c.evaluate-holds.ensures.known;
+      learnt = learnt-next before at after sums start minute b from is inv.learnt
+          c.evaluate-holds.ensures.known;
       alert = alert-then before at after inv.alert c.evaluate-holds.ensures.alert;
-      behind = subst (λ r. IfSome c.evaluate-holds.new.cursor (IsBehind r (width_of sums.method) (leaf_at sums) (minute + 1))) inv.alert.rule c.evaluate-holds.ensures.behind;
-      spans = subst (λ (l : List (ℕ × ℕ)). AreSpansOf (IsActive wait (condition_on before sums)) c.args.from (minute + 1) l) (sym c.in_ok-note_minute.ensures)
-          (spans-next (condition_on before sums) before.origin c.args.from minute c.next_run-run.result wait c.loop-minute.spans.items c.is_active-active.result (below-origin before sums) active
-          (subst (λ s. IsRun (condition_on before sums) s (minute + 1) c.next_run-run.result) c.start-start.ensures.value run) inv.ends inv.spans);
-      ends = subst (EndBy (minute + 1)) (sym c.in_ok-note_minute.ensures) (ends-next minute c.loop-minute.spans.items c.is_active-active.result inv.ends);
+      behind = subst (λ r. IfSome c.evaluate-holds.new.cursor (IsBehind r (width_of sums.method)
+          (leaf_at sums) (minute + 1))) inv.alert.rule c.evaluate-holds.ensures.behind;
+      spans = subst (λ (l : List (ℕ × ℕ)). AreSpansOf (IsActive wait (condition_on before sums))
+          c.args.from (minute + 1) l) (sym c.in_ok-note_minute.ensures)
+          (spans-next (condition_on before sums) before.origin c.args.from minute
+          c.next_run-run.result wait c.loop-minute.spans.items c.is_active-active.result
+          (below-origin before sums) active
+          (subst (λ s. IsRun (condition_on before sums) s (minute + 1) c.next_run-run.result)
+          c.start-start.ensures.value run) inv.ends inv.spans);
+      ends = subst (EndBy (minute + 1)) (sym c.in_ok-note_minute.ensures)
+          (ends-next minute c.loop-minute.spans.items c.is_active-active.result inv.ends);
       run = run;
-      steps = steps-next before at start minute c.args.steps.now c.loop-minute.steps c.evaluate-holds.new.steps from (learnt-ahead before at sums start minute inv.learnt) inv.steps c.evaluate-holds.ensures.steps;
+      steps = steps-next before at start minute c.args.steps.now c.loop-minute.steps
+          c.evaluate-holds.new.steps from (learnt-ahead before at sums start minute inv.learnt)
+          inv.steps c.evaluate-holds.ensures.steps;
     }
 
 pub returns-in_err-note_minute-clause-agrees : goal.returns-in_err-note_minute-clause-agrees
@@ -48,9 +64,12 @@ returns-in_err-note_minute-clause-agrees g c =
     let start = c.start-start.result in
     let minute = c.loop-minute.minute in
     let inv = c.loop-minute.invariant in
-    let is : c.evaluate-holds.result ≡ condition_on before sums minute = c.evaluate-holds.ensures.value ∙ condition-alert before at sums minute inv.alert in
-    Agrees-after before after sums start (minute + 1) (alert-then before at after inv.alert c.evaluate-holds.ensures.alert) c.requires.agrees
-    (learnt-next before at after sums start minute c.evaluate-holds.result (omega arith) is inv.learnt c.evaluate-holds.ensures.known)
+    let is : c.evaluate-holds.result ≡ condition_on before sums minute =
+    c.evaluate-holds.ensures.value ∙ condition-alert before at sums minute inv.alert in
+    Agrees-after before after sums start (minute + 1)
+    (alert-then before at after inv.alert c.evaluate-holds.ensures.alert) c.requires.agrees
+    (learnt-next before at after sums start minute c.evaluate-holds.result (omega arith) is
+    inv.learnt c.evaluate-holds.ensures.known)
 
 pub returns-in_err-note_minute-clause-kept : goal.returns-in_err-note_minute-clause-kept
 returns-in_err-note_minute-clause-kept g c =
@@ -61,9 +80,11 @@ returns-in_err-note_minute-clause-kept g c =
     let start = c.start-start.result in
     let minute = c.loop-minute.minute in
     let inv = c.loop-minute.invariant in
-    let is : c.evaluate-holds.result ≡ condition_on before sums minute = c.evaluate-holds.ensures.value ∙ condition-alert before at sums minute inv.alert in
+    let is : c.evaluate-holds.result ≡ condition_on before sums minute =
+    c.evaluate-holds.ensures.value ∙ condition-alert before at sums minute inv.alert in
     kept-after before after sums start (minute + 1) c.requires.agrees
-    (learnt-next before at after sums start minute c.evaluate-holds.result (omega arith) is inv.learnt c.evaluate-holds.ensures.known)
+    (learnt-next before at after sums start minute c.evaluate-holds.result (omega arith) is
+    inv.learnt c.evaluate-holds.ensures.known)
 
 pub returns-in_err-note_minute-clause-steps : goal.returns-in_err-note_minute-clause-steps
 returns-in_err-note_minute-clause-steps g c =
@@ -73,30 +94,47 @@ returns-in_err-note_minute-clause-steps g c =
     let start = c.start-start.result in
     let minute = c.loop-minute.minute in
     let inv = c.loop-minute.invariant in
-    let here : c.evaluate-holds.new.steps ≤ c.args.steps.now + 2400 * unknown_in before start (minute + 1 - start) =
-    steps-next before at start minute c.args.steps.now c.loop-minute.steps c.evaluate-holds.new.steps (omega arith) (learnt-ahead before at sums start minute inv.learnt) inv.steps c.evaluate-holds.ensures.steps in
-    let more : unknown_in before start (minute + 1 - start) ≤ unknown_in before start (c.args.to - start) = unknown-part before start (minute + 1) c.args.to (omega arith) in
-    subst (λ s. c.evaluate-holds.new.steps ≤ c.args.steps.now + 2400 * unknown_in before s (c.args.to - s)) c.start-start.ensures.value (omega (arith, here, more))
+    let here : c.evaluate-holds.new.steps ≤ c.args.steps.now
+    + 2400 * unknown_in before start (minute + 1 - start) =
+    steps-next before at start minute c.args.steps.now c.loop-minute.steps
+    c.evaluate-holds.new.steps (omega arith) (learnt-ahead before at sums start minute
+    inv.learnt) inv.steps c.evaluate-holds.ensures.steps in
+    let more : unknown_in before start (minute + 1 - start) ≤ unknown_in before start
+    (c.args.to - start) = unknown-part before start (minute + 1) c.args.to (omega arith) in
+    subst (λ s. c.evaluate-holds.new.steps ≤ c.args.steps.now + 2400 * unknown_in before s
+    (c.args.to - s)) c.start-start.ensures.value (omega (arith, here, more))
 
 pub returns-clause-value : goal.returns-clause-value
 returns-clause-value g c =
     let line = c.args.self.now in
     let sums = c.args.sums.now in
     let wait = wait_of line.rule in
-    let start : c.start-start.result ≤ c.args.to = omega (arith, c.start-start.ensures.value, c.requires.begin, c.requires.order) in
+    let start : c.start-start.result ≤ c.args.to = omega (
+      arith,
+      c.start-start.ensures.value,
+      c.requires.begin,
+      c.requires.order,
+    ) in
     let all : c.loop-minute.minute ≡ c.args.to = omega arith in
-    let spans = subst (λ n. AreSpansOf (IsActive wait (condition_on line sums)) c.args.from n c.loop-minute.spans.items) all c.loop-minute.invariant.spans in
-    AreSpansOf-same (IsActive wait (condition_on line sums)) (λ minute. active_on line sums minute ≡ true) c.args.from c.args.to c.loop-minute.spans.items
+    let spans = subst (λ n. AreSpansOf (IsActive wait (condition_on line sums)) c.args.from n
+    c.loop-minute.spans.items) all c.loop-minute.invariant.spans in
+    AreSpansOf-same (IsActive wait (condition_on line sums)) (λ minute.
+    active_on line sums minute ≡ true) c.args.from c.args.to c.loop-minute.spans.items
     (λ minute. (let law = active-law wait (condition_on line sums) minute in (law.1, law.0))) spans
 
 pub returns-clause-agrees : goal.returns-clause-agrees
 returns-clause-agrees g c =
-    Agrees-after c.args.self.now c.loop-minute.self c.args.sums.now c.start-start.result c.loop-minute.minute c.loop-minute.invariant.alert c.requires.agrees c.loop-minute.invariant.learnt
+    Agrees-after c.args.self.now c.loop-minute.self c.args.sums.now
+    c.start-start.result c.loop-minute.minute c.loop-minute.invariant.alert c.requires.agrees
+    c.loop-minute.invariant.learnt
 
 pub returns-clause-kept : goal.returns-clause-kept
 returns-clause-kept g c =
-    kept-after c.args.self.now c.loop-minute.self c.args.sums.now c.start-start.result c.loop-minute.minute c.requires.agrees c.loop-minute.invariant.learnt
+    kept-after c.args.self.now c.loop-minute.self c.args.sums.now c.start-start.result
+    c.loop-minute.minute c.requires.agrees c.loop-minute.invariant.learnt
 
 pub evaluate-holds-requires-clause-agrees : goal.evaluate-holds-requires-clause-agrees
 evaluate-holds-requires-clause-agrees g c =
-    Agrees-after c.args.self.now c.loop-minute.self c.args.sums.now c.start-start.result c.loop-minute.minute c.loop-minute.invariant.alert c.requires.agrees c.loop-minute.invariant.learnt
+    Agrees-after c.args.self.now c.loop-minute.self c.args.sums.now
+    c.start-start.result c.loop-minute.minute c.loop-minute.invariant.alert c.requires.agrees
+    c.loop-minute.invariant.learnt

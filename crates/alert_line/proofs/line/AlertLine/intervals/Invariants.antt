@@ -12,8 +12,10 @@ abbrev pub invariant-loop-minute : goal.invariant-loop-minute
 invariant-loop-minute g l = record {
   learnt : IsLearnt l.fn.self l.self l.sums l.start l.minute;
   alert : SameAlert l.fn.self l.self;
-  behind : IfSome l.cursor (IsBehind l.fn.self.rule (width_of l.sums.method) (leaf_at l.sums) l.minute);
-  spans : AreSpansOf (IsActive (wait_of l.fn.self.rule) (condition_on l.fn.self l.sums)) l.from l.minute l.spans.items;
+  behind : IfSome l.cursor
+      (IsBehind l.fn.self.rule (width_of l.sums.method) (leaf_at l.sums) l.minute);
+  spans : AreSpansOf (IsActive (wait_of l.fn.self.rule) (condition_on l.fn.self l.sums)) l.from
+      l.minute l.spans.items;
   ends : EndBy l.minute l.spans.items;
   run : IsRun (condition_on l.fn.self l.sums) l.start l.minute l.run;
   steps : l.steps ≤ l.fn.steps + 2400 * unknown_in l.fn.self l.start (l.minute - l.start);

@@ -4,4 +4,5 @@ use Rattle.csv_records.proofs.Fields.{field_at-slice_get}
 use Rattle.csv_records.proofs.csv_record.Record.get.Goals as goal
 
 pub returns : goal.returns
-returns c = rw (← c.self.view_is) (c.get.ensures.value ∙ field_at-slice_get (fields_of c.self.inside.fields) c.args.at)
+returns c = rw (← c.self.view_is)
+    (c.get.ensures.value ∙ field_at-slice_get (fields_of c.self.inside.fields) c.args.at)

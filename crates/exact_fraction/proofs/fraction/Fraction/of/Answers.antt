@@ -4,7 +4,9 @@ use Rattle.std.proofs.lemmas.Int.{to_z-of_z}
 use mir.Syntax.{w128}
 use mir.Val.{SFits}
 use Rattle.exact_fraction.specs.Ratio.{IsFraction, IsLowest, Ratio, SameValue, lowest, most_part}
-use Rattle.exact_fraction.proofs.LowestTerms.{gcd-positive, lowest-IsFraction, lowest-IsLowest, lowest-SameValue, lowest-den-le, lowest-not_negative, lowest-num-le, parts-lowest}
+use Rattle.exact_fraction.proofs.LowestTerms.{gcd-positive, lowest-IsFraction, lowest-IsLowest}
+use Rattle.exact_fraction.proofs.LowestTerms.{lowest-SameValue, lowest-den-le, lowest-not_negative}
+use Rattle.exact_fraction.proofs.LowestTerms.{lowest-num-le, parts-lowest}
 use Rattle.exact_fraction.proofs.fraction.Fraction.of.Goals as goal
 
 pub nonzero_div-den : goal.nonzero_div-den
@@ -38,7 +40,8 @@ in_lowest_terms-requires c =
     c.unsigned_abs-size.ensures.value
     c.gcd-common.ensures
     c.with_sign_of.ensures))
-    (lowest-IsFraction c.args.num c.args.den c.requires.positive c.requires.num_fits c.requires.den_fits)
+    (lowest-IsFraction c.args.num c.args.den c.requires.positive c.requires.num_fits
+    c.requires.den_fits)
 
 pub returns-clause-value : goal.returns-clause-value
 returns-clause-value c =

@@ -11,4 +11,5 @@ invariant_of-result c =
     text
     c.loop-place.bytes
     c.requires
-    (c.loop-place.invariant ∙ ap (λ n. take n text ++ replicate (64 - n) 0) end ∙ ap (λ t. t ++ replicate (64 - length text) 0) (take-length text))
+    (c.loop-place.invariant ∙ ap (λ n. take n text ++ replicate (64 - n) 0) end
+    ∙ ap (λ t. t ++ replicate (64 - length text) 0) (take-length text))

@@ -8,4 +8,5 @@ use Rattle.exact_fraction.proofs.spelling.DecimalDisplay.fmt.Goals as goal
 pub digits_text-decimals-requires : goal.digits_text-decimals-requires
 digits_text-decimals-requires g c =
     let P : List ℕ → Type 0 = λ t. IsTrue (list_all is_ascii_digit t) in
-    subst P (sym (c.without_last_zeros.ensures ∙ ap without_last_zeros c.nine_digits-digits.ensures)) (trimmed-digits 9 (c.billionths-2.result % 1000000000))
+    subst P (sym (c.without_last_zeros.ensures ∙ ap without_last_zeros
+    c.nine_digits-digits.ensures)) (trimmed-digits 9 (c.billionths-2.result % 1000000000))

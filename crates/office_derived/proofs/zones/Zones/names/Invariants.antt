@@ -4,4 +4,5 @@ use Rattle.office_derived.proofs.zones.Zones.names.Given as goal
 
 -- the names so far
 abbrev pub invariant-loop-kept : goal.invariant-loop-kept
-invariant-loop-kept l = l.names.items ≡ map (λ (k : KeptZone). k.name) (take l.kept-index l.kept-items)
+invariant-loop-kept l =
+    l.names.items ≡ map (λ (k : KeptZone). k.name) (take l.kept-index l.kept-items)

@@ -3,4 +3,5 @@ use Rattle.office_outside.specs.DiskCalls.{Left, replay}
 use Rattle.office_outside.proofs.memory_disk.MemoryDisk.after_stop.Given as goal
 
 abbrev pub invariant-loop-call : goal.invariant-loop-call
-invariant-loop-call l = Left (replay l.self.first.items (take l.call-index l.made)) l.reads.items l.left.items
+invariant-loop-call l =
+    Left (replay l.self.first.items (take l.call-index l.made)) l.reads.items l.left.items

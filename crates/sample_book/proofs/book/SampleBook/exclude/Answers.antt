@@ -8,5 +8,12 @@ pub returns-clause-history : goal.returns-clause-history
 returns-clause-history c =
     let rows = ap (λ (book : Book). book.rows) c.self.view_is in
     let made = ap (λ (book : Book). book.exclusions) c.self.view_is in
-    gains-excluded c.args.self.now (record { rows = c.self.inside.rows.rows; exclusions = c.exclude.new.self.made; room = c.args.self.now.room; spare = c.exclude.new.self.spare }) c.args.value
-    c.requires.unused (c.exclude.ensures.made ∙ ap (λ (made : List (Exclusion × Bool)). made ++ (c.args.value, true) ∷ []) made) rows
+    gains-excluded c.args.self.now
+    (record {
+      rows = c.self.inside.rows.rows;
+      exclusions = c.exclude.new.self.made;
+      room = c.args.self.now.room;
+      spare = c.exclude.new.self.spare;
+    }) c.args.value
+    c.requires.unused (c.exclude.ensures.made
+    ∙ ap (λ (made : List (Exclusion × Bool)). made ++ (c.args.value, true) ∷ []) made) rows

@@ -9,5 +9,12 @@ pub returns-clause-history : goal.returns-clause-history
 returns-clause-history c =
     let rows = ap (λ (book : Book). book.rows) c.self.view_is in
     let made = ap (λ (book : Book). book.exclusions) c.self.view_is in
-    gains-lifted c.args.self.now (record { rows = c.self.inside.rows.rows; exclusions = c.lift.new.self.made; room = c.args.self.now.room; spare = c.lift.new.self.spare }) c.args.id
-    c.requires (c.lift.ensures.made ∙ ap (λ (made : List (Exclusion × Bool)). lifted made c.args.id) made) rows
+    gains-lifted c.args.self.now
+    (record {
+      rows = c.self.inside.rows.rows;
+      exclusions = c.lift.new.self.made;
+      room = c.args.self.now.room;
+      spare = c.lift.new.self.spare;
+    }) c.args.id
+    c.requires (c.lift.ensures.made
+    ∙ ap (λ (made : List (Exclusion × Bool)). lifted made c.args.id) made) rows

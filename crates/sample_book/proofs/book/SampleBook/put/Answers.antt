@@ -4,7 +4,8 @@ use Rattle.sample_book.specs.Chains.{IsIndexed, IsReadyFor}
 use Rattle.sample_book.specs.declared.row.Cell.{Cell}
 use Rattle.sample_book.specs.declared.row.Row.{Row}
 use Rattle.sample_book.specs.Rows.{cell_of, current_rows, verdict_of}
-use Rattle.sample_book.proofs.ChainLemmas.{IsAdded, IsReplaced, indexed_same, put_added, put_replaced, ready_fewer}
+use Rattle.sample_book.proofs.ChainLemmas.{IsAdded, IsReplaced, indexed_same, put_added}
+use Rattle.sample_book.proofs.ChainLemmas.{put_replaced, ready_fewer}
 use Rattle.sample_book.proofs.HistoryLemmas.{gains-put}
 use Rattle.sample_book.proofs.book.SampleBook.put.Goals as goal
 
@@ -13,47 +14,80 @@ push-requires-clause-ready c =
     let rows = c.self.inside.rows.rows in
     let room = c.self.inside.rows.room in
     let added : IsAdded rows c.put.new.self.rows c.args.row.now room c.put.new.self.room =
-    put_added rows c.put.new.self.rows c.args.row.now (verdict_of rows c.args.row.now) room c.put.new.self.room (cell_of c.args.row.now) c.put.ensures.placed
-    (omega (arith, c.if-before-len.true, c.len-before.ensures.count, c.len.ensures.count)) c.put.ensures.new in
-    ready_fewer (length room) 1 c.self.inside.index (omega (arith, added.taken)) c.self.invariant.ready
+    put_added rows c.put.new.self.rows c.args.row.now (verdict_of rows c.args.row.now) room
+    c.put.new.self.room (cell_of c.args.row.now) c.put.ensures.placed
+    (omega (arith, c.if-before-len.true, c.len-before.ensures.count, c.len.ensures.count))
+    c.put.ensures.new in
+    ready_fewer (length room) 1 c.self.inside.index (omega (arith, added.taken))
+    c.self.invariant.ready
 
 pub push-requires-clause-few : goal.push-requires-clause-few
-push-requires-clause-few c =
-    (c.self.inside.rows.rows, c.self.invariant.indexed, omega (arith, c.if-before-len.true, c.len-before.ensures.count, c.len.ensures.count, c.len.ensures.few))
+push-requires-clause-few c = (
+  c.self.inside.rows.rows,
+  c.self.invariant.indexed,
+  omega (
+    arith,
+    c.if-before-len.true,
+    c.len-before.ensures.count,
+    c.len.ensures.count,
+    c.len.ensures.few,
+  ),
+)
 
 pub invariant_of-self : goal.invariant_of-self
 invariant_of-self c =
     let rows = c.self.inside.rows.rows in
     let room = c.self.inside.rows.room in
     let added : IsAdded rows c.put.new.self.rows c.args.row.now room c.put.new.self.room =
-    put_added rows c.put.new.self.rows c.args.row.now (verdict_of rows c.args.row.now) room c.put.new.self.room (cell_of c.args.row.now) c.put.ensures.placed
-    (omega (arith, c.if-before-len.true, c.len-before.ensures.count, c.len.ensures.count)) c.put.ensures.new in
+    put_added rows c.put.new.self.rows c.args.row.now (verdict_of rows c.args.row.now) room
+    c.put.new.self.room (cell_of c.args.row.now) c.put.ensures.placed
+    (omega (arith, c.if-before-len.true, c.len-before.ensures.count, c.len.ensures.count))
+    c.put.ensures.new in
     record {
-      indexed = subst (λ (rows : List Row). IsIndexed rows c.push.new.self) (sym added.grown) (c.push.ensures.indexed rows c.self.invariant.indexed);
-      ready = c.push.ensures.ready (length c.put.new.self.room) (subst (λ n. IsReadyFor n c.self.inside.index) added.taken c.self.invariant.ready);
+      indexed = subst (λ (rows : List Row). IsIndexed rows c.push.new.self) (sym added.grown)
+          (c.push.ensures.indexed rows c.self.invariant.indexed);
+      ready = c.push.ensures.ready (length c.put.new.self.room)
+          (subst (λ n. IsReadyFor n c.self.inside.index) added.taken c.self.invariant.ready);
     }
 
 pub invariant_of-self-else-before-len : goal.invariant_of-self-else-before-len
 invariant_of-self-else-before-len c =
     let rows = c.self.inside.rows.rows in
     let kept : IsReplaced rows c.put.new.self.rows (verdict_of rows c.args.row.now) =
-    put_replaced rows c.put.new.self.rows c.args.row.now (verdict_of rows c.args.row.now) c.put.ensures.placed
+    put_replaced rows c.put.new.self.rows c.args.row.now (verdict_of rows c.args.row.now)
+    c.put.ensures.placed
     (omega (arith, c.if-before-len.false, c.len-before.ensures.count, c.len.ensures.count)) in
     record {
-      indexed = indexed_same rows c.put.new.self.rows c.self.inside.index kept.days kept.slis c.self.invariant.indexed;
-      ready = subst (λ (room : List Cell). IsReadyFor (length room) c.self.inside.index) (sym (c.put.ensures.newer kept.newer)) c.self.invariant.ready;
+      indexed = indexed_same rows c.put.new.self.rows c.self.inside.index kept.days kept.slis
+          c.self.invariant.indexed;
+      ready = subst (λ (room : List Cell). IsReadyFor (length room) c.self.inside.index)
+          (sym (c.put.ensures.newer kept.newer)) c.self.invariant.ready;
     }
 
 pub returns-then-before-len-clause-history : goal.returns-then-before-len-clause-history
 returns-then-before-len-clause-history c =
     let rows = ap (λ (book : Book). book.rows) c.self.view_is in
     let made = ap (λ (book : Book). book.exclusions) c.self.view_is in
-    gains-put c.args.self.now (record { rows = c.put.new.self.rows; exclusions = c.self.inside.exclusions.made; room = c.put.new.self.room; spare = c.args.self.now.spare }) c.args.row.now
-    c.requires (c.put.ensures.rows ∙ ap (λ (rows : List Row). current_rows (rows ++ c.args.row.now ∷ [])) rows) made
+    gains-put c.args.self.now
+    (record {
+      rows = c.put.new.self.rows;
+      exclusions = c.self.inside.exclusions.made;
+      room = c.put.new.self.room;
+      spare = c.args.self.now.spare;
+    }) c.args.row.now
+    c.requires (c.put.ensures.rows
+    ∙ ap (λ (rows : List Row). current_rows (rows ++ c.args.row.now ∷ [])) rows) made
 
 pub returns-else-before-len-clause-history : goal.returns-else-before-len-clause-history
 returns-else-before-len-clause-history c =
     let rows = ap (λ (book : Book). book.rows) c.self.view_is in
     let made = ap (λ (book : Book). book.exclusions) c.self.view_is in
-    gains-put c.args.self.now (record { rows = c.put.new.self.rows; exclusions = c.self.inside.exclusions.made; room = c.put.new.self.room; spare = c.args.self.now.spare }) c.args.row.now
-    c.requires (c.put.ensures.rows ∙ ap (λ (rows : List Row). current_rows (rows ++ c.args.row.now ∷ [])) rows) made
+    gains-put c.args.self.now
+    (record {
+      rows = c.put.new.self.rows;
+      exclusions = c.self.inside.exclusions.made;
+      room = c.put.new.self.room;
+      spare = c.args.self.now.spare;
+    }) c.args.row.now
+    c.requires (c.put.ensures.rows
+    ∙ ap (λ (rows : List Row). current_rows (rows ++ c.args.row.now ∷ [])) rows) made

@@ -5,10 +5,15 @@ use Rattle.sample_book.specs.Counting.{is_of}
 use Rattle.sample_book.proofs.book.SampleBook.row_before.Goals as goal
 
 pub before-requires : goal.before-requires
-before-requires c = (c.self.inside.rows.rows, c.self.invariant.indexed, subst (λ (book : Book). c.args.place < length book.rows) (sym c.self.view_is) c.requires)
+before-requires c = (
+  c.self.inside.rows.rows,
+  c.self.invariant.indexed,
+  subst (λ (book : Book). c.args.place < length book.rows) (sym c.self.view_is) c.requires,
+)
 
 pub returns : goal.returns
 returns c row here =
     c.below.ensures
-    ∙ ap below (c.before-2.ensures c.self.inside.rows.rows row c.self.invariant.indexed (subst (λ (book : Book). slice_get book.rows c.args.place ≡ Some row) (sym c.self.view_is) here))
+    ∙ ap below (c.before-2.ensures c.self.inside.rows.rows row c.self.invariant.indexed (subst
+    (λ (book : Book). slice_get book.rows c.args.place ≡ Some row) (sym c.self.view_is) here))
     ∙ ap (λ (book : Book). last_place (is_of row.sli) (take c.args.place book.rows)) c.self.view_is

@@ -8,4 +8,5 @@ use Rattle.sample_book.proofs.current_rows.CurrentRows.are_current.Goals as goal
 pub returns : goal.returns
 returns c =
     subst (λ (s : Standing). current_rows s.rows ≡ s.rows) c.self.view_is
-    (current-of_distinct same_cell (λ row. row.revision) cell_laws (rows_stored c.self.inside.cells c.self.inside.stored.items) c.self.invariant.apart)
+    (current-of_distinct same_cell (λ row. row.revision) cell_laws
+    (rows_stored c.self.inside.cells c.self.inside.stored.items) c.self.invariant.apart)

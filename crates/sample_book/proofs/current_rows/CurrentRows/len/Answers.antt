@@ -11,5 +11,13 @@ returns-clause-count c =
 
 pub returns-clause-few : goal.returns-clause-few
 returns-clause-few c =
-    let stored : length (rows_stored c.self.inside.cells c.self.inside.stored.items) ≡ length c.args.self.now.rows = ap (λ (s : Standing). length s.rows) c.self.view_is in
-    omega (arith, stored, length-rows c.self.inside.cells c.self.inside.stored.items c.self.invariant.within, c.self.invariant.within, c.self.invariant.few)
+    let stored : length (rows_stored c.self.inside.cells c.self.inside.stored.items)
+    ≡ length c.args.self.now.rows = ap (λ (s : Standing). length s.rows) c.self.view_is in
+    omega (
+      arith,
+      stored,
+      length-rows c.self.inside.cells c.self.inside.stored.items
+          c.self.invariant.within,
+      c.self.invariant.within,
+      c.self.invariant.few,
+    )

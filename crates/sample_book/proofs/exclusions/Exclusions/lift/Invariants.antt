@@ -4,4 +4,5 @@ use Rattle.sample_book.proofs.exclusions.Exclusions.lift.Given as goal
 
 -- those so far are lifted, the others as they were
 abbrev pub invariant-loop-kept : goal.invariant-loop-kept
-invariant-loop-kept l = l.kept-items ≡ lifted (take l.kept-index l.initial.kept-items) l.id ++ drop l.kept-index l.initial.kept-items
+invariant-loop-kept l = l.kept-items ≡ lifted (take l.kept-index l.initial.kept-items) l.id
+    ++ drop l.kept-index l.initial.kept-items

@@ -5,10 +5,16 @@ use Rattle.sample_book.proofs.ChainLemmas.{day-test, last-map, linked-length, sl
 use Rattle.sample_book.proofs.row_index.RowIndex.before_on_day.Goals as goal
 
 pub before-requires : goal.before-requires
-before-requires c = omega (arith, c.requires.2, linked-length c.requires.0 day_group c.args.self.now.days c.requires.1.days)
+before-requires c = omega (
+  arith,
+  c.requires.2,
+  linked-length c.requires.0 day_group c.args.self.now.days c.requires.1.days,
+)
 
 pub returns : goal.returns
 returns c rows row indexed here =
-    c.before-2.ensures (map day_group rows) (day_group row) indexed.days (slice_get-map day_group rows c.args.place row here)
+    c.before-2.ensures (map day_group rows) (day_group row) indexed.days
+    (slice_get-map day_group rows c.args.place row here)
     ∙ ap (last (group_eq (day_group row))) (sym (map-take day_group c.args.place rows))
-    ∙ last-map day_group (group_eq (day_group row)) (is_on row.sli (row.minute / 1440)) (day-test row.sli (row.minute / 1440)) (take c.args.place rows)
+    ∙ last-map day_group (group_eq (day_group row)) (is_on row.sli (row.minute / 1440))
+    (day-test row.sli (row.minute / 1440)) (take c.args.place rows)

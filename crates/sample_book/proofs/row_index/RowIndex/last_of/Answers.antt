@@ -7,4 +7,5 @@ use Rattle.sample_book.proofs.row_index.RowIndex.last_of.Goals as goal
 pub returns : goal.returns
 returns c rows indexed =
     c.last.ensures (map sli_group rows) indexed.slis
-    ∙ last-map sli_group (group_eq (record { name = c.args.sli; day = 0 })) (is_of c.args.sli) (sli-test c.args.sli) rows
+    ∙ last-map sli_group (group_eq (record { name = c.args.sli; day = 0 })) (is_of c.args.sli)
+    (sli-test c.args.sli) rows

@@ -6,4 +6,5 @@ use Rattle.sample_book.proofs.row_index.RowIndex.last_on_day.Goals as goal
 pub returns : goal.returns
 returns c rows indexed =
     c.last.ensures (map day_group rows) indexed.days
-    ∙ last-map day_group (group_eq (record { name = c.args.sli; day = c.args.day })) (is_on c.args.sli c.args.day) (day-test c.args.sli c.args.day) rows
+    ∙ last-map day_group (group_eq (record { name = c.args.sli; day = c.args.day }))
+    (is_on c.args.sli c.args.day) (day-test c.args.sli c.args.day) rows

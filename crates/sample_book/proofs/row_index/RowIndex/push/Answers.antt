@@ -6,16 +6,33 @@ use Rattle.sample_book.proofs.ExtentLemmas.{extents_same}
 use Rattle.sample_book.proofs.row_index.RowIndex.push.Goals as goal
 
 pub len-place-requires : goal.len-place-requires
-len-place-requires c = omega (arith, c.requires.few.2, linked-length c.requires.few.0 sli_group c.args.self.now.slis c.requires.few.1.slis)
+len-place-requires c = omega (
+  arith,
+  c.requires.few.2,
+  linked-length c.requires.few.0 sli_group c.args.self.now.slis c.requires.few.1.slis,
+)
 
 pub push-before-requires-clause-few : goal.push-before-requires-clause-few
-push-before-requires-clause-few c = omega (arith, c.requires.few.2, linked-length c.requires.few.0 day_group c.args.self.now.days c.requires.few.1.days)
+push-before-requires-clause-few c = omega (
+  arith,
+  c.requires.few.2,
+  linked-length c.requires.few.0 day_group c.args.self.now.days c.requires.few.1.days,
+)
 
 pub push-requires-clause-few : goal.push-requires-clause-few
-push-requires-clause-few c = omega (arith, c.requires.few.2, linked-length c.requires.few.0 sli_group c.args.self.now.slis c.requires.few.1.slis)
+push-requires-clause-few c = omega (
+  arith,
+  c.requires.few.2,
+  linked-length c.requires.few.0 sli_group c.args.self.now.slis c.requires.few.1.slis,
+)
 
 pub add_day-requires-clause-few : goal.add_day-requires-clause-few
-add_day-requires-clause-few c = omega (arith, c.len-place.ensures, c.requires.few.2, linked-length c.requires.few.0 sli_group c.args.self.now.slis c.requires.few.1.slis)
+add_day-requires-clause-few c = omega (
+  arith,
+  c.len-place.ensures,
+  c.requires.few.2,
+  linked-length c.requires.few.0 sli_group c.args.self.now.slis c.requires.few.1.slis,
+)
 
 pub add_day-requires-clause-room : goal.add_day-requires-clause-room
 add_day-requires-clause-room c = omega (arith, c.requires.ready.extents)
@@ -43,14 +60,20 @@ returns-else-before-eq0-clause-ready c count ready = record {
 pub returns-then-before-eq0-clause-indexed : goal.returns-then-before-eq0-clause-indexed
 returns-then-before-eq0-clause-indexed c rows indexed =
     let row = c.args.row.now in
-    let place : c.len-place.result ≡ length rows = c.len-place.ensures ∙ linked-length rows sli_group c.args.self.now.slis indexed.slis in
+    let place : c.len-place.result ≡ length rows = c.len-place.ensures
+    ∙ linked-length rows sli_group c.args.self.now.slis indexed.slis in
     let before : c.push-before.result ≡ last (is_on row.sli (row.minute / 1440)) rows =
     c.push-before.ensures.before (map day_group rows) indexed.days
-    ∙ last-map day_group (group_eq (day_group row)) (is_on row.sli (row.minute / 1440)) (day-test row.sli (row.minute / 1440)) rows in
+    ∙ last-map day_group (group_eq (day_group row)) (is_on row.sli (row.minute / 1440))
+    (day-test row.sli (row.minute / 1440)) rows in
     record {
-      days = subst (λ groups. AreLinked groups c.push-before.new.self) (sym (map_push day_group rows row)) (c.push-before.ensures.linked (map day_group rows) indexed.days);
-      slis = subst (λ groups. AreLinked groups c.push.new.self) (sym (map_push sli_group rows row)) (c.push.ensures.linked (map sli_group rows) indexed.slis);
-      extents = c.add_day.ensures.known rows row indexed.extents refl place (sym before ∙ omega (arith, c.if-before-eq0.true));
+      days = subst (λ groups. AreLinked groups c.push-before.new.self)
+          (sym (map_push day_group rows row))
+          (c.push-before.ensures.linked (map day_group rows) indexed.days);
+      slis = subst (λ groups. AreLinked groups c.push.new.self) (sym (map_push sli_group rows row))
+          (c.push.ensures.linked (map sli_group rows) indexed.slis);
+      extents = c.add_day.ensures.known rows row indexed.extents refl place
+          (sym before ∙ omega (arith, c.if-before-eq0.true));
     }
 
 pub returns-else-before-eq0-clause-indexed : goal.returns-else-before-eq0-clause-indexed
@@ -58,10 +81,15 @@ returns-else-before-eq0-clause-indexed c rows indexed =
     let row = c.args.row.now in
     let before : c.push-before.result ≡ last (is_on row.sli (row.minute / 1440)) rows =
     c.push-before.ensures.before (map day_group rows) indexed.days
-    ∙ last-map day_group (group_eq (day_group row)) (is_on row.sli (row.minute / 1440)) (day-test row.sli (row.minute / 1440)) rows in
+    ∙ last-map day_group (group_eq (day_group row)) (is_on row.sli (row.minute / 1440))
+    (day-test row.sli (row.minute / 1440)) rows in
     let some : 0 < c.push-before.result = omega (arith, c.if-before-eq0.false) in
     record {
-      days = subst (λ groups. AreLinked groups c.push-before.new.self) (sym (map_push day_group rows row)) (c.push-before.ensures.linked (map day_group rows) indexed.days);
-      slis = subst (λ groups. AreLinked groups c.push.new.self) (sym (map_push sli_group rows row)) (c.push.ensures.linked (map sli_group rows) indexed.slis);
-      extents = extents_same rows row c.args.self.now.extents c.push-before.result indexed.extents before some;
+      days = subst (λ groups. AreLinked groups c.push-before.new.self)
+          (sym (map_push day_group rows row))
+          (c.push-before.ensures.linked (map day_group rows) indexed.days);
+      slis = subst (λ groups. AreLinked groups c.push.new.self) (sym (map_push sli_group rows row))
+          (c.push.ensures.linked (map sli_group rows) indexed.slis);
+      extents = extents_same rows row c.args.self.now.extents c.push-before.result
+          indexed.extents before some;
     }

@@ -25,5 +25,7 @@ returns-else-not-whole-clause-next g c file told =
     let stands = c.self.invariant.2 file told in
     let head = c.in_ok-peek.ensures.head file told stands in
     let whole = c.fill.ensures.whole (c.in_ok-whole-in-Opens.was ∙ ap Ok c.if-not-whole.false) in
-    let read = whole.2 file (c.peek.ensures.content ∙ told) (c.peek.ensures.holds file told stands) in
-    rw (← c.self.view_is) (whole_here seen c.fill.new.out.items c.in-Opens.count (subst (IsHead (take 5 seen)) c.in-Opens.is head) read whole.0)
+    let read =
+    whole.2 file (c.peek.ensures.content ∙ told) (c.peek.ensures.holds file told stands) in
+    rw (← c.self.view_is) (whole_here seen c.fill.new.out.items c.in-Opens.count
+    (subst (IsHead (take 5 seen)) c.in-Opens.is head) read whole.0)

@@ -5,10 +5,12 @@ use Rattle.wire_routes.proofs.query.Items.next.Goals as goal
 
 pub returns-in-Some : goal.returns-in-Some
 returns-in-Some c =
-    sym c.self.view_is ∙ ap (λ (o : Option (Bor (List ℕ))). items_left (option_map (λ t. t.now) o)) c.in_ok-text.was
+    sym c.self.view_is ∙ ap (λ (o : Option (Bor (List ℕ))). items_left (option_map (λ t. t.now) o))
+    c.in_ok-text.was
     ∙ items_cut c.in_ok-text.text.now c.in-Some.item.now c.in-Some.rest.now (sym c.in-Some.ensures)
 
 pub returns-in-None : goal.returns-in-None
 returns-in-None c =
-    sym c.self.view_is ∙ ap (λ (o : Option (Bor (List ℕ))). items_left (option_map (λ t. t.now) o)) c.in_ok-text.was
+    sym c.self.view_is ∙ ap (λ (o : Option (Bor (List ℕ))). items_left (option_map (λ t. t.now) o))
+    c.in_ok-text.was
     ∙ items_whole c.in_ok-text.text.now (sym c.in-None.ensures)
