@@ -26,7 +26,7 @@ use Rattle.definition_verdict.specs.Readings.{reading_of, same_reading, is_other
 use Rattle.definition_verdict.specs.Readings.{row_read_anew, first_read_anew}
 use Rattle.office_history.specs.Objectives.{reading_named}
 use Rattle.office_derived.specs.Derived.{IsRead}
-use Rattle.object_ranges.specs.Kinds.{kind_of}
+use Rattle.sums_plan.specs.object_ranges.Kinds.{kind_of}
 use Rattle.catalog_changes.specs.Kinds.{HasKind}
 use Rattle.catalog_changes.proofs.MemberLemmas.{both, find_put, find_without}
 

@@ -6,7 +6,7 @@ use Rattle.yaml_subset.specs.Text.{StandsFor}
 use Rattle.yaml_subset.specs.Tree.{Tree}
 use Rattle.slo_objects.specs.declared.Object.{Object}
 use Rattle.definition_verdict.specs.Documents.{objects_in}
-use Rattle.object_ranges.specs.Kinds.{kind_of}
+use Rattle.sums_plan.specs.object_ranges.Kinds.{kind_of}
 
 -- the body is of the object's kind
 abbrev pub HasKind : Object → Type 0

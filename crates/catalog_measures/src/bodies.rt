@@ -4,12 +4,12 @@ ghost use Rattle.std.specs.Option.{option_copied};
 ghost use Rattle.slo_catalog.specs.Bindings.{policy_named as policy_named_lem};
 ghost use Rattle.slo_catalog.specs.References.{names_in as names_in_lem};
 ghost use Rattle.object_ranges.specs.Ranges.{HasObjectives, IsCondition, IsWindow};
-ghost use Rattle.office_history.specs.Alerts.{condition_named as condition_named_lem};
-ghost use Rattle.office_history.specs.Objectives.{reading_named as reading_named_lem};
-ghost use Rattle.office_history.specs.Objectives.{slo_named as slo_named_lem};
+ghost use Rattle.object_ranges.specs.office_history.Alerts.{condition_named as condition_named_lem};
+ghost use Rattle.object_ranges.specs.office_history.Objectives.{reading_named as reading_named_lem};
+ghost use Rattle.object_ranges.specs.office_history.Objectives.{slo_named as slo_named_lem};
 
-use definition_verdict::reading_of;
 use exact_fraction::Label;
+use object_ranges::definition_verdict::reading_of;
 use object_ranges::{conditions_are_in_range, objectives_are_in_range, windows_are_in_range};
 use slice_method::Reading;
 use slo_catalog::{Catalog, condition_in, policy_in, sli_in, slo_in};

@@ -11,4 +11,5 @@ mod rules;
 pub use bodies::{reading_named, slo_named};
 pub use measures::{measure_at, measures_named};
 pub use names::slo_names;
+pub use object_ranges;
 pub use rules::{flags_named, rule_named};

@@ -5,15 +5,15 @@ ghost use Rattle.std.specs.List.{AllByRecursion};
 ghost use Rattle.std.specs.Option.{option_copied};
 ghost use Rattle.kept_objectives.specs.Objectives.{IsObjective};
 ghost use Rattle.object_ranges.specs.Measures.{IsMeasure};
-ghost use Rattle.office_history.specs.Objectives.{measure_at as measure_at_lem};
-ghost use Rattle.office_history.specs.Objectives.{measure_of as measure_of_lem};
-ghost use Rattle.office_history.specs.Objectives.{measures_named as measures_named_lem};
-ghost use Rattle.office_history.specs.Objectives.{method_of as method_of_lem};
+ghost use Rattle.object_ranges.specs.office_history.Objectives.{measure_at as measure_at_lem};
+ghost use Rattle.object_ranges.specs.office_history.Objectives.{measure_of as measure_of_lem};
+ghost use Rattle.object_ranges.specs.office_history.Objectives.{measures_named as named_measures};
+ghost use Rattle.object_ranges.specs.office_history.Objectives.{method_of as method_of_lem};
 
 use crate::bodies::{reading_named, slo_named};
 use exact_fraction::{Decimal, Label, Op};
 use object_ranges::objectives_give_measures;
-use office_history::Measure;
+use object_ranges::office_history::Measure;
 use slice_method::{Method, Reading};
 use slo_catalog::Catalog;
 use slo_objects::{BudgetingMethod, Objective, Slo};
@@ -125,7 +125,7 @@ pub fn measures_named(
     catalog: &Catalog,
     name: Label,
 ) -> Result<Vec<Measure>, AllocError>
-    ensures value { IfOk result (λ measures. measures.items ≡ measures_named_lem catalog.now name) }
+    ensures value { IfOk result (λ measures. measures.items ≡ named_measures catalog.now name) }
     ensures ranges { IfOk result (λ measures. All IsMeasure measures.items) }
     ensures objectives { IfOk result (λ measures. AllByRecursion (IsObjective catalog.now)
         measures.items) }

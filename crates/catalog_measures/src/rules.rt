@@ -3,11 +3,12 @@ ghost use Rattle.std.specs.Prelude.{◌≡◌, IfSome, Some, option_map, unwrap_
 ghost use Rattle.burn_core.specs.Alert.{IsRule};
 ghost use Rattle.object_ranges.specs.Ranges.{IsCondition};
 ghost use Rattle.std.specs.Option.{option_copied};
-ghost use Rattle.office_history.specs.Alerts.{first_condition as first_condition_lem};
-ghost use Rattle.office_history.specs.Alerts.{flags_named as flags_named_lem};
-ghost use Rattle.office_history.specs.Alerts.{flags_of as flags_of_lem};
-ghost use Rattle.office_history.specs.Alerts.{rule_named as rule_named_lem, rule_of as rule_of_lem};
-ghost use Rattle.office_history.specs.Windows.{minutes_of};
+ghost use Rattle.object_ranges.specs.office_history.Alerts.{first_condition as first_condition_lem};
+ghost use Rattle.object_ranges.specs.office_history.Alerts.{flags_named as flags_named_lem};
+ghost use Rattle.object_ranges.specs.office_history.Alerts.{flags_of as flags_of_lem};
+ghost use Rattle.object_ranges.specs.office_history.Alerts.{rule_named as rule_named_lem};
+ghost use Rattle.object_ranges.specs.office_history.Alerts.{rule_of as rule_of_lem};
+ghost use Rattle.object_ranges.specs.office_history.Windows.{minutes_of};
 
 use crate::bodies::{condition_named, names_in, policy_named};
 use burn_core::{AlertRule, Flags};

@@ -8,7 +8,7 @@ use Rattle.slo_duration.specs.declared.Unit.TheVariants.{Minute, Hour, Day, Week
 use Rattle.slo_duration.specs.declared.Unit.TheVariants.{Year}
 use Rattle.slo_limits.specs.declared.TheConstants.{MAX_WINDOW}
 use Rattle.slo_objects.specs.Slo.{is_calendar_unit}
-use Rattle.zone_calendar.specs.Starts.{IsCalendarStep, IsCalendarUnit}
+use Rattle.slo_objects.specs.zone_calendar.Starts.{IsCalendarStep, IsCalendarUnit}
 use Rattle.definition_verdict.specs.Starts.{is_step}
 
 both : (a b : Bool) → (a && b) ≡ true → (a ≡ true) × (b ≡ true)

@@ -4,8 +4,8 @@ use Rattle.std.specs.Prelude.{Bool, true, false, not, cond, ℕ, List, [], ◌�
 use Rattle.std.specs.Option.{option_or}
 use Rattle.slice_method.specs.declared.Reading.{Reading}
 use Rattle.slice_method.specs.declared.Reading.TheVariants as readings
-use Rattle.sample_book.specs.declared.Row.{Row}
-use Rattle.sample_book.specs.Counting.{first_of}
+use Rattle.record_form.specs.sample_book.declared.Row.{Row}
+use Rattle.record_form.specs.sample_book.Counting.{first_of}
 use Rattle.slo_objects.specs.declared.Object.{Object}
 use Rattle.slo_objects.specs.declared.Sli.{Sli}
 use Rattle.slo_objects.specs.declared.Metric.{Metric}

@@ -8,7 +8,7 @@ use Rattle.slo_objects.specs.Slo.{is_calendar_unit, slo_in}
 use Rattle.slo_objects.specs.declared.Calendar.{Calendar}
 use Rattle.slo_objects.specs.declared.Object.{Object}
 use Rattle.slo_objects.specs.declared.Slo.{Slo}
-use Rattle.zone_calendar.specs.Starts.{is_counted}
+use Rattle.slo_objects.specs.zone_calendar.Starts.{is_counted}
 
 -- a duration by which the windows of a calendar may follow each other
 abbrev pub is_step : Duration → Bool

@@ -3,7 +3,7 @@ use Rattle.std.specs.Prelude.{◌≡◌, ℕ, Bool, true, false, List, length, O
 use Rattle.std.specs.Prelude.{Ok, Err}
 use Rattle.yaml_subset.specs.Tree.{Tree}
 use Rattle.yaml_subset.specs.Text.{StandsFor}
-use Rattle.sample_book.specs.declared.Row.{Row}
+use Rattle.record_form.specs.sample_book.declared.Row.{Row}
 use Rattle.slo_objects.specs.declared.Object.{Object}
 use Rattle.slo_catalog.specs.Define.{is_unchanged, proposed}
 use Rattle.slo_catalog.specs.Limits.{first_limit}

@@ -8,7 +8,7 @@ use slo_catalog::{Member, slo_in};
 use slo_duration::{Duration, Unit, rolling_minutes};
 use slo_limits::MAX_WINDOW;
 use slo_objects::Object;
-use zone_calendar::has_too_many_starts;
+use slo_objects::zone_calendar::has_too_many_starts;
 
 /// Whether the windows of a calendar may follow each other by a duration.
 fn is_step(step: Duration) -> bool

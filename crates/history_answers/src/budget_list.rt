@@ -1,9 +1,9 @@
 //! The error budgets of an SLO.
 ghost use Rattle.std.specs.Prelude.{◌≡◌, ◌≤◌, ◌<◌, All, IfOk, Some, length};
 ghost use Rattle.std.specs.List.{AllByRecursion};
-ghost use Rattle.kept_objectives.specs.Objectives.{IsObjective};
-ghost use Rattle.object_ranges.specs.Measures.{IsMeasure};
-ghost use Rattle.object_ranges.specs.Ranges.{IsWindow};
+ghost use Rattle.office_derived.specs.kept_objectives.Objectives.{IsObjective};
+ghost use Rattle.watched_objectives.specs.object_ranges.Measures.{IsMeasure};
+ghost use Rattle.watched_objectives.specs.object_ranges.Ranges.{IsWindow};
 ghost use Rattle.record_form.specs.declared.Query.TheVariants.{Budgets};
 ghost use Rattle.office_history.specs.History.{Office, end_of};
 ghost use Rattle.office_history.specs.Catalog.{catalog_in};
@@ -19,7 +19,6 @@ use crate::asked::{asked_at, is_outside};
 use crate::sums::sum_between;
 use crate::window_start::window_start;
 use burn_core::{burn, error_rate, remaining};
-use catalog_measures::{measures_named, slo_named};
 use exact_fraction::Label;
 use office_derived::Derived;
 use office_history::Measure;
@@ -27,6 +26,7 @@ use record_form::{BudgetRow, Listed, Outcome, Refusal};
 use slo_limits::{MAX_OBJECTIVES, RANGE_MINUTES};
 use slo_objects::Slo;
 use std::alloc::{AllocError, Global};
+use watched_objectives::catalog_measures::{measures_named, slo_named};
 
 // The budgets of objectives, by their numbers, counted over [from, at).
 fn budget_rows(

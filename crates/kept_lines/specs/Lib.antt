@@ -1,3 +1,4 @@
 pub mod Touched
 pub mod Following
 pub mod Right
+pub use Rattle.kept_sums.specs as kept_sums

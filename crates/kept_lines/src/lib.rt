@@ -11,6 +11,7 @@ mod run;
 
 pub use batch::forget_rows;
 pub use exclusion::forget_exclusion;
+pub use kept_sums;
 pub use laws::{lines_agree_again, lines_follow_their_sums};
 pub use right::{
     lines_stay_right_over_batches, lines_stay_right_over_exclusions,

@@ -4,7 +4,7 @@ use Rattle.std.proofs.Common.{◌∙◌, arith, List, [], ◌∷◌, ◌++◌, t
 use Rattle.std.proofs.Common.{slice_index_or, slice_set}
 use Rattle.std.specs.List.{AllByRecursion}
 use Rattle.std.proofs.lemmas.List.{append-nil}
-use Rattle.office_history.specs.declared.Measure.{Measure}
+use Rattle.kept_sums.specs.office_history.declared.Measure.{Measure}
 use Rattle.kept_objectives.specs.Objectives.{measures_of}
 use Rattle.kept_objectives.specs.declared.kept.ObjectiveSums.{ObjectiveSums}
 

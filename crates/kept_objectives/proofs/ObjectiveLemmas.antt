@@ -4,12 +4,13 @@ use Rattle.std.proofs.Common.{slice_get, Option, Some, None, sym, subst, refl}
 use Rattle.std.specs.List.{All, Contains}
 use Rattle.std.proofs.lemmas.Option.{get_or_from_slice_get, slice_get-get_or, slice_get_within}
 use Rattle.slice_method.specs.declared.Reading.{Reading}
-use Rattle.slo_objects.specs.declared.Object.{Object}
-use Rattle.slo_objects.specs.declared.Slo.{Slo}
-use Rattle.slo_objects.specs.declared.slo.Objective.{Objective}
-use Rattle.office_history.specs.declared.Measure.{Measure}
-use Rattle.office_history.specs.Objectives.{measure_at, measure_of, measures_named, measures_of}
-use Rattle.office_history.specs.Objectives.{measures_with, reading_named, slo_named}
+use Rattle.kept_sums.specs.slo_objects.declared.Object.{Object}
+use Rattle.kept_sums.specs.slo_objects.declared.Slo.{Slo}
+use Rattle.kept_sums.specs.slo_objects.declared.slo.Objective.{Objective}
+use Rattle.kept_sums.specs.office_history.declared.Measure.{Measure}
+use Rattle.kept_sums.specs.office_history.Objectives.{measure_at, measure_of, measures_named}
+use Rattle.kept_sums.specs.office_history.Objectives.{measures_of}
+use Rattle.kept_sums.specs.office_history.Objectives.{measures_with, reading_named, slo_named}
 use Rattle.kept_objectives.specs.Objectives.{IsObjective}
 
 -- an objective of the SLO of a name has that name, and the reading of its indicator

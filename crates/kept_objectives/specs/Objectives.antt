@@ -3,9 +3,9 @@ use Rattle.std.specs.Prelude.{◌≡◌, ℕ, Bool, List, Some, map}
 use Rattle.std.specs.List.{AllByRecursion, Contains}
 use Rattle.sample_book.specs.declared.Exclusion.{Exclusion}
 use Rattle.sample_book.specs.declared.Row.{Row}
-use Rattle.slo_objects.specs.declared.Object.{Object}
-use Rattle.office_history.specs.declared.Measure.{Measure}
-use Rattle.office_history.specs.Objectives.{measure_at}
+use Rattle.kept_sums.specs.slo_objects.declared.Object.{Object}
+use Rattle.kept_sums.specs.office_history.declared.Measure.{Measure}
+use Rattle.kept_sums.specs.office_history.Objectives.{measure_at}
 use Rattle.kept_sums.specs.Sums.{Fits, HasItsDay, IsKept}
 use Rattle.kept_objectives.specs.declared.kept.ObjectiveSums.{ObjectiveSums}
 

@@ -4,10 +4,10 @@ ghost use Rattle.std.specs.List.{AllByRecursion, Contains};
 ghost use Rattle.kept_objectives.specs.declared.kept.ObjectiveSums.{ObjectiveSums};
 
 use crate::same::is_same;
-use office_history::Measure;
+use kept_sums::office_history::Measure;
+use kept_sums::window_sums::WindowSums;
 use std::alloc::{AllocError, Global};
 use std::marker::Model;
-use window_sums::WindowSums;
 
 /// What an objective counts, and its sums.
 #[derive(Drop)]

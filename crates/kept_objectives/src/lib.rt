@@ -10,5 +10,7 @@ mod same;
 mod take;
 
 pub use kept::{KeptSums, ObjectiveSums};
+pub use kept_sums;
+pub use kept_sums::{office_history, record_form, slo_catalog, slo_objects};
 pub use plan::SumsPlan;
 pub use same::is_same;

@@ -5,9 +5,9 @@ ghost use Rattle.office_history.specs.Notices.{state_among as state_among_lem};
 ghost use Rattle.office_history.specs.Notices.{state_eq as state_eq_lem};
 
 use burn_core::State;
-use catalog_measures::flags_named;
 use slo_catalog::{Binding, Catalog};
 use std::alloc::{AllocError, Global};
+use watched_objectives::catalog_measures::flags_named;
 use watched_objectives::same_binding;
 
 // The state before of a binding that wasn't there.

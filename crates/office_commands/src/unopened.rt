@@ -1,12 +1,12 @@
 //! A journal that couldn't be opened: how it ends the commands that open one.
 ghost use Rattle.std.specs.Prelude.{◌≡◌, IfOk, string_bytes};
-ghost use Rattle.office_keep.specs.declared.Unopened.TheVariants.{Damaged};
+ghost use Rattle.journal_commands.specs.office_keep.declared.Unopened.TheVariants.{Damaged};
 ghost use Rattle.office_commands.specs.Unopened.{SettledUnopened};
 ghost use Rattle.office_commands.specs.Unopened.{damaged_line as damaged_line_lem};
 
 use crate::ending::{BAD_FILE, DISK_FAULT, NO_MEMORY};
 use crate::telling::{tell_as, tell_status};
-use office_keep::Unopened;
+use journal_commands::office_keep::Unopened;
 use office_outside::Sink;
 use std::alloc::{AllocError, Global};
 

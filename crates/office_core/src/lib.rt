@@ -8,4 +8,6 @@ mod commands;
 mod lines;
 mod machine;
 
+pub use history_answers;
 pub use machine::{Core, Prepared, Verdict};
+pub use sample_changes::catalog_measures;

@@ -8,15 +8,20 @@ use Rattle.std.proofs.lemmas.Grind.{flat_map-append, fold-append}
 use Rattle.sample_book.specs.declared.Row.{Row}
 use Rattle.sample_book.specs.History.{Event, Came, Changed}
 use Rattle.sample_book.specs.History as book
-use Rattle.record_form.specs.declared.Command.{Command}
-use Rattle.record_form.specs.declared.Command.TheVariants.{Define, Remove, PutZone, Samples}
-use Rattle.record_form.specs.declared.Command.TheVariants.{Exclude, Lift, Tick, Take}
-use Rattle.record_form.specs.declared.Entry.{Entry}
-use Rattle.office_history.specs.History.{Office, with_entry, present, rows_of, rows_in, changes_of}
-use Rattle.office_history.specs.History.{changes_in, events_of, events_in}
-use Rattle.office_history.specs.Catalog.{catalog_in, definitions_of, definitions_in, members_after}
-use Rattle.office_history.specs.Zones.{zones_of, zones_in}
-use Rattle.office_history.specs.Notices.{tick_of, ticks_in, told_at, told_in, takes, is_taken}
+use Rattle.kept_objectives.specs.record_form.declared.Command.{Command}
+use Rattle.kept_objectives.specs.record_form.declared.Command.TheVariants.{Define, Remove, PutZone}
+use Rattle.kept_objectives.specs.record_form.declared.Command.TheVariants.{Samples}
+use Rattle.kept_objectives.specs.record_form.declared.Command.TheVariants.{Exclude, Lift, Tick}
+use Rattle.kept_objectives.specs.record_form.declared.Command.TheVariants.{Take}
+use Rattle.kept_objectives.specs.record_form.declared.Entry.{Entry}
+use Rattle.kept_objectives.specs.office_history.History.{Office, with_entry, present, rows_of}
+use Rattle.kept_objectives.specs.office_history.History.{rows_in, changes_of}
+use Rattle.kept_objectives.specs.office_history.History.{changes_in, events_of, events_in}
+use Rattle.kept_objectives.specs.office_history.Catalog.{catalog_in, definitions_of, definitions_in}
+use Rattle.kept_objectives.specs.office_history.Catalog.{members_after}
+use Rattle.kept_objectives.specs.office_history.Zones.{zones_of, zones_in}
+use Rattle.kept_objectives.specs.office_history.Notices.{tick_of, ticks_in, told_at, told_in, takes}
+use Rattle.kept_objectives.specs.office_history.Notices.{is_taken}
 use Rattle.office_derived.proofs.Lists.{flat-push}
 
 -- what is made of each entry gains what is made of one more

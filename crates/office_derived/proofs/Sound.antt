@@ -4,10 +4,10 @@ use Rattle.std.specs.List.{All}
 use Rattle.slo_limits.specs.declared.TheConstants as most
 use Rattle.sample_book.specs.declared.Exclusion.{Exclusion}
 use Rattle.sample_book.specs.declared.Row.{Row}
-use Rattle.slo_objects.specs.declared.Object.{Object}
+use Rattle.kept_objectives.specs.slo_objects.declared.Object.{Object}
 use Rattle.kept_objectives.specs.declared.ObjectiveSums.{ObjectiveSums}
 use Rattle.kept_objectives.specs.Objectives.{KeepsSums}
-use Rattle.office_history.specs.Notices.{waiting}
+use Rattle.kept_objectives.specs.office_history.Notices.{waiting}
 use Rattle.office_derived.specs.declared.derived.Derived.{Derived}
 use Rattle.office_derived.specs.Derived.{IsPlaced, IsRead, IsSound, Stays}
 

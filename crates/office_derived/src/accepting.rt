@@ -1,9 +1,9 @@
 //! What becomes of a command that breaks no rule of its own.
 ghost use Rattle.std.specs.Prelude.{◌≡◌};
-ghost use Rattle.office_history.specs.Verdicts.{accepted as accepted_lem};
+ghost use Rattle.kept_objectives.specs.office_history.Verdicts.{accepted as accepted_lem};
 
-use office_history::Judgement;
-use record_form::{LimitName, Refusal};
+use kept_objectives::office_history::Judgement;
+use kept_objectives::record_form::{LimitName, Refusal};
 use slo_limits::MAX_ENTRIES;
 
 /// Accepted, unless the history has so many entries that there is no room for one more.

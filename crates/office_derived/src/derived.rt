@@ -3,9 +3,9 @@
 use crate::zones::Zones;
 use burn_core::State;
 use kept_objectives::KeptSums;
+use kept_objectives::slo_catalog::{Binding, Catalog};
 use notice_box::NoticeBox;
 use sample_book::SampleBook;
-use slo_catalog::{Binding, Catalog};
 
 /// What the history comes to.
 #[derive(Drop)]

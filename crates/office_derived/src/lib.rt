@@ -11,6 +11,8 @@ mod zones;
 
 pub use accepting::accepted;
 pub use derived::Derived;
+pub use kept_objectives;
+pub use kept_objectives::kept_sums;
 pub use tally::Tally;
 pub use work::{Judged, Work};
 pub use zones::Zones;

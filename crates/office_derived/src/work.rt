@@ -4,10 +4,10 @@ use crate::tally::Tally;
 use burn_core::State;
 use exact_fraction::{Bytes, Label, ZoneName};
 use kept_objectives::SumsPlan;
-use record_form::{Outcome, Refusal, Rows};
+use kept_objectives::record_form::{Outcome, Refusal, Rows};
+use kept_objectives::slo_catalog::{Binding, Catalog};
+use kept_objectives::slo_objects::Kind;
 use sample_book::{Exclusion, RowVerdict};
-use slo_catalog::{Binding, Catalog};
-use slo_objects::Kind;
 use zone_calendar::Zone;
 
 /// An accepted command, with what was found out about it.

@@ -4,21 +4,24 @@ use Rattle.std.specs.Prelude.{◌∷◌, map, filter, take, length, Option, Some
 use Rattle.slo_limits.specs.declared.TheConstants.{MAX_LOOKBACK, MAX_TIMELINE}
 use Rattle.exact_fraction.specs.declared.Leaf.{Leaf}
 use Rattle.slo_terms.specs.Budget.{burn_of, error_rate_of, remaining_of}
-use Rattle.yaml_subset.specs.Spelling.{writing}
-use Rattle.slo_objects.specs.Document.{written}
-use Rattle.slo_objects.specs.declared.Object.{Object}
-use Rattle.slo_objects.specs.declared.Slo.{Slo}
-use Rattle.slo_catalog.specs.Keys.{find_in}
+use Rattle.definition_verdict.specs.yaml_subset.Spelling.{writing}
+use Rattle.definition_verdict.specs.slo_objects.Document.{written}
+use Rattle.definition_verdict.specs.slo_objects.declared.Object.{Object}
+use Rattle.definition_verdict.specs.slo_objects.declared.Slo.{Slo}
+use Rattle.definition_verdict.specs.slo_catalog.Keys.{find_in}
 use Rattle.burn_core.specs.Timeline.{AreSpansOf}
-use Rattle.notice_box.specs.declared.Notice.{Notice}
-use Rattle.record_form.specs.declared.BudgetRow.{BudgetRow}
-use Rattle.record_form.specs.declared.Outcome.{Outcome}
-use Rattle.record_form.specs.declared.Outcome.TheVariants.{ObjectList, ObjectText, Budgets, Burn}
-use Rattle.record_form.specs.declared.Outcome.TheVariants.{Timeline, Notices, Refused}
-use Rattle.record_form.specs.declared.Query.{Query}
-use Rattle.record_form.specs.declared.Query.TheVariants as queries
-use Rattle.record_form.specs.declared.Refusal.{Refusal}
-use Rattle.record_form.specs.declared.Refusal.TheVariants as refusals
+use Rattle.definition_verdict.specs.notice_box.declared.Notice.{Notice}
+use Rattle.definition_verdict.specs.record_form.declared.BudgetRow.{BudgetRow}
+use Rattle.definition_verdict.specs.record_form.declared.Outcome.{Outcome}
+use Rattle.definition_verdict.specs.record_form.declared.Outcome.TheVariants.{ObjectList}
+use Rattle.definition_verdict.specs.record_form.declared.Outcome.TheVariants.{ObjectText, Budgets}
+use Rattle.definition_verdict.specs.record_form.declared.Outcome.TheVariants.{Burn}
+use Rattle.definition_verdict.specs.record_form.declared.Outcome.TheVariants.{Timeline, Notices}
+use Rattle.definition_verdict.specs.record_form.declared.Outcome.TheVariants.{Refused}
+use Rattle.definition_verdict.specs.record_form.declared.Query.{Query}
+use Rattle.definition_verdict.specs.record_form.declared.Query.TheVariants as queries
+use Rattle.definition_verdict.specs.record_form.declared.Refusal.{Refusal}
+use Rattle.definition_verdict.specs.record_form.declared.Refusal.TheVariants as refusals
 use Rattle.office_history.specs.declared.measure.Measure.{Measure}
 use Rattle.office_history.specs.History.{Office, end_of}
 use Rattle.office_history.specs.Catalog.{catalog_in}

@@ -13,13 +13,13 @@ use Rattle.sample_book.specs.declared.RowVerdict.TheVariants.{Newer, Repeated, S
 use Rattle.sample_book.specs.Counting.{is_of}
 use Rattle.sample_book.specs.Puts.{verdicts, is_new}
 use Rattle.slo_terms.specs.Rows.{first_of_each}
-use Rattle.slo_objects.specs.declared.Object.{Object}
-use Rattle.slo_objects.specs.declared.Slo.{Slo}
-use Rattle.slo_objects.specs.Slo.{slo_in}
-use Rattle.record_form.specs.declared.Refusal.{Refusal}
-use Rattle.record_form.specs.declared.Refusal.TheVariants as refusals
-use Rattle.record_form.specs.declared.Outcome.{Outcome}
-use Rattle.record_form.specs.declared.Outcome.TheVariants.{Sampled}
+use Rattle.definition_verdict.specs.slo_objects.declared.Object.{Object}
+use Rattle.definition_verdict.specs.slo_objects.declared.Slo.{Slo}
+use Rattle.definition_verdict.specs.slo_objects.Slo.{slo_in}
+use Rattle.definition_verdict.specs.record_form.declared.Refusal.{Refusal}
+use Rattle.definition_verdict.specs.record_form.declared.Refusal.TheVariants as refusals
+use Rattle.definition_verdict.specs.record_form.declared.Outcome.{Outcome}
+use Rattle.definition_verdict.specs.record_form.declared.Outcome.TheVariants.{Sampled}
 use Rattle.office_history.specs.Lists.{first_some}
 use Rattle.office_history.specs.Objectives.{reading_named}
 

@@ -2,15 +2,15 @@
 use Rattle.std.specs.Prelude.{ℕ, List, [], ◌∷◌, fold, map, Option, Some, None, Result, Ok, Err}
 use Rattle.std.specs.List.{flat_map}
 use Rattle.std.specs.Str.Lines.{lines}
-use Rattle.yaml_subset.specs.Tree.{Tree}
-use Rattle.yaml_subset.specs.Text.{nodes_of, without_mark}
-use Rattle.slo_objects.specs.Document.{objects_of}
-use Rattle.slo_objects.specs.declared.Object.{Object}
-use Rattle.slo_objects.specs.declared.ObjectFault.{ObjectFault}
-use Rattle.slo_catalog.specs.Catalog.{Event, Defined, Removed, put, without}
-use Rattle.record_form.specs.declared.Command.{Command}
-use Rattle.record_form.specs.declared.Command.TheVariants.{Define, Remove}
-use Rattle.record_form.specs.declared.Entry.{Entry}
+use Rattle.definition_verdict.specs.yaml_subset.Tree.{Tree}
+use Rattle.definition_verdict.specs.yaml_subset.Text.{nodes_of, without_mark}
+use Rattle.definition_verdict.specs.slo_objects.Document.{objects_of}
+use Rattle.definition_verdict.specs.slo_objects.declared.Object.{Object}
+use Rattle.definition_verdict.specs.slo_objects.declared.ObjectFault.{ObjectFault}
+use Rattle.definition_verdict.specs.slo_catalog.Catalog.{Event, Defined, Removed, put, without}
+use Rattle.definition_verdict.specs.record_form.declared.Command.{Command}
+use Rattle.definition_verdict.specs.record_form.declared.Command.TheVariants.{Define, Remove}
+use Rattle.definition_verdict.specs.record_form.declared.Entry.{Entry}
 
 abbrev pub or_none : Result (List Object) ObjectFault → List Object
 or_none (Ok objects) = objects

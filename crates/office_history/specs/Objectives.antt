@@ -5,16 +5,16 @@ use Rattle.exact_fraction.specs.declared.Op.TheVariants.{Gte}
 use Rattle.slice_method.specs.declared.Reading.{Reading}
 use Rattle.slice_method.specs.declared.Method.{Method}
 use Rattle.slice_method.specs.declared.Method.TheVariants as methods
-use Rattle.slo_objects.specs.declared.kind.Kind.TheVariants as kinds
-use Rattle.slo_objects.specs.declared.Object.{Object}
-use Rattle.slo_objects.specs.declared.Sli.{Sli}
-use Rattle.slo_objects.specs.declared.Slo.{Slo}
-use Rattle.slo_objects.specs.declared.slo.BudgetingMethod.{BudgetingMethod}
-use Rattle.slo_objects.specs.declared.slo.BudgetingMethod.TheVariants as budgeting
-use Rattle.slo_objects.specs.declared.slo.Objective.{Objective}
-use Rattle.slo_objects.specs.Slo.{slo_in}
-use Rattle.slo_catalog.specs.Keys.{find_in}
-use Rattle.slo_catalog.specs.NeedsOp.{sli_named}
+use Rattle.definition_verdict.specs.slo_objects.declared.kind.Kind.TheVariants as kinds
+use Rattle.definition_verdict.specs.slo_objects.declared.Object.{Object}
+use Rattle.definition_verdict.specs.slo_objects.declared.Sli.{Sli}
+use Rattle.definition_verdict.specs.slo_objects.declared.Slo.{Slo}
+use Rattle.definition_verdict.specs.slo_objects.declared.slo.BudgetingMethod.{BudgetingMethod}
+use Rattle.definition_verdict.specs.slo_objects.declared.slo.BudgetingMethod.TheVariants as ways
+use Rattle.definition_verdict.specs.slo_objects.declared.slo.Objective.{Objective}
+use Rattle.definition_verdict.specs.slo_objects.Slo.{slo_in}
+use Rattle.definition_verdict.specs.slo_catalog.Keys.{find_in}
+use Rattle.definition_verdict.specs.slo_catalog.NeedsOp.{sli_named}
 use Rattle.definition_verdict.specs.Readings.{reading_of}
 use Rattle.office_history.specs.declared.measure.Measure.{Measure}
 
@@ -24,10 +24,10 @@ reading_named members sli = option_map (λ (s : Sli). reading_of s.metric) (sli_
 
 -- the method of an objective, with the width of its slices and the ratio from which on one is good
 abbrev pub method_of : BudgetingMethod → Objective → Method
-method_of budgeting.Occurrences objective = methods.Occurrences
-method_of budgeting.Timeslices objective = methods.Timeslices
+method_of ways.Occurrences objective = methods.Occurrences
+method_of ways.Timeslices objective = methods.Timeslices
     (unwrap_or objective.time_slice_window 1) (unwrap_or objective.time_slice_target 0)
-method_of budgeting.RatioTimeslices objective =
+method_of ways.RatioTimeslices objective =
     methods.RatioTimeslices (unwrap_or objective.time_slice_window 1)
 
 -- an objective over an indicator of this reading; an omitted `op` is `gte`

@@ -13,18 +13,18 @@ use Rattle.sample_book.specs.Exclusions.{exclusion_of}
 use Rattle.sample_book.specs.History.{is_put}
 use Rattle.sample_book.specs.Puts.{verdicts}
 use Rattle.sample_book.specs.Rows.{current_rows}
-use Rattle.slo_objects.specs.declared.kind.Kind.{Kind}
-use Rattle.slo_objects.specs.declared.kind.Kind.TheVariants as kinds
-use Rattle.slo_objects.specs.declared.Object.{Object}
-use Rattle.slo_catalog.specs.declared.RemoveFault.{RemoveFault}
-use Rattle.slo_catalog.specs.declared.RemoveFault.TheVariants as removal
-use Rattle.slo_catalog.specs.Remove.{removed}
-use Rattle.zone_calendar.specs.ZoneBytes.{zone_of}
-use Rattle.notice_box.specs.declared.Notice.{Notice}
-use Rattle.record_form.specs.declared.Outcome.TheVariants.{Changed}
-use Rattle.record_form.specs.declared.Refusal.{Refusal}
-use Rattle.record_form.specs.declared.Refusal.TheVariants as refusals
-use Rattle.record_form.specs.declared.LimitName.TheVariants as limits
+use Rattle.definition_verdict.specs.slo_objects.declared.kind.Kind.{Kind}
+use Rattle.definition_verdict.specs.slo_objects.declared.kind.Kind.TheVariants as kinds
+use Rattle.definition_verdict.specs.slo_objects.declared.Object.{Object}
+use Rattle.definition_verdict.specs.slo_catalog.declared.RemoveFault.{RemoveFault}
+use Rattle.definition_verdict.specs.slo_catalog.declared.RemoveFault.TheVariants as removal
+use Rattle.definition_verdict.specs.slo_catalog.Remove.{removed}
+use Rattle.definition_verdict.specs.zone_calendar.ZoneBytes.{zone_of}
+use Rattle.definition_verdict.specs.notice_box.declared.Notice.{Notice}
+use Rattle.definition_verdict.specs.record_form.declared.Outcome.TheVariants.{Changed}
+use Rattle.definition_verdict.specs.record_form.declared.Refusal.{Refusal}
+use Rattle.definition_verdict.specs.record_form.declared.Refusal.TheVariants as refusals
+use Rattle.definition_verdict.specs.record_form.declared.LimitName.TheVariants as limits
 use Rattle.office_history.specs.declared.judgement.Judgement.{Judgement}
 use Rattle.office_history.specs.declared.judgement.Judgement.TheVariants.{Accepted, Same, Refused}
 use Rattle.office_history.specs.Lists.{first_some}

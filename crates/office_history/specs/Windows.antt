@@ -2,10 +2,10 @@
 use Rattle.std.specs.Prelude.{◌≡◌, ℕ, ◌-◌, ◌*◌, ◌<◌, ◌≤◌, true, List, Option, Some, None}
 use Rattle.slo_duration.specs.declared.Duration.{Duration}
 use Rattle.slo_duration.specs.Unit.{unit_minutes}
-use Rattle.zone_calendar.specs.Zone.{ZoneText}
-use Rattle.zone_calendar.specs.Starts.{is_counted, start_at}
-use Rattle.slo_objects.specs.declared.slo.Calendar.{Calendar}
-use Rattle.slo_objects.specs.declared.slo.TimeWindow.{TimeWindow}
+use Rattle.definition_verdict.specs.zone_calendar.Zone.{ZoneText}
+use Rattle.definition_verdict.specs.zone_calendar.Starts.{is_counted, start_at}
+use Rattle.definition_verdict.specs.slo_objects.declared.slo.Calendar.{Calendar}
+use Rattle.definition_verdict.specs.slo_objects.declared.slo.TimeWindow.{TimeWindow}
 use Rattle.office_history.specs.Zones.{zone_named}
 
 -- the minutes of a duration by the rolling count

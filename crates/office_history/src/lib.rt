@@ -7,5 +7,7 @@
 mod judgement;
 mod measure;
 
+pub use definition_verdict;
+pub use definition_verdict::{record_form, slo_catalog, slo_objects};
 pub use judgement::Judgement;
 pub use measure::Measure;

@@ -7,9 +7,9 @@ ghost use Rattle.office_report.specs.Rows.{AreRows, AreSloLines};
 
 use crate::lines::{counted_lines, unbegun_lines};
 use burn_core::State;
-use catalog_measures::measures_named;
 use exact_fraction::Label;
 use office_core::Core;
+use office_core::catalog_measures::measures_named;
 use record_form::{BudgetRows, Outcome, Query, Refusal};
 use slo_catalog::{Binding, Catalog};
 use slo_objects::Kind;

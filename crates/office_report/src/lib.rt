@@ -10,4 +10,5 @@ mod reporting;
 mod states;
 
 pub use laws::a_report_is_one_text;
+pub use office_core;
 pub use reporting::report;

@@ -16,8 +16,8 @@ use Rattle.office_doors.specs.declared.Visit.{Visit}
 use Rattle.office_history.specs.History.{Office}
 use Rattle.office_counter.specs.Laws.{Extends, IsOwned}
 use Rattle.office_counter.proofs.Steps.{extends_both, extends_still}
-use Rattle.office_keep.specs.Files.{IsWhole}
-use Rattle.office_keep.specs.Office.{OfficeOn, StandsSettled}
+use Rattle.turn_counter.specs.office_keep.Files.{IsWhole}
+use Rattle.turn_counter.specs.office_keep.Office.{OfficeOn, StandsSettled}
 use Rattle.turn_counter.specs.Holding.{NewPassesSeeAll, PassesSeeBeginnings}
 use Rattle.turn_counter.specs.Seen.{ledger_of, office_seen, standing_of}
 use Rattle.office_serving.specs.Serving.{AreOpened, EndsServing, Front, IsServed, Ran, SaidNotReady}

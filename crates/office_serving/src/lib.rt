@@ -10,5 +10,7 @@ mod visits;
 mod workers;
 
 pub use serving::{ServeEnd, serve};
+pub use turn_counter;
+pub use turn_counter::office_keep;
 pub use visits::{WorkEnd, work};
 pub use workers::WORKERS;

@@ -13,11 +13,11 @@ use crate::kits::take_kits;
 use crate::ready::say_ready;
 use crate::workers::{WORKERS, run_workers};
 use office_doors::{Door, Doors, DoorsFault};
-use office_keep::Office;
 use office_outside::{Disk, Sink};
 use std::alloc::Global;
 use std::sync::Wait;
 use std::thread::Threads;
+use turn_counter::office_keep::Office;
 use turn_counter::{DeskOffice, close_desk, open_desk, what_a_pass_has_seen};
 use turn_desk::{Desk, Pass};
 

@@ -1,3 +1,4 @@
 pub mod Own
 pub mod Runs
 pub mod Stepping
+pub use Rattle.office_keep.specs as office_keep

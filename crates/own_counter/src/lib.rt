@@ -8,3 +8,4 @@ mod laws;
 
 pub use counter::OwnCounter;
 pub use laws::a_stop_leaves_what_was_kept;
+pub use office_keep;

@@ -5,4 +5,6 @@
 
 mod serving;
 
+pub use office_serving;
+pub use office_serving::turn_counter;
 pub use serving::{ServerEnd, serve_journal};

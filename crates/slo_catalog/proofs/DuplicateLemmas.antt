@@ -6,7 +6,7 @@ use Rattle.std.proofs.Common.{ap, ap₂, ◌∙◌, subst, true≢false, append_
 use Rattle.std.specs.List.{AllByRecursion, list_any}
 use Rattle.std.specs.Cmp.{IsEquivalence}
 use Rattle.std.proofs.lemmas.Cmp.{nat_list_eq_equiv}
-use Rattle.yaml_subset.specs.Spelling.{writing}
+use Rattle.slo_objects.specs.yaml_subset.Spelling.{writing}
 use Rattle.slo_objects.specs.declared.kind.Kind.{Kind}
 use Rattle.slo_objects.specs.declared.object.Object.{Object}
 use Rattle.slo_objects.specs.Document.{written}

@@ -18,11 +18,11 @@ use Rattle.slo_objects.specs.declared.object.Object.{Object}
 use Rattle.slo_catalog.specs.Keys.{kind_rank, is_key, object_cmp, find_in}
 use Rattle.slo_catalog.specs.Catalog.{put}
 use Rattle.std.proofs.lemmas.Slice.Eq.{bytes_eq-Decides}
-use Rattle.yaml_subset.specs.Spelling.{writing}
+use Rattle.slo_objects.specs.yaml_subset.Spelling.{writing}
 use Rattle.slo_objects.specs.Document.{written}
 use Rattle.slo_catalog.specs.Limits.{weight}
 use Rattle.slo_limits.specs.declared.TheConstants.{MAX_CATALOG_BYTES}
-use Rattle.yaml_subset.specs.Room.{up_to}
+use Rattle.slo_objects.specs.yaml_subset.Room.{up_to}
 use Rattle.slo_catalog.specs.Define.{is_same, firsts, is_other_than, first_other, first_duplicate}
 
 -- objects of one kind and name answer each question about kind and name alike

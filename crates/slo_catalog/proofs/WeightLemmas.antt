@@ -5,7 +5,7 @@ use Rattle.std.specs.Prelude.{nat_le, unwrap_or}
 use Rattle.std.proofs.lemmas.Bool.Decides.{nat_tests}
 use Rattle.slo_objects.specs.declared.object.Object.{Object}
 use Rattle.slo_limits.specs.declared.TheConstants.{MAX_CATALOG_BYTES}
-use Rattle.yaml_subset.specs.Room.{up_to}
+use Rattle.slo_objects.specs.yaml_subset.Room.{up_to}
 use Rattle.slo_catalog.specs.Limits.{weight, written_bytes}
 
 capped_less : (most n : ℕ) → unwrap_or (up_to most n) (most + 1) ≤ n

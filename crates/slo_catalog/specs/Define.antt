@@ -3,7 +3,7 @@ use Rattle.std.specs.Prelude.{◌≡◌, ℕ, Bool, false, not, cond, ◌&&◌, 
 use Rattle.std.specs.Prelude.{Option, Some, None, Result, Ok, Err, find}
 use Rattle.std.specs.List.{list_all, list_any}
 use Rattle.std.specs.Str.{bytes_eq}
-use Rattle.yaml_subset.specs.Spelling.{writing}
+use Rattle.slo_objects.specs.yaml_subset.Spelling.{writing}
 use Rattle.slo_objects.specs.declared.object.Object.{Object}
 use Rattle.slo_objects.specs.Document.{written}
 use Rattle.slo_objects.specs.declared.kind.Kind.TheVariants as kinds

@@ -2,7 +2,7 @@
 ghost use Rattle.std.specs.Prelude.{◌≡◌, IfOk};
 ghost use Rattle.std.specs.Option.{option_copied};
 ghost use Rattle.slo_objects.specs.Document.{IsOfDocument, written};
-ghost use Rattle.yaml_subset.specs.Spelling.{writing};
+ghost use Rattle.slo_objects.specs.yaml_subset.Spelling.{writing};
 ghost use Rattle.slo_catalog.specs.Keys.{find_in};
 ghost use Rattle.slo_catalog.specs.Define.{is_same as is_same_lem};
 ghost use Rattle.slo_catalog.specs.Define.{is_other_than as is_other_than_lem, firsts};

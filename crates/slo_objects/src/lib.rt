@@ -47,4 +47,7 @@ pub use part::Part;
 pub use service::Service;
 pub use sli::{Events, Metric, MetricSource, Ratio, RatioMetric, RawType, Sli};
 pub use slo::{BudgetingMethod, Calendar, Objective, Objectives, Slo, TimeWindow};
+pub use slo_duration;
 pub use writing::{object_length, write_object};
+pub use yaml_subset;
+pub use zone_calendar;

@@ -7,7 +7,7 @@ use Rattle.std.proofs.lemmas.List.Elements.{Contains-push}
 use Rattle.sample_book.specs.declared.Exclusion.{Exclusion}
 use Rattle.sample_book.specs.declared.Row.{Row}
 use Rattle.slo_objects.specs.declared.Object.{Object}
-use Rattle.kept_sums.specs.Sums.{IsKept}
+use Rattle.kept_objectives.specs.kept_sums.Sums.{IsKept}
 use Rattle.kept_objectives.specs.declared.ObjectiveSums.{ObjectiveSums}
 use Rattle.kept_objectives.specs.Objectives.{AreKept, IsObjective, measures_of}
 use Rattle.office_history.specs.declared.Measure.{Measure}

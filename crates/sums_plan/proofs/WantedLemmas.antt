@@ -15,7 +15,7 @@ use Rattle.slo_objects.specs.declared.Object.{Object}
 use Rattle.slo_objects.specs.Slo.{slo_in}
 use Rattle.slo_catalog.specs.Keys.{find_in, is_key, kind_rank}
 use Rattle.catalog_measures.specs.Names.{is_slo, slo_names}
-use Rattle.kept_sums.specs.Sums.{Fits}
+use Rattle.kept_objectives.specs.kept_sums.Sums.{Fits}
 use Rattle.kept_objectives.specs.Objectives.{IsObjective}
 use Rattle.office_history.specs.declared.Measure.{Measure}
 use Rattle.office_history.specs.Objectives.{measures_named, measures_of}

@@ -6,4 +6,5 @@
 mod objectives;
 mod plan;
 
+pub use catalog_measures::object_ranges;
 pub use plan::plan_sums;

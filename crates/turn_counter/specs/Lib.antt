@@ -2,3 +2,4 @@ pub mod Holding
 pub mod Seen
 pub mod Stepping
 pub mod Turns
+pub use Rattle.own_counter.specs.office_keep as office_keep

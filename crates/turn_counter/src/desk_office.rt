@@ -4,8 +4,8 @@ ghost use Rattle.turn_desk.specs.Histories.{Distinct, Extends};
 ghost use Rattle.turn_desk.specs.Passes.{newcomer};
 ghost use Rattle.turn_counter.specs.Seen.{ledger_of};
 
-use office_keep::Office;
 use office_outside::Disk;
+use own_counter::office_keep::Office;
 use std::alloc::Global;
 use std::marker::Model;
 use std::sync::Wait;
@@ -18,7 +18,7 @@ pub struct DeskOffice<D: Disk + Drop> {
 }
 
 impl<D: Disk + Drop> Model for DeskOffice<D> {
-    ghost use Rattle.office_keep.specs.Office.{OfficeOn};
+    ghost use Rattle.own_counter.specs.office_keep.Office.{OfficeOn};
 
     ghost Value = { OfficeOn D };
 

@@ -6,9 +6,9 @@ use Rattle.slice_method.specs.Leaves.{leaf}
 use Rattle.window_sums.specs.Slices.{CountedDays, counts_of}
 use Rattle.office_history.specs.declared.Measure.{Measure}
 use Rattle.office_history.specs.Counts.{Samples, slice_counts}
-use Rattle.kept_sums.specs.Sums.{IsKept}
-use Rattle.kept_objectives.specs.declared.ObjectiveSums.{ObjectiveSums}
-use Rattle.kept_objectives.specs.Objectives.{IsObjective, measures_of}
+use Rattle.kept_lines.specs.kept_sums.Sums.{IsKept}
+use Rattle.office_derived.specs.kept_objectives.declared.ObjectiveSums.{ObjectiveSums}
+use Rattle.office_derived.specs.kept_objectives.Objectives.{IsObjective, measures_of}
 use Rattle.office_derived.specs.declared.Derived.{Derived}
 use Rattle.office_derived.specs.Derived.{IsSound}
 use Rattle.watched_objectives.specs.Sums.{AreSums}

@@ -7,3 +7,4 @@ mod PlanLemmas
 mod StateLemmas
 mod TakeLemmas
 mod WatchLemmas
+pub use Rattle.kept_lines.proofs as kept_lines_proofs

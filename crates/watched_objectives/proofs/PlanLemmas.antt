@@ -11,7 +11,7 @@ use Rattle.slo_objects.specs.declared.Object.{Object}
 use Rattle.slo_catalog.specs.declared.Binding.{Binding}
 use Rattle.slo_catalog.specs.Bindings.{bindings}
 use Rattle.office_history.specs.Alerts.{Watch, watch_of}
-use Rattle.kept_objectives.proofs.TakeLemmas.{all_append}
+use Rattle.office_derived.proofs.kept_objectives_proofs.TakeLemmas.{all_append}
 use Rattle.watched_objectives.specs.Watches.{IsWatched}
 use Rattle.watched_objectives.specs.Lines.{AreWatched, watches_of}
 use Rattle.watched_objectives.specs.Plans.{HasLine, IsFresh, one_watch, watches_at, watches_in}

@@ -1,6 +1,6 @@
 use Rattle.std.proofs.Common.{◌+◌, refl, sym, true}
 use Rattle.std.proofs.lemmas.List.{append-nil}
-use Rattle.kept_sums.specs.Walks.{made_on}
+use Rattle.office_derived.specs.kept_sums.Walks.{made_on}
 use Rattle.office_history.specs.History.{events_in}
 use Rattle.office_derived.specs.declared.Derived.{Derived}
 use Rattle.office_derived.specs.declared.Work.TheVariants as works

@@ -1,7 +1,7 @@
 use Rattle.std.proofs.Common.{◌+◌, ◌++◌, ◌∷◌, [], refl, sym, subst, true, List}
 use Rattle.std.proofs.lemmas.List.{append-nil}
 use Rattle.sample_book.specs.declared.Row.{Row}
-use Rattle.kept_objectives.specs.Objectives.{HaveForms}
+use Rattle.office_derived.specs.kept_objectives.Objectives.{HaveForms}
 use Rattle.office_history.specs.History.{events_in}
 use Rattle.office_derived.specs.declared.Derived.{Derived}
 use Rattle.office_derived.specs.declared.Work.TheVariants as works

@@ -2,8 +2,8 @@ use Rattle.std.proofs.Common.{◌≡◌, ◌∙◌, All, List, ap, arith, length
 use Rattle.std.specs.List.{AllByRecursion}
 use Rattle.std.proofs.Math.Seq.{take-length}
 use Rattle.std.proofs.lemmas.List.Elements.{All-more, All-weaker}
-use Rattle.kept_sums.specs.Sums.{Fits}
-use Rattle.object_ranges.specs.Measures.{IsMeasure}
+use Rattle.kept_objectives.specs.kept_sums.Sums.{Fits}
+use Rattle.catalog_measures.specs.object_ranges.Measures.{IsMeasure}
 use Rattle.office_history.specs.declared.Measure.{Measure}
 use Rattle.sums_plan.specs.Wanted.{HasSums}
 use Rattle.sums_plan.proofs.plan.sums_made.Goals as goal

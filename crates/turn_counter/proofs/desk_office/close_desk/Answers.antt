@@ -1,6 +1,6 @@
 use Rattle.std.proofs.Common.{All, sym, subst}
 use Rattle.turn_desk.specs.Histories.{Extends}
-use Rattle.office_keep.specs.Office.{OfficeOn}
+use Rattle.own_counter.specs.office_keep.Office.{OfficeOn}
 use Rattle.turn_counter.specs.Seen.{ledger_of}
 use Rattle.turn_counter.proofs.desk_office.close_desk.Goals as goal
 

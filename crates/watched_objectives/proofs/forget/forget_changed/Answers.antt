@@ -2,8 +2,8 @@ use Rattle.std.proofs.Common.{subst, sym}
 use Rattle.window_sums.specs.Slices.{width_of}
 use Rattle.office_history.specs.declared.Measure.{Measure}
 use Rattle.kept_lines.proofs.RightLemmas.{right-over-exclusions}
-use Rattle.kept_sums.specs.Walks.{IsChanged}
-use Rattle.object_ranges.specs.Ranges.{IsWidth}
+use Rattle.kept_lines.specs.kept_sums.Walks.{IsChanged}
+use Rattle.catalog_measures.specs.object_ranges.Ranges.{IsWidth}
 use Rattle.watched_objectives.proofs.ForgetLemmas.{forgets_same}
 use Rattle.watched_objectives.proofs.forget.forget_changed.Goals as goal
 

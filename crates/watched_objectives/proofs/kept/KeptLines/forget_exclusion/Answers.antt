@@ -3,8 +3,9 @@ use Rattle.std.proofs.Common.{slice_index_or}
 use Rattle.std.proofs.lemmas.List.Elements.{recursion_from_All}
 use Rattle.kept_lines.specs.Right.{IsRight}
 use Rattle.office_history.specs.Counts.{Samples}
-use Rattle.kept_objectives.proofs.Loops.{all_get, all_set, half_end, half_get, half_step}
-use Rattle.kept_objectives.proofs.Loops.{written_back}
+use Rattle.office_derived.proofs.kept_objectives_proofs.Loops.{all_get, all_set, half_end, half_get}
+use Rattle.office_derived.proofs.kept_objectives_proofs.Loops.{half_step}
+use Rattle.office_derived.proofs.kept_objectives_proofs.Loops.{written_back}
 use Rattle.office_derived.specs.Derived.{IsPlaced, IsRead}
 use Rattle.office_derived.proofs.FormLemmas.{all_fit}
 use Rattle.watched_objectives.specs.Changes.{IsChangedBy, samples_on}

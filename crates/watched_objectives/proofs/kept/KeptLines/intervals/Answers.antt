@@ -2,7 +2,7 @@ use Rattle.std.proofs.Common.{◌≡◌, ℕ, ◌+◌, ◌<◌, ◌≤◌, Bool,
 use Rattle.std.proofs.Common.{length, subst, sym}
 use Rattle.burn_core.specs.Timeline.{AreSpansOf}
 use Rattle.office_history.specs.declared.Measure.{Measure}
-use Rattle.kept_objectives.specs.Objectives.{IsObjective}
+use Rattle.office_derived.specs.kept_objectives.Objectives.{IsObjective}
 use Rattle.watched_objectives.specs.Lines.{LinesKept}
 use Rattle.watched_objectives.specs.Sums.{AreSums, samples_of}
 use Rattle.watched_objectives.proofs.KnownLemmas.{if_ok, know_there, knows_put, learnt_each}

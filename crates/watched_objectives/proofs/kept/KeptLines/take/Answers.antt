@@ -2,7 +2,7 @@ use Rattle.std.proofs.Common.{rules, ◌≡◌, ◌++◌, List, if◌then◌else
 use Rattle.std.specs.Prelude.{is_ok}
 use Rattle.std.specs.List.{Contains}
 use Rattle.kept_lines.specs.Right.{IsRight}
-use Rattle.kept_objectives.proofs.TakeLemmas.{all_append}
+use Rattle.office_derived.proofs.kept_objectives_proofs.TakeLemmas.{all_append}
 use Rattle.watched_objectives.specs.Known.{IsLineOf}
 use Rattle.watched_objectives.specs.Lines.{AreRight, LinesKept, watches_of}
 use Rattle.watched_objectives.specs.declared.kept.WatchLine.{WatchLine}
