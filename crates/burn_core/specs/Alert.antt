@@ -1,6 +1,7 @@
 -- Rules of alerts: the pairs of windows of the built-in ones, and what each rule waits for
 -- and looks at.
-use Rattle.std.specs.Prelude.{ℕ, Bool, ◌≤◌, ◌^◌, ⊤, List, [], ◌∷◌, codes}
+use Rattle.std.specs.Prelude.{ℕ, Bool, ◌≤◌, ⊤, List, [], ◌∷◌, codes}
+use Rattle.slo_limits.specs.declared.TheConstants.{MAX_LOOKBACK, MAX_THRESHOLD}
 use Rattle.burn_core.specs.declared.alert.AlertRule.{AlertRule}
 use Rattle.burn_core.specs.declared.alert.AlertRule.TheVariants.{Single, Page, Ticket}
 use Rattle.burn_core.specs.declared.alert.WindowPair.{WindowPair}
@@ -44,8 +45,8 @@ reach_of Ticket = 4320
 
 -- thresholds of at most 10,000; lookback and wait of at most 30 days
 abbrev pub IsRule : AlertRule → Type 0
-IsRule (Single op threshold lookback after) = (threshold ≤ 10 ^ 13) × (lookback ≤ 43200)
-    × (after ≤ 43200)
+IsRule (Single op threshold lookback after) = (threshold ≤ MAX_THRESHOLD)
+    × (lookback ≤ MAX_LOOKBACK) × (after ≤ MAX_LOOKBACK)
 IsRule Page = ⊤
 IsRule Ticket = ⊤
 

@@ -1,5 +1,6 @@
 //! The three figures of an error budget (Site Reliability Workbook, 'Alerting on SLOs').
 ghost use Rattle.std.specs.Prelude.{◌≡◌, ◌<◌, ◌≤◌, ◌-◌, ◌*◌, ◌^◌, ◌≤ℤ◌, pos, unsigned_abs, IfSome};
+ghost use Rattle.slo_limits.specs.declared.TheConstants.{MAX_THRESHOLD};
 ghost use Rattle.slo_terms.specs.Budget.{error_rate_of, burn_of, remaining_of, above_of};
 
 use exact_fraction::{Decimal, Fraction, Leaf, Op, holds};
@@ -62,7 +63,7 @@ pub fn above(sum: Leaf, target: Decimal, op: Op, threshold: Decimal) -> bool
     requires part { sum.num ≤ sum.den }
     requires few { sum.den ≤ MAX_SUM }
     requires below_one { target < WHOLE }
-    requires threshold { threshold ≤ 10 ^ 13 }
+    requires threshold { threshold ≤ MAX_THRESHOLD }
     ensures { result ≡ above_of sum target op threshold }
 {
     if sum.den == 0 {

@@ -50,7 +50,7 @@ fn first_row(book: &SampleBook, kind: Kind, name: Label) -> Option<Row>
     ensures { result ≡ first_row_of book.now.rows kind name }
 {
     if is_sli(kind) {
-        book.cell_of(name)
+        book.first_row(name)
     } else {
         None
     }

@@ -43,6 +43,7 @@ impl Text {
         self.string
     }
 
+    /// The text, as a string.
     pub fn as_str(&self) -> &str
         ensures text { result.now ≡ self.now }
         ensures utf8 { IsUtf8 self.now }
@@ -50,6 +51,7 @@ impl Text {
         self.string.as_str()
     }
 
+    /// The text, in UTF-8.
     pub fn as_bytes(&self) -> &[u8]
         ensures text { result.now ≡ self.now }
         ensures utf8 { IsUtf8 self.now }
@@ -116,6 +118,7 @@ impl Bytes {
         self.items
     }
 
+    /// The bytes.
     pub fn as_bytes(&self) -> &[u8]
         ensures { result.now ≡ self.now }
     {

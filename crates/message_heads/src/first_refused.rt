@@ -1,6 +1,7 @@
 //! The first place at which bytes are no head, whatever follows.
 ghost use Rattle.std.specs.Prelude.{◌≡◌, ◌≤◌, ◌<◌, ℕ, length, take, true, false};
 ghost use Rattle.httparse.specs.Grammar.{NeverHasRequest};
+ghost use Rattle.slo_limits.specs.declared.TheConstants.{MAX_HEAD_BYTES};
 ghost use Rattle.message_heads.specs.Start.{Tells};
 ghost use Rattle.message_heads.specs.Hearing.{IsPassed};
 
@@ -9,7 +10,7 @@ use httparse::spans::EMPTY_HEADER_SPAN;
 
 // Whether the bytes begin with a head, or may.
 fn may_begin(bytes: &[u8]) -> bool
-    requires few { length bytes.now ≤ 8192 }
+    requires few { length bytes.now ≤ MAX_HEAD_BYTES }
     ensures { Tells result bytes.now }
 {
     let mut slots = [EMPTY_HEADER_SPAN; 64];
@@ -22,7 +23,7 @@ fn may_begin(bytes: &[u8]) -> bool
 /// How many bytes of these, of which none is a head whatever follows, are the fewest of which that
 /// is known. It is found by halving, since it is asked for once, before the connection ends.
 pub(crate) fn first_refused(front: &[u8]) -> usize
-    requires few { length front.now ≤ 8192 }
+    requires few { length front.now ≤ MAX_HEAD_BYTES }
     requires never { NeverHasRequest front.now }
     ensures within { result ≤ length front.now }
     ensures refused { NeverHasRequest (take result front.now) }

@@ -2,6 +2,7 @@
 ghost use Rattle.std.specs.Prelude.{◌≡◌, ◌≤◌, ◌++◌, ℕ, List, length, map, All, IfOk};
 ghost use Rattle.httparse.specs.Grammar.{NeverHasRequest};
 ghost use Rattle.httparse.specs.Spans.{IsHeaderWithin, header_bytes};
+ghost use Rattle.slo_limits.specs.declared.TheConstants.{MAX_BODY_BYTES, MAX_HEAD_BYTES};
 ghost use Rattle.message_heads.specs.Hearing.{Hears, IsFront, IsHeard};
 ghost use Rattle.message_heads.specs.Start.{Begins};
 ghost use Rattle.message_heads.specs.declared.start.Start.TheVariants.{Head};
@@ -51,7 +52,7 @@ pub fn hear(bytes: &[u8]) -> Hearing
 fn body_length(bytes: &[u8], fields: &[HeaderSpan]) -> Result<usize, u16>
     requires { All (IsHeaderWithin (length bytes.now)) fields.now }
     ensures judged { result ≡ body_or_status (map (header_bytes bytes.now) fields.now) }
-    ensures few { IfOk result (λ length. length ≤ 1048576) }
+    ensures few { IfOk result (λ length. length ≤ MAX_BODY_BYTES) }
 {
     let Some(length) = counted_length(bytes, fields) else {
         return Err(400);
@@ -67,7 +68,7 @@ fn body_length(bytes: &[u8], fields: &[HeaderSpan]) -> Result<usize, u16>
 
 // The status of the answer to bytes of which none is a head, whatever follows.
 fn status_of_no_head(front: &[u8]) -> u16
-    requires few { length front.now ≤ 8192 }
+    requires few { length front.now ≤ MAX_HEAD_BYTES }
     requires never { NeverHasRequest front.now }
     ensures { (more : List ℕ) → IsHeard (front.now ++ more) (Bad result) }
 {

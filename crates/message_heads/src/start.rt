@@ -2,10 +2,14 @@
 ghost use Rattle.std.specs.Prelude.{◌≡◌, ◌≤◌, ℕ, List, length};
 ghost use Rattle.httparse.specs.declared.spans.HeaderSpan.{HeaderSpan};
 ghost use Rattle.httparse.specs.Spans.{RequestOverflows};
+ghost use Rattle.slo_limits.specs.declared.TheConstants.{MAX_HEAD_BYTES};
 ghost use Rattle.message_heads.specs.Start.{Begins};
 
 use httparse::spans::{EMPTY_HEADER_SPAN, HeaderSpan, RequestSpans, parse_request};
 use httparse::{Error, Status};
+
+// More fields than a head of the most bytes has: each takes three bytes, and the request line more.
+const MORE_FIELDS: usize = 2_731;
 
 /// How bytes begin.
 #[derive(Drop)]
@@ -22,7 +26,7 @@ pub(crate) enum Start {
 
 /// How bytes begin; where it is with a head of at most 64 fields, their places go into `slots`.
 pub(crate) fn find_head(front: &[u8], slots: &mut [HeaderSpan]) -> Start
-    requires few { length front.now ≤ 8192 }
+    requires few { length front.now ≤ MAX_HEAD_BYTES }
     requires room { length slots.old ≡ 64 }
     ensures { Begins front.now slots.new result }
 {
@@ -37,11 +41,11 @@ pub(crate) fn find_head(front: &[u8], slots: &mut [HeaderSpan]) -> Start
 // The same for bytes of which each head has more fields: a room that none of them passes is kept
 // out of the common way, since to fill it takes longer than to read a head.
 fn wide_start(front: &[u8]) -> Start
-    requires few { length front.now ≤ 8192 }
+    requires few { length front.now ≤ MAX_HEAD_BYTES }
     requires wide { RequestOverflows 64 front.now }
     ensures { (slots : List HeaderSpan) → Begins front.now slots result }
 {
-    let mut slots = [EMPTY_HEADER_SPAN; 2731];
+    let mut slots = [EMPTY_HEADER_SPAN; MORE_FIELDS];
     match parse_request(front, &mut slots) {
         Ok(Status::Complete(head)) => Start::Wide(head.len),
         Ok(Status::Partial) => Start::Unfinished,

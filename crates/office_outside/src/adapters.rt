@@ -70,32 +70,42 @@ fn flush_all<W: Write>(writer: &mut W) -> Result<(), Failed>
     Err(Failed)
 }
 
-/// A source over a reader of std, with its count of faults. Each error of the reader is a fault,
-/// but a read that was interrupted is tried again, up to a hundred times.
+/// A reader or a writer of std, with its count of faults.
+///
+/// As a source: each error of the reader is a fault, but a read that was interrupted is tried
+/// again, up to a hundred times. As a sink: each error of the writer is a fault, and so is a write
+/// that takes nothing of a piece that isn't empty; but a write or a flush that was interrupted is
+/// tried again, up to a hundred times.
 #[derive(Drop)]
-pub struct StdSource<R: Read + Drop> {
-    inner: R,
+pub struct Adapter<T: Drop> {
+    inner: T,
     faults: u64,
 }
 
-impl<R: Read + Drop> Model for StdSource<R> {
+/// A source over a reader of std.
+pub type StdSource<R> = Adapter<R>;
+
+/// A sink over a writer of std.
+pub type StdSink<W> = Adapter<W>;
+
+impl<T: Drop> Model for Adapter<T> {
     ghost use Rattle.office_outside.specs.Adapter.{Counted};
 
-    ghost Value = { Counted R };
+    ghost Value = { Counted T };
 
     ghost view = { λ s. record { inner = s.inner; faults = s.faults } };
 }
 
-impl<R: Read + Drop> StdSource<R> {
+impl<T: Drop> Adapter<T> {
     /// Counts no fault yet.
-    pub fn new(inner: R) -> StdSource<R>
+    pub fn new(inner: T) -> Adapter<T>
         ensures inner { result.inner ≡ inner }
         ensures faults { result.faults ≡ 0 }
     {
-        StdSource { inner, faults: 0 }
+        Adapter { inner, faults: 0 }
     }
 
-    /// How many reads failed.
+    /// How many calls failed.
     pub fn faults(&self) -> u64
         ensures { result ≡ self.now.faults }
     {
@@ -103,7 +113,7 @@ impl<R: Read + Drop> StdSource<R> {
     }
 }
 
-impl<R: Read + Drop> Source for StdSource<R> {
+impl<R: Read + Drop> Source for Adapter<R> {
     ghost left = { λ _. None };
 
     ghost faults = { λ s. s.faults };
@@ -121,41 +131,7 @@ impl<R: Read + Drop> Source for StdSource<R> {
     }
 }
 
-/// A sink over a writer of std, with its count of faults. Each error of the writer is a fault, and
-/// so is a write that takes nothing of a piece that isn't empty; but a write or a flush that was
-/// interrupted is tried again, up to a hundred times.
-#[derive(Drop)]
-pub struct StdSink<W: Write + Drop> {
-    inner: W,
-    faults: u64,
-}
-
-impl<W: Write + Drop> Model for StdSink<W> {
-    ghost use Rattle.office_outside.specs.Adapter.{Counted};
-
-    ghost Value = { Counted W };
-
-    ghost view = { λ s. record { inner = s.inner; faults = s.faults } };
-}
-
-impl<W: Write + Drop> StdSink<W> {
-    /// Counts no fault yet.
-    pub fn new(inner: W) -> StdSink<W>
-        ensures inner { result.inner ≡ inner }
-        ensures faults { result.faults ≡ 0 }
-    {
-        StdSink { inner, faults: 0 }
-    }
-
-    /// How many writes and flushes failed.
-    pub fn faults(&self) -> u64
-        ensures { result ≡ self.now.faults }
-    {
-        self.faults
-    }
-}
-
-impl<W: Write + Drop> Sink for StdSink<W> {
+impl<W: Write + Drop> Sink for Adapter<W> {
     ghost held = { λ _. None };
 
     ghost faults = { λ s. s.faults };

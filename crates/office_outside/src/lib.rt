@@ -20,7 +20,7 @@ mod memory_source;
 mod plan;
 mod wall_clock;
 
-pub use adapters::{StdSink, StdSource};
+pub use adapters::{Adapter, StdSink, StdSource};
 pub use clock::Clock;
 pub use disk::Disk;
 pub use failed::Failed;

@@ -1,5 +1,6 @@
 //! A clock with planned readings.
 ghost use Rattle.std.specs.Prelude.{◌≡◌, ◌+◌, ◌≤◌, ℕ};
+ghost use Rattle.slo_limits.specs.declared.TheConstants.{MAX_MINUTE};
 ghost use Rattle.office_outside.specs.Clocks.{reading_at};
 
 use crate::Clock;
@@ -34,7 +35,7 @@ impl MemoryClock {
     /// The first reading to come.
     fn first(&self) -> u32
         ensures first { result ≡ reading_at self.now 0 }
-        ensures few { result ≤ 67_108_863 }
+        ensures few { result ≤ MAX_MINUTE }
     {
         match self.readings.get(self.at) {
             Some(reading) => (*reading).min(MAX_MINUTE),
@@ -49,7 +50,7 @@ impl Clock for MemoryClock {
     ghost to_come = { λ c k. Some (reading_at c k) };
 
     fn minute(&mut self) -> u32
-        ensures few { result ≤ 67_108_863 }
+        ensures few { result ≤ MAX_MINUTE }
         ensures first { result ≡ reading_at self.old 0 }
         ensures rest { (k : ℕ) → reading_at self.new k ≡ reading_at self.old (k + 1) }
     {

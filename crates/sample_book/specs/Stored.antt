@@ -1,14 +1,11 @@
 -- An amount in small parts: a value is kept as whole units and billionths.
-use Rattle.std.specs.Prelude.{◌≡◌, ◌+◌, ◌*◌, ◌/◌, ◌%◌, ◌<◌, ◌≤◌, ◌^◌, ℕ, refl}
+use Rattle.std.specs.Prelude.{◌≡◌, ◌+◌, ◌*◌, ◌/◌, ◌%◌, ◌<◌, ◌≤◌, refl}
 use Rattle.std.proofs.Common.{arith}
+use Rattle.slo_limits.specs.declared.TheConstants.{MAX_DECIMAL, WHOLE}
 use Rattle.slice_method.specs.declared.Amount.{Amount}
 use Rattle.slice_method.specs.declared.Amount.TheVariants as amounts
 use Rattle.sample_book.specs.declared.stored.Parts.{Parts}
 use Rattle.sample_book.specs.declared.stored.Parts.TheVariants.{Events, Measured}
-
--- the billionths of one whole
-abbrev pub WHOLE : ℕ
-WHOLE = 1000000000
 
 abbrev pub amount_of : Parts → Amount
 amount_of (Events part total) = amounts.Counts part total
@@ -21,7 +18,8 @@ parts_of (amounts.Value value) = Measured (value / WHOLE) (value % WHOLE)
 -- the billionths are less than a whole, and together they are a decimal
 abbrev pub AreParts : Parts → Type 0
 AreParts (Events part total) = Unit {0}
-AreParts (Measured whole billionths) = (billionths < WHOLE) × (whole * WHOLE + billionths ≤ 10 ^ 18)
+AreParts (Measured whole billionths) = (billionths < WHOLE)
+    × (whole * WHOLE + billionths ≤ MAX_DECIMAL)
 
 -- the parts of the amount of parts are these parts
 pub parts_back : (parts : Parts) → AreParts parts → parts_of (amount_of parts) ≡ parts

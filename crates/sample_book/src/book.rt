@@ -223,7 +223,7 @@ impl SampleBook {
     }
 
     /// The first current row of an indicator, by a look-up.
-    pub fn cell_of(&self, sli: Label) -> Option<Row>
+    pub fn first_row(&self, sli: Label) -> Option<Row>
         ensures { result ≡ first_of self.now.rows sli }
     {
         first_of(&self.rows, &self.index, sli)

@@ -19,12 +19,16 @@ const MOST_EXCLUSIONS: usize = 4_294_967_295;
 // To look at so many exclusions takes no longer than to look up their groups.
 const FEW: usize = 16;
 
-/// The minutes [from, to) of an objective don't count.
+/// Maintenance that is excluded: what the rows of these minutes say doesn't count for the
+/// objectives of an SLO, also after it was counted (`docs/rules.md`, 'Exclusions'; OpenSLO v1 has
+/// no object for it).
 #[derive(Clone, Copy, PartialEq, Eq)]
 pub struct Exclusion {
     pub id: Label,
     pub slo: Label,
+    /// The first minute, counted from 1970-01-01T00:00Z.
     pub from: u32,
+    /// The minute behind the last one.
     pub to: u32,
 }
 

@@ -4,10 +4,8 @@ ghost use Rattle.sample_book.specs.Stored.{amount_of, parts_of};
 
 use exact_fraction::Decimal;
 use slice_method::Amount;
+use slo_limits::WHOLE;
 use std::marker::Model;
-
-// The billionths of one whole.
-const WHOLE: u64 = 1_000_000_000;
 
 #[derive(Clone, Copy)]
 enum Parts {

@@ -130,10 +130,10 @@ fn the_first_row_and_the_days_of_an_indicator_are_known(rt: HostRuntime) {
     let web = label(&rt, b"web");
     let shop = label(&rt, b"shop");
     let mut book = empty_book(&rt, rt.alloc());
-    assert!(rt; book.cell_of(web).is_none() && book.days_of(web) == 0);
+    assert!(rt; book.first_row(web).is_none() && book.days_of(web) == 0);
     assert!(rt; take_batch(&mut book, &batch(web, shop)));
-    assert!(rt; book.cell_of(web) == Some(events(web, web, 1440, 2, 9)));
-    assert!(rt; book.cell_of(shop) == Some(events(shop, web, 1440, 1, 7)));
+    assert!(rt; book.first_row(web) == Some(events(web, web, 1440, 2, 9)));
+    assert!(rt; book.first_row(shop) == Some(events(shop, web, 1440, 1, 7)));
     assert!(rt; book.days_of(web) == 1 && book.days_of(shop) == 1);
     let more = [events(web, web, 1439, 1, 1), events(web, web, 2880, 1, 1)];
     assert!(rt; take_batch(&mut book, &more));

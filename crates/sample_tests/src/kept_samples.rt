@@ -141,7 +141,7 @@ fn rows_of_a_day_are_found(rt: HostRuntime) {
     ];
     assert!(rt; lasts == [Some(3), Some(4), None]);
     assert!(rt; book.last_row(web) == Some(4) && book.last_row(shop) == Some(1));
-    assert!(rt; book.cell_of(shop) == Some(sent(shop, 1440)));
+    assert!(rt; book.first_row(shop) == Some(sent(shop, 1440)));
     let_go(book);
 }
 

@@ -2,9 +2,6 @@
 
 use exact_fraction::Decimal;
 
-// Shares, ratios and targets are counted in billionths of one.
-pub(crate) const BILLIONTHS: u64 = 1_000_000_000;
-
 /// Good and total events.
 #[derive(Clone, Copy, Debug, PartialEq, Eq)]
 pub struct Counts {

@@ -1,5 +1,5 @@
 //! Counts of a row by the reading of its indicator, and leaves of a slice by the budgeting method.
-//! Stands on `exact_fraction` and `slo_terms`.
+//! Stands on `exact_fraction` and `slo_limits`.
 //! Promises the counts of the reading table, and exact leaves, ratios rounded down to billionths.
 #![tactic(auto)]
 

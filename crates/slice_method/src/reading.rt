@@ -2,8 +2,9 @@
 ghost use Rattle.std.specs.Prelude.{◌≡◌, ◌^◌, ◌<◌, ◌≤◌};
 ghost use Rattle.slice_method.specs.Readings.{HasForm, counts, counts_of_events, counts_of_value};
 
-use crate::amount::{Amount, BILLIONTHS, Counts, Reading};
+use crate::amount::{Amount, Counts, Reading};
 use exact_fraction::{Decimal, Op, holds};
+use slo_limits::WHOLE;
 
 const NOTHING: Counts = Counts { good: 0, total: 0 };
 
@@ -47,11 +48,11 @@ fn counts_of_value(reading: Reading, op: Op, value: Decimal, measured: Decimal) 
         },
         Reading::RawSuccess => Counts {
             good: measured.billionths(),
-            total: BILLIONTHS,
+            total: WHOLE,
         },
         Reading::RawFailure => Counts {
-            good: BILLIONTHS - measured.billionths(),
-            total: BILLIONTHS,
+            good: WHOLE - measured.billionths(),
+            total: WHOLE,
         },
         Reading::Good | Reading::Bad => NOTHING,
     }

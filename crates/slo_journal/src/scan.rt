@@ -3,6 +3,7 @@ ghost use Rattle.std.specs.Prelude.{◌≡◌, ◌+◌, ◌-◌, ◌<◌, ◌≤
 ghost use Rattle.std.specs.Prelude.{OnErr, IfOk, IsErrOf, None, Some, true, false, Ok, Err};
 ghost use Rattle.office_outside.specs.Disk.{IsQuiet};
 ghost use Rattle.office_outside.specs.Faults.{Rose};
+ghost use Rattle.slo_limits.specs.declared.TheConstants.{MAX_RECORD_BYTES};
 ghost use Rattle.slo_journal.specs.File.{IsRecord, limit};
 ghost use Rattle.slo_journal.specs.Scanning.{seen_from, StandsAt, IsHead, IsNext};
 ghost use Rattle.slo_journal.specs.declared.fault.ScanFault.TheVariants.{DiskFault, Damaged};
@@ -145,7 +146,7 @@ fn peek<D: Disk>(disk: &mut D, window: &mut Window, at: u64) -> Result<Head, Sca
         → StandsAt window.old.start window.old.bytes.items file
         → IsHead (take 5 (seen_from at file)) head) }
     ensures size { IfOk result (λ head. (count : ℕ) → head ≡ Opens count → (1 ≤ count)
-        × (count ≤ 1100000)) }
+        × (count ≤ MAX_RECORD_BYTES)) }
     ensures shut { result ≡ Ok Shut → at < limit }
     ensures content { D.content disk.new ≡ D.content disk.old }
     ensures quiet { IsQuiet D.images D.moment D.images_since disk.old disk.new }
@@ -186,7 +187,7 @@ fn fill<D: Disk>(
     out: &mut Vec<u8>,
 ) -> Result<bool, ScanFault>
     requires at { at ≤ limit }
-    requires count { count ≤ 1100000 }
+    requires count { count ≤ MAX_RECORD_BYTES }
     requires within { window.old.start + length window.old.bytes.items ≤ limit }
     requires empty { out.old.items ≡ [] }
     ensures within { window.new.start + length window.new.bytes.items ≤ limit }

@@ -3,6 +3,7 @@ ghost use Rattle.std.specs.Prelude.{◌≡◌, ◌+◌, ◌-◌, ◌≤◌, ◌<
 ghost use Rattle.std.specs.Prelude.{OnErr, IsErrOf, Some, Err};
 ghost use Rattle.office_outside.specs.Disk.{IsQuiet};
 ghost use Rattle.office_outside.specs.Faults.{Rose};
+ghost use Rattle.slo_limits.specs.declared.TheConstants.{MAX_RECORD_BYTES};
 ghost use Rattle.slo_journal.specs.File.{limit};
 ghost use Rattle.slo_journal.specs.Scanning.{seen_from, StandsAt};
 ghost use Rattle.slo_journal.specs.declared.fault.ScanFault.TheVariants.{DiskFault, Damaged};
@@ -54,7 +55,7 @@ pub fn reach<D: Disk>(
     need: usize,
 ) -> Result<(), ScanFault>
     requires at { at ≤ limit }
-    requires need { need ≤ 1100005 }
+    requires need { need ≤ MAX_RECORD_BYTES + 5 }
     requires within { window.old.start + length window.old.bytes.items ≤ limit }
     ensures within { window.new.start + length window.new.bytes.items ≤ limit }
     ensures holds { (file : List ℕ) → D.content disk.old ≡ Some file

@@ -8,7 +8,7 @@ use std::alloc::{AllocError, AllocFailed};
 /// The rules of the fields.
 #[derive(Clone, Copy, Debug, PartialEq, Eq)]
 pub enum Rule {
-    /// A field that must stand is omitted.
+    /// A required field is omitted.
     Missing,
     /// It must be a map.
     NotMap,

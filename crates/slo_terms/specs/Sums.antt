@@ -1,6 +1,7 @@
 -- Sums over the slices of a range of time.
-use Rattle.std.specs.Prelude.{ℕ, zero, suc, nat_le, nat_lt, ◌&&◌, ◌+◌, ◌-◌, ◌*◌, ◌/◌, ◌^◌, ◌≤◌}
+use Rattle.std.specs.Prelude.{ℕ, zero, suc, nat_le, nat_lt, ◌&&◌, ◌+◌, ◌-◌, ◌/◌, ◌≤◌}
 use Rattle.std.specs.Prelude.{List, sum_by, ◌==◌, if◌then◌else◌}
+use Rattle.slo_limits.specs.declared.TheConstants.{MAX_SUM}
 use Rattle.exact_fraction.specs.declared.Leaf.{Leaf}
 
 -- what f gives at `count` places from `first` on, added up
@@ -32,7 +33,7 @@ sum_of_slices width leaf from to =
 
 -- the most events of all slices together: with that many, burn rates fit 128 bits
 abbrev pub most_events : ℕ
-most_events = 4 * 10 ^ 15
+most_events = MAX_SUM
 
 -- What f gives for all slices together is at most that: so it is over any slices, however many.
 abbrev pub AreFew : (ℕ → ℕ) → Type 0

@@ -33,6 +33,7 @@ impl<'a> Model for Asking<'a> {
 }
 
 impl<'a> Asking<'a> {
+    /// A request at a reading of the clock, in minutes since 1970-01-01T00:00Z.
     pub fn new(alloc: Global, reading: u32, request: &'a Request) -> Asking<'a>
         requires reading { reading ≤ MAX_MINUTE }
         requires revisions { HasRevisionsIn request.now }

@@ -43,7 +43,7 @@ is_at_open m (within h done i) = same_column (column h) (column m) || is_at_open
 is_at_open m _ = false
 
 -- the row of a mark that has no place: its map has that key, it begins a node too deep, an entry or
--- item must stand there, or nothing can
+-- item is required there, or nothing can stand
 abbrev pub row_of_mark : Mark → Open → Which
 row_of_mark m o =
     cond (repeats m o) DuplicateKey (cond (begins m o) TooDeep (cond (is_at_open m o) Colon Indent))

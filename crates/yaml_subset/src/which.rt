@@ -21,7 +21,8 @@ pub enum Which {
     Escape,
     /// A one-line list of another form, or a beginning with a comma or a closing bracket.
     FlowForm,
-    /// No entry or item where one must stand, a colon before a blank in a value, or no form at all.
+    /// No entry or item where one is required, a colon before a blank in a value, or no form at
+    /// all.
     Colon,
     /// A key that its map has already.
     DuplicateKey,

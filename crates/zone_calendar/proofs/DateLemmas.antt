@@ -64,34 +64,36 @@ early_day = omega (
   day_count-early (pos 1970) 11969 2 1 refl (omega arith) (omega arith) (omega arith),
 )
 
+-- a month behind another has a later date than that one's first day
+clamped_day-behind : (year : ℤ) (month : ℕ) (months : ℤ) (day : ℕ) → IsCivilDate year month 1
+    → 1 ≤ day → (year *ℤ pos 12 +ℤ pos month) ≤ℤ months
+    → days_from_civil year month 1 <ℤ clamped_day months day
+clamped_day-behind year month months day date first le =
+    let b = parts months in
+    let long = days_in_month_bounds (year_of_month months) (month_of_year months) in
+    days_from_civil-month year _ month _ 1 _ date b.low b.high (omega arith)
+    (omega (arith, signed_arith, b.whole))
+
 -- a month after January 2299 lies past every horizon
 pub clamped_day-far : (months : ℤ) (day : ℕ) → 1 ≤ day → pos 27_588 <ℤ months
     → pos 100_000 ≤ℤ clamped_day months day
 clamped_day-far months day first lt =
-    let b = parts months in
-    let long = days_in_month_bounds (year_of_month months) (month_of_year months) in
-    let after : days_from_civil (pos 2299) 1 1 <ℤ clamped_day months day = days_from_civil-month
-    (pos 2299) _ 1 _ 1 _ (
+    let after = clamped_day-behind (pos 2299) 1 months day (
       (omega (arith, signed_arith), omega (arith, signed_arith)),
       (omega arith, omega arith),
       (omega arith, omega arith),
-    ) b.low b.high (omega arith)
-    (omega (arith, signed_arith, b.whole)) in
+    ) first (omega (arith, signed_arith, lt)) in
     omega (arith, signed_arith, far_day)
 
 -- a month from 1971 on lies after February 1st, 1970
 clamped_day-low : (months : ℤ) (day : ℕ) → 1 ≤ day → pos 23_652 ≤ℤ months
     → pos 31 ≤ℤ clamped_day months day
-clamped_day-low months day first lt =
-    let b = parts months in
-    let long = days_in_month_bounds (year_of_month months) (month_of_year months) in
-    let after : days_from_civil (pos 1970) 2 1 <ℤ clamped_day months day = days_from_civil-month
-    (pos 1970) _ 2 _ 1 _ (
+clamped_day-low months day first le =
+    let after = clamped_day-behind (pos 1970) 2 months day (
       (omega (arith, signed_arith), omega (arith, signed_arith)),
       (omega arith, omega arith),
       (omega arith, omega arith),
-    ) b.low b.high (omega arith)
-    (omega (arith, signed_arith, b.whole)) in
+    ) first (omega (arith, signed_arith, le)) in
     omega (arith, signed_arith, early_day)
 
 day_of-low : (first : Civil) → pos 31 ≤ℤ day_of first

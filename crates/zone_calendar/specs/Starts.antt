@@ -5,6 +5,7 @@ use Rattle.std.specs.Int.{int_div_euclid, int_rem_euclid}
 use Rattle.std.specs.List.Sorted.{IsNonDecreasing}
 use Rattle.std.specs.List.{range_with_len}
 use Rattle.jiff_core.specs.Calendar.{days_from_civil, days_in_month}
+use Rattle.slo_limits.specs.declared.TheConstants.{MAX_STARTS, MAX_WINDOW}
 use Rattle.slo_duration.specs.Unit.{unit_minutes}
 use Rattle.slo_duration.specs.declared.duration.Duration.{Duration}
 use Rattle.slo_duration.specs.declared.unit.Unit.{Unit as Span}
@@ -27,7 +28,7 @@ IsCalendarUnit Year = ⊤
 pub record IsCalendarStep (step : Duration) : Type 0 where
   pub unit : IsCalendarUnit step.unit
   pub some : 0 < step.count
-  pub short : step.count * unit_minutes step.unit ≤ 527_040
+  pub short : step.count * unit_minutes step.unit ≤ MAX_WINDOW
 
 -- the days from 1970-01-01 to the date of a moment
 abbrev pub day_of : Civil → ℤ
@@ -92,4 +93,4 @@ pub record AreStarts (zone : ZoneText) (first : Civil) (step : Duration) (horizo
 
 -- more than 40,000 starts count: those of the numbers from 0 to 40,000, and maybe more
 abbrev pub AreTooMany : Civil → Duration → ℕ → Type 0
-AreTooMany first step horizon = (k : ℕ) → k ≤ 40_000 → IsTrue (is_counted first step horizon k)
+AreTooMany first step horizon = (k : ℕ) → k ≤ MAX_STARTS → IsTrue (is_counted first step horizon k)

@@ -5,6 +5,7 @@ ghost use Rattle.std.specs.Prelude.{IsPermutation};
 ghost use Rattle.std.specs.List.Sorted.{IsNonDecreasing};
 ghost use Rattle.std.specs.List.{range_with_len};
 ghost use Rattle.jiff_core.specs.Date.{epoch_day};
+ghost use Rattle.slo_limits.specs.declared.TheConstants.{MAX_STARTS};
 ghost use Rattle.zone_calendar.specs.Starts.{IsCalendarStep, AreStarts, AreTooMany, day_of};
 ghost use Rattle.zone_calendar.specs.Starts.{month_of, clamped_day, date_after, is_counted};
 ghost use Rattle.zone_calendar.specs.Starts.{start_at};
@@ -14,10 +15,8 @@ use crate::{Civil, Zone};
 use jiff_core::civil::{Date, DateTime, Time};
 use jiff_span::date::add_months;
 use slo_duration::{Duration, Unit, rolling_minutes};
+use slo_limits::{MAX_STARTS, MAX_WINDOW};
 use std::alloc::Global;
-
-/// The most starts of one list, so that a catalog's calendars fit its memory.
-const MOST_STARTS: u32 = 40_000;
 
 /// More months than the library's years have after a first moment.
 const MOST_MONTHS: u32 = 480_000;
@@ -25,9 +24,6 @@ const MOST_MONTHS: u32 = 480_000;
 /// The minutes past the horizon up to which civil moments count: 26 hours, further than any zone is
 /// from UTC.
 const MARGIN_MINUTES: u32 = 1_560;
-
-/// The most rolling minutes from one start to the next: 366 days, so that a leap year fits.
-const MOST_MINUTES: u32 = 527_040;
 
 /// Why there is no list of starts.
 #[derive(Clone, Copy, Debug, PartialEq, Eq)]
@@ -56,13 +52,13 @@ pub fn starts(
     requires step { IsCalendarStep step }
     requires horizon { horizon < 2 ^ 27 }
     ensures ok { IfOk result (λ list. AreStarts zone.now first.now step horizon list.items) }
-    ensures few { IfOk result (λ list. vec_len list ≤ 40_000) }
+    ensures few { IfOk result (λ list. vec_len list ≤ MAX_STARTS) }
     ensures many { (result ≡ Err StartsFault.TooManyStarts) ↔ AreTooMany first.now step horizon }
 {
     if has_too_many_starts(first, step, horizon) {
         return Err(StartsFault::TooManyStarts);
     }
-    let count = count_starts(first, step, horizon, MOST_STARTS);
+    let count = count_starts(first, step, horizon, MAX_STARTS);
     starts_from(alloc, zone, first, step, horizon, count)
 }
 
@@ -75,7 +71,7 @@ pub fn is_calendar_step(step: Duration) -> bool
     match step.unit {
         Unit::Minute | Unit::Hour => false,
         Unit::Day | Unit::Week | Unit::Month | Unit::Quarter | Unit::Year => {
-            step.count > 0 && rolling_minutes(step) <= MOST_MINUTES
+            step.count > 0 && rolling_minutes(step) <= MAX_WINDOW
         }
     }
 }
@@ -87,12 +83,12 @@ pub fn has_too_many_starts(first: &Civil, step: Duration, horizon: u32) -> bool
     requires step { IsCalendarStep step }
     requires horizon { horizon < 2 ^ 27 }
     ensures all { IsTrue result ↔ AreTooMany first.now step horizon }
-    ensures last { result ≡ is_counted first.now step horizon 40_000 }
+    ensures last { result ≡ is_counted first.now step horizon MAX_STARTS }
 {
-    counts(first, step, horizon, MOST_STARTS)
+    counts(first, step, horizon, MAX_STARTS)
 }
 
-/// How many starts count, by halves, where at most so many do.
+/// How many starts count, by a binary search, where at most so many do.
 #[tactic(auto, using(crate::proofs::StartLemmas::counted_up_to))]
 pub(crate) fn count_starts(first: &Civil, step: Duration, horizon: u32, most: u32) -> u32
     requires step { IsCalendarStep step }
@@ -126,11 +122,11 @@ fn starts_from(
 ) -> Result<Vec<u32>, StartsFault>
     requires step { IsCalendarStep step }
     requires horizon { horizon < 2 ^ 27 }
-    requires few { count ≤ 40_000 }
+    requires few { count ≤ MAX_STARTS }
     requires below { (k : ℕ) → k < count → is_counted first.now step horizon k ≡ true }
     requires end { is_counted first.now step horizon count ≡ false }
     ensures ok { IfOk result (λ list. AreStarts zone.now first.now step horizon list.items) }
-    ensures few { IfOk result (λ list. vec_len list ≤ 40_000) }
+    ensures few { IfOk result (λ list. vec_len list ≤ MAX_STARTS) }
     ensures fault { IfErr result (λ fault. fault ≡ StartsFault.NoMemory) }
 {
     let Ok(mut list) = Vec::with_capacity(alloc, count as usize) else {

@@ -54,8 +54,8 @@ fn begun_by(starts: &[u32], minute: u32) -> usize
 /// Where the calendar window that holds a minute starts: at the greatest start at or before the
 /// minute, of those that count below the horizon. `None` where none is at or before it.
 ///
-/// It takes no memory: the number of the starts that may have begun is found by halves, in 17
-/// dates, and then six starts at most are read in the zone.
+/// It takes no memory: the number of the starts that may have begun is found by a binary search, in
+/// 17 dates, and then six starts at most are read in the zone.
 #[tactic(auto, using(crate::proofs::StartLemmas::few))]
 pub fn last_start(
     zone: &Zone,

@@ -3,11 +3,13 @@ use Rattle.sample_book.specs.Book.{Book}
 use Rattle.sample_book.specs.Chains.{IsIndexed, IsReadyFor}
 use Rattle.sample_book.specs.declared.row.Cell.{Cell}
 use Rattle.sample_book.specs.declared.row.Row.{Row}
+use Rattle.sample_book.specs.History.{Came, Gains}
 use Rattle.sample_book.specs.Rows.{cell_of, current_rows, verdict_of}
 use Rattle.sample_book.proofs.ChainLemmas.{IsAdded, IsReplaced, indexed_same, put_added}
 use Rattle.sample_book.proofs.ChainLemmas.{put_replaced, ready_fewer}
 use Rattle.sample_book.proofs.HistoryLemmas.{gains-put}
 use Rattle.sample_book.proofs.book.SampleBook.put.Goals as goal
+use Rattle.sample_book.proofs.book.SampleBook.put.Goals.{After-put}
 
 pub push-requires-clause-ready : goal.push-requires-clause-ready
 push-requires-clause-ready c =
@@ -64,30 +66,27 @@ invariant_of-self-else-before-len c =
           (sym (c.put.ensures.newer kept.newer)) c.self.invariant.ready;
     }
 
+-- the book behind the row
+abbrev after : After-put → Book
+after c = record {
+  rows = c.put.new.self.rows;
+  exclusions = c.self.inside.exclusions.made;
+  room = c.put.new.self.room;
+  spare = c.args.self.now.spare;
+}
+
+-- one row more came
+gained : (c : After-put) → Gains c.args.self.now (Came c.args.row.now) (after c)
+gained c =
+    let rows = ap (λ (book : Book). book.rows) c.self.view_is in
+    gains-put c.args.self.now (after c) c.args.row.now c.requires
+    (c.put.ensures.rows ∙ ap (λ (rows : List Row). current_rows (rows ++ c.args.row.now ∷ [])) rows)
+    (ap (λ (book : Book). book.exclusions) c.self.view_is)
+
 pub returns-then-before-len-clause-history : goal.returns-then-before-len-clause-history
 returns-then-before-len-clause-history c =
-    let rows = ap (λ (book : Book). book.rows) c.self.view_is in
-    let made = ap (λ (book : Book). book.exclusions) c.self.view_is in
-    gains-put c.args.self.now
-    (record {
-      rows = c.put.new.self.rows;
-      exclusions = c.self.inside.exclusions.made;
-      room = c.put.new.self.room;
-      spare = c.args.self.now.spare;
-    }) c.args.row.now
-    c.requires (c.put.ensures.rows
-    ∙ ap (λ (rows : List Row). current_rows (rows ++ c.args.row.now ∷ [])) rows) made
+    gained (goal.at.returns-then-before-len-clause-history c).After-put
 
 pub returns-else-before-len-clause-history : goal.returns-else-before-len-clause-history
 returns-else-before-len-clause-history c =
-    let rows = ap (λ (book : Book). book.rows) c.self.view_is in
-    let made = ap (λ (book : Book). book.exclusions) c.self.view_is in
-    gains-put c.args.self.now
-    (record {
-      rows = c.put.new.self.rows;
-      exclusions = c.self.inside.exclusions.made;
-      room = c.put.new.self.room;
-      spare = c.args.self.now.spare;
-    }) c.args.row.now
-    c.requires (c.put.ensures.rows
-    ∙ ap (λ (rows : List Row). current_rows (rows ++ c.args.row.now ∷ [])) rows) made
+    gained (goal.at.returns-else-before-len-clause-history c).After-put

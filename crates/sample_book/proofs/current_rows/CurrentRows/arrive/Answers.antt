@@ -10,202 +10,142 @@ use Rattle.sample_book.proofs.ArriveLemmas.{arrive_placed, cell_added, cell_ther
 use Rattle.sample_book.proofs.ArriveLemmas.{made_none, made_one}
 use Rattle.sample_book.proofs.CellLemmas.{always_err}
 use Rattle.sample_book.proofs.FirstPlaces.{any-position}
+use Rattle.sample_book.proofs.StandingLemmas.{RoomMade}
 use Rattle.sample_book.proofs.current_rows.CurrentRows.arrive.Goals as goal
+use Rattle.sample_book.proofs.current_rows.CurrentRows.arrive.Goals.{After-reserve, In-Err}
+use Rattle.sample_book.proofs.current_rows.CurrentRows.arrive.Goals.{In-Ok-None, In-Ok-Some}
+
+-- want of memory for the row: the cells without rows are forgotten
+unreserved : (c : After-reserve) → RoomMade c.self.inside.cells c.self.inside.stored.items
+    c.release.new.cells c.reserve.new.stored.items c.reserve.new.stored.cap []
+unreserved c = made_none c.self.inside.cells c.self.inside.stored.items c.self.inside.stored.cap
+    c.release.new.cells c.reserve.new.stored.items c.reserve.new.stored.cap c.self.invariant
+    (c.release.ensures ∙ ap (λ n. take n c.self.inside.cells)
+    (c.len.ensures ∙ c.self.inside.stored.ok.0))
+    c.reserve.ensures.items c.reserve.ensures.capacity
+
+-- want of memory for the cell: the same
+unadded : (c : In-Err) → RoomMade c.self.inside.cells c.self.inside.stored.items
+    c.add_new.new.self c.reserve.new.stored.items c.reserve.new.stored.cap []
+unadded c = made_none c.self.inside.cells c.self.inside.stored.items c.self.inside.stored.cap
+    c.add_new.new.self c.reserve.new.stored.items c.reserve.new.stored.cap c.self.invariant
+    (c.in-Err.ensures.err ∙ (c.release.ensures ∙ ap (λ n. take n c.self.inside.cells)
+    (c.len.ensures ∙ c.self.inside.stored.ok.0)))
+    c.reserve.ensures.items c.reserve.ensures.capacity
+
+-- the cell has a row at the place that was found
+found : (c : In-Ok-Some)
+    → Some c.in-Ok-Some.place ≡ position (cell_eq c.cell.result) c.release.new.cells
+found c = (cc (c.in-Ok-Some.ensures.place, c.in-Ok-Some.field-0-is))
+
+-- and no cell has room
+there : (c : In-Ok-Some) → RoomMade c.self.inside.cells c.self.inside.stored.items
+    c.add_new.new.self c.reserve.new.stored.items c.reserve.new.stored.cap []
+there c = made_none c.self.inside.cells c.self.inside.stored.items c.self.inside.stored.cap
+    c.add_new.new.self c.reserve.new.stored.items c.reserve.new.stored.cap c.self.invariant
+    (cell_there c.release.new.cells c.add_new.new.self c.cell.result c.in-Ok-Some.place
+    c.in-Ok-Some.ensures.ok (found c) ∙ (c.release.ensures
+    ∙ ap (λ n. take n c.self.inside.cells) (c.len.ensures ∙ c.self.inside.stored.ok.0)))
+    c.reserve.ensures.items c.reserve.ensures.capacity
+
+-- the cell has no row
+unfound : (c : In-Ok-None) → None ≡ position (cell_eq c.cell.result) c.release.new.cells
+unfound c = (cc (c.in-Ok-None.ensures.place, c.in-Ok-None.field-0-is))
+
+-- and comes behind those that have one
+behind : (c : In-Ok-None) → c.add_new.new.self
+    ≡ take (length c.self.inside.stored.items) c.self.inside.cells ++ cell_of c.args.row.now ∷ []
+behind c =
+    cell_added c.release.new.cells c.add_new.new.self c.cell.result c.in-Ok-None.ensures.ok
+    (unfound c)
+    ∙ ap (λ (cs : List Cell). cs ++ c.cell.result ∷ []) (c.release.ensures
+    ∙ ap (λ n. take n c.self.inside.cells) (c.len.ensures ∙ c.self.inside.stored.ok.0))
+    ∙ ap (λ (cell : Cell). take (length c.self.inside.stored.items) c.self.inside.cells
+    ++ cell ∷ []) c.cell.ensures
+
+-- alone with room
+added : (c : In-Ok-None) → RoomMade c.self.inside.cells c.self.inside.stored.items
+    c.add_new.new.self c.reserve.new.stored.items c.reserve.new.stored.cap
+    (cell_of c.args.row.now ∷ [])
+added c = made_one c.self.inside.cells c.self.inside.stored.items c.self.inside.stored.cap
+    c.add_new.new.self c.reserve.new.stored.items c.reserve.new.stored.cap
+    (cell_of c.args.row.now) c.self.invariant (behind c) c.reserve.ensures.items
+    c.in_ok-reserve.ensures.ok c.in_ok-reserve.ensures.few
 
 pub invariant_of-self : goal.invariant_of-self
-invariant_of-self c = (made_none c.self.inside.cells c.self.inside.stored.items
-    c.self.inside.stored.cap c.release.new.cells c.reserve.new.stored.items c.reserve.new.stored.cap
-    c.self.invariant (c.release.ensures ∙ ap (λ n. take n c.self.inside.cells) (c.len.ensures
-    ∙ c.self.inside.stored.ok.0)) c.reserve.ensures.items c.reserve.ensures.capacity).in_step
+invariant_of-self c = (unreserved (goal.at.invariant_of-self c).After-reserve).in_step
 
 pub returns-in_err-reserve-clause-err : goal.returns-in_err-reserve-clause-err
 returns-in_err-reserve-clause-err c = always_err c.from_residual.result
-    ((made_none c.self.inside.cells c.self.inside.stored.items c.self.inside.stored.cap
-    c.release.new.cells c.reserve.new.stored.items c.reserve.new.stored.cap
-    c.self.invariant (c.release.ensures ∙ ap (λ n. take n c.self.inside.cells) (c.len.ensures
-    ∙ c.self.inside.stored.ok.0)) c.reserve.ensures.items c.reserve.ensures.capacity).rows
+    ((unreserved (goal.at.returns-in_err-reserve-clause-err c).After-reserve).rows
     ∙ ap (λ (s : Standing). s.rows) c.self.view_is)
 
 pub renew-requires-clause-step : goal.renew-requires-clause-step
-renew-requires-clause-step c =
-    let p : Some c.in-Ok-Some.place ≡ position (cell_eq c.cell.result) c.release.new.cells =
-    (cc (c.in-Ok-Some.ensures.place, c.in-Ok-Some.field-0-is)) in
-    (made_none c.self.inside.cells c.self.inside.stored.items c.self.inside.stored.cap
-    c.add_new.new.self c.reserve.new.stored.items c.reserve.new.stored.cap
-    c.self.invariant ((cell_there c.release.new.cells c.add_new.new.self
-    c.cell.result c.in-Ok-Some.place c.in-Ok-Some.ensures.ok p) ∙ (c.release.ensures
-    ∙ ap (λ n. take n c.self.inside.cells) (c.len.ensures ∙ c.self.inside.stored.ok.0)))
-    c.reserve.ensures.items c.reserve.ensures.capacity).in_step
+renew-requires-clause-step c = (there (goal.at.renew-requires-clause-step c).In-Ok-Some).in_step
 
 pub renew-requires-clause-there : goal.renew-requires-clause-there
 renew-requires-clause-there c =
-    let p : Some c.in-Ok-Some.place ≡ position (cell_eq c.cell.result) c.release.new.cells =
-    (cc (c.in-Ok-Some.ensures.place, c.in-Ok-Some.field-0-is)) in
+    let p = found (goal.at.renew-requires-clause-there c).In-Ok-Some in
     ap (position (cell_eq (cell_of c.args.row.now))) (cell_there c.release.new.cells
     c.add_new.new.self c.cell.result c.in-Ok-Some.place c.in-Ok-Some.ensures.ok p)
     ∙ ap (λ (cell : Cell). position (cell_eq cell) c.release.new.cells) (sym c.cell.ensures) ∙ sym p
 
 pub append-requires-clause-step : goal.append-requires-clause-step
-append-requires-clause-step c =
-    let p : None ≡ position (cell_eq c.cell.result) c.release.new.cells =
-    (cc (c.in-Ok-None.ensures.place, c.in-Ok-None.field-0-is)) in
-    (made_one c.self.inside.cells c.self.inside.stored.items
-    c.self.inside.stored.cap c.add_new.new.self c.reserve.new.stored.items
-    c.reserve.new.stored.cap (cell_of c.args.row.now) c.self.invariant (cell_added
-    c.release.new.cells c.add_new.new.self c.cell.result c.in-Ok-None.ensures.ok p
-    ∙ ap (λ (cs : List Cell). cs ++ c.cell.result ∷ []) (c.release.ensures
-    ∙ ap (λ n. take n c.self.inside.cells) (c.len.ensures ∙ c.self.inside.stored.ok.0))
-    ∙ ap (λ (cell : Cell). take (length c.self.inside.stored.items) c.self.inside.cells
-    ++ cell ∷ []) c.cell.ensures) c.reserve.ensures.items c.in_ok-reserve.ensures.ok
-    c.in_ok-reserve.ensures.few).in_step
+append-requires-clause-step c = (added (goal.at.append-requires-clause-step c).In-Ok-None).in_step
 
 pub append-requires-clause-last : goal.append-requires-clause-last
-append-requires-clause-last c =
-    let p : None ≡ position (cell_eq c.cell.result) c.release.new.cells =
-    (cc (c.in-Ok-None.ensures.place, c.in-Ok-None.field-0-is)) in
-    (made_one c.self.inside.cells c.self.inside.stored.items
-    c.self.inside.stored.cap c.add_new.new.self c.reserve.new.stored.items
-    c.reserve.new.stored.cap (cell_of c.args.row.now) c.self.invariant (cell_added
-    c.release.new.cells c.add_new.new.self c.cell.result c.in-Ok-None.ensures.ok p
-    ∙ ap (λ (cs : List Cell). cs ++ c.cell.result ∷ []) (c.release.ensures
-    ∙ ap (λ n. take n c.self.inside.cells) (c.len.ensures ∙ c.self.inside.stored.ok.0))
-    ∙ ap (λ (cell : Cell). take (length c.self.inside.stored.items) c.self.inside.cells
-    ++ cell ∷ []) c.cell.ensures) c.reserve.ensures.items c.in_ok-reserve.ensures.ok
-    c.in_ok-reserve.ensures.few).room
+append-requires-clause-last c = (added (goal.at.append-requires-clause-last c).In-Ok-None).room
 
 pub append-requires-clause-absent : goal.append-requires-clause-absent
 append-requires-clause-absent c =
-    let p : None ≡ position (cell_eq c.cell.result) c.release.new.cells =
-    (cc (c.in-Ok-None.ensures.place, c.in-Ok-None.field-0-is)) in
+    let here = (goal.at.append-requires-clause-absent c).In-Ok-None in
     made_absent c.self.inside.cells c.self.inside.stored.items c.add_new.new.self
     c.reserve.new.stored.items (cell_of c.args.row.now) c.self.invariant.within
-    (cell_added c.release.new.cells c.add_new.new.self c.cell.result c.in-Ok-None.ensures.ok
-    p ∙ ap (λ (cs : List Cell). cs ++ c.cell.result ∷ []) (c.release.ensures
-    ∙ ap (λ n. take n c.self.inside.cells) (c.len.ensures ∙ c.self.inside.stored.ok.0))
-    ∙ ap (λ (cell : Cell). take (length c.self.inside.stored.items) c.self.inside.cells
-    ++ cell ∷ []) c.cell.ensures) c.reserve.ensures.items
+    (behind here) c.reserve.ensures.items
     (ap (list_any (cell_eq (cell_of c.args.row.now))) (sym (c.release.ensures
     ∙ ap (λ n. take n c.self.inside.cells) (c.len.ensures ∙ c.self.inside.stored.ok.0)))
     ∙ ap (λ (cell : Cell). list_any (cell_eq cell) c.release.new.cells) (sym c.cell.ensures)
-    ∙ any-position (cell_eq c.cell.result) c.release.new.cells ∙ ap is_some (sym p))
+    ∙ any-position (cell_eq c.cell.result) c.release.new.cells ∙ ap is_some (sym (unfound here)))
 
 pub invariant_of-self-in-Err : goal.invariant_of-self-in-Err
-invariant_of-self-in-Err c = (made_none c.self.inside.cells c.self.inside.stored.items
-    c.self.inside.stored.cap c.add_new.new.self c.reserve.new.stored.items
-    c.reserve.new.stored.cap c.self.invariant (c.in-Err.ensures.err ∙ (c.release.ensures
-    ∙ ap (λ n. take n c.self.inside.cells) (c.len.ensures ∙ c.self.inside.stored.ok.0)))
-    c.reserve.ensures.items c.reserve.ensures.capacity).in_step
+invariant_of-self-in-Err c = (unadded (goal.at.invariant_of-self-in-Err c).In-Err).in_step
 
 pub returns-in-Err-clause-err : goal.returns-in-Err-clause-err
-returns-in-Err-clause-err c = (made_none c.self.inside.cells c.self.inside.stored.items
-    c.self.inside.stored.cap c.add_new.new.self c.reserve.new.stored.items
-    c.reserve.new.stored.cap c.self.invariant (c.in-Err.ensures.err ∙ (c.release.ensures
-    ∙ ap (λ n. take n c.self.inside.cells) (c.len.ensures ∙ c.self.inside.stored.ok.0)))
-    c.reserve.ensures.items c.reserve.ensures.capacity).rows
+returns-in-Err-clause-err c = (unadded (goal.at.returns-in-Err-clause-err c).In-Err).rows
     ∙ ap (λ (s : Standing). s.rows) c.self.view_is
 
 pub returns-in-Ok-Some-clause-verdict : goal.returns-in-Ok-Some-clause-verdict
 returns-in-Ok-Some-clause-verdict c =
-    let p : Some c.in-Ok-Some.place ≡ position (cell_eq c.cell.result) c.release.new.cells =
-    (cc (c.in-Ok-Some.ensures.place, c.in-Ok-Some.field-0-is)) in
     c.renew.ensures.verdict ∙ ap (λ (rows : List Row). verdict_of rows c.args.row.now)
-    ((made_none c.self.inside.cells c.self.inside.stored.items c.self.inside.stored.cap
-    c.add_new.new.self c.reserve.new.stored.items c.reserve.new.stored.cap
-    c.self.invariant ((cell_there c.release.new.cells c.add_new.new.self
-    c.cell.result c.in-Ok-Some.place c.in-Ok-Some.ensures.ok p) ∙ (c.release.ensures
-    ∙ ap (λ n. take n c.self.inside.cells) (c.len.ensures ∙ c.self.inside.stored.ok.0)))
-    c.reserve.ensures.items c.reserve.ensures.capacity).rows
+    ((there (goal.at.returns-in-Ok-Some-clause-verdict c).In-Ok-Some).rows
     ∙ ap (λ (s : Standing). s.rows) c.self.view_is)
 
 pub returns-in-Ok-Some-clause-rows : goal.returns-in-Ok-Some-clause-rows
 returns-in-Ok-Some-clause-rows c =
-    let p : Some c.in-Ok-Some.place ≡ position (cell_eq c.cell.result) c.release.new.cells =
-    (cc (c.in-Ok-Some.ensures.place, c.in-Ok-Some.field-0-is)) in
     c.renew.ensures.rows ∙ ap (λ (rows : List Row). rows_after rows c.args.row.now)
-    ((made_none c.self.inside.cells c.self.inside.stored.items c.self.inside.stored.cap
-    c.add_new.new.self c.reserve.new.stored.items c.reserve.new.stored.cap
-    c.self.invariant ((cell_there c.release.new.cells c.add_new.new.self
-    c.cell.result c.in-Ok-Some.place c.in-Ok-Some.ensures.ok p) ∙ (c.release.ensures
-    ∙ ap (λ n. take n c.self.inside.cells) (c.len.ensures ∙ c.self.inside.stored.ok.0)))
-    c.reserve.ensures.items c.reserve.ensures.capacity).rows
+    ((there (goal.at.returns-in-Ok-Some-clause-rows c).In-Ok-Some).rows
     ∙ ap (λ (s : Standing). s.rows) c.self.view_is)
 
 pub returns-in-Ok-Some-clause-placed : goal.returns-in-Ok-Some-clause-placed
-returns-in-Ok-Some-clause-placed c = λ is.
-    let p : Some c.in-Ok-Some.place ≡ position (cell_eq c.cell.result) c.release.new.cells =
-    (cc (c.in-Ok-Some.ensures.place, c.in-Ok-Some.field-0-is)) in
+returns-in-Ok-Some-clause-placed c =
     arrive_placed c.args.self.now.rows _ c.args.row.now c.renew.result (subst
     (λ (s : Standing). IsDistinct same_cell s.rows) c.self.view_is c.self.invariant.apart)
-    (c.renew.ensures.verdict ∙ ap (λ (rows : List Row). verdict_of rows c.args.row.now)
-    ((made_none c.self.inside.cells c.self.inside.stored.items c.self.inside.stored.cap
-    c.add_new.new.self c.reserve.new.stored.items c.reserve.new.stored.cap
-    c.self.invariant ((cell_there c.release.new.cells c.add_new.new.self
-    c.cell.result c.in-Ok-Some.place c.in-Ok-Some.ensures.ok p) ∙ (c.release.ensures
-    ∙ ap (λ n. take n c.self.inside.cells) (c.len.ensures ∙ c.self.inside.stored.ok.0)))
-    c.reserve.ensures.items c.reserve.ensures.capacity).rows
-    ∙ ap (λ (s : Standing). s.rows) c.self.view_is))
-    (c.renew.ensures.rows ∙ ap (λ (rows : List Row). rows_after rows c.args.row.now)
-    ((made_none c.self.inside.cells c.self.inside.stored.items c.self.inside.stored.cap
-    c.add_new.new.self c.reserve.new.stored.items c.reserve.new.stored.cap
-    c.self.invariant ((cell_there c.release.new.cells c.add_new.new.self
-    c.cell.result c.in-Ok-Some.place c.in-Ok-Some.ensures.ok p) ∙ (c.release.ensures
-    ∙ ap (λ n. take n c.self.inside.cells) (c.len.ensures ∙ c.self.inside.stored.ok.0)))
-    c.reserve.ensures.items c.reserve.ensures.capacity).rows
-    ∙ ap (λ (s : Standing). s.rows) c.self.view_is)) is
+    (returns-in-Ok-Some-clause-verdict c) (returns-in-Ok-Some-clause-rows c)
 
 pub returns-in-Ok-None-clause-verdict : goal.returns-in-Ok-None-clause-verdict
 returns-in-Ok-None-clause-verdict c =
-    let p : None ≡ position (cell_eq c.cell.result) c.release.new.cells =
-    (cc (c.in-Ok-None.ensures.place, c.in-Ok-None.field-0-is)) in
     sym c.append.ensures.new ∙ ap (λ (rows : List Row). verdict_of rows c.args.row.now)
-    ((made_one c.self.inside.cells c.self.inside.stored.items c.self.inside.stored.cap
-    c.add_new.new.self c.reserve.new.stored.items
-    c.reserve.new.stored.cap (cell_of c.args.row.now) c.self.invariant
-    (cell_added c.release.new.cells c.add_new.new.self c.cell.result c.in-Ok-None.ensures.ok p
-    ∙ ap (λ (cs : List Cell). cs ++ c.cell.result ∷ []) (c.release.ensures
-    ∙ ap (λ n. take n c.self.inside.cells) (c.len.ensures ∙ c.self.inside.stored.ok.0))
-    ∙ ap (λ (cell : Cell). take (length c.self.inside.stored.items) c.self.inside.cells
-    ++ cell ∷ []) c.cell.ensures) c.reserve.ensures.items c.in_ok-reserve.ensures.ok
-    c.in_ok-reserve.ensures.few).rows ∙ ap (λ (s : Standing). s.rows) c.self.view_is)
+    ((added (goal.at.returns-in-Ok-None-clause-verdict c).In-Ok-None).rows
+    ∙ ap (λ (s : Standing). s.rows) c.self.view_is)
 
 pub returns-in-Ok-None-clause-rows : goal.returns-in-Ok-None-clause-rows
 returns-in-Ok-None-clause-rows c =
-    let p : None ≡ position (cell_eq c.cell.result) c.release.new.cells =
-    (cc (c.in-Ok-None.ensures.place, c.in-Ok-None.field-0-is)) in
     c.append.ensures.rows ∙ ap (λ (rows : List Row). rows_after rows c.args.row.now)
-    ((made_one c.self.inside.cells c.self.inside.stored.items c.self.inside.stored.cap
-    c.add_new.new.self c.reserve.new.stored.items
-    c.reserve.new.stored.cap (cell_of c.args.row.now) c.self.invariant
-    (cell_added c.release.new.cells c.add_new.new.self c.cell.result c.in-Ok-None.ensures.ok p
-    ∙ ap (λ (cs : List Cell). cs ++ c.cell.result ∷ []) (c.release.ensures
-    ∙ ap (λ n. take n c.self.inside.cells) (c.len.ensures ∙ c.self.inside.stored.ok.0))
-    ∙ ap (λ (cell : Cell). take (length c.self.inside.stored.items) c.self.inside.cells
-    ++ cell ∷ []) c.cell.ensures) c.reserve.ensures.items c.in_ok-reserve.ensures.ok
-    c.in_ok-reserve.ensures.few).rows ∙ ap (λ (s : Standing). s.rows) c.self.view_is)
+    ((added (goal.at.returns-in-Ok-None-clause-rows c).In-Ok-None).rows
+    ∙ ap (λ (s : Standing). s.rows) c.self.view_is)
 
 pub returns-in-Ok-None-clause-placed : goal.returns-in-Ok-None-clause-placed
-returns-in-Ok-None-clause-placed c = λ is.
-    let p : None ≡ position (cell_eq c.cell.result) c.release.new.cells =
-    (cc (c.in-Ok-None.ensures.place, c.in-Ok-None.field-0-is)) in
+returns-in-Ok-None-clause-placed c =
     arrive_placed c.args.self.now.rows _ c.args.row.now _ (subst
     (λ (s : Standing). IsDistinct same_cell s.rows) c.self.view_is c.self.invariant.apart)
-    (sym c.append.ensures.new ∙ ap (λ (rows : List Row). verdict_of rows c.args.row.now)
-    ((made_one c.self.inside.cells c.self.inside.stored.items
-    c.self.inside.stored.cap c.add_new.new.self c.reserve.new.stored.items
-    c.reserve.new.stored.cap (cell_of c.args.row.now) c.self.invariant
-    (cell_added c.release.new.cells c.add_new.new.self c.cell.result c.in-Ok-None.ensures.ok p
-    ∙ ap (λ (cs : List Cell). cs ++ c.cell.result ∷ []) (c.release.ensures ∙ ap (λ n. take
-    n c.self.inside.cells) (c.len.ensures ∙ c.self.inside.stored.ok.0)) ∙ ap (λ (cell : Cell).
-    take (length c.self.inside.stored.items) c.self.inside.cells ++ cell ∷ []) c.cell.ensures)
-    c.reserve.ensures.items c.in_ok-reserve.ensures.ok c.in_ok-reserve.ensures.few).rows
-    ∙ ap (λ (s : Standing). s.rows) c.self.view_is))
-    (c.append.ensures.rows ∙ ap (λ (rows : List Row). rows_after rows c.args.row.now)
-    ((made_one c.self.inside.cells c.self.inside.stored.items
-    c.self.inside.stored.cap c.add_new.new.self c.reserve.new.stored.items
-    c.reserve.new.stored.cap (cell_of c.args.row.now) c.self.invariant
-    (cell_added c.release.new.cells c.add_new.new.self c.cell.result c.in-Ok-None.ensures.ok p
-    ∙ ap (λ (cs : List Cell). cs ++ c.cell.result ∷ []) (c.release.ensures ∙ ap (λ n. take
-    n c.self.inside.cells) (c.len.ensures ∙ c.self.inside.stored.ok.0)) ∙ ap (λ (cell : Cell).
-    take (length c.self.inside.stored.items) c.self.inside.cells ++ cell ∷ []) c.cell.ensures)
-    c.reserve.ensures.items c.in_ok-reserve.ensures.ok c.in_ok-reserve.ensures.few).rows
-    ∙ ap (λ (s : Standing). s.rows) c.self.view_is)) is
+    (returns-in-Ok-None-clause-verdict c) (returns-in-Ok-None-clause-rows c)

@@ -13,6 +13,7 @@ use Rattle.sample_book.proofs.PutLemmas.{put_placed}
 use Rattle.sample_book.proofs.StandingLemmas.{PutInPlace, put_in_place, PutBehind, put_behind}
 use Rattle.sample_book.proofs.StandingLemmas.{put_apart}
 use Rattle.sample_book.proofs.current_rows.CurrentRows.put.Goals as goal
+use Rattle.sample_book.proofs.current_rows.CurrentRows.put.Goals.{After-extend_from_slice}
 
 in_place : (c : goal.After-self-1)
     → PutInPlace c.self.inside.cells c.self.inside.stored.items c.args.row.now c.in-Some.place
@@ -39,7 +40,8 @@ swapped c =
     c.of.ensures
     ∙ (in_place c).rows
 
-behind : (c : goal.After-extend_from_slice)
+-- the row stands behind all that are stored
+behind : (c : After-extend_from_slice)
     → PutBehind c.self.inside.cells c.self.inside.stored.items c.args.row.now
 behind c =
     let cells = c.self.inside.cells in
@@ -75,19 +77,6 @@ unwrap-requires c =
     c.extend_from_slice.ensures.succeeds (let within = (behind c).within in
     omega (arith, within, c.self.invariant.ready, c.self.inside.stored.ok.0))
 
-put : (c : goal.After-unwrap)
-    → PutBehind c.self.inside.cells c.self.inside.stored.items c.args.row.now
-put c =
-    let cells = c.self.inside.cells in
-    let row = c.args.row.now in
-    put_behind cells c.self.inside.stored.items row c.self.invariant.apart
-    (subst (λ n. list_any (cell_eq (cell_of row)) (take n cells) ≡ false)
-    (c.len.ensures ∙ c.self.inside.stored.ok.0)
-    (subst (λ (cell : Cell). list_any (cell_eq cell) (take c.len.result cells) ≡ false)
-    c.cell.ensures c.in-None.ensures.absent))
-    (subst (λ (s : Standing). MayPutAs (verdict_of s.rows row) s.room (cell_of row))
-    (sym c.self.view_is) c.requires)
-
 -- what is stored grew by the row
 grown : (c : goal.After-unwrap) → c.extend_from_slice.new.self.items ≡ c.self.inside.stored.items
     ++ record { revision = c.args.row.now.revision; amount = c.args.row.now.amount } ∷ []
@@ -106,29 +95,32 @@ longer c = ap length (grown c)
 
 pub invariant_of-self-in-None : goal.invariant_of-self-in-None
 invariant_of-self-in-None c =
-    let within = (put c).within in
+    let put = behind (goal.at.invariant_of-self-in-None c).After-extend_from_slice in
+    let within = put.within in
     record {
       within = omega (arith, within, longer c);
       ready = omega (arith, c.self.invariant.ready, c.extend_from_slice.ensures.capacity);
       few = c.self.invariant.few;
       apart = put_apart (rows_stored c.self.inside.cells c.self.inside.stored.items) _
-          c.args.row.now (ap (rows_stored c.self.inside.cells) (grown c) ∙ (put c).rows);
+          c.args.row.now (ap (rows_stored c.self.inside.cells) (grown c) ∙ put.rows);
     }
 
 pub returns-in-None-clause-rows : goal.returns-in-None-clause-rows
 returns-in-None-clause-rows c =
-    ap (rows_stored c.self.inside.cells) (grown c) ∙ (put c).rows
+    ap (rows_stored c.self.inside.cells) (grown c)
+    ∙ (behind (goal.at.returns-in-None-clause-rows c).After-extend_from_slice).rows
     ∙ ap (λ (s : Standing). current_rows (s.rows ++ c.args.row.now ∷ [])) c.self.view_is
 
 pub returns-in-None-clause-new : goal.returns-in-None-clause-new
 returns-in-None-clause-new c = λ _.
     sym (ap (λ (s : Standing). s.room) c.self.view_is)
-    ∙ (put c).room
+    ∙ (behind (goal.at.returns-in-None-clause-new c).After-extend_from_slice).room
     ∙ ap (λ n. cell_of c.args.row.now ∷ drop n c.self.inside.cells) (sym (longer c))
 
 pub returns-in-None-clause-newer : goal.returns-in-None-clause-newer
 returns-in-None-clause-newer c = λ other. absurd (other
-    (sym (ap (λ (s : Standing). verdict_of s.rows c.args.row.now) c.self.view_is) ∙ (put c).new))
+    (sym (ap (λ (s : Standing). verdict_of s.rows c.args.row.now) c.self.view_is)
+    ∙ (behind (goal.at.returns-in-None-clause-newer c).After-extend_from_slice).new))
 
 placed : (cells : List Cell) (stored : List Stored) (s : Standing) (row : Row) (rows : List Row) →
     IsDistinct same_cell (rows_stored cells stored) → standing_of cells stored ≡ s →
@@ -149,4 +141,5 @@ pub returns-in-None-clause-placed : goal.returns-in-None-clause-placed
 returns-in-None-clause-placed c =
     placed c.self.inside.cells c.self.inside.stored.items c.args.self.now c.args.row.now _
     c.self.invariant.apart c.self.view_is c.requires
-    (ap (rows_stored c.self.inside.cells) (grown c) ∙ (put c).rows)
+    (ap (rows_stored c.self.inside.cells) (grown c)
+    ∙ (behind (goal.at.returns-in-None-clause-placed c).After-extend_from_slice).rows)
