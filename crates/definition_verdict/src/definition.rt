@@ -142,10 +142,13 @@ pub fn judge_definition(
         Err(DocumentsError::Refused(refusal)) => return Err(VerdictError::Refused(refusal)),
         Err(DocumentsError::NoMemory) => return Err(VerdictError::NoMemory),
     };
+    // The catalog copies the objects: the nodes that they were read from are let go before.
+    let documents = nodes.len();
+    drop(nodes);
     match judge_objects(alloc, catalog, zones, book, horizon, objects.as_slice()) {
         Ok((after, same)) => Ok(Definition {
             catalog: after,
-            documents: nodes.len(),
+            documents,
             objects: objects.as_slice().len(),
             same,
         }),

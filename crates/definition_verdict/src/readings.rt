@@ -72,7 +72,7 @@ fn row_read_anew(catalog: &Catalog, book: &SampleBook, object: &Object) -> Optio
 {
     let sli = sli_in(&object.body)?;
     if is_other_reading(catalog, object.name, reading_of(&sli.metric)) {
-        book.cell_of(object.name)
+        book.first_row(object.name)
     } else {
         None
     }

@@ -1,33 +1,22 @@
 //! How often the windows of calendars begin.
 ghost use Rattle.std.specs.Prelude.{◌≡◌, ◌<◌, ◌^◌};
+ghost use Rattle.slo_objects.specs.Document.{IsOfDocument};
 ghost use Rattle.definition_verdict.specs.Starts.{begins_too_often as begins_too_often_lem};
-ghost use Rattle.definition_verdict.specs.Starts.{is_step as is_step_lem};
 ghost use Rattle.definition_verdict.specs.Starts.{one_begins_too_often as one_begins_too_often_lem};
 
+use document_ranges::windows_are_in_range;
 use slo_catalog::{Member, slo_in};
-use slo_duration::{Duration, Unit, rolling_minutes};
-use slo_limits::MAX_WINDOW;
 use slo_objects::Object;
 use slo_objects::zone_calendar::has_too_many_starts;
 
-/// Whether the windows of a calendar may follow each other by a duration.
-fn is_step(step: Duration) -> bool
-    ensures { result ≡ is_step_lem step }
-{
-    match step.unit {
-        Unit::Minute | Unit::Hour => false,
-        Unit::Day | Unit::Week | Unit::Month | Unit::Quarter | Unit::Year => {
-            step.count > 0 && rolling_minutes(step) <= MAX_WINDOW
-        }
-    }
-}
-
-/// Whether the windows of an SLO's calendar begin more often than a list of starts may have.
-#[tactic(auto, using(crate::proofs::StartLemmas::step_calendar))]
+/// Whether the windows of an SLO's calendar begin more often than a list of starts may have. They
+/// follow each other by a step of calendars, as in each document.
 fn begins_too_often(horizon: u32, object: &Object) -> bool
-    requires { horizon < 2 ^ 27 }
+    requires document { IsOfDocument object.now }
+    requires horizon { horizon < 2 ^ 27 }
     ensures { result ≡ begins_too_often_lem horizon object.now }
 {
+    windows_are_in_range();
     let Some(slo) = slo_in(&object.body) else {
         return false;
     };
@@ -35,7 +24,7 @@ fn begins_too_often(horizon: u32, object: &Object) -> bool
     let Some(calendar) = &window.calendar else {
         return false;
     };
-    is_step(window.duration) && has_too_many_starts(&calendar.start_time, window.duration, horizon)
+    has_too_many_starts(&calendar.start_time, window.duration, horizon)
 }
 
 /// Whether the windows of an SLO among the members begin too often.

@@ -35,11 +35,11 @@ use Rattle.office_history.specs.declared.Measure.{Measure}
 use Rattle.office_history.specs.Alerts.{rule_of, condition_named, first_condition, rule_named}
 use Rattle.office_history.specs.Objectives.{reading_named, method_of, measure_of, slo_named}
 use Rattle.office_history.specs.Objectives.{measures_with, measures_of, measure_at}
-use Rattle.object_ranges.specs.Ranges.{IsWidth, IsSliceTarget, IsObjective, HasObjectives, IsWindow}
-use Rattle.object_ranges.specs.Ranges.{IsCondition}
+use Rattle.document_ranges.specs.Ranges.{IsWidth, IsSliceTarget, IsObjective, HasObjectives}
+use Rattle.document_ranges.specs.Ranges.{IsWindow, IsCondition}
 use Rattle.object_ranges.specs.Measures.{HasSliceTarget, IsMeasure}
-use Rattle.object_ranges.proofs.Tables.{IsSlo}
-use Rattle.object_ranges.proofs.Documents.{ReadsBack, slos, conditions}
+use Rattle.document_ranges.proofs.Tables.{IsSlo}
+use Rattle.document_ranges.proofs.Documents.{ReadsBack, slos, conditions}
 
 -- OBJECTS BY THEIR NAMES
 

@@ -1,6 +1,1 @@
-mod Reading
-mod Lines
-mod Values
-mod Tables
-mod Documents
-mod ByName
+pub mod ByName

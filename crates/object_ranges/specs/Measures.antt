@@ -5,7 +5,7 @@ use Rattle.slice_method.specs.declared.Method.TheVariants as methods
 use Rattle.slo_limits.specs.declared.TheConstants.{WHOLE}
 use Rattle.window_sums.specs.Slices.{width_of}
 use Rattle.office_history.specs.declared.Measure.{Measure}
-use Rattle.object_ranges.specs.Ranges.{IsWidth, IsSliceTarget}
+use Rattle.document_ranges.specs.Ranges.{IsWidth, IsSliceTarget}
 
 -- a method that asks for a ratio of each slice asks for one above zero and at most one
 abbrev pub HasSliceTarget : Method → Type 0

@@ -1,12 +1,11 @@
-//! The ranges of what stands in documents: objectives, windows and conditions.
-//! Stands on the tables of objects, whose readers let nothing else through, and on histories.
+//! The ranges of what the objects of a catalog give by their names: measures, rules and windows.
+//! Stands on the ranges of documents, and on histories.
 //! Promises what sums, burn rates, alert lines and calendars ask of their arguments.
 #![tactic(auto)]
 
-mod laws;
 mod named;
 
-pub use laws::{
+pub use document_ranges::{
     bodies_are_of_their_kinds, conditions_are_in_range, objectives_are_in_range,
     windows_are_in_range,
 };

@@ -15,7 +15,7 @@ ghost use Rattle.slo_objects.specs.declared.alert_condition.Condition.{Condition
 ghost use Rattle.slo_objects.specs.Document.{IsOfDocument};
 ghost use Rattle.window_sums.specs.Slices.{width_of};
 ghost use Rattle.object_ranges.specs.Measures.{HasSliceTarget, IsMeasure};
-ghost use Rattle.object_ranges.specs.Ranges.{IsCondition, IsObjective, IsWindow};
+ghost use Rattle.document_ranges.specs.Ranges.{IsCondition, IsObjective, IsWindow};
 
 use slo_objects::each_object_reads_back;
 

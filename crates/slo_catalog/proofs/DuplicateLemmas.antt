@@ -1,21 +1,23 @@
 -- The first object that is another than an earlier one of its kind and name is another than the
--- first one of them.
-use Rattle.std.proofs.Common.{◌≡◌, ℕ, Bool, true, false, not, ◌&&◌, ◌||◌, cond, ◌⊎◌, inl, inr, List}
-use Rattle.std.proofs.Common.{[], ◌∷◌, ◌++◌, find, Option, Some, None, is_some, is_eq, refl, sym}
+-- first one of them, and than the one of them that stands among members.
+use Rattle.std.proofs.Common.{◌≡◌, ℕ, ◌<◌, ◌≤◌, ◌+◌, Bool, true, false, not, ◌&&◌, ◌||◌, cond}
+use Rattle.std.proofs.Common.{◌⊎◌, inl, inr, List, length, drop, get_or}
+use Rattle.std.proofs.lemmas.List.{drop_all, drop_more}
+use Rattle.std.proofs.Common.{[], ◌∷◌, ◌++◌, Option, Some, None, is_some, is_eq, refl, sym}
 use Rattle.std.proofs.Common.{ap, ap₂, ◌∙◌, subst, true≢false, append_assoc}
 use Rattle.std.specs.List.{AllByRecursion, list_any}
-use Rattle.std.specs.Cmp.{IsEquivalence}
 use Rattle.std.proofs.lemmas.Cmp.{nat_list_eq_equiv}
 use Rattle.slo_objects.specs.yaml_subset.Spelling.{writing}
 use Rattle.slo_objects.specs.declared.kind.Kind.{Kind}
 use Rattle.slo_objects.specs.declared.object.Object.{Object}
 use Rattle.slo_objects.specs.Document.{written}
-use Rattle.slo_catalog.specs.Keys.{is_key, find_in, object_cmp}
+use Rattle.slo_catalog.specs.Keys.{is_key, find_in}
+use Rattle.slo_catalog.specs.Catalog.{put}
 use Rattle.slo_catalog.specs.Define.{is_same, is_other_than, first_other, first_duplicate, differs}
 use Rattle.slo_catalog.specs.Define.{first_differing}
 use Rattle.slo_catalog.proofs.AmongLemmas.{Among, all_among}
 use Rattle.slo_catalog.proofs.KeyLemmas.{object_order, same_key}
-use Rattle.slo_catalog.proofs.FindLemmas.{both_keys}
+use Rattle.slo_catalog.proofs.FindLemmas.{both_keys, find_put}
 use Rattle.std.proofs.lemmas.Cmp.{tied_itself}
 
 same_itself : (o : Object) → is_same o o ≡ true
@@ -36,21 +38,26 @@ abbrev Agree : List Object → Type 0
 Agree os = (kind : Kind) (name : List ℕ) (p q : Object) → Among os p → Among os q
     → is_key kind name p ≡ true → is_key kind name q ≡ true → is_same p q ≡ true
 
-abbrev NoneFound : List Object → Kind → List ℕ → Type 0
-NoneFound os kind name = (find_in os kind name ≡ None)
-    × AllByRecursion (λ p. is_key kind name p ≡ false) os
+-- among members there is none of that kind and name, and none was earlier
+abbrev NoneFound : List Object → List Object → Kind → List ℕ → Type 0
+NoneFound members earlier kind name = (find_in members kind name ≡ None)
+    × AllByRecursion (λ p. is_key kind name p ≡ false) earlier
 
-abbrev OneFound : List Object → Kind → List ℕ → Type 0
-OneFound os kind name = (p : Object) × (find_in os kind name ≡ Some p) × Among os p
-    × (is_key kind name p ≡ true)
+-- among members there is an earlier one of that kind and name
+abbrev OneFound : List Object → List Object → Kind → List ℕ → Type 0
+OneFound members earlier kind name = (p : Object) × (find_in members kind name ≡ Some p)
+    × Among earlier p × (is_key kind name p ≡ true)
 
-found : (os : List Object) (kind : Kind) (name : List ℕ)
-    → NoneFound os kind name ⊎ OneFound os kind name
+abbrev Found : List Object → List Object → Kind → List ℕ → Type 0
+Found members earlier kind name =
+    NoneFound members earlier kind name ⊎ OneFound members earlier kind name
+
+found : (os : List Object) (kind : Kind) (name : List ℕ) → Found os os kind name
 found [] kind name = inl (refl, tt)
 found (o ∷ os) kind name = by (is_key kind name o) refl (found os kind name)
   where
-    by : (b : Bool) → is_key kind name o ≡ b → NoneFound os kind name ⊎ OneFound os kind name
-        → NoneFound (o ∷ os) kind name ⊎ OneFound (o ∷ os) kind name
+    by : (b : Bool) → is_key kind name o ≡ b → Found os os kind name
+        → Found (o ∷ os) (o ∷ os) kind name
     by true e more = inr (o, ap (λ b. cond b (Some o) (find_in os kind name)) e, inl refl, e)
     by false e (inl n) = inl (ap (λ b. cond b (Some o) (find_in os kind name)) e ∙ n.0, (e, n.1))
     by false e (inr f) =
@@ -102,32 +109,38 @@ one_test false b c h k = refl
 abbrev test : Object → Object → Bool
 test o p = is_key o.kind o.name p && not (is_same p o)
 
+-- an object differs from none where none was of its kind and name
+none_differs : (o : Object) (xs : List Object)
+    → AllByRecursion (λ p. is_key o.kind o.name p ≡ false) xs → differs xs o ≡ false
+none_differs o xs h =
+    any_none (test o) xs (λ q k. and_false (is_key o.kind o.name q) (not (is_same q o))
+    (all_among (λ p. is_key o.kind o.name p ≡ false) xs q h k))
+
+-- where earlier ones of its kind and name are alike, it differs from one where it does from another
+one_differs : (earlier : List Object) (o p : Object) → Agree earlier → Among earlier p
+    → is_key o.kind o.name p ≡ true → not (is_same p o) ≡ differs earlier o
+one_differs earlier o p agree k h = by (not (is_same p o)) refl
+  where
+    by : (b : Bool) → not (is_same p o) ≡ b → b ≡ differs earlier o
+    by true e = sym (any_one (test o) earlier p k (ap₂ (λ a b. a && b) h e))
+    by false e = sym (any_none (test o) earlier
+        (λ q l. one_test (is_key o.kind o.name q) (not (is_same q o)) (not (is_same p o))
+        (λ i. ap not (same_as_same q p o (agree o.kind o.name q p l k i h))) e))
+
 -- an object is another than the first of its kind and name where it is another than an earlier one
 other_now : (earlier os : List Object) (o : Object) → Agree earlier
     → is_other_than (find_in (earlier ++ o ∷ os) o.kind o.name) o ≡ differs earlier o
 other_now earlier os o agree = by (found earlier o.kind o.name)
   where
-    none : (xs : List Object) → AllByRecursion (λ p. is_key o.kind o.name p ≡ false) xs
-        → list_any (test o) xs ≡ false
-    none xs h = any_none (test o) xs (λ q k. and_false (is_key o.kind o.name q) (not (is_same q o))
-        (all_among (λ p. is_key o.kind o.name p ≡ false) xs q h k))
-
-    with_first : (p : Object) (b : Bool) → not (is_same p o) ≡ b → Among earlier p
-        → is_key o.kind o.name p ≡ true → b ≡ list_any (test o) earlier
-    with_first p true e k h = sym (any_one (test o) earlier p k (ap₂ (λ a b. a && b) h e))
-    with_first p false e k h = sym (any_none (test o) earlier
-        (λ q l. one_test (is_key o.kind o.name q) (not (is_same q o)) (not (is_same p o))
-        (λ i. ap not (same_as_same q p o (agree o.kind o.name q p l k i h))) e))
-
-    by : NoneFound earlier o.kind o.name ⊎ OneFound earlier o.kind o.name
+    by : Found earlier earlier o.kind o.name
         → is_other_than (find_in (earlier ++ o ∷ os) o.kind o.name) o ≡ differs earlier o
     by (inl n) =
         ap (λ f. is_other_than f o) (find_rest o.kind o.name earlier (o ∷ os) n.1
         ∙ ap (λ b. cond b (Some o) (find_in os o.kind o.name)) (key_itself o))
-        ∙ (ap not (same_itself o) ∙ sym (none earlier n.1))
+        ∙ (ap not (same_itself o) ∙ sym (none_differs o earlier n.1))
     by (inr f) =
         ap (λ g. is_other_than g o) (find_front o.kind o.name earlier (o ∷ os) f.0 f.1)
-        ∙ with_first f.0 (not (is_same f.0 o)) refl f.2 f.3
+        ∙ one_differs earlier o f.0 agree f.2 f.3
 
 either : (earlier : List Object) (o p : Object) → Among (earlier ++ o ∷ []) p
     → Among earlier p ⊎ (o ≡ p)
@@ -198,3 +211,98 @@ found_first earlier (o ∷ os) agree =
 
 pub first_is_named : (objects : List Object) → first_duplicate objects ≡ first_differing [] objects
 first_is_named objects = found_first [] objects (λ kind name p q k l i j. absurd k)
+
+-- AMONG MEMBERS
+
+-- members hold one of the earlier ones of each kind and name
+abbrev Holds : List Object → List Object → Type 0
+Holds members earlier = (kind : Kind) (name : List ℕ) → Found members earlier kind name
+
+last_among : (xs : List Object) (o : Object) → Among (xs ++ o ∷ []) o
+last_among [] o = inl refl
+last_among (x ∷ xs) o = inr (last_among xs o)
+
+among_front : (xs ys : List Object) (p : Object) → Among xs p → Among (xs ++ ys) p
+among_front [] ys p h = absurd h
+among_front (x ∷ xs) ys p (inl same) = inl same
+among_front (x ∷ xs) ys p (inr h) = inr (among_front xs ys p h)
+
+all_more : (P : Object → Type 0) (xs : List Object) (o : Object) → AllByRecursion P xs → P o
+    → AllByRecursion P (xs ++ o ∷ [])
+all_more P [] o h k = (k, tt)
+all_more P (x ∷ xs) o h k = (h.0, all_more P xs o h.1 k)
+
+holds_more : (members earlier : List Object) (o : Object) → Holds members earlier
+    → Holds (put o members) (earlier ++ o ∷ [])
+holds_more members earlier o holds kind name = by (is_key kind name o) refl (holds kind name)
+  where
+    put_found : (b : Bool) → is_key kind name o ≡ b
+        → find_in (put o members) kind name ≡ cond b (Some o) (find_in members kind name)
+    put_found b e = find_put o members kind name
+        ∙ ap (λ b. cond b (Some o) (find_in members kind name)) e
+
+    by : (b : Bool) → is_key kind name o ≡ b → Found members earlier kind name
+        → Found (put o members) (earlier ++ o ∷ []) kind name
+    by true e h = inr (o, put_found true e, last_among earlier o, e)
+    by false e (inl n) = inl (
+      put_found false e ∙ n.0,
+      all_more (λ p. is_key kind name p ≡ false) earlier o n.1 e,
+    )
+    by false e (inr f) =
+        inr (f.0, put_found false e ∙ f.1, among_front earlier (o ∷ []) f.0 f.2, f.3)
+
+other_by : (members earlier : List Object) (o : Object) → Agree earlier
+    → Found members earlier o.kind o.name
+    → is_other_than (find_in members o.kind o.name) o ≡ differs earlier o
+other_by members earlier o agree (inl n) =
+    ap (λ f. is_other_than f o) n.0 ∙ sym (none_differs o earlier n.1)
+other_by members earlier o agree (inr f) =
+    ap (λ g. is_other_than g o) f.1 ∙ one_differs earlier o f.0 agree f.2 f.3
+
+-- the first object that is another than the one of its kind and name among members, to which each
+-- is put that isn't
+abbrev pub first_against : List Object → List Object → Option Object
+first_against members [] = None
+first_against members (o ∷ os) = cond (is_other_than (find_in members o.kind o.name) o) (Some o)
+    (first_against (put o members) os)
+
+found_against : (members earlier os : List Object) → Agree earlier → Holds members earlier
+    → first_against members os ≡ first_differing earlier os
+found_against members earlier [] agree holds = refl
+found_against members earlier (o ∷ os) agree holds =
+    by (differs earlier o) (other_by members earlier o agree (holds o.kind o.name))
+    refl (λ h. found_against (put o members) (earlier ++ o ∷ []) os (agree_more earlier o agree h)
+    (holds_more members earlier o holds))
+  where
+    by : (b : Bool) → is_other_than (find_in members o.kind o.name) o ≡ b
+        → differs earlier o ≡ b
+        → (differs earlier o ≡ false
+        → first_against (put o members) os ≡ first_differing (earlier ++ o ∷ []) os)
+        → first_against members (o ∷ os)
+        ≡ cond b (Some o) (first_differing (earlier ++ o ∷ []) os)
+    by true e f again = ap (λ b. cond b (Some o) (first_against (put o members) os)) e
+    by false e f again = ap (λ b. cond b (Some o) (first_against (put o members) os)) e ∙ again f
+
+first_by_earlier : (objects : List Object) → first_against [] objects ≡ first_duplicate objects
+first_by_earlier objects =
+    found_against [] [] objects (λ kind name p q k l i j. absurd k) (λ kind name. inl (refl, tt))
+    ∙ sym (first_is_named objects)
+
+-- the object at a place is the first duplicate where those ahead of it are none and it is another
+-- than the one of its kind and name among them
+pub stops_at : (members objects : List Object) (i : ℕ) (o : Object) → i < length objects
+    → o ≡ get_or objects i o → is_other_than (find_in members o.kind o.name) o ≡ true
+    → first_against members (drop i objects) ≡ first_against [] objects
+    → Some o ≡ first_duplicate objects
+stops_at members objects i o below is other so_far =
+    sym (ap (first_against members)
+    (drop_more objects i o below ∙ ap (λ x. x ∷ drop (i + 1) objects) (sym is))
+    ∙ ap (λ b. cond b (Some o) (first_against (put o members) (drop (i + 1) objects))) other)
+    ∙ so_far ∙ first_by_earlier objects
+
+-- there is none where none was found up to the end
+pub ends_at : (members objects : List Object) (i : ℕ) → length objects ≤ i
+    → first_against members (drop i objects) ≡ first_against [] objects
+    → None ≡ first_duplicate objects
+ends_at members objects i end so_far =
+    sym (ap (first_against members) (drop_all i objects end)) ∙ so_far ∙ first_by_earlier objects

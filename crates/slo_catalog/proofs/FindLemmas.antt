@@ -1,7 +1,7 @@
 -- Looking for an object among those that were put in their places.
 use Rattle.std.proofs.Common.{length, ◌≡◌, ℕ, Bool, true, false, ◌&&◌, ◌==◌, cond, List, [], ◌∷◌}
-use Rattle.std.proofs.Common.{Option, Some, None, IfSome, All, refl, sym, ap, ap₂, ◌∙◌, true≢false}
-use Rattle.std.proofs.Common.{subst, find, Ordering, Less, Equal, Greater, is_eq, bytes_eq, nat_cmp}
+use Rattle.std.proofs.Common.{Option, Some, None, IfSome, All, refl, sym, ap, ◌∙◌, true≢false}
+use Rattle.std.proofs.Common.{subst, Ordering, Less, Equal, Greater, is_eq, bytes_eq, nat_cmp}
 use Rattle.std.specs.Ordering.{match_ordering}
 use Rattle.std.specs.Prelude.{◌+◌, unwrap_or}
 use Rattle.std.specs.Cmp.Lexicographic.{slice_cmp}
@@ -23,7 +23,7 @@ use Rattle.slo_objects.specs.Document.{written}
 use Rattle.slo_catalog.specs.Limits.{weight}
 use Rattle.slo_limits.specs.declared.TheConstants.{MAX_CATALOG_BYTES}
 use Rattle.slo_objects.specs.yaml_subset.Room.{up_to}
-use Rattle.slo_catalog.specs.Define.{is_same, firsts, is_other_than, first_other, first_duplicate}
+use Rattle.slo_catalog.specs.Define.{is_same}
 
 -- objects of one kind and name answer each question about kind and name alike
 alike : (o p : Object) (kind : Kind) (name : List ℕ) → object_cmp o p ≡ Equal
@@ -90,12 +90,6 @@ find_put o (p ∷ ps) kind name = by (object_cmp o p) refl (find_put o ps kind n
         ∙ swap (is_key kind name o) (is_key kind name p) (Some o) (Some p) (find_in ps kind name)
         (λ h k. absurd (true≢false (sym (both_keys o p kind name h k) ∙ ap is_eq e)))
 
-pub find_firsts : (objects : List Object) (kind : Kind) (name : List ℕ)
-    → find_in (firsts objects) kind name ≡ find_in objects kind name
-find_firsts [] kind name = refl
-find_firsts (o ∷ rest) kind name = find_put o (firsts rest) kind name
-    ∙ ap (λ r. cond (is_key kind name o) (Some o) r) (find_firsts rest kind name)
-
 find_true_by : (P : Object → Type 0) (os : List Object) (kind : Kind) (name : List ℕ)
     → AllByRecursion P os → IfSome (find_in os kind name) P
 find_true_by P [] kind name h = tt
@@ -122,18 +116,6 @@ pub find_seen : (P : Object → Type 0) (os : List Object) (kind : Kind)
     → IfSome r (λ o. P o.now)
 find_seen P os kind name r h all =
     seen P r (subst (λ o. IfSome o P) (sym h) (find_true P os kind name all))
-
-same_found : {A : Type 0} (f g : A → Bool) → ((x : A) → f x ≡ g x) → (xs : List A)
-    → find f xs ≡ find g xs
-same_found f g h [] = refl
-same_found f g h (x ∷ xs) = ap₂ (λ b r. cond b (Some x) r) (h x) (same_found f g h xs)
-
-pub other_than_firsts : (objects : List Object)
-    → first_other (firsts objects) objects ≡ first_duplicate objects
-other_than_firsts objects =
-    same_found (λ o. is_other_than (find_in (firsts objects) o.kind o.name) o)
-    (λ o. is_other_than (find_in objects o.kind o.name) o)
-    (λ o. ap (λ r. is_other_than r o) (find_firsts objects o.kind o.name)) objects
 
 apart : (xs ys : List ℕ) → (length xs ≡ length ys → ⊥) → bytes_eq xs ys ≡ false
 apart xs ys h = by (bytes_eq xs ys) refl

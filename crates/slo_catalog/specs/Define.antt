@@ -14,7 +14,7 @@ use Rattle.slo_catalog.specs.declared.fault.DefineError.TheVariants as errors
 use Rattle.slo_catalog.specs.declared.reference.Reference.{Reference}
 use Rattle.slo_catalog.specs.declared.needs_op.NeedsOp.{NeedsOp}
 use Rattle.slo_catalog.specs.Keys.{kind_rank, is_key, find_in}
-use Rattle.slo_catalog.specs.Catalog.{put, put_all}
+use Rattle.slo_catalog.specs.Catalog.{put_all}
 use Rattle.slo_catalog.specs.References.{is_built_in, first_unresolved}
 use Rattle.slo_catalog.specs.NeedsOp.{first_needing_op}
 use Rattle.slo_catalog.specs.Limits.{first_limit}
@@ -45,11 +45,6 @@ abbrev pub first_differing : List Object → List Object → Option Object
 first_differing earlier [] = None
 first_differing earlier (o ∷ os) =
     cond (differs earlier o) (Some o) (first_differing (earlier ++ o ∷ []) os)
-
--- the first object of each kind and name
-abbrev pub firsts : List Object → List Object
-firsts [] = []
-firsts (o ∷ os) = put o (firsts os)
 
 -- an alert policy with the name of one that is always there
 abbrev pub is_reserved : Object → Bool

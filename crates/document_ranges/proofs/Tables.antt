@@ -5,11 +5,11 @@ use Rattle.std.specs.Prelude.{codes, nat_le, IfSome, IsNone}
 use Rattle.std.proofs.lemmas.Bool.{leb-true, and_parts}
 use Rattle.std.proofs.lemmas.Option.{IfSome_then}
 use Rattle.std.proofs.lemmas.List.Elements.{All-from_recursion}
-use Rattle.yaml_subset.specs.Tree.{Entries}
-use Rattle.slo_duration.specs.Unit.{unit_minutes}
-use Rattle.slo_duration.specs.declared.Duration.{Duration}
-use Rattle.slo_duration.specs.declared.Unit.{Unit as TimeUnit}
-use Rattle.slo_duration.specs.declared.Unit.TheVariants as units
+use Rattle.slo_objects.specs.yaml_subset.Tree.{Entries}
+use Rattle.slo_objects.specs.slo_duration.Unit.{unit_minutes}
+use Rattle.slo_objects.specs.slo_duration.declared.Duration.{Duration}
+use Rattle.slo_objects.specs.slo_duration.declared.Unit.{Unit as TimeUnit}
+use Rattle.slo_objects.specs.slo_duration.declared.Unit.TheVariants as units
 use Rattle.slo_objects.specs.declared.Slo.{Slo}
 use Rattle.slo_objects.specs.declared.slo.BudgetingMethod.{BudgetingMethod}
 use Rattle.slo_objects.specs.declared.Rule.TheVariants as rules
@@ -22,14 +22,14 @@ use Rattle.slo_objects.specs.Slo.{calendar, is_rolling, is_calendar_unit, time_w
 use Rattle.slo_objects.specs.Slo.{has_slice_target, has_slices, slice_width, target, is_target}
 use Rattle.slo_objects.specs.Slo.{objective, one_to_five, objective_item, objectives, policy_item}
 use Rattle.slo_objects.specs.Slo.{at_most_ten, policies, slo}
-use Rattle.zone_calendar.specs.Starts.{IsCalendarUnit, IsCalendarStep}
-use Rattle.object_ranges.specs.Ranges.{IsWidth, IsObjective, HasObjectives, IsWindow, IsCondition}
-use Rattle.object_ranges.proofs.Reading.{Reads, Makes, map_reads}
-use Rattle.object_ranges.proofs.Lines.{required_gave, optional_gave, required_where_gave}
-use Rattle.object_ranges.proofs.Lines.{required_unless_gave, one_of_gave, holding_gave, HasItems}
-use Rattle.object_ranges.proofs.Lines.{list_reads, single_reads}
-use Rattle.object_ranges.proofs.Values.{IsWithin, number_reads, percent_reads, LastsWithin}
-use Rattle.object_ranges.proofs.Values.{duration_reads, width_reads}
+use Rattle.slo_objects.specs.zone_calendar.Starts.{IsCalendarUnit, IsCalendarStep}
+use Rattle.document_ranges.specs.Ranges.{IsWidth, IsObjective, HasObjectives, IsWindow, IsCondition}
+use Rattle.document_ranges.proofs.Reading.{Reads, Makes, map_reads}
+use Rattle.document_ranges.proofs.Lines.{required_gave, optional_gave, required_where_gave}
+use Rattle.document_ranges.proofs.Lines.{required_unless_gave, one_of_gave, holding_gave, HasItems}
+use Rattle.document_ranges.proofs.Lines.{list_reads, single_reads}
+use Rattle.document_ranges.proofs.Values.{IsWithin, number_reads, percent_reads, LastsWithin}
+use Rattle.document_ranges.proofs.Values.{duration_reads, width_reads}
 
 abbrev Any : {A : Type 0} → A → Type 0
 Any a = Unit {0}

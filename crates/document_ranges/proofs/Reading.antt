@@ -1,8 +1,8 @@
 -- What holds of each value that a form or a table gives.
 use Rattle.std.proofs.Common.{◌≡◌, ℕ, List, [], ◌++◌, Result, Ok, Err, refl, ap, ◌∙◌, subst}
 use Rattle.std.specs.Prelude.{IfOk}
-use Rattle.yaml_subset.specs.Tree.{Tree, mapping, sequence, scalar, Entries}
-use Rattle.yaml_subset.specs.Spelling.{Spelling}
+use Rattle.slo_objects.specs.yaml_subset.Tree.{Tree, mapping, sequence, scalar, Entries}
+use Rattle.slo_objects.specs.yaml_subset.Spelling.{Spelling}
 use Rattle.slo_objects.specs.declared.Object.{Object}
 use Rattle.slo_objects.specs.declared.Rule.{Rule}
 use Rattle.slo_objects.specs.declared.Rule.TheVariants.{NotMap}

@@ -4,8 +4,8 @@ use Rattle.std.proofs.Common.{◌≡◌, List, [], ◌∷◌, ◌++◌, Some, Ok
 use Rattle.std.specs.Prelude.{codes}
 use Rattle.std.specs.List.{AllByRecursion}
 use Rattle.std.proofs.lemmas.List.Elements.{All-from_recursion, All-contains}
-use Rattle.yaml_subset.specs.Tree.{Tree, Entries}
-use Rattle.yaml_subset.specs.Spelling.{meant}
+use Rattle.slo_objects.specs.yaml_subset.Tree.{Tree, Entries}
+use Rattle.slo_objects.specs.yaml_subset.Spelling.{meant}
 use Rattle.slo_objects.specs.declared.Object.{Object}
 use Rattle.slo_objects.specs.declared.Body.{Body}
 use Rattle.slo_objects.specs.declared.Body.TheVariants as bodies
@@ -17,11 +17,12 @@ use Rattle.slo_objects.specs.Form.{Answer, map_with}
 use Rattle.slo_objects.specs.Document.{body, document, with_own, objects_of, written, IsOfDocument}
 use Rattle.slo_objects.specs.AlertCondition.{alert_condition, condition_in}
 use Rattle.slo_objects.specs.Slo.{slo, slo_in}
-use Rattle.object_ranges.specs.Kinds.{kind_of}
-use Rattle.object_ranges.specs.Ranges.{HasObjectives, IsWindow, IsCondition}
-use Rattle.object_ranges.proofs.Reading.{ok_same, err_not_ok, Reads, Makes, map_reads, mapped_gave}
-use Rattle.object_ranges.proofs.Lines.{required_gave}
-use Rattle.object_ranges.proofs.Tables.{IsSlo, slo_reads, alert_condition_reads}
+use Rattle.document_ranges.specs.Kinds.{kind_of}
+use Rattle.document_ranges.specs.Ranges.{HasObjectives, IsWindow, IsCondition}
+use Rattle.document_ranges.proofs.Reading.{ok_same, err_not_ok, Reads, Makes, map_reads}
+use Rattle.document_ranges.proofs.Reading.{mapped_gave}
+use Rattle.document_ranges.proofs.Lines.{required_gave}
+use Rattle.document_ranges.proofs.Tables.{IsSlo, slo_reads, alert_condition_reads}
 
 -- what a body is to be, by its variant
 abbrev pub IsBody : Body → Type 0

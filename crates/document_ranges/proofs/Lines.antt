@@ -3,8 +3,9 @@ use Rattle.std.proofs.Common.{◌≡◌, ℕ, ◌+◌, Bool, true, false, List, 
 use Rattle.std.proofs.Common.{None, Ok, Err, cond, length, refl, ap, ◌∙◌, subst, arith}
 use Rattle.std.specs.Prelude.{IfSome, IsSome, IsNone}
 use Rattle.std.specs.List.{AllByRecursion}
-use Rattle.yaml_subset.specs.Tree.{Tree, mapping, sequence, scalar, Entries, Trees, no_trees, item}
-use Rattle.yaml_subset.specs.Spelling.{Spelling}
+use Rattle.slo_objects.specs.yaml_subset.Tree.{Tree, mapping, sequence, scalar, Entries, Trees}
+use Rattle.slo_objects.specs.yaml_subset.Tree.{no_trees, item}
+use Rattle.slo_objects.specs.yaml_subset.Spelling.{Spelling}
 use Rattle.slo_objects.specs.declared.Object.{Object}
 use Rattle.slo_objects.specs.declared.Rule.{Rule}
 use Rattle.slo_objects.specs.declared.Rule.TheVariants.{Missing, Both, Neither, NotList, ListLength}
@@ -12,7 +13,7 @@ use Rattle.slo_objects.specs.Form.{Key, Answer, gives, refused, mapped, on_some,
 use Rattle.slo_objects.specs.Form.{required, optional, required_where, required_unless}
 use Rattle.slo_objects.specs.Form.{barred_field, field_or, either_field, one_of, holding, count}
 use Rattle.slo_objects.specs.Form.{each, with_item, list_with, only_in, single}
-use Rattle.object_ranges.proofs.Reading.{ok_same, err_not_ok, refused_not_ok, Reads, mapped_gave}
+use Rattle.document_ranges.proofs.Reading.{ok_same, err_not_ok, refused_not_ok, Reads, mapped_gave}
 
 pub required_gave : {A : Type 0} (Q : A → Type 0) (key : Key) (f : Form A) → Reads f Q
     → (es : Entries) (y : List Object × A) → (required key f).read es ≡ Ok y → Q y.1

@@ -4,15 +4,15 @@ use Rattle.std.proofs.Common.{Result, Ok, Err, cond, refl, arith}
 use Rattle.std.specs.Prelude.{◌==◌, ◌%◌, nat_le, IfOk, decimal}
 use Rattle.std.proofs.Math.Nat.{dvd_of_mod-eq-zero}
 use Rattle.std.proofs.lemmas.Bool.{leb-true, eqb-true, and_parts}
-use Rattle.yaml_subset.specs.Spelling.{word}
+use Rattle.slo_objects.specs.yaml_subset.Spelling.{word}
 use Rattle.exact_fraction.specs.Digits.{is_number, number_within}
 use Rattle.exact_fraction.specs.DecimalText.{decimal_text}
 use Rattle.exact_fraction.specs.declared.DecimalFault.{DecimalFault}
 use Rattle.exact_fraction.specs.declared.DecimalFault.TheVariants as decimals
-use Rattle.slo_duration.specs.Writing.{duration_text}
-use Rattle.slo_duration.specs.declared.Duration.{Duration}
-use Rattle.slo_duration.specs.declared.DurationFault.{DurationFault}
-use Rattle.slo_duration.specs.declared.DurationFault.TheVariants as durations
+use Rattle.slo_objects.specs.slo_duration.Writing.{duration_text}
+use Rattle.slo_objects.specs.slo_duration.declared.Duration.{Duration}
+use Rattle.slo_objects.specs.slo_duration.declared.DurationFault.{DurationFault}
+use Rattle.slo_objects.specs.slo_duration.declared.DurationFault.TheVariants as durations
 use Rattle.slo_objects.specs.declared.Rule.{Rule}
 use Rattle.slo_objects.specs.declared.Rule.TheVariants as rules
 use Rattle.slo_objects.specs.Scalars.{within, number_in, decimal_read, number_value, number}
@@ -21,8 +21,8 @@ use Rattle.slo_objects.specs.Durations.{duration_read, duration_in, duration_val
 use Rattle.slo_objects.specs.Durations.{minutes_of}
 use Rattle.slo_objects.specs.Slo.{width_in, width_of_duration, width_of_digits, width_value}
 use Rattle.slo_objects.specs.Slo.{slice_width}
-use Rattle.object_ranges.specs.Ranges.{IsWidth}
-use Rattle.object_ranges.proofs.Reading.{Reads, scalar_reads}
+use Rattle.document_ranges.specs.Ranges.{IsWidth}
+use Rattle.document_ranges.proofs.Reading.{Reads, scalar_reads}
 
 abbrev pub IsWithin : ℕ → ℕ → ℕ → Type 0
 IsWithin least most n = (least ≤ n) × (n ≤ most)

@@ -6,8 +6,8 @@ ghost use Rattle.slo_objects.specs.declared.AlertCondition.{AlertCondition};
 ghost use Rattle.slo_objects.specs.AlertCondition.{condition_in};
 ghost use Rattle.slo_objects.specs.Document.{IsOfDocument};
 ghost use Rattle.slo_objects.specs.Slo.{slo_in};
-ghost use Rattle.object_ranges.specs.Kinds.{kind_of};
-ghost use Rattle.object_ranges.specs.Ranges.{HasObjectives, IsCondition, IsWindow};
+ghost use Rattle.document_ranges.specs.Kinds.{kind_of};
+ghost use Rattle.document_ranges.specs.Ranges.{HasObjectives, IsCondition, IsWindow};
 
 use slo_objects::each_object_reads_back;
 

@@ -1,0 +1,5 @@
+pub mod Reading
+pub mod Lines
+pub mod Values
+pub mod Tables
+pub mod Documents
