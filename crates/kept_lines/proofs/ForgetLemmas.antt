@@ -5,7 +5,7 @@ use Rattle.burn_core.specs.declared.AlertRule.{AlertRule}
 use Rattle.burn_core.specs.Alert.{reach_of}
 use Rattle.alert_line.specs.Line.{Line}
 use Rattle.kept_lines.specs.Touched.{Forgets, ForgetsOnly, IsClear, IsForgetting, IsInIf, IsInRun}
-use Rattle.kept_lines.specs.Touched.{IsRun, IsRunIf, Touches, is_near}
+use Rattle.kept_lines.specs.Touched.{IsRun, Touches, is_near}
 use Rattle.kept_lines.specs.declared.run.Run.{Run}
 
 -- to forget nothing
@@ -135,15 +135,3 @@ touches-one more width reach at run next line after one is shape has own all onl
     by : (slice : ℕ) → IsInIf run slice ⊎ (slice ≡ at) → IsInIf run slice ⊎ more slice
     by slice (inl a) = inl a
     by slice (inr e) = inr (subst more (sym e) is)
-
--- nothing more is touched
-pub touches-none : (more : ℕ → Type 0) (width reach : ℕ) (run : Option Run) (line : Line) →
-    ((slice : ℕ) → more slice → ⊥) → IsRunIf width reach run →
-    Touches more width reach run run line line
-touches-none more width reach run line none runs = record {
-  runs = runs;
-  has = λ slice is. absurd (none slice is);
-  own = λ slice inside. inl inside;
-  all = λ slice inside. inl inside;
-  only = only-none (IsInIf run) width line;
-}

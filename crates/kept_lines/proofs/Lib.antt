@@ -3,6 +3,8 @@ pub mod RunLemmas
 pub mod ForgetLemmas
 pub mod MovedLemmas
 pub mod ChangedLemmas
+pub mod CountedLemmas
+pub mod EachLemmas
 pub mod FollowingLemmas
 pub mod SliceLemmas
 pub mod RightLemmas

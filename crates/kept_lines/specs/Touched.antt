@@ -1,16 +1,18 @@
 -- What a line has to forget where the counts of some slices change, and no more.
 use Rattle.std.specs.Prelude.{◌≡◌, ◌≢◌, ℕ, ◌+◌, ◌*◌, ◌/◌, ◌<◌, ◌≤◌, ◌&&◌, nat_le, nat_lt}
-use Rattle.std.specs.Prelude.{Bool, true, false, Option, Some, None, List, ◌⊎◌}
+use Rattle.std.specs.Prelude.{Bool, true, false, Option, Some, None, List, slice_get, ◌⊎◌}
 use Rattle.slo_limits.specs.declared.TheConstants.{MAX_MINUTE, RANGE_MINUTES}
 use Rattle.sample_book.specs.declared.Exclusion.{Exclusion}
 use Rattle.sample_book.specs.declared.Row.{Row}
 use Rattle.sample_book.specs.declared.RowVerdict.{RowVerdict}
+use Rattle.slice_method.specs.declared.Counts.{Counts}
 use Rattle.burn_core.specs.Alert.{reach_of}
-use Rattle.window_sums.specs.Slices.{CountedDays, leaf_at, slice_of, width_of}
+use Rattle.window_sums.specs.Slices.{CountedDays, counts_of, leaf_at, no_counts, slices_a_day}
+use Rattle.window_sums.specs.Slices.{width_of}
 use Rattle.office_history.specs.declared.Measure.{Measure}
 use Rattle.kept_sums.specs.Replacing.{HasMoved}
 use Rattle.kept_sums.specs.Sums.{row_counts}
-use Rattle.kept_sums.specs.Walks.{IsChanged, made_on}
+use Rattle.kept_sums.specs.Walks.{made_on}
 use Rattle.kept_lines.specs.declared.run.Run.{Run}
 use Rattle.alert_line.specs.Line.{Agrees, Line, SameAlert, known}
 
@@ -88,26 +90,53 @@ pub record HasMovedBefore (m : Measure) (rows : List Row) (verdicts : List RowVe
   pub moved : HasMoved m rows verdicts slice
   pub before : moved.place < at
 
--- a row that counts otherwise with an exclusion than without it lies in a slice
-pub record LiesChanged (m : Measure) (made : List (Exclusion × Bool))
-    (value : Exclusion) (row : Row)
-    (slice : ℕ) : Type 0 where
+-- a row of the minutes [begin, end) counts otherwise with an exclusion than without it
+pub record IsChangedRow (m : Measure) (made : List (Exclusion × Bool)) (value : Exclusion)
+    (begin end : ℕ) (row : Row) : Type 0 where
   pub changed : row_counts m (made_on made value false) row ≢ row_counts m (made_on made value true)
       row
-  pub lies : slice_of m.method row.minute ≡ slice
+  pub from : begin ≤ row.minute
+  pub to : row.minute < end
 
--- a row that an exclusion changes, of a day before another, lies in a slice
-pub record IsChangedBefore (m : Measure) (made : List (Exclusion × Bool)) (value : Exclusion)
-    (rows : List Row) (day slice : ℕ) : Type 0 where
-  pub is : IsChanged m made value rows slice
-  pub before : is.row.minute / 1440 < day
+-- there is such a row
+pub record HasChanged (m : Measure) (made : List (Exclusion × Bool)) (value : Exclusion)
+    (rows : List Row) (begin end : ℕ) : Type 0 where
+  pub place : ℕ
+  pub row : Row
+  pub here : slice_get rows place ≡ Some row
+  pub is : IsChangedRow m made value begin end row
 
--- so does one of a day before another, or of that day from a place of the book on
-pub record IsChangedFrom (m : Measure) (made : List (Exclusion × Bool)) (value : Exclusion)
-    (rows : List Row) (day place slice : ℕ) : Type 0 where
-  pub is : IsChanged m made value rows slice
-  pub passed : (is.row.minute / 1440 < day)
-      ⊎ ((is.row.minute / 1440 ≡ day) × (place ≤ is.place))
+-- there is one, and the slice is that of the first of these minutes, in which they all lie
+pub record IsCut (m : Measure) (made : List (Exclusion × Bool)) (value : Exclusion)
+    (rows : List Row) (width begin end slice : ℕ) : Type 0 where
+  pub some : HasChanged m made value rows begin end
+  pub is : slice ≡ begin / width
+
+-- a slice of [first, end) has counts
+pub record IsCountedIn (sums : CountedDays) (first end slice : ℕ) : Type 0 where
+  pub from : first ≤ slice
+  pub to : slice < end
+  pub some : counts_of sums slice ≢ no_counts
+
+-- so has one of these on a day
+pub record IsCountedOn (sums : CountedDays) (first end day slice : ℕ) : Type 0 where
+  pub is : IsCountedIn sums first end slice
+  pub on : slice / slices_a_day sums.method ≡ day
+
+-- so has one of these on a day before another
+pub record IsCountedBefore (sums : CountedDays) (first end day slice : ℕ) : Type 0 where
+  pub is : IsCountedIn sums first end slice
+  pub before : slice / slices_a_day sums.method < day
+
+-- so has one of these on a day, before another slice
+pub record IsCountedUntil (sums : CountedDays) (first end day until slice : ℕ) : Type 0 where
+  pub is : IsCountedOn sums first end day slice
+  pub before : slice < until
+
+-- a slice is this one, which has counts
+pub record IsThatOne (at : ℕ) (counts : Counts) (slice : ℕ) : Type 0 where
+  pub is : slice ≡ at
+  pub some : counts ≢ no_counts
 
 -- Some slices more are touched: they are in the run that waits then. So is what was in the one
 -- before it, or nothing is known near that any more.
@@ -118,6 +147,16 @@ pub record Touches (more : ℕ → Type 0) (width reach : ℕ) (run next : Optio
   pub own : (slice : ℕ) → IsInIf next slice → IsInIf run slice ⊎ more slice
   pub all : (slice : ℕ) → IsInIf run slice → IsInIf next slice ⊎ IsClear after width slice
   pub only : ForgetsOnly (IsInIf run) width line after
+
+-- Some slices more are touched, one after the other: what is near them, or near the run that
+-- waited, isn't known any more, but for the run that waits then.
+pub record TouchesEach (more : ℕ → Type 0) (width reach : ℕ) (run next : Option Run)
+    (line after : Line) : Type 0 where
+  pub runs : IsRunIf width reach next
+  pub own : (slice : ℕ) → IsInIf next slice → IsInIf run slice ⊎ more slice
+  pub all : (slice : ℕ) → IsInIf run slice ⊎ more slice →
+      IsInIf next slice ⊎ IsClear after width slice
+  pub only : ForgetsOnly (λ slice. IsInIf run slice ⊎ more slice) width line after
 
 -- On the way: what is near the slices so far is forgotten, but for the run that waits, and nothing
 -- that is near no touched slice.

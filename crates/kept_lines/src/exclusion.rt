@@ -1,21 +1,23 @@
 //! What a line forgets before an exclusion or a lifting is followed.
-ghost use Rattle.std.specs.Prelude.{true, false, ◌≡◌, ◌≢◌, ◌<◌, ◌≤◌, ◌+◌};
+ghost use Rattle.std.specs.Prelude.{true, false, None, ◌≡◌, ◌≢◌, ◌/◌, ◌<◌, ◌≤◌, ℕ};
 ghost use Rattle.std.specs.List.{AllByRecursion};
+ghost use Rattle.std.specs.Str.{bytes_eq};
 ghost use Rattle.sample_book.specs.declared.Row.{Row};
 ghost use Rattle.burn_core.specs.Alert.{IsRule, reach_of};
 ghost use Rattle.window_sums.specs.Slices.{width_of};
-ghost use Rattle.alert_line.specs.Line.{Line};
-ghost use Rattle.kept_sums.specs.Sums.{Fits, row_counts as row_counts_lem};
+ghost use Rattle.kept_sums.specs.Sums.{Fits, IsKept, row_counts as row_counts_lem};
 ghost use Rattle.kept_sums.specs.Walks.{IsChanged, made_on};
-ghost use Rattle.kept_lines.specs.Touched.{Forgets, IsChangedBefore, IsForgetting, IsRunIf};
-ghost use Rattle.kept_lines.specs.Touched.{LAST_MINUTE, LiesChanged, Touches};
+ghost use Rattle.kept_lines.specs.Touched.{Forgets, HasChanged, IsChangedRow, IsCut, IsRunIf};
+ghost use Rattle.kept_lines.specs.Touched.{LAST_MINUTE, TouchesEach};
 
 use crate::run::{Run, forget_waiting, touch};
+use crate::whole::forget_whole;
 use alert_line::AlertLine;
 use burn_core::AlertRule;
 use kept_sums::{NOTHING, row_at, row_counts, takes};
 use office_history::Measure;
 use sample_book::{Exclusion, Row, SampleBook};
+use window_sums::WindowSums;
 
 const MINUTES_A_DAY: u32 = 1_440;
 
@@ -36,8 +38,50 @@ fn is_changed(measure: &Measure, book: &SampleBook, value: &Exclusion, row: &Row
     row_counts(measure, book, row) != NOTHING
 }
 
-// The run that waits once a row is passed, whose slice is touched where the exclusion changes it.
-fn touch_changed(
+// So does a row of the minutes from `from` up to `to`.
+fn is_changed_between(
+    measure: &Measure,
+    book: &SampleBook,
+    value: &Exclusion,
+    from: u32,
+    to: u32,
+    row: &Row,
+) -> bool
+    requires { Fits measure.now row.now }
+    ensures changed { result ≡ true
+        → IsChangedRow measure.now book.now.exclusions value.now from to row.now }
+    ensures same { result ≡ false
+        → IsChangedRow measure.now book.now.exclusions value.now from to row.now → ⊥ }
+{
+    if row.minute < from || to <= row.minute {
+        return false;
+    }
+    is_changed(measure, book, value, row)
+}
+
+// Whether there is such a row, where these minutes all lie on one day.
+fn has_changed(measure: &Measure, book: &SampleBook, value: &Exclusion, from: u32, to: u32) -> bool
+    requires one_day { (minute : ℕ) → from ≤ minute → minute < to → minute / 1440 ≡ from / 1440 }
+    requires forms { AllByRecursion (Fits measure.now) book.now.rows }
+    ensures some { result ≡ true
+        → HasChanged measure.now book.now.exclusions value.now book.now.rows from to }
+    ensures none { result ≡ false
+        → HasChanged measure.now book.now.exclusions value.now book.now.rows from to → ⊥ }
+{
+    let mut next = book.last_row_on(measure.sli, from / MINUTES_A_DAY);
+    while let Some(place) = next {
+        let row = row_at(book, place);
+        if is_changed_between(measure, book, value, from, to, &row) {
+            return true;
+        }
+        next = book.row_before_on(place);
+    }
+    false
+}
+
+// The run that waits once a slice is passed that the range cuts. Its minutes in the range are those
+// from `from` up to `to`, of which there may be none, and their rows are looked at.
+fn touch_cut(
     line: &mut AlertLine,
     rule: &AlertRule,
     measure: &Measure,
@@ -45,35 +89,38 @@ fn touch_changed(
     book: &SampleBook,
     value: &Exclusion,
     waiting: Option<Run>,
-    row: &Row,
+    from: u32,
+    to: u32,
 ) -> Option<Run>
     requires rule { line.old.rule ≡ rule.now }
     requires ranges { IsRule rule.now }
-    requires width { width ≡ width_of measure.now.method }
     requires some { 0 < width }
     requires small { width ≤ 60 }
-    requires early { row.now.minute ≤ LAST_MINUTE }
-    requires form { Fits measure.now row.now }
+    requires one_day { (minute : ℕ) → from ≤ minute → minute < to → minute / 1440 ≡ from / 1440 }
+    requires early { AllByRecursion (λ (row : Row). row.minute ≤ LAST_MINUTE) book.now.rows }
+    requires forms { AllByRecursion (Fits measure.now) book.now.rows }
     requires run { IsRunIf width (reach_of rule.now) waiting }
-    ensures { Touches (LiesChanged measure.now book.now.exclusions value.now row.now) width
-        (reach_of rule.now) waiting result line.old line.new }
+    ensures { TouchesEach (IsCut measure.now book.now.exclusions value.now book.now.rows width from
+        to) width (reach_of rule.now) waiting result line.old line.new }
 {
-    if is_changed(measure, book, value, row) {
-        return Some(touch(line, rule, width, waiting, row.minute / width));
+    if to <= from {
+        return waiting;
+    }
+    if has_changed(measure, book, value, from, to) {
+        return Some(touch(line, rule, width, waiting, from / width));
     }
     waiting
 }
 
-// The run that waits once the rows of a day are passed.
-fn forget_on_day(
+// The run that waits once all slices of the range are passed.
+fn touch_range(
     line: &mut AlertLine,
     rule: &AlertRule,
     measure: &Measure,
     width: u32,
     book: &SampleBook,
+    sums: &WindowSums,
     value: &Exclusion,
-    waiting: Option<Run>,
-    day: u32,
 ) -> Option<Run>
     requires rule { line.old.rule ≡ rule.now }
     requires ranges { IsRule rule.now }
@@ -82,30 +129,36 @@ fn forget_on_day(
     requires small { width ≤ 60 }
     requires early { AllByRecursion (λ (row : Row). row.minute ≤ LAST_MINUTE) book.now.rows }
     requires forms { AllByRecursion (Fits measure.now) book.now.rows }
-    requires run { IsRunIf width (reach_of rule.now) waiting }
-    ensures rule { line.new.rule ≡ rule.now }
-    ensures run { IsRunIf width (reach_of rule.now) result }
-    ensures forgets { (before : Line)
-        → IsForgetting (IsChanged measure.now book.now.exclusions value.now book.now.rows)
-        (IsChangedBefore measure.now book.now.exclusions value.now book.now.rows day)
-        width waiting before line.old
-        → IsForgetting (IsChanged measure.now book.now.exclusions value.now book.now.rows)
-        (IsChangedBefore measure.now book.now.exclusions value.now book.now.rows (day + 1))
-        width result before line.new }
+    requires kept { IsKept measure.now book.now.exclusions book.now.rows sums.now }
+    requires own { bytes_eq value.now.slo measure.now.slo ≡ true }
+    requires order { value.now.from < value.now.to }
+    ensures { TouchesEach (IsChanged measure.now book.now.exclusions value.now book.now.rows) width
+        (reach_of rule.now) None result line.old line.new }
 {
-    let mut run = waiting;
-    let mut next = book.last_row_on(measure.sli, day);
-    while let Some(place) = next {
-        let row = row_at(book, place);
-        run = touch_changed(line, rule, measure, width, book, value, run, &row);
-        next = book.row_before_on(place);
+    // The width divides an hour, as sums know of themselves.
+    let _ = sums.width();
+    let first = value.from.div_ceil(width);
+    let end = value.to / width;
+    if end < first {
+        return touch_cut(
+            line, rule, measure, width, book, value, None, value.from, value.to,
+        );
     }
-    run
+    let whole_from = first * width;
+    let whole_to = end * width;
+    let run = touch_cut(
+        line, rule, measure, width, book, value, None, value.from, whole_from,
+    );
+    let run = forget_whole(line, rule, width, sums, run, first, end);
+    touch_cut(
+        line, rule, measure, width, book, value, run, whole_to, value.to,
+    )
 }
 
 /// A line of the objective forgets what is near the slices of the rows that count otherwise with an
 /// exclusion than without it, and nothing else, before its sums follow the exclusion or its
-/// lifting. The book is the one without it. Only the rows of the days of its range are looked at.
+/// lifting. The book is the one without it, and so are the sums. A slice that lies wholly in the
+/// range is looked up in the sums; only the rows of the slices that the range cuts are looked at.
 /// Marks are merged: what is near neighbouring slices is forgotten at once. `width` is that of the
 /// objective's slices.
 pub fn forget_exclusion(
@@ -114,6 +167,7 @@ pub fn forget_exclusion(
     measure: &Measure,
     width: u32,
     book: &SampleBook,
+    sums: &WindowSums,
     value: &Exclusion,
 )
     requires rule { line.old.rule ≡ rule.now }
@@ -123,6 +177,7 @@ pub fn forget_exclusion(
     requires small { width ≤ 60 }
     requires early { AllByRecursion (λ (row : Row). row.minute ≤ LAST_MINUTE) book.now.rows }
     requires forms { AllByRecursion (Fits measure.now) book.now.rows }
+    requires kept { IsKept measure.now book.now.exclusions book.now.rows sums.now }
     ensures { Forgets (IsChanged measure.now book.now.exclusions value.now book.now.rows) width
         line.old line.new }
 {
@@ -132,11 +187,6 @@ pub fn forget_exclusion(
     if value.to <= value.from {
         return;
     }
-    let first = value.from / MINUTES_A_DAY;
-    let end = (value.to - 1) / MINUTES_A_DAY + 1;
-    let mut waiting = None;
-    for day in first..end {
-        waiting = forget_on_day(line, rule, measure, width, book, value, waiting, day);
-    }
+    let waiting = touch_range(line, rule, measure, width, book, sums, value);
     forget_waiting(line, rule, width, waiting);
 }

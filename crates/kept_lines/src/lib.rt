@@ -8,6 +8,7 @@ mod exclusion;
 mod laws;
 mod right;
 mod run;
+mod whole;
 
 pub use batch::forget_rows;
 pub use exclusion::forget_exclusion;

@@ -4,6 +4,7 @@ pub mod RowLemmas
 pub mod FollowLemmas
 pub mod WalkLemmas
 pub mod DayLemmas
-pub mod DayWalks
+pub mod RangeLemmas
+pub mod ShareLemmas
 pub mod DaysLemmas
 pub mod MinuteLemmas

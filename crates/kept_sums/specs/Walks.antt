@@ -1,9 +1,7 @@
 -- Walks over linked rows, from the last to the first, in which what they count for changes.
-use Rattle.std.specs.Prelude.{false, ◌≡◌, ℕ, suc, ◌/◌, ◌<◌, ◌&&◌, nat_le, nat_lt, Bool, true, List}
-use Rattle.std.specs.Prelude.{[]}
-use Rattle.std.specs.Prelude.{◌∷◌, ◌++◌, take, drop, length, slice_get, Option, Some, None}
-use Rattle.std.specs.Prelude.{if◌then◌else◌}
-use Rattle.std.specs.Prelude.{◌≢◌}
+use Rattle.std.specs.Prelude.{◌≡◌, ◌≢◌, ℕ, suc, ◌<◌, ◌&&◌, nat_le, nat_lt, not, Bool, true, false}
+use Rattle.std.specs.Prelude.{List, [], ◌∷◌, ◌++◌, take, drop, length, slice_get, Option, Some}
+use Rattle.std.specs.Prelude.{None, if◌then◌else◌}
 use Rattle.slice_method.specs.declared.Counts.{Counts}
 use Rattle.sample_book.specs.declared.Exclusion.{Exclusion}
 use Rattle.sample_book.specs.declared.Row.{Row}
@@ -38,14 +36,20 @@ pub record IsWalking (key : Row → Bool) (f h : Row → Counts) (rows : List Ro
 abbrev pub made_on : List (Exclusion × Bool) → Exclusion → Bool → List (Exclusion × Bool)
 made_on made value taken = if taken then made ++ (value, true) ∷ [] else made
 
--- a row is of this indicator, on one of the days from the first up to another
+-- a row is of this indicator, in the minutes from the first up to another
 abbrev pub is_within : List ℕ → ℕ → ℕ → Row → Bool
-is_within sli first day row = is_of sli row
-    && (nat_le first (row.minute / 1440) && nat_lt (row.minute / 1440) day)
+is_within sli first end row = is_of sli row && (nat_le first row.minute && nat_lt row.minute end)
 
--- the rows on these days count by g, the others by f
+-- the rows of these minutes count by g, the others by f
 abbrev pub up_to : List ℕ → ℕ → ℕ → (Row → Counts) → (Row → Counts) → Row → Counts
-up_to sli first day f g row = if is_within sli first day row then g row else f row
+up_to sli first end f g row = if is_within sli first end row then g row else f row
+
+-- What rows count for on the way: those of the range's minutes up to this one have followed an
+-- exclusion that is made (`taken`), or one that is lifted, and the others haven't.
+abbrev pub followed : Measure → List (Exclusion × Bool) → Exclusion → Bool → ℕ → Row → Counts
+followed m made value taken minute =
+    up_to m.sli value.from minute (row_counts m (made_on made value (not taken)))
+    (row_counts m (made_on made value taken))
 
 -- a row that an exclusion changes lies in a slice: it counts otherwise with it than without it
 pub record IsChanged (m : Measure) (made : List (Exclusion × Bool)) (value : Exclusion)

@@ -1,13 +1,15 @@
 //! Exclusions and liftings, followed by the sums of an objective.
-ghost use Rattle.std.specs.Prelude.{◌≡◌, ◌≢◌, ◌+◌, ◌≤◌, ◌<◌, ◌&&◌, ℕ, List, not, length, nat_le};
-ghost use Rattle.std.specs.Prelude.{IsTrue, nat_lt};
+ghost use Rattle.std.specs.Prelude.{◌≡◌, ◌/◌, ◌≤◌, ◌<◌, ◌&&◌, ℕ, List, not, length, IsTrue};
+ghost use Rattle.std.specs.Prelude.{nat_le, nat_lt, true, false};
 ghost use Rattle.std.specs.List.{AllByRecursion};
+ghost use Rattle.std.specs.Str.{bytes_eq};
 ghost use Rattle.slo_limits.specs.declared.TheConstants.{MAX_ACCEPTED_ROWS};
+ghost use Rattle.sample_book.specs.Counting.{is_of};
 ghost use Rattle.window_sums.specs.Shares.{IsSumOf, Share};
-ghost use Rattle.window_sums.specs.Slices.{counts_of, day_of, has_day, slice_of};
+ghost use Rattle.window_sums.specs.Slices.{counts_of, day_of, has_day};
 ghost use Rattle.kept_sums.specs.Replacing.{MayReplace, among};
-ghost use Rattle.kept_sums.specs.Sums.{Fits, HasItsDay, IsKept, row_counts, shares_by};
-ghost use Rattle.kept_sums.specs.Walks.{IsChanged, made_on, up_to};
+ghost use Rattle.kept_sums.specs.Sums.{Fits, HasItsDay, IsKept, shares_by};
+ghost use Rattle.kept_sums.specs.Walks.{IsChanged, followed, made_on};
 
 use crate::counting::{counts_on, row_at};
 use crate::exchange::exchange;
@@ -17,45 +19,41 @@ use window_sums::WindowSums;
 
 const MINUTES_A_DAY: u32 = 1_440;
 
-// Whether a minute lies in the range of an exclusion.
-fn is_in_range(value: &Exclusion, minute: u32) -> bool
-    ensures { result ≡ (nat_le value.now.from minute && nat_lt minute value.now.to) }
+fn is_between(from: u32, to: u32, minute: u32) -> bool
+    ensures { result ≡ (nat_le from minute && nat_lt minute to) }
 {
-    value.from <= minute && minute < value.to
+    from <= minute && minute < to
 }
 
-// A row follows an exclusion that is made, or one that is lifted. Outside its range the row counts
-// as before, so it is passed over: whether it is excluded is asked of all exclusions.
+// A row of the minutes from `from` up to `to` follows an exclusion that is made (`taken`), or one
+// that is lifted. Another is passed over: whether it is excluded is asked of all exclusions.
 fn follow_on_row(
     sums: &mut WindowSums,
     measure: &Measure,
     book: &SampleBook,
     value: &Exclusion,
     taken: bool,
+    from: u32,
+    to: u32,
     row: &Row,
 )
+    requires begun { value.now.from ≤ from }
+    requires order { from ≤ to }
+    requires own { is_of measure.now.sli row.now ≡ true }
     requires fits { Fits measure.now row.now }
     requires day { IsTrue (has_day sums.old (day_of row.now.minute)) }
     requires may { (before : List Share) × (after : List Share)
         × MayReplace sums.old row.now.minute
-        (row_counts measure.now (made_on book.now.exclusions value.now (not taken)) row.now)
-        (row_counts measure.now (made_on book.now.exclusions value.now taken) row.now)
-        before after }
+        (followed measure.now book.now.exclusions value.now taken from row.now)
+        (followed measure.now book.now.exclusions value.now taken to row.now) before after }
     ensures method { sums.new.method ≡ sums.old.method }
     ensures counted { (before after : List Share) → IsSumOf sums.old (among before row.now.minute
-        (row_counts measure.now (made_on book.now.exclusions value.now (not taken)) row.now)
-        after)
+        (followed measure.now book.now.exclusions value.now taken from row.now) after)
         → IsSumOf sums.new (among before row.now.minute
-        (row_counts measure.now (made_on book.now.exclusions value.now taken) row.now) after) }
+        (followed measure.now book.now.exclusions value.now taken to row.now) after) }
     ensures days { (day : ℕ) → has_day sums.new day ≡ has_day sums.old day }
-    ensures touched { (slice : ℕ) → slice ≢ slice_of sums.old.method row.now.minute
-        → counts_of sums.new slice ≡ counts_of sums.old slice }
-    ensures same { row_counts measure.now (made_on book.now.exclusions value.now (not taken))
-        row.now
-        ≡ row_counts measure.now (made_on book.now.exclusions value.now taken) row.now
-        → (slice : ℕ) → counts_of sums.new slice ≡ counts_of sums.old slice }
 {
-    if !is_in_range(value, row.minute) {
+    if !is_between(from, to, row.minute) {
         return;
     }
     let old = counts_on(measure, book, value, !taken, row);
@@ -63,43 +61,97 @@ fn follow_on_row(
     exchange(sums, row.minute, old, new);
 }
 
-// The rows of one day follow an exclusion that is made, or one that is lifted.
-fn follow_on_day(
+// The rows of the minutes from `from` up to `to`, which all lie on one day, follow an exclusion
+// that is made (`taken`), or one that is lifted.
+fn follow_between(
     sums: &mut WindowSums,
     measure: &Measure,
     book: &SampleBook,
     value: &Exclusion,
     taken: bool,
-    first: u32,
-    day: u32,
+    from: u32,
+    to: u32,
 )
-    requires days_before { first ≤ day }
-    requires counted { IsSumOf sums.old (shares_by (up_to measure.now.sli first day
-        (row_counts measure.now (made_on book.now.exclusions value.now (not taken)))
-        (row_counts measure.now (made_on book.now.exclusions value.now taken))) book.now.rows) }
+    requires begun { value.now.from ≤ from }
+    requires order { from ≤ to }
+    requires one_day { (minute : ℕ) → from ≤ minute → minute < to → minute / 1440 ≡ from / 1440 }
+    requires counted { IsSumOf sums.old
+        (shares_by (followed measure.now book.now.exclusions value.now taken from) book.now.rows) }
     requires days { AllByRecursion (HasItsDay measure.now sums.old) book.now.rows }
     requires forms { AllByRecursion (Fits measure.now) book.now.rows }
     requires few { length book.now.rows ≤ MAX_ACCEPTED_ROWS }
-    ensures counted { IsSumOf sums.new (shares_by (up_to measure.now.sli first (day + 1)
-        (row_counts measure.now (made_on book.now.exclusions value.now (not taken)))
-        (row_counts measure.now (made_on book.now.exclusions value.now taken))) book.now.rows) }
+    ensures counted { IsSumOf sums.new
+        (shares_by (followed measure.now book.now.exclusions value.now taken to) book.now.rows) }
     ensures method { sums.new.method ≡ sums.old.method }
     ensures days { (day : ℕ) → has_day sums.new day ≡ has_day sums.old day }
-    ensures touched { sums.old.method ≡ measure.now.method → (slice : ℕ)
-        → (IsChanged measure.now book.now.exclusions value.now book.now.rows slice → ⊥)
-        → counts_of sums.new slice ≡ counts_of sums.old slice }
 {
-    let mut next = book.last_row_on(measure.sli, day);
+    if to <= from {
+        return;
+    }
+    let mut next = book.last_row_on(measure.sli, from / MINUTES_A_DAY);
     while let Some(place) = next {
         let row = row_at(book, place);
-        follow_on_row(sums, measure, book, value, taken, &row);
+        follow_on_row(sums, measure, book, value, taken, from, to, &row);
         next = book.row_before_on(place);
     }
 }
 
+// The rows of the range of an exclusion that is lifted count again, day by day.
+fn follow_lifting(sums: &mut WindowSums, measure: &Measure, book: &SampleBook, value: &Exclusion)
+    requires some { value.now.from < value.now.to }
+    requires counted { IsSumOf sums.old (shares_by
+        (followed measure.now book.now.exclusions value.now false value.now.from) book.now.rows) }
+    requires days { AllByRecursion (HasItsDay measure.now sums.old) book.now.rows }
+    requires forms { AllByRecursion (Fits measure.now) book.now.rows }
+    requires few { length book.now.rows ≤ MAX_ACCEPTED_ROWS }
+    ensures counted { IsSumOf sums.new (shares_by
+        (followed measure.now book.now.exclusions value.now false value.now.to) book.now.rows) }
+    ensures method { sums.new.method ≡ sums.old.method }
+    ensures days { (day : ℕ) → has_day sums.new day ≡ has_day sums.old day }
+{
+    let end = value.to;
+    let mut from = value.from;
+    while from < end {
+        let rest = MINUTES_A_DAY - from % MINUTES_A_DAY;
+        let to = from + rest.min(end - from);
+        follow_between(sums, measure, book, value, false, from, to);
+        from = to;
+    }
+}
+
+// Nothing counts any more in the range of an exclusion that is made. A slice that lies wholly in it
+// has no counts then, so that its rows aren't looked at; those of a slice that the range cuts are.
+fn follow_taking(sums: &mut WindowSums, measure: &Measure, book: &SampleBook, value: &Exclusion)
+    requires some { value.now.from < value.now.to }
+    requires own { bytes_eq value.now.slo measure.now.slo ≡ true }
+    requires method { sums.old.method ≡ measure.now.method }
+    requires counted { IsSumOf sums.old (shares_by
+        (followed measure.now book.now.exclusions value.now true value.now.from) book.now.rows) }
+    requires days { AllByRecursion (HasItsDay measure.now sums.old) book.now.rows }
+    requires forms { AllByRecursion (Fits measure.now) book.now.rows }
+    requires few { length book.now.rows ≤ MAX_ACCEPTED_ROWS }
+    ensures counted { IsSumOf sums.new (shares_by
+        (followed measure.now book.now.exclusions value.now true value.now.to) book.now.rows) }
+    ensures method { sums.new.method ≡ sums.old.method }
+    ensures days { (day : ℕ) → has_day sums.new day ≡ has_day sums.old day }
+{
+    let width = sums.width();
+    let first = value.from.div_ceil(width);
+    let end = value.to / width;
+    if end < first {
+        follow_between(sums, measure, book, value, true, value.from, value.to);
+        return;
+    }
+    let whole_from = first * width;
+    let whole_to = end * width;
+    follow_between(sums, measure, book, value, true, value.from, whole_from);
+    sums.clear(whole_from, whole_to);
+    follow_between(sums, measure, book, value, true, whole_to, value.to);
+}
+
 /// The sums of an objective follow an exclusion that is made (`taken`), or one that is lifted. The
-/// book is the one without it. Only the rows of the days of its range are looked at, and no memory
-/// is taken.
+/// book is the one without it. Only rows of the days of its range are looked at: at a lifting all
+/// of them, else those of the slices that the range cuts. No memory is taken.
 pub fn follow_exclusion(
     sums: &mut WindowSums,
     measure: &Measure,
@@ -125,9 +177,9 @@ pub fn follow_exclusion(
     if value.to <= value.from {
         return;
     }
-    let first = value.from / MINUTES_A_DAY;
-    let end = (value.to - 1) / MINUTES_A_DAY + 1;
-    for day in first..end {
-        follow_on_day(sums, measure, book, value, taken, first, day);
+    if taken {
+        follow_taking(sums, measure, book, value);
+    } else {
+        follow_lifting(sums, measure, book, value);
     }
 }

@@ -1,5 +1,6 @@
 pub mod Known
 pub mod Lines
+pub mod Near
 pub mod Plans
 pub mod States
 pub mod Sums

@@ -4,7 +4,7 @@ ghost use Rattle.std.specs.List.{AllByRecursion};
 ghost use Rattle.sample_book.specs.declared.Row.{Row};
 ghost use Rattle.sample_book.specs.Puts.{verdicts as verdicts_lem};
 ghost use Rattle.window_sums.specs.Slices.{width_of as width_of_lem};
-ghost use Rattle.kept_lines.specs.kept_sums.Sums.{Fits};
+ghost use Rattle.kept_lines.specs.kept_sums.Sums.{Fits, IsKept};
 ghost use Rattle.kept_lines.specs.Right.{IsRight};
 ghost use Rattle.kept_lines.specs.Touched.{Forgets, LAST_MINUTE};
 ghost use Rattle.catalog_measures.specs.object_ranges.Ranges.{IsWidth};
@@ -15,11 +15,13 @@ ghost use Rattle.watched_objectives.specs.Lines.{HasLines, KeepsLines};
 ghost use Rattle.watched_objectives.specs.Sums.{samples_of};
 
 use crate::kept::KeptLines;
+use crate::sums::objective_sums;
 use crate::watch::Watch;
 use alert_line::AlertLine;
 use office_derived::Derived;
 use sample_book::{Exclusion, Row, RowVerdict, SampleBook};
 use slice_method::Method;
+use window_sums::WindowSums;
 
 // How many minutes a slice of an objective has.
 fn width_of(method: &Method) -> u32
@@ -59,11 +61,18 @@ fn forget_moved(
 
 // A line forgets what is near the slices of the rows that count otherwise with an exclusion than
 // without it. So it is right with the exclusion (`taken`) as it was without it, or the other way
-// round.
-fn forget_changed(line: &mut AlertLine, watch: &Watch, book: &SampleBook, value: &Exclusion)
+// round. The sums of its objective are those without it, and tell which slices have counts.
+fn forget_changed(
+    line: &mut AlertLine,
+    watch: &Watch,
+    book: &SampleBook,
+    sums: &WindowSums,
+    value: &Exclusion,
+)
     requires rule { line.old.rule ≡ watch.now.rule }
     requires early { AllByRecursion (λ (row : Row). row.minute ≤ LAST_MINUTE) book.now.rows }
     requires forms { AllByRecursion (Fits watch.now.measure) book.now.rows }
+    requires kept { IsKept watch.now.measure book.now.exclusions book.now.rows sums.now }
     ensures forgets { Forgets (IsChangedBy book.now value.now watch.now)
         (width_of_lem watch.now.measure.method) line.old line.new }
     ensures right { (begin : ℕ) (taken : Bool)
@@ -72,7 +81,7 @@ fn forget_changed(line: &mut AlertLine, watch: &Watch, book: &SampleBook, value:
 {
     let measure = watch.measure();
     let width = width_of(&measure.method);
-    kept_lines::forget_exclusion(line, watch.rule(), measure, width, book, value);
+    kept_lines::forget_exclusion(line, watch.rule(), measure, width, book, sums, value);
 }
 
 impl KeptLines {
@@ -94,7 +103,7 @@ impl KeptLines {
     }
 
     /// The lines forget what an exclusion may change that is made (`taken`), or one that is lifted.
-    /// What is kept doesn't have it. No memory is taken.
+    /// What is kept doesn't have it, neither the book nor the sums. No memory is taken.
     pub fn forget_exclusion(&mut self, derived: &Derived, value: &Exclusion, taken: bool)
         requires sound { IsSound derived.now }
         requires lines { KeepsLines derived.now.origin derived.now.catalog
@@ -106,7 +115,8 @@ impl KeptLines {
         ensures spare { self.new.spare ≡ self.old.spare }
     {
         for kept in self.lines.iter_mut() {
-            forget_changed(&mut kept.line, &kept.watch, &derived.book, value);
+            let sums = objective_sums(derived, kept.watch.measure());
+            forget_changed(&mut kept.line, &kept.watch, &derived.book, sums, value);
         }
     }
 }

@@ -5,6 +5,7 @@
 
 mod forget;
 mod kept;
+mod near;
 mod plan;
 mod same;
 mod standing;

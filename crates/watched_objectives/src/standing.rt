@@ -17,7 +17,8 @@ ghost use Rattle.watched_objectives.specs.Watches.{IsWatched};
 ghost use Rattle.watched_objectives.specs.declared.kept.WatchLine.{WatchLine};
 
 use crate::kept::{KeptLines, is_at, place_of};
-use crate::sums::objective_sums;
+use crate::near::{AT_THE_BEGIN, Hint};
+use crate::sums::{objective_sums, objective_sums_at};
 use crate::watch::Watch;
 use alert_line::{AlertLine, Spans};
 use burn_core::State;
@@ -128,19 +129,20 @@ impl KeptLines {
         ensures know { AllKnow self.old.kept self.new.kept }
         ensures spare { self.new.spare ≡ self.old.spare }
     {
-        let (state, _next) = self.state_near(derived, watch, minute, 0);
+        let (state, _next) = self.state_near(derived, watch, minute, AT_THE_BEGIN);
         state
     }
 
-    // How a watched alert stands, and the place behind its line. Lines stand in the order of their
-    // bindings, mostly, so the line is looked for where the one before it suggests.
+    // How a watched alert stands, and where those of the next one are looked for. Sums and lines
+    // stand in the order of their bindings, mostly, so they are looked for where the ones before
+    // suggest.
     pub(crate) fn state_near(
         &mut self,
         derived: &Derived,
         watch: &Watch,
         minute: u32,
-        hint: usize,
-    ) -> (State, usize)
+        hint: Hint,
+    ) -> (State, Hint)
         requires sound { IsSound derived.now }
         requires lines { HasLines derived.now self.old.kept }
         requires watched { IsWatched derived.now.catalog watch.now }
@@ -153,11 +155,17 @@ impl KeptLines {
         ensures know { AllKnow self.old.kept self.new.kept }
         ensures spare { self.new.spare ≡ self.old.spare }
     {
-        let sums = objective_sums(derived, watch.measure());
-        let place = self.place_near(watch, hint);
+        let measure = watch.measure();
+        let sums_place = derived.sums.place_near(measure, hint.sums);
+        let sums = objective_sums_at(derived, measure, sums_place);
+        let place = self.place_near(watch, hint.line);
         let line = &mut self.lines[place].line;
         let state = state_of_line::<Brand>(line, sums, minute, Blank::new(1));
-        (state, place.saturating_add(1))
+        let next = Hint {
+            sums: sums_place,
+            line: place.saturating_add(1),
+        };
+        (state, next)
     }
 
     /// The stretches of [from, to) in which a watched alert is active, of minutes of the office's

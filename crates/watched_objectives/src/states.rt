@@ -2,33 +2,40 @@
 ghost use Rattle.std.specs.Prelude.{◌≡◌, ◌<◌, ◌≤◌, ◌+◌, IfOk, map};
 ghost use Rattle.std.specs.List.{Contains};
 ghost use Rattle.office_history.specs.Alerts.{state_if, states_at, watch_of as watch_of_lem};
+ghost use Rattle.office_history.specs.Objectives.{measure_at as measure_at_lem};
 ghost use Rattle.office_derived.specs.Derived.{IsSound};
 ghost use Rattle.slo_catalog.specs.Bindings.{bindings as bindings_lem};
 ghost use Rattle.watched_objectives.specs.Sums.{samples_of};
 ghost use Rattle.watched_objectives.specs.Known.{AllKnow};
 ghost use Rattle.watched_objectives.specs.Lines.{HasLines, watches_of};
+ghost use Rattle.watched_objectives.specs.Near.{IsSeen};
 ghost use Rattle.watched_objectives.specs.States.{with_state};
 
 use crate::kept::KeptLines;
-use crate::watch::watch_of;
+use crate::near::{AT_THE_BEGIN, Hint, Seen, seen_near, watch_seen};
 use burn_core::State;
 use office_derived::Derived;
 use slo_catalog::Binding;
 use std::alloc::{AllocError, Global};
 
-// How the alert of a binding stands, and the place behind its line.
+// How the alert of a binding of this objective stands, and where those of the next one are looked
+// for.
 fn state_of_binding(
     derived: &Derived,
     lines: &mut KeptLines,
     binding: &Binding,
+    seen: &Seen,
     minute: u32,
-    hint: usize,
-) -> (State, usize)
+    hint: Hint,
+) -> (State, Hint)
     requires sound { IsSound derived.now }
     requires lines { HasLines derived.now lines.old.kept }
     requires among { Contains (bindings_lem derived.now.catalog) binding.now }
     requires begun { derived.now.origin ≤ minute }
     requires in_range { minute < derived.now.origin + 2097152 }
+    requires seen { IsSeen derived.now.catalog seen.now }
+    requires measure { seen.now.measure
+        ≡ measure_at_lem derived.now.catalog binding.now.slo binding.now.objective }
     ensures value { result.0 ≡ state_if derived.now.origin (samples_of derived.now.book) minute
         (watch_of_lem derived.now.catalog binding.now) }
     ensures lines { HasLines derived.now lines.new.kept }
@@ -36,7 +43,7 @@ fn state_of_binding(
     ensures know { AllKnow lines.old.kept lines.new.kept }
     ensures spare { lines.new.spare ≡ lines.old.spare }
 {
-    match watch_of(&derived.catalog, binding) {
+    match watch_seen(&derived.catalog, binding, seen) {
         Some(watch) => lines.state_near(derived, &watch, minute, hint),
         None => (State::Quiet, hint),
     }
@@ -63,9 +70,12 @@ fn states_of(
     ensures spare { lines.new.spare ≡ lines.old.spare }
 {
     let mut states = Vec::new(alloc);
-    let mut hint = 0;
+    let mut hint = AT_THE_BEGIN;
+    let mut before = None;
     for binding in bindings {
-        let (state, next) = state_of_binding(derived, lines, binding, minute, hint);
+        let seen = seen_near(&derived.catalog, binding, before);
+        before = Some(seen);
+        let (state, next) = state_of_binding(derived, lines, binding, &seen, minute, hint);
         hint = next;
         states.push((*binding, state))?;
     }

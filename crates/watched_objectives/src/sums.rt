@@ -23,8 +23,25 @@ pub fn objective_sums<'a>(derived: &'a Derived, measure: &Measure) -> &'a Window
     ensures kept { Contains derived.now.sums.kept
         (record { measure = measure.now; sums = result.now }) }
 {
+    objective_sums_at(derived, measure, 0)
+}
+
+// The same, looked for at a place first.
+pub(crate) fn objective_sums_at<'a>(
+    derived: &'a Derived,
+    measure: &Measure,
+    place: usize,
+) -> &'a WindowSums
+    requires sound { IsSound derived.now }
+    requires objective { IsObjective derived.now.catalog measure.now }
+    ensures sums { AreSums (samples_of derived.now.book) measure.now result.now }
+    ensures counts { (slice : ℕ) → counts_of result.now slice
+        ≡ slice_counts (samples_of derived.now.book) measure.now slice }
+    ensures kept { Contains derived.now.sums.kept
+        (record { measure = measure.now; sums = result.now }) }
+{
     kept_counts_are_those_of_the_minutes();
-    match derived.sums.find(measure) {
+    match derived.sums.find_at(measure, place) {
         Some(sums) => {
             // A slice has a minute at least, as sums know of themselves.
             let _ = sums.width();

@@ -75,31 +75,43 @@ pub hour-divides : (w : ℕ) → w ∣ 60 → 60 / w ∣ 60
 hour-divides w divides =
     subst (λ n. 60 / w ∣ n) (mul-div_cancel' w divides) (dvd-mul_left (60 / w) w)
 
--- 400 days have the slices of 400 days at most
-pub slices-few : (w from to first : ℕ) → w ∣ 60 → from ≤ first * w → to - from ≤ 576000
-    → to / w - first ≤ 400 * (24 * (60 / w))
-slices-few w from to first divides begins few =
+-- so many days have the slices of so many days at most
+slices-of_days : (n w from to first : ℕ) → w ∣ 60 → from ≤ first * w → to - from ≤ n * 1440
+    → to / w - first ≤ n * (24 * (60 / w))
+slices-of_days n w from to first divides begins few =
     le_of_mul-le-mul_right (by (leb_tells first (to / w))) (width-some w divides)
   where
     times : (a b : ℕ) → (a + b) * w ≡ a * w + b * w
     times a b = omega arith
 
-    all : (q : ℕ) → w * (24 * q) ≡ 1440 → 400 * (24 * q) * w ≡ 576000
-    all q e = omega (arith, regroup q, e)
-      where
-        regroup : (q : ℕ) → 400 * (24 * q) * w ≡ 400 * (w * (24 * q))
-        regroup q = omega arith
+    regroup : (q : ℕ) → n * (24 * q) * w ≡ n * (w * (24 * q))
+    regroup q = omega arith
 
-    none : (n : ℕ) → n ≡ 0 → n * w ≤ 576000
-    none n e = rw e (omega arith)
+    all : (q : ℕ) → w * (24 * q) ≡ 1440 → n * (24 * q) * w ≡ n * 1440
+    all q e = regroup q ∙ ap (λ m. n * m) e
 
-    some : (d : ℕ) → to / w * w ≡ first * w + d * w → d * w ≤ 576000
+    none : (m : ℕ) → m ≡ 0 → m * w ≤ n * 1440
+    none m e = rw e (omega arith)
+
+    some : (d : ℕ) → to / w * w ≡ first * w + d * w → d * w ≤ n * 1440
     some d e = omega (arith, e, begins, few, div-mul-le_self to w)
 
     by : ((nat_le first (to / w) ≡ true) × (first ≤ to / w))
         ⊎ ((nat_le first (to / w) ≡ false) × (to / w < first))
-        → (to / w - first) * w ≤ 400 * (24 * (60 / w)) * w
+        → (to / w - first) * w ≤ n * (24 * (60 / w)) * w
     by (inl e) = rw (all (60 / w) (day_long w divides))
         (some (to / w - first) (ap (λ n. n * w) (let e2 : to / w ≡ first + (to / w - first) =
         omega (arith, e.1) in e2) ∙ times first (to / w - first)))
     by (inr e) = rw (all (60 / w) (day_long w divides)) (none (to / w - first) (omega (arith, e.1)))
+
+-- 400 days have the slices of 400 days at most
+pub slices-few : (w from to first : ℕ) → w ∣ 60 → from ≤ first * w → to - from ≤ 576000
+    → to / w - first ≤ 400 * (24 * (60 / w))
+slices-few w from to first divides begins few =
+    slices-of_days 400 w from to first divides begins few
+
+-- and 30 days those of 30
+pub slices-of_a_month : (w from to first : ℕ) → w ∣ 60 → from ≤ first * w → to - from ≤ 43200
+    → to / w - first ≤ 30 * (24 * (60 / w))
+slices-of_a_month w from to first divides begins few =
+    slices-of_days 30 w from to first divides begins few

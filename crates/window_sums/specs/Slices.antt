@@ -1,6 +1,6 @@
 -- The counts of each slice of time, kept day by day.
-use Rattle.std.specs.Prelude.{ℕ, Bool, ◌+◌, ◌-◌, ◌*◌, ◌/◌, ◌≤◌, ◌≡◌, ◌==◌, IsTrue, List, All}
-use Rattle.std.specs.Prelude.{length, if◌then◌else◌}
+use Rattle.std.specs.Prelude.{ℕ, Bool, ◌+◌, ◌-◌, ◌*◌, ◌/◌, ◌≤◌, ◌≡◌, ◌==◌, ◌&&◌, nat_le}
+use Rattle.std.specs.Prelude.{nat_lt, IsTrue, List, All, length, if◌then◌else◌}
 use Rattle.std.specs.Int.{◌∣◌}
 use Rattle.std.specs.Map.{values_of}
 use Rattle.slice_method.specs.declared.amount.Counts.{Counts}
@@ -72,6 +72,20 @@ abbrev pub counts_after : CountedDays → ℕ → Counts → Counts → ℕ → 
 counts_after sums minute before after slice =
     if slice == slice_of sums.method minute then exchanged (counts_of sums slice) before after
     else counts_of sums slice
+
+-- a slice lies wholly in a range of minutes
+abbrev pub is_whole : ℕ → ℕ → ℕ → ℕ → Bool
+is_whole width from to slice = nat_le from (slice * width) && nat_le (slice * width + width) to
+
+-- the counts of each slice once nothing is counted in those that lie wholly in a range
+abbrev pub counts_outside : CountedDays → ℕ → ℕ → ℕ → Counts
+counts_outside sums from to slice =
+    if is_whole (width_of sums.method) from to slice then no_counts else counts_of sums slice
+
+-- so it is once nothing is counted in the slices from the first up to another
+abbrev pub counts_without : CountedDays → ℕ → ℕ → ℕ → Counts
+counts_without sums first end slice =
+    if nat_le first slice && nat_lt slice end then no_counts else counts_of sums slice
 
 -- the good events are a part of all
 abbrev pub IsPart : Counts → Type 0

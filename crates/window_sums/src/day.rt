@@ -6,7 +6,7 @@ use slice_method::Counts;
 use std::alloc::{AllocError, Global};
 use std::marker::Model;
 
-const NOTHING: Counts = Counts { good: 0, total: 0 };
+pub(crate) const NOTHING: Counts = Counts { good: 0, total: 0 };
 
 #[derive(Drop)]
 pub(crate) struct Day {
@@ -29,6 +29,13 @@ impl Day {
     {
         let slices = vec![in alloc; NOTHING; slices]?;
         Ok(Day { slices })
+    }
+
+    // The counts of all slices, in their order.
+    pub(crate) fn all(&self) -> &[Counts]
+        ensures { result.now ≡ self.now }
+    {
+        &self.slices
     }
 
     pub(crate) fn at(&self, place: usize) -> Counts

@@ -4,6 +4,7 @@
 #![tactic(auto)]
 
 mod day;
+mod emptiness;
 mod laws;
 mod range;
 mod widths;

@@ -9,11 +9,11 @@ use exact_fraction::Leaf;
 use std::sync::ledger::Ledger;
 use sum_pages::SumPages;
 
-const HOURS_A_DAY: u32 = 24;
+pub(crate) const HOURS_A_DAY: u32 = 24;
 
 // What is read in one step.
 #[derive(Clone, Copy)]
-enum Unit {
+pub(crate) enum Unit {
     Slot,
     Hour,
     Day,
@@ -85,7 +85,7 @@ fn sum_units<L: Ledger>(
 }
 
 // The leaves of a unit, in one step.
-fn read<L: Ledger>(pages: &SumPages, unit: Unit, at: u32, steps: &mut Steps<L>) -> Leaf
+pub(crate) fn read<L: Ledger>(pages: &SumPages, unit: Unit, at: u32, steps: &mut Steps<L>) -> Leaf
     ensures value { result ≡ leaves_over (leaf_at pages.now) (at * slots_of unit pages.now.per_hour)
         (slots_of unit pages.now.per_hour) }
     ensures cost { steps.new ≡ steps.old + 1 }

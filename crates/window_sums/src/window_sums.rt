@@ -1,17 +1,21 @@
 // Sums over slices by the counts of each.
-ghost use Rattle.std.specs.Prelude.{◌≡◌, ℕ, ◌+◌, ◌-◌, ◌<◌, ◌≤◌, ◌==◌, ◌||◌, nat_eq, length};
-ghost use Rattle.std.specs.Prelude.{slice_index_or, slice_set, IsTrue, [], OnOk, OnErr};
+ghost use Rattle.std.specs.Prelude.{◌≡◌, ℕ, ◌+◌, ◌-◌, ◌*◌, ◌/◌, ◌<◌, ◌≤◌, ◌==◌, ◌||◌, nat_eq};
+ghost use Rattle.std.specs.Prelude.{length, slice_index_or, slice_set, IsTrue, [], OnOk, OnErr};
+ghost use Rattle.std.specs.Prelude.{if◌then◌else◌};
 ghost use Rattle.std.specs.Int.{◌∣◌};
 ghost use Rattle.std.specs.Map.{set_value};
 ghost use Rattle.slice_method.specs.Leaves.{leaf};
 ghost use Rattle.slo_terms.specs.Sums.{AreFew, AreSound, most_events, slice_from, slices_until};
 ghost use Rattle.slo_terms.specs.Sums.{sum_of_slices};
 ghost use Rattle.sum_pages.specs.DayTables.{is_day_of, values_of_day};
-ghost use Rattle.window_sums.specs.Slices.{IsPart, MayExchange, counts_after, counts_of, day_of};
-ghost use Rattle.window_sums.specs.Slices.{exchanged, has_day, leaf_at, no_counts, slice_of};
+ghost use Rattle.window_sums.specs.Slices.{AreCounted, IsPart, MayExchange, counts_after};
+ghost use Rattle.window_sums.specs.Slices.{counts_of, counts_outside, counts_without, day_of};
+ghost use Rattle.window_sums.specs.Slices.{exchanged};
+ghost use Rattle.window_sums.specs.Slices.{has_day, leaf_at, no_counts, slice_of, slices_a_day};
 ghost use Rattle.window_sums.specs.Slices.{width_of};
 
-use crate::day::Day;
+use crate::day::{Day, NOTHING};
+use crate::emptiness;
 use crate::range::sum_slots;
 use crate::widths::{slices_a_day, slices_an_hour, width_of};
 use counted_steps::Steps;
@@ -70,8 +74,24 @@ impl WindowSums {
         ensures value { result ≡ width_of self.now.method }
         ensures some { 0 < result }
         ensures few { result ≤ 60 }
+        ensures divides { result ∣ 60 }
     {
         width_of(&self.method)
+    }
+
+    /// How many slices a day has.
+    pub fn slices_a_day(&self) -> u32
+        ensures value { result ≡ slices_a_day self.now.method }
+        ensures some { 0 < result }
+    {
+        slices_a_day(&self.method)
+    }
+
+    // No work: what is kept of the counts.
+    fn counted(&self)
+        ensures { AreCounted self.now }
+    {
+        let _method = &self.method;
     }
 
     /// No work: what holds of the leaves of all slices.
@@ -126,6 +146,84 @@ impl WindowSums {
         self.pages.set(slice, leaf_of(self.method, counts));
     }
 
+    /// The counts of the slices of a day, in their order: of none where the day isn't there.
+    pub fn counts_on(&self, day: u32) -> &[Counts]
+        ensures few { length result.now ≤ slices_a_day self.now.method }
+        ensures counts { (place : ℕ) → place < slices_a_day self.now.method
+            → counts_of self.now (day * slices_a_day self.now.method + place)
+            ≡ slice_index_or result.now place no_counts }
+    {
+        match self.days.get(&day) {
+            Some(slices) => slices.all(),
+            None => &[],
+        }
+    }
+
+    // The counts of a slice.
+    fn counts(&self, slice: u32) -> Counts
+        ensures { result ≡ counts_of self.now slice }
+    {
+        let slices = slices_a_day(&self.method);
+        match self.days.get(&(slice / slices)) {
+            Some(day) => day.at((slice % slices) as usize),
+            None => NOTHING,
+        }
+    }
+
+    // Takes away what was counted in a slice.
+    fn clear_slice(&mut self, slice: u32)
+        requires early { slice * width_of self.old.method ≤ 4294967295 }
+        ensures method { self.new.method ≡ self.old.method }
+        ensures counts { (other : ℕ) → counts_of self.new other
+            ≡ (if other == slice then no_counts else counts_of self.old other) }
+        ensures days { (day : ℕ) → has_day self.new day ≡ has_day self.old day }
+    {
+        let counts = self.counts(slice);
+        if counts == NOTHING {
+            return;
+        }
+        self.counted();
+        self.change(slice * self.width(), counts, NOTHING);
+    }
+
+    // Takes away what was counted in those slices of a day that lie from the first up to the end.
+    fn clear_on_day(&mut self, day: u32, first: u32, end: u32)
+        requires early { end * width_of self.old.method ≤ 4294967295 }
+        requires day { day * slices_a_day self.old.method < end }
+        ensures method { self.new.method ≡ self.old.method }
+        ensures counts { (slice : ℕ) → counts_of self.new slice
+            ≡ (if slice / slices_a_day self.old.method == day
+            then counts_without self.old first end slice else counts_of self.old slice) }
+        ensures days { (day : ℕ) → has_day self.new day ≡ has_day self.old day }
+    {
+        if !self.days.contains_key(&day) {
+            return;
+        }
+        let slices = self.slices_a_day();
+        let start = day * slices;
+        let until = start + slices.min(end - start);
+        for slice in start.max(first)..until {
+            self.clear_slice(slice);
+        }
+    }
+
+    /// Takes away what was counted in all slices that lie wholly in [from, to). All else stays, and
+    /// no memory is taken.
+    pub fn clear(&mut self, from: u32, to: u32)
+        ensures method { self.new.method ≡ self.old.method }
+        ensures counts { (slice : ℕ) → counts_of self.new slice
+            ≡ counts_outside self.old from to slice }
+        ensures days { (day : ℕ) → has_day self.new day ≡ has_day self.old day }
+    {
+        let width = self.width();
+        let slices = self.slices_a_day();
+        let first = from.div_ceil(width);
+        let end = to / width;
+        for day in first / slices..end.div_ceil(slices) {
+            self.clear_on_day(day, first, end);
+        }
+    }
+
     /// The leaf of a slice, in one step: (0, 0) where its day isn't there.
     pub fn slice<L: Ledger>(&self, slice: u32, steps: &mut Steps<L>) -> Leaf
         ensures value { result ≡ leaf_at self.now slice }
@@ -151,6 +249,17 @@ impl WindowSums {
         self.sound();
         let width = width_of(&self.method);
         sum_slots(&self.pages, from.div_ceil(width), to / width, steps)
+    }
+
+    /// Whether no slice that lies wholly in [from, to) has an event: the den of their sum is 0. The
+    /// reads of `sum`, from the end on, up to the first total above 0: at most 600 over 30 days.
+    pub fn is_empty<L: Ledger>(&self, from: u32, to: u32, steps: &mut Steps<L>) -> bool
+        ensures value { result ≡ ((sum_of_slices (width_of self.now.method) (leaf_at self.now) from
+            to).den == 0) }
+        ensures bounded { to - from ≤ 43200 → steps.new ≤ steps.old + 600 }
+    {
+        let width = width_of(&self.method);
+        emptiness::is_empty(&self.pages, from.div_ceil(width), to / width, steps)
     }
 }
 

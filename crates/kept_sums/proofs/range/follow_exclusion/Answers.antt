@@ -1,11 +1,11 @@
-use Rattle.std.proofs.Common.{◌≡◌, ◌+◌, ◌-◌, ◌/◌, not, Bool, true, false, refl, subst, sym, ◌∙◌}
-use Rattle.std.proofs.Common.{arith, inl, inr}
+use Rattle.std.proofs.Common.{◌≡◌, not, Bool, true, false, refl, subst, sym, ◌∙◌, inl, inr}
 use Rattle.std.specs.Str.{bytes_eq}
 use Rattle.window_sums.specs.Shares.{IsSumOf}
-use Rattle.kept_sums.specs.Sums.{row_counts, shares_by}
-use Rattle.kept_sums.specs.Walks.{made_on, up_to}
-use Rattle.kept_sums.proofs.DayLemmas.{days_end, none_taken, on_its_days}
-use Rattle.kept_sums.proofs.FollowLemmas.{same_days}
+use Rattle.kept_sums.specs.Sums.{IsKept, shares_by}
+use Rattle.kept_sums.specs.Walks.{followed, made_on}
+use Rattle.kept_sums.proofs.DayLemmas.{none_taken}
+use Rattle.kept_sums.proofs.RangeLemmas.{counted_begins, kept_after}
+use Rattle.kept_sums.proofs.ShareLemmas.{untouched}
 use Rattle.kept_sums.proofs.range.follow_exclusion.Goals as goal
 
 pub returns-then-ne-clause-kept : goal.returns-then-ne-clause-kept
@@ -33,29 +33,76 @@ returns-then-value-clause-kept c = record {
   days = c.requires.kept.days;
 }
 
-pub follow_on_day-requires-clause-days : goal.follow_on_day-requires-clause-days
-follow_on_day-requires-clause-days c =
-    same_days c.args.measure.now c.args.book.now.rows c.args.sums.now c.loop-day.sums
-    c.loop-day.invariant.days c.requires.kept.days
+pub follow_taking-requires-clause-own : goal.follow_taking-requires-clause-own
+follow_taking-requires-clause-own c =
+    turned (bytes_eq c.args.value.now.slo c.args.measure.now.slo) (sym c.ne.ensures ∙ c.if-ne.false)
+  where
+    turned : (b : Bool) → not b ≡ false → b ≡ true
+    turned true e = refl
+    turned false e = cc e
 
-pub returns-clause-kept : goal.returns-clause-kept
-returns-clause-kept c =
+pub follow_taking-requires-clause-counted : goal.follow_taking-requires-clause-counted
+follow_taking-requires-clause-counted c =
     let m = c.args.measure.now in
     let made = c.args.book.now.exclusions in
     let value = c.args.value.now in
     let rows = c.args.book.now.rows in
-    let sums = c.loop-day.sums in
-    let first = value.from / 1440 in
-    let end = (value.to - 1) / 1440 + 1 in
-    let whole : c.loop-day.day ≡ end =
-    omega (arith, c.loop-day-test.false, c.loop-day.auto.day-end) in
-    let counted = subst (λ n. IsSumOf
-    sums (shares_by (up_to m.sli first n (row_counts m (made_on made value (not c.args.taken)))
-    (row_counts m (made_on made value c.args.taken))) rows)) whole
-    c.loop-day.invariant.counted in
-    record {
-      method = c.loop-day.invariant.method ∙ c.requires.kept.method;
-      counted = subst (IsSumOf sums) (days_end m made value c.args.taken first end rows
-          (λ minute a b. on_its_days value.from value.to minute a b)) counted;
-      days = same_days m rows c.args.sums.now sums c.loop-day.invariant.days c.requires.kept.days;
-    }
+    subst (λ t. IsSumOf c.args.sums.now (shares_by (followed m made value t value.from) rows))
+    c.if-taken.true
+    (counted_begins m made value c.args.taken rows c.args.sums.now c.requires.kept)
+
+pub follow_lifting-requires-clause-counted : goal.follow_lifting-requires-clause-counted
+follow_lifting-requires-clause-counted c =
+    let m = c.args.measure.now in
+    let made = c.args.book.now.exclusions in
+    let value = c.args.value.now in
+    let rows = c.args.book.now.rows in
+    subst (λ t. IsSumOf c.args.sums.now (shares_by (followed m made value t value.from) rows))
+    c.if-taken.false
+    (counted_begins m made value c.args.taken rows c.args.sums.now c.requires.kept)
+
+taken_kept : (c : goal.After-follow_taking) → IsKept c.args.measure.now
+    (made_on c.args.book.now.exclusions c.args.value.now c.args.taken) c.args.book.now.rows
+    c.follow_taking.new.sums
+taken_kept c =
+    let m = c.args.measure.now in
+    let made = c.args.book.now.exclusions in
+    let value = c.args.value.now in
+    let rows = c.args.book.now.rows in
+    let new = c.follow_taking.new.sums in
+    kept_after m made value c.args.taken rows c.args.sums.now new c.requires.kept
+    (subst (λ t. IsSumOf new (shares_by (followed m made value t value.to) rows))
+    (sym c.if-taken.true) c.follow_taking.ensures.counted) c.follow_taking.ensures.method
+    c.follow_taking.ensures.days
+
+lifted_kept : (c : goal.After-follow_lifting) → IsKept c.args.measure.now
+    (made_on c.args.book.now.exclusions c.args.value.now c.args.taken) c.args.book.now.rows
+    c.follow_lifting.new.sums
+lifted_kept c =
+    let m = c.args.measure.now in
+    let made = c.args.book.now.exclusions in
+    let value = c.args.value.now in
+    let rows = c.args.book.now.rows in
+    let new = c.follow_lifting.new.sums in
+    kept_after m made value c.args.taken rows c.args.sums.now new c.requires.kept
+    (subst (λ t. IsSumOf new (shares_by (followed m made value t value.to) rows))
+    (sym c.if-taken.false) c.follow_lifting.ensures.counted) c.follow_lifting.ensures.method
+    c.follow_lifting.ensures.days
+
+pub returns-then-taken-clause-kept : goal.returns-then-taken-clause-kept
+returns-then-taken-clause-kept c = taken_kept c
+
+pub returns-else-taken-clause-kept : goal.returns-else-taken-clause-kept
+returns-else-taken-clause-kept c = lifted_kept c
+
+pub returns-then-taken-clause-touched : goal.returns-then-taken-clause-touched
+returns-then-taken-clause-touched c = λ slice free.
+    untouched c.args.measure.now c.args.book.now.exclusions c.args.value.now c.args.taken
+    c.args.book.now.rows c.args.sums.now c.follow_taking.new.sums c.requires.kept (taken_kept c)
+    slice free
+
+pub returns-else-taken-clause-touched : goal.returns-else-taken-clause-touched
+returns-else-taken-clause-touched c = λ slice free.
+    untouched c.args.measure.now c.args.book.now.exclusions c.args.value.now c.args.taken
+    c.args.book.now.rows c.args.sums.now c.follow_lifting.new.sums c.requires.kept (lifted_kept c)
+    slice free

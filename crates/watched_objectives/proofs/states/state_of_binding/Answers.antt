@@ -6,7 +6,7 @@ pub state_near-requires-clause-watched : goal.state_near-requires-clause-watched
 state_near-requires-clause-watched c = record {
   binding = c.args.binding.now;
   among = c.requires.among;
-  watches = sym c.watch_of.ensures.value ∙ c.in-Some.is;
+  watches = sym c.watch_seen.ensures ∙ c.in-Some.is;
 }
 
 pub returns-in-None-clause-know : goal.returns-in-None-clause-know

@@ -15,6 +15,7 @@ loop-binding-init c = record {
   lines = c.requires.lines;
   watches = refl;
   know = all_know c.args.lines.now.kept;
+  before = tt;
   spare = refl;
 }
 
@@ -38,5 +39,6 @@ loop-binding-preserved c = record {
       know_on c.args.lines.now.kept c.loop-binding.lines.kept
       c.state_of_binding-state.new.lines.kept c.loop-binding.invariant.know
       c.state_of_binding-state.ensures.know;
+  before = c.seen_near-seen.ensures.seen;
   spare = c.state_of_binding-state.ensures.spare ∙ c.loop-binding.invariant.spare;
 }

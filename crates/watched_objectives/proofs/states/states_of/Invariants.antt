@@ -1,10 +1,12 @@
-use Rattle.std.proofs.Common.{◌≡◌, ◌++◌, drop, map}
+use Rattle.std.proofs.Common.{◌≡◌, ◌++◌, IfSome, drop, map}
 use Rattle.watched_objectives.specs.Known.{AllKnow}
 use Rattle.watched_objectives.specs.Lines.{HasLines, watches_of}
+use Rattle.watched_objectives.specs.Near.{IsSeen}
 use Rattle.watched_objectives.specs.States.{with_state}
 use Rattle.watched_objectives.proofs.states.states_of.Given as goal
 
--- the states so far and those of the bindings that are left are those of all; the lines are kept
+-- the states so far and those of the bindings that are left are those of all; the lines are
+-- kept, and the objective before is right
 abbrev pub invariant-loop-binding : goal.invariant-loop-binding
 invariant-loop-binding l = record {
   states : l.states.items ++ map (with_state l.derived l.minute) (drop l.binding-index l.bindings)
@@ -12,5 +14,6 @@ invariant-loop-binding l = record {
   lines : HasLines l.derived l.lines.kept;
   watches : watches_of l.lines.kept ≡ watches_of l.initial.lines.kept;
   know : AllKnow l.initial.lines.kept l.lines.kept;
+  before : IfSome l.before (IsSeen l.derived.catalog);
   spare : l.lines.spare ≡ l.initial.lines.spare;
 }

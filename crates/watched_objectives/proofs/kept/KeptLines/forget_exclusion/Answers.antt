@@ -2,7 +2,10 @@ use Rattle.std.proofs.Common.{◌<◌, ℕ, not, ap, subst, sym, ◌∙◌, arit
 use Rattle.std.proofs.Common.{slice_index_or}
 use Rattle.std.proofs.lemmas.List.Elements.{recursion_from_All}
 use Rattle.kept_lines.specs.Right.{IsRight}
+use Rattle.kept_lines.specs.kept_sums.Sums.{IsKept}
 use Rattle.office_history.specs.Counts.{Samples}
+use Rattle.office_history.specs.declared.Measure.{Measure}
+use Rattle.office_derived.specs.kept_objectives.Objectives.{IsObjective}
 use Rattle.office_derived.proofs.kept_objectives_proofs.Loops.{all_get, all_set, half_end, half_get}
 use Rattle.office_derived.proofs.kept_objectives_proofs.Loops.{half_step}
 use Rattle.office_derived.proofs.kept_objectives_proofs.Loops.{written_back}
@@ -14,6 +17,7 @@ use Rattle.watched_objectives.specs.Watches.{IsWatched}
 use Rattle.watched_objectives.specs.declared.kept.WatchLine.{WatchLine}
 use Rattle.watched_objectives.proofs.ForgetLemmas.{all_early, forget_back, forget_end, forget_step}
 use Rattle.watched_objectives.proofs.ForgetLemmas.{keeps_over, watch_stays}
+use Rattle.watched_objectives.proofs.KeptLemmas.{kept_there}
 use Rattle.watched_objectives.proofs.LineLemmas.{objective_watched}
 use Rattle.watched_objectives.proofs.kept.KeptLines.forget_exclusion.Goals as goal
 
@@ -32,6 +36,25 @@ here c =
     c.loop-kept.kept-index c.loop-kept.kept-items c.kept-item.result
     (omega (arith, c.loop-kept-test.true, c.loop-kept.auto.kept-items))
     c.loop-kept.invariant.right
+
+pub objective_sums-sums-requires-clause-objective :
+    goal.objective_sums-sums-requires-clause-objective
+objective_sums-sums-requires-clause-objective c =
+    let members = c.args.derived.now.catalog in
+    let k = slice_index_or c.loop-kept.kept-items c.loop-kept.kept-index c.kept-item.result in
+    subst (IsObjective members) (sym c.measure.ensures.value)
+    (objective_watched members k.watch
+    (all_get (λ (k : WatchLine). IsWatched members k.watch) c.loop-kept.kept-index
+    c.loop-kept.kept-items c.kept-item.result
+    (omega (arith, c.loop-kept-test.true, c.loop-kept.auto.kept-items))
+    c.loop-kept.invariant.watched))
+
+pub forget_changed-requires-clause-kept : goal.forget_changed-requires-clause-kept
+forget_changed-requires-clause-kept c =
+    let d = c.args.derived.now in
+    let sums = c.objective_sums-sums.result.now in
+    subst (λ (m : Measure). IsKept m d.book.exclusions d.book.rows sums) c.measure.ensures.value
+    (kept_there d c.measure.result.now sums c.requires.sound c.objective_sums-sums.ensures.kept)
 
 pub forget_changed-requires-clause-rule : goal.forget_changed-requires-clause-rule
 forget_changed-requires-clause-rule c = (here c).rule

@@ -9,11 +9,11 @@ use Rattle.watched_objectives.proofs.LineLemmas.{objective_watched, place_within
 use Rattle.watched_objectives.proofs.LineLemmas.{seen_state, watches_there}
 use Rattle.watched_objectives.proofs.kept.KeptLines.state_near.Goals as goal
 
-pub objective_sums-sums-requires-clause-objective :
-    goal.objective_sums-sums-requires-clause-objective
-objective_sums-sums-requires-clause-objective c =
+pub objective_sums_at-sums-requires-clause-objective :
+    goal.objective_sums_at-sums-requires-clause-objective
+objective_sums_at-sums-requires-clause-objective c =
     let members = c.args.derived.now.catalog in
-    subst (IsObjective members) (sym c.measure.ensures.value)
+    subst (IsObjective members) (sym c.measure-measure.ensures.value)
     (objective_watched members c.args.watch.now c.requires.watched)
 
 pub index_mut-requires : goal.index_mut-requires
@@ -46,9 +46,9 @@ state_of_line-state-requires-clause-agrees c =
     let there = found d.origin s w c.args.self.now.kept c.self.inside.lines.items
     c.place_near-place.result k view c.requires.lines.right c.place_near-place.ensures
     c.index_mut.ensures.value in
-    let sums = c.objective_sums-sums.result.now in
-    let are = subst (λ (m : Measure). AreSums s m sums) c.measure.ensures.value
-    c.objective_sums-sums.ensures.sums in
+    let sums = c.objective_sums_at-sums.result.now in
+    let are = subst (λ (m : Measure). AreSums s m sums) c.measure-measure.ensures.value
+    c.objective_sums_at-sums.ensures.sums in
     agrees_there d.origin s w k.line sums there.0 are
 
 pub returns-clause-value : goal.returns-clause-value
@@ -61,9 +61,9 @@ returns-clause-value c =
     let there = found d.origin s w c.args.self.now.kept c.self.inside.lines.items
     c.place_near-place.result k view c.requires.lines.right c.place_near-place.ensures
     c.index_mut.ensures.value in
-    let sums = c.objective_sums-sums.result.now in
-    let are = subst (λ (m : Measure). AreSums s m sums) c.measure.ensures.value
-    c.objective_sums-sums.ensures.sums in
+    let sums = c.objective_sums_at-sums.result.now in
+    let are = subst (λ (m : Measure). AreSums s m sums) c.measure-measure.ensures.value
+    c.objective_sums_at-sums.ensures.sums in
     c.state_of_line-state.ensures.value
     ∙ seen_state d.origin s w k.line sums c.args.minute there.0 are
 
@@ -77,9 +77,9 @@ returns-clause-lines c =
     let there = found d.origin s w c.args.self.now.kept c.self.inside.lines.items
     c.place_near-place.result k view c.requires.lines.right c.place_near-place.ensures
     c.index_mut.ensures.value in
-    let sums = c.objective_sums-sums.result.now in
-    let are = subst (λ (m : Measure). AreSums s m sums) c.measure.ensures.value
-    c.objective_sums-sums.ensures.sums in
+    let sums = c.objective_sums_at-sums.result.now in
+    let are = subst (λ (m : Measure). AreSums s m sums) c.measure-measure.ensures.value
+    c.objective_sums_at-sums.ensures.sums in
     let after = c.state_of_line-state.new.line in
     let right =
     right_again d.origin s w k.line after sums there.0 are c.state_of_line-state.ensures.alert

@@ -4,12 +4,12 @@ use Rattle.office_history.specs.Counts.{slice_counts}
 use Rattle.kept_lines.specs.kept_sums.Sums.{IsKept}
 use Rattle.watched_objectives.specs.Sums.{samples_of}
 use Rattle.watched_objectives.proofs.KeptLemmas.{are_sums, kept_there, never_lacking}
-use Rattle.watched_objectives.proofs.sums.objective_sums.Goals as goal
+use Rattle.watched_objectives.proofs.sums.objective_sums_at.Goals as goal
 
 pub unreachable-requires : goal.unreachable-requires
 unreachable-requires c =
     never_lacking c.args.derived.now c.args.measure.now c.requires.sound c.requires.objective
-    (c.find.ensures.none c.in-None.is)
+    (c.find_at.ensures.none c.in-None.is)
 
 -- the sums that are found are those of the rows
 found : (c : goal.After-width) → IsKept c.args.measure.now c.args.derived.now.book.exclusions

@@ -1,0 +1,123 @@
+use Rattle.std.proofs.Common.{◌≡◌, ◌⊎◌, inl, inr, ℕ, None, ◌*◌, ◌/◌, ◌<◌, ◌≤◌, ap, sym, subst, ◌∙◌}
+use Rattle.std.specs.Int.{◌∣◌}
+use Rattle.std.proofs.Math.Nat.{div-mul-le_self}
+use Rattle.std.proofs.lemmas.Grind.{div_ceil_times}
+use Rattle.burn_core.specs.Alert.{reach_of}
+use Rattle.window_sums.specs.Slices.{width_of}
+use Rattle.kept_sums.specs.Walks.{IsChanged}
+use Rattle.kept_sums.proofs.RangeLemmas.{before_first, day_of_one_slice, last_day, last_slice}
+use Rattle.kept_sums.proofs.RangeLemmas.{one_slice}
+use Rattle.kept_lines.specs.Touched.{IsCountedIn, IsCut}
+use Rattle.kept_lines.proofs.CountedLemmas.{IsRanged, changed-early, changed-one, changed-parts}
+use Rattle.kept_lines.proofs.CountedLemmas.{counted-changed, cut-changed, part-changed}
+use Rattle.kept_lines.proofs.EachLemmas.{each-same, each-then}
+use Rattle.kept_lines.proofs.exclusion.touch_range.Goals as goal
+
+pub touch_cut-requires-clause-one_day : goal.touch_cut-requires-clause-one_day
+touch_cut-requires-clause-one_day c = λ minute a b.
+    let value = c.args.value.now in
+    let width = c.args.width in
+    let divides : width ∣ 60 = subst (λ w. w ∣ 60)
+    (c.width.ensures.value ∙ ap width_of c.requires.kept.method ∙ sym c.requires.width)
+    c.width.ensures.divides in
+    day_of_one_slice width value.from minute divides
+    (one_slice width value.from value.to minute c.requires.some
+    (subst (λ n. value.to / width < n) c.div_ceil-first.ensures c.if-end-first.true) a b)
+
+pub returns-then-end-first : goal.returns-then-end-first
+returns-then-end-first c =
+    let m = c.args.measure.now in
+    let made = c.args.book.now.exclusions in
+    let value = c.args.value.now in
+    let rows = c.args.book.now.rows in
+    let width = c.args.width in
+    let one : (minute : ℕ) → value.from ≤ minute → minute < value.to
+    → minute / width ≡ value.from / width =
+    λ minute a b. one_slice width value.from value.to minute c.requires.some
+    (subst (λ n. value.to / width < n) c.div_ceil-first.ensures c.if-end-first.true) a b in
+    each-same (IsCut m made value rows width value.from value.to) (IsChanged m made value rows)
+    width (reach_of c.args.rule.now) None c.touch_cut.result c.args.line.now c.touch_cut.new.line
+    (λ k. cut-changed m made value rows width value.from value.to k c.requires.width one)
+    (λ k. changed-one m made value rows width k c.requires.width one) c.touch_cut.ensures
+
+pub touch_cut-run-requires-clause-one_day : goal.touch_cut-run-requires-clause-one_day
+touch_cut-run-requires-clause-one_day c = λ minute a b.
+    let value = c.args.value.now in
+    let width = c.args.width in
+    let divides : width ∣ 60 = subst (λ w. w ∣ 60)
+    (c.width.ensures.value ∙ ap width_of c.requires.kept.method ∙ sym c.requires.width)
+    c.width.ensures.divides in
+    day_of_one_slice width value.from minute divides
+    (before_first width value.from minute c.requires.some a
+    (subst (λ n. minute < n * width) c.div_ceil-first.ensures b))
+
+pub forget_whole-run-requires-clause-early : goal.forget_whole-run-requires-clause-early
+forget_whole-run-requires-clause-early c = λ slice is.
+    let m = c.args.measure.now in
+    let made = c.args.book.now.exclusions in
+    let value = c.args.value.now in
+    let rows = c.args.book.now.rows in
+    let width = c.args.width in
+    let sums = c.args.sums.now in
+    let first = c.div_ceil-first.result in
+    let end = value.to / width in
+    let range : IsRanged m value width first end = record {
+      wide = c.requires.width;
+      some = c.requires.some;
+      own = c.requires.own;
+      from = subst (λ n. value.from ≤ n * width) (sym c.div_ceil-first.ensures)
+          (div_ceil_times value.from width c.requires.some).0;
+      to = div-mul-le_self value.to width;
+    } in
+    changed-early m made value rows width slice c.requires.width c.requires.early
+    (counted-changed m made value rows sums width first end slice range c.requires.kept is)
+
+pub touch_cut-requires-2-clause-one_day : goal.touch_cut-requires-2-clause-one_day
+touch_cut-requires-2-clause-one_day c = λ minute a b.
+    let value = c.args.value.now in
+    let width = c.args.width in
+    let divides : width ∣ 60 = subst (λ w. w ∣ 60)
+    (c.width.ensures.value ∙ ap width_of c.requires.kept.method ∙ sym c.requires.width)
+    c.width.ensures.divides in
+    last_day width value.to minute divides c.requires.some a b
+
+pub returns : goal.returns
+returns c =
+    let m = c.args.measure.now in
+    let made = c.args.book.now.exclusions in
+    let value = c.args.value.now in
+    let rows = c.args.book.now.rows in
+    let width = c.args.width in
+    let sums = c.args.sums.now in
+    let first = c.div_ceil-first.result in
+    let end = value.to / width in
+    let range : IsRanged m value width first end = record {
+      wide = c.requires.width;
+      some = c.requires.some;
+      own = c.requires.own;
+      from = subst (λ n. value.from ≤ n * width) (sym c.div_ceil-first.ensures)
+          (div_ceil_times value.from width c.requires.some).0;
+      to = div-mul-le_self value.to width;
+    } in
+    let reach = reach_of c.args.rule.now in
+    let line = c.args.line.now in
+    let start : (minute : ℕ) → value.from ≤ minute → minute < first * width
+    → minute / width ≡ value.from / width =
+    λ minute a b. before_first width value.from minute c.requires.some a
+    (subst (λ n. minute < n * width) c.div_ceil-first.ensures b) in
+    let last : (minute : ℕ) → end * width ≤ minute → minute < value.to
+    → minute / width ≡ end * width / width =
+    λ minute a b. last_slice width value.to minute c.requires.some a b in
+    let cut = IsCut m made value rows width value.from (first * width) in
+    let counted = IsCountedIn sums first end in
+    let both : ℕ → Type 0 = λ k. cut k ⊎ counted k in
+    let half = each-then cut counted both width reach None c.touch_cut-run.result
+    c.forget_whole-run.result line c.touch_cut-run.new.line c.forget_whole-run.new.line
+    (λ k x. inl x) (λ k x. inr x) (λ k x. x) c.touch_cut-run.ensures c.forget_whole-run.ensures in
+    each-then both (IsCut m made value rows width (end * width) value.to)
+    (IsChanged m made value rows) width reach None c.forget_whole-run.result c.touch_cut-2.result
+    line c.forget_whole-run.new.line c.touch_cut-2.new.line
+    (λ k. part-changed m made value rows sums width first end k range c.requires.kept start)
+    (λ k. cut-changed m made value rows width (end * width) value.to k c.requires.width last)
+    (λ k. changed-parts m made value rows sums width first end k range c.requires.kept start last)
+    half c.touch_cut-2.ensures
