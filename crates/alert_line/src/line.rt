@@ -193,9 +193,30 @@ impl AlertLine {
             + 2400 * unknown_in self.old (start_of self.old minute)
             (minute + 1 - start_of self.old minute) }
     {
-        let den = self.den_before(minute, sums, steps);
         let active = self.active_at(minute, sums, steps);
-        state_of(active, den)
+        self.state_where(active, minute, sums, steps)
+    }
+
+    // How the alert stands at a minute at which it is active or isn't. Only where it isn't the
+    // lookback is asked for events.
+    fn state_where<L: Ledger>(
+        &self,
+        active: bool,
+        minute: u32,
+        sums: &WindowSums,
+        steps: &mut Steps<L>,
+    ) -> State
+        ensures value { result ≡ state_of active (den_before self.now sums.now minute) }
+        ensures steps { steps.new ≤ steps.old + 600 }
+    {
+        if active {
+            return State::Breaching;
+        }
+        if self.is_silent(minute, sums, steps) {
+            State::NoData
+        } else {
+            State::Quiet
+        }
     }
 
     // Whether the alert is active at a minute.
@@ -252,13 +273,13 @@ impl AlertLine {
         run
     }
 
-    // The den over the lookback.
-    fn den_before<L: Ledger>(&self, minute: u32, sums: &WindowSums, steps: &mut Steps<L>) -> u64
-        ensures value { result ≡ den_before self.now sums.now minute }
+    // Whether the lookback has no event.
+    fn is_silent<L: Ledger>(&self, minute: u32, sums: &WindowSums, steps: &mut Steps<L>) -> bool
+        ensures value { result ≡ (den_before self.now sums.now minute == 0) }
         ensures steps { steps.new ≤ steps.old + 600 }
     {
         let from = minute.saturating_sub(self.rule.lookback());
-        sums.sum(from, minute, steps).den
+        sums.is_empty(from, minute, steps)
     }
 
     // The condition of a minute, which is known afterwards. The cursor stands at an earlier minute
@@ -429,18 +450,6 @@ fn next_run(run: u32, holds: bool) -> u32
     ensures { result ≡ (if holds then run + 1 else 0) }
 {
     if holds { run + 1 } else { 0 }
-}
-
-fn state_of(active: bool, den: u64) -> State
-    ensures { result ≡ state_of active den }
-{
-    if active {
-        State::Breaching
-    } else if den == 0 {
-        State::NoData
-    } else {
-        State::Quiet
-    }
 }
 
 fn zeros(alloc: Global, count: usize) -> Result<Vec<u8>, AllocError>

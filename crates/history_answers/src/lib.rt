@@ -17,5 +17,3 @@ mod window_start;
 pub use answering::answer;
 pub use laws::each_query_has_one_answer;
 pub use timeline::state_of;
-pub use watched_objectives;
-pub use watched_objectives::kept_lines;

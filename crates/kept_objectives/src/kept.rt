@@ -73,9 +73,9 @@ impl KeptSums {
     }
 }
 
-/// Where the objectives of an SLO begin, by halves: `take` leaves them in the order of their SLOs'
-/// names. A search that begins elsewhere finds the same, but later.
-fn likely_place(objectives: &[ObjectiveSums], measure: &Measure) -> usize
+/// Where the objectives of an SLO begin, by a binary search: `take` leaves them in the order of
+/// their SLOs' names. A search that begins elsewhere finds the same, but later.
+pub(crate) fn likely_place(objectives: &[ObjectiveSums], measure: &Measure) -> usize
     ensures { result ≤ length objectives.now }
 {
     objectives.partition_point(|kept| kept.measure.slo < measure.slo)

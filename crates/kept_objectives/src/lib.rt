@@ -5,6 +5,7 @@
 
 mod follow;
 mod kept;
+mod near;
 mod plan;
 mod same;
 mod take;

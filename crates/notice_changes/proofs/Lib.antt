@@ -2,3 +2,4 @@ mod BoxLemmas
 mod TickLemmas
 mod TakeLemmas
 mod OnceLemmas
+mod StateLemmas

@@ -1,12 +1,14 @@
 -- What a tick finds and leaves.
 use Rattle.std.proofs.Common.{◌≡◌, ℕ, ◌+◌, ◌<◌, ◌≤◌, nat_lt, Bool, true, false, not, cond, refl, ap}
 use Rattle.std.proofs.Common.{sym, ◌∙◌, subst, arith, List, [], ◌∷◌, ◌++◌, map, max, length}
-use Rattle.std.proofs.Common.{length-append}
+use Rattle.std.proofs.Common.{Option, None, Some, length-append}
 use Rattle.std.proofs.lemmas.List.{append-nil, length-map, map-append}
 use Rattle.slo_limits.specs.declared.TheConstants as most
 use Rattle.burn_core.specs.declared.State.{State}
+use Rattle.burn_core.specs.declared.State.TheVariants.{Quiet}
 use Rattle.notice_box.specs.declared.Notice.{Notice}
 use Rattle.slo_catalog.specs.declared.Binding.{Binding}
+use Rattle.slo_catalog.specs.Bindings.{bindings}
 use Rattle.sample_book.specs.Rows.{current_rows}
 use Rattle.sample_book.specs.History as book
 use Rattle.sample_book.specs.History.{Holds}
@@ -20,10 +22,11 @@ use Rattle.office_history.specs.History.{Office, with_entry, present, rows_in, c
 use Rattle.office_history.specs.History.{events_in, accepted_rows}
 use Rattle.office_history.specs.Catalog.{catalog_in}
 use Rattle.office_history.specs.Zones.{zones_in}
-use Rattle.office_history.specs.Alerts.{states_at}
+use Rattle.office_history.specs.Alerts.{state_if, states_at, watch_of}
 use Rattle.office_history.specs.Lists.{last_of}
 use Rattle.office_history.specs.Notices.{changes, is_taken, last_states, notice_of, notices_in}
-use Rattle.office_history.specs.Notices.{numbered, states_of_tick, states_over, tick_changes}
+use Rattle.office_history.specs.Notices.{numbered, samples_in, states_of_tick, states_over}
+use Rattle.office_history.specs.Notices.{tick_changes}
 use Rattle.office_history.specs.Notices.{ticks_in, told_at, told_in, waiting}
 use Rattle.office_history.specs.Batches.{when}
 use Rattle.office_history.specs.Judges.{Judges}
@@ -32,6 +35,7 @@ use Rattle.office_derived.specs.declared.Derived.{Derived}
 use Rattle.office_derived.specs.declared.Judged.{Judged}
 use Rattle.office_derived.specs.declared.Judged.TheVariants as judged
 use Rattle.office_derived.specs.declared.Work.{Work}
+use Rattle.office_derived.specs.declared.Work.TheVariants as works
 use Rattle.office_derived.specs.Derived.{IsFound, IsJudged, IsSound, Reflects, command_of}
 use Rattle.office_derived.proofs.Lists.{last-push, map_ext}
 use Rattle.office_derived.proofs.More.{rows_more, changes_more, events_more, zones_more}
@@ -39,9 +43,11 @@ use Rattle.office_derived.proofs.More.{catalog_more, present_more, told_more, ti
 use Rattle.office_derived.proofs.Sound.{sound_still}
 use Rattle.office_derived.proofs.Still.{taken_still}
 use Rattle.watched_objectives.specs.Sums.{samples_of}
-use Rattle.notice_changes.specs.Works.{new_notices}
+use Rattle.notice_changes.specs.States.{AreByBinding}
+use Rattle.notice_changes.specs.Works.{TellsFew, new_notices}
 use Rattle.notice_changes.proofs.BoxLemmas.{length_new, length_numbered, numbered_more}
 use Rattle.notice_changes.proofs.BoxLemmas.{waiting_more, waiting_new}
+use Rattle.notice_changes.proofs.StateLemmas.{are_given}
 
 abbrev pub tick_at : ℕ → Entry
 tick_at moment = record { moment = moment; command = Tick }
@@ -89,6 +95,16 @@ pub found_changes : (d : Derived) (o : Office) (moment : ℕ) (states : List (Bi
     Reflects d o → states ≡ states_over o moment →
     changes d.catalog d.states.items states ≡ tick_changes (last_states o) o moment
 found_changes d o moment states r e = λ i. changes (r.catalog i) (r.states i) (e i)
+
+-- the states of the last tick, in which a binding has but one
+by_tick : (tick : Option (Office × ℕ)) → AreByBinding (states_of_tick tick)
+by_tick None = record { state_of = λ b. Quiet; each = tt }
+by_tick (Some tick) =
+    are_given (λ b. state_if tick.0.origin (samples_in tick.0.history) tick.1
+    (watch_of (catalog_in tick.0.history) b)) (bindings (catalog_in tick.0.history))
+
+pub by_binding : (d : Derived) (o : Office) → Reflects d o → AreByBinding d.states.items
+by_binding d o r = subst AreByBinding (sym r.states) (by_tick (last_of (ticks_in o)))
 
 -- what a judgement comes to, where it is accepted as this work
 abbrev pub judged_as : Judgement → Work → Judged
@@ -144,6 +160,23 @@ next_few d o moment told r judged found =
     ∙ sym (count_told o moment) in
     let wait : waiting d.notices.made ≡ waiting (notices_in o) = ap waiting r.notices in
     (omega (arith, wait, count, few.0), omega (arith, r.entries, few.1))
+
+-- and of any work that is accepted
+pub few_told : (o : Office) (moment : ℕ) (work : Work)
+    → Judges o moment (command_of work) Accepted → IsFound o moment work → TellsFew work
+few_told o moment (works.Tick states told) judged found =
+    let few = tick_few (notices_in o) (length o.history) (length (told_at o (tick_at moment)))
+    (sym judged) in
+    let count : length told.items ≡ length (told_at o (tick_at moment)) =
+    ap length found.1 ∙ sym (count_told o moment) in
+    omega (arith, count, few.0)
+few_told o moment (works.Define text catalog applied plan) judged found = tt
+few_told o moment (works.Remove kind name catalog plan) judged found = tt
+few_told o moment (works.PutZone name bytes zone) judged found = tt
+few_told o moment (works.Samples rows tally becomes) judged found = tt
+few_told o moment (works.Exclude value) judged found = tt
+few_told o moment (works.Lift id) judged found = tt
+few_told o moment (works.Take number) judged found = tt
 
 fresh : (h : List Entry) (moment number : ℕ) (told : List (Binding × State)) →
     ((k : ℕ) → number ≤ k → is_taken h k ≡ false) →

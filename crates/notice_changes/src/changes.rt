@@ -1,8 +1,11 @@
 //! Which changes of states a tick tells.
-ghost use Rattle.std.specs.Prelude.{◌≡◌, IfOk};
+ghost use Rattle.std.specs.Prelude.{◌≡◌, ◌++◌, ◌∷◌, [], IfOk, IfSome, OnOk};
+ghost use Rattle.std.specs.Prelude.{cond, slice_get};
+ghost use Rattle.std.specs.Option.{option_copied};
 ghost use Rattle.office_history.specs.Notices.{changes as changes_lem, is_told as is_told_lem};
 ghost use Rattle.office_history.specs.Notices.{state_among as state_among_lem};
 ghost use Rattle.office_history.specs.Notices.{state_eq as state_eq_lem};
+ghost use Rattle.notice_changes.specs.States.{AreByBinding};
 
 use burn_core::State;
 use slo_catalog::{Binding, Catalog};
@@ -25,6 +28,40 @@ fn state_among(states: &[(Binding, State)], binding: &Binding) -> State
     UNSEEN
 }
 
+fn kept_at(states: &[(Binding, State)], place: usize) -> Option<&(Binding, State)>
+    ensures { option_copied result ≡ slice_get states.now place }
+{
+    states.get(place)
+}
+
+// The state at a place among these, where it is a binding's.
+fn state_at(states: &[(Binding, State)], place: usize, binding: &Binding) -> Option<State>
+    ensures { AreByBinding states.now
+        → IfSome result (λ state. state ≡ state_among_lem states.now binding.now) }
+{
+    match kept_at(states, place) {
+        Some(kept) => {
+            if same_binding(&kept.0, binding) {
+                Some(kept.1)
+            } else {
+                None
+            }
+        }
+        None => None,
+    }
+}
+
+// The state of a binding among these, in which a binding has but one. It mostly stands where it
+// stands among the new ones, so that place is looked at first.
+fn state_near(states: &[(Binding, State)], place: usize, binding: &Binding) -> State
+    ensures { AreByBinding states.now → result ≡ state_among_lem states.now binding.now }
+{
+    match state_at(states, place, binding) {
+        Some(state) => state,
+        None => state_among(states, binding),
+    }
+}
+
 fn state_eq(a: State, b: State) -> bool
     ensures { result ≡ state_eq_lem a b }
 {
@@ -36,27 +73,47 @@ fn state_eq(a: State, b: State) -> bool
 }
 
 // The state is another than before, and the policy tells the new one.
-fn is_told(catalog: &Catalog, before: &[(Binding, State)], now: &(Binding, State)) -> bool
-    ensures { result ≡ is_told_lem catalog.now before.now now.now }
+fn is_told(
+    catalog: &Catalog,
+    before: &[(Binding, State)],
+    place: usize,
+    now: &(Binding, State),
+) -> bool
+    ensures { AreByBinding before.now → result ≡ is_told_lem catalog.now before.now now.now }
 {
-    !state_eq(state_among(before, &now.0), now.1)
+    !state_eq(state_near(before, place, &now.0), now.1)
         && flags_named(catalog, now.0.policy).of_state(now.1)
 }
 
-// The bindings whose change is told, with their new states.
+// Adds a change where it is told.
+fn add_if(
+    told: &mut Vec<(Binding, State)>,
+    tells: bool,
+    change: &(Binding, State),
+) -> Result<(), AllocError>
+    ensures { OnOk result (told.new.items
+        ≡ cond tells (told.old.items ++ change.now ∷ []) told.old.items) }
+{
+    if tells {
+        told.push(*change)?;
+    }
+    Ok(())
+}
+
+// The bindings whose change is told, with their new states. Before, a binding has but one state.
 pub(crate) fn changes(
     alloc: Global,
     catalog: &Catalog,
     before: &[(Binding, State)],
     now: &[(Binding, State)],
 ) -> Result<Vec<(Binding, State)>, AllocError>
-    ensures { IfOk result (λ told. told.items ≡ changes_lem catalog.now before.now now.now) }
+    ensures { AreByBinding before.now
+        → IfOk result (λ told. told.items ≡ changes_lem catalog.now before.now now.now) }
 {
     let mut told = Vec::new(alloc);
-    for change in now {
-        if is_told(catalog, before, change) {
-            told.push(*change)?;
-        }
+    for (place, change) in now.iter().enumerate() {
+        let tells = is_told(catalog, before, place, change);
+        add_if(&mut told, tells, change)?;
     }
     Ok(told)
 }

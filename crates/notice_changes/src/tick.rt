@@ -13,6 +13,7 @@ ghost use Rattle.office_derived.specs.Derived.{entry_of};
 ghost use Rattle.watched_objectives.specs.Known.{AllKnow};
 ghost use Rattle.watched_objectives.specs.Lines.{HasLines};
 ghost use Rattle.watched_objectives.specs.Sums.{samples_of};
+ghost use Rattle.notice_changes.specs.States.{AreByBinding};
 
 use crate::changes::changes;
 use crate::telling::tell;
@@ -63,7 +64,7 @@ fn states_and_changes(
     requires lines { HasLines derived.now lines.old.kept }
     ensures states { IfOk result (λ found. found.0.items
         ≡ states_at derived.now.origin derived.now.catalog (samples_of derived.now.book) moment) }
-    ensures told { IfOk result (λ found. found.1.items
+    ensures told { AreByBinding derived.now.states.items → IfOk result (λ found. found.1.items
         ≡ changes_lem derived.now.catalog derived.now.states.items found.0.items) }
     ensures lines { HasLines derived.now lines.new.kept }
     ensures know { AllKnow lines.old.kept lines.new.kept }

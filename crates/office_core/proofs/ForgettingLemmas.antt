@@ -22,22 +22,22 @@ use Rattle.office_history.specs.Notices.{samples_in}
 use Rattle.kept_sums.specs.Replacing.{HasMoved}
 use Rattle.kept_sums.specs.Sums.{row_counts}
 use Rattle.kept_sums.specs.Walks.{IsChanged, made_on}
-use Rattle.history_answers.specs.kept_lines.Right.{IsRight}
-use Rattle.history_answers.specs.kept_lines.Touched.{is_near}
+use Rattle.watched_objectives.specs.kept_lines.Right.{IsRight}
+use Rattle.watched_objectives.specs.kept_lines.Touched.{is_near}
 use Rattle.office_derived.specs.declared.Derived.{Derived}
 use Rattle.office_derived.specs.declared.Tally.{Tally}
 use Rattle.office_derived.specs.declared.Work.{Work}
 use Rattle.office_derived.specs.declared.Work.TheVariants as works
 use Rattle.office_derived.specs.Derived.{IsNext, Reflects, command_of, entry_of}
 use Rattle.sample_changes.proofs.Following.{made_anew}
-use Rattle.history_answers.specs.watched_objectives.Changes.{AllForget, ForgetsNear, IsChangedBy}
-use Rattle.history_answers.specs.watched_objectives.Changes.{IsMovedBy}
-use Rattle.history_answers.specs.watched_objectives.Known.{IsLineOf}
-use Rattle.history_answers.specs.watched_objectives.Lines.{AreRight}
-use Rattle.history_answers.specs.watched_objectives.Sums.{samples_of}
-use Rattle.history_answers.specs.watched_objectives.declared.WatchLine.{WatchLine}
-use Rattle.history_answers.proofs.watched_objectives_proofs.KnownLemmas.{line_again, of_line}
-use Rattle.history_answers.proofs.watched_objectives_proofs.KnownLemmas.{one_line}
+use Rattle.watched_objectives.specs.Changes.{AllForget, ForgetsNear, IsChangedBy}
+use Rattle.watched_objectives.specs.Changes.{IsMovedBy}
+use Rattle.watched_objectives.specs.Known.{IsLineOf}
+use Rattle.watched_objectives.specs.Lines.{AreRight}
+use Rattle.watched_objectives.specs.Sums.{samples_of}
+use Rattle.watched_objectives.specs.declared.WatchLine.{WatchLine}
+use Rattle.watched_objectives.proofs.KnownLemmas.{line_again, of_line}
+use Rattle.watched_objectives.proofs.KnownLemmas.{one_line}
 use Rattle.office_core.specs.Forgetting.{ForgetsOnlyNear, IsTouched, brought, counted}
 use Rattle.office_core.proofs.LinesLemmas.{same_rows}
 use Rattle.office_core.proofs.TouchedLemmas.{changed_minute}

@@ -13,13 +13,13 @@ use Rattle.office_history.specs.Counts.{Samples, slice_counts}
 use Rattle.office_history.specs.History.{Office}
 use Rattle.office_history.specs.Notices.{samples_in}
 use Rattle.office_history.specs.Objectives.{measure_at}
-use Rattle.history_answers.specs.kept_lines.Right.{IsRight}
+use Rattle.watched_objectives.specs.kept_lines.Right.{IsRight}
 use Rattle.kept_objectives.specs.declared.ObjectiveSums.{ObjectiveSums}
 use Rattle.office_derived.specs.declared.Derived.{Derived}
 use Rattle.office_derived.specs.Derived.{Reflects}
-use Rattle.history_answers.specs.watched_objectives.Known.{IsLineOf}
-use Rattle.history_answers.specs.watched_objectives.Sums.{AreSums, samples_of}
-use Rattle.history_answers.specs.watched_objectives.declared.WatchLine.{WatchLine}
+use Rattle.watched_objectives.specs.Known.{IsLineOf}
+use Rattle.watched_objectives.specs.Sums.{AreSums, samples_of}
+use Rattle.watched_objectives.specs.declared.WatchLine.{WatchLine}
 use Rattle.office_core.specs.Lent.{LendsLine, LendsSums}
 use Rattle.office_core.specs.Seen.{Machine}
 

@@ -24,7 +24,7 @@ use Rattle.office_history.specs.History.{rows_in, rows_of, with_entry}
 use Rattle.office_history.specs.Verdicts.{accepted, lift_where}
 use Rattle.kept_objectives.specs.declared.SumsPlan.{SumsPlan}
 use Rattle.kept_sums.specs.Walks.{made_on}
-use Rattle.history_answers.proofs.kept_lines_proofs.RightLemmas.{right-alike}
+use Rattle.watched_objectives.proofs.kept_lines_proofs.RightLemmas.{right-alike}
 use Rattle.office_derived.specs.declared.Derived.{Derived}
 use Rattle.office_derived.specs.declared.Tally.{Tally}
 use Rattle.office_derived.specs.declared.Work.{Work}
@@ -34,9 +34,9 @@ use Rattle.office_derived.proofs.More.{catalog_more, changes_more, rows_more}
 use Rattle.sample_changes.proofs.Following.{made_anew}
 use Rattle.sample_changes.proofs.GoodRows.{IsGood}
 use Rattle.sample_changes.proofs.Kept.{each, rows_good}
-use Rattle.history_answers.specs.watched_objectives.declared.WatchLine.{WatchLine}
-use Rattle.history_answers.specs.watched_objectives.Lines.{AreRight, HasLines, KeepsLines}
-use Rattle.history_answers.specs.watched_objectives.Sums.{samples_of}
+use Rattle.watched_objectives.specs.declared.WatchLine.{WatchLine}
+use Rattle.watched_objectives.specs.Lines.{AreRight, HasLines, KeepsLines}
+use Rattle.watched_objectives.specs.Sums.{samples_of}
 
 module _ (d d' : Derived) (o : Office) (e : Entry) (r : Reflects d o)
     (r' : Reflects d' (with_entry o e)) where

@@ -11,9 +11,9 @@ use Rattle.office_history.specs.Counts.{counts_at}
 use Rattle.office_history.specs.History.{Office, current_in, rows_of, with_entry}
 use Rattle.office_history.specs.Notices.{samples_in}
 use Rattle.kept_sums.specs.Replacing.{HasMoved}
-use Rattle.history_answers.specs.kept_lines.Touched.{IsApart}
-use Rattle.history_answers.specs.watched_objectives.Known.{IsLineOf}
-use Rattle.history_answers.specs.watched_objectives.declared.WatchLine.{WatchLine}
+use Rattle.watched_objectives.specs.kept_lines.Touched.{IsApart}
+use Rattle.watched_objectives.specs.Known.{IsLineOf}
+use Rattle.watched_objectives.specs.declared.WatchLine.{WatchLine}
 
 -- An entry touches a slice of an objective: the slice has a minute whose counts the entry changes,
 -- or the minute of a new or a newer row of the objective's indicator that the entry brings.

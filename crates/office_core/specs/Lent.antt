@@ -10,7 +10,7 @@ use Rattle.office_history.specs.History.{Office}
 use Rattle.office_history.specs.Notices.{samples_in}
 use Rattle.kept_objectives.specs.Objectives.{measures_of}
 use Rattle.kept_objectives.specs.declared.ObjectiveSums.{ObjectiveSums}
-use Rattle.history_answers.specs.watched_objectives.Known.{IsLineOf}
+use Rattle.watched_objectives.specs.Known.{IsLineOf}
 use Rattle.office_core.specs.Seen.{Machine}
 
 -- sums of an objective over a whole history: of its method, and each slice has the counts of its

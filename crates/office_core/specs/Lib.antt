@@ -2,5 +2,4 @@ pub mod Forgetting
 pub mod Lent
 pub mod Machine
 pub mod Seen
-pub use Rattle.sample_changes.specs.catalog_measures as catalog_measures
 pub use Rattle.history_answers.specs as history_answers

@@ -20,8 +20,8 @@ ghost use Rattle.office_history.specs.Outcomes.{outcome_of};
 ghost use Rattle.office_derived.specs.Derived.{HasRoom, Stays, command_of, entry_of};
 ghost use Rattle.history_answers.specs.Learning.{KnowsAnswered};
 ghost use Rattle.history_answers.specs.States.{binding_state};
-ghost use Rattle.history_answers.specs.watched_objectives.Known.{AllKnow};
-ghost use Rattle.history_answers.specs.watched_objectives.Lines.{HasLines};
+ghost use Rattle.watched_objectives.specs.Known.{AllKnow};
+ghost use Rattle.watched_objectives.specs.Lines.{HasLines};
 ghost use Rattle.office_core.specs.Forgetting.{ForgetsOnlyNear};
 ghost use Rattle.office_core.specs.Lent.{CountTheSame, LendsLine, LendsSums};
 ghost use Rattle.office_core.specs.Machine.{HasLinesPlan, HasRevisions, IsKept, IsPending};
@@ -33,7 +33,6 @@ use crate::lines::plan_of;
 use alert_line::AlertLine;
 use burn_core::State;
 use exact_fraction::Label;
-use history_answers::watched_objectives::{KeptLines, LinesPlan, objective_sums, watched};
 use history_answers::{answer, state_of};
 use kept_objectives::KeptSums;
 use notice_box::NoticeBox;
@@ -47,6 +46,7 @@ use slo_catalog::{Binding, Catalog};
 use slo_limits::RANGE_MINUTES;
 use std::alloc::{AllocError, Global};
 use std::marker::Model;
+use watched_objectives::{KeptLines, LinesPlan, objective_sums, watched};
 use window_sums::WindowSums;
 
 /// An entry for which room was made.

@@ -3,7 +3,7 @@ use Rattle.office_history.specs.declared.Judgement.TheVariants.{Accepted, Refuse
 use Rattle.office_history.specs.Notices.{last_states, states_over, tick_changes}
 use Rattle.office_derived.specs.declared.Work.{Work}
 use Rattle.office_derived.specs.declared.Work.TheVariants as works
-use Rattle.notice_changes.proofs.TickLemmas.{found_changes, found_states, judged_tick}
+use Rattle.notice_changes.proofs.TickLemmas.{by_binding, found_changes, found_states, judged_tick}
 use Rattle.notice_changes.proofs.tick.judge_tick.Goals as goal
 
 pub returns-in-Accepted-clause-judged : goal.returns-in-Accepted-clause-judged
@@ -14,7 +14,8 @@ returns-in-Accepted-clause-judged c = λ o r.
     let states : c.in-Ok.states.items ≡ states_over o moment =
     c.in-Ok.ensures.states ∙ found_states d o moment r in
     let told : c.in-Ok.told.items ≡ tick_changes (last_states o) o moment =
-    c.in-Ok.ensures.told ∙ found_changes d o moment c.in-Ok.states.items r states in
+    c.in-Ok.ensures.told (by_binding d o r)
+    ∙ found_changes d o moment c.in-Ok.states.items r states in
     judged_tick d o moment (length c.deref.result.now) work r (states, told) refl
     (ap length c.deref.ensures.value ∙ ap length told) Accepted
     (sym c.in-Accepted.is ∙ c.tick_judgement.ensures)
@@ -27,7 +28,8 @@ returns-in-Refused-clause-judged c = λ o r.
     let states : c.in-Ok.states.items ≡ states_over o moment =
     c.in-Ok.ensures.states ∙ found_states d o moment r in
     let told : c.in-Ok.told.items ≡ tick_changes (last_states o) o moment =
-    c.in-Ok.ensures.told ∙ found_changes d o moment c.in-Ok.states.items r states in
+    c.in-Ok.ensures.told (by_binding d o r)
+    ∙ found_changes d o moment c.in-Ok.states.items r states in
     judged_tick d o moment (length c.deref.result.now) work r (states, told) refl
     (ap length c.deref.ensures.value ∙ ap length told) (Refused c.in-Refused.refusal)
     (sym c.in-Refused.is ∙ c.tick_judgement.ensures)

@@ -5,10 +5,10 @@ use Rattle.sample_book.specs.Rows.{current_rows}
 use Rattle.office_derived.specs.declared.Work.{Work}
 use Rattle.office_derived.specs.declared.Work.TheVariants as works
 use Rattle.office_derived.specs.Derived.{IsNext, IsPlaced, entry_of}
-use Rattle.history_answers.specs.watched_objectives.declared.LinesPlan.{LinesPlan}
-use Rattle.history_answers.specs.watched_objectives.Changes.{AllForget, IsMovedBy}
-use Rattle.history_answers.specs.watched_objectives.Lines.{KeepsLines}
-use Rattle.history_answers.specs.watched_objectives.Sums.{samples_of}
+use Rattle.watched_objectives.specs.declared.LinesPlan.{LinesPlan}
+use Rattle.watched_objectives.specs.Changes.{AllForget, IsMovedBy}
+use Rattle.watched_objectives.specs.Lines.{KeepsLines}
+use Rattle.watched_objectives.specs.Sums.{samples_of}
 use Rattle.office_core.specs.Forgetting.{ForgetsOnlyNear}
 use Rattle.office_core.specs.Machine.{HasLinesFor, HasLinesPlan}
 use Rattle.office_core.proofs.ForgettingLemmas.{batch_forgets, exclusion_forgets, forgets_none}
