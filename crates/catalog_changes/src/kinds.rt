@@ -1,7 +1,7 @@
 //! The law of kinds and bodies, over texts.
 ghost use Rattle.catalog_changes.specs.Kinds.{TextsHaveKinds};
 
-use sums_plan::object_ranges::bodies_are_of_their_kinds;
+use sums_plan::bodies_are_of_their_kinds;
 use yaml_subset::standing_nodes_are_writable;
 
 /// The objects of a text have the bodies of their kinds.

@@ -9,8 +9,9 @@ ghost use Rattle.object_ranges.specs.office_history.Objectives.{reading_named as
 ghost use Rattle.object_ranges.specs.office_history.Objectives.{slo_named as slo_named_lem};
 
 use exact_fraction::Label;
-use object_ranges::definition_verdict::reading_of;
-use object_ranges::{conditions_are_in_range, objectives_are_in_range, windows_are_in_range};
+use object_ranges::{
+    conditions_are_in_range, objectives_are_in_range, reading_of, windows_are_in_range,
+};
 use slice_method::Reading;
 use slo_catalog::{Catalog, condition_in, policy_in, sli_in, slo_in};
 use slo_objects::{AlertCondition, AlertPolicy, Kind, Names, Slo};

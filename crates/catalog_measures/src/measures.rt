@@ -12,8 +12,7 @@ ghost use Rattle.object_ranges.specs.office_history.Objectives.{method_of as met
 
 use crate::bodies::{reading_named, slo_named};
 use exact_fraction::{Decimal, Label, Op};
-use object_ranges::objectives_give_measures;
-use object_ranges::office_history::Measure;
+use object_ranges::{Measure, objectives_give_measures};
 use slice_method::{Method, Reading};
 use slo_catalog::Catalog;
 use slo_objects::{BudgetingMethod, Objective, Slo};

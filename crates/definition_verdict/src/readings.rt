@@ -10,7 +10,7 @@ ghost use Rattle.definition_verdict.specs.Readings.{row_read_anew as row_read_an
 ghost use Rattle.definition_verdict.specs.Readings.{same_reading as same_reading_lem};
 
 use exact_fraction::Label;
-use record_form::sample_book::{Row, SampleBook};
+use record_form::{Row, SampleBook};
 use slice_method::Reading;
 use slo_catalog::{Catalog, sli_in};
 use slo_objects::{Events, Kind, Metric, Object, Ratio, RawType, Sli};

@@ -6,8 +6,7 @@ ghost use Rattle.definition_verdict.specs.Starts.{one_begins_too_often as one_be
 
 use document_ranges::windows_are_in_range;
 use slo_catalog::{Member, slo_in};
-use slo_objects::Object;
-use slo_objects::zone_calendar::has_too_many_starts;
+use slo_objects::{Object, has_too_many_starts};
 
 /// Whether the windows of an SLO's calendar begin more often than a list of starts may have. They
 /// follow each other by a step of calendars, as in each document.

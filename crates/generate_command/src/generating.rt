@@ -8,8 +8,7 @@ use crate::playing::{is_whole, play};
 use crate::summary::summary;
 use crate::tallying::Tallying;
 use office_outside::{Disk, MemoryDisk, MemorySink, Plan};
-use own_counter::OwnCounter;
-use own_counter::office_keep::Office;
+use own_counter::{Office, OwnCounter};
 use sample_stream::generate;
 use std::alloc::{AllocError, Global};
 

@@ -26,7 +26,7 @@ use record_form::{BudgetRow, Listed, Outcome, Refusal};
 use slo_limits::{MAX_OBJECTIVES, RANGE_MINUTES};
 use slo_objects::Slo;
 use std::alloc::{AllocError, Global};
-use watched_objectives::catalog_measures::{measures_named, slo_named};
+use watched_objectives::{measures_named, slo_named};
 
 // The budgets of objectives, by their numbers, counted over [from, at).
 fn budget_rows(

@@ -17,7 +17,7 @@ use office_history::Measure;
 use record_form::{Outcome, Refusal};
 use slo_duration::{Duration, rolling_minutes};
 use slo_limits::MAX_LOOKBACK;
-use watched_objectives::catalog_measures::measure_at;
+use watched_objectives::measure_at;
 
 // A lookback lasts at least a minute and at most 30 days.
 fn is_no_lookback(minutes: u32) -> bool

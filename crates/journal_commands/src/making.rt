@@ -12,7 +12,7 @@ ghost use Rattle.journal_commands.specs.Making.{origin_line as origin_line_lem};
 
 use crate::writing::write_out;
 use office_outside::{Clock, Disk, Failed, Sink};
-use own_counter::office_keep::{KeepFailed, KeepFault, Office};
+use own_counter::{KeepFailed, KeepFault, Office};
 use std::alloc::{AllocError, Global};
 
 /// How the making of a journal ends.

@@ -4,8 +4,7 @@ ghost use Rattle.std.specs.List.{AllByRecursion, Contains};
 ghost use Rattle.kept_objectives.specs.declared.kept.ObjectiveSums.{ObjectiveSums};
 
 use crate::same::is_same;
-use kept_sums::office_history::Measure;
-use kept_sums::window_sums::WindowSums;
+use kept_sums::{Measure, WindowSums};
 use std::alloc::{AllocError, Global};
 use std::marker::Model;
 

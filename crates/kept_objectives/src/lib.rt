@@ -11,7 +11,8 @@ mod same;
 mod take;
 
 pub use kept::{KeptSums, ObjectiveSums};
-pub use kept_sums;
-pub use kept_sums::{office_history, record_form, slo_catalog, slo_objects};
+pub use kept_sums::{
+    Binding, Catalog, Judgement, Kind, LimitName, Outcome, Refusal, Rows, sums_over,
+};
 pub use plan::SumsPlan;
 pub use same::is_same;

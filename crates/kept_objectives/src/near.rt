@@ -5,8 +5,7 @@ ghost use Rattle.kept_objectives.specs.declared.kept.ObjectiveSums.{ObjectiveSum
 
 use crate::kept::{KeptSums, ObjectiveSums, likely_place};
 use crate::same::is_same;
-use kept_sums::office_history::Measure;
-use kept_sums::window_sums::WindowSums;
+use kept_sums::{Measure, WindowSums};
 
 impl KeptSums {
     /// Where the sums of an objective are best looked for: at the place of the objective before, at

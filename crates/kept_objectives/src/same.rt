@@ -3,7 +3,7 @@ ghost use Rattle.std.specs.Prelude.{◌≡◌};
 ghost use Rattle.std.specs.Bool.{Decides};
 
 use exact_fraction::Op;
-use kept_sums::office_history::Measure;
+use kept_sums::Measure;
 use slice_method::{Method, Reading};
 
 fn is_same_op(a: Op, b: Op) -> bool

@@ -11,7 +11,7 @@ ghost use Rattle.kept_objectives.specs.declared.kept.ObjectiveSums.{ObjectiveSum
 use crate::kept::KeptSums;
 use crate::plan::SumsPlan;
 use crate::same::is_same;
-use kept_sums::office_history::Measure;
+use kept_sums::Measure;
 
 fn is_wanted(wanted: &[Measure], measure: &Measure) -> bool
     ensures { Decides result (Contains wanted.now measure.now) }

@@ -10,8 +10,7 @@ ghost use Rattle.notice_changes.specs.States.{AreByBinding};
 use burn_core::State;
 use slo_catalog::{Binding, Catalog};
 use std::alloc::{AllocError, Global};
-use watched_objectives::catalog_measures::flags_named;
-use watched_objectives::same_binding;
+use watched_objectives::{flags_named, same_binding};
 
 // The state before of a binding that wasn't there.
 const UNSEEN: State = State::Quiet;

@@ -13,5 +13,4 @@ pub use named::{
     conditions_give_rules, measures_are_in_range, named_windows_are_in_range,
     objectives_give_measures, rules_are_in_range,
 };
-pub use office_history;
-pub use office_history::definition_verdict;
+pub use office_history::{Measure, reading_of};

@@ -6,7 +6,7 @@ ghost use Rattle.office_commands.specs.Unopened.{damaged_line as damaged_line_le
 
 use crate::ending::{BAD_FILE, DISK_FAULT, NO_MEMORY};
 use crate::telling::{tell_as, tell_status};
-use journal_commands::office_keep::Unopened;
+use journal_commands::Unopened;
 use office_outside::Sink;
 use std::alloc::{AllocError, Global};
 

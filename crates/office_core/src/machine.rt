@@ -41,7 +41,7 @@ use record_form::{
     Command, Outcome, Query, Refusal, no_bytes_are_no_history, one_record_more, write_command,
 };
 use sample_book::SampleBook;
-use sample_changes::catalog_measures::measure_at;
+use sample_changes::measure_at;
 use slo_catalog::{Binding, Catalog};
 use slo_limits::RANGE_MINUTES;
 use std::alloc::{AllocError, Global};

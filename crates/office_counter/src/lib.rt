@@ -8,4 +8,3 @@ mod laws;
 
 pub use counter::Counter;
 pub use laws::{own_places_stay, steps_extend, what_it_comes_to_is_the_outcome};
-pub use office_history;

@@ -2,8 +2,7 @@
 ghost use Rattle.std.specs.Prelude.{◌≡◌};
 ghost use Rattle.kept_objectives.specs.office_history.Verdicts.{accepted as accepted_lem};
 
-use kept_objectives::office_history::Judgement;
-use kept_objectives::record_form::{LimitName, Refusal};
+use kept_objectives::{Judgement, LimitName, Refusal};
 use slo_limits::MAX_ENTRIES;
 
 /// Accepted, unless the history has so many entries that there is no room for one more.

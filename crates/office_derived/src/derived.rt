@@ -2,8 +2,7 @@
 
 use crate::zones::Zones;
 use burn_core::State;
-use kept_objectives::KeptSums;
-use kept_objectives::slo_catalog::{Binding, Catalog};
+use kept_objectives::{Binding, Catalog, KeptSums};
 use notice_box::NoticeBox;
 use sample_book::SampleBook;
 

@@ -11,8 +11,7 @@ mod zones;
 
 pub use accepting::accepted;
 pub use derived::Derived;
-pub use kept_objectives;
-pub use kept_objectives::kept_sums;
+pub use kept_objectives::is_same;
 pub use tally::Tally;
 pub use work::{Judged, Work};
 pub use zones::Zones;

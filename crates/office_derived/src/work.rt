@@ -3,10 +3,7 @@
 use crate::tally::Tally;
 use burn_core::State;
 use exact_fraction::{Bytes, Label, ZoneName};
-use kept_objectives::SumsPlan;
-use kept_objectives::record_form::{Outcome, Refusal, Rows};
-use kept_objectives::slo_catalog::{Binding, Catalog};
-use kept_objectives::slo_objects::Kind;
+use kept_objectives::{Binding, Catalog, Kind, Outcome, Refusal, Rows, SumsPlan};
 use sample_book::{Exclusion, RowVerdict};
 use zone_calendar::Zone;
 

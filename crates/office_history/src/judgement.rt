@@ -1,6 +1,6 @@
 //! What becomes of a command.
 
-use definition_verdict::record_form::{Outcome, Refusal};
+use definition_verdict::{Outcome, Refusal};
 
 /// What becomes of a command over a history.
 #[derive(Drop)]

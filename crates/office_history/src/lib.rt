@@ -7,7 +7,8 @@
 mod judgement;
 mod measure;
 
-pub use definition_verdict;
-pub use definition_verdict::{record_form, slo_catalog, slo_objects};
+pub use definition_verdict::{
+    Binding, Catalog, Kind, LimitName, Outcome, Refusal, Rows, reading_of,
+};
 pub use judgement::Judgement;
 pub use measure::Measure;

@@ -10,5 +10,5 @@ mod reporting;
 mod states;
 
 pub use laws::a_report_is_one_text;
-pub use office_core;
+pub use office_core::Core;
 pub use reporting::report;

@@ -10,7 +10,6 @@ mod visits;
 mod workers;
 
 pub use serving::{ServeEnd, serve};
-pub use turn_counter;
-pub use turn_counter::office_keep;
+pub use turn_counter::{Unopened, open_journal};
 pub use visits::{WorkEnd, work};
 pub use workers::WORKERS;

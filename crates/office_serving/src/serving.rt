@@ -17,8 +17,7 @@ use office_outside::{Disk, Sink};
 use std::alloc::Global;
 use std::sync::Wait;
 use std::thread::Threads;
-use turn_counter::office_keep::Office;
-use turn_counter::{DeskOffice, close_desk, open_desk, what_a_pass_has_seen};
+use turn_counter::{DeskOffice, Office, close_desk, open_desk, what_a_pass_has_seen};
 use turn_desk::{Desk, Pass};
 
 /// How the serving of an office ended.

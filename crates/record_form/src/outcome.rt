@@ -4,8 +4,7 @@ use crate::budget_row::BudgetRows;
 use crate::listed::Listed;
 use crate::refusal::Refusal;
 use exact_fraction::{Bytes, Fraction, Label};
-use notice_box::Notice;
-use notice_box::burn_core::State;
+use notice_box::{Notice, State};
 use slo_objects::Kind;
 
 /// Kinds and names of objects, by kind and then by name.

@@ -2,8 +2,7 @@
 
 use crate::command::Command;
 use exact_fraction::Label;
-use slo_objects::Kind;
-use slo_objects::slo_duration::Duration;
+use slo_objects::{Duration, Kind};
 
 /// What is asked. Minutes are counted since 1970-01-01T00:00Z, objectives from 0.
 #[derive(Clone, Copy)]

@@ -1,6 +1,6 @@
 //! What is wrong with a text of documents.
 
-use slo_objects::yaml_subset::Which;
+use slo_objects::Which;
 
 /// Why a text is no text of the YAML profile.
 #[derive(Clone, Copy, Debug, PartialEq, Eq)]

@@ -5,6 +5,5 @@
 
 mod serving;
 
-pub use office_serving;
-pub use office_serving::turn_counter;
+pub use office_serving::ServeEnd;
 pub use serving::{ServerEnd, serve_journal};

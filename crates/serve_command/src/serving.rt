@@ -10,8 +10,7 @@ ghost use Rattle.serve_command.specs.Serves.{EndsServer};
 
 use office_doors::{Door, Doors};
 use office_outside::{Disk, Sink};
-use office_serving::office_keep::{Unopened, open_journal};
-use office_serving::{ServeEnd, serve};
+use office_serving::{ServeEnd, Unopened, open_journal, serve};
 use std::alloc::Global;
 use std::sync::Wait;
 use std::thread::Threads;

@@ -6,5 +6,5 @@
 mod objectives;
 mod plan;
 
-pub use catalog_measures::object_ranges;
+pub use catalog_measures::bodies_are_of_their_kinds;
 pub use plan::plan_sums;

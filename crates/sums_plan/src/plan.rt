@@ -12,8 +12,7 @@ ghost use Rattle.window_sums.specs.Slices.{width_of};
 ghost use Rattle.sums_plan.specs.Wanted.{HasSums};
 
 use crate::objectives::objectives_of;
-use kept_objectives::kept_sums::sums_over;
-use kept_objectives::{ObjectiveSums, SumsPlan};
+use kept_objectives::{ObjectiveSums, SumsPlan, sums_over};
 use office_derived::Derived;
 use office_history::Measure;
 use slo_catalog::Catalog;

@@ -5,7 +5,7 @@ ghost use Rattle.turn_desk.specs.Passes.{newcomer};
 ghost use Rattle.turn_counter.specs.Seen.{ledger_of};
 
 use office_outside::Disk;
-use own_counter::office_keep::Office;
+use own_counter::Office;
 use std::alloc::Global;
 use std::marker::Model;
 use std::sync::Wait;

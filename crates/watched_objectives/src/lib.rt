@@ -14,10 +14,8 @@ mod sums;
 mod take;
 mod watch;
 
-pub use catalog_measures;
-pub use catalog_measures::object_ranges;
+pub use catalog_measures::{flags_named, measure_at, measures_named, slo_named};
 pub use kept::{KeptLines, WatchLine};
-pub use kept_lines;
 pub use plan::{LinesPlan, plan_lines};
 pub use states::states_over;
 pub use sums::objective_sums;

@@ -15,6 +15,5 @@ fn is_same_rule(a: &AlertRule, b: &AlertRule) -> bool
 pub(crate) fn is_same(a: &Watch, b: &Watch) -> bool
     ensures { Decides result (a.now ≡ b.now) }
 {
-    office_derived::kept_objectives::is_same(a.measure(), b.measure())
-        && is_same_rule(a.rule(), b.rule())
+    office_derived::is_same(a.measure(), b.measure()) && is_same_rule(a.rule(), b.rule())
 }

@@ -7,7 +7,7 @@ ghost use Rattle.office_derived.specs.Derived.{IsSound};
 ghost use Rattle.office_derived.specs.kept_objectives.Objectives.{IsObjective};
 ghost use Rattle.watched_objectives.specs.Sums.{AreSums, samples_of};
 
-use kept_lines::kept_sums::kept_counts_are_those_of_the_minutes;
+use kept_lines::kept_counts_are_those_of_the_minutes;
 use office_derived::Derived;
 use office_history::Measure;
 use window_sums::WindowSums;
