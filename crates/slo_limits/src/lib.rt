@@ -1,7 +1,13 @@
-//! The limits of the office: each is one named number, with the reason for it.
+//! The limits of the office, and numbers of its forms: each is one named number, with its reason.
 //! Stands on nothing; code, clauses and definitions of all crates take their limits from here.
 //! Promises nothing by itself: the crates above say what a limit refuses.
 #![tactic(auto)]
+
+// Forms: numbers that limit nothing, and that many crates count by.
+
+/// The minutes of a day of 24 hours: day d is the minutes from d * 1,440 on, in UTC. Rows, sums and
+/// exclusions are kept day by day.
+pub const MINUTES_A_DAY: u32 = 1_440;
 
 // Numbers
 
@@ -48,6 +54,12 @@ pub const MAX_TIMELINE: u32 = 44_640;
 
 /// The most starts of a calendar's windows: daily windows over 109 years.
 pub const MAX_STARTS: u32 = 40_000;
+
+// Names
+
+/// The most bytes of a label and of a time zone's name, as in a label of DNS: with its length, such
+/// a name fills eight words.
+pub const MAX_LABEL_BYTES: usize = 63;
 
 // Documents and what they define
 
@@ -100,6 +112,10 @@ pub const MAX_EXCLUSIONS: usize = 2_000;
 
 /// The most notices that wait to be taken.
 pub const MAX_NOTICES: u32 = 100_000;
+
+/// The most notices that are told in one answer, those that wait longest: once they are taken, the
+/// next are told.
+pub const MAX_NOTICES_IN_ANSWER: usize = 1_000;
 
 // The history and its file
 
