@@ -17,6 +17,7 @@ use Rattle.std.specs.declared.cmp.Ordering.{Ordering}
 use Rattle.std.specs.declared.cmp.Ordering.TheVariants.{Less, Equal, Greater}
 use Rattle.std.specs.Char.{is_ascii_digit}
 use Rattle.std.specs.List.{list_all}
+use Rattle.slo_limits.specs.declared.TheConstants.{MAX_DECIMAL}
 use Rattle.exact_fraction.proofs.BoolFacts.{both-true, true-both, same, below, above, positive}
 use Rattle.exact_fraction.proofs.BoolFacts.{shorter}
 use Rattle.exact_fraction.specs.Digits.{is_number}
@@ -515,12 +516,12 @@ few-and-many text w d v e f g h =
     omega arith
 
 small-and-large : (text w d v e : List ℕ) (n : ℕ) → IsShortDecimal text w d → n ≡ billionths_of w d
-    → n ≤ 10 ^ 18 → IsShortDecimal text v e → 10 ^ 18 < billionths_of v e → ⊥
+    → n ≤ MAX_DECIMAL → IsShortDecimal text v e → MAX_DECIMAL < billionths_of v e → ⊥
 small-and-large text w d v e n f i small g large =
     let value : n ≡ billionths_of v e = i ∙ same-worth text w d v e f.is_decimal g.is_decimal in
     large-small _ _ value small large
   where
-    large-small : (a b : ℕ) → a ≡ b → a ≤ 10 ^ 18 → 10 ^ 18 < b → ⊥
+    large-small : (a b : ℕ) → a ≡ b → a ≤ MAX_DECIMAL → MAX_DECIMAL < b → ⊥
     large-small a b e h k = omega arith
 
 pub answers-unique : (text : List ℕ) (r s : Result ℕ DecimalFault) → AnswersDecimal text r

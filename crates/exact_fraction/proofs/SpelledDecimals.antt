@@ -13,6 +13,7 @@ use Rattle.std.proofs.lemmas.List.Sums.{suffix_len-le-length}
 use Rattle.std.proofs.lemmas.Bool.Decides.{nat_tests}
 use Rattle.std.specs.Char.{is_ascii_digit}
 use Rattle.std.specs.List.{list_all, suffix_len}
+use Rattle.slo_limits.specs.declared.TheConstants.{MAX_DECIMAL}
 use Rattle.exact_fraction.proofs.BoolFacts.{both-true, true-both, same}
 use Rattle.exact_fraction.specs.Digits.{is_number, number_of, with_digit}
 use Rattle.exact_fraction.specs.Decimal.{StandsForBillionths}
@@ -180,7 +181,7 @@ spells-decimal : (n : ℕ) → n < 2 ^ 64 → Spells n (decimal n)
 spells-decimal = decimal_by_steps Spells spells-digit spells-more
 
 -- what `write_decimal` appends is a decimal text, and it stands for the value
-pub spelled-reads : (n : ℕ) → n ≤ 10 ^ 18 → StandsForBillionths (decimal_text n) n
+pub spelled-reads : (n : ℕ) → n ≤ MAX_DECIMAL → StandsForBillionths (decimal_text n) n
 spelled-reads n h =
     let whole = n / 1000000000 in
     let rest = n % 1000000000 in

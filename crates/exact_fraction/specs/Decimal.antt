@@ -2,6 +2,7 @@ use Rattle.std.specs.Prelude.{◌≡◌, ℕ, ◌+◌, ◌-◌, ◌*◌, ◌^◌
 use Rattle.std.specs.Prelude.{length, take, Result, Ok, Err}
 use Rattle.std.specs.Char.{is_ascii_digit}
 use Rattle.std.specs.List.{list_all}
+use Rattle.slo_limits.specs.declared.TheConstants.{MAX_DECIMAL}
 use Rattle.exact_fraction.specs.Digits.{is_number, number_of}
 use Rattle.exact_fraction.specs.declared.decimal.DecimalFault.{DecimalFault}
 use Rattle.exact_fraction.specs.declared.decimal.DecimalFault.TheVariants.{Empty, BadByte}
@@ -33,7 +34,7 @@ pub record IsShortDecimal (text whole decimals : List ℕ) : Type 0 where
 abbrev pub StandsForBillionths : List ℕ → ℕ → Type 0
 StandsForBillionths text n =
     (whole : List ℕ) × ((decimals : List ℕ)
-    × (IsShortDecimal text whole decimals × (n ≡ billionths_of whole decimals) × (n ≤ 10 ^ 18)))
+    × (IsShortDecimal text whole decimals × (n ≡ billionths_of whole decimals) × (n ≤ MAX_DECIMAL)))
 
 -- some decimal text begins with these bytes
 abbrev pub BeginsDecimal : List ℕ → Type 0
@@ -57,4 +58,4 @@ AnswersDecimal text (Err TooManyDecimals) =
     × (IsDecimal text whole decimals × (9 < length decimals)))
 AnswersDecimal text (Err TooLarge) =
     (whole : List ℕ) × ((decimals : List ℕ)
-    × (IsShortDecimal text whole decimals × (10 ^ 18 < billionths_of whole decimals)))
+    × (IsShortDecimal text whole decimals × (MAX_DECIMAL < billionths_of whole decimals)))

@@ -1,5 +1,6 @@
 // Numbers with at most nine decimals.
 ghost use Rattle.std.specs.Prelude.{◌≡◌, ℕ, ◌+◌, ◌<◌, ◌≤◌, ◌^◌, length, Result};
+ghost use Rattle.slo_limits.specs.declared.TheConstants.{MAX_DECIMAL};
 ghost use Rattle.exact_fraction.specs.Decimal.{AnswersDecimal};
 ghost use Rattle.exact_fraction.specs.DecimalCuts.{after_point, decimal_by_cuts, leading_digits};
 ghost use Rattle.exact_fraction.specs.DecimalCuts.{worth_of};
@@ -19,13 +20,14 @@ pub struct Decimal {
 }
 
 impl Model for Decimal {
-    ghost use Rattle.std.specs.Prelude.{ℕ, ◌≤◌, ◌^◌};
+    ghost use Rattle.std.specs.Prelude.{ℕ, ◌≤◌};
+    ghost use Rattle.slo_limits.specs.declared.TheConstants.{MAX_DECIMAL};
 
     ghost Value = { ℕ };
 
     ghost view = { λ a. a.billionths };
 
-    ghost invariant = { λ a. a.billionths ≤ 10 ^ 18 };
+    ghost invariant = { λ a. a.billionths ≤ MAX_DECIMAL };
 
     ghost inverse = { λ n. record { billionths = n } };
 }
@@ -33,7 +35,7 @@ impl Model for Decimal {
 impl Decimal {
     /// The decimal of `n` billionths.
     pub fn of_billionths(n: u64) -> Decimal
-        requires { n ≤ 10 ^ 18 }
+        requires { n ≤ MAX_DECIMAL }
         ensures { result ≡ n }
     {
         Decimal { billionths: n }
@@ -42,7 +44,7 @@ impl Decimal {
     /// How many billionths it is.
     pub fn billionths(&self) -> u64
         ensures value { result ≡ self.now }
-        ensures bound { result ≤ 10 ^ 18 }
+        ensures bound { result ≤ MAX_DECIMAL }
     {
         self.billionths
     }

@@ -1,5 +1,5 @@
 //! Numbers, fractions and the small texts that name things.
-//! Stands on nothing but std.
+//! Stands on the limits alone.
 //! Promises what a text of digits is worth, fractions in lowest terms, names compared by words.
 #![tactic(auto)]
 
