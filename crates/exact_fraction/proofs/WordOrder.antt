@@ -1,6 +1,6 @@
 use Rattle.std.proofs.Common.{◌≡◌, ℕ, zero, suc, ◌+◌, ◌-◌, ◌*◌, ◌^◌, ◌<◌, ◌≤◌, IsTrue, List, []}
 use Rattle.std.proofs.Common.{◌∷◌, ◌++◌, length, drop, get_or, replicate, refl, sym, ap, ◌∙◌, arith}
-use Rattle.std.proofs.Common.{nat_cmp, length-append, take, set, subst, Bool}
+use Rattle.std.proofs.Common.{nat_cmp, length-append, take, set, subst, Bool, ◌&&◌}
 use Rattle.std.proofs.Math.Nat.{mul-le-mul_right, pow-suc, suc-mul}
 use Rattle.std.proofs.Math.Seq.{drop-cons}
 use Rattle.std.proofs.Math.Seq.{take-append_seam}
@@ -19,11 +19,11 @@ use Rattle.std.specs.List.{list_all}
 use Rattle.std.specs.Str.{bytes_eq}
 use Rattle.std.proofs.lemmas.Map.Text.{is_eq-slice_cmp}
 use Rattle.std.specs.Ordering.{is_eq}
-use Rattle.exact_fraction.proofs.BoolFacts.{both-true, true-both, same}
-use Rattle.exact_fraction.specs.InlineName.{IsInline, IsPadded, is_inline_byte, padded, word_from}
-use Rattle.exact_fraction.specs.InlineName.{words_from, words_of}
-use Rattle.exact_fraction.specs.Label.{is_label_byte}
-use Rattle.exact_fraction.specs.ZoneName.{is_zone_byte}
+use Rattle.exact_fraction.proofs.BoolFacts.{below, both-true, true-both, same}
+use Rattle.exact_fraction.specs.InlineName.{IsInline, IsPadded, has_name_length, is_inline_byte}
+use Rattle.exact_fraction.specs.InlineName.{padded, word_from, words_from, words_of}
+use Rattle.exact_fraction.specs.Label.{is_label, is_label_byte}
+use Rattle.exact_fraction.specs.ZoneName.{is_zone_byte, is_zone_name}
 
 -- each element is a byte
 abbrev pub AreBytes : List ℕ → Type 0
@@ -311,11 +311,16 @@ all-more p q more [] h = refl
 all-more p q more (x ∷ xs) h =
     true-both _ _ (more x (both-true _ _ h).0) (all-more p q more xs (both-true _ _ h).1)
 
--- the bytes of a label, and of a zone's name, are ASCII and none is 0
-pub label-bytes : (text : List ℕ) → IsTrue (list_all is_label_byte text)
-    → IsTrue (list_all is_inline_byte text)
-label-bytes = all-more is_label_byte is_inline_byte label-byte
+-- a name whose bytes are ASCII, and none of them 0, can be kept inline
+inline-name : (p : ℕ → Bool) → ((b : ℕ) → IsTrue (p b) → IsTrue (is_inline_byte b))
+    → (text : List ℕ) → IsTrue (has_name_length text && list_all p text) → IsInline text
+inline-name p more text h = record {
+  short = below _ _ (both-true _ _ (both-true _ _ h).0).1;
+  bytes = all-more p is_inline_byte more text (both-true _ _ h).1;
+}
 
-pub zone-bytes : (text : List ℕ) → IsTrue (list_all is_zone_byte text)
-    → IsTrue (list_all is_inline_byte text)
-zone-bytes = all-more is_zone_byte is_inline_byte zone-byte
+pub label-inline : (text : List ℕ) → IsTrue (is_label text) → IsInline text
+label-inline = inline-name is_label_byte label-byte
+
+pub zone-inline : (text : List ℕ) → IsTrue (is_zone_name text) → IsInline text
+zone-inline = inline-name is_zone_byte zone-byte

@@ -1,15 +1,15 @@
-use Rattle.std.specs.Prelude.{ℕ, Bool, ◌&&◌, ◌||◌, ◌==◌, nat_le, cond, List, length, Option, Some}
-use Rattle.std.specs.Prelude.{None}
+use Rattle.std.specs.Prelude.{ℕ, Bool, ◌&&◌, ◌||◌, ◌==◌, cond, List, Option, Some, None}
 use Rattle.std.specs.Char.{is_ascii_alphanumeric}
 use Rattle.std.specs.List.{list_all}
+use Rattle.exact_fraction.specs.InlineName.{has_name_length}
 
 -- letters, digits, `.`, `_` and `-`
 abbrev pub is_label_byte : ℕ → Bool
 is_label_byte byte = is_ascii_alphanumeric byte || byte == 46 || byte == 95 || byte == 45
 
--- 1 to 63 such bytes
+-- a text of such bytes, as long as a name can be
 abbrev pub is_label : List ℕ → Bool
-is_label text = nat_le 1 (length text) && nat_le (length text) 63 && list_all is_label_byte text
+is_label text = has_name_length text && list_all is_label_byte text
 
 -- the label that a text is, where it is one
 abbrev pub label_of : List ℕ → Option (List ℕ)

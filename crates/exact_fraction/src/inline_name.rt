@@ -4,16 +4,15 @@ ghost use Rattle.std.specs.Hash as fed;
 ghost use Rattle.std.specs.Str.{bytes_eq};
 ghost use Rattle.std.specs.Cmp.Lexicographic.{slice_cmp};
 ghost use Rattle.std.specs.Ordering.{nat_cmp, as_partial_cmp};
-ghost use Rattle.exact_fraction.specs.InlineName.{IsInline, padded, word_from, words_of};
+ghost use Rattle.exact_fraction.specs.InlineName.{IsInline, has_name_length, padded, word_from};
+ghost use Rattle.exact_fraction.specs.InlineName.{words_of};
 
+use slo_limits::MAX_LABEL_BYTES;
 use std::cmp::Ordering;
 use std::hash::{Hash, Hasher};
 use std::marker::Model;
 
-// The longest text: with its length it fills eight words.
-pub(crate) const MOST: usize = 63;
-
-// Up to 63 ASCII bytes, none of them 0, so that padding with zeros keeps the order.
+// Up to `MAX_LABEL_BYTES` ASCII bytes, none of them 0, so that padding with zeros keeps the order.
 #[derive(Clone, Copy)]
 pub struct InlineName {
     // The text, zeros, and in the last byte the text's length.
@@ -23,11 +22,12 @@ pub struct InlineName {
 impl Model for InlineName {
     ghost use Rattle.std.specs.Prelude.{List, ℕ, take, slice_index};
     ghost use Rattle.std.proofs.Common.{ap, sym};
+    ghost use Rattle.slo_limits.specs.declared.TheConstants.{MAX_LABEL_BYTES};
     ghost use Rattle.exact_fraction.specs.InlineName.{IsPadded, padded};
 
     ghost Value = { List ℕ };
 
-    ghost view = { λ a. take (slice_index a.bytes 63) a.bytes };
+    ghost view = { λ a. take (slice_index a.bytes MAX_LABEL_BYTES) a.bytes };
 
     ghost invariant = { λ a. IsPadded a.bytes };
 
@@ -46,7 +46,7 @@ impl InlineName {
         for (place, byte) in text.iter().enumerate() {
             bytes[place] = *byte;
         }
-        bytes[MOST] = text.len() as u8;
+        bytes[MAX_LABEL_BYTES] = text.len() as u8;
         InlineName { bytes }
     }
 
@@ -54,7 +54,7 @@ impl InlineName {
         ensures text { result.now ≡ self.now }
         ensures legal { IsInline self.now }
     {
-        &self.bytes[..usize::from(self.bytes[MOST])]
+        &self.bytes[..usize::from(self.bytes[MAX_LABEL_BYTES])]
     }
 
     pub(crate) fn as_str(&self) -> &str
@@ -104,6 +104,13 @@ impl InlineName {
             self.word(7),
         ]
     }
+}
+
+// Whether a text is as long as a name can be.
+pub(crate) fn has_name_length(text: &[u8]) -> bool
+    ensures { result ≡ has_name_length text.now }
+{
+    1 <= text.len() && text.len() <= MAX_LABEL_BYTES
 }
 
 // No byte yet.

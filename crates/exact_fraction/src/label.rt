@@ -3,7 +3,7 @@ ghost use Rattle.std.specs.Prelude.{◌≡◌, IsTrue};
 ghost use Rattle.std.specs.List.{list_all};
 ghost use Rattle.exact_fraction.specs.Label.{is_label, is_label_byte, label_of};
 
-use crate::inline_name::{InlineName, MOST};
+use crate::inline_name::{InlineName, has_name_length};
 use std::fmt;
 use std::marker::Model;
 
@@ -48,13 +48,19 @@ impl Label {
 pub fn read_label(text: &[u8]) -> Option<Label>
     ensures { result ≡ label_of text.now }
 {
-    if 1 <= text.len() && text.len() <= MOST && all_label_bytes(text) {
+    if is_label(text) {
         Some(Label {
             name: InlineName::copy_of(text),
         })
     } else {
         None
     }
+}
+
+fn is_label(text: &[u8]) -> bool
+    ensures { result ≡ is_label text.now }
+{
+    has_name_length(text) && all_label_bytes(text)
 }
 
 fn all_label_bytes(text: &[u8]) -> bool

@@ -3,7 +3,7 @@ ghost use Rattle.std.specs.Prelude.{◌≡◌, IsTrue};
 ghost use Rattle.std.specs.List.{list_all};
 ghost use Rattle.exact_fraction.specs.ZoneName.{is_zone_byte, is_zone_name, zone_name_of};
 
-use crate::inline_name::{InlineName, MOST};
+use crate::inline_name::{InlineName, has_name_length};
 use crate::label::is_label_byte;
 use std::fmt;
 use std::marker::Model;
@@ -50,13 +50,19 @@ impl ZoneName {
 pub fn read_zone_name(text: &[u8]) -> Option<ZoneName>
     ensures { result ≡ zone_name_of text.now }
 {
-    if 1 <= text.len() && text.len() <= MOST && all_zone_bytes(text) {
+    if is_zone_name(text) {
         Some(ZoneName {
             name: InlineName::copy_of(text),
         })
     } else {
         None
     }
+}
+
+fn is_zone_name(text: &[u8]) -> bool
+    ensures { result ≡ is_zone_name text.now }
+{
+    has_name_length(text) && all_zone_bytes(text)
 }
 
 fn all_zone_bytes(text: &[u8]) -> bool
