@@ -6,11 +6,12 @@ use Rattle.std.specs.Prelude.{nat_le, cond}
 use Rattle.std.specs.Option.{is_none, is_some}
 use Rattle.std.specs.Str.{IsUtf8}
 use Rattle.std.specs.Str.Lines.{lines}
+use Rattle.slo_limits.specs.declared.TheConstants.{MAX_TEXT_BYTES}
 use Rattle.yaml_subset.specs.Tree.{Tree}
 use Rattle.yaml_subset.specs.Mark.{start}
 use Rattle.yaml_subset.specs.Rows.{earlier, place}
 use Rattle.yaml_subset.specs.Text.{Marked, StandsFor, line_at, parent_after, scalar_after, marked}
-use Rattle.yaml_subset.specs.Text.{nodes_of, without_mark, max_bytes}
+use Rattle.yaml_subset.specs.Text.{nodes_of, without_mark}
 use Rattle.yaml_subset.specs.OpenNodes.{Open, nothing, within, add_all, open_nodes, finished}
 use Rattle.yaml_subset.specs.Fault.{IsFault, misfit, row_of}
 use Rattle.yaml_subset.specs.Reader.{Reading, IsRead, Follows}
@@ -147,7 +148,7 @@ pub either : (ls : List (List ℕ)) → Outcome ls
 either ls = behind_read [] ls
     (record { nodes = within start [] nothing; parent = None; scalar = None }) nothing_read
 
-pub text_either : (text : List ℕ) → length text ≤ max_bytes → IsUtf8 (without_mark text)
+pub text_either : (text : List ℕ) → length text ≤ MAX_TEXT_BYTES → IsUtf8 (without_mark text)
     → ((xs : List Tree) × StandsFor text xs)
     ⊎ ((line : ℕ) × (which : Which) × IsFault (lines (without_mark text)) line which)
 text_either text small utf8 = by (either (lines (without_mark text)))

@@ -5,13 +5,14 @@ use Rattle.std.proofs.Common.{Result, Ok, Err, OnOk, subst, refl, append_assoc, 
 use Rattle.std.specs.Prelude.{◌==◌, not}
 use Rattle.std.proofs.lemmas.Bool.Decides.{nat_tests}
 use Rattle.std.proofs.lemmas.List.{drop_all, drop_more}
+use Rattle.slo_limits.specs.declared.TheConstants.{MAX_TEXT_BYTES}
 use Rattle.yaml_subset.specs.Spelling.{Spelling, word, quoted, fields, items, Fields, no_fields}
 use Rattle.yaml_subset.specs.Spelling.{field, Items, no_items, one_item, key_text, spaces, step}
 use Rattle.yaml_subset.specs.Spelling.{gap_at_colon, gap_at_dash, written, written_fields}
 use Rattle.yaml_subset.specs.Spelling.{written_items, writing, is_word, meant, spelled}
 use Rattle.yaml_subset.specs.Tree.{Tree}
 use Rattle.yaml_subset.specs.Profile.{max_depth}
-use Rattle.yaml_subset.specs.Text.{StandsFor, max_bytes}
+use Rattle.yaml_subset.specs.Text.{StandsFor}
 use Rattle.yaml_subset.specs.Fits.{Fits, FitFields, FitItems, IsWritable}
 use Rattle.yaml_subset.specs.SpellingView.{spelling_view, is_quoted, text_of, is_no_text, has_lines}
 use Rattle.yaml_subset.specs.SpellingView.{fields_view, items_view}
@@ -103,11 +104,11 @@ where_ok (Ok x) P h = h
 where_ok (Err x) P h = tt
 
 pub stands_alone : (n : ℕ) (s : Spelling) → Fits max_depth s → n ≡ 0 → is_word s ≡ false
-    → length (writing n s) ≤ max_bytes → StandsFor (writing n s) (meant s ∷ [])
+    → length (writing n s) ≤ MAX_TEXT_BYTES → StandsFor (writing n s) (meant s ∷ [])
 stands_alone n s f z e small = rw z (reads_back s f e (rw z at small))
 
 pub node_stands : (n : ℕ) (x : Tree) → IsWritable x → n ≡ 0 → is_word (spelled x) ≡ false
-    → length (writing n (spelled x)) ≤ max_bytes → StandsFor (writing n (spelled x)) (x ∷ [])
+    → length (writing n (spelled x)) ≤ MAX_TEXT_BYTES → StandsFor (writing n (spelled x)) (x ∷ [])
 node_stands n x f z e small = subst (λ (y : Tree). StandsFor (writing n (spelled x)) (y ∷ []))
     (spelled_meant x) (stands_alone n (spelled x) f z e small)
 

@@ -10,9 +10,10 @@ use Rattle.std.proofs.lemmas.Bool.{false≢true, and_parts, cases_lt, cases_eq, 
 use Rattle.std.proofs.lemmas.Str.{IsUtf8-append, IsUtf8-nil, IsUtf8-encode, encode_ascii}
 use Rattle.std.proofs.lemmas.Str.{inside_one}
 use lib.Utf8.{scalar, scalars, encode, encodes, low_scalar}
+use Rattle.slo_limits.specs.declared.TheConstants.{MAX_TEXT_BYTES}
 use Rattle.yaml_subset.specs.Tree.{Tree}
 use Rattle.yaml_subset.specs.Profile.{max_depth}
-use Rattle.yaml_subset.specs.Text.{nodes_of, without_mark, max_bytes, StandsFor}
+use Rattle.yaml_subset.specs.Text.{nodes_of, without_mark, StandsFor}
 use Rattle.yaml_subset.specs.Spelling.{Spelling, word, quoted, fields, items, Fields, no_fields}
 use Rattle.yaml_subset.specs.Spelling.{field, Items, no_items, one_item, meant, escape_of}
 use Rattle.yaml_subset.specs.Spelling.{in_quotes, key_text, spaces, step, gap_at_colon, gap_at_dash}
@@ -204,7 +205,7 @@ written_nodes s fit e = ap (λ (text : List ℕ). nodes_of (lines text)) (no_mar
 
 -- what is written reads back
 pub reads_back : (s : Spelling) → Fits max_depth s → is_word s ≡ false
-    → length (writing 0 s) ≤ max_bytes → StandsFor (writing 0 s) (meant s ∷ [])
+    → length (writing 0 s) ≤ MAX_TEXT_BYTES → StandsFor (writing 0 s) (meant s ∷ [])
 reads_back s fit e small = record {
   small = small;
   utf8 = subst IsUtf8 (sym (no_mark s fit e)) (value_utf8 max_depth s [] 0 IsUtf8-nil fit);

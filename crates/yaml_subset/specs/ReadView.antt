@@ -2,7 +2,8 @@
 use Rattle.std.specs.Prelude.{ℕ, ◌<◌, ◌≤◌, List, [], length, ⊤}
 use Rattle.std.specs.Str.{IsUtf8}
 use Rattle.std.specs.Str.Lines.{lines}
-use Rattle.yaml_subset.specs.Text.{max_bytes, without_mark}
+use Rattle.slo_limits.specs.declared.TheConstants.{MAX_TEXT_BYTES}
+use Rattle.yaml_subset.specs.Text.{without_mark}
 use Rattle.yaml_subset.specs.BadPlace.{IsBadPlace}
 use Rattle.yaml_subset.specs.Fault.{IsFault}
 use Rattle.yaml_subset.specs.Reader.{IsRead}
@@ -24,9 +25,9 @@ NamesLine ls _ = ⊥
 -- The fault of a text: it has too many bytes, else isn't UTF-8, which its first bad byte shows,
 -- else has a line that is no text of the profile with those before it. Want of memory says nothing.
 abbrev pub NamesFault : List ℕ → YamlFault → Type 0
-NamesFault text TooLarge = max_bytes < length text
-NamesFault text (NotUtf8 at) = (length text ≤ max_bytes) × ¬ (IsUtf8 (without_mark text))
+NamesFault text TooLarge = MAX_TEXT_BYTES < length text
+NamesFault text (NotUtf8 at) = (length text ≤ MAX_TEXT_BYTES) × ¬ (IsUtf8 (without_mark text))
     × IsBadPlace text at
-NamesFault text (Form line which) = (length text ≤ max_bytes) × IsUtf8 (without_mark text)
+NamesFault text (Form line which) = (length text ≤ MAX_TEXT_BYTES) × IsUtf8 (without_mark text)
     × IsFault (lines (without_mark text)) line which
 NamesFault text NoMemory = ⊤

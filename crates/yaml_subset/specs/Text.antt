@@ -5,12 +5,12 @@ use Rattle.std.specs.Prelude.{length, nat_lt, option_map, option_and_then, fold}
 use Rattle.std.specs.List.{prefix_len, starts_with}
 use Rattle.std.specs.Str.{IsUtf8}
 use Rattle.std.specs.Str.Lines.{lines}
+use Rattle.slo_limits.specs.declared.TheConstants.{MAX_TEXT_BYTES}
 use Rattle.yaml_subset.specs.Tree.{Tree}
 use Rattle.yaml_subset.specs.Mark.{Mark, dash, key, header, raw}
 use Rattle.yaml_subset.specs.Block.{is_blank, is_blank_byte, indentation, indent_of}
 use Rattle.yaml_subset.specs.Line.{Line, has_control, is_marker, line_of}
 use Rattle.yaml_subset.specs.Profile.{documents}
-use Rattle.yaml_subset.specs.declared.read.TheConstants.{MAX_BYTES}
 use Rattle.yaml_subset.specs.declared.scalar.Scalar.{Scalar}
 use Rattle.yaml_subset.specs.declared.which.Which.{Which}
 use Rattle.yaml_subset.specs.declared.which.Which.TheVariants.{Control, Tab, LeftOut}
@@ -112,12 +112,8 @@ nodes_of ls = option_and_then (λ s. documents s.marks) (marked ls)
 abbrev pub without_mark : List ℕ → List ℕ
 without_mark text = cond (starts_with nat_eq text (239 ∷ 187 ∷ 191 ∷ [])) (drop 3 text) text
 
--- the most bytes of a text
-abbrev pub max_bytes : ℕ
-max_bytes = MAX_BYTES
-
 -- A text stands for these nodes, one for each document that has one.
 pub record StandsFor (text : List ℕ) (xs : List Tree) : Type 0 where
-  pub small : length text ≤ max_bytes
+  pub small : length text ≤ MAX_TEXT_BYTES
   pub utf8 : IsUtf8 (without_mark text)
   pub nodes : nodes_of (lines (without_mark text)) ≡ Some xs

@@ -3,8 +3,9 @@
 ghost use Rattle.std.specs.Prelude.{◌≡◌, ◌≤◌, ◌+◌, ◌++◌, ℕ, List, Some, ◌⊎◌, length};
 ghost use Rattle.std.specs.Str.{IsUtf8};
 ghost use Rattle.std.specs.Str.Lines.{lines};
+ghost use Rattle.slo_limits.specs.declared.TheConstants.{MAX_TEXT_BYTES};
 ghost use Rattle.yaml_subset.specs.Tree.{Tree};
-ghost use Rattle.yaml_subset.specs.Text.{StandsFor, nodes_of, without_mark, max_bytes};
+ghost use Rattle.yaml_subset.specs.Text.{StandsFor, nodes_of, without_mark};
 ghost use Rattle.yaml_subset.specs.Fault.{IsFault};
 ghost use Rattle.yaml_subset.specs.declared.which.Which.{Which};
 
@@ -24,7 +25,7 @@ pub fn lines_are_a_text_or_have_one_fault()
 
 /// A text that is small enough and UTF-8 stands for nodes, or one of its lines is at fault.
 pub fn a_text_has_nodes_or_a_fault()
-    ensures { (text : List ℕ) → length text ≤ max_bytes → IsUtf8 (without_mark text)
+    ensures { (text : List ℕ) → length text ≤ MAX_TEXT_BYTES → IsUtf8 (without_mark text)
         → ((xs : List Tree) × StandsFor text xs)
         ⊎ ((line : ℕ) × (which : Which) × IsFault (lines (without_mark text)) line which) }
 {}

@@ -2,9 +2,10 @@
 
 ghost use Rattle.std.specs.Prelude.{◌≡◌, ◌≤◌, ℕ, false, List, [], ◌∷◌, length};
 ghost use Rattle.std.specs.List.{AllByRecursion};
+ghost use Rattle.slo_limits.specs.declared.TheConstants.{MAX_TEXT_BYTES};
 ghost use Rattle.yaml_subset.specs.Tree.{Tree};
 ghost use Rattle.yaml_subset.specs.Profile.{max_depth};
-ghost use Rattle.yaml_subset.specs.Text.{StandsFor, max_bytes};
+ghost use Rattle.yaml_subset.specs.Text.{StandsFor};
 ghost use Rattle.yaml_subset.specs.Spelling.{Spelling, meant, writing, is_word};
 ghost use Rattle.yaml_subset.specs.BadPlace.{IsBadPlace};
 ghost use Rattle.yaml_subset.specs.Fits.{Fits, IsWritable};
@@ -21,11 +22,11 @@ pub fn standing_nodes_are_writable()
 {}
 
 /// What is written reads back: the text of a value that can be written stands for its node, where
-/// it isn't a plain scalar alone and has at most `MAX_BYTES` bytes. A text stands for one list of
+/// it isn't a plain scalar alone and has at most `MAX_TEXT_BYTES` bytes. A text stands for one list of
 /// nodes at most; and values with one text are one node, whatever its size.
 pub fn written_text_reads_back()
     ensures stands { (s : Spelling) → Fits max_depth s → is_word s ≡ false
-        → length (writing 0 s) ≤ max_bytes → StandsFor (writing 0 s) (meant s ∷ []) }
+        → length (writing 0 s) ≤ MAX_TEXT_BYTES → StandsFor (writing 0 s) (meant s ∷ []) }
     ensures alone { (text : List ℕ) (xs ys : List Tree) → StandsFor text xs → StandsFor text ys
         → xs ≡ ys }
     ensures told_apart { (s t : Spelling) → Fits max_depth s → Fits max_depth t → is_word s ≡ false

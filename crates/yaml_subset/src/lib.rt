@@ -1,5 +1,5 @@
 //! The YAML profile of OpenSLO documents: block text read as nodes, and nodes written canonically.
-//! Stands on the standard library alone.
+//! Stands on the standard library and the limits of the office.
 //! Promises to read exactly the profile, to name the first fault, and that writings read back.
 #![tactic(auto)]
 
@@ -36,7 +36,7 @@ pub use flow_laws::{one_line_lists, rows_of_one_line_lists};
 pub use laws::{one_bad_place, standing_nodes_are_writable, written_text_reads_back};
 pub use length::written_length;
 pub use node::{Node, Nodes, Pairs};
-pub use read::{MAX_BYTES, YamlFault, read_documents};
+pub use read::{YamlFault, read_documents};
 pub use spelling::{FieldKey, Spelling, spelled};
 pub use text::Text;
 pub use which::Which;

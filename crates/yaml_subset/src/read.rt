@@ -16,16 +16,14 @@ use crate::node::Nodes;
 use crate::open::{OpenNodes, Stop};
 use crate::reader::{Reader, read_line};
 use crate::which::Which;
+use slo_limits::MAX_TEXT_BYTES;
 use std::alloc::{AllocError, Global};
 use std::str;
-
-/// The most bytes of a text: the body of a message has no more.
-pub const MAX_BYTES: usize = 1_048_576;
 
 /// Why a text wasn't read.
 #[derive(Debug, Drop)]
 pub enum YamlFault {
-    /// It has more than `MAX_BYTES` bytes.
+    /// It has more than `MAX_TEXT_BYTES` bytes.
     TooLarge,
     /// It isn't UTF-8: the place of the first byte that no UTF-8 text can have there, the first
     /// byte's being 0.
@@ -128,7 +126,7 @@ fn bad_place(bytes: &[u8], valid: usize, bad: Option<usize>) -> usize
 pub fn read_documents(alloc: Global, text: &[u8]) -> Result<Nodes, YamlFault>
     ensures found { IfOk result (λ xs. StandsFor text.now (nodes_view xs.items)) }
     ensures fault { IfErr result (λ f. NamesFault text.now f) }
-    ensures too_large { MAX_BYTES < length text.now → result ≡ Err YamlFault.TooLarge }
+    ensures too_large { MAX_TEXT_BYTES < length text.now → result ≡ Err YamlFault.TooLarge }
 
     // A text that stands for nodes is read, unless memory is wanting.
     ensures taken { (xs : List Tree) → StandsFor text.now xs
@@ -141,9 +139,9 @@ pub fn read_documents(alloc: Global, text: &[u8]) -> Result<Nodes, YamlFault>
 fn read_checked(alloc: Global, text: &[u8]) -> Result<Nodes, YamlFault>
     ensures found { IfOk result (λ xs. StandsFor text.now (nodes_view xs.items)) }
     ensures fault { IfErr result (λ f. NamesFault text.now f) }
-    ensures too_large { MAX_BYTES < length text.now → result ≡ Err YamlFault.TooLarge }
+    ensures too_large { MAX_TEXT_BYTES < length text.now → result ≡ Err YamlFault.TooLarge }
 {
-    if text.len() > MAX_BYTES {
+    if text.len() > MAX_TEXT_BYTES {
         return Err(YamlFault::TooLarge);
     }
     let body = without_mark(text);

@@ -3,8 +3,9 @@
 ghost use Rattle.std.specs.Prelude.{◌≡◌, ◌≤◌, ◌+◌, ◌*◌, ◌^◌, ℕ, false, ◌++◌, ◌∷◌, [], length, cond};
 ghost use Rattle.std.specs.Prelude.{replicate, OnOk, OnErr};
 ghost use Rattle.std.specs.List.{flat_map};
+ghost use Rattle.slo_limits.specs.declared.TheConstants.{MAX_TEXT_BYTES};
 ghost use Rattle.yaml_subset.specs.Profile.{max_depth};
-ghost use Rattle.yaml_subset.specs.Text.{StandsFor, max_bytes};
+ghost use Rattle.yaml_subset.specs.Text.{StandsFor};
 ghost use Rattle.yaml_subset.specs.Spelling.{meant, spelled as spelled_lem, escape_of, in_quotes};
 ghost use Rattle.yaml_subset.specs.Spelling.{key_text, spaces as spaces_lem, step, gap_at_colon};
 ghost use Rattle.yaml_subset.specs.Spelling.{gap_at_dash, written, written_fields, written_items};
@@ -224,7 +225,7 @@ fn write_items(
 /// key comes twice in a map, and maps and lists nest at most 32 deep.
 ///
 /// With no spaces, the text of a value that isn't a plain scalar stands for its node alone, where
-/// it has at most `MAX_BYTES` bytes. The error is want of memory, and leaves all as it was.
+/// it has at most `MAX_TEXT_BYTES` bytes. The error is want of memory, and leaves all as it was.
 pub fn write_spelling(out: &mut Vec<u8>, value: &Spelling, indent: u32) -> Result<(), AllocError>
     requires { Fits max_depth (spelling_view value.now) }
     ensures exact { OnOk result (out.new.items
@@ -233,7 +234,7 @@ pub fn write_spelling(out: &mut Vec<u8>, value: &Spelling, indent: u32) -> Resul
 
     // What is written with no spaces before its lines stands for the node alone.
     ensures alone { OnOk result (indent ≡ 0 → is_word (spelling_view value.now) ≡ false
-        → length (writing indent (spelling_view value.now)) ≤ max_bytes
+        → length (writing indent (spelling_view value.now)) ≤ MAX_TEXT_BYTES
         → StandsFor (writing indent (spelling_view value.now))
         (meant (spelling_view value.now) ∷ [])) }
 {
@@ -250,7 +251,7 @@ pub fn write_spelling(out: &mut Vec<u8>, value: &Spelling, indent: u32) -> Resul
 /// be written.
 ///
 /// With no spaces, the text of a node that isn't a plain scalar stands for it alone, where it has
-/// at most `MAX_BYTES` bytes. The error is want of memory, and leaves all as it was.
+/// at most `MAX_TEXT_BYTES` bytes. The error is want of memory, and leaves all as it was.
 pub fn write_node(out: &mut Vec<u8>, node: &Node, indent: u32) -> Result<(), AllocError>
     requires { IsWritable (node_view node.now) }
     ensures exact { OnOk result (out.new.items
@@ -259,7 +260,7 @@ pub fn write_node(out: &mut Vec<u8>, node: &Node, indent: u32) -> Result<(), All
 
     // What is written with no spaces before its lines stands for the node alone.
     ensures alone { OnOk result (indent ≡ 0 → is_word (spelled_lem (node_view node.now)) ≡ false
-        → length (writing indent (spelled_lem (node_view node.now))) ≤ max_bytes
+        → length (writing indent (spelled_lem (node_view node.now))) ≤ MAX_TEXT_BYTES
         → StandsFor (writing indent (spelled_lem (node_view node.now))) (node_view node.now ∷ [])) }
 {
     let value = spelled(*out.allocator(), node)?;

@@ -14,4 +14,4 @@ returns-in-Err-clause-fault c =
     let few = whole.within in
     let e : c.saturating_add.result
     ≡ length text - length (without_mark text) + c.bad_place-at.result = search rules in
-    (c.if-text-gt-MAX_BYTES.false, search rules, subst (λ (m : ℕ). IsBadPlace text m) (sym e) whole)
+    (c.if-text-gt-MAX_TEXT_BYTES.false, search rules, subst (λ (m : ℕ). IsBadPlace text m) (sym e) whole)
