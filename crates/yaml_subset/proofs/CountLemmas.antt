@@ -13,8 +13,8 @@ use Rattle.yaml_subset.specs.Tree.{Tree}
 use Rattle.yaml_subset.specs.Mark.{Mark, start, dash, key, value, header, raw, Child}
 use Rattle.yaml_subset.specs.Block.{is_blank_byte, is_blank, indentation}
 use Rattle.yaml_subset.specs.Quoted.{Quoted, quoted}
-use Rattle.yaml_subset.specs.Flow.{Flow, flow, flow_start, end_row}
-use Rattle.yaml_subset.specs.Rows.{earlier}
+use Rattle.yaml_subset.specs.Flow.{Flow, flow, flow_start, end_fault}
+use Rattle.yaml_subset.specs.FaultOrder.{earlier}
 use Rattle.yaml_subset.specs.Line.{Line, faulty, one_mark, spoiled, is_tail, plain_len}
 use Rattle.yaml_subset.specs.Line.{is_plain_start, is_quote, quoted_value, flow_value}
 use Rattle.yaml_subset.specs.Line.{is_digit, header_value, inline_value}
@@ -99,9 +99,9 @@ quoted_none n cs None = omega arith
 quoted_none n cs (Some q) = omega arith
 
 flow_none : (n : ℕ) (s : Flow) → starts (flow_value n s).marks ≤ 0
-flow_none n s = by (earlier s.fault (end_row s.part)) refl
+flow_none n s = by (earlier s.fault (end_fault s.part)) refl
   where
-    by : (o : Option Which) → earlier s.fault (end_row s.part) ≡ o
+    by : (o : Option Which) → earlier s.fault (end_fault s.part) ≡ o
         → starts (flow_value n s).marks ≤ 0
     by None e = rw e (omega arith)
     by (Some w) e = rw e (omega arith)

@@ -9,11 +9,11 @@ use Rattle.std.specs.Str.Lines.{lines}
 use Rattle.slo_limits.specs.declared.TheConstants.{MAX_TEXT_BYTES}
 use Rattle.yaml_subset.specs.Tree.{Tree}
 use Rattle.yaml_subset.specs.Mark.{start}
-use Rattle.yaml_subset.specs.Rows.{earlier, place}
+use Rattle.yaml_subset.specs.FaultOrder.{earlier, place}
 use Rattle.yaml_subset.specs.Text.{Marked, StandsFor, line_at, parent_after, scalar_after, marked}
 use Rattle.yaml_subset.specs.Text.{nodes_of, without_mark}
 use Rattle.yaml_subset.specs.OpenNodes.{Open, nothing, within, add_all, open_nodes, finished}
-use Rattle.yaml_subset.specs.Fault.{IsFault, misfit, row_of}
+use Rattle.yaml_subset.specs.Fault.{IsFault, misfit, fault_of}
 use Rattle.yaml_subset.specs.Reader.{Reading, IsRead, Follows}
 use Rattle.yaml_subset.specs.declared.which.Which.{Which}
 use Rattle.yaml_subset.proofs.TextLemmas.{misfit_of_add, nothing_read, read_nodes, read_more}
@@ -55,18 +55,18 @@ not_before ls j k v w f g rest e =
     let some = g.is_text in
     cc (none, some)
 
-same_row : (ls : List (List ℕ)) (j k : ℕ) (v w : Which) (f : IsFault ls j v) (g : IsFault ls k w) →
+same_fault : (ls : List (List ℕ)) (j k : ℕ) (v w : Which) (f : IsFault ls j v) (g : IsFault ls k w) →
     f.before ≡ g.before → f.line ≡ g.line → (j ≡ k) × (v ≡ w)
-same_row ls j k v w f g before line =
+same_fault ls j k v w f g before line =
     let marks : f.marks ≡ g.marks = cc (f.are_marks, g.are_marks, ap marked before) in
     let opens : f.nodes_open ≡ g.nodes_open =
     cc (f.are_open, g.are_open, ap (λ (s : Marked). open_nodes s.marks) marks) in
-    let row : Some v ≡ Some w = sym f.meets
-    ∙ ap (λ (s : Marked). row_of s.scalar f.nodes_open f.line) marks
-    ∙ ap (λ (o : Open). row_of g.marks.scalar o f.line) opens
-    ∙ ap (row_of g.marks.scalar g.nodes_open) line
+    let fault : Some v ≡ Some w = sym f.meets
+    ∙ ap (λ (s : Marked). fault_of s.scalar f.nodes_open f.line) marks
+    ∙ ap (λ (o : Open). fault_of g.marks.scalar o f.line) opens
+    ∙ ap (fault_of g.marks.scalar g.nodes_open) line
     ∙ g.meets in
-    (f.number ∙ ap (λ (b : List (List ℕ)). length b + 1) before ∙ sym g.number, cc row)
+    (f.number ∙ ap (λ (b : List (List ℕ)). length b + 1) before ∙ sym g.number, cc fault)
 
 -- lines have one fault at most
 pub one_fault : (ls : List (List ℕ)) (j k : ℕ) (v w : Which) → IsFault ls j v → IsFault ls k w
@@ -77,7 +77,7 @@ one_fault ls j k v w f g =
     by : Places f.before f.line g.before g.line → (j ≡ k) × (v ≡ w)
     by (inl (rest, e)) = absurd (not_before ls j k v w f g rest e)
     by (inr (inl (rest, e))) = absurd (not_before ls k j w v g f rest e)
-    by (inr (inr (before, line))) = same_row ls j k v w f g before line
+    by (inr (inr (before, line))) = same_fault ls j k v w f g before line
 
 pub never_both : (ls : List (List ℕ)) (xs : List Tree) (k : ℕ) (w : Which) → nodes_of ls ≡ Some xs
     → IsFault ls k w → ⊥
@@ -113,8 +113,8 @@ some_of : (o : Option Open) → is_some o ≡ true → (p : Open) × (o ≡ Some
 some_of None e = absurd (let f : ⊥ = cc e in f)
 some_of (Some p) e = (p, refl)
 
--- what is kept behind a line that meets no row
-follows : (r : Reading) (line : List ℕ) → row_of r.scalar r.nodes line ≡ None
+-- what is kept behind a line that has no fault
+follows : (r : Reading) (line : List ℕ) → fault_of r.scalar r.nodes line ≡ None
     → (next : Reading) × Follows r line next
 follows r line e =
     let none = none_earlier (line_at r.scalar line).fault
@@ -133,10 +133,10 @@ follows r line e =
 behind_read : (ls rest : List (List ℕ)) (r : Reading) → IsRead ls r → Outcome (ls ++ rest)
 behind_read ls [] r h =
     subst Outcome (sym (append-nil ls)) (inl (finished r.nodes, read_nodes ls r h))
-behind_read ls (l ∷ rest) r h = by (row_of r.scalar r.nodes l) refl
+behind_read ls (l ∷ rest) r h = by (fault_of r.scalar r.nodes l) refl
     (λ next f. behind_read (ls ++ l ∷ []) rest next (read_more ls l r h next f))
   where
-    by : (o : Option Which) → row_of r.scalar r.nodes l ≡ o
+    by : (o : Option Which) → fault_of r.scalar r.nodes l ≡ o
         → ((next : Reading) → Follows r l next → Outcome ((ls ++ l ∷ []) ++ rest))
         → Outcome (ls ++ l ∷ rest)
     by (Some w) e go = inr (length ls + 1, w, fault_here ls l r h rest w e)

@@ -8,7 +8,7 @@ use Rattle.std.proofs.lemmas.Bool.Decides.{nat_tests}
 use Rattle.yaml_subset.specs.Tree.{Tree, scalar}
 use Rattle.yaml_subset.specs.Block.{is_blank_byte, is_blank}
 use Rattle.yaml_subset.specs.Line.{stops_plain}
-use Rattle.yaml_subset.specs.Flow.{flow_fault, flow_scalar, flow_plain, flow_row, is_flow_indicator}
+use Rattle.yaml_subset.specs.Flow.{flow_fault, flow_scalar, flow_plain, byte_fault, is_flow_indicator}
 use Rattle.yaml_subset.specs.Flow.{is_indicator, is_soft_indicator, ends_soft, is_flow_start}
 use Rattle.yaml_subset.specs.FlowList.{goes_on}
 use Rattle.yaml_subset.specs.declared.which.Which.TheVariants.{FlowForm}
@@ -139,7 +139,7 @@ plain_reads t ys (c ∷ cs) zs g = pick (is_blank_byte c && slice_index cs 0 == 
       );
     })
     (λ f. pick (is_flow_indicator c) _ _ cs zs
-    (λ i. never (flow_fault (at Plain t ys) Plain (flow_row c (slice_index cs 0))) cs zs refl)
+    (λ i. never (flow_fault (at Plain t ys) Plain (byte_fault c (slice_index cs 0))) cs zs refl)
     (λ i. pick (c == 58 && is_blank_byte (slice_index cs 0)) _ _ cs zs
     (λ k. never (flow_fault (at Plain t ys) Plain FlowForm) cs zs refl)
     (λ k h. let r = plain_reads (t ++ (c ∷ [])) ys cs zs h in

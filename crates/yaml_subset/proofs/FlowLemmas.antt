@@ -8,15 +8,15 @@ use Rattle.std.specs.List.{slice_index, prefix_len}
 use Rattle.std.proofs.lemmas.Bool.{eqb-true}
 use Rattle.std.proofs.lemmas.Bool.Decides.{nat_tests}
 use Rattle.yaml_subset.specs.Tree.{Tree, scalar}
-use Rattle.yaml_subset.specs.Rows.{earlier, place}
+use Rattle.yaml_subset.specs.FaultOrder.{earlier, place}
 use Rattle.yaml_subset.specs.Block.{is_blank_byte, is_blank, trimmed}
 use Rattle.yaml_subset.specs.Quoted.{Quoted, quote_end, with_byte, with_escape, escaped, single}
 use Rattle.yaml_subset.specs.Quoted.{double}
 use Rattle.yaml_subset.specs.Line.{is_tail}
 use Rattle.yaml_subset.specs.Flow.{Flow, flow, flow_step, flow_at, flow_fault, flow_part, flow_more}
 use Rattle.yaml_subset.specs.Flow.{flow_quoted, colon_end, in_want, in_plain, in_escape}
-use Rattle.yaml_subset.specs.Flow.{begins_comment, end_row, is_flow_start, is_flow_indicator}
-use Rattle.yaml_subset.specs.Flow.{flow_row}
+use Rattle.yaml_subset.specs.Flow.{begins_comment, end_fault, is_flow_start, is_flow_indicator}
+use Rattle.yaml_subset.specs.Flow.{byte_fault}
 use Rattle.yaml_subset.specs.FlowList.{HasBlanks, Closes, EndsWell}
 use Rattle.yaml_subset.specs.declared.which.Which.{Which}
 use Rattle.yaml_subset.specs.declared.which.Which.TheVariants.{Quote, FlowForm, Escape as BadEscape}
@@ -69,44 +69,44 @@ either false x y f g = g
 faulty : (s : Flow) → is_some s.fault ≡ true → Faulty s
 faulty s e = record { met = e }
 
-pub later_row : (o : Option Which) (w : Which) → is_some (earlier o (Some w)) ≡ true
-later_row None w = refl
-later_row (Some a) w = by (nat_le (place a) (place w))
+pub later_fault : (o : Option Which) (w : Which) → is_some (earlier o (Some w)) ≡ true
+later_fault None w = refl
+later_fault (Some a) w = by (nat_le (place a) (place w))
   where
     by : (b : Bool) → is_some (cond b (Some a) (Some w)) ≡ true
     by true = refl
     by false = refl
 
-keeps_row : (o p : Option Which) → is_some o ≡ true → is_some (earlier o p) ≡ true
-keeps_row (Some a) None e = refl
-keeps_row (Some a) (Some b) e = later_row (Some a) b
-keeps_row None p e = absurd (cc e)
+keeps_fault : (o p : Option Which) → is_some o ≡ true → is_some (earlier o p) ≡ true
+keeps_fault (Some a) None e = refl
+keeps_fault (Some a) (Some b) e = later_fault (Some a) b
+keeps_fault None p e = absurd (cc e)
 
 colon_stays : (o : Option Which) (t : List ℕ) → is_some o ≡ true → is_some (colon_end o t) ≡ true
 colon_stays o t e = by (slice_index t (length t - 1) == 58)
   where
     by : (b : Bool) → is_some (cond b (earlier o (Some FlowForm)) o) ≡ true
-    by true = later_row o FlowForm
+    by true = later_fault o FlowForm
     by false = e
 
 stays_want : (s : Flow) (c n : ℕ) → is_some s.fault ≡ true → Faulty (in_want s c n)
 stays_want s c n f = either (is_blank_byte c) _ _ (faulty _ f)
     (either (c == 93) _ _ (faulty _ f)
-    (either (c == 44) _ _ (faulty _ (later_row s.fault FlowForm))
+    (either (c == 44) _ _ (faulty _ (later_fault s.fault FlowForm))
     (either (c == 39) _ _ (faulty _ f)
     (either (c == 34) _ _ (faulty _ f)
-    (either (is_flow_start c n) _ _ (faulty _ f) (faulty _ (later_row s.fault (flow_row c n))))))))
+    (either (is_flow_start c n) _ _ (faulty _ f) (faulty _ (later_fault s.fault (byte_fault c n))))))))
 
 stays_plain : (s : Flow) (c n : ℕ) → is_some s.fault ≡ true → Faulty (in_plain s c n)
 stays_plain s c n f = let colon = colon_stays s.fault (trimmed is_blank_byte s.text) f in
     either (c == 44) _ _ (faulty _ colon)
     (either (c == 93) _ _ (faulty _ colon)
-    (either (is_flow_indicator c) _ _ (faulty _ (later_row s.fault (flow_row c n)))
-    (either (c == 58 && is_blank_byte n) _ _ (faulty _ (later_row s.fault FlowForm)) (faulty _ f))))
+    (either (is_flow_indicator c) _ _ (faulty _ (later_fault s.fault (byte_fault c n)))
+    (either (c == 58 && is_blank_byte n) _ _ (faulty _ (later_fault s.fault FlowForm)) (faulty _ f))))
 
 stays_escape : (s : Flow) (o : Option ℕ) → is_some s.fault ≡ true → Faulty (in_escape s o)
 stays_escape s (Some c) f = faulty _ f
-stays_escape s None f = faulty _ (later_row s.fault BadEscape)
+stays_escape s None f = faulty _ (later_fault s.fault BadEscape)
 
 stays_at : (p : Part) (s : Flow) (c n : ℕ) → is_some s.fault ≡ true → Faulty (flow_at p s c n)
 stays_at Want s c n f = stays_want s c n f
@@ -119,15 +119,15 @@ stays_at Double s c n f =
 stays_at Escape s c n f = stays_escape s (escaped c) f
 stays_at After s c n f =
     either (is_blank_byte c) _ _ (faulty _ f) (either (c == 44) _ _ (faulty _ f)
-    (either (c == 93) _ _ (faulty _ f) (faulty _ (later_row (earlier s.fault (Some Quote)) _))))
+    (either (c == 93) _ _ (faulty _ f) (faulty _ (later_fault (earlier s.fault (Some Quote)) _))))
 stays_at Broken s c n f = either (c == 44) _ _ (faulty _ f) (either (c == 93) _ _ (faulty _ f)
-    (either (is_flow_indicator c) _ _ (faulty _ (later_row s.fault (flow_row c n))) (faulty _ f)))
+    (either (is_flow_indicator c) _ _ (faulty _ (later_fault s.fault (byte_fault c n))) (faulty _ f)))
 stays_at Closed s c n f = either (is_blank_byte c) _ _
-    (either (n == 35) _ _ (faulty _ f) (faulty _ f)) (faulty _ (later_row s.fault FlowForm))
+    (either (n == 35) _ _ (faulty _ f) (faulty _ f)) (faulty _ (later_fault s.fault FlowForm))
 stays_at Over s c n f = faulty _ f
 
 stays_step : (s : Flow) (c n : ℕ) → is_some s.fault ≡ true → Faulty (flow_step s c n)
-stays_step s c n f = either (begins_comment s.part c n) _ _ (faulty _ (later_row s.fault FlowForm))
+stays_step s c n f = either (begins_comment s.part c n) _ _ (faulty _ (later_fault s.fault FlowForm))
     (stays_at s.part s c n f)
 
 stays : (s : Flow) (cs : List ℕ) → is_some s.fault ≡ true → is_some (flow s cs).fault ≡ true
@@ -139,7 +139,7 @@ stays s (c ∷ cs) f =
 pub never : {G : Type 0} (s : Flow) (cs : List ℕ) (zs : List Tree) → is_some s.fault ≡ true
     → Good s cs zs → G
 never s cs zs f g =
-    absurd (some_none (sym (keeps_row (flow s cs).fault (end_row (flow s cs).part) (stays s cs f))
+    absurd (some_none (sym (keeps_fault (flow s cs).fault (end_fault (flow s cs).part) (stays s cs f))
     ∙ ap is_some g.ends.fine))
   where
     some_none : true ≡ false → ⊥
@@ -255,8 +255,8 @@ after_reads t ys (c ∷ cs) zs g = pick (is_blank_byte c && slice_index cs 0 == 
       ),
     ))
     (λ f. never (flow_fault (flow_fault (at After t ys) Broken Quote)
-    Broken (cond (is_flow_indicator c) (flow_row c (slice_index cs 0)) Quote)) cs zs (later_row
-    (Some Quote) (cond (is_flow_indicator c) (flow_row c (slice_index cs 0)) Quote))))))
+    Broken (cond (is_flow_indicator c) (byte_fault c (slice_index cs 0)) Quote)) cs zs (later_fault
+    (Some Quote) (cond (is_flow_indicator c) (byte_fault c (slice_index cs 0)) Quote))))))
     (tail_of (at After t ys) c cs zs g)
 
 pub blank_apart : (c n : ℕ) → is_blank_byte c ≡ true → is_blank_byte n ≡ false → eqb c n ≡ false

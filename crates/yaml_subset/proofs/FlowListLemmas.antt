@@ -7,11 +7,11 @@ use Rattle.std.proofs.lemmas.Bool.{eqb-true}
 use Rattle.std.proofs.lemmas.List.{length-drop, length-append}
 use Rattle.yaml_subset.specs.Tree.{Tree, scalar, mapping, sequence, trees}
 use Rattle.yaml_subset.specs.Mark.{value}
-use Rattle.yaml_subset.specs.Rows.{earlier}
+use Rattle.yaml_subset.specs.FaultOrder.{earlier}
 use Rattle.yaml_subset.specs.Block.{is_blank_byte, is_blank}
 use Rattle.yaml_subset.specs.Quoted.{Quoted, single, double, quoted}
 use Rattle.yaml_subset.specs.Line.{is_quote, stops_plain, inline_value, one_mark}
-use Rattle.yaml_subset.specs.Flow.{Flow, flow, flow_start, flow_fault, flow_row, end_row}
+use Rattle.yaml_subset.specs.Flow.{Flow, flow, flow_start, flow_fault, byte_fault, end_fault}
 use Rattle.yaml_subset.specs.Flow.{is_flow_indicator, is_indicator, is_flow_start, ends_soft}
 use Rattle.yaml_subset.specs.FlowList.{begins_item, goes_on, IsPlainItem, IsQuotedItem, IsItem}
 use Rattle.yaml_subset.specs.FlowList.{HasBlanks, Closes, EndsOrGoesOn, IsFlowList, EndsWell}
@@ -409,7 +409,7 @@ from_here n t ys (c ∷ cs) zs shorter few filled g =
     (double_is [] ys cs) h.ends))
     (λ d. pick (is_flow_start c (slice_index cs 0)) _ _ cs zs
     (λ s h. plain_found n c ys cs zs shorter less b s (plain_reads (c ∷ []) ys cs zs h))
-    (λ s. never (flow_fault (at Want t ys) Broken (flow_row c (slice_index cs 0))) cs zs refl)))))))
+    (λ s. never (flow_fault (at Want t ys) Broken (byte_fault c (slice_index cs 0))) cs zs refl)))))))
     (tail_of (at Want t ys) c cs zs g)
 
 pub list_reads : (n : ℕ) → Shorter n
@@ -443,10 +443,10 @@ list-taken column line items h = let e = list-words line items h in rw (e.fine, 
 pub list-only : (column : ℕ) (line : List ℕ) → (inline_value column (91 ∷ line)).fault ≡ None
     → (items : List Tree) × IsFlowList line items
 list-only column line h =
-    by (earlier (flow flow_start line).fault (end_row (flow flow_start line).part)) refl
+    by (earlier (flow flow_start line).fault (end_fault (flow flow_start line).part)) refl
   where
     by : (o : Option Which) → earlier (flow flow_start line).fault
-        (end_row (flow flow_start line).part) ≡ o → (items : List Tree) × IsFlowList line items
+        (end_fault (flow flow_start line).part) ≡ o → (items : List Tree) × IsFlowList line items
     by None e = (
       (flow flow_start line).items,
       list-bytes line (flow flow_start line).items (record { fine = e; all = refl }),
@@ -454,6 +454,6 @@ list-only column line h =
     by (Some w) e = absurd (cc (sym h ∙ spoilt w e))
       where
         spoilt : (w : Which)
-            → earlier (flow flow_start line).fault (end_row (flow flow_start line).part) ≡ Some w
+            → earlier (flow flow_start line).fault (end_fault (flow flow_start line).part) ≡ Some w
             → (inline_value column (91 ∷ line)).fault ≡ Some w
         spoilt w e = rw e refl

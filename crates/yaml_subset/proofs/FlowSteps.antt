@@ -5,7 +5,7 @@ use Rattle.std.specs.Prelude.{◌==◌}
 use Rattle.std.proofs.lemmas.Bool.Decides.{nat_tests}
 use Rattle.yaml_subset.specs.Tree.{Tree, scalar}
 use Rattle.yaml_subset.specs.Block.{is_blank_byte}
-use Rattle.yaml_subset.specs.Flow.{Flow, in_want, is_flow_start, flow_item, flow_fault, flow_row}
+use Rattle.yaml_subset.specs.Flow.{Flow, in_want, is_flow_start, flow_item, flow_fault, byte_fault}
 use Rattle.yaml_subset.specs.NodeView.{node_view}
 use Rattle.yaml_subset.specs.declared.which.Which.{Which}
 use Rattle.yaml_subset.specs.declared.flow.Part.{Part}
@@ -38,7 +38,7 @@ other_byte c k n = grind (arith, nat_tests)
 pub want_other : (s : Flow) (c next : ℕ) → is_blank_byte c ≡ false → (c ≡ 93 → ⊥) → (c ≡ 44 → ⊥)
     → (c ≡ 39 → ⊥) → (c ≡ 34 → ⊥)
     → in_want s c next ≡ cond (is_flow_start c next) (flow_item s Plain (c ∷ []))
-    (flow_fault s Broken (flow_row c next))
+    (flow_fault s Broken (byte_fault c next))
 want_other s c next e k l m n =
     ap (λ (b : Bool). cond b s (behind_blank (c == 93) (c == 44) (c == 39) (c == 34))) e
     ∙ (λ i. behind_blank (other_byte c 93 k i) (other_byte c 44 l i) (other_byte c 39 m i)
@@ -48,16 +48,16 @@ want_other s c next e k l m n =
     behind_blank p q r t = cond p (in_want s 93 next)
         (cond q (in_want s 44 next) (cond r (in_want s 39 next) (cond t (in_want s 34 next)
         (cond (is_flow_start c next) (flow_item s Plain (c ∷ []))
-        (flow_fault s Broken (flow_row c next))))))
+        (flow_fault s Broken (byte_fault c next))))))
 
 pub want_start : (s : Flow) (c next : ℕ) → is_blank_byte c ≡ false → (c ≡ 93 → ⊥) → (c ≡ 44 → ⊥)
     → (c ≡ 39 → ⊥) → (c ≡ 34 → ⊥) → is_flow_start c next ≡ true
     → in_want s c next ≡ flow_item s Plain (c ∷ [])
 want_start s c next e k l m n b = want_other s c next e k l m n ∙ ap
-    (λ (d : Bool). cond d (flow_item s Plain (c ∷ [])) (flow_fault s Broken (flow_row c next))) b
+    (λ (d : Bool). cond d (flow_item s Plain (c ∷ [])) (flow_fault s Broken (byte_fault c next))) b
 
 pub want_none : (s : Flow) (c next : ℕ) → is_blank_byte c ≡ false → (c ≡ 93 → ⊥) → (c ≡ 44 → ⊥)
     → (c ≡ 39 → ⊥) → (c ≡ 34 → ⊥) → is_flow_start c next ≡ false
-    → in_want s c next ≡ flow_fault s Broken (flow_row c next)
+    → in_want s c next ≡ flow_fault s Broken (byte_fault c next)
 want_none s c next e k l m n b = want_other s c next e k l m n ∙ ap
-    (λ (d : Bool). cond d (flow_item s Plain (c ∷ [])) (flow_fault s Broken (flow_row c next))) b
+    (λ (d : Bool). cond d (flow_item s Plain (c ∷ [])) (flow_fault s Broken (byte_fault c next))) b

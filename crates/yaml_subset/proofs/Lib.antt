@@ -31,6 +31,6 @@ pub mod FlowLemmas
 pub mod FlowSteps
 pub mod FlowItemLemmas
 pub mod FlowListLemmas
-pub mod FlowRowLemmas
-pub mod FlowRowsLaw
+pub mod FlowFaultLemmas
+pub mod FlowFaultsLaw
 pub mod Failures

@@ -7,9 +7,9 @@ use Rattle.std.proofs.lemmas.Bool.Decides.{nat_tests}
 use Rattle.std.proofs.lemmas.List.{drop_all}
 use Rattle.yaml_subset.specs.Mark.{dash}
 use Rattle.yaml_subset.specs.Block.{is_blank_byte}
-use Rattle.yaml_subset.specs.Rows.{place, earlier}
+use Rattle.yaml_subset.specs.FaultOrder.{place, earlier}
 use Rattle.yaml_subset.specs.Line.{Line, no_marks, with_mark, with_fault, plain_len, stops_plain}
-use Rattle.yaml_subset.specs.Line.{tab_row, ends_word, content, entry_or_value, key_of}
+use Rattle.yaml_subset.specs.Line.{tab_fault, ends_word, content, entry_or_value, key_of}
 use Rattle.yaml_subset.specs.LineView.{joined, blank_seen, dash_seen, ahead_of}
 use Rattle.yaml_subset.specs.declared.line.Ahead.{Ahead}
 use Rattle.yaml_subset.specs.declared.line.Ahead.TheVariants.{Blank, Comment, Dash as Dashed, Entry}
@@ -46,8 +46,8 @@ pub joined_none : (l : Line) → joined l no_marks ≡ l
 joined_none l = rw (append-nil, earlier_none l.fault) refl
 
 joined_blank : (l m : Line) (c : ℕ)
-    → joined l (with_fault (tab_row c) m) ≡ joined (blank_seen l c) m
-joined_blank l m c = rw (earlier_assoc l.fault (tab_row c) m.fault) refl
+    → joined l (with_fault (tab_fault c) m) ≡ joined (blank_seen l c) m
+joined_blank l m c = rw (earlier_assoc l.fault (tab_fault c) m.fault) refl
 
 joined_dash : (l m : Line) (n : ℕ) → joined l (with_mark (dash n) m) ≡ joined (dash_seen l n) m
 joined_dash l m n = rw (append_assoc l.marks (dash n ∷ []) m.marks) refl
@@ -61,7 +61,7 @@ content_at bytes at n h = ap (content n) (step_at bytes at h)
 
 -- what stands from a column on, by its first byte
 by_ahead : Ahead → ℕ → ℕ → List ℕ → Line
-by_ahead Blank n c cs = with_fault (tab_row c) (content (suc n) cs)
+by_ahead Blank n c cs = with_fault (tab_fault c) (content (suc n) cs)
 by_ahead Comment n c cs = no_marks
 by_ahead Dashed n c cs = with_mark (dash n) (content (suc n) cs)
 by_ahead Entry n c cs = entry_or_value n (c ∷ cs) (key_of (c ∷ cs))
@@ -70,7 +70,7 @@ content_ahead : (n c : ℕ) (cs : List ℕ) → content n (c ∷ cs) ≡ by_ahea
 unfolding by_ahead
 content_ahead n c cs = by_tests (is_blank_byte c) (c == 35) ((c == 45) && ends_word cs)
   where
-    by_tests : (p q r : Bool) → cond p (with_fault (tab_row c) (content (suc n) cs))
+    by_tests : (p q r : Bool) → cond p (with_fault (tab_fault c) (content (suc n) cs))
         (cond q no_marks (cond r (with_mark (dash n) (content (suc n) cs))
         (entry_or_value n (c ∷ cs) (key_of (c ∷ cs)))))
         ≡ by_ahead (cond p Blank (cond q Comment (cond r Dashed Entry))) n c cs

@@ -18,7 +18,7 @@ use Rattle.yaml_subset.specs.Profile.{is_shallow, collection}
 use Rattle.yaml_subset.specs.Block.{Block, with_line}
 use Rattle.yaml_subset.specs.OpenNodes.{Open, nothing, inline, block, within, with_raw, closed}
 use Rattle.yaml_subset.specs.OpenNodes.{begun, next_piece, added, add}
-use Rattle.yaml_subset.specs.Fault.{repeats, begins, column, same_column, is_at_open, row_of_mark}
+use Rattle.yaml_subset.specs.Fault.{repeats, begins, column, same_column, is_at_open, fault_of_mark}
 use Rattle.yaml_subset.specs.OpenView.{head_of, done_of, open_of, next_place, last_head, last_view}
 use Rattle.yaml_subset.specs.OpenView.{stream_of, child, entry_child, any_at, is_nothing}
 use Rattle.yaml_subset.specs.OpenView.{block_view, BeginsAs}
@@ -250,7 +250,7 @@ module _ (docs : List Child) (all before : List Frame) (f : Frame) (at : ℕ) (o
 
   pub next_refused : is_repeated m (with_child (done_of f) (head_of f) None) ≡ true
       → (add m (within start docs (open_of all o)) ≡ None)
-      × (row_of_mark m (within start docs (open_of all o)) ≡ DuplicateKey)
+      × (fault_of_mark m (within start docs (open_of all o)) ≡ DuplicateKey)
   next_refused old =
       let again : is_repeated m (with_child (done_of f) (head_of f) v) ≡ true =
       repeated_any m f v ∙ old in
@@ -267,10 +267,10 @@ module _ (docs : List Child) (all : List Frame) (l : Last) (m : Mark)
   no_repeat : repeats m (within start docs (open_of all (last_view l))) ≡ false
   no_repeat = rw no_start (repeats_none all l m place)
 
-  pub row_begun : row_of_mark m (within start docs (open_of all (last_view l))) ≡ cond
+  pub fault_begun : fault_of_mark m (within start docs (open_of all (last_view l))) ≡ cond
       (cond (is_nothing l) (has_room (last_head start all) m) false) TooDeep
       (cond (any_at (column m) all) Colon Indent)
-  row_begun = rw (no_repeat, begins_last start docs all l m, at_open_any all l m) refl
+  fault_begun = rw (no_repeat, begins_last start docs all l m, at_open_any all l m) refl
 
   -- a mark that isn't a line of a block scalar has no place within what stands there
   pub not_begun : ((b : Block) → with_raw b m ≡ None)
@@ -395,7 +395,7 @@ module _ (docs : List Node) (fs : List Frame) (begins : Option Open) (whole : Op
       → IfErr r (λ s. Refuses s (λ v. (begins ≡ None) × (v ≡ TooDeep)))
       → IfErr r (λ s. Refuses s (λ v. (whole ≡ None) × (w ≡ v)))
   begin_refused e d (Ok o) h = tt
-  begin_refused e d (Err (stops.Row v)) h = (e ∙ rw h.0 refl, d ∙ sym h.1)
+  begin_refused e d (Err (stops.Fault v)) h = (e ∙ rw h.0 refl, d ∙ sym h.1)
   begin_refused e d (Err stops.NoMemory) h = tt
 
 raw_place : (l : List ℕ) (fs : List Frame) → next_place (raw l) fs ≡ length fs
@@ -425,11 +425,11 @@ raw_taken docs fs b l = ap (option_map (within start docs))
 pub raw_refused : (docs : List Child) (fs : List Frame) (k : Last) (l : List ℕ)
     → ((b : Lines) → k ≡ lasts.Block b → ⊥)
     → (add (raw l) (within start docs (open_of fs (last_view k))) ≡ None)
-    × (row_of_mark (raw l) (within start docs (open_of fs (last_view k))) ≡ Indent)
+    × (fault_of_mark (raw l) (within start docs (open_of fs (last_view k))) ≡ Indent)
 raw_refused docs fs k l other = (
   ap (option_map (within start docs))
       (added_none fs (last_view k) (raw l) (raw_place l fs) max_depth start) ∙ by_last k other,
-  row_begun docs fs k (raw l) (raw_place l fs) refl ∙ row k,
+  fault_begun docs fs k (raw l) (raw_place l fs) refl ∙ fault k,
 )
   where
     by_last : (j : Last) → ((b : Lines) → j ≡ lasts.Block b → ⊥)
@@ -439,11 +439,11 @@ raw_refused docs fs k l other = (
     by_last (lasts.Inline x) n = refl
     by_last (lasts.Block b) n = absurd (n b refl)
 
-    row : (j : Last) → cond (cond (is_nothing j) (has_room (last_head start fs) (raw l)) false)
+    fault : (j : Last) → cond (cond (is_nothing j) (has_room (last_head start fs) (raw l)) false)
         TooDeep (cond (any_at (column (raw l)) fs) Colon Indent) ≡ Indent
-    row lasts.Nothing = rw (raw_room l (last_head start fs), none_at fs) refl
-    row (lasts.Inline x) = rw (none_at fs) refl
-    row (lasts.Block b) = rw (none_at fs) refl
+    fault lasts.Nothing = rw (raw_room l (last_head start fs), none_at fs) refl
+    fault (lasts.Inline x) = rw (none_at fs) refl
+    fault (lasts.Block b) = rw (none_at fs) refl
 
 -- a frame stands at the column, or the search goes on behind it
 any_here : (c : Option ℕ) (fs : List Frame) (at : ℕ) (f : Frame) → at < length fs

@@ -6,7 +6,7 @@ use Rattle.std.proofs.Math.Seq.{drop-cons}
 use Rattle.std.proofs.lemmas.List.{take-append-drop, drop_all, map_push}
 use Rattle.yaml_subset.specs.Mark as marks
 use Rattle.yaml_subset.specs.OpenNodes.{Open, add, add_all}
-use Rattle.yaml_subset.specs.Fault.{misfit, row_of_mark}
+use Rattle.yaml_subset.specs.Fault.{misfit, fault_of_mark}
 use Rattle.yaml_subset.specs.Reader.{header_folds}
 use Rattle.yaml_subset.specs.Text.{parent_at, parent_after, header_scalar}
 use Rattle.yaml_subset.specs.LineView.{mark_view}
@@ -66,5 +66,5 @@ pub added_more : (m : marks.Mark) (ms : List marks.Mark) (o p : Open) → add m 
 added_more m ms o p e = (rw e refl, rw e refl)
 
 pub misfit_here : (m : marks.Mark) (ms : List marks.Mark) (o : Open) → add m o ≡ None
-    → misfit (m ∷ ms) o ≡ Some (row_of_mark m o)
+    → misfit (m ∷ ms) o ≡ Some (fault_of_mark m o)
 misfit_here m ms o e = rw e refl

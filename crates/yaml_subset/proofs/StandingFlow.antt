@@ -8,11 +8,11 @@ use Rattle.std.specs.List.{AllByRecursion}
 use Rattle.std.proofs.lemmas.Bool.{and_parts, and_from, or_parts, or_from, eqb-true, true≢false}
 use Rattle.std.proofs.lemmas.List.Folds.{list_any-append}
 use Rattle.yaml_subset.specs.Tree.{Tree, scalar}
-use Rattle.yaml_subset.specs.Rows.{place, earlier}
+use Rattle.yaml_subset.specs.FaultOrder.{place, earlier}
 use Rattle.yaml_subset.specs.Block.{is_blank_byte, trimmed}
 use Rattle.yaml_subset.specs.Quoted.{escaped}
 use Rattle.yaml_subset.specs.Flow.{Flow, flow, flow_step, flow_at, flow_fault, flow_part, flow_item}
-use Rattle.yaml_subset.specs.Flow.{flow_more, flow_quoted, flow_plain, flow_row, in_closed, in_want}
+use Rattle.yaml_subset.specs.Flow.{flow_more, flow_quoted, flow_plain, byte_fault, in_closed, in_want}
 use Rattle.yaml_subset.specs.Flow.{in_plain, in_single, in_double, in_escape, in_after, in_broken}
 use Rattle.yaml_subset.specs.Flow.{begins_comment, is_flow_indicator, is_indicator}
 use Rattle.yaml_subset.specs.Flow.{is_soft_indicator, ends_soft, is_flow_start}
@@ -226,7 +226,7 @@ module _ (t : List ℕ) (xs : List Tree) (f : Option Which) (c : ℕ) (cs : List
   want_sound h =
       let s = made parts.Want t xs f in
       let plain = cond (is_flow_start c next) (flow_item s parts.Plain (c ∷ []))
-      (flow_fault s parts.Broken (flow_row c next)) in
+      (flow_fault s parts.Broken (byte_fault c next)) in
       let double = cond (c == 34) (flow_item s parts.Double []) plain in
       let single = cond (c == 39) (flow_item s parts.Single []) double in
       let comma = cond (c == 44) (flow_fault s parts.Want FlowForm) single in
@@ -241,9 +241,9 @@ module _ (t : List ℕ) (xs : List Tree) (f : Option Which) (c : ℕ) (cs : List
       (λ _. pick (λ s. IsSound s cs) (c == 34) (flow_item s parts.Double []) plain
       (λ e g. ((h g).0, quote_begins c cs (ascii_of c 34 e (omega arith)) (h g).1))
       (λ _. pick (λ s. IsSound s cs) (is_flow_start c next)
-      (flow_item s parts.Plain (c ∷ [])) (flow_fault s parts.Broken (flow_row c next))
+      (flow_item s parts.Plain (c ∷ [])) (flow_fault s parts.Broken (byte_fault c next))
       (λ e g. ((h g).0, (begins blank e, (h g).1)))
-      (λ _. faulted s parts.Broken (flow_row c next) cs))))))
+      (λ _. faulted s parts.Broken (byte_fault c next) cs))))))
     where
       not_both : (b : Bool) → not b ≡ true → b ≡ false
       not_both true e = sym e
@@ -312,7 +312,7 @@ module _ (t : List ℕ) (xs : List Tree) (f : Option Which) (c : ℕ) (cs : List
       colon_ends (last_byte (trimmed is_blank_byte t) == 58) g in let r = plain_ends
       (ascii_of c 93 e (omega arith)) (is_end c 93 e refl) k.1 (h k.1) k.0 in (r.0, tt))
       (λ _. pick (λ s. IsSound s cs) (is_flow_indicator c) (flow_fault s parts.Plain
-      (flow_row c next)) _ (λ e. faulted s parts.Plain (flow_row c next) cs)
+      (byte_fault c next)) _ (λ e. faulted s parts.Plain (byte_fault c next) cs)
       (λ _. pick (λ s. IsSound s cs) (c == 58 && is_blank_byte next) (flow_fault s parts.Plain
       FlowForm) (flow_more s parts.Plain c) (λ e. faulted s parts.Plain FlowForm cs)
       (λ e g. (
@@ -418,7 +418,7 @@ module _ (t : List ℕ) (xs : List Tree) (f : Option Which) (c : ℕ) (cs : List
   after_sound h =
       let s = made parts.After t xs f in
       let bad = flow_fault (flow_fault s parts.Broken Quote) parts.Broken
-      (cond (is_flow_indicator c) (flow_row c next) Quote) in
+      (cond (is_flow_indicator c) (byte_fault c next) Quote) in
       pick (λ s. IsSound s cs) (is_blank_byte c) s
       (cond (c == 44) (flow_part s parts.Want) (cond (c == 93) (flow_part s parts.Closed) bad))
       (λ e g. ((h g).0, pure_behind c cs (blank_ascii c e) (h g).1))
@@ -427,7 +427,7 @@ module _ (t : List ℕ) (xs : List Tree) (f : Option Which) (c : ℕ) (cs : List
       (λ e g. ((h g).0, pure_behind c cs (ascii_of c 44 e (omega arith)) (h g).1))
       (λ _. pick (λ s. IsSound s cs) (c == 93) (flow_part s parts.Closed) bad (λ e g. ((h g).0, tt))
       (λ _. faulted (flow_fault s parts.Broken Quote) parts.Broken
-      (cond (is_flow_indicator c) (flow_row c next) Quote) cs)))
+      (cond (is_flow_indicator c) (byte_fault c next) Quote) cs)))
 
   broken_sound : (f ≡ None → AllByRecursion IsItem xs × ⊥)
       → IsSound (in_broken (made parts.Broken t xs f) c next) cs
@@ -436,12 +436,12 @@ module _ (t : List ℕ) (xs : List Tree) (f : Option Which) (c : ℕ) (cs : List
       let s = made parts.Broken t xs f in
       pick (λ s. IsSound s cs) (c == 44) (flow_part s parts.Want)
       (cond (c == 93) (flow_part s parts.Closed) (cond (is_flow_indicator c)
-      (flow_fault s parts.Broken (flow_row c next)) s)) (λ e g. absurd (h g).1)
+      (flow_fault s parts.Broken (byte_fault c next)) s)) (λ e g. absurd (h g).1)
       (λ _. pick (λ s. IsSound s cs) (c == 93) (flow_part s parts.Closed)
-      (cond (is_flow_indicator c) (flow_fault s parts.Broken (flow_row c next)) s)
+      (cond (is_flow_indicator c) (flow_fault s parts.Broken (byte_fault c next)) s)
       (λ e g. absurd (h g).1)
       (λ _. pick (λ s. IsSound s cs) (is_flow_indicator c) (flow_fault s parts.Broken
-      (flow_row c next)) s (λ e. faulted s parts.Broken (flow_row c next) cs) (λ e. h)))
+      (byte_fault c next)) s (λ e. faulted s parts.Broken (byte_fault c next) cs) (λ e. h)))
 
   closed_sound : (f ≡ None → AllByRecursion IsItem xs × ⊤)
       → IsSound (in_closed (made parts.Closed t xs f) c next) cs

@@ -9,17 +9,17 @@ use Rattle.std.proofs.lemmas.Bool.{and_parts, eqb-true, true≢false}
 use Rattle.std.proofs.lemmas.Bool.Decides.{nat_tests}
 use Rattle.yaml_subset.specs.Tree.{Tree, mapping, sequence, scalar, no_entries, trees}
 use Rattle.yaml_subset.specs.Mark.{Mark, start, dash, key, value, header, raw}
-use Rattle.yaml_subset.specs.Rows.{earlier}
+use Rattle.yaml_subset.specs.FaultOrder.{earlier}
 use Rattle.yaml_subset.specs.Block.{is_space, is_blank_byte, is_blank, indentation, trimmed}
 use Rattle.yaml_subset.specs.Quoted.{Quoted, quoted}
-use Rattle.yaml_subset.specs.Flow.{Flow, flow, flow_start, end_row}
+use Rattle.yaml_subset.specs.Flow.{Flow, flow, flow_start, end_fault}
 use Rattle.yaml_subset.specs.Line.{Line, no_marks, faulty, one_mark, spoiled, with_mark, with_fault}
 use Rattle.yaml_subset.specs.Line.{has_control, ends_word, is_tail, is_plain_start, plain_len}
-use Rattle.yaml_subset.specs.Line.{plain_value, is_quote, escape_row, quoted_value, flow_value}
+use Rattle.yaml_subset.specs.Line.{plain_value, is_quote, escape_fault, quoted_value, flow_value}
 use Rattle.yaml_subset.specs.Line.{empty_map, chomping_of, is_sign, is_digit, header_tail}
-use Rattle.yaml_subset.specs.Line.{header_value, indicator_row, inline_value, Key, quoted_key}
+use Rattle.yaml_subset.specs.Line.{header_value, indicator_fault, inline_value, Key, quoted_key}
 use Rattle.yaml_subset.specs.Line.{plain_key_fault, plain_key, key_of, behind_colon, entry_or_value}
-use Rattle.yaml_subset.specs.Line.{tab_row, content, is_marker, marker_line, filled_line, line_of}
+use Rattle.yaml_subset.specs.Line.{tab_fault, content, is_marker, marker_line, filled_line, line_of}
 use Rattle.yaml_subset.specs.Profile.{is_shallow}
 use Rattle.yaml_subset.specs.Spelling.{spelled, items_spelled}
 use Rattle.yaml_subset.specs.Fits.{Fits, FitItems}
@@ -70,7 +70,7 @@ quoted_value_good n cs None f = spoiled_good n Quote
 quoted_value_good n cs (Some q) f = λ g. let r = f (sound (is_tail (drop q.length cs)) q.bad g) in
     ((λ d s. (r.0, r.1)), tt)
   where
-    sound : (t b : Bool) → cond t (escape_row b) (Some Quote) ≡ None → b ≡ false
+    sound : (t b : Bool) → cond t (escape_fault b) (Some Quote) ≡ None → b ≡ false
     sound true true g = cc
     sound false true g = cc
     sound t false g = refl
@@ -86,11 +86,11 @@ sequence_good xs h zero s = absurd (true≢false (sym s))
 sequence_good xs h (suc d) s = items_fit d xs h
 
 flow_value_good : (n : ℕ) (s : Flow) → IsSound s [] → IsGoodLine (flow_value n s)
-flow_value_good n s h = by (earlier s.fault (end_row s.part)) refl
+flow_value_good n s h = by (earlier s.fault (end_fault s.part)) refl
   where
-    by : (o : Option Which) → earlier s.fault (end_row s.part) ≡ o → IsGoodLine (flow_value n s)
+    by : (o : Option Which) → earlier s.fault (end_fault s.part) ≡ o → IsGoodLine (flow_value n s)
     by None e =
-        rw e (λ g. (sequence_good s.items (h (no_fault_left s.fault (end_row s.part) e)).0, tt))
+        rw e (λ g. (sequence_good s.items (h (no_fault_left s.fault (end_fault s.part) e)).0, tt))
     by (Some w) e = rw e (spoiled_good n w)
 
 map_good : (d : ℕ) → is_shallow d (mapping no_entries) ≡ true
@@ -130,12 +130,12 @@ inline_good n (c ∷ cs) p b =
     (λ g. (tt, pure_behind c cs (ascii_of c 91 e (omega arith)) p))))
     (λ _. pick IsGoodLine (c == 123) (empty_map n cs) _ (λ _. empty_map_good n cs)
     (λ _. pick IsGoodLine (c == 124 || c == 62) (header_value n (c == 62) cs)
-    (spoiled n (indicator_row c)) (λ _. header_good n (record {
+    (spoiled n (indicator_fault c)) (λ _. header_good n (record {
       folded = c == 62;
       chomping =
           chomping_of (slice_index cs 0);
     }) (drop (cond (is_sign (slice_index cs 0)) 1 0) cs))
-    (λ _. spoiled_good n (indicator_row c))))))
+    (λ _. spoiled_good n (indicator_fault c))))))
 
 -- KEYS
 
@@ -185,7 +185,7 @@ quoted_key_good c cs (Some q) f free =
     (Some (record {
       text = q.text;
       length = q.length + indentation (drop q.length cs) + 2;
-      fault = escape_row q.bad;
+      fault = escape_fault q.bad;
     })) None
     (λ e g. let r = f (sound q.bad g) in
     let colon =
@@ -197,7 +197,7 @@ quoted_key_good c cs (Some q) f free =
     ))
     (λ _. tt)
   where
-    sound : (b : Bool) → escape_row b ≡ None → b ≡ false
+    sound : (b : Bool) → escape_fault b ≡ None → b ≡ false
     sound true g = cc
     sound false g = refl
 
@@ -244,8 +244,8 @@ entry_good n cs (Some j) p b k = λ g.
 content_good : (n : ℕ) (cs : List ℕ) → IsPure cs → IsGoodLine (content n cs)
 content_good n [] p = λ g. tt
 content_good n (c ∷ cs) p =
-    pick IsGoodLine (is_blank_byte c) (with_fault (tab_row c) (content (suc n) cs))
-    _ (λ e. with_fault_good (tab_row c) (content (suc n) cs)
+    pick IsGoodLine (is_blank_byte c) (with_fault (tab_fault c) (content (suc n) cs))
+    _ (λ e. with_fault_good (tab_fault c) (content (suc n) cs)
     (content_good (suc n) cs (pure_behind c cs (blank_ascii c e) p)))
     (λ b. pick IsGoodLine (c == 35) no_marks _ (λ _ g. tt)
     (λ _. pick IsGoodLine (c == 45 && ends_word cs)

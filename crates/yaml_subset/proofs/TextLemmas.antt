@@ -8,24 +8,24 @@ use Rattle.std.proofs.lemmas.List.{take-append-drop, length-take-le, length-map}
 use denote.Ref.{Bor}
 use Rattle.std.proofs.Math.Seq.{take-suc, drop-cons}
 use Rattle.yaml_subset.specs.Mark.{Mark, start}
-use Rattle.yaml_subset.specs.Rows.{earlier}
+use Rattle.yaml_subset.specs.FaultOrder.{earlier}
 use Rattle.yaml_subset.specs.Profile.{documents}
 use Rattle.yaml_subset.specs.Text.{Marked, line_at, next_line, no_line, marked, nodes_of}
 use Rattle.yaml_subset.specs.OpenNodes.{Open, nothing, within, open_nodes, finished, add, add_all}
-use Rattle.yaml_subset.specs.Fault.{row_of_mark, misfit, row_of, IsFault}
+use Rattle.yaml_subset.specs.Fault.{fault_of_mark, misfit, fault_of, IsFault}
 use Rattle.yaml_subset.specs.Reader.{IsRead, Reading, Follows}
 use Rattle.std.proofs.lemmas.Bool.{false≢true}
 use Rattle.yaml_subset.specs.declared.scalar.Scalar.{Scalar}
 use Rattle.yaml_subset.specs.declared.which.Which.{Which}
 use Rattle.yaml_subset.proofs.OpenLemmas.{open_nodes-append, documents_closed}
 
--- marks that all have a place meet no row, and else the first that has none meets one
+-- marks that all have a place have no fault, and else the first that has none has one
 pub misfit_of_add : (ms : List Mark) (o : Open) → is_none (misfit ms o) ≡ is_some (add_all ms o)
 misfit_of_add [] o = refl
 misfit_of_add (m ∷ ms) o = at_add (add m o) (λ p. misfit_of_add ms p)
   where
     at_add : (a : Option Open) → ((p : Open) → is_none (misfit ms p) ≡ is_some (add_all ms p))
-        → is_none (option_map_or (misfit ms) a (Some (row_of_mark m o)))
+        → is_none (option_map_or (misfit ms) a (Some (fault_of_mark m o)))
         ≡ is_some (option_and_then (add_all ms) a)
     at_add None ih = refl
     at_add (Some p) ih = ih p
@@ -60,7 +60,7 @@ module _ (ls : List (List ℕ)) (line : List ℕ) (r : Reading) (h : IsRead ls r
   open_here = open_nodes-append h.marks (line_at r.scalar line).marks
       ∙ ap (option_and_then (add_all (line_at r.scalar line).marks)) h.are_open
 
-  -- one more line that meets no row
+  -- one more line that has no fault
   pub read_more : (next : Reading) → Follows r line next → IsRead (ls ++ (line ∷ [])) next
   unfolding here
   read_more next f = record {
@@ -78,7 +78,7 @@ module _ (ls : List (List ℕ)) (line : List ℕ) (r : Reading) (h : IsRead ls r
           → ◌≡◌ {A = Option ℕ × Option Scalar} (a, c) (b, d)
       pair_same a b c d e g = rw (e, g) refl
 
-  no_place : (w : Which) → row_of r.scalar r.nodes line ≡ Some w → (f : Option Which)
+  no_place : (w : Which) → fault_of r.scalar r.nodes line ≡ Some w → (f : Option Which)
       → (line_at r.scalar line).fault ≡ f → nodes_of (ls ++ (line ∷ [])) ≡ None
   unfolding here
   no_place w e None g =
@@ -97,8 +97,8 @@ module _ (ls : List (List ℕ)) (line : List ℕ) (r : Reading) (h : IsRead ls r
   no_place w e (Some v) g =
       ap (option_and_then (λ (s : Marked). documents s.marks)) marked_here ∙ rw g refl
 
-  -- one more line that meets a row
-  pub fault_here : (after : List (List ℕ)) (w : Which) → row_of r.scalar r.nodes line ≡ Some w
+  -- one more line that has a fault
+  pub fault_here : (after : List (List ℕ)) (w : Which) → fault_of r.scalar r.nodes line ≡ Some w
       → IsFault (ls ++ (line ∷ after)) (length ls + 1) w
   fault_here after w e = record {
     before = ls;

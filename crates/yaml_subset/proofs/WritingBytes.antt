@@ -17,7 +17,7 @@ use Rattle.yaml_subset.specs.Block.{is_space, is_blank_byte, trimmed}
 use Rattle.yaml_subset.specs.Quoted.{Quoted, with_byte, double}
 use Rattle.yaml_subset.specs.Flow.{is_indicator, is_soft_indicator}
 use Rattle.yaml_subset.specs.declared.which.Which.TheVariants.{Colon}
-use Rattle.yaml_subset.specs.Line.{tab_row, is_marker, Line, one_mark, no_marks, with_mark}
+use Rattle.yaml_subset.specs.Line.{tab_fault, is_marker, Line, one_mark, no_marks, with_mark}
 use Rattle.yaml_subset.specs.Line.{with_fault, Key, is_control, has_control, ends_word, is_tail}
 use Rattle.yaml_subset.specs.Line.{is_plain_start, stops_plain, plain_len, plain_value, is_quote}
 use Rattle.yaml_subset.specs.Line.{inline_value, quoted_key, plain_key, plain_key_fault, key_of}
@@ -179,7 +179,7 @@ content_other : (n c : ℕ) (cs : List ℕ)
     → is_blank_byte c ≡ false → (c == 35) ≡ false → ((c == 45) && ends_word cs) ≡ false
     → content n (c ∷ cs) ≡ entry_or_value n (c ∷ cs) (key_of (c ∷ cs))
 content_other n c cs e f g = by_tests (is_blank_byte c) (c == 35) ((c == 45) && ends_word cs)
-    (with_fault (tab_row c) (content (suc n) cs)) (with_mark (dash n) (content (suc n) cs))
+    (with_fault (tab_fault c) (content (suc n) cs)) (with_mark (dash n) (content (suc n) cs))
     (entry_or_value n (c ∷ cs) (key_of (c ∷ cs))) e f g
   where
     by_tests : (p q r : Bool) (a b l : Line) → p ≡ false → q ≡ false → r ≡ false

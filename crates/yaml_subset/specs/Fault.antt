@@ -1,11 +1,11 @@
 -- The fault of lines that are no text of the profile: the least number of them that are none, and
--- the first row that the last of these meets.
+-- the first fault that the last of these has.
 use Rattle.std.specs.Prelude.{◌≡◌, ℕ, ◌+◌, ◌==◌, ◌||◌, Bool, false, List, [], ◌∷◌, ◌++◌, Option}
 use Rattle.std.specs.Prelude.{Some, None, cond, length}
 use Rattle.std.specs.Option.{option_map_or}
 use Rattle.yaml_subset.specs.Tree.{Tree}
 use Rattle.yaml_subset.specs.Mark.{Mark, dash, key, value, header}
-use Rattle.yaml_subset.specs.Rows.{earlier}
+use Rattle.yaml_subset.specs.FaultOrder.{earlier}
 use Rattle.yaml_subset.specs.Profile.{has_room, is_next, with_child, is_repeated}
 use Rattle.yaml_subset.specs.Text.{Marked, line_at, marked, nodes_of}
 use Rattle.yaml_subset.specs.OpenNodes.{Open, nothing, within, closed, add, open_nodes}
@@ -42,23 +42,23 @@ abbrev pub is_at_open : Mark → Open → Bool
 is_at_open m (within h done i) = same_column (column h) (column m) || is_at_open m i
 is_at_open m _ = false
 
--- the row of a mark that has no place: its map has that key, it begins a node too deep, an entry or
--- item is required there, or nothing can stand
-abbrev pub row_of_mark : Mark → Open → Which
-row_of_mark m o =
+-- the fault of a mark that has no place: its map has that key, it begins a node too deep, an entry
+-- or item is required there, or nothing can stand
+abbrev pub fault_of_mark : Mark → Open → Which
+fault_of_mark m o =
     cond (repeats m o) DuplicateKey (cond (begins m o) TooDeep (cond (is_at_open m o) Colon Indent))
 
--- the row of the first mark that has no place among the open nodes
+-- the fault of the first mark that has no place among the open nodes
 abbrev pub misfit : List Mark → Open → Option Which
 misfit [] o = None
-misfit (m ∷ ms) o = option_map_or (misfit ms) (add m o) (Some (row_of_mark m o))
+misfit (m ∷ ms) o = option_map_or (misfit ms) (add m o) (Some (fault_of_mark m o))
 
--- the first row that a line meets: by itself, or among the open nodes
-abbrev pub row_of : Option Scalar → Open → List ℕ → Option Which
-row_of s o line = let l = line_at s line in earlier l.fault (misfit l.marks o)
+-- the first fault that a line has: by itself, or among the open nodes
+abbrev pub fault_of : Option Scalar → Open → List ℕ → Option Which
+fault_of s o line = let l = line_at s line in earlier l.fault (misfit l.marks o)
 
--- Lines whose first k are no text of the profile, though fewer are one, and the row of line k.
-pub record IsFault (ls : List (List ℕ)) (k : ℕ) (row : Which) : Type 0 where
+-- Lines whose first k are no text of the profile, though fewer are one, and the fault of line k.
+pub record IsFault (ls : List (List ℕ)) (k : ℕ) (which : Which) : Type 0 where
   pub before : List (List ℕ)
   pub line : List ℕ
   pub after : List (List ℕ)
@@ -71,4 +71,4 @@ pub record IsFault (ls : List (List ℕ)) (k : ℕ) (row : Which) : Type 0 where
   pub are_marks : marked before ≡ Some marks
   pub nodes_open : Open
   pub are_open : open_nodes marks.marks ≡ Some nodes_open
-  pub meets : row_of marks.scalar nodes_open line ≡ Some row
+  pub meets : fault_of marks.scalar nodes_open line ≡ Some which

@@ -2,7 +2,7 @@
 use Rattle.std.specs.Prelude.{ℕ, ◌-◌, ◌==◌, ◌&&◌, ◌||◌, Bool, true, false, not, List, [], ◌∷◌, ◌++◌}
 use Rattle.std.specs.Prelude.{Option, Some, None, cond, length, slice_index}
 use Rattle.yaml_subset.specs.Tree.{Tree, scalar}
-use Rattle.yaml_subset.specs.Rows.{earlier}
+use Rattle.yaml_subset.specs.FaultOrder.{earlier}
 use Rattle.yaml_subset.specs.Quoted.{escaped}
 use Rattle.yaml_subset.specs.Block.{is_blank_byte, trimmed}
 use Rattle.yaml_subset.specs.declared.which.Which.{Which}
@@ -11,7 +11,7 @@ use Rattle.yaml_subset.specs.declared.flow.Part.{Part}
 use Rattle.yaml_subset.specs.declared.flow.Part.TheVariants as parts
 
 -- a list so far: where the reading stands, the text of the item there, the finished items, and the
--- first row that was met
+-- first fault so far
 pub record Flow : Type 0 where
   pub part : Part
   pub text : List ℕ
@@ -46,10 +46,10 @@ is_flow_start c next = not (is_indicator c) && (not (is_soft_indicator c) || not
 abbrev pub is_left_out : ℕ → Bool
 is_left_out c = c == 38 || c == 42 || c == 33 || c == 37 || c == 64 || c == 96
 
--- the row of a byte where no item can begin with it: a list inside, a map that isn't `{}`, what is
--- left out, or another form
-abbrev pub flow_row : ℕ → ℕ → Which
-flow_row c next = cond (c == 91 || (c == 123 && not (next == 125)) || is_left_out c
+-- the fault of a byte with which no item begins: a list inside, a map that isn't `{}`, what is left
+-- out, or another form
+abbrev pub byte_fault : ℕ → ℕ → Which
+byte_fault c next = cond (c == 91 || (c == 123 && not (next == 125)) || is_left_out c
     || (c == 63 && is_blank_byte next)) LeftOut FlowForm
 
 abbrev pub flow_fault : Flow → Part → Which → Flow
@@ -70,7 +70,7 @@ abbrev pub flow_quoted : Flow → Flow
 flow_quoted s =
     record s { part = parts.After; text = []; items = s.items ++ (scalar s.text false ∷ []) }
 
--- the row of a plain item that ends with a colon
+-- the fault of a plain item that ends with a colon
 abbrev pub colon_end : Option Which → List ℕ → Option Which
 colon_end fault text =
     cond (slice_index text (length text - 1) == 58) (earlier fault (Some FlowForm)) fault
@@ -99,12 +99,12 @@ in_want s c next = cond (is_blank_byte c) s
     (cond (c == 39) (flow_item s parts.Single [])
     (cond (c == 34) (flow_item s parts.Double [])
     (cond (is_flow_start c next) (flow_item s parts.Plain (c ∷ []))
-    (flow_fault s parts.Broken (flow_row c next)))))))
+    (flow_fault s parts.Broken (byte_fault c next)))))))
 
 abbrev pub in_plain : Flow → ℕ → ℕ → Flow
 in_plain s c next = cond (c == 44) (flow_plain s parts.Want)
     (cond (c == 93) (flow_plain s parts.Closed)
-    (cond (is_flow_indicator c) (flow_fault s parts.Plain (flow_row c next))
+    (cond (is_flow_indicator c) (flow_fault s parts.Plain (byte_fault c next))
     (cond (c == 58 && is_blank_byte next) (flow_fault s parts.Plain FlowForm)
     (flow_more s parts.Plain c))))
 
@@ -126,12 +126,12 @@ in_after s c next = cond (is_blank_byte c) s
     (cond (c == 44) (flow_part s parts.Want)
     (cond (c == 93) (flow_part s parts.Closed)
     (flow_fault (flow_fault s parts.Broken Quote) parts.Broken
-    (cond (is_flow_indicator c) (flow_row c next) Quote))))
+    (cond (is_flow_indicator c) (byte_fault c next) Quote))))
 
 abbrev pub in_broken : Flow → ℕ → ℕ → Flow
 in_broken s c next = cond (c == 44) (flow_part s parts.Want)
     (cond (c == 93) (flow_part s parts.Closed)
-    (cond (is_flow_indicator c) (flow_fault s parts.Broken (flow_row c next)) s))
+    (cond (is_flow_indicator c) (flow_fault s parts.Broken (byte_fault c next)) s))
 
 -- a comment inside, so that the list doesn't end on its line
 abbrev pub begins_comment : Part → ℕ → ℕ → Bool
@@ -162,12 +162,12 @@ abbrev pub flow : Flow → List ℕ → Flow
 flow s [] = s
 flow s (c ∷ cs) = flow (flow_step s c (slice_index cs 0)) cs
 
--- the row of a list whose line ends there
-abbrev pub end_row : Part → Option Which
-end_row parts.Closed = None
-end_row parts.Over = None
-end_row parts.Single = Some Quote
-end_row parts.Doubled = Some Quote
-end_row parts.Double = Some Quote
-end_row parts.Escape = Some Quote
-end_row _ = Some FlowForm
+-- the fault of a list whose line ends there
+abbrev pub end_fault : Part → Option Which
+end_fault parts.Closed = None
+end_fault parts.Over = None
+end_fault parts.Single = Some Quote
+end_fault parts.Doubled = Some Quote
+end_fault parts.Double = Some Quote
+end_fault parts.Escape = Some Quote
+end_fault _ = Some FlowForm

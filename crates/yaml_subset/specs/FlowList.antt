@@ -5,8 +5,8 @@ use Rattle.std.specs.Prelude.{drop, slice_index, ◌⊎◌}
 use Rattle.yaml_subset.specs.Tree.{Tree, scalar}
 use Rattle.yaml_subset.specs.Block.{is_blank_byte, is_blank, trimmed}
 use Rattle.yaml_subset.specs.Quoted.{quoted}
-use Rattle.yaml_subset.specs.Rows.{earlier}
-use Rattle.yaml_subset.specs.Flow.{Flow, end_row, is_flow_indicator, is_flow_start}
+use Rattle.yaml_subset.specs.FaultOrder.{earlier}
+use Rattle.yaml_subset.specs.Flow.{Flow, end_fault, is_flow_indicator, is_flow_start}
 use Rattle.yaml_subset.specs.Line.{is_quote, stops_plain, is_tail}
 
 -- the first character of a plain item (section 7.3.3)
@@ -68,5 +68,5 @@ IsFlowList line (x ∷ xs) = (from : List ℕ) × HasBlanks line from
 
 -- a list that was read has ended, without a fault, and has these items
 pub record EndsWell (s : Flow) (items : List Tree) : Type 0 where
-  pub fine : earlier s.fault (end_row s.part) ≡ None
+  pub fine : earlier s.fault (end_fault s.part) ≡ None
   pub all : s.items ≡ items

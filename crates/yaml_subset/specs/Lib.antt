@@ -1,13 +1,13 @@
 pub mod Tree
 pub mod Mark
-pub mod Rows
+pub mod FaultOrder
 pub mod Words
 pub mod Block
 pub mod Quoted
 pub mod Flow
 pub mod Line
 pub mod FlowList
-pub mod FlowRows
+pub mod FlowFaults
 pub mod Profile
 pub mod Text
 pub mod OpenNodes

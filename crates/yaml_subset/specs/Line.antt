@@ -1,15 +1,15 @@
--- What stands on a line that no block scalar takes: its marks, and the first row of the refusal
--- table that it meets by itself.
+-- What stands on a line that no block scalar takes: its marks, and the first fault of the refusal
+-- table that it has by itself.
 use Rattle.std.specs.Prelude.{ℕ, suc, ◌+◌, ◌-◌, ◌==◌, ◌&&◌, ◌||◌, nat_eq, nat_lt, nat_le, Bool}
 use Rattle.std.specs.Prelude.{true, false, not, List, [], ◌∷◌, Option, Some, None, cond, drop, take}
 use Rattle.std.specs.Prelude.{length, slice_index}
 use Rattle.std.specs.List.{list_any, prefix_len, starts_with}
 use Rattle.yaml_subset.specs.Tree.{mapping, sequence, scalar, no_entries, trees}
 use Rattle.yaml_subset.specs.Mark.{Mark, start, dash, key, value, header}
-use Rattle.yaml_subset.specs.Rows.{earlier}
+use Rattle.yaml_subset.specs.FaultOrder.{earlier}
 use Rattle.yaml_subset.specs.Block.{is_space, is_blank_byte, is_blank, indentation, trimmed}
 use Rattle.yaml_subset.specs.Quoted.{Quoted, quoted}
-use Rattle.yaml_subset.specs.Flow.{Flow, flow, flow_start, end_row, is_indicator, is_soft_indicator}
+use Rattle.yaml_subset.specs.Flow.{Flow, flow, flow_start, end_fault, is_indicator, is_soft_indicator}
 use Rattle.yaml_subset.specs.declared.which.Which.{Which}
 use Rattle.yaml_subset.specs.declared.which.Which.TheVariants.{Control, Tab, LeftOut, Quote, Escape}
 use Rattle.yaml_subset.specs.declared.which.Which.TheVariants.{FlowForm, Colon}
@@ -80,16 +80,16 @@ plain_value n cs = let k = plain_len cs in
 abbrev pub is_quote : ℕ → Bool
 is_quote c = c == 39 || c == 34
 
-abbrev pub escape_row : Bool → Option Which
-escape_row bad = cond bad (Some Escape) None
+abbrev pub escape_fault : Bool → Option Which
+escape_fault bad = cond bad (Some Escape) None
 
 abbrev pub quoted_value : ℕ → List ℕ → Option Quoted → Line
 quoted_value n cs None = spoiled n Quote
 quoted_value n cs (Some q) = one_mark (value n (scalar q.text false))
-    (cond (is_tail (drop q.length cs)) (escape_row q.bad) (Some Quote))
+    (cond (is_tail (drop q.length cs)) (escape_fault q.bad) (Some Quote))
 
 abbrev pub flow_value : ℕ → Flow → Line
-flow_value n s = flow_line (earlier s.fault (end_row s.part))
+flow_value n s = flow_line (earlier s.fault (end_fault s.part))
   where
     flow_line : Option Which → Line
     flow_line None = one_mark (value n (sequence (trees s.items))) None
@@ -118,9 +118,9 @@ header_value n folded cs = let sign = slice_index cs 0 in
     header_tail n (record { folded = folded; chomping = chomping_of sign })
     (drop (cond (is_sign sign) 1 0) cs)
 
--- the row of a character that begins no value
-abbrev pub indicator_row : ℕ → Which
-indicator_row c =
+-- the fault of a character that begins no value
+abbrev pub indicator_fault : ℕ → Which
+indicator_fault c =
     cond (c == 44 || c == 93 || c == 125) FlowForm (cond (c == 45 || c == 58) Colon LeftOut)
 
 -- a value at column n
@@ -131,11 +131,11 @@ inline_value n (c ∷ cs) = cond (is_quote c) (quoted_value n cs (quoted c cs))
     (cond (c == 91) (flow_value n (flow flow_start cs))
     (cond (c == 123) (empty_map n cs)
     (cond (c == 124 || c == 62) (header_value n (c == 62) cs)
-    (spoiled n (indicator_row c))))))
+    (spoiled n (indicator_fault c))))))
 
 -- KEYS (section 8.2.2)
 
--- a key's text, how many bytes it takes with its colon, and the row that it meets
+-- a key's text, how many bytes it takes with its colon, and the fault that it has
 pub record Key : Type 0 where
   pub text : List ℕ
   pub length : ℕ
@@ -145,7 +145,7 @@ abbrev pub quoted_key : List ℕ → Option Quoted → Option Key
 quoted_key cs None = None
 quoted_key cs (Some q) = let rest = drop q.length cs in let spaces = indentation rest in
     cond (slice_index rest spaces == 58 && ends_word (drop (spaces + 1) rest)) (Some
-    (record { text = q.text; length = q.length + spaces + 2; fault = escape_row q.bad })) None
+    (record { text = q.text; length = q.length + spaces + 2; fault = escape_fault q.bad })) None
 
 -- no tab before its colon, and no colon at its end
 abbrev pub plain_key_fault : List ℕ → Option Which
@@ -175,13 +175,13 @@ entry_or_value n cs (Some k) =
 
 -- DASHES (section 8.2.1)
 
-abbrev pub tab_row : ℕ → Option Which
-tab_row c = cond (c == 9) (Some Tab) None
+abbrev pub tab_fault : ℕ → Option Which
+tab_fault c = cond (c == 9) (Some Tab) None
 
 -- what stands from column n on: dashes, and behind them nothing, a comment, an entry or a value
 abbrev pub content : ℕ → List ℕ → Line
 content n [] = no_marks
-content n (c ∷ cs) = cond (is_blank_byte c) (with_fault (tab_row c) (content (suc n) cs))
+content n (c ∷ cs) = cond (is_blank_byte c) (with_fault (tab_fault c) (content (suc n) cs))
     (cond (c == 35) no_marks
     (cond (c == 45 && ends_word cs) (with_mark (dash n) (content (suc n) cs))
     (entry_or_value n (c ∷ cs) (key_of (c ∷ cs)))))

@@ -1,8 +1,8 @@
 -- What contracts see of the marks of a line.
 use Rattle.std.specs.Prelude.{ℕ, List, [], ◌∷◌, ◌++◌, ◌==◌, ◌&&◌, cond, map}
 use Rattle.yaml_subset.specs.Mark as marks
-use Rattle.yaml_subset.specs.Rows.{earlier}
-use Rattle.yaml_subset.specs.Line.{Line, Key, tab_row, ends_word}
+use Rattle.yaml_subset.specs.FaultOrder.{earlier}
+use Rattle.yaml_subset.specs.Line.{Line, Key, tab_fault, ends_word}
 use Rattle.yaml_subset.specs.Block.{is_blank_byte}
 use Rattle.yaml_subset.specs.declared.line.Ahead.{Ahead}
 use Rattle.yaml_subset.specs.declared.line.Ahead.TheVariants.{Blank, Comment, Dash as Dashed, Entry}
@@ -32,7 +32,7 @@ joined l m = record { marks = l.marks ++ m.marks; fault = earlier l.fault m.faul
 
 -- a blank behind dashes, and one more dash
 abbrev pub blank_seen : Line → ℕ → Line
-blank_seen l c = record { marks = l.marks; fault = earlier l.fault (tab_row c) }
+blank_seen l c = record { marks = l.marks; fault = earlier l.fault (tab_fault c) }
 
 abbrev pub dash_seen : Line → ℕ → Line
 dash_seen l n = record { marks = l.marks ++ (marks.dash n ∷ []); fault = l.fault }

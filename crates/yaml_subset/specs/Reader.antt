@@ -19,7 +19,7 @@ pub record IsRead (ls : List (List ℕ)) (r : Reading) : Type 0 where
   pub are_marks : marked ls ≡ Some (record { marks = marks; parent = r.parent; scalar = r.scalar })
   pub are_open : open_nodes marks ≡ Some r.nodes
 
--- One more line, which meets no row: what the reader keeps then.
+-- One more line, which has no fault: what the reader keeps then.
 pub record Follows (r : Reading) (line : List ℕ) (next : Reading) : Type 0 where
   pub no_fault : (line_at r.scalar line).fault ≡ None
   pub nodes : add_all (line_at r.scalar line).marks r.nodes ≡ Some next.nodes

@@ -89,7 +89,7 @@ abbrev pub scalar_after : Option Scalar → Option ℕ → List ℕ → Option S
 scalar_after o parent line = cond (takes o line) (option_map (scalar_with line) o)
     (header_scalar parent (line_of line).marks)
 
--- one more line, where it meets no row by itself
+-- one more line, where it has no fault by itself
 abbrev pub next_line : Marked → List ℕ → Option Marked
 next_line s line = let l = line_at s.scalar line in
     cond (is_none l.fault) (Some (record {

@@ -1,4 +1,4 @@
--- The words of the refusal table's rows.
+-- The words of the faults of the refusal table.
 use Rattle.std.specs.Prelude.{ℕ, List, codes}
 use Rattle.yaml_subset.specs.declared.which.Which.{Which}
 use Rattle.yaml_subset.specs.declared.which.Which.TheVariants.{Control, Tab, LeftOut, Indent, Quote}

@@ -10,15 +10,15 @@ ghost use Rattle.yaml_subset.specs.Fault.{IsFault};
 ghost use Rattle.yaml_subset.specs.declared.which.Which.{Which};
 
 /// Lines stand for nodes or have a fault, and never both. They have one fault alone: the least
-/// number of lines that are no text, and one row of the table. The first lines of a text are a
+/// number of lines that are no text, and one of the table's faults. The first lines of a text are a
 /// text.
 pub fn lines_are_a_text_or_have_one_fault()
     ensures either { (ls : List (List ℕ)) → ((xs : List Tree) × (nodes_of ls ≡ Some xs))
         ⊎ ((line : ℕ) × (which : Which) × IsFault ls line which) }
     ensures never_both { (ls : List (List ℕ)) (xs : List Tree) (line : ℕ) (which : Which)
         → nodes_of ls ≡ Some xs → IsFault ls line which → ⊥ }
-    ensures one { (ls : List (List ℕ)) (line other : ℕ) (which row : Which)
-        → IsFault ls line which → IsFault ls other row → (line ≡ other) × (which ≡ row) }
+    ensures one { (ls : List (List ℕ)) (line other : ℕ) (v w : Which)
+        → IsFault ls line v → IsFault ls other w → (line ≡ other) × (v ≡ w) }
     ensures first { (ls more : List (List ℕ)) (xs : List Tree) → nodes_of (ls ++ more) ≡ Some xs
         → (ys : List Tree) × (nodes_of ls ≡ Some ys) }
 {}

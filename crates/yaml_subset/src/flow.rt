@@ -3,7 +3,7 @@
 ghost use Rattle.std.specs.Prelude.{◌≡◌, IfOk, [], ◌∷◌};
 ghost use Rattle.yaml_subset.specs.Flow.{flow_start, is_left_out as is_left_out_lem};
 ghost use Rattle.yaml_subset.specs.Flow.{is_flow_start as is_flow_start_lem};
-ghost use Rattle.yaml_subset.specs.Flow.{flow_row as flow_row_lem, flow_fault, flow_part};
+ghost use Rattle.yaml_subset.specs.Flow.{byte_fault as byte_fault_lem, flow_fault, flow_part};
 ghost use Rattle.yaml_subset.specs.Flow.{flow_item, flow_more, flow_quoted, flow_scalar};
 ghost use Rattle.yaml_subset.specs.Flow.{flow_plain, colon_end as colon_end_lem};
 ghost use Rattle.yaml_subset.specs.Flow.{in_closed as in_closed_lem, in_want as in_want_lem};
@@ -12,7 +12,7 @@ ghost use Rattle.yaml_subset.specs.Flow.{in_double as in_double_lem, in_escape a
 ghost use Rattle.yaml_subset.specs.Flow.{in_after as in_after_lem, in_broken as in_broken_lem};
 ghost use Rattle.yaml_subset.specs.Flow.{begins_comment as begins_comment_lem};
 ghost use Rattle.yaml_subset.specs.Flow.{flow_at as flow_at_lem, flow_step, flow};
-ghost use Rattle.yaml_subset.specs.Flow.{end_row as end_row_lem};
+ghost use Rattle.yaml_subset.specs.Flow.{end_fault as end_fault_lem};
 ghost use Rattle.yaml_subset.specs.FlowView.{flow_view};
 
 use crate::bytes::{
@@ -50,7 +50,7 @@ pub(crate) enum Part {
 }
 
 /// A one-line list so far: the text of the item where the reading stands, the finished items, and
-/// the first row met.
+/// the first fault so far.
 #[derive(Drop)]
 pub(crate) struct Flow {
     pub(crate) part: Part,
@@ -75,9 +75,9 @@ fn is_flow_start(byte: u8, next: u8) -> bool
             || !(next == 0 || is_blank_byte(next) || is_flow_indicator(next)))
 }
 
-/// The row of a byte with which no item can begin.
-fn flow_row(byte: u8, next: u8) -> Which
-    ensures { result ≡ flow_row_lem byte next }
+/// The fault of a byte with which no item can begin.
+fn byte_fault(byte: u8, next: u8) -> Which
+    ensures { result ≡ byte_fault_lem byte next }
 {
     if byte == b'['
         || (byte == b'{' && !(next == b'}'))
@@ -90,7 +90,7 @@ fn flow_row(byte: u8, next: u8) -> Which
     }
 }
 
-/// The first row of a list, where a plain item ends with a colon.
+/// The first fault of a list, where a plain item ends with a colon.
 fn colon_end(fault: Option<Which>, text: &[u8]) -> Option<Which>
     ensures { result ≡ colon_end_lem fault text.now }
 {
@@ -114,9 +114,9 @@ fn begins_comment(part: Part, byte: u8, next: u8) -> bool
     }
 }
 
-/// The row of a list whose line ends there.
-pub(crate) fn end_row(part: Part) -> Option<Which>
-    ensures { result ≡ end_row_lem part }
+/// The fault of a list whose line ends there.
+pub(crate) fn end_fault(part: Part) -> Option<Which>
+    ensures { result ≡ end_fault_lem part }
 {
     match part {
         Part::Closed => None,
@@ -258,7 +258,7 @@ impl Flow {
             let text = Vec::from_slice(alloc, &[byte])?;
             Ok(self.with_text(Part::Plain, text))
         } else {
-            Ok(self.with_fault(Part::Broken, flow_row(byte, next)))
+            Ok(self.with_fault(Part::Broken, byte_fault(byte, next)))
         }
     }
 
@@ -270,7 +270,7 @@ impl Flow {
         } else if byte == b']' {
             self.plain_item(alloc, Part::Closed)
         } else if is_flow_indicator(byte) {
-            Ok(self.with_fault(Part::Plain, flow_row(byte, next)))
+            Ok(self.with_fault(Part::Plain, byte_fault(byte, next)))
         } else if byte == b':' && is_blank_byte(next) {
             Ok(self.with_fault(Part::Plain, Which::FlowForm))
         } else {
@@ -323,13 +323,13 @@ impl Flow {
         } else if byte == b']' {
             self.at(Part::Closed)
         } else {
-            let row = if is_flow_indicator(byte) {
-                flow_row(byte, next)
+            let fault = if is_flow_indicator(byte) {
+                byte_fault(byte, next)
             } else {
                 Which::Quote
             };
             self.with_fault(Part::Broken, Which::Quote)
-                .with_fault(Part::Broken, row)
+                .with_fault(Part::Broken, fault)
         }
     }
 
@@ -341,7 +341,7 @@ impl Flow {
         } else if byte == b']' {
             self.at(Part::Closed)
         } else if is_flow_indicator(byte) {
-            self.with_fault(Part::Broken, flow_row(byte, next))
+            self.with_fault(Part::Broken, byte_fault(byte, next))
         } else {
             self
         }

@@ -5,7 +5,7 @@ ghost use Rattle.yaml_subset.specs.Tree.{Tree, sequence, trees};
 ghost use Rattle.yaml_subset.specs.Mark.{value};
 ghost use Rattle.yaml_subset.specs.Flow.{flow, flow_start};
 ghost use Rattle.yaml_subset.specs.FlowList.{IsFlowList, EndsWell};
-ghost use Rattle.yaml_subset.specs.FlowRows.{HasRow};
+ghost use Rattle.yaml_subset.specs.FlowFaults.{HasListFault};
 ghost use Rattle.yaml_subset.specs.Line.{inline_value, one_mark};
 ghost use Rattle.yaml_subset.specs.declared.which.Which.{Which};
 
@@ -20,10 +20,10 @@ pub fn one_line_lists()
         → (items : List Tree) × IsFlowList line items }
 {}
 
-/// A value that begins with `[` meets the earliest row of its items and its end, and none where it
-/// is a list: each text has one row, or none.
-pub fn rows_of_one_line_lists()
+/// A value that begins with `[` has the earliest fault of its items and its end, and none where it
+/// is a list: each text has one fault, or none.
+pub fn faults_of_one_line_lists()
     ensures met { (column : ℕ) (line : List ℕ)
-        → HasRow line (inline_value column (91 ∷ line)).fault }
-    ensures one { (line : List ℕ) (a b : Option Which) → HasRow line a → HasRow line b → a ≡ b }
+        → HasListFault line (inline_value column (91 ∷ line)).fault }
+    ensures one { (line : List ℕ) (a b : Option Which) → HasListFault line a → HasListFault line b → a ≡ b }
 {}

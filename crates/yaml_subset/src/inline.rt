@@ -7,13 +7,13 @@ ghost use Rattle.yaml_subset.specs.Line.{is_plain_start as is_plain_start_lem};
 ghost use Rattle.yaml_subset.specs.Line.{stops_plain as stops_plain_lem};
 ghost use Rattle.yaml_subset.specs.Line.{plain_len as plain_len_lem};
 ghost use Rattle.yaml_subset.specs.Line.{plain_value as plain_value_lem, is_quote as is_quote_lem};
-ghost use Rattle.yaml_subset.specs.Line.{escape_row as escape_row_lem};
+ghost use Rattle.yaml_subset.specs.Line.{escape_fault as escape_fault_lem};
 ghost use Rattle.yaml_subset.specs.Line.{quoted_value as quoted_value_lem};
 ghost use Rattle.yaml_subset.specs.Line.{flow_value as flow_value_lem, empty_map as empty_map_lem};
 ghost use Rattle.yaml_subset.specs.Line.{chomping_of as chomping_of_lem, is_sign as is_sign_lem};
 ghost use Rattle.yaml_subset.specs.Line.{is_digit as is_digit_lem, header_tail as header_tail_lem};
 ghost use Rattle.yaml_subset.specs.Line.{header_value as header_value_lem};
-ghost use Rattle.yaml_subset.specs.Line.{indicator_row as indicator_row_lem};
+ghost use Rattle.yaml_subset.specs.Line.{indicator_fault as indicator_fault_lem};
 ghost use Rattle.yaml_subset.specs.Line.{inline_value as inline_value_lem};
 ghost use Rattle.yaml_subset.specs.Line.{quoted_key as quoted_key_lem};
 ghost use Rattle.yaml_subset.specs.Line.{plain_key_fault as plain_key_fault_lem};
@@ -25,7 +25,7 @@ use crate::bytes::{
     before, byte_at, ends_word, from, is_blank_byte, is_indicator, is_soft_indicator, is_tail,
     spaces, without_blanks, without_spaces,
 };
-use crate::flow::{Flow, end_row, read_flow};
+use crate::flow::{Flow, end_fault, read_flow};
 use crate::mark::{Line, Mark};
 use crate::node::Node;
 use crate::quoted::{Quoted, read_quoted};
@@ -34,7 +34,7 @@ use crate::text::Text;
 use crate::which::{Which, earlier};
 use std::alloc::{AllocError, Global};
 
-/// A key: its text, the bytes that it takes with its colon, and the row that it meets.
+/// A key: its text, the bytes that it takes with its colon, and the fault that it has.
 #[derive(Drop)]
 pub(crate) struct Key {
     pub(crate) text: Text,
@@ -89,8 +89,8 @@ fn is_quote(byte: u8) -> bool
     byte == b'\'' || byte == b'"'
 }
 
-fn escape_row(bad: bool) -> Option<Which>
-    ensures { result ≡ escape_row_lem bad }
+fn escape_fault(bad: bool) -> Option<Which>
+    ensures { result ≡ escape_fault_lem bad }
 {
     if bad { Some(Which::Escape) } else { None }
 }
@@ -109,7 +109,7 @@ fn quoted_value(
         None => Line::spoiled(alloc, column, Which::Quote),
         Some(quoted) => {
             let fault = if is_tail(from(rest, quoted.length)) {
-                escape_row(quoted.bad)
+                escape_fault(quoted.bad)
             } else {
                 Some(Which::Quote)
             };
@@ -125,7 +125,7 @@ fn quoted_value(
 fn flow_value(alloc: Global, column: usize, list: Flow) -> Result<Line, AllocError>
     ensures { IfOk result (λ l. line_view l ≡ flow_value_lem column (flow_view list)) }
 {
-    match earlier(list.fault, end_row(list.part)) {
+    match earlier(list.fault, end_fault(list.part)) {
         None => Line::one(alloc, Mark::Value(column, Node::List(list.items)), None),
         Some(which) => Line::spoiled(alloc, column, which),
     }
@@ -192,9 +192,9 @@ fn header_value(alloc: Global, column: usize, folded: bool, rest: &[u8]) -> Resu
     header_tail(alloc, column, style, from(rest, behind))
 }
 
-/// The row of a character that begins no value.
-fn indicator_row(byte: u8) -> Which
-    ensures { result ≡ indicator_row_lem byte }
+/// The fault of a character that begins no value.
+fn indicator_fault(byte: u8) -> Which
+    ensures { result ≡ indicator_fault_lem byte }
 {
     if byte == b',' || byte == b']' || byte == b'}' {
         Which::FlowForm
@@ -227,7 +227,7 @@ fn value_from(
     } else if byte == b'|' || byte == b'>' {
         header_value(alloc, column, byte == b'>', rest)
     } else {
-        Line::spoiled(alloc, column, indicator_row(byte))
+        Line::spoiled(alloc, column, indicator_fault(byte))
     }
 }
 
@@ -257,7 +257,7 @@ fn quoted_key(rest: &[u8], quoted: Option<Quoted>) -> Option<Key>
                 Some(Key {
                     text: Text::of(quoted.text),
                     length: quoted.length + blank + 2,
-                    fault: escape_row(quoted.bad),
+                    fault: escape_fault(quoted.bad),
                 })
             } else {
                 None

@@ -32,7 +32,7 @@ pub use copy::copy_node;
 pub use fault_laws::{
     a_text_has_nodes_or_a_fault, lines_and_documents_are_few, lines_are_a_text_or_have_one_fault,
 };
-pub use flow_laws::{one_line_lists, rows_of_one_line_lists};
+pub use flow_laws::{faults_of_one_line_lists, one_line_lists};
 pub use laws::{one_bad_place, standing_nodes_are_writable, written_text_reads_back};
 pub use length::written_length;
 pub use node::{Node, Nodes, Pairs};

@@ -1,4 +1,4 @@
-//! A line by itself: its marks, and the first row that it meets.
+//! A line by itself: its marks, and the first fault that it has.
 
 ghost use Rattle.std.specs.Prelude.{◌≡◌, ◌+◌, ◌^◌, ◌<◌, ◌≤◌, length, IfOk, IfSome, option_map};
 ghost use Rattle.std.specs.Prelude.{nat_eq};
@@ -6,7 +6,7 @@ ghost use Rattle.std.specs.List.{starts_with};
 ghost use Rattle.yaml_subset.specs.Mark as keys;
 ghost use Rattle.yaml_subset.specs.Line.{behind_colon as behind_colon_lem};
 ghost use Rattle.yaml_subset.specs.Line.{entry_or_value as entry_or_value_lem};
-ghost use Rattle.yaml_subset.specs.Line.{tab_row as tab_row_lem, content as content_lem, one_mark};
+ghost use Rattle.yaml_subset.specs.Line.{tab_fault as tab_fault_lem, content as content_lem, one_mark};
 ghost use Rattle.yaml_subset.specs.Line.{key_of as key_of_list};
 ghost use Rattle.yaml_subset.specs.Line.{begins_as_marker as begins_as_marker_lem};
 ghost use Rattle.yaml_subset.specs.Line.{is_marker as is_marker_lem};
@@ -36,7 +36,7 @@ fn behind_colon(alloc: Global, column: usize, bytes: &[u8]) -> Result<Line, Allo
     }
 }
 
-/// A key's mark and its row.
+/// A key's mark and its fault.
 fn key_line(alloc: Global, column: usize, key: Key) -> Result<Line, AllocError>
     ensures { IfOk result (λ l. line_view l ≡ one_mark (keys.key column key.text) key.fault) }
 {
@@ -64,8 +64,8 @@ fn entry_or_value(
     }
 }
 
-fn tab_row(byte: u8) -> Option<Which>
-    ensures { result ≡ tab_row_lem byte }
+fn tab_fault(byte: u8) -> Option<Which>
+    ensures { result ≡ tab_fault_lem byte }
 {
     if byte == b'\t' {
         Some(Which::Tab)
@@ -80,7 +80,7 @@ fn with_blank(line: Line, byte: u8) -> Line
 {
     Line {
         marks: line.marks,
-        fault: earlier(line.fault, tab_row(byte)),
+        fault: earlier(line.fault, tab_fault(byte)),
     }
 }
 

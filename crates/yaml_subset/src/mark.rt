@@ -21,7 +21,7 @@ pub(crate) enum Mark {
     Header(usize, Style),
 }
 
-/// The marks of a line, and the first row that it meets by itself.
+/// The marks of a line, and the first fault that it has by itself.
 #[derive(Drop)]
 pub(crate) struct Line {
     pub(crate) marks: Vec<Mark>,

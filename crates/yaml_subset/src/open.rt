@@ -9,7 +9,7 @@ ghost use Rattle.yaml_subset.specs.Profile.{max_depth, is_next, has_room as has_
 ghost use Rattle.yaml_subset.specs.Profile.{with_child};
 ghost use Rattle.yaml_subset.specs.OpenNodes.{closed, add as add_lem, begun};
 ghost use Rattle.yaml_subset.specs.OpenNodes.{finished as finished_lem, nothing, within};
-ghost use Rattle.yaml_subset.specs.Fault.{row_of_mark, column as column_lem};
+ghost use Rattle.yaml_subset.specs.Fault.{fault_of_mark, column as column_lem};
 ghost use Rattle.yaml_subset.specs.NodeView.{node_view, nodes_view};
 ghost use Rattle.yaml_subset.specs.LineView.{mark_view};
 ghost use Rattle.yaml_subset.specs.OpenView.{head_of, done_of, open_of, last_view, stream_of};
@@ -33,7 +33,7 @@ pub(crate) const MAX_DEPTH: usize = 32;
 /// Why a mark wasn't taken.
 #[derive(Drop)]
 pub(crate) enum Stop {
-    Row(Which),
+    Fault(Which),
     NoMemory,
 }
 
@@ -169,8 +169,8 @@ fn may_begin(frames: &[Frame], last: &Last, mark: &Mark) -> bool
     }
 }
 
-/// The row of a mark that goes on in no open map or list.
-fn row_of(frames: &[Frame], last: &Last, mark: &Mark) -> Which
+/// The fault of a mark that goes on in no open map or list.
+fn fault_of(frames: &[Frame], last: &Last, mark: &Mark) -> Which
     ensures { result ≡ cond (cond (is_nothing_lem last.now)
         (has_room_lem (last_head marks.start frames.now) (mark_view mark.now)) false) Which.TooDeep
         (cond (any_at_lem (column_lem (mark_view mark.now)) frames.now) Which.Colon Which.Indent) }
@@ -223,7 +223,7 @@ fn begin(alloc: Global, documents: Nodes, frames: Vec<Frame>, mark: Mark) -> Res
 {
     if is_too_deep(&frames, &mark) {
         drop(mark);
-        return Err(Stop::Row(Which::TooDeep));
+        return Err(Stop::Fault(Which::TooDeep));
     }
     match begin_there(alloc, documents, frames, mark) {
         Ok(nodes) => Ok(nodes),
@@ -283,7 +283,7 @@ fn next_frames(
         ≡ Some (stream_of docs frames.new.items nothing)) }
     ensures refused { IfErr result (λ s. Refuses s (λ w. (docs : List Node)
         → (add_lem (mark_view mark) (stream_of docs frames.old.items (last_view last)) ≡ None)
-        × (row_of_mark (mark_view mark) (stream_of docs frames.old.items (last_view last)) ≡ w))) }
+        × (fault_of_mark (mark_view mark) (stream_of docs frames.old.items (last_view last)) ≡ w))) }
 {
     let value = close_above(alloc, frames, last, at + 1)?;
     match frames.pop() {
@@ -292,7 +292,7 @@ fn next_frames(
             if frame.is_repeated_by(&mark) {
                 drop(frame);
                 drop(mark);
-                return Err(Stop::Row(Which::DuplicateKey));
+                return Err(Stop::Fault(Which::DuplicateKey));
             }
             let frame = frame.next(alloc, value, mark)?;
             frames.push(frame)?;
@@ -310,7 +310,7 @@ fn go_on(alloc: Global, nodes: OpenNodes, at: usize, mark: Mark) -> Result<OpenN
         ≡ Some (nodes_open o)) }
     ensures refused { IfErr result (λ s. Refuses s
         (λ w. (add_lem (mark_view mark) (nodes_open nodes) ≡ None)
-        × (row_of_mark (mark_view mark) (nodes_open nodes) ≡ w))) }
+        × (fault_of_mark (mark_view mark) (nodes_open nodes) ≡ w))) }
 {
     let OpenNodes {
         documents,
@@ -366,15 +366,15 @@ fn begin_or_refuse(alloc: Global, nodes: OpenNodes, mark: Mark) -> Result<OpenNo
         ≡ Some (nodes_open o)) }
     ensures refused { IfErr result (λ s. Refuses s
         (λ w. (add_lem (mark_view mark) (nodes_open nodes) ≡ None)
-        × (row_of_mark (mark_view mark) (nodes_open nodes) ≡ w))) }
+        × (fault_of_mark (mark_view mark) (nodes_open nodes) ≡ w))) }
 {
     if may_begin(&nodes.frames, &nodes.last, &mark) {
         begin(alloc, nodes.documents, nodes.frames, mark)
     } else {
-        let row = row_of(&nodes.frames, &nodes.last, &mark);
+        let fault = fault_of(&nodes.frames, &nodes.last, &mark);
         drop(mark);
         drop(nodes);
-        Err(Stop::Row(row))
+        Err(Stop::Fault(fault))
     }
 }
 
@@ -396,7 +396,7 @@ impl OpenNodes {
             ≡ Some (nodes_open o)) }
         ensures refused { IfErr result (λ s. Refuses s
             (λ w. (add_lem (mark_view mark) (nodes_open self) ≡ None)
-            × (row_of_mark (mark_view mark) (nodes_open self) ≡ w))) }
+            × (fault_of_mark (mark_view mark) (nodes_open self) ≡ w))) }
     {
         if mark.is_start() {
             drop(mark);
@@ -416,7 +416,7 @@ impl OpenNodes {
             ≡ Some (nodes_open o)) }
         ensures refused { IfErr result (λ s. Refuses s
             (λ w. (add_lem (marks.raw line.now) (nodes_open self) ≡ None)
-            × (row_of_mark (marks.raw line.now) (nodes_open self) ≡ w))) }
+            × (fault_of_mark (marks.raw line.now) (nodes_open self) ≡ w))) }
     {
         let OpenNodes {
             documents,
@@ -432,8 +432,8 @@ impl OpenNodes {
                     last: Last::Block(block),
                 })
             }
-            Last::Nothing => Err(Stop::Row(Which::Indent)),
-            Last::Inline(_) => Err(Stop::Row(Which::Indent)),
+            Last::Nothing => Err(Stop::Fault(Which::Indent)),
+            Last::Inline(_) => Err(Stop::Fault(Which::Indent)),
         }
     }
 

@@ -30,7 +30,7 @@ pub enum YamlFault {
     /// The text's length where it ends inside a character.
     NotUtf8(usize),
     /// Its first lines up to this one, the first being 1, are no text of the profile, and that line
-    /// meets this row.
+    /// has this fault.
     Form { line: usize, which: Which },
     /// Memory ran out.
     NoMemory,
@@ -58,7 +58,7 @@ fn read_lines(alloc: Global, lines: &[&str]) -> Result<Nodes, YamlFault>
         match read_line(alloc, reader, lines[at].as_bytes()) {
             Ok(next) => reader = next,
             Err(Stop::NoMemory) => return Err(YamlFault::NoMemory),
-            Err(Stop::Row(which)) => {
+            Err(Stop::Fault(which)) => {
                 return Err(YamlFault::Form {
                     line: at + 1,
                     which,

@@ -4,12 +4,12 @@ ghost use Rattle.std.specs.Prelude.{◌≡◌, IfOk, IfErr, None, Some, map, tru
 ghost use Rattle.yaml_subset.specs.Text.{parent_at as parent_at_lem};
 ghost use Rattle.yaml_subset.specs.Text.{parent_after as parent_after_lem};
 ghost use Rattle.yaml_subset.specs.Text.{header_scalar as header_scalar_lem, takes as takes_lem};
-ghost use Rattle.yaml_subset.specs.Fault.{misfit, row_of};
+ghost use Rattle.yaml_subset.specs.Fault.{misfit, fault_of};
 ghost use Rattle.yaml_subset.specs.OpenNodes.{add_all as add_all_lem};
 ghost use Rattle.yaml_subset.specs.Reader.{header_folds};
 ghost use Rattle.yaml_subset.specs.Reader.{scalar_behind as scalar_behind_lem, Follows};
 ghost use Rattle.yaml_subset.specs.LineView.{mark_view};
-ghost use Rattle.yaml_subset.specs.Rows.{earlier as earlier_lem};
+ghost use Rattle.yaml_subset.specs.FaultOrder.{earlier as earlier_lem};
 ghost use Rattle.yaml_subset.specs.ReaderView.{reading};
 ghost use Rattle.yaml_subset.specs.StopView.{nodes_open, Refuses};
 
@@ -80,7 +80,7 @@ fn header_scalar(parent: Option<usize>, marks: &[Mark]) -> Option<Scalar>
     scalar_behind(column, folds)
 }
 
-/// The open nodes after the marks of a line, or the row of the first that has no place.
+/// The open nodes after the marks of a line, or the fault of the first that has no place.
 fn add_all(alloc: Global, nodes: OpenNodes, marks: Vec<Mark>) -> Result<OpenNodes, Stop>
     ensures ok { IfOk result (λ o. (add_all_lem (map mark_view marks.items) (nodes_open nodes)
         ≡ Some (nodes_open o)) × (misfit (map mark_view marks.items) (nodes_open nodes) ≡ None)) }
@@ -110,7 +110,7 @@ fn read_raw(reader: Reader, scalar: Scalar, line: &[u8]) -> Result<Reader, Stop>
     requires it { reader.scalar ≡ Some scalar }
     ensures ok { IfOk result (λ r. Follows (reading reader) line.now (reading r)) }
     ensures refused { IfErr result (λ s. Refuses s
-        (λ w. row_of reader.scalar (nodes_open reader.nodes) line.now ≡ Some w)) }
+        (λ w. fault_of reader.scalar (nodes_open reader.nodes) line.now ≡ Some w)) }
 {
     let fault = raw_fault(scalar, line);
     match reader.nodes.add_raw(line) {
@@ -122,11 +122,11 @@ fn read_raw(reader: Reader, scalar: Scalar, line: &[u8]) -> Result<Reader, Stop>
             }),
             Some(which) => {
                 drop(nodes);
-                Err(Stop::Row(which))
+                Err(Stop::Fault(which))
             }
         },
         Err(Stop::NoMemory) => Err(Stop::NoMemory),
-        Err(Stop::Row(which)) => Err(Stop::Row(first_of(fault, which))),
+        Err(Stop::Fault(which)) => Err(Stop::Fault(first_of(fault, which))),
     }
 }
 
@@ -135,7 +135,7 @@ fn read_own(alloc: Global, reader: Reader, line: &[u8]) -> Result<Reader, Stop>
     requires { takes_lem reader.scalar line.now ≡ false }
     ensures ok { IfOk result (λ r. Follows (reading reader) line.now (reading r)) }
     ensures refused { IfErr result (λ s. Refuses s
-        (λ w. row_of reader.scalar (nodes_open reader.nodes) line.now ≡ Some w)) }
+        (λ w. fault_of reader.scalar (nodes_open reader.nodes) line.now ≡ Some w)) }
 {
     let Ok(Line { marks, fault }) = line_of(alloc, line) else {
         drop(reader);
@@ -152,15 +152,15 @@ fn read_own(alloc: Global, reader: Reader, line: &[u8]) -> Result<Reader, Stop>
             }),
             Some(which) => {
                 drop(nodes);
-                Err(Stop::Row(which))
+                Err(Stop::Fault(which))
             }
         },
         Err(Stop::NoMemory) => Err(Stop::NoMemory),
-        Err(Stop::Row(which)) => Err(Stop::Row(first_of(fault, which))),
+        Err(Stop::Fault(which)) => Err(Stop::Fault(first_of(fault, which))),
     }
 }
 
-/// The earlier of a line's own row and another.
+/// The earlier of a line's own fault and another.
 fn first_of(fault: Option<Which>, which: Which) -> Which
     ensures { earlier_lem fault (Some which) ≡ Some result }
 {
@@ -180,7 +180,7 @@ fn first_of(fault: Option<Which>, which: Which) -> Which
 pub(crate) fn read_line(alloc: Global, reader: Reader, line: &[u8]) -> Result<Reader, Stop>
     ensures ok { IfOk result (λ r. Follows (reading reader) line.now (reading r)) }
     ensures refused { IfErr result (λ s. Refuses s
-        (λ w. row_of reader.scalar (nodes_open reader.nodes) line.now ≡ Some w)) }
+        (λ w. fault_of reader.scalar (nodes_open reader.nodes) line.now ≡ Some w)) }
 {
     match reader.scalar {
         None => read_own(alloc, reader, line),

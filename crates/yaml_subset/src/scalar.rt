@@ -75,7 +75,7 @@ fn has_early_tab(line: &[u8]) -> bool
     !(blanks(line) == spaces(line))
 }
 
-/// The row of a line that the scalar takes.
+/// The fault of a line that the scalar takes.
 pub(crate) fn raw_fault(scalar: Scalar, line: &[u8]) -> Option<Which>
     ensures { result ≡ raw_fault_lem scalar line.now }
 {

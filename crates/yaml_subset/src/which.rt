@@ -1,9 +1,9 @@
-//! The rows of the refusal table.
+//! The faults of the refusal table.
 
 ghost use Rattle.std.specs.Prelude.{◌≡◌};
-ghost use Rattle.yaml_subset.specs.Rows.{earlier as earlier_lem};
+ghost use Rattle.yaml_subset.specs.FaultOrder.{earlier as earlier_lem};
 
-/// Why a line has no place after the lines before it. A line that meets several rows is named by
+/// Why a line has no place after the lines before it. A line that has several faults is named by
 /// the first.
 #[derive(Clone, Copy, Debug, PartialEq, Eq, Drop)]
 pub enum Which {
@@ -32,7 +32,7 @@ pub enum Which {
 
 impl Which {
     ghost use Rattle.std.specs.Prelude.{◌≡◌};
-    ghost use Rattle.yaml_subset.specs.Rows.{place};
+    ghost use Rattle.yaml_subset.specs.FaultOrder.{place};
     ghost use Rattle.yaml_subset.specs.Words.{word};
 
     /// Its word, by which a refusal names it.
@@ -53,7 +53,7 @@ impl Which {
         }
     }
 
-    /// The row's place in the table.
+    /// The fault's place in the table.
     pub(crate) fn place(self) -> u8
         ensures { result ≡ place self }
     {
@@ -72,17 +72,17 @@ impl Which {
     }
 }
 
-/// The earlier of two rows, each perhaps not met.
+/// The earlier of two faults, each perhaps not there.
 pub(crate) fn earlier(one: Option<Which>, other: Option<Which>) -> Option<Which>
     ensures { result ≡ earlier_lem one other }
 {
     match one {
         None => other,
-        Some(row) => match other {
-            None => Some(row),
+        Some(fault) => match other {
+            None => Some(fault),
             Some(next) => {
-                if row.place() <= next.place() {
-                    Some(row)
+                if fault.place() <= next.place() {
+                    Some(fault)
                 } else {
                     Some(next)
                 }

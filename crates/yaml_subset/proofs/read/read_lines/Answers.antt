@@ -1,7 +1,7 @@
 use Rattle.std.proofs.Common.{◌≡◌, ℕ, ◌+◌, List, Some, length, take, drop, map, sym, ap, ◌∙◌, subst}
 use Rattle.std.proofs.lemmas.List.{take_all, length-map}
 use Rattle.yaml_subset.specs.Text.{nodes_of}
-use Rattle.yaml_subset.specs.Fault.{IsFault, row_of}
+use Rattle.yaml_subset.specs.Fault.{IsFault, fault_of}
 use Rattle.yaml_subset.specs.Reader.{IsRead}
 use Rattle.yaml_subset.specs.ReaderView.{reading}
 use Rattle.yaml_subset.specs.StopView.{Refuses}
@@ -11,24 +11,24 @@ use Rattle.yaml_subset.proofs.TextLemmas.{read_more, read_nodes, fault_here, lin
 use Rattle.yaml_subset.proofs.TextLemmas.{line_splits, line_number}
 use Rattle.yaml_subset.proofs.read.read_lines.Goals as goal
 
-pub returns-in-Err-Row-clause-fault : goal.returns-in-Err-Row-clause-fault
-returns-in-Err-Row-clause-fault c =
+pub returns-in-Err-Fault-clause-fault : goal.returns-in-Err-Fault-clause-fault
+returns-in-Err-Fault-clause-fault c =
     let ls = c.args.lines.now in
     let at = c.loop-at.at in
     let line = c.as_bytes.result.now in
     let xs = map (λ x. x.now) ls in
     let r = reading c.loop-at.reader in
-    let meets : row_of r.scalar r.nodes line ≡ Some c.in-Err-Row.which =
-    subst (λ (s : Stop). Refuses s (λ w. row_of r.scalar r.nodes line ≡ Some w))
-    c.in-Err-Row.field-0-is c.in-Err-Row.ensures.refused in
+    let meets : fault_of r.scalar r.nodes line ≡ Some c.in-Err-Fault.which =
+    subst (λ (s : Stop). Refuses s (λ w. fault_of r.scalar r.nodes line ≡ Some w))
+    c.in-Err-Fault.field-0-is c.in-Err-Fault.ensures.refused in
     let named = fault_here (take at xs) line r c.loop-at.invariant (drop (at + 1) xs)
-    c.in-Err-Row.which meets in
+    c.in-Err-Fault.which meets in
     let placed =
-    subst (λ (l : List (List ℕ)). IsFault l (length (take at xs) + 1) c.in-Err-Row.which)
+    subst (λ (l : List (List ℕ)). IsFault l (length (take at xs) + 1) c.in-Err-Fault.which)
     (line_splits ls at line _ c.loop-at-test.true c.as_bytes.ensures.value) named in
-    let numbered = subst (λ (n : ℕ). IsFault xs n c.in-Err-Row.which)
+    let numbered = subst (λ (n : ℕ). IsFault xs n c.in-Err-Fault.which)
     (line_number ls at line _ c.loop-at-test.true c.as_bytes.ensures.value) placed in
-    subst (λ (w : Which). IsFault xs (at + 1) w) (sym c.in-Err-Row.which-is) numbered
+    subst (λ (w : Which). IsFault xs (at + 1) w) (sym c.in-Err-Fault.which-is) numbered
 
 pub loop-at-preserved : goal.loop-at-preserved
 loop-at-preserved c =

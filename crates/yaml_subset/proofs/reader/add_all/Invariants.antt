@@ -11,6 +11,6 @@ abbrev pub invariant-loop-mark : goal.invariant-loop-mark
 invariant-loop-mark l = record {
   rest : add_all (map mark_view (into_iter_items l.mark-iterator))
       (nodes_open l.nodes) ≡ add_all (map mark_view l.fn.marks.items) (nodes_open l.fn.nodes);
-  row : misfit (map mark_view (into_iter_items l.mark-iterator))
+  fault : misfit (map mark_view (into_iter_items l.mark-iterator))
       (nodes_open l.nodes) ≡ misfit (map mark_view l.fn.marks.items) (nodes_open l.fn.nodes);
 }

@@ -38,7 +38,7 @@ returns-in_ok-text c =
 pub returns-else-is_flow_start : goal.returns-else-is_flow_start
 returns-else-is_flow_start c =
     c.with_fault-else-is_flow_start.ensures
-    ∙ ap (λ (w : Which). flow_fault (flow_view c.args.self) Broken w) c.flow_row.ensures
+    ∙ ap (λ (w : Which). flow_fault (flow_view c.args.self) Broken w) c.byte_fault.ensures
     ∙ sym (want_none (flow_view c.args.self) c.args.byte
     c.args.next (sym c.is_blank_byte.ensures ∙ c.if-is_blank_byte.false) c.if-byte-eq93.false
     c.if-byte-eq44.false c.if-byte-eq39.false c.if-byte-eq34.false

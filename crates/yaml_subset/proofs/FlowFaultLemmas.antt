@@ -1,17 +1,17 @@
--- The row of a one-line list that is read byte by byte is that of its items and its end.
+-- The fault of a one-line list that is read byte by byte is that of its items and its end.
 use Rattle.std.proofs.Common.{◌≡◌, ◌==◌, ◌||◌, ◌&&◌, ℕ, Bool, true, false, not, List}
 use Rattle.std.proofs.Common.{[], ◌∷◌, ◌++◌, Option, Some, None, cond, length, refl, sym, ap}
 use Rattle.std.proofs.Common.{subst, ◌∙◌, ◌-◌, eqb}
 use Rattle.std.specs.List.{slice_index}
 use Rattle.std.proofs.lemmas.Bool.{eqb-true}
 use Rattle.yaml_subset.specs.Tree.{Tree, scalar}
-use Rattle.yaml_subset.specs.Rows.{earlier}
+use Rattle.yaml_subset.specs.FaultOrder.{earlier}
 use Rattle.yaml_subset.specs.Block.{is_blank_byte, is_blank, trimmed}
 use Rattle.yaml_subset.specs.Line.{is_tail}
 use Rattle.yaml_subset.specs.Flow.{Flow, flow, flow_fault, flow_part, flow_more, flow_plain}
-use Rattle.yaml_subset.specs.Flow.{flow_row}
-use Rattle.yaml_subset.specs.Flow.{colon_end, end_row, is_flow_indicator, is_left_out}
-use Rattle.yaml_subset.specs.FlowRows.{ends_item, from_end, row_within, inner_row}
+use Rattle.yaml_subset.specs.Flow.{byte_fault}
+use Rattle.yaml_subset.specs.Flow.{colon_end, end_fault, is_flow_indicator, is_left_out}
+use Rattle.yaml_subset.specs.FlowFaults.{ends_item, from_end, fault_within, inner_fault}
 use Rattle.yaml_subset.specs.declared.which.Which.{Which}
 use Rattle.yaml_subset.specs.declared.which.Which.TheVariants.{LeftOut, FlowForm}
 use Rattle.yaml_subset.specs.declared.flow.Part.{Part}
@@ -22,13 +22,13 @@ use Rattle.yaml_subset.proofs.FlowLemmas.{blank_apart, and_left, and_false}
 use Rattle.yaml_subset.proofs.FlowLemmas.{tail_comment, tail_more, tail_stops}
 use Rattle.yaml_subset.proofs.FlowItemLemmas.{ends_colon, last_colon, blank_no_flow}
 
--- a list so far, with the earliest row that it met
+-- a list so far, with the earliest fault that it has
 abbrev pub so_far : Part → List ℕ → List Tree → Option Which → Flow
 so_far p t ys f = record { part = p; text = t; items = ys; fault = f }
 
--- the row that the reading comes to
+-- the fault that the reading comes to
 abbrev pub comes_to : Flow → List ℕ → Option Which
-comes_to s cs = earlier (flow s cs).fault (end_row (flow s cs).part)
+comes_to s cs = earlier (flow s cs).fault (end_fault (flow s cs).part)
 
 -- EARLIER ROWS
 
@@ -36,15 +36,15 @@ pub earlier_none : (a : Option Which) → earlier a None ≡ a
 earlier_none None = refl
 earlier_none (Some a) = refl
 
--- no row that a list meets is later than `FlowForm`, so that one more of these changes nothing
+-- no fault that a list has is later than `FlowForm`, so that one more of these changes nothing
 abbrev pub Soaks : Option Which → Type 0
 Soaks f = earlier f (Some FlowForm) ≡ f
 
 pub soaks_more : (f r : Option Which) → Soaks r → Soaks (earlier f r)
 soaks_more f r e = earlier_assoc f r (Some FlowForm) ∙ ap (earlier f) e
 
-pub soaks_row : (c n : ℕ) → Soaks (Some (flow_row c n))
-soaks_row c n = by (c == 91 || (c == 123 && not (n == 125)) || is_left_out c
+pub soaks_fault : (c n : ℕ) → Soaks (Some (byte_fault c n))
+soaks_fault c n = by (c == 91 || (c == 123 && not (n == 125)) || is_left_out c
     || (c == 63 && is_blank_byte n))
   where
     by : (b : Bool) → Soaks (Some (cond b LeftOut FlowForm))
@@ -52,7 +52,7 @@ soaks_row c n = by (c == 91 || (c == 123 && not (n == 125)) || is_left_out c
     by false = refl
 
 form_first : (c n : ℕ) (b : Bool)
-    → earlier (cond b (Some FlowForm) None) (Some (flow_row c n)) ≡ Some (flow_row c n)
+    → earlier (cond b (Some FlowForm) None) (Some (byte_fault c n)) ≡ Some (byte_fault c n)
 form_first c n b = by b (c == 91 || (c == 123 && not (n == 125)) || is_left_out c
     || (c == 63 && is_blank_byte n))
   where
@@ -92,12 +92,12 @@ pub goes_further : (c : ℕ) (cs : List ℕ) → (is_blank_byte c && slice_index
     → eqb c 44 ≡ false → eqb c 93 ≡ false → ends_item c cs ≡ false
 goes_further c cs m a b = rw (a, b, m) refl
 
--- what is read from here on adds this row
+-- what is read from here on adds this fault
 abbrev pub Follows : Part → List ℕ → Option Which → Type 0
 Follows p cs x = (t : List ℕ) (ys : List Tree) (f : Option Which)
     → comes_to (so_far p t ys f) cs ≡ earlier f x
 
--- an item's end adds this row
+-- an item's end adds this fault
 pub record EndsAt (c : ℕ) (cs : List ℕ) (x : Option Which) : Type 0 where
   pub comma : eqb c 44 ≡ true → Follows Want cs x
   pub bracket : eqb c 93 ≡ true → Follows Closed cs x
@@ -115,35 +115,35 @@ pub further : (c : ℕ) (cs : List ℕ) (x : Option Which) → ends_item c cs �
     → Ends (from_end (c ∷ cs)) x → Ends (from_end cs) x
 further c cs x e h = subst (λ (b : Bool). Ends (cond b (c ∷ cs) (from_end cs)) x) e h
 
--- the rows within an item, from its end and from one more byte
+-- the faults within an item, from its end and from one more byte
 pub at_end : (f x y : Option Which) (c : ℕ) (cs : List ℕ) → ends_item c cs ≡ true → x ≡ y
-    → earlier f (earlier (inner_row (c ∷ cs)) x) ≡ earlier f y
+    → earlier f (earlier (inner_fault (c ∷ cs)) x) ≡ earlier f y
 at_end f x y c cs e same =
     ap (λ (b : Bool). earlier f (earlier
-    (cond b None (earlier (row_within c (slice_index cs 0)) (inner_row cs))) x)) e
+    (cond b None (earlier (fault_within c (slice_index cs 0)) (inner_fault cs))) x)) e
     ∙ ap (earlier f) same
 
 pub at_byte : (f w x : Option Which) (c : ℕ) (cs : List ℕ) → ends_item c cs ≡ false
-    → row_within c (slice_index cs 0) ≡ w
-    → earlier f (earlier (inner_row (c ∷ cs)) x) ≡ earlier (earlier f w) (earlier (inner_row cs) x)
+    → fault_within c (slice_index cs 0) ≡ w
+    → earlier f (earlier (inner_fault (c ∷ cs)) x) ≡ earlier (earlier f w) (earlier (inner_fault cs) x)
 at_byte f w x c cs e same =
     ap (λ (b : Bool). earlier f (earlier
-    (cond b None (earlier (row_within c (slice_index cs 0)) (inner_row cs))) x)) e
-    ∙ ap (λ (r : Option Which). earlier f (earlier (earlier r (inner_row cs)) x)) same
-    ∙ ap (earlier f) (earlier_assoc w (inner_row cs) x)
-    ∙ sym (earlier_assoc f w (earlier (inner_row cs) x))
+    (cond b None (earlier (fault_within c (slice_index cs 0)) (inner_fault cs))) x)) e
+    ∙ ap (λ (r : Option Which). earlier f (earlier (earlier r (inner_fault cs)) x)) same
+    ∙ ap (earlier f) (earlier_assoc w (inner_fault cs) x)
+    ∙ sym (earlier_assoc f w (earlier (inner_fault cs) x))
 
-pub within_indicator : (c n : ℕ) → is_flow_indicator c ≡ true → row_within c n ≡ Some (flow_row c n)
-within_indicator c n i = ap (λ (b : Bool). cond b (Some (flow_row c n))
+pub within_indicator : (c n : ℕ) → is_flow_indicator c ≡ true → fault_within c n ≡ Some (byte_fault c n)
+within_indicator c n i = ap (λ (b : Bool). cond b (Some (byte_fault c n))
     (cond (c == 58 && (is_blank_byte n || is_flow_indicator n)) (Some FlowForm) None)) i
 
-pub within_other : (c n : ℕ) → is_flow_indicator c ≡ false → row_within c n
+pub within_other : (c n : ℕ) → is_flow_indicator c ≡ false → fault_within c n
     ≡ cond (c == 58 && (is_blank_byte n || is_flow_indicator n)) (Some FlowForm) None
-within_other c n i = ap (λ (b : Bool). cond b (Some (flow_row c n))
+within_other c n i = ap (λ (b : Bool). cond b (Some (byte_fault c n))
     (cond (c == 58 && (is_blank_byte n || is_flow_indicator n)) (Some FlowForm) None)) i
 
 within_colon : (c n : ℕ) → is_flow_indicator c ≡ false → (c == 58 && is_blank_byte n) ≡ true
-    → row_within c n ≡ Some FlowForm
+    → fault_within c n ≡ Some FlowForm
 within_colon c n i k = within_other c n i
     ∙ ap (λ (b : Bool). cond b (Some FlowForm) None)
     (by (c == 58) (is_blank_byte n) (is_flow_indicator n) k)
@@ -155,16 +155,16 @@ within_colon c n i k = within_other c n i
 
 -- BEHIND WHAT ENDS THE READING
 
-pub over_row : (t : List ℕ) (ys : List Tree) (f : Option Which) (cs : List ℕ)
+pub over_fault : (t : List ℕ) (ys : List Tree) (f : Option Which) (cs : List ℕ)
     → comes_to (so_far Over t ys f) cs ≡ f
-over_row t ys f [] = earlier_none f
-over_row t ys f (c ∷ cs) = over_row t ys f cs
+over_fault t ys f [] = earlier_none f
+over_fault t ys f (c ∷ cs) = over_fault t ys f cs
 
-pub closed_row : (t : List ℕ) (ys : List Tree) (f : Option Which) (cs : List ℕ)
+pub closed_fault : (t : List ℕ) (ys : List Tree) (f : Option Which) (cs : List ℕ)
     → comes_to (so_far Closed t ys f) cs ≡ earlier f (cond (is_tail cs) None (Some FlowForm))
-closed_row t ys f [] = refl
-closed_row t ys f (c ∷ cs) = by (is_blank_byte c) (eqb (slice_index cs 0) 35) refl refl
-    (closed_row t ys f cs)
+closed_fault t ys f [] = refl
+closed_fault t ys f (c ∷ cs) = by (is_blank_byte c) (eqb (slice_index cs 0) 35) refl refl
+    (closed_fault t ys f cs)
   where
     s : Flow
     s = so_far Closed t ys f
@@ -173,21 +173,21 @@ closed_row t ys f (c ∷ cs) = by (is_blank_byte c) (eqb (slice_index cs 0) 35) 
         → comes_to s cs ≡ earlier f (cond (is_tail cs) None (Some FlowForm))
         → comes_to (cond b (cond n (flow_part s Over) s) (flow_fault s Over FlowForm)) cs
         ≡ earlier f (cond (is_tail (c ∷ cs)) None (Some FlowForm))
-    by true true b n more = over_row t ys f cs ∙ sym (earlier_none f)
+    by true true b n more = over_fault t ys f cs ∙ sym (earlier_none f)
         ∙ ap (λ (x : Bool). earlier f (cond x None (Some FlowForm))) (sym (tail_comment c cs b n))
     by true false b n more = more
         ∙ ap (λ (x : Bool). earlier f (cond x None (Some FlowForm))) (sym (tail_more c cs b n))
-    by false n b m more = over_row t ys (earlier f (Some FlowForm)) cs
+    by false n b m more = over_fault t ys (earlier f (Some FlowForm)) cs
         ∙ ap (λ (x : Bool). earlier f (cond x None (Some FlowForm))) (sym (tail_stops c cs b))
 
 -- PLAIN ITEMS
 
--- the reading of what is left of an item adds its rows
+-- the reading of what is left of an item adds its faults
 abbrev pub Adds : Part → List ℕ → Option Which → Type 0
 Adds p cs x = (t : List ℕ) (ys : List Tree) (f : Option Which) → Soaks f → Ends (from_end cs) x
-    → comes_to (so_far p t ys f) cs ≡ earlier f (earlier (inner_row cs) x)
+    → comes_to (so_far p t ys f) cs ≡ earlier f (earlier (inner_fault cs) x)
 
--- with a row that hides `FlowForm`
+-- with a fault that hides `FlowForm`
 pub plain_soaked : (cs : List ℕ) (x : Option Which) → Adds Plain cs x
 plain_soaked [] x t ys f e h = sym (ap (earlier f) h)
 plain_soaked (c ∷ cs) x t ys f e h = by (is_blank_byte c && slice_index cs 0 == 35) (c == 44)
@@ -215,12 +215,12 @@ plain_soaked (c ∷ cs) x t ys f e h = by (is_blank_byte c && slice_index cs 0 =
         → (c == 93) ≡ b → is_flow_indicator c ≡ i → (c == 58 && is_blank_byte n) ≡ k
         → Adds Plain cs x
         → comes_to (cond m (flow_fault s Over FlowForm) (cond a (flow_plain s Want)
-        (cond b (flow_plain s Closed) (cond i (flow_fault s Plain (flow_row c n))
+        (cond b (flow_plain s Closed) (cond i (flow_fault s Plain (byte_fault c n))
         (cond k (flow_fault s Plain FlowForm) (flow_more s Plain c)))))) cs
-        ≡ earlier f (earlier (inner_row (c ∷ cs)) x)
+        ≡ earlier f (earlier (inner_fault (c ∷ cs)) x)
     by true a b i k m o p q r more =
         let ends = ends_comment c cs m in
-        over_row t ys (earlier f (Some FlowForm)) cs
+        over_fault t ys (earlier f (Some FlowForm)) cs
         ∙ sym (at_end f x (Some FlowForm) c cs ends ((here c cs x ends h).comment m))
     by false true b i k m o p q r more =
         let ends = ends_comma c cs o in
@@ -230,9 +230,9 @@ plain_soaked (c ∷ cs) x t ys f e h = by (is_blank_byte c && slice_index cs 0 =
         ended Closed ((here c cs x ends h).bracket p) ∙ sym (at_end f x x c cs ends refl)
     by false false false true k m o p q r more =
         let on = goes_further c cs m o p in
-        more t ys (earlier f (Some (flow_row c n)))
-        (soaks_more f (Some (flow_row c n)) (soaks_row c n)) (further c cs x on h)
-        ∙ sym (at_byte f (Some (flow_row c n)) x c cs on (within_indicator c n q))
+        more t ys (earlier f (Some (byte_fault c n)))
+        (soaks_more f (Some (byte_fault c n)) (soaks_fault c n)) (further c cs x on h)
+        ∙ sym (at_byte f (Some (byte_fault c n)) x c cs on (within_indicator c n q))
     by false false false false true m o p q r more =
         let on = goes_further c cs m o p in
         more t ys (earlier f (Some FlowForm)) (soaks_more f (Some FlowForm) refl)
@@ -242,14 +242,14 @@ plain_soaked (c ∷ cs) x t ys f e h = by (is_blank_byte c && slice_index cs 0 =
         let on = goes_further c cs m o p in
         let colon : Bool = c == 58 && (is_blank_byte n || is_flow_indicator n) in
         more (t ++ (c ∷ [])) ys f e (further c cs x on h)
-        ∙ ap (λ (g : Option Which). earlier g (earlier (inner_row cs) x)) (sym (soaked f colon e))
+        ∙ ap (λ (g : Option Which). earlier g (earlier (inner_fault cs) x)) (sym (soaked f colon e))
         ∙ sym (at_byte f (cond colon (Some FlowForm) None) x c cs on (within_other c n q))
 
 -- what is no item
-pub broken_row : (cs : List ℕ) (x : Option Which) → Adds Broken cs x
-broken_row [] x t ys f e h = sym (ap (earlier f) h)
-broken_row (c ∷ cs) x t ys f e h = by (is_blank_byte c && slice_index cs 0 == 35) (c == 44)
-    (c == 93) (is_flow_indicator c) refl refl refl refl (broken_row cs x)
+pub broken_fault : (cs : List ℕ) (x : Option Which) → Adds Broken cs x
+broken_fault [] x t ys f e h = sym (ap (earlier f) h)
+broken_fault (c ∷ cs) x t ys f e h = by (is_blank_byte c && slice_index cs 0 == 35) (c == 44)
+    (c == 93) (is_flow_indicator c) refl refl refl refl (broken_fault cs x)
   where
     s : Flow
     s = so_far Broken t ys f
@@ -260,11 +260,11 @@ broken_row (c ∷ cs) x t ys f e h = by (is_blank_byte c && slice_index cs 0 == 
     by : (m a b i : Bool) → (is_blank_byte c && slice_index cs 0 == 35) ≡ m → (c == 44) ≡ a
         → (c == 93) ≡ b → is_flow_indicator c ≡ i → Adds Broken cs x
         → comes_to (cond m (flow_fault s Over FlowForm) (cond a (flow_part s Want)
-        (cond b (flow_part s Closed) (cond i (flow_fault s Broken (flow_row c n)) s)))) cs
-        ≡ earlier f (earlier (inner_row (c ∷ cs)) x)
+        (cond b (flow_part s Closed) (cond i (flow_fault s Broken (byte_fault c n)) s)))) cs
+        ≡ earlier f (earlier (inner_fault (c ∷ cs)) x)
     by true a b i m o p q more =
         let ends = ends_comment c cs m in
-        over_row t ys (earlier f (Some FlowForm)) cs
+        over_fault t ys (earlier f (Some FlowForm)) cs
         ∙ sym (at_end f x (Some FlowForm) c cs ends ((here c cs x ends h).comment m))
     by false true b i m o p q more =
         let ends = ends_comma c cs o in
@@ -274,17 +274,17 @@ broken_row (c ∷ cs) x t ys f e h = by (is_blank_byte c && slice_index cs 0 == 
         (here c cs x ends h).bracket p t ys f ∙ sym (at_end f x x c cs ends refl)
     by false false false true m o p q more =
         let on = goes_further c cs m o p in
-        more t ys (earlier f (Some (flow_row c n)))
-        (soaks_more f (Some (flow_row c n)) (soaks_row c n)) (further c cs x on h)
-        ∙ sym (at_byte f (Some (flow_row c n)) x c cs on (within_indicator c n q))
+        more t ys (earlier f (Some (byte_fault c n)))
+        (soaks_more f (Some (byte_fault c n)) (soaks_fault c n)) (further c cs x on h)
+        ∙ sym (at_byte f (Some (byte_fault c n)) x c cs on (within_indicator c n q))
     by false false false false m o p q more =
         let on = goes_further c cs m o p in
         let colon : Bool = c == 58 && (is_blank_byte n || is_flow_indicator n) in
         more t ys f e (further c cs x on h)
-        ∙ ap (λ (g : Option Which). earlier g (earlier (inner_row cs) x)) (sym (soaked f colon e))
+        ∙ ap (λ (g : Option Which). earlier g (earlier (inner_fault cs) x)) (sym (soaked f colon e))
         ∙ sym (at_byte f (cond colon (Some FlowForm) None) x c cs on (within_other c n q))
 
--- the row of a colon at the end of what was read of an item, before this byte
+-- the fault of a colon at the end of what was read of an item, before this byte
 abbrev pub pending : Bool → ℕ → Option Which
 pending o n = cond (o && is_flow_indicator n) (Some FlowForm) None
 
@@ -347,14 +347,14 @@ abbrev pub AddsPlain : List ℕ → Option Which → Type 0
 AddsPlain cs x = (t : List ℕ) (ys : List Tree) (f : Option Which) (o : Bool)
     → ends_colon (strip t) ≡ o → IsOpen o cs → Ends (from_end cs) x
     → comes_to (so_far Plain t ys f) cs
-    ≡ earlier f (earlier (pending o (slice_index cs 0)) (earlier (inner_row cs) x))
+    ≡ earlier f (earlier (pending o (slice_index cs 0)) (earlier (inner_fault cs) x))
 
-pub plain_row : (cs : List ℕ) (x : Option Which) → AddsPlain cs x
-plain_row [] x t ys f o colon free h = sym (ap (earlier f) (ap (λ (p : Option Which). earlier p x)
+pub plain_fault : (cs : List ℕ) (x : Option Which) → AddsPlain cs x
+plain_fault [] x t ys f o colon free h = sym (ap (earlier f) (ap (λ (p : Option Which). earlier p x)
     (pending_none o 0 refl) ∙ h))
-plain_row (c ∷ cs) x t ys f o colon free h = by (is_blank_byte c && slice_index cs 0 == 35)
+plain_fault (c ∷ cs) x t ys f o colon free h = by (is_blank_byte c && slice_index cs 0 == 35)
     (c == 44) (c == 93) (is_flow_indicator c) (c == 58 && is_blank_byte (slice_index cs 0))
-    refl refl refl refl refl (plain_row cs x)
+    refl refl refl refl refl (plain_fault cs x)
   where
     s : Flow
     s = so_far Plain t ys f
@@ -363,7 +363,7 @@ plain_row (c ∷ cs) x t ys f o colon free h = by (is_blank_byte c && slice_inde
     n = slice_index cs 0
 
     all : Option Which → Option Which
-    all p = earlier f (earlier p (earlier (inner_row (c ∷ cs)) x))
+    all p = earlier f (earlier p (earlier (inner_fault (c ∷ cs)) x))
 
     colon_is : eqb (slice_index (trimmed is_blank_byte t) (length (trimmed is_blank_byte t) - 1)) 58
         ≡ o
@@ -386,7 +386,7 @@ plain_row (c ∷ cs) x t ys f o colon free h = by (is_blank_byte c && slice_inde
         ∙ ap (λ (p : Option Which). earlier f (earlier p x)) (sym (pending_some o c i))
         ∙ sym (earlier_assoc f g x)
         ∙ sym (at_end (earlier f g) x x c cs ends refl)
-        ∙ earlier_assoc f g (earlier (inner_row (c ∷ cs)) x)
+        ∙ earlier_assoc f g (earlier (inner_fault (c ∷ cs)) x)
 
     plain : is_flow_indicator c ≡ false → all None ≡ all (pending o c)
     plain i = ap all (sym (pending_none o c i))
@@ -398,7 +398,7 @@ plain_row (c ∷ cs) x t ys f o colon free h = by (is_blank_byte c && slice_inde
         let closed : o ≡ false = shut o refl in
         more (t ++ (c ∷ [])) ys f false (blank_last t c b ∙ colon ∙ closed) (λ e. absurd (cc e))
         (further c cs x on h)
-        ∙ ap (λ (g : Option Which). earlier g (earlier (inner_row cs) x)) (sym (earlier_none f))
+        ∙ ap (λ (g : Option Which). earlier g (earlier (inner_fault cs) x)) (sym (earlier_none f))
         ∙ sym (at_byte f None x c cs on (within_other c n i ∙ ap (λ (d : Bool).
         cond (d && (is_blank_byte n || is_flow_indicator n)) (Some FlowForm) None)
         (blank_apart c 58 b refl)))
@@ -410,7 +410,7 @@ plain_row (c ∷ cs) x t ys f o colon free h = by (is_blank_byte c && slice_inde
     on_with more on i k false b =
         more (t ++ (c ∷ [])) ys f (eqb c 58) (filled_last t c b) (λ e. next_filled (eqb c 58) n e k)
         (further c cs x on h)
-        ∙ sym (earlier_assoc f (pending (eqb c 58) n) (earlier (inner_row cs) x))
+        ∙ sym (earlier_assoc f (pending (eqb c 58) n) (earlier (inner_fault cs) x))
         ∙ sym (at_byte f (pending (eqb c 58) n) x c cs on
         (within_other c n i ∙ within_pending (eqb c 58) (is_blank_byte n) n k))
         ∙ plain i
@@ -419,12 +419,12 @@ plain_row (c ∷ cs) x t ys f o colon free h = by (is_blank_byte c && slice_inde
         → (c == 93) ≡ b → is_flow_indicator c ≡ i → (c == 58 && is_blank_byte n) ≡ k
         → AddsPlain cs x
         → comes_to (cond m (flow_fault s Over FlowForm) (cond a (flow_plain s Want)
-        (cond b (flow_plain s Closed) (cond i (flow_fault s Plain (flow_row c n))
+        (cond b (flow_plain s Closed) (cond i (flow_fault s Plain (byte_fault c n))
         (cond k (flow_fault s Plain FlowForm) (flow_more s Plain c)))))) cs
         ≡ all (pending o c)
     by true a b i k m z p q r more =
         let ends = ends_comment c cs m in
-        over_row t ys (earlier f (Some FlowForm)) cs
+        over_fault t ys (earlier f (Some FlowForm)) cs
         ∙ sym (at_end f x (Some FlowForm) c cs ends ((here c cs x ends h).comment m))
         ∙ plain (blank_no_flow c (and_left (is_blank_byte c) (slice_index cs 0 == 35) m))
     by false true b i k m z p q r more =
@@ -436,15 +436,15 @@ plain_row (c ∷ cs) x t ys f o colon free h = by (is_blank_byte c && slice_inde
     by false false false true k m z p q r more =
         let on = goes_further c cs m z p in
         let g = pending o c in
-        let row : Option Which = Some (flow_row c n) in
-        plain_soaked cs x t ys (earlier f row) (soaks_more f row (soaks_row c n))
+        let fault : Option Which = Some (byte_fault c n) in
+        plain_soaked cs x t ys (earlier f fault) (soaks_more f fault (soaks_fault c n))
         (further c cs x on h)
-        ∙ ap (λ (w : Option Which). earlier (earlier f w) (earlier (inner_row cs) x))
+        ∙ ap (λ (w : Option Which). earlier (earlier f w) (earlier (inner_fault cs) x))
         (sym (form_first c n (o && is_flow_indicator c)))
-        ∙ ap (λ (w : Option Which). earlier w (earlier (inner_row cs) x))
-        (sym (earlier_assoc f g row))
-        ∙ sym (at_byte (earlier f g) row x c cs on (within_indicator c n q))
-        ∙ earlier_assoc f g (earlier (inner_row (c ∷ cs)) x)
+        ∙ ap (λ (w : Option Which). earlier w (earlier (inner_fault cs) x))
+        (sym (earlier_assoc f g fault))
+        ∙ sym (at_byte (earlier f g) fault x c cs on (within_indicator c n q))
+        ∙ earlier_assoc f g (earlier (inner_fault (c ∷ cs)) x)
     by false false false false true m z p q r more =
         let on = goes_further c cs m z p in
         plain_soaked cs x t ys (earlier f (Some FlowForm)) (soaks_more f (Some FlowForm) refl)

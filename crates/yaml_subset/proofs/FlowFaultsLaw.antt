@@ -1,4 +1,4 @@
--- The row of a one-line list is that of its items and its end: quoted items, and the law.
+-- The fault of a one-line list is that of its items and its end: quoted items, and the law.
 use Rattle.std.proofs.Common.{◌≡◌, ◌≤◌, ◌==◌, ◌||◌, ◌&&◌, ℕ, zero, suc, Bool, true, false, not}
 use Rattle.std.proofs.Common.{List}
 use Rattle.std.proofs.Common.{[], ◌∷◌, ◌++◌, Option, Some, None, cond, option_map, length, drop}
@@ -8,19 +8,19 @@ use Rattle.std.specs.List.{slice_index}
 use Rattle.std.proofs.lemmas.Bool.{eqb-true}
 use Rattle.std.proofs.lemmas.List.{length-drop}
 use Rattle.yaml_subset.specs.Tree.{Tree, scalar}
-use Rattle.yaml_subset.specs.Rows.{earlier}
+use Rattle.yaml_subset.specs.FaultOrder.{earlier}
 use Rattle.yaml_subset.specs.Block.{is_blank_byte}
 use Rattle.yaml_subset.specs.Quoted.{Quoted, quote_end, with_byte, with_escape, escaped, single}
 use Rattle.yaml_subset.specs.Quoted.{double}
-use Rattle.yaml_subset.specs.Line.{escape_row, inline_value, flow_value, is_quote, is_tail}
+use Rattle.yaml_subset.specs.Line.{escape_fault, inline_value, flow_value, is_quote, is_tail}
 use Rattle.yaml_subset.specs.Flow.{Flow, flow, flow_start, flow_fault, flow_part, flow_more}
 use Rattle.yaml_subset.specs.Flow.{flow_item}
-use Rattle.yaml_subset.specs.Flow.{flow_quoted, flow_row, in_escape, end_row, is_flow_indicator}
+use Rattle.yaml_subset.specs.Flow.{flow_quoted, byte_fault, in_escape, end_fault, is_flow_indicator}
 use Rattle.yaml_subset.specs.Flow.{is_flow_start, is_left_out}
-use Rattle.yaml_subset.specs.FlowRows.{ends_item, from_end, row_within, inner_row, behind_blanks}
-use Rattle.yaml_subset.specs.FlowRows.{Item}
-use Rattle.yaml_subset.specs.FlowRows.{row_behind, quoted_item, start_row, item_at, item_of}
-use Rattle.yaml_subset.specs.FlowRows.{row_at_end, HasRow, goes_on, ends}
+use Rattle.yaml_subset.specs.FlowFaults.{ends_item, from_end, fault_within, inner_fault, behind_blanks}
+use Rattle.yaml_subset.specs.FlowFaults.{Item}
+use Rattle.yaml_subset.specs.FlowFaults.{fault_behind, quoted_item, fault_at_start, item_at, item_of}
+use Rattle.yaml_subset.specs.FlowFaults.{fault_at_end, HasListFault, goes_on, ends}
 use Rattle.yaml_subset.specs.declared.which.Which.{Which}
 use Rattle.yaml_subset.specs.declared.which.Which.TheVariants.{LeftOut, Quote, FlowForm}
 use Rattle.yaml_subset.specs.declared.which.Which.TheVariants.{Escape as BadEscape}
@@ -29,13 +29,13 @@ use Rattle.yaml_subset.specs.declared.flow.Part.TheVariants.{Escape, After, Brok
 use Rattle.yaml_subset.proofs.LineLemmas.{earlier_assoc}
 use Rattle.yaml_subset.proofs.FlowLemmas.{blank_apart, and_left, dropped, dropped_two}
 use Rattle.yaml_subset.proofs.FlowItemLemmas.{start_no_flow, start_no_colon}
-use Rattle.yaml_subset.proofs.FlowRowLemmas.{so_far, comes_to, earlier_none, Soaks, soaks_more}
-use Rattle.yaml_subset.proofs.FlowRowLemmas.{soaks_row, soaked, ends_comma, ends_bracket}
-use Rattle.yaml_subset.proofs.FlowRowLemmas.{ends_comment, goes_further, Follows, Ends, here}
-use Rattle.yaml_subset.proofs.FlowRowLemmas.{further, at_end, at_byte, within_indicator}
-use Rattle.yaml_subset.proofs.FlowRowLemmas.{within_other}
-use Rattle.yaml_subset.proofs.FlowRowLemmas.{over_row, closed_row, broken_row, pending}
-use Rattle.yaml_subset.proofs.FlowRowLemmas.{within_pending, next_filled, filled_last, plain_row}
+use Rattle.yaml_subset.proofs.FlowFaultLemmas.{so_far, comes_to, earlier_none, Soaks, soaks_more}
+use Rattle.yaml_subset.proofs.FlowFaultLemmas.{soaks_fault, soaked, ends_comma, ends_bracket}
+use Rattle.yaml_subset.proofs.FlowFaultLemmas.{ends_comment, goes_further, Follows, Ends, here}
+use Rattle.yaml_subset.proofs.FlowFaultLemmas.{further, at_end, at_byte, within_indicator}
+use Rattle.yaml_subset.proofs.FlowFaultLemmas.{within_other}
+use Rattle.yaml_subset.proofs.FlowFaultLemmas.{over_fault, closed_fault, broken_fault, pending}
+use Rattle.yaml_subset.proofs.FlowFaultLemmas.{within_pending, next_filled, filled_last, plain_fault}
 
 gathered : (f w i x : Option Which)
     → earlier (earlier f w) (earlier i x) ≡ earlier f (earlier (earlier w i) x)
@@ -69,18 +69,18 @@ pass c cs e = ap (λ (b : Bool). cond b (behind_blanks cs) (c ∷ cs)) e
 -- BEHIND A QUOTED ITEM
 
 behind_end : (c : ℕ) (cs : List ℕ) → (is_blank_byte c && not (slice_index cs 0 == 35)) ≡ false
-    → ends_item c cs ≡ true → row_behind (behind_blanks (c ∷ cs)) ≡ None
-behind_end c cs e end = ap row_behind (stay c cs e)
-    ∙ ap (λ (b : Bool). cond b None (earlier (Some Quote) (inner_row (c ∷ cs)))) end
+    → ends_item c cs ≡ true → fault_behind (behind_blanks (c ∷ cs)) ≡ None
+behind_end c cs e end = ap fault_behind (stay c cs e)
+    ∙ ap (λ (b : Bool). cond b None (earlier (Some Quote) (inner_fault (c ∷ cs)))) end
 
 abbrev AddsBehind : List ℕ → Option Which → Type 0
 AddsBehind cs x = (t : List ℕ) (ys : List Tree) (f : Option Which) → Ends (from_end cs) x
-    → comes_to (so_far After t ys f) cs ≡ earlier f (earlier (row_behind (behind_blanks cs)) x)
+    → comes_to (so_far After t ys f) cs ≡ earlier f (earlier (fault_behind (behind_blanks cs)) x)
 
-after_row : (cs : List ℕ) (x : Option Which) → AddsBehind cs x
-after_row [] x t ys f h = sym (ap (earlier f) h)
-after_row (c ∷ cs) x t ys f h = by (is_blank_byte c && slice_index cs 0 == 35) (is_blank_byte c)
-    (c == 44) (c == 93) refl refl refl refl (after_row cs x)
+after_fault : (cs : List ℕ) (x : Option Which) → AddsBehind cs x
+after_fault [] x t ys f h = sym (ap (earlier f) h)
+after_fault (c ∷ cs) x t ys f h = by (is_blank_byte c && slice_index cs 0 == 35) (is_blank_byte c)
+    (c == 44) (c == 93) refl refl refl refl (after_fault cs x)
   where
     s : Flow
     s = so_far After t ys f
@@ -95,14 +95,14 @@ after_row (c ∷ cs) x t ys f h = by (is_blank_byte c && slice_index cs 0 == 35)
     all r = earlier f (earlier r x)
 
     met : Bool → Which
-    met i = cond i (flow_row c n) Quote
+    met i = cond i (byte_fault c n) Quote
 
     soaks : (i : Bool) → Soaks (Some (met i))
-    soaks true = soaks_row c n
+    soaks true = soaks_fault c n
     soaks false = refl
 
     alike : (i : Bool) → is_flow_indicator c ≡ i
-        → earlier quote (Some (met i)) ≡ earlier quote (row_within c n)
+        → earlier quote (Some (met i)) ≡ earlier quote (fault_within c n)
     alike true i = ap (earlier quote) (sym (within_indicator c n i))
     alike false i = earlier_assoc f (Some Quote) (Some Quote)
         ∙ sym (soaked quote (c == 58 && (is_blank_byte n || is_flow_indicator n))
@@ -114,17 +114,17 @@ after_row (c ∷ cs) x t ys f h = by (is_blank_byte c && slice_index cs 0 == 35)
         → comes_to (cond m (flow_fault s Over FlowForm) (cond l s (cond a (flow_part s Want)
         (cond b (flow_part s Closed) (flow_fault (flow_fault s Broken Quote) Broken
         (met (is_flow_indicator c))))))) cs
-        ≡ all (row_behind (behind_blanks (c ∷ cs)))
+        ≡ all (fault_behind (behind_blanks (c ∷ cs)))
     by true l a b m p q r more =
         let end = ends_comment c cs m in
-        over_row t ys (earlier f (Some FlowForm)) cs
+        over_fault t ys (earlier f (Some FlowForm)) cs
         ∙ sym (ap (earlier f) ((here c cs x end h).comment m))
         ∙ ap all (sym (behind_end c cs
         (kept_blank (is_blank_byte c) (slice_index cs 0 == 35) m) end))
     by false true a b m p q r more =
         let on = goes_further c cs m (blank_apart c 44 p refl) (blank_apart c 93 p refl) in
         more t ys f (further c cs x on h)
-        ∙ ap (λ (l : List ℕ). all (row_behind l))
+        ∙ ap (λ (l : List ℕ). all (fault_behind l))
         (sym (pass c cs (passed_blank (is_blank_byte c) (slice_index cs 0 == 35) p m)))
     by false false true b m p q r more =
         let end = ends_comma c cs q in
@@ -137,22 +137,22 @@ after_row (c ∷ cs) x t ys f h = by (is_blank_byte c && slice_index cs 0 == 35)
     by false false false false m p q r more =
         let on = goes_further c cs m q r in
         let i = is_flow_indicator c in
-        broken_row cs x t ys (earlier quote (Some (met i)))
+        broken_fault cs x t ys (earlier quote (Some (met i)))
         (soaks_more quote (Some (met i)) (soaks i)) (further c cs x on h)
-        ∙ ap (λ (g : Option Which). earlier g (earlier (inner_row cs) x)) (alike i refl)
-        ∙ sym (at_byte quote (row_within c n) x c cs on refl)
-        ∙ gathered f (Some Quote) (inner_row (c ∷ cs)) x
-        ∙ ap (λ (d : Bool). all (cond d None (earlier (Some Quote) (inner_row (c ∷ cs))))) (sym on)
-        ∙ ap (λ (l : List ℕ). all (row_behind l))
+        ∙ ap (λ (g : Option Which). earlier g (earlier (inner_fault cs) x)) (alike i refl)
+        ∙ sym (at_byte quote (fault_within c n) x c cs on refl)
+        ∙ gathered f (Some Quote) (inner_fault (c ∷ cs)) x
+        ∙ ap (λ (d : Bool). all (cond d None (earlier (Some Quote) (inner_fault (c ∷ cs))))) (sym on)
+        ∙ ap (λ (l : List ℕ). all (fault_behind l))
         (sym (stay c cs (no_blank (is_blank_byte c) _ p)))
 
 -- QUOTED ITEMS
 
 abbrev QuotedAt : Option Which → Option Which → Bool → List ℕ → Type 0
 QuotedAt f r bad behind = (x : Option Which) → Ends (from_end behind) x
-    → r ≡ earlier (earlier f (escape_row bad)) (earlier (row_behind (behind_blanks behind)) x)
+    → r ≡ earlier (earlier f (escape_fault bad)) (earlier (fault_behind (behind_blanks behind)) x)
 
--- the row that the reading of a quoted item's rest comes to
+-- the fault that the reading of a quoted item's rest comes to
 abbrev AddsQuoted : Option Which → List ℕ → Option Which → Option Quoted → Type 0
 AddsQuoted f cs r None = r ≡ earlier f (Some Quote)
 AddsQuoted f cs r (Some q) = QuotedAt f r q.bad (drop q.length cs)
@@ -169,21 +169,21 @@ two_bytes f r c d x cs (Some q) h = subst (QuotedAt f r q.bad) (dropped_two q.le
 
 quote_ends : (p : _) (t : List ℕ) (ys : List Tree) (f : Option Which) (c : ℕ) (cs : List ℕ)
     → AddsQuoted f (c ∷ cs) (comes_to (flow_quoted (so_far p t ys f)) cs) (Some quote_end)
-quote_ends p t ys f c cs x h = after_row cs x [] (ys ++ (scalar t false ∷ [])) f h
-    ∙ ap (λ (g : Option Which). earlier g (earlier (row_behind (behind_blanks cs)) x))
+quote_ends p t ys f c cs x h = after_fault cs x [] (ys ++ (scalar t false ∷ [])) f h
+    ∙ ap (λ (g : Option Which). earlier g (earlier (fault_behind (behind_blanks cs)) x))
     (sym (earlier_none f))
 
-single_row : (cs t : List ℕ) (ys : List Tree) (f : Option Which)
+single_fault : (cs t : List ℕ) (ys : List Tree) (f : Option Which)
     → AddsQuoted f cs (comes_to (so_far Single t ys f) cs) (single cs)
-single_row [] t ys f = refl
-single_row (c ∷ []) t ys f = by (eqb c 39)
+single_fault [] t ys f = refl
+single_fault (c ∷ []) t ys f = by (eqb c 39)
   where
     by : (b : Bool) → AddsQuoted f (c ∷ []) (comes_to (cond b (flow_quoted (so_far Single t ys f))
         (flow_more (so_far Single t ys f) Single c)) []) (cond b (Some quote_end) None)
     by true = quote_ends Single t ys f c []
     by false = refl
-single_row (c ∷ d ∷ cs) t ys f = by (eqb c 39) (eqb d 39) (single_row cs (t ++ (39 ∷ [])) ys f)
-    (single_row (d ∷ cs) (t ++ (c ∷ [])) ys f)
+single_fault (c ∷ d ∷ cs) t ys f = by (eqb c 39) (eqb d 39) (single_fault cs (t ++ (39 ∷ [])) ys f)
+    (single_fault (d ∷ cs) (t ++ (c ∷ [])) ys f)
   where
     s : Flow
     s = so_far Single t ys f
@@ -215,7 +215,7 @@ escape_at t ys f c d cs None more = by (double cs) (more t (earlier f (Some BadE
     r = comes_to (so_far Double t ys (earlier f (Some BadEscape))) cs
 
     again : (bad : Bool)
-        → earlier (earlier f (Some BadEscape)) (escape_row bad) ≡ earlier f (Some BadEscape)
+        → earlier (earlier f (Some BadEscape)) (escape_fault bad) ≡ earlier f (Some BadEscape)
     again true = earlier_assoc f (Some BadEscape) (Some BadEscape)
     again false = earlier_none (earlier f (Some BadEscape))
 
@@ -224,11 +224,11 @@ escape_at t ys f c d cs None more = by (double cs) (more t (earlier f (Some BadE
     by None h = h ∙ earlier_assoc f (Some BadEscape) (Some Quote)
     by (Some q) h = subst (QuotedAt f r true) (dropped_two q.length c d cs) (λ x end. h x end
         ∙ ap (λ (g : Option Which). earlier g
-        (earlier (row_behind (behind_blanks (drop q.length cs))) x)) (again q.bad))
+        (earlier (fault_behind (behind_blanks (drop q.length cs))) x)) (again q.bad))
 
-double_row : (cs : List ℕ) (ys : List Tree) → AddsDouble ys cs
-double_row [] ys t f = refl
-double_row (c ∷ []) ys t f = by (eqb c 34) (eqb c 92)
+double_fault : (cs : List ℕ) (ys : List Tree) → AddsDouble ys cs
+double_fault [] ys t f = refl
+double_fault (c ∷ []) ys t f = by (eqb c 34) (eqb c 92)
   where
     s : Flow
     s = so_far Double t ys f
@@ -238,9 +238,9 @@ double_row (c ∷ []) ys t f = by (eqb c 34) (eqb c 92)
     by true e = quote_ends Double t ys f c []
     by false true = refl
     by false false = refl
-double_row (c ∷ d ∷ cs) ys t f = by (eqb c 34) (eqb c 92)
-    (escape_at t ys f c d cs (escaped d) (double_row cs ys))
-    (double_row (d ∷ cs) ys (t ++ (c ∷ [])) f)
+double_fault (c ∷ d ∷ cs) ys t f = by (eqb c 34) (eqb c 92)
+    (escape_at t ys f c d cs (escaped d) (double_fault cs ys))
+    (double_fault (d ∷ cs) ys (t ++ (c ∷ [])) f)
   where
     s : Flow
     s = so_far Double t ys f
@@ -261,34 +261,34 @@ double_row (c ∷ d ∷ cs) ys t f = by (eqb c 34) (eqb c 92)
 -- AN ITEM
 
 abbrev AddsItem : Option Which → Option Which → Option Which → Item → Type 0
-AddsItem f x r it = Ends it.rest x → r ≡ earlier f (earlier it.row x)
+AddsItem f x r it = Ends it.rest x → r ≡ earlier f (earlier it.fault x)
 
 adds_quoted : (f x r : Option Which) (cs : List ℕ) (o : Option Quoted) → AddsQuoted f cs r o
     → AddsItem f x r (quoted_item cs o)
 adds_quoted f x r cs None h end =
     h ∙ sym (ap (λ (y : Option Which). earlier f (earlier (Some Quote) y)) end)
 adds_quoted f x r cs (Some q) h end = h x end
-    ∙ gathered f (escape_row q.bad) (row_behind (behind_blanks (drop q.length cs))) x
+    ∙ gathered f (escape_fault q.bad) (fault_behind (behind_blanks (drop q.length cs))) x
 
--- the row of an item that isn't quoted
-abbrev row_here : ℕ → List ℕ → Option Which
-row_here c cs = cond (c == 93) None (earlier (start_row c (slice_index cs 0)) (inner_row (c ∷ cs)))
+-- the fault of an item that isn't quoted
+abbrev item_fault : ℕ → List ℕ → Option Which
+item_fault c cs = cond (c == 93) None (earlier (fault_at_start c (slice_index cs 0)) (inner_fault (c ∷ cs)))
 
-row_plain : (c : ℕ) (cs : List ℕ) → eqb c 93 ≡ false → is_flow_start c (slice_index cs 0) ≡ true
-    → row_here c cs ≡ inner_row (c ∷ cs)
-row_plain c cs e s =
+fault_plain : (c : ℕ) (cs : List ℕ) → eqb c 93 ≡ false → is_flow_start c (slice_index cs 0) ≡ true
+    → item_fault c cs ≡ inner_fault (c ∷ cs)
+fault_plain c cs e s =
     ap (λ (b : Bool). cond b None
-    (earlier (start_row c (slice_index cs 0)) (inner_row (c ∷ cs)))) e
-    ∙ ap (λ (b : Bool). earlier (cond b None (Some (flow_row c (slice_index cs 0))))
-    (inner_row (c ∷ cs))) s
+    (earlier (fault_at_start c (slice_index cs 0)) (inner_fault (c ∷ cs)))) e
+    ∙ ap (λ (b : Bool). earlier (cond b None (Some (byte_fault c (slice_index cs 0))))
+    (inner_fault (c ∷ cs))) s
 
-row_broken : (c : ℕ) (cs : List ℕ) → eqb c 93 ≡ false → is_flow_start c (slice_index cs 0) ≡ false
-    → row_here c cs ≡ earlier (Some (flow_row c (slice_index cs 0))) (inner_row (c ∷ cs))
-row_broken c cs e s =
+fault_broken : (c : ℕ) (cs : List ℕ) → eqb c 93 ≡ false → is_flow_start c (slice_index cs 0) ≡ false
+    → item_fault c cs ≡ earlier (Some (byte_fault c (slice_index cs 0))) (inner_fault (c ∷ cs))
+fault_broken c cs e s =
     ap (λ (b : Bool). cond b None
-    (earlier (start_row c (slice_index cs 0)) (inner_row (c ∷ cs)))) e
-    ∙ ap (λ (b : Bool). earlier (cond b None (Some (flow_row c (slice_index cs 0))))
-    (inner_row (c ∷ cs))) s
+    (earlier (fault_at_start c (slice_index cs 0)) (inner_fault (c ∷ cs)))) e
+    ∙ ap (λ (b : Bool). earlier (cond b None (Some (byte_fault c (slice_index cs 0))))
+    (inner_fault (c ∷ cs))) s
 
 blank_start : (c n : ℕ) → is_blank_byte c ≡ true → is_flow_start c n ≡ true
 blank_start c n e = by (eqb c 32) refl
@@ -301,12 +301,12 @@ blank_start c n e = by (eqb c 32) refl
 -- an item that isn't quoted, with no blanks before it
 unquoted : (c : ℕ) (cs : List ℕ) → (is_blank_byte c && not (slice_index cs 0 == 35)) ≡ false
     → is_quote c ≡ false → item_of (c ∷ cs) ≡ record {
-      row = row_here c cs;
+      fault = item_fault c cs;
       rest = from_end (c ∷ cs);
     }
 unquoted c cs e q = ap item_at (stay c cs e) ∙ ap (λ (b : Bool). cond b (quoted_item cs
     (cond (c == 39) (single cs) (double cs)))
-    (record { row = row_here c cs; rest = from_end (c ∷ cs) })) q
+    (record { fault = item_fault c cs; rest = from_end (c ∷ cs) })) q
 
 no_quote : (c : ℕ) → eqb c 39 ≡ false → eqb c 34 ≡ false → is_quote c ≡ false
 no_quote c e f = rw (e, f) refl
@@ -315,11 +315,11 @@ abbrev AddsHere : List ℕ → Option Which → Type 0
 AddsHere cs x = (t : List ℕ) (ys : List Tree) (f : Option Which)
     → AddsItem f x (comes_to (so_far Want t ys f) cs) (item_of cs)
 
-want_row : (cs : List ℕ) (x : Option Which) → AddsHere cs x
-want_row [] x t ys f = λ h. sym (ap (earlier f) h)
-want_row (c ∷ cs) x t ys f = by (is_blank_byte c && slice_index cs 0 == 35) (is_blank_byte c)
+want_fault : (cs : List ℕ) (x : Option Which) → AddsHere cs x
+want_fault [] x t ys f = λ h. sym (ap (earlier f) h)
+want_fault (c ∷ cs) x t ys f = by (is_blank_byte c && slice_index cs 0 == 35) (is_blank_byte c)
     (c == 93) (c == 44) (c == 39) (c == 34) (is_flow_start c (slice_index cs 0))
-    refl refl refl refl refl refl refl (want_row cs x)
+    refl refl refl refl refl refl refl (want_fault cs x)
   where
     s : Flow
     s = so_far Want t ys f
@@ -330,24 +330,24 @@ want_row (c ∷ cs) x t ys f = by (is_blank_byte c && slice_index cs 0 == 35) (i
     whole : Option Which → (is_blank_byte c && not (slice_index cs 0 == 35)) ≡ false
         → is_quote c ≡ false
         → (r : Option Which) → (Ends (from_end (c ∷ cs)) x
-        → r ≡ earlier f (earlier (row_here c cs) x))
+        → r ≡ earlier f (earlier (item_fault c cs) x))
         → AddsItem f x r (item_of (c ∷ cs))
     whole z e q r so = subst (AddsItem f x r) (sym (unquoted c cs e q)) so
 
-    here_is : (r : Option Which) → row_here c cs ≡ r
-        → earlier f (earlier r x) ≡ earlier f (earlier (row_here c cs) x)
+    here_is : (r : Option Which) → item_fault c cs ≡ r
+        → earlier f (earlier r x) ≡ earlier f (earlier (item_fault c cs) x)
     here_is r e = ap (λ (p : Option Which). earlier f (earlier p x)) (sym e)
 
-    row : Option Which
-    row = Some (flow_row c n)
+    fault : Option Which
+    fault = Some (byte_fault c n)
 
-    -- the row of a byte with which no item begins counts once
+    -- the fault of a byte with which no item begins counts once
     once : (i : Bool) → is_flow_indicator c ≡ i
-        → earlier f row ≡ earlier (earlier f row) (row_within c n)
-    once true i = ap (earlier f) (sym twice) ∙ sym (earlier_assoc f row row)
-        ∙ ap (earlier (earlier f row)) (sym (within_indicator c n i))
+        → earlier f fault ≡ earlier (earlier f fault) (fault_within c n)
+    once true i = ap (earlier f) (sym twice) ∙ sym (earlier_assoc f fault fault)
+        ∙ ap (earlier (earlier f fault)) (sym (within_indicator c n i))
       where
-        twice : earlier row row ≡ row
+        twice : earlier fault fault ≡ fault
         twice = by (c == 91 || (c == 123 && not (n == 125)) || is_left_out c
             || (c == 63 && is_blank_byte n))
           where
@@ -356,9 +356,9 @@ want_row (c ∷ cs) x t ys f = by (is_blank_byte c && slice_index cs 0 == 35) (i
                 ≡ Some (cond b LeftOut FlowForm)
             by true = refl
             by false = refl
-    once false i = sym (soaked (earlier f row)
-        (c == 58 && (is_blank_byte n || is_flow_indicator n)) (soaks_more f row (soaks_row c n)))
-        ∙ ap (earlier (earlier f row)) (sym (within_other c n i))
+    once false i = sym (soaked (earlier f fault)
+        (c == 58 && (is_blank_byte n || is_flow_indicator n)) (soaks_more f fault (soaks_fault c n)))
+        ∙ ap (earlier (earlier f fault)) (sym (within_other c n i))
 
     by : (m l b a p d st : Bool) → (is_blank_byte c && slice_index cs 0 == 35) ≡ m
         → is_blank_byte c ≡ l → (c == 93) ≡ b → (c == 44) ≡ a → (c == 39) ≡ p → (c == 34) ≡ d
@@ -366,17 +366,17 @@ want_row (c ∷ cs) x t ys f = by (is_blank_byte c && slice_index cs 0 == 35) (i
         → AddsItem f x (comes_to (cond m (flow_fault s Over FlowForm) (cond l s
         (cond b (flow_part s Closed) (cond a (flow_fault s Want FlowForm)
         (cond p (flow_item s Single []) (cond d (flow_item s Double [])
-        (cond st (flow_item s Plain (c ∷ [])) (flow_fault s Broken (flow_row c n))))))))) cs)
+        (cond st (flow_item s Plain (c ∷ [])) (flow_fault s Broken (byte_fault c n))))))))) cs)
         (item_of (c ∷ cs))
     by true l b a p d st m l' b' a' p' d' st' more =
         let blank = and_left (is_blank_byte c) (slice_index cs 0 == 35) m in
         let end = ends_comment c cs m in
         whole None (kept_blank (is_blank_byte c) (slice_index cs 0 == 35) m)
         (no_quote c (blank_apart c 39 blank refl) (blank_apart c 34 blank refl)) _
-        (λ h. over_row t ys (earlier f (Some FlowForm)) cs
+        (λ h. over_fault t ys (earlier f (Some FlowForm)) cs
         ∙ sym (at_end f x (Some FlowForm) c cs end ((here c cs x end h).comment m))
-        ∙ here_is (inner_row (c ∷ cs))
-        (row_plain c cs (blank_apart c 93 blank refl) (blank_start c n blank)))
+        ∙ here_is (inner_fault (c ∷ cs))
+        (fault_plain c cs (blank_apart c 93 blank refl) (blank_start c n blank)))
     by false true b a p d st m l' b' a' p' d' st' more =
         subst (AddsItem f x (comes_to s cs)) (ap item_at (sym (pass c cs
         (passed_blank (is_blank_byte c) (slice_index cs 0 == 35) l' m)))) (more t ys f)
@@ -385,76 +385,76 @@ want_row (c ∷ cs) x t ys f = by (is_blank_byte c && slice_index cs 0 == 35) (i
         whole None (no_blank (is_blank_byte c) _ l') (ap is_quote (eqb-true c 93 b')) _
         (λ h. (here c cs x end h).bracket b' t ys f
         ∙ here_is None (ap (λ (e : Bool). cond e None
-        (earlier (start_row c n) (inner_row (c ∷ cs)))) b'))
+        (earlier (fault_at_start c n) (inner_fault (c ∷ cs)))) b'))
     by false false false true p d st m l' b' a' p' d' st' more =
         let end = ends_comma c cs a' in
         let comma = eqb-true c 44 a' in
-        let form : row ≡ Some FlowForm = ap (λ (k : ℕ). Some (flow_row k n)) comma in
+        let form : fault ≡ Some FlowForm = ap (λ (k : ℕ). Some (byte_fault k n)) comma in
         whole None (no_blank (is_blank_byte c) _ l') (ap is_quote comma) _
         (λ h. (here c cs x end h).comma a' t ys (earlier f (Some FlowForm))
         ∙ ap (λ (r : Option Which). earlier (earlier f r) x) (sym form)
-        ∙ sym (at_end (earlier f row) x x c cs end refl)
-        ∙ gathered f row (inner_row (c ∷ cs)) x
-        ∙ here_is (earlier row (inner_row (c ∷ cs)))
-        (row_broken c cs b' (ap (λ (k : ℕ). is_flow_start k n) comma)))
+        ∙ sym (at_end (earlier f fault) x x c cs end refl)
+        ∙ gathered f fault (inner_fault (c ∷ cs)) x
+        ∙ here_is (earlier fault (inner_fault (c ∷ cs)))
+        (fault_broken c cs b' (ap (λ (k : ℕ). is_flow_start k n) comma)))
     by false false false false true d st m l' b' a' p' d' st' more =
         let quote = eqb-true c 39 p' in
         let r = comes_to (so_far Single [] ys f) cs in
         let item : item_of (c ∷ cs) ≡ quoted_item cs (single cs) =
         ap item_at (stay c cs (no_blank (is_blank_byte c) _ l'))
         ∙ ap (λ (k : ℕ). item_at (k ∷ cs)) quote in
-        subst (AddsItem f x r) (sym item) (adds_quoted f x r cs (single cs) (single_row cs [] ys f))
+        subst (AddsItem f x r) (sym item) (adds_quoted f x r cs (single cs) (single_fault cs [] ys f))
     by false false false false false true st m l' b' a' p' d' st' more =
         let quote = eqb-true c 34 d' in
         let r = comes_to (so_far Double [] ys f) cs in
         let item : item_of (c ∷ cs) ≡ quoted_item cs (double cs) =
         ap item_at (stay c cs (no_blank (is_blank_byte c) _ l'))
         ∙ ap (λ (k : ℕ). item_at (k ∷ cs)) quote in
-        subst (AddsItem f x r) (sym item) (adds_quoted f x r cs (double cs) (double_row cs ys [] f))
+        subst (AddsItem f x r) (sym item) (adds_quoted f x r cs (double cs) (double_fault cs ys [] f))
     by false false false false false false true m l' b' a' p' d' st' more =
         let on = goes_further c cs m a' b' in
         let colon = start_no_colon c n st' in
         let g = pending (eqb c 58) n in
         whole None (no_blank (is_blank_byte c) _ l') (no_quote c p' d') _
-        (λ h. plain_row cs x (c ∷ []) ys f (eqb c 58) (filled_last [] c l')
+        (λ h. plain_fault cs x (c ∷ []) ys f (eqb c 58) (filled_last [] c l')
         (λ e. next_filled (eqb c 58) n e colon) (further c cs x on h)
-        ∙ sym (earlier_assoc f g (earlier (inner_row cs) x))
+        ∙ sym (earlier_assoc f g (earlier (inner_fault cs) x))
         ∙ sym (at_byte f g x c cs on (within_other c n (start_no_flow c n st')
         ∙ within_pending (eqb c 58) (is_blank_byte n) n colon))
-        ∙ here_is (inner_row (c ∷ cs)) (row_plain c cs b' st'))
+        ∙ here_is (inner_fault (c ∷ cs)) (fault_plain c cs b' st'))
     by false false false false false false false m l' b' a' p' d' st' more =
         let on = goes_further c cs m a' b' in
         whole None (no_blank (is_blank_byte c) _ l') (no_quote c p' d') _
-        (λ h. broken_row cs x t ys (earlier f row) (soaks_more f row (soaks_row c n))
+        (λ h. broken_fault cs x t ys (earlier f fault) (soaks_more f fault (soaks_fault c n))
         (further c cs x on h)
-        ∙ ap (λ (r : Option Which). earlier r (earlier (inner_row cs) x))
+        ∙ ap (λ (r : Option Which). earlier r (earlier (inner_fault cs) x))
         (once (is_flow_indicator c) refl)
-        ∙ sym (at_byte (earlier f row) (row_within c n) x c cs on refl)
-        ∙ gathered f row (inner_row (c ∷ cs)) x
-        ∙ here_is (earlier row (inner_row (c ∷ cs))) (row_broken c cs b' st'))
+        ∙ sym (at_byte (earlier f fault) (fault_within c n) x c cs on refl)
+        ∙ gathered f fault (inner_fault (c ∷ cs)) x
+        ∙ here_is (earlier fault (inner_fault (c ∷ cs))) (fault_broken c cs b' st'))
 
 -- THE LAW
 
 -- the end of a list
-last_row : (rest : List ℕ) → eqb (slice_index rest 0) 44 ≡ false → Ends rest (row_at_end rest)
-last_row [] e = refl
-last_row (c ∷ cs) e = record {
+last_fault : (rest : List ℕ) → eqb (slice_index rest 0) 44 ≡ false → Ends rest (fault_at_end rest)
+last_fault [] e = refl
+last_fault (c ∷ cs) e = record {
   comma = λ p. absurd (cc (sym p ∙ e));
-  bracket = λ p t ys f. closed_row t ys f cs ∙ ap (λ (b : Bool). earlier f
+  bracket = λ p t ys f. closed_fault t ys f cs ∙ ap (λ (b : Bool). earlier f
       (cond (b && is_tail cs) None (Some FlowForm))) (sym p);
   comment = λ m. ap (λ (b : Bool). cond (b && is_tail cs) None (Some FlowForm))
       (blank_apart c 93 (and_left (is_blank_byte c) (slice_index cs 0 == 35) m) refl);
 }
 
-row_read : (line : List ℕ) (row : Option Which) → HasRow line row → Follows Want line row
-row_read _ _ (goes_on line rest row e h) t ys f =
-    want_row line row t ys f (subst (λ (l : List ℕ). Ends l row) (sym e) (record {
-      comma = λ p. row_read rest row h;
+fault_read : (line : List ℕ) (fault : Option Which) → HasListFault line fault → Follows Want line fault
+fault_read _ _ (goes_on line rest fault e h) t ys f =
+    want_fault line fault t ys f (subst (λ (l : List ℕ). Ends l fault) (sym e) (record {
+      comma = λ p. fault_read rest fault h;
       bracket = λ p. absurd (cc p);
       comment = λ p. absurd (cc p);
     }))
-row_read _ _ (ends line e) t ys f =
-    want_row line (row_at_end (item_of line).rest) t ys f (last_row (item_of line).rest e)
+fault_read _ _ (ends line e) t ys f =
+    want_fault line (fault_at_end (item_of line).rest) t ys f (last_fault (item_of line).rest e)
 
 from_end_few : (l : List ℕ) → length (from_end l) ≤ length l
 from_end_few [] = omega arith
@@ -487,7 +487,7 @@ item_few (c ∷ cs) = by (is_quote c)
     o = cond (c == 39) (single cs) (double cs)
 
     by : (b : Bool) → length (cond b (quoted_item cs o)
-        (record { row = row_here c cs; rest = from_end (c ∷ cs) })).rest ≤ suc (length cs)
+        (record { fault = item_fault c cs; rest = from_end (c ∷ cs) })).rest ≤ suc (length cs)
     by true = omega (arith, quoted_few cs o)
     by false = from_end_few (c ∷ cs)
 
@@ -495,19 +495,19 @@ behind_comma : (l : List ℕ) → eqb (slice_index l 0) 44 ≡ true → (more : 
 behind_comma [] e = absurd (cc e)
 behind_comma (c ∷ cs) e = (cs, ap (λ (x : ℕ). x ∷ cs) (eqb-true c 44 e))
 
-pub has_row : (n : ℕ) (line : List ℕ) → length line ≤ n → (row : Option Which) × HasRow line row
-has_row zero line few = by (eqb (slice_index (item_of line).rest 0) 44) refl
+pub has_fault : (n : ℕ) (line : List ℕ) → length line ≤ n → (fault : Option Which) × HasListFault line fault
+has_fault zero line few = by (eqb (slice_index (item_of line).rest 0) 44) refl
   where
     by : (b : Bool) → eqb (slice_index (item_of line).rest 0) 44 ≡ b
-        → (row : Option Which) × HasRow line row
+        → (fault : Option Which) × HasListFault line fault
     by false e = (_, ends line e)
     by true e = let r = behind_comma (item_of line).rest e in
         absurd (omega (arith, few, blanks_few line, item_few (behind_blanks line), ap length r.1))
-has_row (suc n) line few = by (eqb (slice_index (item_of line).rest 0) 44) refl (has_row n)
+has_fault (suc n) line few = by (eqb (slice_index (item_of line).rest 0) 44) refl (has_fault n)
   where
     by : (b : Bool) → eqb (slice_index (item_of line).rest 0) 44 ≡ b
-        → ((l : List ℕ) → length l ≤ n → (row : Option Which) × HasRow l row)
-        → (row : Option Which) × HasRow line row
+        → ((l : List ℕ) → length l ≤ n → (fault : Option Which) × HasListFault l fault)
+        → (fault : Option Which) × HasListFault line fault
     by false e more = (_, ends line e)
     by true e more = let r = behind_comma (item_of line).rest e in
         let h = more r.0 (omega (
@@ -519,18 +519,18 @@ has_row (suc n) line few = by (eqb (slice_index (item_of line).rest 0) 44) refl 
         )) in
         (_, goes_on line r.0 h.0 r.1 h.1)
 
-fault_is : (n : ℕ) (s : Flow) → (flow_value n s).fault ≡ earlier s.fault (end_row s.part)
-fault_is n s = by (earlier s.fault (end_row s.part)) refl
+fault_is : (n : ℕ) (s : Flow) → (flow_value n s).fault ≡ earlier s.fault (end_fault s.part)
+fault_is n s = by (earlier s.fault (end_fault s.part)) refl
   where
-    by : (o : Option Which) → earlier s.fault (end_row s.part) ≡ o → (flow_value n s).fault ≡ o
+    by : (o : Option Which) → earlier s.fault (end_fault s.part) ≡ o → (flow_value n s).fault ≡ o
     by None e = rw e refl
     by (Some w) e = rw e refl
 
-pub row_met : (column : ℕ) (line : List ℕ) → HasRow line (inline_value column (91 ∷ line)).fault
-row_met column line =
-    let r = has_row (length line) line (omega arith) in
-    subst (HasRow line) (sym (fault_is column (flow flow_start line)
-    ∙ row_read line r.0 r.1 [] [] None)) r.1
+pub fault_met : (column : ℕ) (line : List ℕ) → HasListFault line (inline_value column (91 ∷ line)).fault
+fault_met column line =
+    let r = has_fault (length line) line (omega arith) in
+    subst (HasListFault line) (sym (fault_is column (flow flow_start line)
+    ∙ fault_read line r.0 r.1 [] [] None)) r.1
 
-pub one_row : (line : List ℕ) (a b : Option Which) → HasRow line a → HasRow line b → a ≡ b
-one_row line a b h k = sym (row_read line a h [] [] None) ∙ row_read line b k [] [] None
+pub one_list_fault : (line : List ℕ) (a b : Option Which) → HasListFault line a → HasListFault line b → a ≡ b
+one_list_fault line a b h k = sym (fault_read line a h [] [] None) ∙ fault_read line b k [] [] None
