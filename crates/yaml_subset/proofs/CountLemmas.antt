@@ -15,7 +15,7 @@ use Rattle.yaml_subset.specs.Block.{is_blank_byte, is_blank, indentation}
 use Rattle.yaml_subset.specs.Quoted.{Quoted, quoted}
 use Rattle.yaml_subset.specs.Flow.{Flow, flow, flow_start, end_fault}
 use Rattle.yaml_subset.specs.FaultOrder.{earlier}
-use Rattle.yaml_subset.specs.Line.{Line, faulty, one_mark, spoiled, is_tail, plain_len}
+use Rattle.yaml_subset.specs.Line.{Line, faulty, one_mark, spoiled_value, is_tail, plain_len}
 use Rattle.yaml_subset.specs.Line.{is_plain_start, is_quote, quoted_value, flow_value}
 use Rattle.yaml_subset.specs.Line.{is_digit, header_value, inline_value}
 use Rattle.yaml_subset.specs.Line.{Key}
@@ -25,7 +25,7 @@ use Rattle.yaml_subset.specs.Line.{is_marker, marker_line, line_of, has_control}
 use Rattle.yaml_subset.specs.Profile.{Pieces, last_piece, piece, with_first, pieces}
 use Rattle.yaml_subset.specs.Profile.{or_no_text, with_child, is_repeated, children, behind, node}
 use Rattle.yaml_subset.specs.Profile.{max_depth, documents}
-use Rattle.yaml_subset.specs.Text.{takes, line_at, Marked, next_line, no_line, marked, nodes_of}
+use Rattle.yaml_subset.specs.Text.{takes, line_at, MarkedLines, next_line, no_line, marked_lines, nodes_of}
 use Rattle.yaml_subset.specs.Text.{without_mark, StandsFor}
 use Rattle.yaml_subset.specs.Fault.{IsFault}
 use Rattle.yaml_subset.specs.declared.scalar.Scalar.{Scalar}
@@ -110,8 +110,8 @@ header_none : (n : ℕ) (b : Bool) (cs : List ℕ) → starts (header_value n b 
 header_none n b cs =
     let s : Style = record { folded = b; chomping = chomping_of (slice_index cs 0) } in
     let rest = drop (cond (is_sign (slice_index cs 0)) 1 0) cs in
-    either 0 (is_digit (slice_index rest 0)) (spoiled n LeftOut) _ (omega arith)
-    (either 0 (is_tail rest) (one_mark (header n s) None) (spoiled n Colon) (omega arith)
+    either 0 (is_digit (slice_index rest 0)) (spoiled_value n LeftOut) _ (omega arith)
+    (either 0 (is_tail rest) (one_mark (header n s) None) (spoiled_value n Colon) (omega arith)
     (omega arith))
 
 inline_none : (n : ℕ) (cs : List ℕ) → starts (inline_value n cs).marks ≤ 0
@@ -156,18 +156,18 @@ one_start line = let n = indentation line in
 one_at : (o : Option Scalar) (line : List ℕ) → starts (line_at o line).marks ≤ 1
 one_at o line = either 1 (takes o line) _ _ (omega arith) (one_start line)
 
-abbrev Begins : ℕ → Option Marked → Type 0
+abbrev Begins : ℕ → Option MarkedLines → Type 0
 Begins n None = ⊤
 Begins n (Some s) = starts s.marks ≤ n
 
-next_begins : (n : ℕ) (o : Option Marked) (line : List ℕ) → Begins n o
+next_begins : (n : ℕ) (o : Option MarkedLines) (line : List ℕ) → Begins n o
     → Begins (suc n) (option_and_then (λ s. next_line s line) o)
 next_begins n None line h = tt
 next_begins n (Some s) line h = pick (Begins (suc n)) (is_none (line_at s.scalar line).fault) _ None
     (λ _. omega (arith, h, one_at s.scalar line, starts_both s.marks (line_at s.scalar line).marks))
     (λ _. tt)
 
-marks_begin : (n : ℕ) (o : Option Marked) (ls : List (List ℕ)) → Begins n o
+marks_begin : (n : ℕ) (o : Option MarkedLines) (ls : List (List ℕ)) → Begins n o
     → Begins (n + length ls) (fold (λ o line. option_and_then (λ s. next_line s line) o) o ls)
 marks_begin n o [] h = subst (λ (m : ℕ). Begins m o) (omega arith) h
 marks_begin n o (l ∷ ls) h = subst (λ (m : ℕ). Begins m (fold (λ o line. option_and_then
@@ -275,9 +275,9 @@ documents_few ms = few_map (λ (c : Child). c.tree) (suc (starts ms))
     (children_few (behind (node max_depth)) [] (pieces start ms)))
 
 nodes_few : (ls : List (List ℕ)) → Few (suc (length ls)) (nodes_of ls)
-nodes_few ls = by (marked ls) (marks_begin 0 (Some no_line) ls (omega arith))
+nodes_few ls = by (marked_lines ls) (marks_begin 0 (Some no_line) ls (omega arith))
   where
-    by : (o : Option Marked) → Begins (0 + length ls) o
+    by : (o : Option MarkedLines) → Begins (0 + length ls) o
         → Few (suc (length ls)) (option_and_then (λ s. documents s.marks) o)
     by None h = tt
     by (Some s) h = few_more (suc (starts s.marks)) (suc (length ls)) (documents s.marks)

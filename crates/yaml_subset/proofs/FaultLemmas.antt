@@ -10,9 +10,9 @@ use Rattle.slo_limits.specs.declared.TheConstants.{MAX_TEXT_BYTES}
 use Rattle.yaml_subset.specs.Tree.{Tree}
 use Rattle.yaml_subset.specs.Mark.{start}
 use Rattle.yaml_subset.specs.FaultOrder.{earlier, place}
-use Rattle.yaml_subset.specs.Text.{Marked, StandsFor, line_at, parent_after, scalar_after, marked}
+use Rattle.yaml_subset.specs.Text.{MarkedLines, StandsFor, line_at, parent_after, scalar_after, marked_lines}
 use Rattle.yaml_subset.specs.Text.{nodes_of, without_mark}
-use Rattle.yaml_subset.specs.OpenNodes.{Open, nothing, within, add_all, open_nodes, finished}
+use Rattle.yaml_subset.specs.OpenNodes.{Open, nothing, within, open_after_all, open_nodes, documents_so_far}
 use Rattle.yaml_subset.specs.Fault.{IsFault, misfit, fault_of}
 use Rattle.yaml_subset.specs.Reader.{Reading, IsRead, Follows}
 use Rattle.yaml_subset.specs.declared.which.Which.{Which}
@@ -58,11 +58,11 @@ not_before ls j k v w f g rest e =
 same_fault : (ls : List (List ℕ)) (j k : ℕ) (v w : Which) (f : IsFault ls j v) (g : IsFault ls k w) →
     f.before ≡ g.before → f.line ≡ g.line → (j ≡ k) × (v ≡ w)
 same_fault ls j k v w f g before line =
-    let marks : f.marks ≡ g.marks = cc (f.are_marks, g.are_marks, ap marked before) in
+    let marks : f.marks ≡ g.marks = cc (f.are_marks, g.are_marks, ap marked_lines before) in
     let opens : f.nodes_open ≡ g.nodes_open =
-    cc (f.are_open, g.are_open, ap (λ (s : Marked). open_nodes s.marks) marks) in
+    cc (f.are_open, g.are_open, ap (λ (s : MarkedLines). open_nodes s.marks) marks) in
     let fault : Some v ≡ Some w = sym f.meets
-    ∙ ap (λ (s : Marked). fault_of s.scalar f.nodes_open f.line) marks
+    ∙ ap (λ (s : MarkedLines). fault_of s.scalar f.nodes_open f.line) marks
     ∙ ap (λ (o : Open). fault_of g.marks.scalar o f.line) opens
     ∙ ap (fault_of g.marks.scalar g.nodes_open) line
     ∙ g.meets in
@@ -119,7 +119,7 @@ follows : (r : Reading) (line : List ℕ) → fault_of r.scalar r.nodes line ≡
 follows r line e =
     let none = none_earlier (line_at r.scalar line).fault
     (misfit (line_at r.scalar line).marks r.nodes) e in
-    let added = some_of (add_all (line_at r.scalar line).marks r.nodes)
+    let added = some_of (open_after_all (line_at r.scalar line).marks r.nodes)
     (sym (misfit_of_add (line_at r.scalar line).marks r.nodes)
     ∙ ap (λ (o : Option Which). is_none o) none.1) in (
       record {
@@ -132,7 +132,7 @@ follows r line e =
 
 behind_read : (ls rest : List (List ℕ)) (r : Reading) → IsRead ls r → Outcome (ls ++ rest)
 behind_read ls [] r h =
-    subst Outcome (sym (append-nil ls)) (inl (finished r.nodes, read_nodes ls r h))
+    subst Outcome (sym (append-nil ls)) (inl (documents_so_far r.nodes, read_nodes ls r h))
 behind_read ls (l ∷ rest) r h = by (fault_of r.scalar r.nodes l) refl
     (λ next f. behind_read (ls ++ l ∷ []) rest next (read_more ls l r h next f))
   where

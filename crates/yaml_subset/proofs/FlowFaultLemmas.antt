@@ -6,7 +6,7 @@ use Rattle.std.specs.List.{slice_index}
 use Rattle.std.proofs.lemmas.Bool.{eqb-true}
 use Rattle.yaml_subset.specs.Tree.{Tree, scalar}
 use Rattle.yaml_subset.specs.FaultOrder.{earlier}
-use Rattle.yaml_subset.specs.Block.{is_blank_byte, is_blank, trimmed}
+use Rattle.yaml_subset.specs.Block.{is_blank_byte, is_blank, trimmed_text}
 use Rattle.yaml_subset.specs.Line.{is_tail}
 use Rattle.yaml_subset.specs.Flow.{Flow, flow, flow_fault, flow_part, flow_more, flow_plain}
 use Rattle.yaml_subset.specs.Flow.{byte_fault}
@@ -205,11 +205,11 @@ plain_soaked (c ∷ cs) x t ys f e h = by (is_blank_byte c && slice_index cs 0 =
     kept false = refl
 
     ended : (p : Part) → Follows p cs x → comes_to (flow_plain s p) cs ≡ earlier f x
-    ended p so = so [] (ys ++ (scalar (trimmed is_blank_byte t) true ∷ []))
-        (colon_end f (trimmed is_blank_byte t))
+    ended p so = so [] (ys ++ (scalar (trimmed_text is_blank_byte t) true ∷ []))
+        (colon_end f (trimmed_text is_blank_byte t))
         ∙ ap (λ (g : Option Which). earlier g x)
-        (kept (eqb (slice_index (trimmed is_blank_byte t)
-        (length (trimmed is_blank_byte t) - 1)) 58))
+        (kept (eqb (slice_index (trimmed_text is_blank_byte t)
+        (length (trimmed_text is_blank_byte t) - 1)) 58))
 
     by : (m a b i k : Bool) → (is_blank_byte c && slice_index cs 0 == 35) ≡ m → (c == 44) ≡ a
         → (c == 93) ≡ b → is_flow_indicator c ≡ i → (c == 58 && is_blank_byte n) ≡ k
@@ -365,7 +365,7 @@ plain_fault (c ∷ cs) x t ys f o colon free h = by (is_blank_byte c && slice_in
     all : Option Which → Option Which
     all p = earlier f (earlier p (earlier (inner_fault (c ∷ cs)) x))
 
-    colon_is : eqb (slice_index (trimmed is_blank_byte t) (length (trimmed is_blank_byte t) - 1)) 58
+    colon_is : eqb (slice_index (trimmed_text is_blank_byte t) (length (trimmed_text is_blank_byte t) - 1)) 58
         ≡ o
     colon_is = ap (λ (u : List ℕ). eqb (slice_index u (length u - 1)) 58) (trimmed-strip t)
         ∙ last_colon (strip t) ∙ colon
@@ -379,8 +379,8 @@ plain_fault (c ∷ cs) x t ys f o colon free h = by (is_blank_byte c && slice_in
         → comes_to (flow_plain s p) cs ≡ all (pending o c)
     ended p so i ends =
         let g = pending o c in
-        so [] (ys ++ (scalar (trimmed is_blank_byte t) true ∷ []))
-        (colon_end f (trimmed is_blank_byte t))
+        so [] (ys ++ (scalar (trimmed_text is_blank_byte t) true ∷ []))
+        (colon_end f (trimmed_text is_blank_byte t))
         ∙ ap (λ (b : Bool). earlier (cond b (earlier f (Some FlowForm)) f) x) colon_is
         ∙ one o
         ∙ ap (λ (p : Option Which). earlier f (earlier p x)) (sym (pending_some o c i))

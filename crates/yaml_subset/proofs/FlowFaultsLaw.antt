@@ -10,7 +10,7 @@ use Rattle.std.proofs.lemmas.List.{length-drop}
 use Rattle.yaml_subset.specs.Tree.{Tree, scalar}
 use Rattle.yaml_subset.specs.FaultOrder.{earlier}
 use Rattle.yaml_subset.specs.Block.{is_blank_byte}
-use Rattle.yaml_subset.specs.Quoted.{Quoted, quote_end, with_byte, with_escape, escaped, single}
+use Rattle.yaml_subset.specs.Quoted.{Quoted, quote_end, with_byte, with_escape, escaped_byte, single}
 use Rattle.yaml_subset.specs.Quoted.{double}
 use Rattle.yaml_subset.specs.Line.{escape_fault, inline_value, flow_value, is_quote, is_tail}
 use Rattle.yaml_subset.specs.Flow.{Flow, flow, flow_start, flow_fault, flow_part, flow_more}
@@ -239,7 +239,7 @@ double_fault (c ∷ []) ys t f = by (eqb c 34) (eqb c 92)
     by false true = refl
     by false false = refl
 double_fault (c ∷ d ∷ cs) ys t f = by (eqb c 34) (eqb c 92)
-    (escape_at t ys f c d cs (escaped d) (double_fault cs ys))
+    (escape_at t ys f c d cs (escaped_byte d) (double_fault cs ys))
     (double_fault (d ∷ cs) ys (t ++ (c ∷ [])) f)
   where
     s : Flow
@@ -247,12 +247,12 @@ double_fault (c ∷ d ∷ cs) ys t f = by (eqb c 34) (eqb c 92)
 
     by : (b e : Bool)
         → AddsQuoted f (c ∷ d ∷ cs) (comes_to (so_far Escape t ys f) (d ∷ cs))
-        (option_map (with_escape (escaped d)) (double cs))
+        (option_map (with_escape (escaped_byte d)) (double cs))
         → AddsQuoted f (d ∷ cs) (comes_to (so_far Double (t ++ (c ∷ [])) ys f) (d ∷ cs))
         (double (d ∷ cs))
         → AddsQuoted f (c ∷ d ∷ cs) (comes_to (cond b (flow_quoted s)
         (cond e (flow_part s Escape) (flow_more s Double c))) (d ∷ cs))
-        (cond b (Some quote_end) (cond e (option_map (with_escape (escaped d)) (double cs))
+        (cond b (Some quote_end) (cond e (option_map (with_escape (escaped_byte d)) (double cs))
         (option_map (with_byte c 1) (double (d ∷ cs)))))
     by true e two one = quote_ends Double t ys f c (d ∷ cs)
     by false true two one = two

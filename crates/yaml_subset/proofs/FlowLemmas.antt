@@ -9,8 +9,8 @@ use Rattle.std.proofs.lemmas.Bool.{eqb-true}
 use Rattle.std.proofs.lemmas.Bool.Decides.{nat_tests}
 use Rattle.yaml_subset.specs.Tree.{Tree, scalar}
 use Rattle.yaml_subset.specs.FaultOrder.{earlier, place}
-use Rattle.yaml_subset.specs.Block.{is_blank_byte, is_blank, trimmed}
-use Rattle.yaml_subset.specs.Quoted.{Quoted, quote_end, with_byte, with_escape, escaped, single}
+use Rattle.yaml_subset.specs.Block.{is_blank_byte, is_blank, trimmed_text}
+use Rattle.yaml_subset.specs.Quoted.{Quoted, quote_end, with_byte, with_escape, escaped_byte, single}
 use Rattle.yaml_subset.specs.Quoted.{double}
 use Rattle.yaml_subset.specs.Line.{is_tail}
 use Rattle.yaml_subset.specs.Flow.{Flow, flow, flow_step, flow_at, flow_fault, flow_part, flow_more}
@@ -98,7 +98,7 @@ stays_want s c n f = either (is_blank_byte c) _ _ (faulty _ f)
     (either (is_flow_start c n) _ _ (faulty _ f) (faulty _ (later_fault s.fault (byte_fault c n))))))))
 
 stays_plain : (s : Flow) (c n : ℕ) → is_some s.fault ≡ true → Faulty (in_plain s c n)
-stays_plain s c n f = let colon = colon_stays s.fault (trimmed is_blank_byte s.text) f in
+stays_plain s c n f = let colon = colon_stays s.fault (trimmed_text is_blank_byte s.text) f in
     either (c == 44) _ _ (faulty _ colon)
     (either (c == 93) _ _ (faulty _ colon)
     (either (is_flow_indicator c) _ _ (faulty _ (later_fault s.fault (byte_fault c n)))
@@ -116,7 +116,7 @@ stays_at Single s c n f =
 stays_at Doubled s c n f = faulty _ f
 stays_at Double s c n f =
     either (c == 34) _ _ (faulty _ f) (either (c == 92) _ _ (faulty _ f) (faulty _ f))
-stays_at Escape s c n f = stays_escape s (escaped c) f
+stays_at Escape s c n f = stays_escape s (escaped_byte c) f
 stays_at After s c n f =
     either (is_blank_byte c) _ _ (faulty _ f) (either (c == 44) _ _ (faulty _ f)
     (either (c == 93) _ _ (faulty _ f) (faulty _ (later_fault (earlier s.fault (Some Quote)) _))))
@@ -415,17 +415,17 @@ double_is t ys (c ∷ []) = by (eqb c 34) (eqb c 92)
     by true e = ended_as t ys c []
     by false true = λ zs g. cc g.fine
     by false false = λ zs g. cc g.fine
-double_is t ys (c ∷ d ∷ cs) = by (eqb c 34) (eqb c 92) (escape_is t ys c d cs (escaped d)
+double_is t ys (c ∷ d ∷ cs) = by (eqb c 34) (eqb c 92) (escape_is t ys c d cs (escaped_byte d)
     (λ x. double_is (t ++ (x ∷ [])) ys cs)) (double_is (t ++ (c ∷ [])) ys (d ∷ cs))
   where
     by : (b e : Bool) → Reads t ys (flow (at Escape t ys) (d ∷ cs)) (c ∷ d ∷ cs)
-        (option_map (with_escape (escaped d)) (double cs))
+        (option_map (with_escape (escaped_byte d)) (double cs))
         → Reads (t ++ (c ∷ [])) ys (flow (at Double (t ++ (c ∷ [])) ys) (d ∷ cs)) (d ∷ cs)
         (double (d ∷ cs))
         → Reads t ys (flow (cond b (flow_quoted (at Double t ys))
         (cond e (flow_part (at Double t ys) Escape) (flow_more (at Double t ys) Double c)))
         (d ∷ cs)) (c ∷ d ∷ cs)
-        (cond b (Some quote_end) (cond e (option_map (with_escape (escaped d)) (double cs))
+        (cond b (Some quote_end) (cond e (option_map (with_escape (escaped_byte d)) (double cs))
         (option_map (with_byte c 1) (double (d ∷ cs)))))
     by true e two one = ended_as t ys c (d ∷ cs)
     by false true two one = two

@@ -10,7 +10,7 @@ use Rattle.yaml_subset.specs.Block.{is_blank_byte}
 use Rattle.yaml_subset.specs.FaultOrder.{place, earlier}
 use Rattle.yaml_subset.specs.Line.{Line, no_marks, with_mark, with_fault, plain_len, stops_plain}
 use Rattle.yaml_subset.specs.Line.{tab_fault, ends_word, content, entry_or_value, key_of}
-use Rattle.yaml_subset.specs.LineView.{joined, blank_seen, dash_seen, ahead_of}
+use Rattle.yaml_subset.specs.LineView.{joined_lines, blank_seen, dash_seen, ahead_of}
 use Rattle.yaml_subset.specs.declared.line.Ahead.{Ahead}
 use Rattle.yaml_subset.specs.declared.line.Ahead.TheVariants.{Blank, Comment, Dash as Dashed, Entry}
 use Rattle.yaml_subset.specs.declared.which.Which.{Which}
@@ -42,14 +42,14 @@ earlier_assoc (Some a) None c = refl
 earlier_assoc (Some a) (Some b) None = earlier_none _
 earlier_assoc (Some a) (Some b) (Some c) = place_le a b c _ _ _ refl refl refl
 
-pub joined_none : (l : Line) → joined l no_marks ≡ l
+pub joined_none : (l : Line) → joined_lines l no_marks ≡ l
 joined_none l = rw (append-nil, earlier_none l.fault) refl
 
 joined_blank : (l m : Line) (c : ℕ)
-    → joined l (with_fault (tab_fault c) m) ≡ joined (blank_seen l c) m
+    → joined_lines l (with_fault (tab_fault c) m) ≡ joined_lines (blank_seen l c) m
 joined_blank l m c = rw (earlier_assoc l.fault (tab_fault c) m.fault) refl
 
-joined_dash : (l m : Line) (n : ℕ) → joined l (with_mark (dash n) m) ≡ joined (dash_seen l n) m
+joined_dash : (l m : Line) (n : ℕ) → joined_lines l (with_mark (dash n) m) ≡ joined_lines (dash_seen l n) m
 joined_dash l m n = rw (append_assoc l.marks (dash n ∷ []) m.marks) refl
 
 next_column : (column at : ℕ) → suc (column + at) ≡ column + (at + 1)
@@ -81,47 +81,47 @@ content_ahead n c cs = by_tests (is_blank_byte c) (c == 35) ((c == 45) && ends_w
 
 module _ (l : Line) (bytes : List ℕ) (column at : ℕ) (within : at < length bytes) where
   there : (a : Ahead) → ahead_of (get_or bytes at 0) (drop (at + 1) bytes) ≡ a
-      → joined l (content (column + at) (drop at bytes))
-      ≡ joined l (by_ahead a (column + at) (get_or bytes at 0) (drop (at + 1) bytes))
-  there a e = ap (joined l) (content_at bytes at (column + at) within
+      → joined_lines l (content (column + at) (drop at bytes))
+      ≡ joined_lines l (by_ahead a (column + at) (get_or bytes at 0) (drop (at + 1) bytes))
+  there a e = ap (joined_lines l) (content_at bytes at (column + at) within
       ∙ content_ahead (column + at) (get_or bytes at 0) (drop (at + 1) bytes)
       ∙ ap (λ (x : Ahead). by_ahead x (column + at) (get_or bytes at 0) (drop (at + 1) bytes)) e)
 
   pub content_blank : ahead_of (get_or bytes at 0) (drop (at + 1) bytes) ≡ Blank
-      → joined l (content (column + at) (drop at bytes)) ≡ joined (blank_seen l (get_or bytes at 0))
+      → joined_lines l (content (column + at) (drop at bytes)) ≡ joined_lines (blank_seen l (get_or bytes at 0))
       (content (column + (at + 1)) (drop (at + 1) bytes))
   unfolding by_ahead
   content_blank e = there Blank e
       ∙ joined_blank l (content (suc (column + at)) (drop (at + 1) bytes)) (get_or bytes at 0)
-      ∙ ap (λ (n : ℕ). joined (blank_seen l (get_or bytes at 0)) (content n (drop (at + 1) bytes)))
+      ∙ ap (λ (n : ℕ). joined_lines (blank_seen l (get_or bytes at 0)) (content n (drop (at + 1) bytes)))
       (next_column column at)
 
   pub content_dash : ahead_of (get_or bytes at 0) (drop (at + 1) bytes) ≡ Dashed
-      → joined l (content (column + at) (drop at bytes))
-      ≡ joined (dash_seen l (column + at)) (content (column + (at + 1)) (drop (at + 1) bytes))
+      → joined_lines l (content (column + at) (drop at bytes))
+      ≡ joined_lines (dash_seen l (column + at)) (content (column + (at + 1)) (drop (at + 1) bytes))
   unfolding by_ahead
   content_dash e = there Dashed e
       ∙ joined_dash l (content (suc (column + at)) (drop (at + 1) bytes)) (column + at)
-      ∙ ap (λ (n : ℕ). joined (dash_seen l (column + at)) (content n (drop (at + 1) bytes)))
+      ∙ ap (λ (n : ℕ). joined_lines (dash_seen l (column + at)) (content n (drop (at + 1) bytes)))
       (next_column column at)
 
   pub content_comment : ahead_of (get_or bytes at 0) (drop (at + 1) bytes) ≡ Comment
-      → joined l (content (column + at) (drop at bytes)) ≡ l
+      → joined_lines l (content (column + at) (drop at bytes)) ≡ l
   unfolding by_ahead
   content_comment e = there Comment e ∙ joined_none l
 
   pub content_entry : ahead_of (get_or bytes at 0) (drop (at + 1) bytes) ≡ Entry
-      → joined l (content (column + at) (drop at bytes))
-      ≡ joined l (entry_or_value (column + at) (drop at bytes) (key_of (drop at bytes)))
+      → joined_lines l (content (column + at) (drop at bytes))
+      ≡ joined_lines l (entry_or_value (column + at) (drop at bytes) (key_of (drop at bytes)))
   unfolding by_ahead
   content_entry e = there Entry e ∙ ap (λ (cs : List ℕ).
-      joined l (entry_or_value (column + at) cs (key_of cs))) (sym (step_at bytes at within))
+      joined_lines l (entry_or_value (column + at) cs (key_of cs))) (sym (step_at bytes at within))
 
 -- what stands behind the last byte
 pub content_end : (l m : Line) (bytes : List ℕ) (column at : ℕ) → length bytes ≤ at
-    → joined l (content (column + at) (drop at bytes)) ≡ m → l ≡ m
+    → joined_lines l (content (column + at) (drop at bytes)) ≡ m → l ≡ m
 content_end l m bytes column at h e =
-    sym (ap (λ (cs : List ℕ). joined l (content (column + at) cs)) (drop_all at bytes h)
+    sym (ap (λ (cs : List ℕ). joined_lines l (content (column + at) cs)) (drop_all at bytes h)
     ∙ joined_none l) ∙ e
 
 pub entry_fits : (column at n m : ℕ) → column + n < 2 ^ 64 → at < n → m ≡ n - at

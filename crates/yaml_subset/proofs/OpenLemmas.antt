@@ -12,8 +12,8 @@ use Rattle.yaml_subset.specs.Profile.{max_depth, has_room, Pieces, last_piece, p
 use Rattle.yaml_subset.specs.Profile.{with_first, pieces, with_child, is_repeated, children}
 use Rattle.yaml_subset.specs.Profile.{collection, behind, raw_lines, is_shallow, leaf, node}
 use Rattle.yaml_subset.specs.Profile.{documents}
-use Rattle.yaml_subset.specs.OpenNodes.{Open, nothing, inline, block, within, closed, open_nodes}
-use Rattle.yaml_subset.specs.OpenNodes.{finished, begun, added, add, add_all}
+use Rattle.yaml_subset.specs.OpenNodes.{Open, nothing, inline, block, within, node_so_far, open_nodes}
+use Rattle.yaml_subset.specs.OpenNodes.{documents_so_far, begun_node, next_open, open_after, open_after_all}
 
 -- FROM THE OUTSIDE IN
 
@@ -76,16 +76,16 @@ pieces-snoc h (x ∷ ms) m = rw (pieces-snoc x ms m, pieces-snoc h ms m)
 
 children_closed : {R : Type 0} (inside : Mark → List Mark → Option (Option Tree))
     (last : Mark → List Mark → Option Open) (g : List Child → R) (c : Open → R)
-    → ((h : Mark) (ms : List Mark) → inside h ms ≡ option_map closed (last h ms))
+    → ((h : Mark) (ms : List Mark) → inside h ms ≡ option_map node_so_far (last h ms))
     → ((h : Mark) (done : List Child) (i : Open)
-    → c (within h done i) ≡ g (with_child done h (closed i)))
+    → c (within h done i) ≡ g (with_child done h (node_so_far i)))
     → (done : List Child) (ps : Pieces)
     → option_map g (children inside done ps) ≡ option_map c (open_pieces inside last done ps)
 children_closed inside last g c same closes done (last_piece h ms) =
     rw (same h ms) (at_last (is_repeated h done) (last h ms))
   where
     at_last : (b : Bool) (o : Option Open)
-        → option_map g (cond b None (option_map (with_child done h) (option_map closed o)))
+        → option_map g (cond b None (option_map (with_child done h) (option_map node_so_far o)))
         ≡ option_map c (cond b None (option_map (within h done) o))
     at_last true o = refl
     at_last false None = refl
@@ -110,18 +110,18 @@ option_map-twice g f None = refl
 option_map-twice g f (Some x) = refl
 
 leaf_closed : (d : ℕ) (m : Mark) (ms : List Mark)
-    → option_map Some (leaf d m ms) ≡ option_map closed (open_leaf d m ms)
+    → option_map Some (leaf d m ms) ≡ option_map node_so_far (open_leaf d m ms)
 leaf_closed d start ms = refl
 leaf_closed d (dash n) ms = refl
 leaf_closed d (key n k) ms = refl
 leaf_closed d (value n x) [] = elim (is_shallow d x) as (λ b. option_map Some (cond b (Some x) None)
-    ≡ option_map closed (cond b (Some (inline x)) None)) [ true ↦ refl | false ↦ refl ]
+    ≡ option_map node_so_far (cond b (Some (inline x)) None)) [ true ↦ refl | false ↦ refl ]
 leaf_closed d (value n x) (m ∷ ms) = refl
 leaf_closed d (header n s) ms = by_lines (raw_lines ms)
   where
     by_lines : (o : Option (List (List ℕ)))
         → option_map Some (option_map (λ ls. scalar (block_text s ls) false) o)
-        ≡ option_map closed (option_map (λ ls. block (fold with_line (no_lines s) ls)) o)
+        ≡ option_map node_so_far (option_map (λ ls. block (fold with_line (no_lines s) ls)) o)
     by_lines None = refl
     by_lines (Some ls) = refl
 leaf_closed d (raw l) ms = refl
@@ -129,70 +129,70 @@ leaf_closed d (raw l) ms = refl
 behind_closed : (node_of : Mark → List Mark → Option Tree)
     (open_of : Mark → List Mark → Option Open)
     → ((m : Mark) (ms : List Mark)
-    → option_map Some (node_of m ms) ≡ option_map closed (open_of m ms))
+    → option_map Some (node_of m ms) ≡ option_map node_so_far (open_of m ms))
     → (h : Mark) (ms : List Mark)
-    → behind node_of h ms ≡ option_map closed (open_behind open_of h ms)
+    → behind node_of h ms ≡ option_map node_so_far (open_behind open_of h ms)
 behind_closed node_of open_of same h [] = refl
 behind_closed node_of open_of same h (m ∷ ms) =
-    rw (same m ms) (elim (has_room h m) as (λ b. cond b (option_map closed (open_of m ms)) None
-    ≡ option_map closed (cond b (open_of m ms) None)) [ true ↦ refl | false ↦ refl ])
+    rw (same m ms) (elim (has_room h m) as (λ b. cond b (option_map node_so_far (open_of m ms)) None
+    ≡ option_map node_so_far (cond b (open_of m ms) None)) [ true ↦ refl | false ↦ refl ])
 
 -- a node is its open nodes, closed
 pub node_closed : (d : ℕ) (m : Mark) (ms : List Mark)
-    → option_map Some (node d m ms) ≡ option_map closed (opened d m ms)
+    → option_map Some (node d m ms) ≡ option_map node_so_far (opened d m ms)
 node_closed zero m ms = leaf_closed zero m ms
 node_closed (suc d) start ms = refl
 node_closed (suc d) (dash n) ms =
     option_map-twice Some collection (children (behind (node d)) [] (pieces (dash n) ms))
     ∙ children_closed (behind (node d)) (open_behind (opened d)) (λ cs. Some (collection cs))
-    closed (behind_closed (node d) (opened d) (node_closed d)) (λ h done i. refl) []
+    node_so_far (behind_closed (node d) (opened d) (node_closed d)) (λ h done i. refl) []
     (pieces (dash n) ms)
 node_closed (suc d) (key n k) ms =
     option_map-twice Some collection (children (behind (node d)) [] (pieces (key n k) ms))
     ∙ children_closed (behind (node d)) (open_behind (opened d)) (λ cs. Some (collection cs))
-    closed (behind_closed (node d) (opened d) (node_closed d)) (λ h done i. refl) []
+    node_so_far (behind_closed (node d) (opened d) (node_closed d)) (λ h done i. refl) []
     (pieces (key n k) ms)
 node_closed (suc d) (value n x) ms = leaf_closed (suc d) (value n x) ms
 node_closed (suc d) (header n s) ms = leaf_closed (suc d) (header n s) ms
 node_closed (suc d) (raw l) ms = refl
 
 -- the nodes of a text's documents are its open nodes, closed
-documents_outside : (ms : List Mark) → documents ms ≡ option_map finished (from_outside ms)
+documents_outside : (ms : List Mark) → documents ms ≡ option_map documents_so_far (from_outside ms)
 documents_outside ms =
     children_closed (behind (node max_depth)) (open_behind (opened max_depth)) (map (λ c. c.tree))
-    finished (behind_closed (node max_depth) (opened max_depth) (node_closed max_depth))
+    documents_so_far (behind_closed (node max_depth) (opened max_depth) (node_closed max_depth))
     (λ h done i. refl) [] (pieces start ms)
 
 -- ONE MORE MARK
 
 open_pieces-snoc : (inside : Mark → List Mark → Option (Option Tree))
     (last : Mark → List Mark → Option Open) (d : ℕ)
-    → ((h : Mark) (ms : List Mark) → inside h ms ≡ option_map closed (last h ms))
+    → ((h : Mark) (ms : List Mark) → inside h ms ≡ option_map node_so_far (last h ms))
     → ((h : Mark) → last h [] ≡ Some nothing)
     → ((h : Mark) (ms : List Mark) (m : Mark)
-    → last h (ms ++ (m ∷ [])) ≡ option_and_then (added d h m) (last h ms))
+    → last h (ms ++ (m ∷ [])) ≡ option_and_then (next_open d h m) (last h ms))
     → (done : List Child) (ps : Pieces) (m g : Mark) → open_pieces inside last done (snoc m ps)
-    ≡ option_and_then (added (suc d) g m) (open_pieces inside last done ps)
+    ≡ option_and_then (next_open (suc d) g m) (open_pieces inside last done ps)
 open_pieces-snoc inside last d same empty more done (last_piece h ms) m g =
     by_next (is_next h m) refl
   where
     next_there : (r : Bool) (o : Option Open) → is_next h m ≡ true
         → cond r None (option_and_then (λ x. cond (is_repeated m (with_child done h x)) None
-        (option_map (within m (with_child done h x)) (Some nothing))) (option_map closed o))
-        ≡ option_and_then (added (suc d) g m) (cond r None (option_map (within h done) o))
+        (option_map (within m (with_child done h x)) (Some nothing))) (option_map node_so_far o))
+        ≡ option_and_then (next_open (suc d) g m) (cond r None (option_map (within h done) o))
     next_there true o e = refl
     next_there false None e = refl
     next_there false (Some i) e = rw e refl
 
     inside_there : (r : Bool) (o : Option Open) → is_next h m ≡ false
-        → cond r None (option_map (within h done) (option_and_then (added d h m) o))
-        ≡ option_and_then (added (suc d) g m) (cond r None (option_map (within h done) o))
+        → cond r None (option_map (within h done) (option_and_then (next_open d h m) o))
+        ≡ option_and_then (next_open (suc d) g m) (cond r None (option_map (within h done) o))
     inside_there true o e = refl
     inside_there false None e = refl
     inside_there false (Some i) e = rw e refl
 
     by_next : (b : Bool) → is_next h m ≡ b → open_pieces inside last done (snoc m (last_piece h ms))
-        ≡ option_and_then (added (suc d) g m) (open_pieces inside last done (last_piece h ms))
+        ≡ option_and_then (next_open (suc d) g m) (open_pieces inside last done (last_piece h ms))
     by_next true e = rw (e, same h ms, empty m) (next_there (is_repeated h done) (last h ms) e)
     by_next false e = rw (e, more h ms m) (inside_there (is_repeated h done) (last h ms) e)
 open_pieces-snoc inside last d same empty more done (piece h ms ps) m g =
@@ -201,9 +201,9 @@ open_pieces-snoc inside last d same empty more done (piece h ms ps) m g =
   where
     at_piece : (b : Bool) (o : Option (Option Tree)) → ((x : Option Tree)
         → open_pieces inside last (with_child done h x) (snoc m ps) ≡ option_and_then
-        (added (suc d) g m) (open_pieces inside last (with_child done h x) ps))
+        (next_open (suc d) g m) (open_pieces inside last (with_child done h x) ps))
         → cond b None (option_and_then (λ x. open_pieces inside last
-        (with_child done h x) (snoc m ps)) o) ≡ option_and_then (added (suc d) g m) (cond b None
+        (with_child done h x) (snoc m ps)) o) ≡ option_and_then (next_open (suc d) g m) (cond b None
         (option_and_then (λ x. open_pieces inside last (with_child done h x) ps) o))
     at_piece true o ih = refl
     at_piece false None ih = refl
@@ -241,18 +241,18 @@ raw_lines-snoc (value n x ∷ ms) m = refl
 raw_lines-snoc (header n s ∷ ms) m = refl
 
 leaf-snoc : (d : ℕ) (x : Mark) (ms : List Mark) (h m : Mark)
-    → open_leaf d x (ms ++ (m ∷ [])) ≡ option_and_then (added d h m) (open_leaf d x ms)
+    → open_leaf d x (ms ++ (m ∷ [])) ≡ option_and_then (next_open d h m) (open_leaf d x ms)
 leaf-snoc d start ms h m = refl
 leaf-snoc d (dash n) ms h m = refl
 leaf-snoc d (key n k) ms h m = refl
 leaf-snoc d (value n x) [] h m = elim (is_shallow d x) as (λ b. None
-    ≡ option_and_then (added d h m) (cond b (Some (inline x)) None)) [ true ↦ refl | false ↦ refl ]
+    ≡ option_and_then (next_open d h m) (cond b (Some (inline x)) None)) [ true ↦ refl | false ↦ refl ]
 leaf-snoc d (value n x) (y ∷ ms) h m = refl
 leaf-snoc d (header n s) ms h m = rw (raw_lines-snoc ms m) (by_lines (raw_lines ms) m)
   where
     by_lines : (o : Option (List (List ℕ))) (m : Mark) → option_map (λ ls.
         block (fold with_line (no_lines s) ls)) (option_and_then (λ ls. with_raw_line ls m) o)
-        ≡ option_and_then (added d h m)
+        ≡ option_and_then (next_open d h m)
         (option_map (λ ls. block (fold with_line (no_lines s) ls)) o)
     by_lines None m = refl
     by_lines (Some ls) start = refl
@@ -264,7 +264,7 @@ leaf-snoc d (header n s) ms h m = rw (raw_lines-snoc ms m) (by_lines (raw_lines 
         ap (λ (b : Block). Some (block b)) (fold-append with_line (no_lines s) ls (l ∷ []))
 leaf-snoc d (raw l) ms h m = refl
 
-begun_is : (d : ℕ) (m : Mark) → opened d m [] ≡ begun d m
+begun_is : (d : ℕ) (m : Mark) → opened d m [] ≡ begun_node d m
 begun_is zero start = refl
 begun_is zero (dash n) = refl
 begun_is zero (key n k) = refl
@@ -279,18 +279,18 @@ begun_is (suc d) (header n s) = refl
 begun_is (suc d) (raw l) = refl
 
 behind-snoc : (open_of : Mark → List Mark → Option Open) (d : ℕ)
-    → ((m : Mark) → open_of m [] ≡ begun d m)
+    → ((m : Mark) → open_of m [] ≡ begun_node d m)
     → ((x : Mark) (ms : List Mark) (h m : Mark)
-    → open_of x (ms ++ (m ∷ [])) ≡ option_and_then (added d h m) (open_of x ms))
+    → open_of x (ms ++ (m ∷ [])) ≡ option_and_then (next_open d h m) (open_of x ms))
     → (h : Mark) (ms : List Mark) (m : Mark) → open_behind open_of h (ms ++ (m ∷ []))
-    ≡ option_and_then (added d h m) (open_behind open_of h ms)
+    ≡ option_and_then (next_open d h m) (open_behind open_of h ms)
 behind-snoc open_of d first more h [] m = rw (first m) refl
 behind-snoc open_of d first more h (x ∷ ms) m = rw (more x ms h m) (elim (has_room h x) as (λ b.
-    cond b (option_and_then (added d h m) (open_of x ms)) None ≡ option_and_then (added d h m)
+    cond b (option_and_then (next_open d h m) (open_of x ms)) None ≡ option_and_then (next_open d h m)
     (cond b (open_of x ms) None)) [ true ↦ refl | false ↦ refl ])
 
 opened-snoc : (d : ℕ) (x : Mark) (ms : List Mark) (h m : Mark)
-    → opened d x (ms ++ (m ∷ [])) ≡ option_and_then (added d h m) (opened d x ms)
+    → opened d x (ms ++ (m ∷ [])) ≡ option_and_then (next_open d h m) (opened d x ms)
 opened-snoc zero x ms h m = leaf-snoc zero x ms h m
 opened-snoc (suc d) start ms h m = leaf-snoc (suc d) start ms h m
 opened-snoc (suc d) (dash n) ms h m = rw (pieces-snoc (dash n) ms m)
@@ -307,7 +307,7 @@ opened-snoc (suc d) (raw l) ms h m = leaf-snoc (suc d) (raw l) ms h m
 
 -- the open nodes after one more mark
 outside-snoc : (ms : List Mark) (m : Mark)
-    → from_outside (ms ++ (m ∷ [])) ≡ option_and_then (add m) (from_outside ms)
+    → from_outside (ms ++ (m ∷ [])) ≡ option_and_then (open_after m) (from_outside ms)
 outside-snoc ms m = rw (pieces-snoc start ms m)
     (open_pieces-snoc (behind (node max_depth)) (open_behind (opened max_depth)) max_depth
     (behind_closed (node max_depth) (opened max_depth) (node_closed max_depth)) (λ g. refl)
@@ -320,35 +320,35 @@ option_and_then-assoc f g None = refl
 option_and_then-assoc f g (Some x) = refl
 
 outside-append : (ms ns : List Mark)
-    → from_outside (ms ++ ns) ≡ option_and_then (add_all ns) (from_outside ms)
+    → from_outside (ms ++ ns) ≡ option_and_then (open_after_all ns) (from_outside ms)
 outside-append ms [] = rw append-nil (at_end (from_outside ms))
   where
-    at_end : (o : Option Open) → o ≡ option_and_then (add_all []) o
+    at_end : (o : Option Open) → o ≡ option_and_then (open_after_all []) o
     at_end None = refl
     at_end (Some x) = refl
 outside-append ms (n ∷ ns) = ap from_outside (sym (append_assoc ms (n ∷ []) ns))
-    ∙ outside-append (ms ++ (n ∷ [])) ns ∙ ap (option_and_then (add_all ns)) (outside-snoc ms n)
-    ∙ option_and_then-assoc (add n) (add_all ns) (from_outside ms)
+    ∙ outside-append (ms ++ (n ∷ [])) ns ∙ ap (option_and_then (open_after_all ns)) (outside-snoc ms n)
+    ∙ option_and_then-assoc (open_after n) (open_after_all ns) (from_outside ms)
 
 -- MARK BY MARK
 
 -- the nodes of a text's documents are its open nodes, closed
-pub documents_closed : (ms : List Mark) → documents ms ≡ option_map finished (open_nodes ms)
-documents_closed ms = documents_outside ms ∙ ap (option_map finished) (outside-append [] ms)
+pub documents_closed : (ms : List Mark) → documents ms ≡ option_map documents_so_far (open_nodes ms)
+documents_closed ms = documents_outside ms ∙ ap (option_map documents_so_far) (outside-append [] ms)
 
 add_all-append : (ms ns : List Mark) (o : Open)
-    → add_all (ms ++ ns) o ≡ option_and_then (add_all ns) (add_all ms o)
+    → open_after_all (ms ++ ns) o ≡ option_and_then (open_after_all ns) (open_after_all ms o)
 add_all-append [] ns o = refl
-add_all-append (m ∷ ms) ns o = behind_one (add m o) (λ q. add_all-append ms ns q)
+add_all-append (m ∷ ms) ns o = behind_one (open_after m o) (λ q. add_all-append ms ns q)
   where
     behind_one : (p : Option Open)
-        → ((q : Open) → add_all (ms ++ ns) q ≡ option_and_then (add_all ns) (add_all ms q))
-        → option_and_then (add_all (ms ++ ns)) p
-        ≡ option_and_then (add_all ns) (option_and_then (add_all ms) p)
+        → ((q : Open) → open_after_all (ms ++ ns) q ≡ option_and_then (open_after_all ns) (open_after_all ms q))
+        → option_and_then (open_after_all (ms ++ ns)) p
+        ≡ option_and_then (open_after_all ns) (option_and_then (open_after_all ms) p)
     behind_one None ih = refl
     behind_one (Some q) ih = ih q
 
 -- the open nodes after more marks
 pub open_nodes-append : (ms ns : List Mark)
-    → open_nodes (ms ++ ns) ≡ option_and_then (add_all ns) (open_nodes ms)
+    → open_nodes (ms ++ ns) ≡ option_and_then (open_after_all ns) (open_nodes ms)
 open_nodes-append ms ns = add_all-append ms ns (within start [] nothing)

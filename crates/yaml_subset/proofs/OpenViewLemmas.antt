@@ -16,8 +16,8 @@ use Rattle.yaml_subset.specs.Mark.{Mark, start, dash, key, value, header, raw, C
 use Rattle.yaml_subset.specs.Profile.{max_depth, is_next, has_room, with_child, is_repeated, is_key}
 use Rattle.yaml_subset.specs.Profile.{is_shallow, collection}
 use Rattle.yaml_subset.specs.Block.{Block, with_line}
-use Rattle.yaml_subset.specs.OpenNodes.{Open, nothing, inline, block, within, with_raw, closed}
-use Rattle.yaml_subset.specs.OpenNodes.{begun, next_piece, added, add}
+use Rattle.yaml_subset.specs.OpenNodes.{Open, nothing, inline, block, within, with_raw, node_so_far}
+use Rattle.yaml_subset.specs.OpenNodes.{begun_node, next_piece, next_open, open_after}
 use Rattle.yaml_subset.specs.Fault.{repeats, begins, column, same_column, is_at_open, fault_of_mark}
 use Rattle.yaml_subset.specs.OpenView.{head_of, done_of, open_of, next_place, last_head, last_view}
 use Rattle.yaml_subset.specs.OpenView.{stream_of, child, entry_child, any_at, is_nothing}
@@ -58,7 +58,7 @@ pub any_at_more : (c : Option ℕ) (fs : List Frame) (at : ℕ) (d : Frame) → 
 any_at_more c fs at d h = let e : drop at fs ≡ get_or fs at d ∷ drop (at + 1) fs =
     rw (add-one, drop-cons fs at d) refl in ap (any_at c) e
 
-pub closed_open : (fs : List Frame) (o : Open) → closed (open_of fs o) ≡ closed_with fs (closed o)
+pub closed_open : (fs : List Frame) (o : Open) → node_so_far (open_of fs o) ≡ closed_with fs (node_so_far o)
 closed_open [] o = refl
 closed_open (f ∷ fs) o = ap (λ (v : Option Tree).
     Some (collection (with_child (done_of f) (head_of f) v))) (closed_open fs o)
@@ -90,11 +90,11 @@ wrap_twice g fs (Some x) = refl
 
 pub added_next : (before : List Frame) (f : Frame) (after : List Frame) (o : Open) (m : Mark)
     → next_place m (before ++ (f ∷ after)) ≡ length before
-    → (d : ℕ) (h : Mark) → added d h m (open_of (before ++ (f ∷ after)) o)
+    → (d : ℕ) (h : Mark) → next_open d h m (open_of (before ++ (f ∷ after)) o)
     ≡ option_map (open_of before)
-    (next_piece m (with_child (done_of f) (head_of f) (closed (open_of after o))))
+    (next_piece m (with_child (done_of f) (head_of f) (node_so_far (open_of after o))))
 added_next [] f after o m e d h = rw (here (is_next (head_of f) m) _ e)
-    (as_is (next_piece m (with_child (done_of f) (head_of f) (closed (open_of after o)))))
+    (as_is (next_piece m (with_child (done_of f) (head_of f) (node_so_far (open_of after o)))))
   where
     as_is : (p : Option Open) → p ≡ option_map (open_of []) p
     as_is None = refl
@@ -113,7 +113,7 @@ next_found (g ∷ before) f after m e = next_found before f after m
 pub repeats_next : (before : List Frame) (f : Frame) (after : List Frame) (o : Open) (m : Mark)
     → next_place m (before ++ (f ∷ after)) ≡ length before
     → repeats m (open_of (before ++ (f ∷ after)) o)
-    ≡ is_repeated m (with_child (done_of f) (head_of f) (closed (open_of after o)))
+    ≡ is_repeated m (with_child (done_of f) (head_of f) (node_so_far (open_of after o)))
 repeats_next [] f after o m e = rw (here (is_next (head_of f) m) _ e) refl
 repeats_next (g ∷ before) f after o m e =
     let n =
@@ -122,9 +122,9 @@ repeats_next (g ∷ before) f after o m e =
 
 -- the mark is the next one of no frame
 pub added_none : (fs : List Frame) (o : Open) (m : Mark) → next_place m fs ≡ length fs
-    → (d : ℕ) (h : Mark) → added d h m (open_of fs o)
-    ≡ option_map (open_of fs) (added (d - length fs) (last_head h fs) m o)
-added_none [] o m e d h = let same : d - 0 ≡ d = omega arith in rw same (as_is (added d h m o))
+    → (d : ℕ) (h : Mark) → next_open d h m (open_of fs o)
+    ≡ option_map (open_of fs) (next_open (d - length fs) (last_head h fs) m o)
+added_none [] o m e d h = let same : d - 0 ≡ d = omega arith in rw same (as_is (next_open d h m o))
   where
     as_is : (p : Option Open) → p ≡ option_map (open_of []) p
     as_is None = refl
@@ -159,8 +159,8 @@ at_open_any [] (lasts.Block b) m = refl
 at_open_any (f ∷ fs) l m =
     ap (λ (b : Bool). same_column (column (head_of f)) (column m) || b) (at_open_any fs l m)
 
-pub close_start : (fs : List Frame) (o : Open) (v : Option Tree) → v ≡ closed o
-    → closed_with fs v ≡ closed (open_of fs o)
+pub close_start : (fs : List Frame) (o : Open) (v : Option Tree) → v ≡ node_so_far o
+    → closed_with fs v ≡ node_so_far (open_of fs o)
 close_start fs o v e = ap (closed_with fs) e ∙ sym (closed_open fs o)
 
 pub close_more : (before after : List Frame) (f : Frame) (v w : Option Tree) (keep : ℕ)
@@ -208,18 +208,18 @@ module _ (docs : List Child) (all before : List Frame) (f : Frame) (at : ℕ) (o
     (v : Option Tree)
     (is_all : take (at + 1) all ≡ before ++ (f ∷ [])) (place : next_place m all ≡ at)
     (long : length before ≡ at) (no_start : is_next start m ≡ false)
-    (value : v ≡ closed (open_of (drop (at + 1) all) o)) where
+    (value : v ≡ node_so_far (open_of (drop (at + 1) all) o)) where
   whole : all ≡ before ++ (f ∷ drop (at + 1) all)
   whole = split_at all before f at is_all
 
   place_there : next_place m (before ++ (f ∷ drop (at + 1) all)) ≡ length before
   place_there = ap (next_place m) (sym whole) ∙ place ∙ sym long
 
-  stream_there : added (suc max_depth) start m (within start docs (open_of all o))
+  stream_there : next_open (suc max_depth) start m (within start docs (open_of all o))
       ≡ option_map (within start docs)
       (option_map (open_of before) (next_piece m (with_child (done_of f) (head_of f) v)))
   stream_there = rw no_start (ap (option_map (within start docs))
-      (ap (λ (fs : List Frame). added max_depth start m (open_of fs o)) whole
+      (ap (λ (fs : List Frame). next_open max_depth start m (open_of fs o)) whole
       ∙ added_next before f (drop (at + 1) all) o m place_there max_depth start
       ∙ ap (λ (w : Option Tree). option_map (open_of before)
       (next_piece m (with_child (done_of f) (head_of f) w))) (sym value)))
@@ -235,7 +235,7 @@ module _ (docs : List Child) (all before : List Frame) (f : Frame) (at : ℕ) (o
 
   pub next_taken : (g : Frame) → is_repeated m (with_child (done_of f) (head_of f) None) ≡ false
       → head_of g ≡ m → done_of g ≡ with_child (done_of f) (head_of f) v
-      → add m (within start docs (open_of all o))
+      → open_after m (within start docs (open_of all o))
       ≡ Some (within start docs (open_of (before ++ (g ∷ [])) nothing))
   next_taken g new h d =
       let fresh : is_repeated m (with_child (done_of f) (head_of f) v) ≡ false =
@@ -249,7 +249,7 @@ module _ (docs : List Child) (all before : List Frame) (f : Frame) (at : ℕ) (o
       last_frame (x ∷ fs) = ap (within (head_of x) (done_of x)) (last_frame fs)
 
   pub next_refused : is_repeated m (with_child (done_of f) (head_of f) None) ≡ true
-      → (add m (within start docs (open_of all o)) ≡ None)
+      → (open_after m (within start docs (open_of all o)) ≡ None)
       × (fault_of_mark m (within start docs (open_of all o)) ≡ DuplicateKey)
   next_refused old =
       let again : is_repeated m (with_child (done_of f) (head_of f) v) ≡ true =
@@ -258,9 +258,9 @@ module _ (docs : List Child) (all before : List Frame) (f : Frame) (at : ℕ) (o
 
 module _ (docs : List Child) (all : List Frame) (l : Last) (m : Mark)
     (place : next_place m all ≡ length all) (no_start : is_next start m ≡ false) where
-  stream_none : add m (within start docs (open_of all (last_view l)))
+  stream_none : open_after m (within start docs (open_of all (last_view l)))
       ≡ option_map (within start docs) (option_map (open_of all)
-      (added (max_depth - length all) (last_head start all) m (last_view l)))
+      (next_open (max_depth - length all) (last_head start all) m (last_view l)))
   stream_none = rw no_start
       (ap (option_map (within start docs)) (added_none all (last_view l) m place max_depth start))
 
@@ -275,25 +275,25 @@ module _ (docs : List Child) (all : List Frame) (l : Last) (m : Mark)
   -- a mark that isn't a line of a block scalar has no place within what stands there
   pub not_begun : ((b : Block) → with_raw b m ≡ None)
       → cond (is_nothing l) (has_room (last_head start all) m) false ≡ false
-      → add m (within start docs (open_of all (last_view l))) ≡ None
+      → open_after m (within start docs (open_of all (last_view l))) ≡ None
   not_begun no_raw no_room = stream_none ∙ by_last l no_room
     where
       by_last : (k : Last) → cond (is_nothing k) (has_room (last_head start all) m) false ≡ false
           → option_map (within start docs) (option_map (open_of all)
-          (added (max_depth - length all) (last_head start all) m (last_view k))) ≡ None
+          (next_open (max_depth - length all) (last_head start all) m (last_view k))) ≡ None
       by_last lasts.Nothing e = rw e refl
       by_last (lasts.Inline x) e = refl
       by_last (lasts.Block b) e = rw (no_raw (block_view b)) refl
 
   pub begun_there : cond (is_nothing l) (has_room (last_head start all) m) false ≡ true
-      → add m (within start docs (open_of all (last_view l))) ≡ option_map (within start docs)
-      (option_map (open_of all) (begun (max_depth - length all) m))
+      → open_after m (within start docs (open_of all (last_view l))) ≡ option_map (within start docs)
+      (option_map (open_of all) (begun_node (max_depth - length all) m))
   begun_there room = stream_none ∙ by_last l room
     where
       by_last : (k : Last) → cond (is_nothing k) (has_room (last_head start all) m) false ≡ true
           → option_map (within start docs) (option_map (open_of all)
-          (added (max_depth - length all) (last_head start all) m (last_view k))) ≡ option_map
-          (within start docs) (option_map (open_of all) (begun (max_depth - length all) m))
+          (next_open (max_depth - length all) (last_head start all) m (last_view k))) ≡ option_map
+          (within start docs) (option_map (open_of all) (begun_node (max_depth - length all) m))
       by_last lasts.Nothing e = rw e refl
       by_last (lasts.Inline x) e = absurd (false≢true e)
       by_last (lasts.Block b) e = absurd (false≢true e)
@@ -314,21 +314,21 @@ lt_true : (d : ℕ) → nat_lt 0 (suc d) ≡ true
 lt_true d = grind (arith, nat_tests)
 
 pub begun_key : (d n : ℕ) (k : List ℕ) → 0 < d
-    → begun d (key n k) ≡ Some (within (key n k) [] nothing)
+    → begun_node d (key n k) ≡ Some (within (key n k) [] nothing)
 begun_key zero n k h = absurd (omega arith)
 begun_key (suc d) n k h = refl
 
-pub begun_key_none : (d n : ℕ) (k : List ℕ) → d ≡ 0 → begun d (key n k) ≡ None
+pub begun_key_none : (d n : ℕ) (k : List ℕ) → d ≡ 0 → begun_node d (key n k) ≡ None
 begun_key_none d n k h = rw h refl
 
-pub begun_dash : (d n : ℕ) → 0 < d → begun d (dash n) ≡ Some (within (dash n) [] nothing)
+pub begun_dash : (d n : ℕ) → 0 < d → begun_node d (dash n) ≡ Some (within (dash n) [] nothing)
 begun_dash zero n h = absurd (omega arith)
 begun_dash (suc d) n h = refl
 
-pub begun_dash_none : (d n : ℕ) → d ≡ 0 → begun d (dash n) ≡ None
+pub begun_dash_none : (d n : ℕ) → d ≡ 0 → begun_node d (dash n) ≡ None
 begun_dash_none d n h = rw h refl
 
-pub begun_value : (d n : ℕ) (x : Tree) → 0 < d → begun d (value n x) ≡ Some (inline x)
+pub begun_value : (d n : ℕ) (x : Tree) → 0 < d → begun_node d (value n x) ≡ Some (inline x)
 begun_value d n (scalar t p) h = refl
 begun_value zero n (mapping es) h = absurd (omega arith)
 begun_value (suc d) n (mapping es) h = rw (lt_true d) refl
@@ -336,13 +336,13 @@ begun_value zero n (sequence xs) h = absurd (omega arith)
 begun_value (suc d) n (sequence xs) h = rw (lt_true d) refl
 
 pub begun_scalar : (d n : ℕ) (x : Tree) → is_shallow 0 x ≡ true
-    → begun d (value n x) ≡ Some (inline x)
+    → begun_node d (value n x) ≡ Some (inline x)
 begun_scalar d n (scalar t p) h = refl
 begun_scalar d n (mapping es) h = absurd (false≢true h)
 begun_scalar d n (sequence xs) h = absurd (false≢true h)
 
 pub begun_value_none : (d n : ℕ) (x : Tree) → d ≡ 0 → is_shallow 0 x ≡ false
-    → begun d (value n x) ≡ None
+    → begun_node d (value n x) ≡ None
 begun_value_none d n x e h = rw (e, h) refl
 
 pub open_of_push : (fs : List Frame) (f : Frame) (o : Open)
@@ -417,14 +417,14 @@ none_at (frames.Map n es k ∷ fs) = none_at fs
 none_at (frames.List n xs ∷ fs) = none_at fs
 
 pub raw_taken : (docs : List Child) (fs : List Frame) (b : Block) (l : List ℕ)
-    → add (raw l) (within start docs (open_of fs (block b)))
+    → open_after (raw l) (within start docs (open_of fs (block b)))
     ≡ Some (within start docs (open_of fs (block (with_line b l))))
 raw_taken docs fs b l = ap (option_map (within start docs))
     (added_none fs (block b) (raw l) (raw_place l fs) max_depth start)
 
 pub raw_refused : (docs : List Child) (fs : List Frame) (k : Last) (l : List ℕ)
     → ((b : Lines) → k ≡ lasts.Block b → ⊥)
-    → (add (raw l) (within start docs (open_of fs (last_view k))) ≡ None)
+    → (open_after (raw l) (within start docs (open_of fs (last_view k))) ≡ None)
     × (fault_of_mark (raw l) (within start docs (open_of fs (last_view k))) ≡ Indent)
 raw_refused docs fs k l other = (
   ap (option_map (within start docs))
@@ -434,7 +434,7 @@ raw_refused docs fs k l other = (
   where
     by_last : (j : Last) → ((b : Lines) → j ≡ lasts.Block b → ⊥)
         → option_map (within start docs) (option_map (open_of fs)
-        (added (max_depth - length fs) (last_head start fs) (raw l) (last_view j))) ≡ None
+        (next_open (max_depth - length fs) (last_head start fs) (raw l) (last_view j))) ≡ None
     by_last lasts.Nothing n = rw (raw_room l (last_head start fs)) refl
     by_last (lasts.Inline x) n = refl
     by_last (lasts.Block b) n = absurd (n b refl)

@@ -8,9 +8,9 @@ use Rattle.std.specs.List.{fold}
 use Rattle.std.proofs.lemmas.List.Sums.{fold-append}
 use Rattle.yaml_subset.specs.Tree.{Tree}
 use Rattle.yaml_subset.specs.Profile.{documents}
-use Rattle.yaml_subset.specs.OpenNodes.{Open, open_nodes, finished, add_all}
-use Rattle.yaml_subset.specs.Text.{Marked, line_at, parent_after, scalar_after, next_line, no_line}
-use Rattle.yaml_subset.specs.Text.{marked, nodes_of, StandsFor}
+use Rattle.yaml_subset.specs.OpenNodes.{Open, open_nodes, documents_so_far, open_after_all}
+use Rattle.yaml_subset.specs.Text.{MarkedLines, line_at, parent_after, scalar_after, next_line, no_line}
+use Rattle.yaml_subset.specs.Text.{marked_lines, nodes_of, StandsFor}
 use Rattle.yaml_subset.specs.Fault.{IsFault}
 use Rattle.yaml_subset.specs.ReadView.{NamesFault}
 use Rattle.yaml_subset.specs.declared.scalar.Scalar.{Scalar}
@@ -23,7 +23,7 @@ use Rattle.yaml_subset.proofs.OpenLemmas.{documents_closed, open_nodes-append}
 pub one_list : (text : List ℕ) (xs ys : List Tree) → StandsFor text xs → StandsFor text ys → xs ≡ ys
 one_list text xs ys a b = let e : Some xs ≡ Some ys = sym a.nodes ∙ b.nodes in cc
 
-abbrev pub step : Option Marked → List ℕ → Option Marked
+abbrev pub step : Option MarkedLines → List ℕ → Option MarkedLines
 step o line = option_and_then (λ s. next_line s line) o
 
 pub none_stays : (ls : List (List ℕ)) → fold step None ls ≡ None
@@ -31,18 +31,18 @@ none_stays [] = refl
 none_stays (l ∷ ls) = none_stays ls
 
 -- marks of no text stay so, whatever follows
-pub never_text : (ls : List (List ℕ)) (s : Marked) → open_nodes s.marks ≡ None
-    → option_and_then (λ (t : Marked). documents t.marks) (fold step (Some s) ls) ≡ None
-never_text [] s e = documents_closed s.marks ∙ ap (option_map finished) e
+pub never_text : (ls : List (List ℕ)) (s : MarkedLines) → open_nodes s.marks ≡ None
+    → option_and_then (λ (t : MarkedLines). documents t.marks) (fold step (Some s) ls) ≡ None
+never_text [] s e = documents_closed s.marks ∙ ap (option_map documents_so_far) e
 never_text (l ∷ ls) s e = by_fault (is_none (line_at s.scalar l).fault)
     (λ t u. never_text ls t u) (open_nodes-append s.marks (line_at s.scalar l).marks
-    ∙ ap (option_and_then (add_all (line_at s.scalar l).marks)) e)
+    ∙ ap (option_and_then (open_after_all (line_at s.scalar l).marks)) e)
     (parent_after s.parent (line_at s.scalar l).marks) (scalar_after s.scalar s.parent l)
   where
-    by_fault : (b : Bool) → ((t : Marked) → open_nodes t.marks ≡ None
-        → option_and_then (λ (u : Marked). documents u.marks) (fold step (Some t) ls) ≡ None)
+    by_fault : (b : Bool) → ((t : MarkedLines) → open_nodes t.marks ≡ None
+        → option_and_then (λ (u : MarkedLines). documents u.marks) (fold step (Some t) ls) ≡ None)
         → open_nodes (s.marks ++ (line_at s.scalar l).marks) ≡ None
-        → (p : Option ℕ) (k : Option Scalar) → option_and_then (λ (u : Marked). documents u.marks)
+        → (p : Option ℕ) (k : Option Scalar) → option_and_then (λ (u : MarkedLines). documents u.marks)
         (fold step (cond b (Some (record {
           marks = s.marks ++ (line_at s.scalar l).marks;
           parent = p;
@@ -51,21 +51,21 @@ never_text (l ∷ ls) s e = by_fault (is_none (line_at s.scalar l).fault)
     by_fault true ih gone p k =
         ih (record { marks = s.marks ++ (line_at s.scalar l).marks; parent = p; scalar = k }) gone
     by_fault false ih gone p k =
-        ap (option_and_then (λ (u : Marked). documents u.marks)) (none_stays ls)
+        ap (option_and_then (λ (u : MarkedLines). documents u.marks)) (none_stays ls)
 
-none_open : (o : Option Open) → option_map finished o ≡ None → o ≡ None
+none_open : (o : Option Open) → option_map documents_so_far o ≡ None → o ≡ None
 none_open None e = refl
 none_open (Some x) e = cc
 
 -- The first lines of a text are a text.
 pub first_lines : (ls ms : List (List ℕ)) → nodes_of ls ≡ None → nodes_of (ls ++ ms) ≡ None
 first_lines ls ms e =
-    ap (option_and_then (λ (s : Marked). documents s.marks)) (fold-append step (Some no_line) ls ms)
-    ∙ by_marks (marked ls) e
+    ap (option_and_then (λ (s : MarkedLines). documents s.marks)) (fold-append step (Some no_line) ls ms)
+    ∙ by_marks (marked_lines ls) e
   where
-    by_marks : (o : Option Marked) → option_and_then (λ (s : Marked). documents s.marks) o ≡ None
-        → option_and_then (λ (s : Marked). documents s.marks) (fold step o ms) ≡ None
-    by_marks None f = ap (option_and_then (λ (s : Marked). documents s.marks)) (none_stays ms)
+    by_marks : (o : Option MarkedLines) → option_and_then (λ (s : MarkedLines). documents s.marks) o ≡ None
+        → option_and_then (λ (s : MarkedLines). documents s.marks) (fold step o ms) ≡ None
+    by_marks None f = ap (option_and_then (λ (s : MarkedLines). documents s.marks)) (none_stays ms)
     by_marks (Some s) f =
         never_text ms s (none_open (open_nodes s.marks) (sym (documents_closed s.marks) ∙ f))
 

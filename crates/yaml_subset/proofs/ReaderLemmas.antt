@@ -5,7 +5,7 @@ use Rattle.std.proofs.Common.{◌∙◌, add-one, arith}
 use Rattle.std.proofs.Math.Seq.{drop-cons}
 use Rattle.std.proofs.lemmas.List.{take-append-drop, drop_all, map_push}
 use Rattle.yaml_subset.specs.Mark as marks
-use Rattle.yaml_subset.specs.OpenNodes.{Open, add, add_all}
+use Rattle.yaml_subset.specs.OpenNodes.{Open, open_after, open_after_all}
 use Rattle.yaml_subset.specs.Fault.{misfit, fault_of_mark}
 use Rattle.yaml_subset.specs.Reader.{header_folds}
 use Rattle.yaml_subset.specs.Text.{parent_at, parent_after, header_scalar}
@@ -61,10 +61,10 @@ header_last p ms d h =
     ∙ header_at_end p (map mark_view (take (length ms - 1) ms))
     (mark_view (get_or ms (length ms - 1) d))
 
-pub added_more : (m : marks.Mark) (ms : List marks.Mark) (o p : Open) → add m o ≡ Some p
-    → (add_all (m ∷ ms) o ≡ add_all ms p) × (misfit (m ∷ ms) o ≡ misfit ms p)
+pub added_more : (m : marks.Mark) (ms : List marks.Mark) (o p : Open) → open_after m o ≡ Some p
+    → (open_after_all (m ∷ ms) o ≡ open_after_all ms p) × (misfit (m ∷ ms) o ≡ misfit ms p)
 added_more m ms o p e = (rw e refl, rw e refl)
 
-pub misfit_here : (m : marks.Mark) (ms : List marks.Mark) (o : Open) → add m o ≡ None
+pub misfit_here : (m : marks.Mark) (ms : List marks.Mark) (o : Open) → open_after m o ≡ None
     → misfit (m ∷ ms) o ≡ Some (fault_of_mark m o)
 misfit_here m ms o e = rw e refl

@@ -7,9 +7,9 @@ use Rattle.std.specs.List.{slice_index}
 use Rattle.yaml_subset.specs.declared.quoted.Step.{Step}
 use Rattle.yaml_subset.specs.declared.quoted.Step.TheVariants as steps
 use Rattle.yaml_subset.specs.Flow.{Flow, flow, flow_step}
-use Rattle.yaml_subset.specs.Quoted.{Quoted, quote_end, with_byte, with_escape, escaped, single}
+use Rattle.yaml_subset.specs.Quoted.{Quoted, quote_end, with_byte, with_escape, escaped_byte, single}
 use Rattle.yaml_subset.specs.Quoted.{double, quoted}
-use Rattle.yaml_subset.specs.Scan.{Scan, scan_start, step_of, longer, inside, advanced, scan}
+use Rattle.yaml_subset.specs.Scan.{Scan, scan_start, step_of, longer, inside, next_scan, scan}
 use Rattle.yaml_subset.specs.Scan.{scan_end}
 use Rattle.yaml_subset.specs.declared.quoted.Place.TheVariants as places
 
@@ -100,7 +100,7 @@ from_double q (c ∷ []) = by_byte (eqb c 34) (eqb c 92)
     by_byte false true = refl
     by_byte false false = refl
 from_double q (c ∷ d ∷ cs) =
-    by_byte (eqb c 34) (eqb c 92) (escaped d)
+    by_byte (eqb c 34) (eqb c 92) (escaped_byte d)
     (λ x. from_double (longer (longer q (x ∷ []) q.bad) [] q.bad) cs) (from_double
     (longer (longer q [] true) [] true) cs) (from_double (longer q (c ∷ []) q.bad) (d ∷ cs))
   where
@@ -139,9 +139,9 @@ step_alike p q byte next e = rw e refl
 -- all that counts of the quote is whether it is a single one
 scan_alike : (p q : ℕ) → eqb p 39 ≡ eqb q 39 → (s : Scan) (cs : List ℕ) → scan p s cs ≡ scan q s cs
 scan_alike p q e s [] = refl
-scan_alike p q e s (c ∷ cs) = ap (λ (step : Step). scan p (advanced s.place s.quoted step) cs)
+scan_alike p q e s (c ∷ cs) = ap (λ (step : Step). scan p (next_scan s.place s.quoted step) cs)
     (step_alike p q c (slice_index cs 0) e)
-    ∙ scan_alike p q e (advanced s.place s.quoted (step_of q c (slice_index cs 0))) cs
+    ∙ scan_alike p q e (next_scan s.place s.quoted (step_of q c (slice_index cs 0))) cs
 
 pub scan_quoted : (quote : ℕ) (cs : List ℕ) → scan_end (scan quote scan_start cs) ≡ quoted quote cs
 scan_quoted quote cs = by_quote (eqb quote 39) refl
@@ -158,11 +158,11 @@ pub step_at : (xs : List ℕ) (i : ℕ) → i < length xs → drop i xs ≡ get_
 step_at xs i h = rw (add-one, drop-cons xs i 0) refl
 
 pub scan_more : (quote : ℕ) (s : Scan) (bytes : List ℕ) (at : ℕ) → at < length bytes
-    → scan quote s (drop at bytes) ≡ scan quote (advanced s.place s.quoted
+    → scan quote s (drop at bytes) ≡ scan quote (next_scan s.place s.quoted
     (step_of quote (get_or bytes at 0) (get_or bytes (at + 1) 0))) (drop (at + 1) bytes)
 scan_more quote s bytes at h = ap (scan quote s) (step_at bytes at h)
     ∙ ap (λ (next : ℕ). scan quote
-    (advanced s.place s.quoted (step_of quote (get_or bytes at 0) next)) (drop (at + 1) bytes))
+    (next_scan s.place s.quoted (step_of quote (get_or bytes at 0) next)) (drop (at + 1) bytes))
     (get_or-drop (at + 1) bytes 0 0 ∙ ap (λ (i : ℕ). get_or bytes i 0) (add-zero (at + 1)))
 
 pub flow_more_of : (s : Flow) (bytes : List ℕ) (at : ℕ) → at < length bytes

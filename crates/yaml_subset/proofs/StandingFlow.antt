@@ -9,8 +9,8 @@ use Rattle.std.proofs.lemmas.Bool.{and_parts, and_from, or_parts, or_from, eqb-t
 use Rattle.std.proofs.lemmas.List.Folds.{list_any-append}
 use Rattle.yaml_subset.specs.Tree.{Tree, scalar}
 use Rattle.yaml_subset.specs.FaultOrder.{place, earlier}
-use Rattle.yaml_subset.specs.Block.{is_blank_byte, trimmed}
-use Rattle.yaml_subset.specs.Quoted.{escaped}
+use Rattle.yaml_subset.specs.Block.{is_blank_byte, trimmed_text}
+use Rattle.yaml_subset.specs.Quoted.{escaped_byte}
 use Rattle.yaml_subset.specs.Flow.{Flow, flow, flow_step, flow_at, flow_fault, flow_part, flow_item}
 use Rattle.yaml_subset.specs.Flow.{flow_more, flow_quoted, flow_plain, byte_fault, in_closed, in_want}
 use Rattle.yaml_subset.specs.Flow.{in_plain, in_single, in_double, in_escape, in_after, in_broken}
@@ -130,30 +130,30 @@ second false true z h = h
 second false false z h = refl
 
 begun_form : (t : List ℕ) (c : ℕ) → EndsItem c → IsBegun t c
-    → has_control t ≡ false → (last_byte (trimmed is_blank_byte t) == 58) ≡ false
-    → is_plain (trimmed is_blank_byte t) ≡ true
+    → has_control t ≡ false → (last_byte (trimmed_text is_blank_byte t) == 58) ≡ false
+    → is_plain (trimmed_text is_blank_byte t) ≡ true
 begun_form t c e b free l =
-    let begins : trimmed is_blank_byte t ≡ b.first ∷ trimmed is_blank_byte b.rest =
-    ap (trimmed is_blank_byte) b.text ∙ trimmed_first is_blank_byte b.first b.rest b.nonblank in
-    let here : runs (trimmed is_blank_byte t) ≡ true =
-    runs_front (trimmed is_blank_byte t) (drop _ t) (subst (λ l. runs l ≡ true)
+    let begins : trimmed_text is_blank_byte t ≡ b.first ∷ trimmed_text is_blank_byte b.rest =
+    ap (trimmed_text is_blank_byte) b.text ∙ trimmed_first is_blank_byte b.first b.rest b.nonblank in
+    let here : runs (trimmed_text is_blank_byte t) ≡ true =
+    runs_front (trimmed_text is_blank_byte t) (drop _ t) (subst (λ l. runs l ≡ true)
     (sym (take-append-drop _ t)) (runs_front t (c ∷ []) b.runs_on)) in
-    let whole : plain_len (b.first ∷ trimmed is_blank_byte b.rest)
-    ≡ length (b.first ∷ trimmed is_blank_byte b.rest) = subst (λ l. plain_len l ≡ length l)
-    begins (plain_of_runs (trimmed is_blank_byte t) here l) in
-    let last : Last is_blank_byte (b.first ∷ trimmed is_blank_byte b.rest) =
+    let whole : plain_len (b.first ∷ trimmed_text is_blank_byte b.rest)
+    ≡ length (b.first ∷ trimmed_text is_blank_byte b.rest) = subst (λ l. plain_len l ≡ length l)
+    begins (plain_of_runs (trimmed_text is_blank_byte t) here l) in
+    let last : Last is_blank_byte (b.first ∷ trimmed_text is_blank_byte b.rest) =
     subst (Last is_blank_byte) begins (trimmed_last is_blank_byte t) in
-    let pure : has_control (b.first ∷ trimmed is_blank_byte b.rest) ≡ false =
+    let pure : has_control (b.first ∷ trimmed_text is_blank_byte b.rest) ≡ false =
     subst (λ l. has_control l ≡ false) begins (free_take _ t free) in
-    let start : is_plain_start b.first (trimmed is_blank_byte b.rest) ≡ true =
+    let start : is_plain_start b.first (trimmed_text is_blank_byte b.rest) ≡ true =
     and_from (not (is_indicator b.first)) _ (ap not b.starts)
     (soft_ok b.rest (is_soft_indicator b.first) b.soft) in
     subst (λ l. is_plain l ≡ true) (sym begins)
-    (is_plain_of b.first (trimmed is_blank_byte b.rest) b.nonblank start whole last pure)
+    (is_plain_of b.first (trimmed_text is_blank_byte b.rest) b.nonblank start whole last pure)
   where
     soft_ok : (u : List ℕ) (s : Bool)
         → (s ≡ true → ends_soft (slice_index (u ++ (c ∷ [])) 0) ≡ false)
-        → (not s || not (ends_word (trimmed is_blank_byte u))) ≡ true
+        → (not s || not (ends_word (trimmed_text is_blank_byte u))) ≡ true
     soft_ok u false h = refl
     soft_ok [] true h = absurd
         (true≢false (sym e ∙ third (c == 0) (is_blank_byte c) (is_flow_indicator c) (h refl)))
@@ -279,8 +279,8 @@ module _ (t : List ℕ) (xs : List Tree) (f : Option Which) (c : ℕ) (cs : List
 
   -- a plain item that ends at this byte
   plain_ends : (c < 128) → EndsItem c → f ≡ None → AllByRecursion IsItem xs
-      × (IsBegun t c × IsPure (t ++ (c ∷ cs))) → (last_byte (trimmed is_blank_byte t) == 58) ≡ false
-      → AllByRecursion IsItem (xs ++ (scalar (trimmed is_blank_byte t) true ∷ [])) × IsPure cs
+      × (IsBegun t c × IsPure (t ++ (c ∷ cs))) → (last_byte (trimmed_text is_blank_byte t) == 58) ≡ false
+      → AllByRecursion IsItem (xs ++ (scalar (trimmed_text is_blank_byte t) true ∷ [])) × IsPure cs
   plain_ends low ends g h l = (
     items_more xs _ h.0 (λ d. (
       trimmed_utf8 is_blank_byte blank_ascii
@@ -306,10 +306,10 @@ module _ (t : List ℕ) (xs : List Tree) (f : Option Which) (c : ℕ) (cs : List
   plain_sound going h =
       let s = made parts.Plain t xs f in
       pick (λ s. IsSound s cs) (c == 44) (flow_plain s parts.Want)
-      _ (λ e g. let k = colon_ends (last_byte (trimmed is_blank_byte t) == 58) g in
+      _ (λ e g. let k = colon_ends (last_byte (trimmed_text is_blank_byte t) == 58) g in
       plain_ends (ascii_of c 44 e (omega arith)) (is_end c 44 e refl) k.1 (h k.1) k.0)
       (λ _. pick (λ s. IsSound s cs) (c == 93) (flow_plain s parts.Closed) _ (λ e g. let k =
-      colon_ends (last_byte (trimmed is_blank_byte t) == 58) g in let r = plain_ends
+      colon_ends (last_byte (trimmed_text is_blank_byte t) == 58) g in let r = plain_ends
       (ascii_of c 93 e (omega arith)) (is_end c 93 e refl) k.1 (h k.1) k.0 in (r.0, tt))
       (λ _. pick (λ s. IsSound s cs) (is_flow_indicator c) (flow_fault s parts.Plain
       (byte_fault c next)) _ (λ e. faulted s parts.Plain (byte_fault c next) cs)
@@ -398,8 +398,8 @@ module _ (t : List ℕ) (xs : List Tree) (f : Option Which) (c : ℕ) (cs : List
 
   escape_sound : (f ≡ None → AllByRecursion IsItem xs
       × (IsUtf8 (t ++ (c ∷ cs)) × (is_quotable t ≡ true) × (has_control (c ∷ cs) ≡ false)))
-      → IsSound (in_escape (made parts.Escape t xs f) (escaped c)) cs
-  escape_sound h = by (escaped c) (escape_fine c)
+      → IsSound (in_escape (made parts.Escape t xs f) (escaped_byte c)) cs
+  escape_sound h = by (escaped_byte c) (escape_fine c)
     where
       by : (o : Option ℕ) → IsEscape c o → IsSound (in_escape (made parts.Escape t xs f) o) cs
       by None k = faulted (made parts.Escape t xs f) parts.Double Escape cs

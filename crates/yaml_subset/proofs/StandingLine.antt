@@ -10,10 +10,10 @@ use Rattle.std.proofs.lemmas.Bool.Decides.{nat_tests}
 use Rattle.yaml_subset.specs.Tree.{Tree, mapping, sequence, scalar, no_entries, trees}
 use Rattle.yaml_subset.specs.Mark.{Mark, start, dash, key, value, header, raw}
 use Rattle.yaml_subset.specs.FaultOrder.{earlier}
-use Rattle.yaml_subset.specs.Block.{is_space, is_blank_byte, is_blank, indentation, trimmed}
+use Rattle.yaml_subset.specs.Block.{is_space, is_blank_byte, is_blank, indentation, trimmed_text}
 use Rattle.yaml_subset.specs.Quoted.{Quoted, quoted}
 use Rattle.yaml_subset.specs.Flow.{Flow, flow, flow_start, end_fault}
-use Rattle.yaml_subset.specs.Line.{Line, no_marks, faulty, one_mark, spoiled, with_mark, with_fault}
+use Rattle.yaml_subset.specs.Line.{Line, no_marks, faulty, one_mark, spoiled_value, with_mark, with_fault}
 use Rattle.yaml_subset.specs.Line.{has_control, ends_word, is_tail, is_plain_start, plain_len}
 use Rattle.yaml_subset.specs.Line.{plain_value, is_quote, escape_fault, quoted_value, flow_value}
 use Rattle.yaml_subset.specs.Line.{empty_map, chomping_of, is_sign, is_digit, header_tail}
@@ -48,7 +48,7 @@ IsGoodLine l = l.fault ≡ None → AllByRecursion IsGood l.marks
 faulty_good : (w : Which) → IsGoodLine (faulty w)
 faulty_good w = λ g. tt
 
-spoiled_good : (n : ℕ) (w : Which) → IsGoodLine (spoiled n w)
+spoiled_good : (n : ℕ) (w : Which) → IsGoodLine (spoiled_value n w)
 spoiled_good n w = λ g. cc
 
 with_fault_good : (o : Option Which) (l : Line) → IsGoodLine l → IsGoodLine (with_fault o l)
@@ -59,7 +59,7 @@ with_fault_good o l h = λ g. h (no_fault_right o l.fault g)
 plain_value_good : (n c : ℕ) (cs : List ℕ) → IsPure (c ∷ cs) → is_plain_start c cs ≡ true
     → is_blank_byte c ≡ false → IsGoodLine (plain_value n (c ∷ cs))
 plain_value_good n c cs p begins nonblank =
-    pick IsGoodLine (slice_index (c ∷ cs) (plain_len (c ∷ cs)) == 58) (spoiled n Colon)
+    pick IsGoodLine (slice_index (c ∷ cs) (plain_len (c ∷ cs)) == 58) (spoiled_value n Colon)
     (one_mark (value n (scalar (body (c ∷ cs)) true)) None)
     (λ _. spoiled_good n Colon)
     (λ e g. ((λ d s. (body_utf8 (c ∷ cs) p.0, plain_form c cs begins nonblank p.1 e)), tt))
@@ -100,13 +100,13 @@ map_good (suc d) s = tt
 
 empty_map_good : (n : ℕ) (cs : List ℕ) → IsGoodLine (empty_map n cs)
 empty_map_good n cs = pick IsGoodLine (slice_index cs 0 == 125 && is_tail (drop 1 cs))
-    (one_mark (value n (mapping no_entries)) None) (spoiled n LeftOut) (λ _ g. (map_good, tt))
+    (one_mark (value n (mapping no_entries)) None) (spoiled_value n LeftOut) (λ _ g. (map_good, tt))
     (λ _. spoiled_good n LeftOut)
 
 header_good : (n : ℕ) (s : Style) (cs : List ℕ) → IsGoodLine (header_tail n s cs)
-header_good n s cs = pick IsGoodLine (is_digit (slice_index cs 0)) (spoiled n LeftOut)
-    (cond (is_tail cs) (one_mark (header n s) None) (spoiled n Colon)) (λ _. spoiled_good n LeftOut)
-    (λ _. pick IsGoodLine (is_tail cs) (one_mark (header n s) None) (spoiled n Colon)
+header_good n s cs = pick IsGoodLine (is_digit (slice_index cs 0)) (spoiled_value n LeftOut)
+    (cond (is_tail cs) (one_mark (header n s) None) (spoiled_value n Colon)) (λ _. spoiled_good n LeftOut)
+    (λ _. pick IsGoodLine (is_tail cs) (one_mark (header n s) None) (spoiled_value n Colon)
     (λ _ g. (tt, tt)) (λ _. spoiled_good n Colon))
 
 -- bytes that don't begin with a blank
@@ -130,7 +130,7 @@ inline_good n (c ∷ cs) p b =
     (λ g. (tt, pure_behind c cs (ascii_of c 91 e (omega arith)) p))))
     (λ _. pick IsGoodLine (c == 123) (empty_map n cs) _ (λ _. empty_map_good n cs)
     (λ _. pick IsGoodLine (c == 124 || c == 62) (header_value n (c == 62) cs)
-    (spoiled n (indicator_fault c)) (λ _. header_good n (record {
+    (spoiled_value n (indicator_fault c)) (λ _. header_good n (record {
       folded = c == 62;
       chomping =
           chomping_of (slice_index cs 0);
@@ -207,9 +207,9 @@ quoted_key_good c cs (Some q) f free =
 plain_key_good : (cs : List ℕ) → IsPure cs → IsGoodKey cs (plain_key cs)
 plain_key_good cs p = pick (IsGoodKey cs) (slice_index cs (plain_len cs) == 58)
     (Some (record {
-      text = trimmed is_space (take (plain_len cs) cs);
+      text = trimmed_text is_space (take (plain_len cs) cs);
       length = plain_len cs + 1;
-      fault = plain_key_fault (trimmed is_space (take (plain_len cs) cs));
+      fault = plain_key_fault (trimmed_text is_space (take (plain_len cs) cs));
     })) None
     (λ e g. let k : plain_len cs + 1 ≡ suc (plain_len cs) = omega arith in
     (clean-from_pure _ (key_pure cs p), rw k (behind_byte cs (plain_len cs) p e))) (λ _. tt)

@@ -11,11 +11,11 @@ use lib.Pointwise.{bytes_decides}
 use Rattle.yaml_subset.specs.Tree.{Tree, trees}
 use Rattle.yaml_subset.specs.Mark.{Mark, start, dash, key, value, header, raw, Child}
 use Rattle.yaml_subset.specs.Block.{is_space, is_blank, indentation, joint, Block, content_of}
-use Rattle.yaml_subset.specs.Block.{indent_of, filled, with_line, ended}
+use Rattle.yaml_subset.specs.Block.{indent_of, filled_block, with_line, ended_text}
 use Rattle.yaml_subset.specs.Profile.{has_room, is_next, with_child, or_no_text, is_key}
 use Rattle.yaml_subset.specs.Profile.{is_repeated, entries, collection, is_shallow}
-use Rattle.yaml_subset.specs.OpenNodes.{Open, nothing, inline, block, within, closed, finished}
-use Rattle.yaml_subset.specs.OpenNodes.{begun, with_raw, next_piece, added}
+use Rattle.yaml_subset.specs.OpenNodes.{Open, nothing, inline, block, within, node_so_far, documents_so_far}
+use Rattle.yaml_subset.specs.OpenNodes.{begun_node, with_raw, next_piece, next_open}
 use Rattle.yaml_subset.specs.Text.{scalar_with}
 use Rattle.yaml_subset.specs.Spelling.{spelled, fields_spelled, items_spelled}
 use Rattle.yaml_subset.specs.Fits.{Fits, FitFields, FitItems, has_field}
@@ -189,11 +189,11 @@ content_clean s (Some i) t n l h p = clean-append (joint s.folded n) (drop i l)
 with_line_clean : (b : Block) (l : List ℕ) → (is_blank l ≡ false → Deep b.indent l) → IsClean b.text
     → IsPure l → IsClean (with_line b l).text
 with_line_clean b l h c p = pick (λ (a : Block). IsClean a.text) (is_blank l)
-    (record b { blanks = suc b.blanks }) (filled b l) (λ _. c) (λ e. clean-append b.text
+    (record b { blanks = suc b.blanks }) (filled_block b l) (λ _. c) (λ e. clean-append b.text
     (content_of b l) c (content_clean b.style b.indent b.text b.blanks l (h e) p))
 
 ended_clean : (f : Bool) (c : Chomping) (o : Option ℕ) (t : List ℕ) (n : ℕ) → IsClean t
-    → IsClean (ended (record {
+    → IsClean (ended_text (record {
       style = record { folded = f; chomping = c };
       indent = o;
       text = t;
@@ -222,15 +222,15 @@ abbrev pub OnOpen : ℕ → Option Open → Type 0
 OnOpen d None = ⊤
 OnOpen d (Some o) = IsGoodOpen d o
 
-closed_good : (d : ℕ) (o : Open) → IsGoodOpen d o → OnTree d (closed o)
+closed_good : (d : ℕ) (o : Open) → IsGoodOpen d o → OnTree d (node_so_far o)
 closed_good d nothing h = tt
 closed_good d (inline x) h = h
 closed_good d (block b) h = ended_clean b.style.folded b.style.chomping b.indent b.text b.blanks h
 closed_good zero (within g done i) h = absurd h
-closed_good (suc d) (within g done i) h = collection_good d (with_child done g (closed i))
-    (with_child_good d done g (closed i) h.2 h.0 h.1 (closed_good d i h.3))
+closed_good (suc d) (within g done i) h = collection_good d (with_child done g (node_so_far i))
+    (with_child_good d done g (node_so_far i) h.2 h.0 h.1 (closed_good d i h.3))
 
-begun_good : (d : ℕ) (m : Mark) → IsGood m → OnOpen d (begun d m)
+begun_good : (d : ℕ) (m : Mark) → IsGood m → OnOpen d (begun_node d m)
 begun_good zero start g = tt
 begun_good zero (dash n) g = tt
 begun_good zero (key n k) g = tt
@@ -259,9 +259,9 @@ next_good d m done g k = pick (OnOpen (suc d)) (is_repeated m done) None
 
 -- one more mark of a line by itself
 pub added_good : (d : ℕ) (h m : Mark) (o : Open) → IsGoodOpen d o → IsGood m
-    → OnOpen d (added d h m o)
+    → OnOpen d (next_open d h m o)
 added_good d h m nothing k g =
-    pick (OnOpen d) (has_room h m) (begun d m) None (λ _. begun_good d m g) (λ _. tt)
+    pick (OnOpen d) (has_room h m) (begun_node d m) None (λ _. begun_good d m g) (λ _. tt)
 added_good d h m (inline x) k g = tt
 added_good d h m (block b) k g = by m g
   where
@@ -274,19 +274,19 @@ added_good d h m (block b) k g = by m g
     by (raw l) g = absurd g
 added_good zero h m (within f done i) k g = absurd k
 added_good (suc d) h m (within f done i) k g = pick (OnOpen (suc d)) (is_next f m)
-    (next_piece m (with_child done f (closed i))) (option_map (within f done) (added d f m i))
-    (λ _. next_good d m (with_child done f (closed i)) g
-    (with_child_good d done f (closed i) k.2 k.0 k.1 (closed_good d i k.3)))
-    (λ _. under d f done (added d f m i) k.0 k.1 k.2 (added_good d f m i k.3 g))
+    (next_piece m (with_child done f (node_so_far i))) (option_map (within f done) (next_open d f m i))
+    (λ _. next_good d m (with_child done f (node_so_far i)) g
+    (with_child_good d done f (node_so_far i) k.2 k.0 k.1 (closed_good d i k.3)))
+    (λ _. under d f done (next_open d f m i) k.0 k.1 k.2 (added_good d f m i k.3 g))
 
 -- the nodes of a stream that ends there
 pub finished_good : (d : ℕ) (o : Open) → IsGoodOpen (suc d) o
-    → AllByRecursion (λ x. Fits d (spelled x)) (finished o)
+    → AllByRecursion (λ x. Fits d (spelled x)) (documents_so_far o)
 finished_good d nothing h = tt
 finished_good d (inline x) h = tt
 finished_good d (block b) h = tt
-finished_good d (within g done i) h = all_fit (map (λ c. c.tree) (with_child done g (closed i)))
-    (with_child_good d done g (closed i) h.2 h.0 h.1 (closed_good d i h.3)).1
+finished_good d (within g done i) h = all_fit (map (λ c. c.tree) (with_child done g (node_so_far i)))
+    (with_child_good d done g (node_so_far i) h.2 h.0 h.1 (closed_good d i h.3)).1
   where
     all_fit : (xs : List Tree) → FitItems d (items_spelled (trees xs))
         → AllByRecursion (λ x. Fits d (spelled x)) xs
@@ -322,7 +322,7 @@ next_header (value m x) n s = refl
 next_header (header m t) n s = refl
 next_header (raw k) n s = refl
 
-no_raw : (d : ℕ) (l : List ℕ) → begun d (raw l) ≡ None
+no_raw : (d : ℕ) (l : List ℕ) → begun_node d (raw l) ≡ None
 no_raw zero l = refl
 no_raw (suc d) l = refl
 
@@ -333,25 +333,25 @@ under_indents j h done (Some i) v = v
 
 -- one more line of the open block scalar
 pub raw_good : (d : ℕ) (h : Mark) (l : List ℕ) (j : Option ℕ) (o : Open) → IsGoodOpen d o
-    → Indents j o → IsPure l → (is_blank l ≡ false → Deep j l) → OnOpen d (added d h (raw l) o)
-raw_good d h l j nothing k i p deep = pick (OnOpen d) (has_room h (raw l)) (begun d (raw l)) None
+    → Indents j o → IsPure l → (is_blank l ≡ false → Deep j l) → OnOpen d (next_open d h (raw l) o)
+raw_good d h l j nothing k i p deep = pick (OnOpen d) (has_room h (raw l)) (begun_node d (raw l)) None
     (λ _. subst (OnOpen d) (sym (no_raw d l)) tt) (λ _. tt)
 raw_good d h l j (inline x) k i p deep = tt
 raw_good d h l j (block b) k i p deep =
     with_line_clean b l (λ e. subst (λ o. Deep o l) (sym i) (deep e)) k p
 raw_good zero h l j (within f done o) k i p deep = absurd k
 raw_good (suc d) h l j (within f done o) k i p deep = rw (next_raw f l)
-    (under d f done (added d f (raw l) o) k.0 k.1 k.2 (raw_good d f l j o k.3 i p deep))
+    (under d f done (next_open d f (raw l) o) k.0 k.1 k.2 (raw_good d f l j o k.3 i p deep))
 
 pub raw_indents : (d : ℕ) (h : Mark) (l : List ℕ) (s : Scalar) (o : Open) → Indents s.indent o
-    → OnIndents (scalar_with l s).indent (added d h (raw l) o)
+    → OnIndents (scalar_with l s).indent (next_open d h (raw l) o)
 raw_indents d h l s nothing i =
-    pick (OnIndents (scalar_with l s).indent) (has_room h (raw l)) (begun d (raw l)) None
+    pick (OnIndents (scalar_with l s).indent) (has_room h (raw l)) (begun_node d (raw l)) None
     (λ _. subst (OnIndents (scalar_with l s).indent) (sym (no_raw d l)) tt) (λ _. tt)
 raw_indents d h l s (inline x) i = tt
 raw_indents d h l s (block b) i = by (is_blank l)
   where
-    by : (t : Bool) → (cond t (record b { blanks = suc b.blanks }) (filled b l)).indent
+    by : (t : Bool) → (cond t (record b { blanks = suc b.blanks }) (filled_block b l)).indent
         ≡ (cond t s (record {
           parent = s.parent;
           indent = Some (indent_of s.indent l);
@@ -360,18 +360,18 @@ raw_indents d h l s (block b) i = by (is_blank l)
     by true = i
     by false = ap Some (ap (λ o. indent_of o l) i)
 raw_indents d h l s (within f done o) i = rw (next_raw f l) (under_indents (scalar_with l s).indent
-    f done (added (pred d) f (raw l) o) (raw_indents (pred d) f l s o i))
+    f done (next_open (pred d) f (raw l) o) (raw_indents (pred d) f l s o i))
 
 -- a header opens a block scalar with no line yet
 pub header_indents : (d : ℕ) (h : Mark) (n : ℕ) (s : Style) (o : Open)
-    → OnIndents None (added d h (header n s) o)
+    → OnIndents None (next_open d h (header n s) o)
 header_indents d h n s nothing = pick (OnIndents None) (has_room h (header n s))
-    (begun d (header n s)) None (λ _. opens d) (λ _. tt)
+    (begun_node d (header n s)) None (λ _. opens d) (λ _. tt)
   where
-    opens : (d : ℕ) → OnIndents None (begun d (header n s))
+    opens : (d : ℕ) → OnIndents None (begun_node d (header n s))
     opens zero = refl
     opens (suc d) = refl
 header_indents d h n s (inline x) = tt
 header_indents d h n s (block b) = tt
 header_indents d h n s (within f done o) = rw (next_header f n s)
-    (under_indents None f done (added (pred d) f (header n s) o) (header_indents (pred d) f n s o))
+    (under_indents None f done (next_open (pred d) f (header n s) o) (header_indents (pred d) f n s o))

@@ -9,7 +9,7 @@ use Rattle.std.proofs.lemmas.Bool.{true≢false, false≢true, eq-eqb}
 use Rattle.std.proofs.lemmas.List.{reverse-append, length-reverse}
 use Rattle.std.proofs.lemmas.List.Folds.{prefix_len-append}
 use Rattle.std.proofs.lemmas.List.Sums.{prefix_len-le-length}
-use Rattle.yaml_subset.specs.Block.{is_space, is_blank_byte, trimmed}
+use Rattle.yaml_subset.specs.Block.{is_space, is_blank_byte, trimmed_text}
 use Rattle.yaml_subset.specs.Flow.{is_indicator, is_soft_indicator}
 use Rattle.yaml_subset.specs.Line.{has_control, ends_word, is_plain_start, stops_plain, plain_len}
 use Rattle.yaml_subset.specs.Fits.{is_plain}
@@ -41,11 +41,11 @@ module _ (test : ℕ → Bool) where
       ∙ ap (λ n. cond (eqb (prefix_len test (reverse xs)) n) (n + cond (test x) (1 + 0) 0)
       (prefix_len test (reverse xs))) (length-reverse xs)
 
-  trimmed-cons : (x : ℕ) (xs : List ℕ) → trimmed test (x ∷ xs) ≡ onto test x (trimmed test xs)
+  trimmed-cons : (x : ℕ) (xs : List ℕ) → trimmed_text test (x ∷ xs) ≡ onto test x (trimmed_text test xs)
   unfolding last_len
   trimmed-cons x xs =
       ap (λ n. take (suc (length xs) - n) (x ∷ xs)) (last_cons x xs)
-      ∙ pick (λ n. take (suc (length xs) - n) (x ∷ xs) ≡ onto test x (trimmed test xs))
+      ∙ pick (λ n. take (suc (length xs) - n) (x ∷ xs) ≡ onto test x (trimmed_text test xs))
       (eqb (last_len xs) (length xs)) (length xs + cond (test x) (1 + 0) 0) (last_len xs)
       (λ e. whole (eqb-true (last_len xs) (length xs) e))
       (λ e. let h = few xs in part xs (last_len xs) h (eqb-false (last_len xs) (length xs) e))
@@ -57,7 +57,7 @@ module _ (test : ℕ → Bool) where
 
       whole : last_len xs ≡ length xs
           → take (suc (length xs) - (length xs + cond (test x) (1 + 0) 0)) (x ∷ xs)
-          ≡ onto test x (trimmed test xs)
+          ≡ onto test x (trimmed_text test xs)
       whole e =
           let none : length xs - last_len xs ≡ 0 = omega arith in
           by_test (test x) (length xs) refl ∙ sym (ap (λ n. onto test x (take n xs)) none)
@@ -80,16 +80,16 @@ module _ (test : ℕ → Bool) where
   onto_last x [] h = pick Last (test x) [] (x ∷ []) (λ e. tt) (λ e. e)
   onto_last x (y ∷ ys) h = h
 
-  pub trimmed_last : (xs : List ℕ) → Last (trimmed test xs)
+  pub trimmed_last : (xs : List ℕ) → Last (trimmed_text test xs)
   unfolding Last
   trimmed_last [] = tt
   trimmed_last (x ∷ xs) =
-      subst Last (sym (trimmed-cons x xs)) (onto_last x (trimmed test xs) (trimmed_last xs))
+      subst Last (sym (trimmed-cons x xs)) (onto_last x (trimmed_text test xs) (trimmed_last xs))
 
   -- a byte that fails the test stays
   pub trimmed_first : (x : ℕ) (xs : List ℕ) → test x ≡ false
-      → trimmed test (x ∷ xs) ≡ x ∷ trimmed test xs
-  trimmed_first x xs e = trimmed-cons x xs ∙ by (trimmed test xs)
+      → trimmed_text test (x ∷ xs) ≡ x ∷ trimmed_text test xs
+  trimmed_first x xs e = trimmed-cons x xs ∙ by (trimmed_text test xs)
     where
       by : (u : List ℕ) → onto test x u ≡ x ∷ u
       by [] = rw e refl
@@ -97,11 +97,11 @@ module _ (test : ℕ → Bool) where
 
   -- where the test takes ASCII alone, such a text of UTF-8 is UTF-8
   pub trimmed_utf8 : ((c : ℕ) → test c ≡ true → c < 128) → (p xs : List ℕ) → IsUtf8 (p ++ xs)
-      → IsUtf8 (p ++ trimmed test xs)
+      → IsUtf8 (p ++ trimmed_text test xs)
   trimmed_utf8 low p [] u = u
   trimmed_utf8 low p (x ∷ xs) u =
       subst (λ l. IsUtf8 (p ++ l)) (sym (trimmed-cons x xs))
-      (by (trimmed test xs) (trimmed_utf8 low (p ++ (x ∷ [])) xs (onward p x xs u)))
+      (by (trimmed_text test xs) (trimmed_utf8 low (p ++ (x ∷ [])) xs (onward p x xs u)))
     where
       by : (l : List ℕ) → IsUtf8 ((p ++ (x ∷ [])) ++ l) → IsUtf8 (p ++ onto test x l)
       by [] v = pick (λ l. IsUtf8 (p ++ l)) (test x) [] (x ∷ [])
@@ -112,7 +112,7 @@ module _ (test : ℕ → Bool) where
 
 -- a plain scalar's text at the beginning of these bytes
 abbrev pub body : List ℕ → List ℕ
-body xs = trimmed is_blank_byte (take (plain_len xs) xs)
+body xs = trimmed_text is_blank_byte (take (plain_len xs) xs)
 
 -- no colon ends it
 abbrev pub EndsWell : List ℕ → Type 0
@@ -122,7 +122,7 @@ body-cons : (c : ℕ) (cs : List ℕ)
     → body (c ∷ cs) ≡ cond (stops_plain c cs) [] (onto is_blank_byte c (body cs))
 body-cons c cs = by (stops_plain c cs)
   where
-    by : (b : Bool) → trimmed is_blank_byte (take (cond b 0 (suc (plain_len cs))) (c ∷ cs))
+    by : (b : Bool) → trimmed_text is_blank_byte (take (cond b 0 (suc (plain_len cs))) (c ∷ cs))
         ≡ cond b [] (onto is_blank_byte c (body cs))
     by true = refl
     by false = trimmed-cons is_blank_byte c (take (plain_len cs) cs)
@@ -276,7 +276,7 @@ body_utf8 xs u =
     trimmed_utf8 is_blank_byte blank_ascii [] (take (plain_len xs) xs) (plain_utf8 [] xs u)
 
 -- a plain key
-pub key_pure : (xs : List ℕ) → IsPure xs → IsPure (trimmed is_space (take (plain_len xs) xs))
+pub key_pure : (xs : List ℕ) → IsPure xs → IsPure (trimmed_text is_space (take (plain_len xs) xs))
 key_pure xs u = (
   trimmed_utf8 is_space (λ c e. ascii_of c 32 e (omega arith))
       [] (take (plain_len xs) xs) (plain_utf8 [] xs u.0),

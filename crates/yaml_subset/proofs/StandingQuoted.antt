@@ -4,7 +4,7 @@ use Rattle.std.proofs.Common.{Option, Some, None, drop, option_map, IsUtf8, refl
 use Rattle.std.specs.Prelude.{⊤}
 use Rattle.std.specs.List.{list_all}
 use Rattle.std.proofs.lemmas.Bool.{and_parts, and_from, true≢false}
-use Rattle.yaml_subset.specs.Quoted.{Quoted, quote_end, with_byte, with_escape, escaped, single}
+use Rattle.yaml_subset.specs.Quoted.{Quoted, quote_end, with_byte, with_escape, escaped_byte, single}
 use Rattle.yaml_subset.specs.Quoted.{double, quoted}
 use Rattle.yaml_subset.specs.Fits.{is_quotable}
 use Rattle.yaml_subset.proofs.StandingBytes.{pick, back, before_end, without, in_place, onward}
@@ -62,7 +62,7 @@ abbrev pub IsEscape : ℕ → Option ℕ → Type 0
 IsEscape d None = ⊤
 IsEscape d (Some e) = (d < 128) × (e < 128) × (may_stand e ≡ true)
 
-pub escape_fine : (d : ℕ) → IsEscape d (escaped d)
+pub escape_fine : (d : ℕ) → IsEscape d (escaped_byte d)
 escape_fine d = pick (IsEscape d) (d == 92)
     (Some 92) (cond (d == 34) (Some 34) (cond (d == 110) (Some 10) (cond (d == 116) (Some 9) None)))
     (λ e. (ascii_of d 92 e (omega arith), omega arith, refl))
@@ -85,12 +85,12 @@ double_fine p (c ∷ d ∷ cs) u g =
     let s = and_parts (may_stand c) (list_all may_stand (d ∷ cs)) g in
     let t = and_parts (may_stand d) (list_all may_stand cs) s.1 in
     pick (IsFine p (c ∷ d ∷ cs)) (c == 34)
-    (Some quote_end) (cond (c == 92) (option_map (with_escape (escaped d)) (double cs))
+    (Some quote_end) (cond (c == 92) (option_map (with_escape (escaped_byte d)) (double cs))
     (option_map (with_byte c 1) (double (d ∷ cs))))
     (λ e. ends p c (d ∷ cs) (ascii_of c 34 e (omega arith)) u)
-    (λ _. pick (IsFine p (c ∷ d ∷ cs)) (c == 92) (option_map (with_escape (escaped d)) (double cs))
+    (λ _. pick (IsFine p (c ∷ d ∷ cs)) (c == 92) (option_map (with_escape (escaped_byte d)) (double cs))
     (option_map (with_byte c 1) (double (d ∷ cs)))
-    (λ e. by_escape (escaped d) (escape_fine d) (λ k v. double_fine (p ++ (k ∷ [])) cs v t.1)
+    (λ e. by_escape (escaped_byte d) (escape_fine d) (λ k v. double_fine (p ++ (k ∷ [])) cs v t.1)
     (without_first (ascii_of c 92 e (omega arith))))
     (λ e. one_more p c (d ∷ cs) (double (d ∷ cs)) s.0
     (double_fine (p ++ (c ∷ [])) (d ∷ cs) (onward p c (d ∷ cs) u) s.1)))

@@ -13,8 +13,8 @@ use Rattle.yaml_subset.specs.Mark.{Mark, start, dash, key, value, header, raw}
 use Rattle.yaml_subset.specs.Block.{is_blank, indentation}
 use Rattle.yaml_subset.specs.Line.{has_control, is_marker, line_of}
 use Rattle.yaml_subset.specs.Profile.{max_depth, documents}
-use Rattle.yaml_subset.specs.OpenNodes.{Open, nothing, within, open_nodes, finished, add, add_all}
-use Rattle.yaml_subset.specs.Text.{Marked, is_content, takes, is_more_indented, has_early_tab}
+use Rattle.yaml_subset.specs.OpenNodes.{Open, nothing, within, open_nodes, documents_so_far, open_after, open_after_all}
+use Rattle.yaml_subset.specs.Text.{MarkedLines, is_content, takes, is_more_indented, has_early_tab}
 use Rattle.yaml_subset.specs.Text.{raw_fault, line_at, parent_at, parent_after, header_scalar}
 use Rattle.yaml_subset.specs.Text.{scalar_with, scalar_after, no_line, without_mark, StandsFor}
 use Rattle.yaml_subset.specs.Spelling.{Spelling, word, quoted, fields, items, Fields, no_fields}
@@ -48,14 +48,14 @@ OnLinks sc None = ⊤
 OnLinks sc (Some o) = Links sc o
 
 marks_good : (ms : List Mark) (o : Open) → IsGoodOpen deepest o → AllByRecursion IsGood ms
-    → OnOpen deepest (add_all ms o)
+    → OnOpen deepest (open_after_all ms o)
 marks_good [] o k g = k
 marks_good (m ∷ ms) o k g =
-    by (add m o) (added_good deepest start m o k g.0) (λ p h. marks_good ms p h g.1)
+    by (open_after m o) (added_good deepest start m o k g.0) (λ p h. marks_good ms p h g.1)
   where
     by : (a : Option Open) → OnOpen deepest a
-        → ((p : Open) → IsGoodOpen deepest p → OnOpen deepest (add_all ms p))
-        → OnOpen deepest (option_and_then (add_all ms) a)
+        → ((p : Open) → IsGoodOpen deepest p → OnOpen deepest (open_after_all ms p))
+        → OnOpen deepest (option_and_then (open_after_all ms) a)
     by None h ih = tt
     by (Some p) h ih = ih p h
 
@@ -73,12 +73,12 @@ none_linked None = tt
 none_linked (Some o) = tt
 
 marks_linked : (p : Option ℕ) (ms : List Mark) (o : Open)
-    → OnLinks (header_scalar p ms) (add_all ms o)
+    → OnLinks (header_scalar p ms) (open_after_all ms o)
 marks_linked p [] o = tt
 marks_linked p (m ∷ []) o = by m
   where
     last : (sc : Option Scalar) (a : Option Open) → OnLinks sc a
-        → OnLinks sc (option_and_then (add_all []) a)
+        → OnLinks sc (option_and_then (open_after_all []) a)
     last sc None h = tt
     last sc (Some o) h = h
 
@@ -86,21 +86,21 @@ marks_linked p (m ∷ []) o = by m
     linked s None h = tt
     linked s (Some o) h = h
 
-    by : (m : Mark) → OnLinks (header_scalar p (m ∷ [])) (option_and_then (add_all []) (add m o))
+    by : (m : Mark) → OnLinks (header_scalar p (m ∷ [])) (option_and_then (open_after_all []) (open_after m o))
     by start = none_linked _
     by (dash n) = none_linked _
     by (key n k) = none_linked _
     by (value n x) = none_linked _
     by (header n s) = let sc : Scalar = record { parent = p; indent = None; folded = s.folded } in
-        last (Some sc) (add (header n s) o)
-        (linked sc (add (header n s) o) (header_indents deepest start n s o))
+        last (Some sc) (open_after (header n s) o)
+        (linked sc (open_after (header n s) o) (header_indents deepest start n s o))
     by (raw l) = none_linked _
-marks_linked p (m ∷ n ∷ ms) o = subst (λ sc. OnLinks sc (add_all (m ∷ n ∷ ms) o))
-    (sym (header_scalar-cons p m n ms)) (by (add m o) (λ q. marks_linked (parent_at m) (n ∷ ms) q))
+marks_linked p (m ∷ n ∷ ms) o = subst (λ sc. OnLinks sc (open_after_all (m ∷ n ∷ ms) o))
+    (sym (header_scalar-cons p m n ms)) (by (open_after m o) (λ q. marks_linked (parent_at m) (n ∷ ms) q))
   where
     by : (a : Option Open) → ((q : Open)
-        → OnLinks (header_scalar (parent_at m) (n ∷ ms)) (add_all (n ∷ ms) q))
-        → OnLinks (header_scalar (parent_at m) (n ∷ ms)) (option_and_then (add_all (n ∷ ms)) a)
+        → OnLinks (header_scalar (parent_at m) (n ∷ ms)) (open_after_all (n ∷ ms) q))
+        → OnLinks (header_scalar (parent_at m) (n ∷ ms)) (option_and_then (open_after_all (n ∷ ms)) a)
     by None ih = tt
     by (Some q) ih = ih q
 
@@ -139,32 +139,32 @@ both_known sc (Some o) g l = (g, l)
 
 own_line : (sc : Option Scalar) (p : Option ℕ) (l : List ℕ) (o : Open) → IsUtf8 l
     → IsGoodOpen deepest o → takes sc l ≡ false → (line_at sc l).fault ≡ None
-    → OnStep (scalar_after sc p l) (add_all (line_at sc l).marks o)
+    → OnStep (scalar_after sc p l) (open_after_all (line_at sc l).marks o)
 own_line sc p l o u g e f =
-    rw e (both_known (header_scalar p (line_of l).marks) (add_all (line_of l).marks o) (marks_good
+    rw e (both_known (header_scalar p (line_of l).marks) (open_after_all (line_of l).marks o) (marks_good
     (line_of l).marks o g (line_good l u (rw e at f))) (marks_linked p (line_of l).marks o))
 
 taken_line : (s : Scalar) (p : Option ℕ) (l : List ℕ) (o : Open) → IsUtf8 l → IsGoodOpen deepest o
     → Indents s.indent o → takes (Some s) l ≡ true → (line_at (Some s) l).fault ≡ None
-    → OnStep (scalar_after (Some s) p l) (add_all (line_at (Some s) l).marks o)
+    → OnStep (scalar_after (Some s) p l) (open_after_all (line_at (Some s) l).marks o)
 taken_line s p l o u g i e f =
     let pure = raw_pure s l (rw e at f) in
-    rw e (by (add (raw l) o) (raw_good deepest start l s.indent o g i (u, pure) (taken_deep s l e))
+    rw e (by (open_after (raw l) o) (raw_good deepest start l s.indent o g i (u, pure) (taken_deep s l e))
     (raw_indents deepest start l s o i))
   where
     by : (a : Option Open) → OnOpen deepest a → OnIndents (scalar_with l s).indent a
-        → OnStep (Some (scalar_with l s)) (option_and_then (add_all []) a)
+        → OnStep (Some (scalar_with l s)) (option_and_then (open_after_all []) a)
     by None g i = tt
     by (Some q) g i = (g, i)
 
 line_step : (sc : Option Scalar) (p : Option ℕ) (l : List ℕ) (o : Open)
     → IsUtf8 l → IsGoodOpen deepest o → Links sc o → (line_at sc l).fault ≡ None
-    → OnStep (scalar_after sc p l) (add_all (line_at sc l).marks o)
+    → OnStep (scalar_after sc p l) (open_after_all (line_at sc l).marks o)
 line_step None p l o u g i f = own_line None p l o u g refl f
 line_step (Some s) p l o u g i f = by (takes (Some s) l) refl
   where
     by : (b : Bool) → takes (Some s) l ≡ b
-        → OnStep (scalar_after (Some s) p l) (add_all (line_at (Some s) l).marks o)
+        → OnStep (scalar_after (Some s) p l) (open_after_all (line_at (Some s) l).marks o)
     by true e = taken_line s p l o u g i e f
     by false e = own_line (Some s) p l o u g e f
 
@@ -174,26 +174,26 @@ abbrev OnNodes : Option (List Tree) → Type 0
 OnNodes None = ⊤
 OnNodes (Some xs) = AllByRecursion IsWritable xs
 
-abbrev nodes : Option Marked → Option (List Tree)
-nodes a = option_and_then (λ (t : Marked). documents t.marks) a
+abbrev nodes : Option MarkedLines → Option (List Tree)
+nodes a = option_and_then (λ (t : MarkedLines). documents t.marks) a
 
 no_fault : (f : Option Which) → is_none f ≡ true → f ≡ None
 no_fault None e = refl
 no_fault (Some w) e = absurd (false≢true e)
 
-lines_standing : (ls : List (List ℕ)) (s : Marked) (o : Open) → open_nodes s.marks ≡ Some o
+lines_standing : (ls : List (List ℕ)) (s : MarkedLines) (o : Open) → open_nodes s.marks ≡ Some o
     → IsGoodOpen deepest o → Links s.scalar o → AllByRecursion IsUtf8 ls
     → OnNodes (nodes (fold step (Some s) ls))
 lines_standing [] s o e g i u = subst OnNodes
-    (sym (documents_closed s.marks ∙ ap (option_map finished) e)) (finished_good max_depth o g)
+    (sym (documents_closed s.marks ∙ ap (option_map documents_so_far) e)) (finished_good max_depth o g)
 lines_standing (l ∷ ls) s o e g i u =
     pick (λ a. OnNodes (nodes (fold step a ls))) (is_none (line_at s.scalar l).fault)
     (Some more) None
-    (λ f. by (add_all (line_at s.scalar l).marks o) refl (line_step s.scalar s.parent l o u.0 g i
+    (λ f. by (open_after_all (line_at s.scalar l).marks o) refl (line_step s.scalar s.parent l o u.0 g i
     (no_fault (line_at s.scalar l).fault f)) (λ q h k v. lines_standing ls more q h k v u.1))
     (λ _. subst (λ a. OnNodes (nodes a)) (sym (none_stays ls)) tt)
   where
-    more : Marked
+    more : MarkedLines
     more = record {
       marks = s.marks ++ (line_at s.scalar l).marks;
       parent = parent_after s.parent (line_at s.scalar l).marks;
@@ -201,11 +201,11 @@ lines_standing (l ∷ ls) s o e g i u =
     }
 
     opens : open_nodes (s.marks ++ (line_at s.scalar l).marks)
-        ≡ add_all (line_at s.scalar l).marks o
+        ≡ open_after_all (line_at s.scalar l).marks o
     opens = open_nodes-append s.marks (line_at s.scalar l).marks
-        ∙ ap (option_and_then (add_all (line_at s.scalar l).marks)) e
+        ∙ ap (option_and_then (open_after_all (line_at s.scalar l).marks)) e
 
-    by : (a : Option Open) → add_all (line_at s.scalar l).marks o ≡ a
+    by : (a : Option Open) → open_after_all (line_at s.scalar l).marks o ≡ a
         → OnStep (scalar_after s.scalar s.parent l) a
         → ((q : Open) → open_nodes (s.marks ++ (line_at s.scalar l).marks) ≡ Some q
         → IsGoodOpen deepest q → Links (scalar_after s.scalar s.parent l) q

@@ -10,8 +10,8 @@ use Rattle.std.proofs.Math.Seq.{take-suc, drop-cons}
 use Rattle.yaml_subset.specs.Mark.{Mark, start}
 use Rattle.yaml_subset.specs.FaultOrder.{earlier}
 use Rattle.yaml_subset.specs.Profile.{documents}
-use Rattle.yaml_subset.specs.Text.{Marked, line_at, next_line, no_line, marked, nodes_of}
-use Rattle.yaml_subset.specs.OpenNodes.{Open, nothing, within, open_nodes, finished, add, add_all}
+use Rattle.yaml_subset.specs.Text.{MarkedLines, line_at, next_line, no_line, marked_lines, nodes_of}
+use Rattle.yaml_subset.specs.OpenNodes.{Open, nothing, within, open_nodes, documents_so_far, open_after, open_after_all}
 use Rattle.yaml_subset.specs.Fault.{fault_of_mark, misfit, fault_of, IsFault}
 use Rattle.yaml_subset.specs.Reader.{IsRead, Reading, Follows}
 use Rattle.std.proofs.lemmas.Bool.{false≢true}
@@ -20,18 +20,18 @@ use Rattle.yaml_subset.specs.declared.which.Which.{Which}
 use Rattle.yaml_subset.proofs.OpenLemmas.{open_nodes-append, documents_closed}
 
 -- marks that all have a place have no fault, and else the first that has none has one
-pub misfit_of_add : (ms : List Mark) (o : Open) → is_none (misfit ms o) ≡ is_some (add_all ms o)
+pub misfit_of_add : (ms : List Mark) (o : Open) → is_none (misfit ms o) ≡ is_some (open_after_all ms o)
 misfit_of_add [] o = refl
-misfit_of_add (m ∷ ms) o = at_add (add m o) (λ p. misfit_of_add ms p)
+misfit_of_add (m ∷ ms) o = at_add (open_after m o) (λ p. misfit_of_add ms p)
   where
-    at_add : (a : Option Open) → ((p : Open) → is_none (misfit ms p) ≡ is_some (add_all ms p))
+    at_add : (a : Option Open) → ((p : Open) → is_none (misfit ms p) ≡ is_some (open_after_all ms p))
         → is_none (option_map_or (misfit ms) a (Some (fault_of_mark m o)))
-        ≡ is_some (option_and_then (add_all ms) a)
+        ≡ is_some (option_and_then (open_after_all ms) a)
     at_add None ih = refl
     at_add (Some p) ih = ih p
 
 pub marked-snoc : (ls : List (List ℕ)) (line : List ℕ)
-    → marked (ls ++ (line ∷ [])) ≡ option_and_then (λ s. next_line s line) (marked ls)
+    → marked_lines (ls ++ (line ∷ [])) ≡ option_and_then (λ s. next_line s line) (marked_lines ls)
 marked-snoc ls line =
     fold-append (λ o l. option_and_then (λ s. next_line s l) o) (Some no_line) ls (line ∷ [])
 
@@ -42,23 +42,23 @@ nothing_read = record { marks = []; are_marks = refl; are_open = refl }
 
 -- the nodes of lines that were read
 pub read_nodes : (ls : List (List ℕ)) (r : Reading) → IsRead ls r
-    → nodes_of ls ≡ Some (finished r.nodes)
-read_nodes ls r h = ap (option_and_then (λ (s : Marked). documents s.marks)) h.are_marks
-    ∙ documents_closed h.marks ∙ ap (option_map finished) h.are_open
+    → nodes_of ls ≡ Some (documents_so_far r.nodes)
+read_nodes ls r h = ap (option_and_then (λ (s : MarkedLines). documents s.marks)) h.are_marks
+    ∙ documents_closed h.marks ∙ ap (option_map documents_so_far) h.are_open
 
 module _ (ls : List (List ℕ)) (line : List ℕ) (r : Reading) (h : IsRead ls r) where
-  here : Marked
+  here : MarkedLines
   here = record { marks = h.marks; parent = r.parent; scalar = r.scalar }
 
-  marked_here : marked (ls ++ (line ∷ [])) ≡ next_line here line
+  marked_here : marked_lines (ls ++ (line ∷ [])) ≡ next_line here line
   unfolding here
   marked_here = marked-snoc ls line
-      ∙ ap (option_and_then (λ (s : Marked). next_line s line)) h.are_marks
+      ∙ ap (option_and_then (λ (s : MarkedLines). next_line s line)) h.are_marks
 
   open_here : open_nodes (h.marks ++ (line_at r.scalar line).marks)
-      ≡ add_all (line_at r.scalar line).marks r.nodes
+      ≡ open_after_all (line_at r.scalar line).marks r.nodes
   open_here = open_nodes-append h.marks (line_at r.scalar line).marks
-      ∙ ap (option_and_then (add_all (line_at r.scalar line).marks)) h.are_open
+      ∙ ap (option_and_then (open_after_all (line_at r.scalar line).marks)) h.are_open
 
   -- one more line that has no fault
   pub read_more : (next : Reading) → Follows r line next → IsRead (ls ++ (line ∷ [])) next
@@ -84,18 +84,18 @@ module _ (ls : List (List ℕ)) (line : List ℕ) (r : Reading) (h : IsRead ls r
   no_place w e None g =
       let misses : misfit (line_at r.scalar line).marks r.nodes ≡ Some w = ap (λ (x : Option Which).
       earlier x (misfit (line_at r.scalar line).marks r.nodes)) (sym g) ∙ e in
-      let gone : is_some (add_all (line_at r.scalar line).marks r.nodes) ≡ false =
+      let gone : is_some (open_after_all (line_at r.scalar line).marks r.nodes) ≡ false =
       sym (misfit_of_add (line_at r.scalar line).marks r.nodes)
       ∙ ap (λ (o : Option Which). is_none o) misses in
-      ap (option_and_then (λ (s : Marked). documents s.marks)) marked_here ∙ rw
-      g (documents_closed (h.marks ++ (line_at r.scalar line).marks) ∙ ap (option_map finished)
-      (open_here ∙ none_of (add_all (line_at r.scalar line).marks r.nodes) gone))
+      ap (option_and_then (λ (s : MarkedLines). documents s.marks)) marked_here ∙ rw
+      g (documents_closed (h.marks ++ (line_at r.scalar line).marks) ∙ ap (option_map documents_so_far)
+      (open_here ∙ none_of (open_after_all (line_at r.scalar line).marks r.nodes) gone))
     where
       none_of : (o : Option Open) → is_some o ≡ false → o ≡ None
       none_of None q = refl
       none_of (Some x) q = absurd (false≢true (sym q))
   no_place w e (Some v) g =
-      ap (option_and_then (λ (s : Marked). documents s.marks)) marked_here ∙ rw g refl
+      ap (option_and_then (λ (s : MarkedLines). documents s.marks)) marked_here ∙ rw g refl
 
   -- one more line that has a fault
   pub fault_here : (after : List (List ℕ)) (w : Which) → fault_of r.scalar r.nodes line ≡ Some w
@@ -106,7 +106,7 @@ module _ (ls : List (List ℕ)) (line : List ℕ) (r : Reading) (h : IsRead ls r
     after = after;
     is_lines = refl;
     number = refl;
-    nodes = finished r.nodes;
+    nodes = documents_so_far r.nodes;
     is_text = read_nodes ls r h;
     is_none = no_place w e (line_at r.scalar line).fault refl;
     marks = record { marks = h.marks; parent = r.parent; scalar = r.scalar };

@@ -8,7 +8,7 @@ use Rattle.std.proofs.lemmas.List.Sums.{prefix_len-le-length}
 use Rattle.std.proofs.lemmas.Grind.{reverse_onto}
 use Rattle.std.specs.List.{prefix_len}
 use Rattle.std.proofs.lemmas.List.Folds.{prefix_len-append, list_all-append}
-use Rattle.yaml_subset.specs.Block.{is_blank_byte, is_blank, trimmed}
+use Rattle.yaml_subset.specs.Block.{is_blank_byte, is_blank, trimmed_text}
 
 -- the text without the blanks at its end, from its beginning on
 abbrev pub strip : List ℕ → List ℕ
@@ -83,7 +83,7 @@ all_blank (c ∷ cs) = ap (λ (b : Bool). is_blank_byte c && b) (all_blank cs)
     (length cs) (few cs) refl
     ∙ ap (λ (n : ℕ). eqb n (suc (length cs))) (sym (last_more c cs))
 
-pub trimmed-strip : (text : List ℕ) → trimmed is_blank_byte text ≡ strip text
+pub trimmed-strip : (text : List ℕ) → trimmed_text is_blank_byte text ≡ strip text
 trimmed-strip [] = refl
 trimmed-strip (c ∷ cs) =
     ap (λ (n : ℕ). take (suc (length cs) - n) (c ∷ cs)) (last_more c cs)

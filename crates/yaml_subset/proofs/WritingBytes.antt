@@ -13,7 +13,7 @@ use Rattle.std.proofs.lemmas.List.Sums.{AllPass-from_list_all}
 use Rattle.std.proofs.Math.Seq.{take-append_seam}
 use Rattle.yaml_subset.specs.Tree.{Tree, mapping, sequence, scalar, no_entries, no_trees}
 use Rattle.yaml_subset.specs.Mark.{key, value, dash}
-use Rattle.yaml_subset.specs.Block.{is_space, is_blank_byte, trimmed}
+use Rattle.yaml_subset.specs.Block.{is_space, is_blank_byte, trimmed_text}
 use Rattle.yaml_subset.specs.Quoted.{Quoted, with_byte, double}
 use Rattle.yaml_subset.specs.Flow.{is_indicator, is_soft_indicator}
 use Rattle.yaml_subset.specs.declared.which.Which.TheVariants.{Colon}
@@ -103,7 +103,7 @@ prefix_none test (x ∷ xs) e = rw e refl
 
 -- nothing is trimmed from a text whose last byte stays
 trimmed_whole : (test : ℕ → Bool) (c : ℕ) (cs : List ℕ)
-    → test (slice_index (c ∷ cs) (length cs)) ≡ false → trimmed test (c ∷ cs) ≡ c ∷ cs
+    → test (slice_index (c ∷ cs) (length cs)) ≡ false → trimmed_text test (c ∷ cs) ≡ c ∷ cs
 trimmed_whole test c cs e =
     let last : slice_index (reverse (c ∷ cs)) 0 ≡ slice_index (c ∷ cs) (length cs) =
     get_or-reverse (c ∷ cs) 0 0 (omega arith)
@@ -140,7 +140,7 @@ index_at_end (x ∷ xs) = index_at_end xs
 plain_key_none : (xs : List ℕ) → plain_len xs ≡ length xs → plain_key xs ≡ None
 plain_key_none xs e = rw (e, index_at_end xs) refl
 
-plain_value_at : (n : ℕ) (t : List ℕ) → plain_len t ≡ length t → trimmed is_blank_byte t ≡ t
+plain_value_at : (n : ℕ) (t : List ℕ) → plain_len t ≡ length t → trimmed_text is_blank_byte t ≡ t
     → plain_value n t ≡ one_mark (value n (scalar t true)) None
 plain_value_at n t e f = rw (e, index_at_end t, take_all (length t) t (omega arith), f) refl
 
@@ -277,7 +277,7 @@ index_past : (t rest : List ℕ) (c : ℕ) → slice_index (t ++ (c ∷ rest)) (
 index_past [] rest c = refl
 index_past (x ∷ t) rest c = index_past t rest c
 
-plain_key_at : (t rest : List ℕ) → plain_len (t ++ (58 ∷ rest)) ≡ length t → trimmed is_space t ≡ t
+plain_key_at : (t rest : List ℕ) → plain_len (t ++ (58 ∷ rest)) ≡ length t → trimmed_text is_space t ≡ t
     → plain_key_fault t ≡ None
     → plain_key (t ++ (58 ∷ rest)) ≡ Some (record { text = t; length = length t + 1; fault = None })
 plain_key_at t rest e f g = rw (e, index_past t rest 58, take-append_seam t (58 ∷ rest), f, g) refl

@@ -16,7 +16,7 @@ use Rattle.yaml_subset.specs.Line.{Line, no_marks, faulty, with_mark, is_control
 use Rattle.yaml_subset.specs.Line.{ends_word, is_marker, behind_colon, content, filled_line}
 use Rattle.yaml_subset.specs.Line.{line_of}
 use Rattle.yaml_subset.specs.Profile.{documents}
-use Rattle.yaml_subset.specs.Text.{Marked, next_line, nodes_of, parent_after, header_scalar}
+use Rattle.yaml_subset.specs.Text.{MarkedLines, next_line, nodes_of, parent_after, header_scalar}
 use Rattle.yaml_subset.specs.Spelling.{Spelling, word, quoted, fields, items, Fields, no_fields}
 use Rattle.yaml_subset.specs.Spelling.{field, Items, no_items, one_item, in_quotes, key_text}
 use Rattle.yaml_subset.specs.Spelling.{spaces, step, gap_at_colon, gap_at_dash, written}
@@ -91,10 +91,10 @@ no_header (value n x ∷ ms) parent e = no_header ms None e
 no_header (header n s ∷ ms) parent e = absurd (false≢true e)
 no_header (raw l ∷ ms) parent e = absurd (false≢true e)
 
-abbrev after : Option Marked → List ℕ → Option Marked
+abbrev after : Option MarkedLines → List ℕ → Option MarkedLines
 after o line = option_and_then (λ s. next_line s line) o
 
-abbrev at_mark : List Mark → Option ℕ → Marked
+abbrev at_mark : List Mark → Option ℕ → MarkedLines
 at_mark ms parent = record { marks = ms; parent = parent; scalar = None }
 
 own_parts : (ms ns : List Mark) → list_all is_own (ms ++ ns) ≡ true
@@ -120,7 +120,7 @@ next_is l ms before parent e own =
 -- such lines, read after others
 lines_read : (text : List ℕ) (ms : List Mark) → AreLines text ms → list_all is_own ms ≡ true
     → (before : List Mark) (parent : Option ℕ)
-    → (t : Marked) × (fold after (Some (at_mark before parent)) (lines text) ≡ Some t)
+    → (t : MarkedLines) × (fold after (Some (at_mark before parent)) (lines text) ≡ Some t)
     × (t.marks ≡ before ++ ms)
 lines_read [] [] no_more own before parent = (at_mark before parent, refl, sym (append-nil before))
 lines_read _ _ (a_line l ms text ns e h) own before parent =
@@ -128,7 +128,7 @@ lines_read _ _ (a_line l ms text ns e h) own before parent =
     let more : _ = lines_read text ns h o.1 (before ++ ms) (parent_after parent ms) in (
       more.0,
       ap (fold after (Some (at_mark before parent))) (line_first l text (no_control l ms e))
-          ∙ ap (λ (s : Option Marked). fold after s (lines text)) (next_is l ms before parent e o.0)
+          ∙ ap (λ (s : Option MarkedLines). fold after s (lines text)) (next_is l ms before parent e o.0)
           ∙ more.1,
       more.2 ∙ append_assoc before ms ns,
     )
@@ -138,7 +138,7 @@ pub lines_nodes : (text : List ℕ) (ms : List Mark) → AreLines text ms → li
     → nodes_of (lines text) ≡ documents ms
 lines_nodes text ms h own =
     let read : _ = lines_read text ms h own [] None in
-    ap (option_and_then (λ (s : Marked). documents s.marks)) read.1 ∙ ap documents read.2
+    ap (option_and_then (λ (s : MarkedLines). documents s.marks)) read.1 ∙ ap documents read.2
 
 -- HOW A LINE BEGINS
 

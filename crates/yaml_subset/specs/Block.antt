@@ -24,8 +24,8 @@ abbrev pub indentation : List ℕ → ℕ
 indentation line = prefix_len is_space line
 
 -- without the bytes at its end that pass the test
-abbrev pub trimmed : (ℕ → Bool) → List ℕ → List ℕ
-trimmed test text = take (length text - prefix_len test (reverse text)) text
+abbrev pub trimmed_text : (ℕ → Bool) → List ℕ → List ℕ
+trimmed_text test text = take (length text - prefix_len test (reverse text)) text
 
 -- the end of a scalar's text: its last line feed, and the blank lines after it
 abbrev pub ending : Chomping → ℕ → List ℕ
@@ -66,18 +66,18 @@ indent_of None l = indentation l
 indent_of (Some indent) l = indent
 
 -- the scalar with a line that isn't blank
-abbrev pub filled : Block → List ℕ → Block
-filled b l = let text = b.text ++ content_of b l in
+abbrev pub filled_block : Block → List ℕ → Block
+filled_block b l = let text = b.text ++ content_of b l in
     record b { indent = Some (indent_of b.indent l); text = text; blanks = 0 }
 
 abbrev pub with_line : Block → List ℕ → Block
-with_line b l = cond (is_blank l) (record b { blanks = suc b.blanks }) (filled b l)
+with_line b l = cond (is_blank l) (record b { blanks = suc b.blanks }) (filled_block b l)
 
 -- The text, once the scalar has ended; without a line that isn't blank it is empty, and with `+` it
 -- has the blank lines. READS OTHERWISE than YAML 1.2.2: the last line counts as ended by a line
 -- feed also where the text ends without one.
-abbrev pub ended : Block → List ℕ
-ended b = ended_at b.indent b.style.chomping
+abbrev pub ended_text : Block → List ℕ
+ended_text b = ended_at b.indent b.style.chomping
   where
     ended_at : Option ℕ → Chomping → List ℕ
     ended_at (Some indent) c = b.text ++ ending c b.blanks
@@ -86,4 +86,4 @@ ended b = ended_at b.indent b.style.chomping
 
 -- the text of a block scalar with these lines
 abbrev pub block_text : Style → List (List ℕ) → List ℕ
-block_text s ls = ended (fold with_line (no_lines s) ls)
+block_text s ls = ended_text (fold with_line (no_lines s) ls)

@@ -7,8 +7,8 @@ use Rattle.yaml_subset.specs.Tree.{Tree}
 use Rattle.yaml_subset.specs.Mark.{Mark, dash, key, value, header}
 use Rattle.yaml_subset.specs.FaultOrder.{earlier}
 use Rattle.yaml_subset.specs.Profile.{has_room, is_next, with_child, is_repeated}
-use Rattle.yaml_subset.specs.Text.{Marked, line_at, marked, nodes_of}
-use Rattle.yaml_subset.specs.OpenNodes.{Open, nothing, within, closed, add, open_nodes}
+use Rattle.yaml_subset.specs.Text.{MarkedLines, line_at, marked_lines, nodes_of}
+use Rattle.yaml_subset.specs.OpenNodes.{Open, nothing, within, node_so_far, open_after, open_nodes}
 use Rattle.yaml_subset.specs.declared.scalar.Scalar.{Scalar}
 use Rattle.yaml_subset.specs.declared.which.Which.{Which}
 use Rattle.yaml_subset.specs.declared.which.Which.TheVariants.{Indent, Colon, DuplicateKey, TooDeep}
@@ -16,7 +16,7 @@ use Rattle.yaml_subset.specs.declared.which.Which.TheVariants.{Indent, Colon, Du
 -- the mark is the next key of an open map that has it already
 abbrev pub repeats : Mark → Open → Bool
 repeats m (within h done i) =
-    cond (is_next h m) (is_repeated m (with_child done h (closed i))) (repeats m i)
+    cond (is_next h m) (is_repeated m (with_child done h (node_so_far i))) (repeats m i)
 repeats m _ = false
 
 -- nothing stands yet behind the last mark, and a node that begins with this mark has room there
@@ -51,7 +51,7 @@ fault_of_mark m o =
 -- the fault of the first mark that has no place among the open nodes
 abbrev pub misfit : List Mark → Open → Option Which
 misfit [] o = None
-misfit (m ∷ ms) o = option_map_or (misfit ms) (add m o) (Some (fault_of_mark m o))
+misfit (m ∷ ms) o = option_map_or (misfit ms) (open_after m o) (Some (fault_of_mark m o))
 
 -- the first fault that a line has: by itself, or among the open nodes
 abbrev pub fault_of : Option Scalar → Open → List ℕ → Option Which
@@ -67,8 +67,8 @@ pub record IsFault (ls : List (List ℕ)) (k : ℕ) (which : Which) : Type 0 whe
   pub nodes : List Tree
   pub is_text : nodes_of before ≡ Some nodes
   pub is_none : nodes_of (before ++ (line ∷ [])) ≡ None
-  pub marks : Marked
-  pub are_marks : marked before ≡ Some marks
+  pub marks : MarkedLines
+  pub are_marks : marked_lines before ≡ Some marks
   pub nodes_open : Open
   pub are_open : open_nodes marks.marks ≡ Some nodes_open
   pub meets : fault_of marks.scalar nodes_open line ≡ Some which

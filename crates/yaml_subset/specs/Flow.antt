@@ -3,8 +3,8 @@ use Rattle.std.specs.Prelude.{ℕ, ◌-◌, ◌==◌, ◌&&◌, ◌||◌, Bool, 
 use Rattle.std.specs.Prelude.{Option, Some, None, cond, length, slice_index}
 use Rattle.yaml_subset.specs.Tree.{Tree, scalar}
 use Rattle.yaml_subset.specs.FaultOrder.{earlier}
-use Rattle.yaml_subset.specs.Quoted.{escaped}
-use Rattle.yaml_subset.specs.Block.{is_blank_byte, trimmed}
+use Rattle.yaml_subset.specs.Quoted.{escaped_byte}
+use Rattle.yaml_subset.specs.Block.{is_blank_byte, trimmed_text}
 use Rattle.yaml_subset.specs.declared.which.Which.{Which}
 use Rattle.yaml_subset.specs.declared.which.Which.TheVariants.{LeftOut, Quote, Escape, FlowForm}
 use Rattle.yaml_subset.specs.declared.flow.Part.{Part}
@@ -85,7 +85,7 @@ flow_scalar s p text = record {
 
 -- a plain item ends, without the blanks at its end
 abbrev pub flow_plain : Flow → Part → Flow
-flow_plain s p = flow_scalar s p (trimmed is_blank_byte s.text)
+flow_plain s p = flow_scalar s p (trimmed_text is_blank_byte s.text)
 
 -- blanks and a comment behind the list
 abbrev pub in_closed : Flow → ℕ → ℕ → Flow
@@ -147,7 +147,7 @@ flow_at parts.Plain s c next = in_plain s c next
 flow_at parts.Single s c next = in_single s c next
 flow_at parts.Doubled s c next = flow_part s parts.Single
 flow_at parts.Double s c next = in_double s c
-flow_at parts.Escape s c next = in_escape s (escaped c)
+flow_at parts.Escape s c next = in_escape s (escaped_byte c)
 flow_at parts.After s c next = in_after s c next
 flow_at parts.Broken s c next = in_broken s c next
 flow_at parts.Closed s c next = in_closed s c next

@@ -3,7 +3,7 @@
 use Rattle.std.specs.Prelude.{ℕ, ◌≡◌, ◌&&◌, Bool, true, false, not, List, [], ◌∷◌, ◌++◌, Some, None}
 use Rattle.std.specs.Prelude.{drop, slice_index, ◌⊎◌}
 use Rattle.yaml_subset.specs.Tree.{Tree, scalar}
-use Rattle.yaml_subset.specs.Block.{is_blank_byte, is_blank, trimmed}
+use Rattle.yaml_subset.specs.Block.{is_blank_byte, is_blank, trimmed_text}
 use Rattle.yaml_subset.specs.Quoted.{quoted}
 use Rattle.yaml_subset.specs.FaultOrder.{earlier}
 use Rattle.yaml_subset.specs.Flow.{Flow, end_fault, is_flow_indicator, is_flow_start}
@@ -23,7 +23,7 @@ goes_on (c ∷ cs) = not (is_flow_indicator c) && (not (stops_plain c cs) && goe
 pub record IsPlainItem (text : List ℕ) : Type 0 where
   pub begins : begins_item text ≡ true
   pub inside : goes_on text ≡ true
-  pub whole : trimmed is_blank_byte text ≡ text
+  pub whole : trimmed_text is_blank_byte text ≡ text
 
 -- a quoted scalar of this text stands first, and then the rest
 pub record IsQuotedItem (line text rest : List ℕ) : Type 0 where

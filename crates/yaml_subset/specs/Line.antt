@@ -7,7 +7,7 @@ use Rattle.std.specs.List.{list_any, prefix_len, starts_with}
 use Rattle.yaml_subset.specs.Tree.{mapping, sequence, scalar, no_entries, trees}
 use Rattle.yaml_subset.specs.Mark.{Mark, start, dash, key, value, header}
 use Rattle.yaml_subset.specs.FaultOrder.{earlier}
-use Rattle.yaml_subset.specs.Block.{is_space, is_blank_byte, is_blank, indentation, trimmed}
+use Rattle.yaml_subset.specs.Block.{is_space, is_blank_byte, is_blank, indentation, trimmed_text}
 use Rattle.yaml_subset.specs.Quoted.{Quoted, quoted}
 use Rattle.yaml_subset.specs.Flow.{Flow, flow, flow_start, end_fault, is_indicator, is_soft_indicator}
 use Rattle.yaml_subset.specs.declared.which.Which.{Which}
@@ -31,8 +31,8 @@ abbrev pub one_mark : Mark → Option Which → Line
 one_mark m fault = record { marks = m ∷ []; fault = fault }
 
 -- a value of no form still stands at its column
-abbrev pub spoiled : ℕ → Which → Line
-spoiled n w = one_mark (value n (scalar [] true)) (Some w)
+abbrev pub spoiled_value : ℕ → Which → Line
+spoiled_value n w = one_mark (value n (scalar [] true)) (Some w)
 
 abbrev pub with_mark : Mark → Line → Line
 with_mark m l = record l { marks = m ∷ l.marks }
@@ -72,8 +72,8 @@ plain_len (c ∷ cs) = cond (stops_plain c cs) 0 (suc (plain_len cs))
 
 abbrev pub plain_value : ℕ → List ℕ → Line
 plain_value n cs = let k = plain_len cs in
-    cond (slice_index cs k == 58) (spoiled n Colon)
-    (one_mark (value n (scalar (trimmed is_blank_byte (take k cs)) true)) None)
+    cond (slice_index cs k == 58) (spoiled_value n Colon)
+    (one_mark (value n (scalar (trimmed_text is_blank_byte (take k cs)) true)) None)
 
 -- OTHER INLINE VALUES
 
@@ -84,7 +84,7 @@ abbrev pub escape_fault : Bool → Option Which
 escape_fault bad = cond bad (Some Escape) None
 
 abbrev pub quoted_value : ℕ → List ℕ → Option Quoted → Line
-quoted_value n cs None = spoiled n Quote
+quoted_value n cs None = spoiled_value n Quote
 quoted_value n cs (Some q) = one_mark (value n (scalar q.text false))
     (cond (is_tail (drop q.length cs)) (escape_fault q.bad) (Some Quote))
 
@@ -93,11 +93,11 @@ flow_value n s = flow_line (earlier s.fault (end_fault s.part))
   where
     flow_line : Option Which → Line
     flow_line None = one_mark (value n (sequence (trees s.items))) None
-    flow_line (Some w) = spoiled n w
+    flow_line (Some w) = spoiled_value n w
 
 abbrev pub empty_map : ℕ → List ℕ → Line
 empty_map n cs = cond (slice_index cs 0 == 125 && is_tail (drop 1 cs))
-    (one_mark (value n (mapping no_entries)) None) (spoiled n LeftOut)
+    (one_mark (value n (mapping no_entries)) None) (spoiled_value n LeftOut)
 
 -- a block scalar's sign (section 8.1.1.2)
 abbrev pub chomping_of : ℕ → Chomping
@@ -110,8 +110,8 @@ abbrev pub is_digit : ℕ → Bool
 is_digit c = nat_le 48 c && nat_le c 57
 
 abbrev pub header_tail : ℕ → Style → List ℕ → Line
-header_tail n s cs = cond (is_digit (slice_index cs 0)) (spoiled n LeftOut)
-    (cond (is_tail cs) (one_mark (header n s) None) (spoiled n Colon))
+header_tail n s cs = cond (is_digit (slice_index cs 0)) (spoiled_value n LeftOut)
+    (cond (is_tail cs) (one_mark (header n s) None) (spoiled_value n Colon))
 
 abbrev pub header_value : ℕ → Bool → List ℕ → Line
 header_value n folded cs = let sign = slice_index cs 0 in
@@ -131,7 +131,7 @@ inline_value n (c ∷ cs) = cond (is_quote c) (quoted_value n cs (quoted c cs))
     (cond (c == 91) (flow_value n (flow flow_start cs))
     (cond (c == 123) (empty_map n cs)
     (cond (c == 124 || c == 62) (header_value n (c == 62) cs)
-    (spoiled n (indicator_fault c))))))
+    (spoiled_value n (indicator_fault c))))))
 
 -- KEYS (section 8.2.2)
 
@@ -153,7 +153,7 @@ plain_key_fault text = let last = slice_index text (length text - 1) in
     cond (last == 9 || last == 58) (Some Colon) None
 
 abbrev pub plain_key : List ℕ → Option Key
-plain_key cs = let k = plain_len cs in let text = trimmed is_space (take k cs) in
+plain_key cs = let k = plain_len cs in let text = trimmed_text is_space (take k cs) in
     cond (slice_index cs k == 58)
     (Some (record { text = text; length = k + 1; fault = plain_key_fault text })) None
 

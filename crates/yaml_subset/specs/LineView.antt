@@ -27,8 +27,8 @@ abbrev pub key_view : ReadKey → Key
 key_view k = record { text = k.text; length = k.length; fault = k.fault }
 
 -- what stands on a line, and behind it
-abbrev pub joined : Line → Line → Line
-joined l m = record { marks = l.marks ++ m.marks; fault = earlier l.fault m.fault }
+abbrev pub joined_lines : Line → Line → Line
+joined_lines l m = record { marks = l.marks ++ m.marks; fault = earlier l.fault m.fault }
 
 -- a blank behind dashes, and one more dash
 abbrev pub blank_seen : Line → ℕ → Line

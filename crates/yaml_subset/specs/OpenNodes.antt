@@ -3,7 +3,7 @@ use Rattle.std.specs.Prelude.{ℕ, suc, pred, false, List, [], ◌∷◌, Option
 use Rattle.std.specs.Prelude.{option_map, option_and_then}
 use Rattle.yaml_subset.specs.Tree.{Tree, scalar}
 use Rattle.yaml_subset.specs.Mark.{Mark, start, dash, key, value, header, raw, Child}
-use Rattle.yaml_subset.specs.Block.{Block, no_lines, with_line, ended}
+use Rattle.yaml_subset.specs.Block.{Block, no_lines, with_line, ended_text}
 use Rattle.yaml_subset.specs.Profile.{max_depth, has_room, is_next, with_child, is_repeated}
 use Rattle.yaml_subset.specs.Profile.{collection, is_shallow}
 
@@ -17,24 +17,24 @@ pub data Open : Type 0 where
   within : Mark → List Child → Open → Open
 
 -- the node that it is, if nothing follows
-abbrev pub closed : Open → Option Tree
-closed nothing = None
-closed (inline x) = Some x
-closed (block b) = Some (scalar (ended b) false)
-closed (within h done i) = Some (collection (with_child done h (closed i)))
+abbrev pub node_so_far : Open → Option Tree
+node_so_far nothing = None
+node_so_far (inline x) = Some x
+node_so_far (block b) = Some (scalar (ended_text b) false)
+node_so_far (within h done i) = Some (collection (with_child done h (node_so_far i)))
 
 -- the nodes of the documents, if the text ends there
-abbrev pub finished : Open → List Tree
-finished (within h done i) = map (λ c. c.tree) (with_child done h (closed i))
-finished _ = []
+abbrev pub documents_so_far : Open → List Tree
+documents_so_far (within h done i) = map (λ c. c.tree) (with_child done h (node_so_far i))
+documents_so_far _ = []
 
 -- a node begins
-abbrev pub begun : ℕ → Mark → Option Open
-begun d (value n x) = cond (is_shallow d x) (Some (inline x)) None
-begun d (header n s) = Some (block (no_lines s))
-begun (suc d) (key n k) = Some (within (key n k) [] nothing)
-begun (suc d) (dash n) = Some (within (dash n) [] nothing)
-begun _ _ = None
+abbrev pub begun_node : ℕ → Mark → Option Open
+begun_node d (value n x) = cond (is_shallow d x) (Some (inline x)) None
+begun_node d (header n s) = Some (block (no_lines s))
+begun_node (suc d) (key n k) = Some (within (key n k) [] nothing)
+begun_node (suc d) (dash n) = Some (within (dash n) [] nothing)
+begun_node _ _ = None
 
 abbrev pub with_raw : Block → Mark → Option Open
 with_raw b (raw l) = Some (block (with_line b l))
@@ -45,21 +45,21 @@ abbrev pub next_piece : Mark → List Child → Option Open
 next_piece m done = cond (is_repeated m done) None (Some (within m done nothing))
 
 -- the open nodes after one more mark, where maps and lists may still nest d deep behind the mark h
-abbrev pub added : ℕ → Mark → Mark → Open → Option Open
-added d h m nothing = cond (has_room h m) (begun d m) None
-added d h m (inline x) = None
-added d h m (block b) = with_raw b m
-added d h m (within g done i) = cond (is_next g m) (next_piece m (with_child done g (closed i)))
-    (option_map (within g done) (added (pred d) g m i))
+abbrev pub next_open : ℕ → Mark → Mark → Open → Option Open
+next_open d h m nothing = cond (has_room h m) (begun_node d m) None
+next_open d h m (inline x) = None
+next_open d h m (block b) = with_raw b m
+next_open d h m (within g done i) = cond (is_next g m) (next_piece m (with_child done g (node_so_far i)))
+    (option_map (within g done) (next_open (pred d) g m i))
 
-abbrev pub add : Mark → Open → Option Open
-add m o = added (suc max_depth) start m o
+abbrev pub open_after : Mark → Open → Option Open
+open_after m o = next_open (suc max_depth) start m o
 
 -- the open nodes after more marks, none where one has no place
-abbrev pub add_all : List Mark → Open → Option Open
-add_all [] o = Some o
-add_all (m ∷ ms) o = option_and_then (add_all ms) (add m o)
+abbrev pub open_after_all : List Mark → Open → Option Open
+open_after_all [] o = Some o
+open_after_all (m ∷ ms) o = option_and_then (open_after_all ms) (open_after m o)
 
 -- the open nodes after these marks, none where they are the marks of no text
 abbrev pub open_nodes : List Mark → Option Open
-open_nodes ms = add_all ms (within start [] nothing)
+open_nodes ms = open_after_all ms (within start [] nothing)

@@ -26,8 +26,8 @@ single (c ∷ d ∷ cs) = cond (c == 39)
     (option_map (with_byte c 1) (single (d ∷ cs)))
 
 -- what stands for a byte behind a backslash: the four escapes
-abbrev pub escaped : ℕ → Option ℕ
-escaped c = cond (c == 92) (Some 92)
+abbrev pub escaped_byte : ℕ → Option ℕ
+escaped_byte c = cond (c == 92) (Some 92)
     (cond (c == 34) (Some 34) (cond (c == 110) (Some 10) (cond (c == 116) (Some 9) None)))
 
 abbrev pub with_escape : Option ℕ → Quoted → Quoted
@@ -39,7 +39,7 @@ abbrev pub double : List ℕ → Option Quoted
 double [] = None
 double (c ∷ []) = cond (c == 34) (Some quote_end) None
 double (c ∷ d ∷ cs) = cond (c == 34) (Some quote_end)
-    (cond (c == 92) (option_map (with_escape (escaped d)) (double cs))
+    (cond (c == 92) (option_map (with_escape (escaped_byte d)) (double cs))
     (option_map (with_byte c 1) (double (d ∷ cs))))
 
 abbrev pub quoted : ℕ → List ℕ → Option Quoted

@@ -2,9 +2,9 @@
 -- it is theirs.
 use Rattle.std.specs.Prelude.{◌≡◌, ℕ, Bool, List, Option, Some, None, option_map}
 use Rattle.yaml_subset.specs.Mark.{Mark, header}
-use Rattle.yaml_subset.specs.Text.{marked, line_at, parent_after, scalar_after}
+use Rattle.yaml_subset.specs.Text.{marked_lines, line_at, parent_after, scalar_after}
 use Rattle.yaml_subset.specs.declared.scalar.Scalar.{Scalar}
-use Rattle.yaml_subset.specs.OpenNodes.{Open, open_nodes, add_all}
+use Rattle.yaml_subset.specs.OpenNodes.{Open, open_nodes, open_after_all}
 
 -- what the reader keeps: the open nodes, the column of the last mark where it is a key or dash, the
 -- block scalar that may go on
@@ -16,13 +16,13 @@ pub record Reading : Type 0 where
 -- after these lines, which are a text of the profile, the reader keeps what is theirs
 pub record IsRead (ls : List (List ℕ)) (r : Reading) : Type 0 where
   pub marks : List Mark
-  pub are_marks : marked ls ≡ Some (record { marks = marks; parent = r.parent; scalar = r.scalar })
+  pub are_marks : marked_lines ls ≡ Some (record { marks = marks; parent = r.parent; scalar = r.scalar })
   pub are_open : open_nodes marks ≡ Some r.nodes
 
 -- One more line, which has no fault: what the reader keeps then.
 pub record Follows (r : Reading) (line : List ℕ) (next : Reading) : Type 0 where
   pub no_fault : (line_at r.scalar line).fault ≡ None
-  pub nodes : add_all (line_at r.scalar line).marks r.nodes ≡ Some next.nodes
+  pub nodes : open_after_all (line_at r.scalar line).marks r.nodes ≡ Some next.nodes
   pub parent : next.parent ≡ parent_after r.parent (line_at r.scalar line).marks
   pub scalar : next.scalar ≡ scalar_after r.scalar r.parent line
 

@@ -1,7 +1,7 @@
 -- A quoted scalar byte by byte, as the code reads it.
 use Rattle.std.specs.Prelude.{ℕ, ◌+◌, ◌==◌, Bool, true, false, List, [], ◌∷◌, ◌++◌, Option, Some}
 use Rattle.std.specs.Prelude.{None, cond, slice_index}
-use Rattle.yaml_subset.specs.Quoted.{Quoted, escaped}
+use Rattle.yaml_subset.specs.Quoted.{Quoted, escaped_byte}
 use Rattle.yaml_subset.specs.declared.quoted.Place.{Place}
 use Rattle.yaml_subset.specs.declared.quoted.Place.TheVariants as places
 use Rattle.yaml_subset.specs.declared.quoted.Step.{Step}
@@ -20,7 +20,7 @@ scan_start = record {
 abbrev pub step_of : ℕ → ℕ → ℕ → Step
 step_of quote byte next = cond (quote == 39)
     (cond (byte == 39) (cond (next == 39) (steps.Pair (Some 39)) steps.Stop) (steps.One byte))
-    (cond (byte == 34) steps.Stop (cond (byte == 92) (steps.Pair (escaped next)) (steps.One byte)))
+    (cond (byte == 34) steps.Stop (cond (byte == 92) (steps.Pair (escaped_byte next)) (steps.One byte)))
 
 abbrev pub longer : Quoted → List ℕ → Bool → Quoted
 longer q more bad = record { text = q.text ++ more; length = q.length + 1; bad = bad }
@@ -31,15 +31,15 @@ inside q (steps.One c) = record { place = places.Inside; quoted = longer q (c �
 inside q (steps.Pair (Some c)) = record { place = places.Paired; quoted = longer q (c ∷ []) q.bad }
 inside q (steps.Pair None) = record { place = places.Paired; quoted = longer q [] true }
 
-abbrev pub advanced : Place → Quoted → Step → Scan
-advanced places.Inside q step = inside q step
-advanced places.Paired q _ = record { place = places.Inside; quoted = longer q [] q.bad }
-advanced places.Ended q _ = record { place = places.Ended; quoted = q }
+abbrev pub next_scan : Place → Quoted → Step → Scan
+next_scan places.Inside q step = inside q step
+next_scan places.Paired q _ = record { place = places.Inside; quoted = longer q [] q.bad }
+next_scan places.Ended q _ = record { place = places.Ended; quoted = q }
 
 abbrev pub scan : ℕ → Scan → List ℕ → Scan
 scan quote s [] = s
 scan quote s (c ∷ cs) =
-    scan quote (advanced s.place s.quoted (step_of quote c (slice_index cs 0))) cs
+    scan quote (next_scan s.place s.quoted (step_of quote c (slice_index cs 0))) cs
 
 abbrev pub scan_end : Scan → Option Quoted
 scan_end s = at_place s.place

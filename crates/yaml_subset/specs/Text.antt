@@ -80,7 +80,7 @@ scalar_with line s = cond (is_blank line) s
 
 -- Lines as marks, with the column of the last of them where it is a key or dash, and the block
 -- scalar that may take the next line. A comment that no scalar takes has no mark, and yet ends it.
-pub record Marked : Type 0 where
+pub record MarkedLines : Type 0 where
   pub marks : List Mark
   pub parent : Option ℕ
   pub scalar : Option Scalar
@@ -90,7 +90,7 @@ scalar_after o parent line = cond (takes o line) (option_map (scalar_with line) 
     (header_scalar parent (line_of line).marks)
 
 -- one more line, where it has no fault by itself
-abbrev pub next_line : Marked → List ℕ → Option Marked
+abbrev pub next_line : MarkedLines → List ℕ → Option MarkedLines
 next_line s line = let l = line_at s.scalar line in
     cond (is_none l.fault) (Some (record {
       marks = s.marks ++ l.marks;
@@ -98,15 +98,15 @@ next_line s line = let l = line_at s.scalar line in
       scalar = scalar_after s.scalar s.parent line;
     })) None
 
-abbrev pub no_line : Marked
+abbrev pub no_line : MarkedLines
 no_line = record { marks = []; parent = None; scalar = None }
 
-abbrev pub marked : List (List ℕ) → Option Marked
-marked ls = fold (λ o line. option_and_then (λ s. next_line s line) o) (Some no_line) ls
+abbrev pub marked_lines : List (List ℕ) → Option MarkedLines
+marked_lines ls = fold (λ o line. option_and_then (λ s. next_line s line) o) (Some no_line) ls
 
 -- the nodes that lines stand for
 abbrev pub nodes_of : List (List ℕ) → Option (List Tree)
-nodes_of ls = option_and_then (λ s. documents s.marks) (marked ls)
+nodes_of ls = option_and_then (λ s. documents s.marks) (marked_lines ls)
 
 -- the text without a byte order mark at its start (section 5.2)
 abbrev pub without_mark : List ℕ → List ℕ

@@ -2,8 +2,8 @@
 
 ghost use Rattle.std.specs.Prelude.{◌≡◌, ℕ, suc, ◌++◌, replicate, IfOk, Some};
 ghost use Rattle.yaml_subset.specs.Block.{joint as joint_lem, ending as ending_lem};
-ghost use Rattle.yaml_subset.specs.Block.{ended as ended_lem, with_line as with_line_lem};
-ghost use Rattle.yaml_subset.specs.Block.{filled, no_lines};
+ghost use Rattle.yaml_subset.specs.Block.{ended_text, with_line as with_line_lem};
+ghost use Rattle.yaml_subset.specs.Block.{filled_block, no_lines};
 ghost use Rattle.yaml_subset.specs.OpenView.{block_view};
 
 use crate::bytes::{from, is_blank, spaces};
@@ -92,7 +92,7 @@ impl Block {
     #[tactic(auto, using(std::proofs::Common::append_assoc))]
     fn with_first(self, line: &[u8]) -> Result<Block, AllocError>
         requires { self.indent ≡ None }
-        ensures { IfOk result (λ b. block_view b ≡ filled (block_view self) line.now) }
+        ensures { IfOk result (λ b. block_view b ≡ filled_block (block_view self) line.now) }
     {
         let indent = spaces(line);
         let text = with_line_feeds(self.text, self.blanks)?;
@@ -108,7 +108,7 @@ impl Block {
     #[tactic(auto, using(std::proofs::Common::append_assoc))]
     fn with_next(self, line: &[u8], indent: usize) -> Result<Block, AllocError>
         requires { self.indent ≡ Some indent }
-        ensures { IfOk result (λ b. block_view b ≡ filled (block_view self) line.now) }
+        ensures { IfOk result (λ b. block_view b ≡ filled_block (block_view self) line.now) }
     {
         let text = with_joint(self.text, self.style.folded, self.blanks)?;
         let text = with_bytes(text, from(line, indent))?;
@@ -121,7 +121,7 @@ impl Block {
     }
 
     fn with_filled(self, line: &[u8]) -> Result<Block, AllocError>
-        ensures { IfOk result (λ b. block_view b ≡ filled (block_view self) line.now) }
+        ensures { IfOk result (λ b. block_view b ≡ filled_block (block_view self) line.now) }
     {
         match self.indent {
             None => self.with_first(line),
@@ -151,7 +151,7 @@ impl Block {
 
     /// The text, once the scalar has ended.
     pub(crate) fn ended(self, alloc: Global) -> Result<Vec<u8>, AllocError>
-        ensures { IfOk result (λ t. t.items ≡ ended_lem (block_view self)) }
+        ensures { IfOk result (λ t. t.items ≡ ended_text (block_view self)) }
     {
         match self.indent {
             Some(_) => with_ending(self.text, self.style.chomping, self.blanks),

@@ -4,7 +4,7 @@ ghost use Rattle.std.specs.Prelude.{◌≡◌, ℕ, ◌+◌, ◌-◌, ◌==◌, 
 ghost use Rattle.std.specs.Prelude.{drop, take, reverse};
 ghost use Rattle.std.specs.List.{prefix_len, list_any, list_all, starts_with};
 ghost use Rattle.yaml_subset.specs.Block.{is_space, is_blank_byte as is_blank_lem};
-ghost use Rattle.yaml_subset.specs.Block.{is_blank as is_blank_list, indentation, trimmed};
+ghost use Rattle.yaml_subset.specs.Block.{is_blank as is_blank_list, indentation, trimmed_text};
 ghost use Rattle.yaml_subset.specs.Flow.{is_flow_indicator as is_flow_indicator_lem};
 ghost use Rattle.yaml_subset.specs.Flow.{is_indicator as is_indicator_lem};
 ghost use Rattle.yaml_subset.specs.Flow.{is_soft_indicator as is_soft_indicator_lem};
@@ -102,7 +102,7 @@ fn last_blanks(bytes: &[u8]) -> usize
 
 /// The bytes without the spaces and tabs at their end.
 pub(crate) fn without_blanks(bytes: &[u8]) -> &[u8]
-    ensures { result.now ≡ trimmed is_blank_lem bytes.now }
+    ensures { result.now ≡ trimmed_text is_blank_lem bytes.now }
 {
     let last = last_blanks(bytes);
     before(bytes, bytes.len().saturating_sub(last))
@@ -117,7 +117,7 @@ fn last_spaces(bytes: &[u8]) -> usize
 
 /// The bytes without the spaces at their end.
 pub(crate) fn without_spaces(bytes: &[u8]) -> &[u8]
-    ensures { result.now ≡ trimmed is_space bytes.now }
+    ensures { result.now ≡ trimmed_text is_space bytes.now }
 {
     let last = last_spaces(bytes);
     before(bytes, bytes.len().saturating_sub(last))

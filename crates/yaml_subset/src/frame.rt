@@ -10,7 +10,7 @@ ghost use Rattle.yaml_subset.specs.Profile.{is_next, has_room as has_room_lem, w
 ghost use Rattle.yaml_subset.specs.Profile.{is_repeated as is_repeated_lem, collection};
 ghost use Rattle.yaml_subset.specs.Profile.{is_deeper as is_deeper_lem, no_text as no_text_lem};
 ghost use Rattle.yaml_subset.specs.Profile.{or_no_text as or_no_text_lem};
-ghost use Rattle.yaml_subset.specs.OpenNodes.{closed};
+ghost use Rattle.yaml_subset.specs.OpenNodes.{node_so_far};
 ghost use Rattle.yaml_subset.specs.NodeView.{node_view};
 ghost use Rattle.yaml_subset.specs.LineView.{mark_view};
 ghost use Rattle.yaml_subset.specs.OpenView.{head_of, done_of, last_view, child, entry_child};
@@ -60,7 +60,7 @@ fn or_no_text(alloc: Global, value: Option<Node>) -> Node
 impl Last {
     /// The node that it is, if nothing follows.
     pub(crate) fn closed(self, alloc: Global) -> Result<Option<Node>, AllocError>
-        ensures { IfOk result (λ v. option_map node_view v ≡ closed (last_view self)) }
+        ensures { IfOk result (λ v. option_map node_view v ≡ node_so_far (last_view self)) }
     {
         match self {
             Last::Nothing => Ok(None),

@@ -31,8 +31,8 @@ pub(crate) struct Line {
 impl Line {
     ghost use Rattle.std.specs.Prelude.{◌≡◌, ℕ, List, IfOk};
     ghost use Rattle.yaml_subset.specs.Line.{no_marks, faulty as faulty_lem, one_mark};
-    ghost use Rattle.yaml_subset.specs.Line.{spoiled as spoiled_lem};
-    ghost use Rattle.yaml_subset.specs.LineView.{line_view, mark_view, joined};
+    ghost use Rattle.yaml_subset.specs.Line.{spoiled_value};
+    ghost use Rattle.yaml_subset.specs.LineView.{line_view, mark_view, joined_lines};
 
     /// A line with nothing on it.
     pub(crate) fn empty(alloc: Global) -> Line
@@ -63,7 +63,7 @@ impl Line {
 
     /// A value of no form, at its column.
     pub(crate) fn spoiled(alloc: Global, column: usize, which: Which) -> Result<Line, AllocError>
-        ensures { IfOk result (λ l. line_view l ≡ spoiled_lem column which) }
+        ensures { IfOk result (λ l. line_view l ≡ spoiled_value column which) }
     {
         let node = Node::Scalar {
             text: Text::of(Vec::new(alloc)),
@@ -74,7 +74,7 @@ impl Line {
 
     /// This line, and what stands behind it.
     pub(crate) fn with(self, rest: Line) -> Result<Line, AllocError>
-        ensures { IfOk result (λ l. line_view l ≡ joined (line_view self) (line_view rest)) }
+        ensures { IfOk result (λ l. line_view l ≡ joined_lines (line_view self) (line_view rest)) }
     {
         let fault = earlier(self.fault, rest.fault);
         let mut marks = self.marks;

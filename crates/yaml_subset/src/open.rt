@@ -7,8 +7,8 @@ ghost use Rattle.std.specs.Prelude.{option_map, map};
 ghost use Rattle.yaml_subset.specs.Mark as marks;
 ghost use Rattle.yaml_subset.specs.Profile.{max_depth, is_next, has_room as has_room_lem};
 ghost use Rattle.yaml_subset.specs.Profile.{with_child};
-ghost use Rattle.yaml_subset.specs.OpenNodes.{closed, add as add_lem, begun};
-ghost use Rattle.yaml_subset.specs.OpenNodes.{finished as finished_lem, nothing, within};
+ghost use Rattle.yaml_subset.specs.OpenNodes.{begun_node, node_so_far, open_after};
+ghost use Rattle.yaml_subset.specs.OpenNodes.{documents_so_far, nothing, within};
 ghost use Rattle.yaml_subset.specs.Fault.{fault_of_mark, column as column_lem};
 ghost use Rattle.yaml_subset.specs.NodeView.{node_view, nodes_view};
 ghost use Rattle.yaml_subset.specs.LineView.{mark_view};
@@ -109,7 +109,7 @@ fn close_above(
     requires { keep ≤ vec_len frames.old }
     ensures kept { OnOk result (frames.new.items ≡ take keep frames.old.items) }
     ensures value { IfOk result (λ v. option_map node_view v
-        ≡ closed (open_of (drop keep frames.old.items) (last_view last))) }
+        ≡ node_so_far (open_of (drop keep frames.old.items) (last_view last))) }
 {
     let end = frames.len();
     let mut value = last.closed(alloc)?;
@@ -201,7 +201,7 @@ fn with_frame(documents: Nodes, frames: Vec<Frame>, frame: Frame) -> Result<Open
 /// Whether a node that begins with a mark is one level too many within these frames.
 #[tactic(auto, using(crate::proofs::OpenViewLemmas::begun_lemmas))]
 fn is_too_deep(frames: &[Frame], mark: &Mark) -> bool
-    ensures { result ≡ is_none (begun (max_depth - length frames.now) (mark_view mark.now)) }
+    ensures { result ≡ is_none (begun_node (max_depth - length frames.now) (mark_view mark.now)) }
 {
     let is_full = frames.len() >= MAX_DEPTH;
     match mark {
@@ -216,9 +216,9 @@ fn is_too_deep(frames: &[Frame], mark: &Mark) -> bool
 /// A node begins with a mark, within the innermost frame, where nothing stands there.
 fn begin(alloc: Global, documents: Nodes, frames: Vec<Frame>, mark: Mark) -> Result<OpenNodes, Stop>
     ensures ok { IfOk result (λ o. BeginsAs documents.items frames.items
-        (begun (max_depth - length frames.items) (mark_view mark)) (nodes_open o)) }
+        (begun_node (max_depth - length frames.items) (mark_view mark)) (nodes_open o)) }
     ensures refused { IfErr result (λ s. Refuses s
-        (λ w. (begun (max_depth - length frames.items) (mark_view mark) ≡ None)
+        (λ w. (begun_node (max_depth - length frames.items) (mark_view mark) ≡ None)
         × (w ≡ Which.TooDeep))) }
 {
     if is_too_deep(&frames, &mark) {
@@ -238,9 +238,9 @@ fn begin_there(
     frames: Vec<Frame>,
     mark: Mark,
 ) -> Result<OpenNodes, AllocError>
-    requires { is_none (begun (max_depth - length frames.items) (mark_view mark)) ≡ false }
+    requires { is_none (begun_node (max_depth - length frames.items) (mark_view mark)) ≡ false }
     ensures { IfOk result (λ o. BeginsAs documents.items frames.items
-        (begun (max_depth - length frames.items) (mark_view mark)) (nodes_open o)) }
+        (begun_node (max_depth - length frames.items) (mark_view mark)) (nodes_open o)) }
 {
     match mark {
         Mark::Start => unreachable!(),
@@ -279,10 +279,10 @@ fn next_frames(
     requires inside { at < vec_len frames.old }
     requires no_start { is_next marks.start (mark_view mark) ≡ false }
     ensures ok { OnOk result ((docs : List Node)
-        → add_lem (mark_view mark) (stream_of docs frames.old.items (last_view last))
+        → open_after (mark_view mark) (stream_of docs frames.old.items (last_view last))
         ≡ Some (stream_of docs frames.new.items nothing)) }
     ensures refused { IfErr result (λ s. Refuses s (λ w. (docs : List Node)
-        → (add_lem (mark_view mark) (stream_of docs frames.old.items (last_view last)) ≡ None)
+        → (open_after (mark_view mark) (stream_of docs frames.old.items (last_view last)) ≡ None)
         × (fault_of_mark (mark_view mark) (stream_of docs frames.old.items (last_view last)) ≡ w))) }
 {
     let value = close_above(alloc, frames, last, at + 1)?;
@@ -306,10 +306,10 @@ fn go_on(alloc: Global, nodes: OpenNodes, at: usize, mark: Mark) -> Result<OpenN
     requires place { next_place_lem (mark_view mark) nodes.frames.items ≡ at }
     requires inside { at < vec_len nodes.frames }
     requires no_start { is_next marks.start (mark_view mark) ≡ false }
-    ensures ok { IfOk result (λ o. add_lem (mark_view mark) (nodes_open nodes)
+    ensures ok { IfOk result (λ o. open_after (mark_view mark) (nodes_open nodes)
         ≡ Some (nodes_open o)) }
     ensures refused { IfErr result (λ s. Refuses s
-        (λ w. (add_lem (mark_view mark) (nodes_open nodes) ≡ None)
+        (λ w. (open_after (mark_view mark) (nodes_open nodes) ≡ None)
         × (fault_of_mark (mark_view mark) (nodes_open nodes) ≡ w))) }
 {
     let OpenNodes {
@@ -332,7 +332,7 @@ fn go_on(alloc: Global, nodes: OpenNodes, at: usize, mark: Mark) -> Result<OpenN
 fn all_documents(alloc: Global, nodes: OpenNodes) -> Result<Nodes, AllocError>
     ensures { IfOk result (λ xs. map (child marks.start) xs.items
         ≡ with_child (map (child marks.start) nodes.documents.items) marks.start
-        (closed (open_of nodes.frames.items (last_view nodes.last)))) }
+        (node_so_far (open_of nodes.frames.items (last_view nodes.last)))) }
 {
     let OpenNodes {
         documents,
@@ -346,7 +346,7 @@ fn all_documents(alloc: Global, nodes: OpenNodes) -> Result<Nodes, AllocError>
 
 /// A document ends, and the next one begins.
 fn next_document(alloc: Global, nodes: OpenNodes) -> Result<OpenNodes, Stop>
-    ensures ok { IfOk result (λ o. add_lem marks.start (nodes_open nodes) ≡ Some (nodes_open o)) }
+    ensures ok { IfOk result (λ o. open_after marks.start (nodes_open nodes) ≡ Some (nodes_open o)) }
     ensures refused { IfErr result (λ s. s ≡ Stop.NoMemory) }
 {
     let documents = all_documents(alloc, nodes)?;
@@ -362,10 +362,10 @@ fn begin_or_refuse(alloc: Global, nodes: OpenNodes, mark: Mark) -> Result<OpenNo
     requires place { next_place_lem (mark_view mark) nodes.frames.items
         ≡ length nodes.frames.items }
     requires no_start { is_next marks.start (mark_view mark) ≡ false }
-    ensures ok { IfOk result (λ o. add_lem (mark_view mark) (nodes_open nodes)
+    ensures ok { IfOk result (λ o. open_after (mark_view mark) (nodes_open nodes)
         ≡ Some (nodes_open o)) }
     ensures refused { IfErr result (λ s. Refuses s
-        (λ w. (add_lem (mark_view mark) (nodes_open nodes) ≡ None)
+        (λ w. (open_after (mark_view mark) (nodes_open nodes) ≡ None)
         × (fault_of_mark (mark_view mark) (nodes_open nodes) ≡ w))) }
 {
     if may_begin(&nodes.frames, &nodes.last, &mark) {
@@ -392,10 +392,10 @@ impl OpenNodes {
 
     /// The open nodes after one more mark.
     pub(crate) fn add(self, alloc: Global, mark: Mark) -> Result<OpenNodes, Stop>
-        ensures ok { IfOk result (λ o. add_lem (mark_view mark) (nodes_open self)
+        ensures ok { IfOk result (λ o. open_after (mark_view mark) (nodes_open self)
             ≡ Some (nodes_open o)) }
         ensures refused { IfErr result (λ s. Refuses s
-            (λ w. (add_lem (mark_view mark) (nodes_open self) ≡ None)
+            (λ w. (open_after (mark_view mark) (nodes_open self) ≡ None)
             × (fault_of_mark (mark_view mark) (nodes_open self) ≡ w))) }
     {
         if mark.is_start() {
@@ -412,10 +412,10 @@ impl OpenNodes {
 
     /// The open nodes after one more line of the block scalar that stands in the innermost.
     pub(crate) fn add_raw(self, line: &[u8]) -> Result<OpenNodes, Stop>
-        ensures ok { IfOk result (λ o. add_lem (marks.raw line.now) (nodes_open self)
+        ensures ok { IfOk result (λ o. open_after (marks.raw line.now) (nodes_open self)
             ≡ Some (nodes_open o)) }
         ensures refused { IfErr result (λ s. Refuses s
-            (λ w. (add_lem (marks.raw line.now) (nodes_open self) ≡ None)
+            (λ w. (open_after (marks.raw line.now) (nodes_open self) ≡ None)
             × (fault_of_mark (marks.raw line.now) (nodes_open self) ≡ w))) }
     {
         let OpenNodes {
@@ -439,7 +439,7 @@ impl OpenNodes {
 
     /// The nodes of the documents, if the text ends here.
     pub(crate) fn finished(self, alloc: Global) -> Result<Nodes, AllocError>
-        ensures { IfOk result (λ xs. nodes_view xs.items ≡ finished_lem (nodes_open self)) }
+        ensures { IfOk result (λ xs. nodes_view xs.items ≡ documents_so_far (nodes_open self)) }
     {
         all_documents(alloc, self)
     }

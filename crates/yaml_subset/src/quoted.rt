@@ -1,8 +1,8 @@
 //! Quoted scalars, byte by byte.
 
 ghost use Rattle.std.specs.Prelude.{◌≡◌, ◌+◌, ◌^◌, ◌<◌, ◌≤◌, length, IfOk, IfSome, option_map};
-ghost use Rattle.yaml_subset.specs.Quoted.{escaped as escaped_lem, quoted as quoted_lem};
-ghost use Rattle.yaml_subset.specs.Scan.{step_of as step_of_lem, advanced, inside, scan, scan_end};
+ghost use Rattle.yaml_subset.specs.Quoted.{escaped_byte, quoted as quoted_lem};
+ghost use Rattle.yaml_subset.specs.Scan.{step_of as step_of_lem, next_scan, inside, scan, scan_end};
 ghost use Rattle.yaml_subset.specs.Scan.{scan_start};
 ghost use Rattle.yaml_subset.specs.ScanView.{scan_view, quoted_view};
 
@@ -47,7 +47,7 @@ pub(crate) struct Scan {
 
 /// What stands for a byte behind a backslash.
 pub(crate) fn escaped(byte: u8) -> Option<u8>
-    ensures { result ≡ escaped_lem byte }
+    ensures { result ≡ escaped_byte byte }
 {
     if byte == b'\\' {
         Some(b'\\')
@@ -93,7 +93,7 @@ fn step_of(quote: u8, byte: u8, next: u8) -> Step
 /// One byte further inside the quotes.
 fn advance(place: Place, mut quoted: Quoted, step: Step) -> Result<Scan, AllocError>
     requires { quoted.length < 2 ^ 63 }
-    ensures value { IfOk result (λ s. scan_view s ≡ advanced place (quoted_view quoted) step) }
+    ensures value { IfOk result (λ s. scan_view s ≡ next_scan place (quoted_view quoted) step) }
     ensures length { IfOk result (λ s. s.quoted.length ≤ quoted.length + 1) }
 {
     match place {

@@ -5,7 +5,7 @@ ghost use Rattle.yaml_subset.specs.Text.{parent_at as parent_at_lem};
 ghost use Rattle.yaml_subset.specs.Text.{parent_after as parent_after_lem};
 ghost use Rattle.yaml_subset.specs.Text.{header_scalar as header_scalar_lem, takes as takes_lem};
 ghost use Rattle.yaml_subset.specs.Fault.{misfit, fault_of};
-ghost use Rattle.yaml_subset.specs.OpenNodes.{add_all as add_all_lem};
+ghost use Rattle.yaml_subset.specs.OpenNodes.{open_after_all};
 ghost use Rattle.yaml_subset.specs.Reader.{header_folds};
 ghost use Rattle.yaml_subset.specs.Reader.{scalar_behind as scalar_behind_lem, Follows};
 ghost use Rattle.yaml_subset.specs.LineView.{mark_view};
@@ -82,7 +82,7 @@ fn header_scalar(parent: Option<usize>, marks: &[Mark]) -> Option<Scalar>
 
 /// The open nodes after the marks of a line, or the fault of the first that has no place.
 fn add_all(alloc: Global, nodes: OpenNodes, marks: Vec<Mark>) -> Result<OpenNodes, Stop>
-    ensures ok { IfOk result (λ o. (add_all_lem (map mark_view marks.items) (nodes_open nodes)
+    ensures ok { IfOk result (λ o. (open_after_all (map mark_view marks.items) (nodes_open nodes)
         ≡ Some (nodes_open o)) × (misfit (map mark_view marks.items) (nodes_open nodes) ≡ None)) }
     ensures refused { IfErr result (λ s. Refuses s
         (λ w. misfit (map mark_view marks.items) (nodes_open nodes) ≡ Some w)) }

@@ -1,6 +1,6 @@
 use Rattle.std.proofs.Common.{◌≡◌, ◌+◌, length, length-drop, drop, get_or, sym, ap, ◌∙◌}
 use Rattle.yaml_subset.specs.Line.{Line, content, entry_or_value, key_of}
-use Rattle.yaml_subset.specs.LineView.{line_view, joined, ahead_of, blank_seen, dash_seen}
+use Rattle.yaml_subset.specs.LineView.{line_view, joined_lines, ahead_of, blank_seen, dash_seen}
 use Rattle.yaml_subset.specs.declared.line.Ahead.TheVariants.{Blank, Comment, Dash, Entry}
 use Rattle.yaml_subset.proofs.LineLemmas.{content_blank, content_comment, content_dash, content_end}
 use Rattle.yaml_subset.proofs.LineLemmas.{content_entry, entry_fits}
@@ -28,7 +28,7 @@ returns-in-Entry c =
     let same : line_view c.in_ok-rest-in-Entry.rest
     ≡ entry_or_value (c.args.column + at) (drop at bytes) (key_of (drop at bytes)) =
     rw (← c.from-in-Entry.ensures) (c.in_ok-rest-in-Entry.ensures) in
-    c.in_ok-whole-in-Entry.ensures ∙ ap (joined (line_view c.loop-at.line)) same
+    c.in_ok-whole-in-Entry.ensures ∙ ap (joined_lines (line_view c.loop-at.line)) same
     ∙ sym (content_entry (line_view c.loop-at.line) bytes c.args.column at c.loop-at-test.true e)
     ∙ c.loop-at.invariant
 
@@ -45,7 +45,7 @@ loop-at-preserved c =
           c.loop-at-test.true e in
           let seen : line_view c.match-begun_by.line ≡ blank_seen (line_view c.loop-at.line)
           (get_or bytes at 0) = ap line_view w.line-is ∙ w.with_blank-line.ensures in
-          ap (λ (x : Line). joined x (content (c.args.column + (at + 1)) (drop (at + 1) bytes)))
+          ap (λ (x : Line). joined_lines x (content (c.args.column + (at + 1)) (drop (at + 1) bytes)))
           seen ∙ sym more ∙ c.loop-at.invariant
       | in-Dash+in_ok-line-in-Dash w ↦
           let e : ahead_of (get_or bytes at 0) (drop (at + 1) bytes) ≡ Dash =
@@ -55,7 +55,7 @@ loop-at-preserved c =
           c.loop-at-test.true e in
           let seen : line_view c.match-begun_by.line ≡ dash_seen (line_view c.loop-at.line)
           (c.args.column + at) = ap line_view w.line-is ∙ w.in_ok-line-in-Dash.ensures in
-          ap (λ (x : Line). joined x (content (c.args.column + (at + 1)) (drop (at + 1) bytes)))
+          ap (λ (x : Line). joined_lines x (content (c.args.column + (at + 1)) (drop (at + 1) bytes)))
           seen ∙ sym more ∙ c.loop-at.invariant
     ]
 

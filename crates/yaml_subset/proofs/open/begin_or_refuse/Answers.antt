@@ -2,7 +2,7 @@ use Rattle.std.proofs.Common.{◌≡◌, ◌-◌, List, true, false, cond, map, 
 use Rattle.std.proofs.Common.{rules}
 use Rattle.yaml_subset.specs.Mark.{start}
 use Rattle.yaml_subset.specs.Profile.{max_depth, has_room}
-use Rattle.yaml_subset.specs.OpenNodes.{add, begun}
+use Rattle.yaml_subset.specs.OpenNodes.{open_after, begun_node}
 use Rattle.yaml_subset.specs.Fault.{fault_of_mark, column}
 use Rattle.yaml_subset.specs.LineView.{mark_view}
 use Rattle.yaml_subset.specs.OpenView.{child, is_nothing, last_head, any_at}
@@ -17,8 +17,8 @@ pub returns-then-may_begin-clause-ok : goal.returns-then-may_begin-clause-ok
 returns-then-may_begin-clause-ok c =
     let n = c.args.nodes in
     let m = mark_view c.args.mark in
-    begin_ok n.documents.items n.frames.items (begun (max_depth - length n.frames.items) m)
-    (add m (nodes_open n)) (fault_of_mark m (nodes_open n))
+    begin_ok n.documents.items n.frames.items (begun_node (max_depth - length n.frames.items) m)
+    (open_after m (nodes_open n)) (fault_of_mark m (nodes_open n))
     (begun_there (map (child start) n.documents.items) n.frames.items n.last m c.requires.place
     c.requires.no_start (subst (λ (fs : List Frame). cond (is_nothing n.last)
     (has_room (last_head start fs) m) false ≡ true) c.deref.ensures.value
@@ -31,8 +31,8 @@ returns-then-may_begin-clause-refused c =
     let may : cond (is_nothing n.last) (has_room (last_head start n.frames.items) m) false ≡ true =
     subst (λ (fs : List Frame). cond (is_nothing n.last) (has_room (last_head start fs) m) false
     ≡ true) c.deref.ensures.value (sym c.may_begin.ensures ∙ c.if-may_begin.true) in
-    begin_refused n.documents.items n.frames.items (begun (max_depth - length n.frames.items) m)
-    (add m (nodes_open n)) (fault_of_mark m (nodes_open n))
+    begin_refused n.documents.items n.frames.items (begun_node (max_depth - length n.frames.items) m)
+    (open_after m (nodes_open n)) (fault_of_mark m (nodes_open n))
     (begun_there (map (child start) n.documents.items) n.frames.items n.last m c.requires.place
     c.requires.no_start may)
     (fault_begun (map (child start) n.documents.items) n.frames.items n.last m c.requires.place

@@ -1,7 +1,7 @@
 use Rattle.std.proofs.Common.{◌≡◌, ◌+◌, List, [], ◌∷◌, ◌++◌, Some, take, drop, map, option_map, sym}
 use Rattle.std.proofs.Common.{ap, ◌∙◌, arith}
 use Rattle.yaml_subset.specs.Mark.{start}
-use Rattle.yaml_subset.specs.OpenNodes.{closed, nothing}
+use Rattle.yaml_subset.specs.OpenNodes.{node_so_far, nothing}
 use Rattle.yaml_subset.specs.NodeView.{node_view}
 use Rattle.yaml_subset.specs.LineView.{mark_view}
 use Rattle.yaml_subset.specs.OpenView.{child, open_of, last_view, stream_of}
@@ -19,7 +19,7 @@ is_repeated_by-requires c =
     let long = long_before all before f c.args.at is_all
     (omega (arith, c.requires.inside, c.args.frames.now.ok.0)) in
     let value : option_map node_view c.in_ok-value.value
-    ≡ closed (open_of (drop (c.args.at + 1) all) (last_view c.args.last)) =
+    ≡ node_so_far (open_of (drop (c.args.at + 1) all) (last_view c.args.last)) =
     c.in_ok-value.ensures.value in
     is_there [] all before f c.args.at (last_view c.args.last) (mark_view c.args.mark)
     (option_map node_view c.in_ok-value.value) is_all c.requires.place long
@@ -35,7 +35,7 @@ next-requires c =
     let long = long_before all before f c.args.at is_all
     (omega (arith, c.requires.inside, c.args.frames.now.ok.0)) in
     let value : option_map node_view c.in_ok-value.value
-    ≡ closed (open_of (drop (c.args.at + 1) all) (last_view c.args.last)) =
+    ≡ node_so_far (open_of (drop (c.args.at + 1) all) (last_view c.args.last)) =
     c.in_ok-value.ensures.value in
     is_there [] all before f c.args.at (last_view c.args.last) (mark_view c.args.mark)
     (option_map node_view c.in_ok-value.value) is_all c.requires.place long
@@ -51,7 +51,7 @@ returns-then-is_repeated_by-clause-refused c docs =
     let long = long_before all before f c.args.at is_all
     (omega (arith, c.requires.inside, c.args.frames.now.ok.0)) in
     let value : option_map node_view c.in_ok-value.value
-    ≡ closed (open_of (drop (c.args.at + 1) all) (last_view c.args.last)) =
+    ≡ node_so_far (open_of (drop (c.args.at + 1) all) (last_view c.args.last)) =
     c.in_ok-value.ensures.value in
     next_refused (map (child start) docs) all before f c.args.at (last_view c.args.last)
     (mark_view c.args.mark) (option_map node_view c.in_ok-value.value) is_all c.requires.place

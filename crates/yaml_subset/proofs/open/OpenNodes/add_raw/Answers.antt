@@ -1,7 +1,7 @@
 use Rattle.std.proofs.Common.{Some, map, sym, ap, ◌∙◌}
 use Rattle.yaml_subset.specs.Mark.{start, raw}
 use Rattle.yaml_subset.specs.Block.{Block}
-use Rattle.yaml_subset.specs.OpenNodes.{add, block, within}
+use Rattle.yaml_subset.specs.OpenNodes.{open_after, block, within}
 use Rattle.yaml_subset.specs.OpenView.{child, open_of, last_view, block_view}
 use Rattle.yaml_subset.specs.declared.frame.Last.{Last}
 use Rattle.yaml_subset.proofs.OpenViewLemmas.{raw_taken, raw_refused}
@@ -11,7 +11,7 @@ pub returns-in_ok-block-in-Block-clause-ok : goal.returns-in_ok-block-in-Block-c
 returns-in_ok-block-in-Block-clause-ok c =
     let n = c.args.self in
     let l = c.args.line.now in
-    ap (λ (k : Last). add (raw l) (within start (map (child start) n.documents.items)
+    ap (λ (k : Last). open_after (raw l) (within start (map (child start) n.documents.items)
     (open_of n.frames.items (last_view k)))) c.in-Block.is
     ∙ raw_taken (map (child start) n.documents.items) n.frames.items (block_view c.in-Block.block) l
     ∙ ap (λ (b : Block). Some (within start (map (child start) n.documents.items)
