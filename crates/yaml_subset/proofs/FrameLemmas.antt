@@ -8,20 +8,20 @@ use Rattle.yaml_subset.specs.Mark.{Mark, dash, key}
 use Rattle.yaml_subset.specs.Profile.{collection, entries, is_key}
 use Rattle.yaml_subset.specs.NodeView.{node_view, entries_of}
 use Rattle.yaml_subset.specs.OpenView.{child, entry_child}
-use Rattle.yaml_subset.specs.declared.text.Text.{Text}
+use Rattle.yaml_subset.specs.declared.text.ScalarText.{ScalarText}
 use Rattle.yaml_subset.specs.declared.node.Node.{Node}
 
-entries-map : (n : ℕ) (es : List (Text × Node))
+entries-map : (n : ℕ) (es : List (ScalarText × Node))
     → entries (map (entry_child n) es) ≡ entries_of (map (λ p. (p.0, node_view p.1)) es)
 entries-map n [] = refl
 entries-map n (p ∷ es) = ap (entry p.0 (node_view p.1)) (entries-map n es)
 
 -- entries that begin with a key are a map
-pub collection-entries : (n : ℕ) (e : Text × Node) (es : List (Text × Node)) → collection
+pub collection-entries : (n : ℕ) (e : ScalarText × Node) (es : List (ScalarText × Node)) → collection
     (map (entry_child n) (e ∷ es)) ≡ mapping (entries_of (map (λ p. (p.0, node_view p.1)) (e ∷ es)))
 collection-entries n e es = ap mapping (entries-map n (e ∷ es))
 
-pub collection-map : (n : ℕ) (es : List (Text × Node)) → 0 < length es → collection
+pub collection-map : (n : ℕ) (es : List (ScalarText × Node)) → 0 < length es → collection
     (map (entry_child n) es) ≡ mapping (entries_of (map (λ p. (p.0, node_view p.1)) es))
 collection-map n [] h = absurd (omega arith)
 collection-map n (e ∷ es) h = collection-entries n e es
@@ -38,7 +38,7 @@ collection-items n (x ∷ xs) =
     ap (λ (l : List Tree). sequence (trees (node_view x ∷ l))) (trees-map (dash n) xs)
 
 -- a key among the entries so far, or the open one
-pub repeated_entries : (n m : ℕ) (es : List (Text × Node)) (k next : List ℕ) (x : Tree)
+pub repeated_entries : (n m : ℕ) (es : List (ScalarText × Node)) (k next : List ℕ) (x : Tree)
     → (list_any (λ p. bytes_eq next p.0) es || bytes_eq next k) ≡ list_any (λ c. is_key next c.mark)
     (map (entry_child n) es ++ (record { mark = key m k; tree = x } ∷ []))
 repeated_entries n m [] k next x = or_false (bytes_eq next k)

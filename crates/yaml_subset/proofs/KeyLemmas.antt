@@ -12,7 +12,7 @@ use Rattle.std.specs.Global.{Vec}
 use Rattle.std.proofs.lemmas.Cmp.{same_from_slice_cmp, nat_list_cmp_total}
 use Rattle.std.proofs.lemmas.List.Folds.{list_any-append}
 use Rattle.yaml_subset.specs.KeysView.{AreKeysOf}
-use Rattle.yaml_subset.specs.declared.text.Text.{Text}
+use Rattle.yaml_subset.specs.declared.text.ScalarText.{ScalarText}
 use Rattle.yaml_subset.specs.declared.node.Node.{Node}
 
 abbrev in_order : List ℕ → List ℕ → Ordering
@@ -66,7 +66,7 @@ or_last false true = refl
 or_last false false = refl
 
 -- the entries and one more have the keys and one more
-pub keys-more : (es : List (Text × Node)) (old new : BTreeSet (Vec ℕ)) (k : Vec ℕ) (key : Text)
+pub keys-more : (es : List (ScalarText × Node)) (old new : BTreeSet (Vec ℕ)) (k : Vec ℕ) (key : ScalarText)
     (value : Node)
     → AreKeysOf es old → new.keys ≡ insert_key (λ x y. in_order x.items y.items) old.keys k
     → k.items ≡ key → AreKeysOf (es ++ (key, value) ∷ []) new
@@ -77,4 +77,4 @@ keys-more es old new k key value are inserted same text =
     (same_in_order text k.items ∙ ap (bytes_eq text) same)
     ∙ ap (λ (b : Bool). bytes_eq text key || b) (are text)
     ∙ or_last (bytes_eq text key) (list_any (λ p. bytes_eq text p.0) es)
-    ∙ sym (list_any-append (λ (p : Text × Node). bytes_eq text p.0) es ((key, value) ∷ []))
+    ∙ sym (list_any-append (λ (p : ScalarText × Node). bytes_eq text p.0) es ((key, value) ∷ []))

@@ -12,17 +12,17 @@ use Rattle.yaml_subset.specs.Tree.{item}
 use Rattle.yaml_subset.specs.NodeView.{node_view}
 use Rattle.yaml_subset.specs.SpellingView.{is_quoted, text_of, spelling_view, fields_view}
 use Rattle.yaml_subset.specs.SpellingView.{items_view, entries_view}
-use Rattle.yaml_subset.specs.declared.text.Text.{Text}
+use Rattle.yaml_subset.specs.declared.text.ScalarText.{ScalarText}
 use Rattle.yaml_subset.specs.declared.node.Node.{Node}
 use Rattle.yaml_subset.specs.declared.spelling.FieldKey.{FieldKey}
 use Rattle.yaml_subset.specs.declared.spelling.Spelling.{Spelling as Written, Word}
 use Rattle.yaml_subset.specs.declared.spelling.Spelling.{Quoted as InQuotes, Fields as Fielded}
 use Rattle.yaml_subset.specs.declared.spelling.Spelling.{Items, the_lemmas}
 
-pub view-Word : (text : Text) → spelling_view (Word text) ≡ word text
+pub view-Word : (text : ScalarText) → spelling_view (Word text) ≡ word text
 view-Word text = search (rules, the_lemmas)
 
-pub view-Quoted : (text : Text) → spelling_view (InQuotes text) ≡ quoted text
+pub view-Quoted : (text : ScalarText) → spelling_view (InQuotes text) ≡ quoted text
 view-Quoted text = search (rules, the_lemmas)
 
 pub view-Fields : (v : Vec (FieldKey × Written) Global)
@@ -48,14 +48,14 @@ written_fields_joined [] p = refl
 written_fields_joined (q ∷ ps) p =
     ap (field (is_quoted q.0) (text_of q.0) (spelling_view q.1)) (written_fields_joined ps p)
 
-entries_joined : (es : List (Text × Node)) (e : Text × Node)
+entries_joined : (es : List (ScalarText × Node)) (e : ScalarText × Node)
     → fields_spelled (entries_view (es ++ (e ∷ [])))
     ≡ fields_joined (fields_spelled (entries_view es)) (fields_spelled (entries_view (e ∷ [])))
 entries_joined [] e = refl
 entries_joined (d ∷ es) e = ap (field true d.0 (spelled (node_view d.1))) (entries_joined es e)
 
-pub fields_more : (ps : List (FieldKey × Written)) (es : List (Text × Node))
-    (p : FieldKey × Written) (e : Text × Node) → fields_view ps ≡ fields_spelled (entries_view es)
+pub fields_more : (ps : List (FieldKey × Written)) (es : List (ScalarText × Node))
+    (p : FieldKey × Written) (e : ScalarText × Node) → fields_view ps ≡ fields_spelled (entries_view es)
     → fields_view (p ∷ []) ≡ fields_spelled (entries_view (e ∷ []))
     → fields_view (ps ++ (p ∷ [])) ≡ fields_spelled (entries_view (es ++ (e ∷ [])))
 fields_more ps es p e h i = written_fields_joined ps p

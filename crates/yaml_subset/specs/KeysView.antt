@@ -6,10 +6,10 @@ use Rattle.std.specs.Ordering.{nat_cmp}
 use Rattle.std.specs.Cmp.Lexicographic.{slice_cmp}
 use Rattle.std.specs.BTreeSet.{BTreeSet, contains_by}
 use Rattle.std.specs.Global.{Vec}
-use Rattle.yaml_subset.specs.declared.text.Text.{Text}
+use Rattle.yaml_subset.specs.declared.text.ScalarText.{ScalarText}
 use Rattle.yaml_subset.specs.declared.node.Node.{Node}
 
 -- a set has a text exactly where one of the entries has it as its key
-abbrev pub AreKeysOf : List (Text × Node) → BTreeSet (Vec ℕ) → Type 0
+abbrev pub AreKeysOf : List (ScalarText × Node) → BTreeSet (Vec ℕ) → Type 0
 AreKeysOf entries keys = (text : List ℕ) → contains_by (λ k. slice_cmp nat_cmp text k.items) keys
     ≡ list_any (λ p. bytes_eq text p.0) entries

@@ -2,11 +2,11 @@
 use Rattle.std.specs.Prelude.{List, [], ◌∷◌, map}
 use Rattle.yaml_subset.specs.Tree.{Tree, mapping, sequence, scalar, Entries, no_entries, entry}
 use Rattle.yaml_subset.specs.Tree.{trees}
-use Rattle.yaml_subset.specs.declared.text.Text.{Text}
+use Rattle.yaml_subset.specs.declared.text.ScalarText.{ScalarText}
 use Rattle.yaml_subset.specs.declared.node.Node.{Node, fold-Node}
 use Rattle.yaml_subset.specs.declared.node.Node.TheOpen.{Node-F}
 
-abbrev pub entries_of : List (Text × Tree) → Entries
+abbrev pub entries_of : List (ScalarText × Tree) → Entries
 entries_of [] = no_entries
 entries_of (p ∷ ps) = entry p.0 p.1 (entries_of ps)
 
@@ -23,5 +23,5 @@ abbrev pub nodes_view : List Node → List Tree
 nodes_view xs = map node_view xs
 
 -- the entries of a map, with each value as it is seen
-abbrev pub fields_view : List (Text × Node) → List (Text × Tree)
+abbrev pub fields_view : List (ScalarText × Node) → List (ScalarText × Tree)
 fields_view ps = map (λ p. (p.0, node_view p.1)) ps

@@ -8,7 +8,7 @@ use Rattle.yaml_subset.specs.Block.{Block}
 use Rattle.yaml_subset.specs.OpenNodes.{Open, nothing, inline, block, within}
 use Rattle.yaml_subset.specs.Fault.{column, same_column}
 use Rattle.yaml_subset.specs.NodeView.{node_view}
-use Rattle.yaml_subset.specs.declared.text.Text.{Text}
+use Rattle.yaml_subset.specs.declared.text.ScalarText.{ScalarText}
 use Rattle.yaml_subset.specs.declared.node.Node.{Node}
 use Rattle.yaml_subset.specs.declared.block.Block.{Block as Lines}
 use Rattle.yaml_subset.specs.declared.frame.Frame.{Frame}
@@ -28,7 +28,7 @@ last_view (lasts.Block b) = block (block_view b)
 abbrev pub child : Mark → Node → Child
 child m x = record { mark = m; tree = node_view x }
 
-abbrev pub entry_child : ℕ → (Text × Node) → Child
+abbrev pub entry_child : ℕ → (ScalarText × Node) → Child
 entry_child n p = child (key n p.0) p.1
 
 -- the last mark of an open map, list or stream

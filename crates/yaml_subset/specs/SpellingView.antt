@@ -4,7 +4,7 @@ use Rattle.yaml_subset.specs.Tree.{Entries}
 use Rattle.yaml_subset.specs.Spelling.{Spelling, word, quoted, fields, items, Fields, no_fields}
 use Rattle.yaml_subset.specs.Spelling.{field, Items, no_items, one_item}
 use Rattle.yaml_subset.specs.NodeView.{node_view, entries_of}
-use Rattle.yaml_subset.specs.declared.text.Text.{Text}
+use Rattle.yaml_subset.specs.declared.text.ScalarText.{ScalarText}
 use Rattle.yaml_subset.specs.declared.node.Node.{Node}
 use Rattle.yaml_subset.specs.declared.spelling.FieldKey.{FieldKey}
 use Rattle.yaml_subset.specs.declared.spelling.FieldKey.TheVariants.{Plain, Quoted as InQuotes}
@@ -44,7 +44,7 @@ fields_view ps = fields_of (map (λ p. (p.0, spelling_view p.1)) ps)
 abbrev pub items_view : List Written → Items
 items_view ss = items_of (map spelling_view ss)
 
-abbrev pub entries_view : List (Text × Node) → Entries
+abbrev pub entries_view : List (ScalarText × Node) → Entries
 entries_view es = entries_of (map (λ p. (p.0, node_view p.1)) es)
 
 -- the plain scalar of no text, which is written as nothing

@@ -4,14 +4,14 @@ ghost use Rattle.std.specs.Prelude.{◌≡◌, IfOk, map};
 ghost use Rattle.yaml_subset.specs.NodeView.{node_view, fields_view};
 
 use crate::node::{Node, Nodes, Pairs};
-use crate::text::Text;
+use crate::text::ScalarText;
 use std::alloc::{AllocError, Global};
 
 /// A copy of a text.
-pub(crate) fn copy_text(alloc: Global, text: &Text) -> Result<Text, AllocError>
+pub(crate) fn copy_text(alloc: Global, text: &ScalarText) -> Result<ScalarText, AllocError>
     ensures { IfOk result (λ t. t ≡ text.now) }
 {
-    Ok(Text::of(Vec::from_slice(alloc, text.as_bytes())?))
+    Ok(ScalarText::of(Vec::from_slice(alloc, text.as_bytes())?))
 }
 
 /// A copy of a node, with all that it holds.
@@ -34,7 +34,7 @@ pub fn copy_node(alloc: Global, node: &Node) -> Result<Node, AllocError>
 }
 
 #[cycle(copies)]
-fn copy_pairs(alloc: Global, entries: &[(Text, Node)]) -> Result<Pairs, AllocError>
+fn copy_pairs(alloc: Global, entries: &[(ScalarText, Node)]) -> Result<Pairs, AllocError>
     ensures { IfOk result (λ v. fields_view v.items ≡ fields_view entries.now) }
 {
     let mut copies = Vec::new(alloc);

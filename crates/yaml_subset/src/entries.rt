@@ -3,7 +3,7 @@
 ghost use Rattle.std.specs.Prelude.{◌≡◌, IfOk};
 
 use crate::node::{Node, Pairs};
-use crate::text::Text;
+use crate::text::ScalarText;
 use std::alloc::{AllocError, Global};
 use std::collections::BTreeSet;
 use std::marker::Model;
@@ -18,13 +18,13 @@ pub(crate) struct OpenEntries {
 
 impl Model for OpenEntries {
     ghost use Rattle.std.specs.Prelude.{List, ℕ};
-    ghost use Rattle.yaml_subset.specs.declared.text.Text.{Text};
+    ghost use Rattle.yaml_subset.specs.declared.text.ScalarText.{ScalarText};
     ghost use Rattle.yaml_subset.specs.declared.node.Node.{Node};
     ghost use Rattle.yaml_subset.specs.contracts.node.Node as node;
     ghost use Rattle.std.specs.Coded.{codes};
     ghost use Rattle.yaml_subset.specs.KeysView.{AreKeysOf};
 
-    ghost Value = { List (Text × Node) };
+    ghost Value = { List (ScalarText × Node) };
 
     ghost coded = { Prim.hlevel (codes, node.the_row.coded) };
 
@@ -68,7 +68,7 @@ impl OpenEntries {
     pub(crate) fn with(
         self,
         alloc: Global,
-        key: Text,
+        key: ScalarText,
         value: Node,
     ) -> Result<OpenEntries, AllocError>
         ensures { IfOk result (λ e. e ≡ self ++ (key, value) ∷ []) }

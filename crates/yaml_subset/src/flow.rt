@@ -20,7 +20,7 @@ use crate::bytes::{
 };
 use crate::node::Node;
 use crate::quoted::escaped;
-use crate::text::Text;
+use crate::text::ScalarText;
 use crate::which::{Which, earlier};
 use std::alloc::{AllocError, Global};
 
@@ -192,7 +192,7 @@ impl Flow {
     {
         let mut items = self.items;
         items.push(Node::Scalar {
-            text: Text::of(self.text),
+            text: ScalarText::of(self.text),
             plain: false,
         })?;
         Ok(Flow {
@@ -209,7 +209,7 @@ impl Flow {
         let fault = colon_end(self.fault, &text);
         let mut items = self.items;
         items.push(Node::Scalar {
-            text: Text::of(text),
+            text: ScalarText::of(text),
             plain: true,
         })?;
         Ok(Flow {

@@ -19,14 +19,14 @@ use crate::block::Block;
 use crate::entries::OpenEntries;
 use crate::mark::Mark;
 use crate::node::{Node, Nodes};
-use crate::text::Text;
+use crate::text::ScalarText;
 use std::alloc::{AllocError, Global};
 
 /// An open map or list at its column, with its finished children; a map also with the key whose
 /// value is open.
 #[derive(Drop)]
 pub(crate) enum Frame {
-    Map(usize, OpenEntries, Text),
+    Map(usize, OpenEntries, ScalarText),
     List(usize, Nodes),
 }
 
@@ -43,7 +43,7 @@ fn no_text(alloc: Global) -> Node
     ensures { node_view result ≡ no_text_lem }
 {
     Node::Scalar {
-        text: Text::of(Vec::new(alloc)),
+        text: ScalarText::of(Vec::new(alloc)),
         plain: true,
     }
 }
@@ -68,7 +68,7 @@ impl Last {
             Last::Block(block) => {
                 let text = block.ended(alloc)?;
                 Ok(Some(Node::Scalar {
-                    text: Text::of(text),
+                    text: ScalarText::of(text),
                     plain: false,
                 }))
             }
@@ -272,7 +272,7 @@ fn more_entries(
     alloc: Global,
     column: usize,
     entries: OpenEntries,
-    key: Text,
+    key: ScalarText,
     value: Option<Node>,
 ) -> Result<OpenEntries, AllocError>
     ensures more { IfOk result (λ e. map (entry_child column) e

@@ -30,14 +30,14 @@ use crate::mark::{Line, Mark};
 use crate::node::Node;
 use crate::quoted::{Quoted, read_quoted};
 use crate::style::{Chomping, Style};
-use crate::text::Text;
+use crate::text::ScalarText;
 use crate::which::{Which, earlier};
 use std::alloc::{AllocError, Global};
 
 /// A key: its text, the bytes that it takes with its colon, and the fault that it has.
 #[derive(Drop)]
 pub(crate) struct Key {
-    pub(crate) text: Text,
+    pub(crate) text: ScalarText,
     pub(crate) length: usize,
     pub(crate) fault: Option<Which>,
 }
@@ -77,7 +77,7 @@ fn plain_value(alloc: Global, column: usize, bytes: &[u8]) -> Result<Line, Alloc
     }
     let text = Vec::from_slice(alloc, without_blanks(before(bytes, end)))?;
     let node = Node::Scalar {
-        text: Text::of(text),
+        text: ScalarText::of(text),
         plain: true,
     };
     Line::one(alloc, Mark::Value(column, node), None)
@@ -114,7 +114,7 @@ fn quoted_value(
                 Some(Which::Quote)
             };
             let node = Node::Scalar {
-                text: Text::of(quoted.text),
+                text: ScalarText::of(quoted.text),
                 plain: false,
             };
             Line::one(alloc, Mark::Value(column, node), fault)
@@ -255,7 +255,7 @@ fn quoted_key(rest: &[u8], quoted: Option<Quoted>) -> Option<Key>
             let blank = spaces(behind);
             if byte_at(behind, blank) == b':' && ends_word(from(behind, blank + 1)) {
                 Some(Key {
-                    text: Text::of(quoted.text),
+                    text: ScalarText::of(quoted.text),
                     length: quoted.length + blank + 2,
                     fault: escape_fault(quoted.bad),
                 })
@@ -287,7 +287,7 @@ fn plain_key(alloc: Global, bytes: &[u8]) -> Result<Option<Key>, AllocError>
         let text = Vec::from_slice(alloc, without_spaces(before(bytes, end)))?;
         let fault = plain_key_fault(&text);
         Ok(Some(Key {
-            text: Text::of(text),
+            text: ScalarText::of(text),
             length: end + 1,
             fault,
         }))

@@ -38,6 +38,6 @@ pub use length::written_length;
 pub use node::{Node, Nodes, Pairs};
 pub use read::{YamlFault, read_documents};
 pub use spelling::{FieldKey, Spelling, spelled};
-pub use text::Text;
+pub use text::ScalarText;
 pub use which::Which;
 pub use write::{write_node, write_spelling};

@@ -2,7 +2,7 @@
 
 use crate::node::Node;
 use crate::style::Style;
-use crate::text::Text;
+use crate::text::ScalarText;
 use crate::which::{Which, earlier};
 use std::alloc::{AllocError, Global};
 
@@ -14,7 +14,7 @@ pub(crate) enum Mark {
     /// A dash before an item.
     Dash(usize),
     /// A key and its colon.
-    Key(usize, Text),
+    Key(usize, ScalarText),
     /// A value that ends on its line.
     Value(usize, Node),
     /// The header of a block scalar.
@@ -66,7 +66,7 @@ impl Line {
         ensures { IfOk result (λ l. line_view l ≡ spoiled_value column which) }
     {
         let node = Node::Scalar {
-            text: Text::of(Vec::new(alloc)),
+            text: ScalarText::of(Vec::new(alloc)),
             plain: true,
         };
         Line::one(alloc, Mark::Value(column, node), Some(which))

@@ -4,10 +4,10 @@ ghost use Rattle.std.specs.Prelude.{◌≡◌};
 ghost use Rattle.yaml_subset.specs.Profile.{is_shallow};
 ghost use Rattle.yaml_subset.specs.NodeView.{node_view};
 
-use crate::text::Text;
+use crate::text::ScalarText;
 
 /// The entries of a map, in the text's order; no two keys are alike.
-pub type Pairs = Vec<(Text, Node)>;
+pub type Pairs = Vec<(ScalarText, Node)>;
 
 /// Nodes in order: the items of a list, or the documents of a text.
 pub type Nodes = Vec<Node>;
@@ -20,7 +20,7 @@ pub enum Node {
     /// A list, by its items.
     List(Nodes),
     /// A scalar's text, and whether it was written plain.
-    Scalar { text: Text, plain: bool },
+    Scalar { text: ScalarText, plain: bool },
 }
 
 /// Whether a node is a scalar, and so no level deeper than where it stands.

@@ -9,25 +9,25 @@ ghost use Rattle.yaml_subset.specs.SpellingView.{entries_view};
 
 use crate::copy::copy_text;
 use crate::node::{Node, Nodes, Pairs};
-use crate::text::Text;
+use crate::text::ScalarText;
 use std::alloc::{AllocError, Global};
 
 /// The key of a field as it is written.
 #[derive(Drop)]
 pub enum FieldKey {
     /// A word of letters that stands plain.
-    Plain(Text),
+    Plain(ScalarText),
     /// A text in double quotes.
-    Quoted(Text),
+    Quoted(ScalarText),
 }
 
 /// A value as it is written.
 #[derive(Drop)]
 pub enum Spelling {
     /// A scalar that is written plain.
-    Word(Text),
+    Word(ScalarText),
     /// A scalar in double quotes.
-    Quoted(Text),
+    Quoted(ScalarText),
     /// A map, by its fields in order.
     Fields(Vec<(FieldKey, Spelling)>),
     /// A list, by its items.
@@ -77,7 +77,7 @@ fn spelled_items(alloc: Global, nodes: &Nodes) -> Result<Vec<Spelling>, AllocErr
 }
 
 /// A scalar, plain where it was written plain.
-fn spelled_scalar(alloc: Global, text: &Text, plain: bool) -> Result<Spelling, AllocError>
+fn spelled_scalar(alloc: Global, text: &ScalarText, plain: bool) -> Result<Spelling, AllocError>
     ensures { IfOk result (λ s. spelling_view s
         ≡ spelled_lem (node_view (Node.Scalar text.now plain))) }
 {

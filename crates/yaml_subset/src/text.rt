@@ -4,11 +4,11 @@ use std::marker::Model;
 
 /// The text of a key or a scalar, as its bytes.
 #[derive(Debug, Drop)]
-pub struct Text {
+pub struct ScalarText {
     bytes: Vec<u8>,
 }
 
-impl Model for Text {
+impl Model for ScalarText {
     ghost use Rattle.std.specs.Prelude.{List, ℕ};
 
     ghost Value = { List ℕ };
@@ -16,14 +16,14 @@ impl Model for Text {
     ghost view = { λ t. t.bytes.items };
 }
 
-impl Text {
+impl ScalarText {
     ghost use Rattle.std.specs.Prelude.{◌≡◌};
 
     /// The text of these bytes.
-    pub fn of(bytes: Vec<u8>) -> Text
+    pub fn of(bytes: Vec<u8>) -> ScalarText
         ensures { result ≡ bytes.items }
     {
-        Text { bytes }
+        ScalarText { bytes }
     }
 
     /// The bytes of the text.

@@ -1,7 +1,7 @@
 use Rattle.std.proofs.Common.{◌≡◌, ◌∙◌, ℕ, List, map, ap}
 use Rattle.yaml_subset.specs.NodeView.{node_view, fields_view}
 use Rattle.yaml_subset.specs.Tree.{Tree}
-use Rattle.yaml_subset.specs.declared.text.Text.{Text}
+use Rattle.yaml_subset.specs.declared.text.ScalarText.{ScalarText}
 use Rattle.yaml_subset.specs.declared.node.Node.{Node}
 use Rattle.yaml_subset.proofs.Failures.{no_ok}
 use Rattle.yaml_subset.proofs.NodeLemmas.{copied_all, copied_more, same_list, same_map}
@@ -48,7 +48,7 @@ copy_nodes-returns t c = copied_all node_view c.loop-node.copies.items c.args.it
 
 pub copy_pairs-loop-key-preserved : goal.copy_pairs-loop-key-preserved
 copy_pairs-loop-key-preserved t c =
-    let seen : Text × Node → List ℕ × Tree = λ (p : Text × Node). (p.0, node_view p.1) in
+    let seen : ScalarText × Node → List ℕ × Tree = λ (p : ScalarText × Node). (p.0, node_view p.1) in
     let text : c.in_ok-key.key ≡ c.loop-key-item.result.0 = c.in_ok-key.ensures in
     let tree : node_view c.in_ok-node.node ≡ node_view c.loop-key-item.result.1 =
     c.in_ok-node.ensures in
@@ -61,5 +61,5 @@ copy_pairs-loop-key-preserved t c =
 
 pub copy_pairs-returns : goal.copy_pairs-returns
 copy_pairs-returns t c =
-    copied_all (λ (p : Text × Node). (p.0, node_view p.1)) c.loop-key.copies.items
+    copied_all (λ (p : ScalarText × Node). (p.0, node_view p.1)) c.loop-key.copies.items
     c.args.entries.now c.loop-key.key-index c.loop-key-test.false c.loop-key.invariant

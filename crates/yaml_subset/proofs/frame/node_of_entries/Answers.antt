@@ -1,7 +1,7 @@
 use Rattle.std.proofs.Common.{List, map, sym, ap, ◌∙◌}
 use Rattle.yaml_subset.specs.Tree.{mapping}
 use Rattle.yaml_subset.specs.NodeView.{node_view, entries_of}
-use Rattle.yaml_subset.specs.declared.text.Text.{Text}
+use Rattle.yaml_subset.specs.declared.text.ScalarText.{ScalarText}
 use Rattle.yaml_subset.specs.declared.node.Node.{Node}
 use Rattle.yaml_subset.proofs.FrameLemmas.{collection-map}
 use Rattle.yaml_subset.proofs.NodeLemmas.{view-Map}
@@ -9,6 +9,6 @@ use Rattle.yaml_subset.proofs.frame.node_of_entries.Goals as goal
 
 pub returns : goal.returns
 returns c = view-Map c.ended.result
-    ∙ ap (λ (es : List (Text × Node)). mapping (entries_of (map (λ p. (p.0, node_view p.1)) es)))
+    ∙ ap (λ (es : List (ScalarText × Node)). mapping (entries_of (map (λ p. (p.0, node_view p.1)) es)))
     c.ended.ensures
     ∙ sym (collection-map c.args.column c.args.entries c.requires)

@@ -4,7 +4,7 @@ use Rattle.yaml_subset.specs.Tree.{trees}
 use Rattle.yaml_subset.specs.Spelling.{fields_spelled, items_spelled}
 use Rattle.yaml_subset.specs.NodeView.{node_view}
 use Rattle.yaml_subset.specs.SpellingView.{fields_view, items_view, entries_view}
-use Rattle.yaml_subset.specs.declared.text.Text.{Text}
+use Rattle.yaml_subset.specs.declared.text.ScalarText.{ScalarText}
 use Rattle.yaml_subset.specs.declared.node.Node.{Node}
 use Rattle.yaml_subset.specs.declared.spelling.FieldKey.{FieldKey}
 use Rattle.yaml_subset.specs.declared.spelling.FieldKey.TheVariants.{Quoted as InQuotes}
@@ -15,7 +15,7 @@ use Rattle.yaml_subset.proofs.spelling.+spelled.Goals as goal
 
 pub spelled_fields-returns : goal.spelled_fields-returns
 spelled_fields-returns t c = c.loop-entry.invariant
-    ∙ ap (λ (es : List (Text × Node)). fields_spelled (entries_view es))
+    ∙ ap (λ (es : List (ScalarText × Node)). fields_spelled (entries_view es))
     (take_all c.loop-entry.entry-index c.deref-entry-items.result.now c.loop-entry-test.false
     ∙ c.deref-entry-items.ensures.value)
 
@@ -29,13 +29,13 @@ pub spelled_fields-loop-entry-preserved : goal.spelled_fields-loop-entry-preserv
 spelled_fields-loop-entry-preserved t c =
     let l = c.loop-entry in
     let xs = c.deref-entry-items.result.now in
-    let e : Text × Node = c.entry-item.result in
+    let e : ScalarText × Node = c.entry-item.result in
     let p : FieldKey × Written = (InQuotes c.in_ok-copy_text.field-0, c.in_ok-value.value) in
     let same : fields_view (p ∷ []) ≡ fields_spelled (entries_view (e ∷ [])) =
     rw (c.in_ok-copy_text.ensures, c.in_ok-value.ensures) refl in
     ap fields_view c.in_ok-push.ensures.items
     ∙ fields_more l.fields.items (take l.entry-index xs) p e l.invariant same
-    ∙ ap (λ (es : List (Text × Node)). fields_spelled (entries_view es))
+    ∙ ap (λ (es : List (ScalarText × Node)). fields_spelled (entries_view es))
     (sym (take_one xs l.entry-index e c.loop-entry-test.true c.entry-item.is))
 
 pub spelled_items-loop-node-preserved : goal.spelled_items-loop-node-preserved
