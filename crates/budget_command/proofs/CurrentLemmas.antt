@@ -16,7 +16,7 @@ use Rattle.sample_book.specs.declared.RowVerdict.TheVariants.{Conflict}
 use Rattle.sample_book.specs.Puts.{IsPutInto, behind, in_place, is_new}
 use Rattle.slo_limits.specs.declared.TheConstants.{MAX_CELLS}
 use Rattle.budget_command.specs.declared.fault.RecordFault.TheVariants as fault
-use Rattle.budget_command.specs.Records.{taken_as}
+use Rattle.budget_command.specs.Records.{row_by_verdict}
 use Rattle.budget_command.specs.Tables.{one_if, rows_after}
 
 newer-holds : {A : Type 0} (P : A → Type 0) (revision_of : A → ℕ) (kept row : A) → P kept → P row
@@ -84,7 +84,7 @@ unmoved rows after row verdict v e passed =
 pub few-after : (rows after : List Row) (row : Row) (verdict : RowVerdict)
     → verdict ≡ verdict_of rows row → after ≡ rows_after rows row →
     (is_put verdict ≡ true → IsPutInto rows row verdict after) →
-    taken_as (length rows) verdict row ≡ Ok row → length rows ≤ MAX_CELLS
+    row_by_verdict (length rows) verdict row ≡ Ok row → length rows ≤ MAX_CELLS
     → length after ≤ MAX_CELLS
 few-after rows after row New v e put taken few =
     let more = length-put rows after row New (put refl) in

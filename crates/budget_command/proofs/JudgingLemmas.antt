@@ -9,7 +9,7 @@ use Rattle.csv_pieces.proofs.PartLemmas.{read_all, read_more, read_piece}
 use Rattle.csv_records.specs.Records.{Fields, csv_records}
 use Rattle.csv_records.proofs.Counts.{csv_records-few}
 use Rattle.slo_terms.specs.Judged.{judged_from}
-use Rattle.budget_command.specs.Records.{IsCounted, judge}
+use Rattle.budget_command.specs.Records.{IsCounted, outcome}
 use Rattle.budget_command.specs.Tables.{AreAll, CanGoOn, ComesTo, HasJudged, HasJudgedTo, IsEmpty}
 use Rattle.budget_command.specs.declared.fault.RecordFault.{RecordFault}
 use Rattle.budget_command.specs.declared.judging.Judging.{Judging}
@@ -73,7 +73,8 @@ judged-more before more old table next unbroken judged goes going few = record {
 
 pub judged-fault : (before more : List Fields) (old : Judging) (table : Table) (at : ℕ)
     (fault : RecordFault) → old.fault ≡ None → HasJudged before old →
-    (AreAll before old.number old.table → judged_from judge [] 1 (before ++ more) ≡ Err (at, fault))
+    (AreAll before old.number old.table → judged_from outcome [] 1 (before ++ more)
+    ≡ Err (at, fault))
     → at ≤ old.number + length more →
     HasJudged (before ++ more) (record { table = table; number = at; fault = Some fault })
 judged-fault before more old table at fault unbroken judged goes few = record {

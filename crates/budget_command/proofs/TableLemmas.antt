@@ -12,7 +12,8 @@ use Rattle.sample_book.specs.declared.RowVerdict.TheVariants.{New, Newer, Repeat
 use Rattle.sample_book.specs.declared.RowVerdict.TheVariants.{Conflict}
 use Rattle.sample_book.specs.Rows.{current_rows, verdict_of}
 use Rattle.sample_book.proofs.CameLemmas.{after-current}
-use Rattle.budget_command.specs.Records.{is_newer, is_repeated, is_superseded, judge, judge_over}
+use Rattle.budget_command.specs.Records.{is_newer, is_repeated, is_superseded, outcome}
+use Rattle.budget_command.specs.Records.{outcome_over}
 use Rattle.budget_command.specs.Records.{verdicts, verdicts_from}
 use Rattle.budget_command.specs.Tables.{AreAll, HasTaken, HasTakenRecord, IsEmpty, IsSoFar, one_if}
 use Rattle.budget_command.specs.Tables.{rows_after, tallies_in}
@@ -21,11 +22,11 @@ use Rattle.budget_command.specs.declared.table.Table.{Table}
 
 -- a pass over records goes on behind one that keeps the rules
 judged_from-one : (came : List Row) (number : ℕ) (fields : Fields) (rest : List Fields) (row : Row)
-    → judge came fields ≡ Ok row →
-    judged_from judge came number (fields ∷ rest)
-    ≡ judged_from judge (came ++ row ∷ []) (number + 1) rest
+    → outcome came fields ≡ Ok row →
+    judged_from outcome came number (fields ∷ rest)
+    ≡ judged_from outcome (came ++ row ∷ []) (number + 1) rest
 judged_from-one came number fields rest row e = ap
-    (judged_next (λ more. judged_from judge more (number + 1) rest) came number) e
+    (judged_next (λ more. judged_from outcome more (number + 1) rest) came number) e
 
 after-came : (came : List Row) (row : Row)
     → rows_after (current_rows came) row ≡ current_rows (came ++ row ∷ [])
@@ -72,7 +73,7 @@ so_far-push records left number old new fields rest so_far is record_taken =
     let row = record_taken.row in
     let taken = record_taken.taken in
     let verdict : RowVerdict = verdict_of old.book.rows row in
-    let over : judge so_far.came fields ≡ Ok row = ap (λ rows. judge_over rows fields)
+    let over : outcome so_far.came fields ≡ Ok row = ap (λ rows. outcome_over rows fields)
     (sym kept.current) ∙ record_taken.judged in
     let stands : verdict ≡ verdict_of (current_rows so_far.came) row = ap
     (λ rows. verdict_of rows row) kept.current in
@@ -88,7 +89,7 @@ so_far-push records left number old new fields rest so_far is record_taken =
         older = taken.older ∙ count-more is_superseded so_far.came row verdict old.superseded
             kept.older stands;
       };
-      judged = so_far.judged ∙ ap (judged_from judge so_far.came number) is ∙ judged_from-one
+      judged = so_far.judged ∙ ap (judged_from outcome so_far.came number) is ∙ judged_from-one
           so_far.came number fields rest row over;
       numbered = omega (arith, so_far.numbered, length-append so_far.came (row ∷ []));
       shorter = (let one = one_at_most verdict in omega (
@@ -114,7 +115,7 @@ so_far-none records left table all empty = record {
     again = empty.again;
     older = empty.older;
   };
-  judged = ap (judged_from judge [] 1) (sym all);
+  judged = ap (judged_from outcome [] 1) (sym all);
   numbered = refl;
   shorter = omega (arith, empty.newer, empty.again, empty.older);
 }
@@ -122,48 +123,50 @@ so_far-none records left table all empty = record {
 -- A pass over records goes on behind others that keep the rules.
 judged_from-behind : (items : List Row) (number : ℕ) (records more : List Fields) (all : List Row)
     → number ≡ length items + 1 →
-    judged_from judge items number records ≡ Ok all
-    → judged_from judge items number (records ++ more)
-    ≡ judged_from judge all (length all + 1) more
+    judged_from outcome items number records ≡ Ok all
+    → judged_from outcome items number (records ++ more)
+    ≡ judged_from outcome all (length all + 1) more
 judged_from-behind items number [] more all n e =
     let same : items ≡ all = cc e in
     rw (n, same) refl
 judged_from-behind items number (next ∷ records) more all n e =
-    by (judge items next) e (λ row. judged_from-behind (items ++ row ∷ []) (number + 1) records more
+    by (outcome items next) e (λ row. judged_from-behind (items ++ row ∷ []) (number + 1) records
+    more
     all (omega (arith, n, length-append items (row ∷ []))))
   where
     by : (r : Result Row RecordFault) → judged_next
-        (λ rows. judged_from judge rows (number + 1) records) items number r ≡ Ok all →
-        ((row : Row) → judged_from judge (items ++ row ∷ []) (number + 1) records ≡ Ok all →
-        judged_from judge (items ++ row ∷ []) (number + 1) (records ++ more)
-        ≡ judged_from judge all (length all + 1) more) →
-        judged_next (λ rows. judged_from judge rows (number + 1) (records ++ more)) items number r
-        ≡ judged_from judge all (length all + 1) more
+        (λ rows. judged_from outcome rows (number + 1) records) items number r ≡ Ok all →
+        ((row : Row) → judged_from outcome (items ++ row ∷ []) (number + 1) records ≡ Ok all →
+        judged_from outcome (items ++ row ∷ []) (number + 1) (records ++ more)
+        ≡ judged_from outcome all (length all + 1) more) →
+        judged_next (λ rows. judged_from outcome rows (number + 1) (records ++ more)) items number r
+        ≡ judged_from outcome all (length all + 1) more
     by (Ok row) ends behind = behind row ends
     by (Err fault) ends behind = cc ends
 
 -- Behind the first that breaks one, no record matters.
 judged_from-broken : (items : List Row) (number : ℕ) (records more : List Fields)
     (broken : ℕ × RecordFault) →
-    judged_from judge items number records ≡ Err broken
-    → judged_from judge items number (records ++ more) ≡ Err broken
+    judged_from outcome items number records ≡ Err broken
+    → judged_from outcome items number (records ++ more) ≡ Err broken
 judged_from-broken items number [] more broken e = cc e
 judged_from-broken items number (next ∷ records) more broken e =
-    by (judge items next) e (λ row. judged_from-broken (items ++ row ∷ []) (number + 1) records more
+    by (outcome items next) e (λ row. judged_from-broken (items ++ row ∷ []) (number + 1) records
+    more
     broken)
   where
     by : (r : Result Row RecordFault) → judged_next
-        (λ rows. judged_from judge rows (number + 1) records) items number r ≡ Err broken →
-        ((row : Row) → judged_from judge (items ++ row ∷ []) (number + 1) records ≡ Err broken →
-        judged_from judge (items ++ row ∷ []) (number + 1) (records ++ more) ≡ Err broken) →
-        judged_next (λ rows. judged_from judge rows (number + 1) (records ++ more)) items number r
+        (λ rows. judged_from outcome rows (number + 1) records) items number r ≡ Err broken →
+        ((row : Row) → judged_from outcome (items ++ row ∷ []) (number + 1) records ≡ Err broken →
+        judged_from outcome (items ++ row ∷ []) (number + 1) (records ++ more) ≡ Err broken) →
+        judged_next (λ rows. judged_from outcome rows (number + 1) (records ++ more)) items number r
         ≡ Err broken
     by (Ok row) ends behind = behind row ends
     by (Err fault) ends behind = ends
 
 pub broken-behind : (records more : List Fields) (at : ℕ) (fault : RecordFault) →
-    judged_from judge [] 1 records ≡ Err (at, fault)
-    → judged_from judge [] 1 (records ++ more) ≡ Err (at, fault)
+    judged_from outcome [] 1 records ≡ Err (at, fault)
+    → judged_from outcome [] 1 (records ++ more) ≡ Err (at, fault)
 broken-behind records more at fault e = judged_from-broken [] 1 records more (at, fault) e
 
 -- Behind records that are all kept the next ones are left.
@@ -178,8 +181,8 @@ so_far-behind before more left number table all kept =
       kept = kept.kept;
       judged =
           judged_from-behind [] 1 before more kept.came refl kept.judged
-          ∙ ap (λ n. judged_from judge kept.came n more) n
-          ∙ ap (judged_from judge kept.came number) (sym all);
+          ∙ ap (λ n. judged_from outcome kept.came n more) n
+          ∙ ap (judged_from outcome kept.came number) (sym all);
       numbered = kept.numbered;
       shorter = kept.shorter;
     }
@@ -189,12 +192,12 @@ pub so_far-broken : (records left : List Fields) (number : ℕ) (old : Table) (f
     (rest : List Fields) (fault : RecordFault) →
     IsSoFar records left number old.book.rows old.corrected old.repeated old.superseded
     → left ≡ fields ∷ rest →
-    judge_over old.book.rows fields ≡ Err fault
-    → judged_from judge [] 1 records ≡ Err (number, fault)
+    outcome_over old.book.rows fields ≡ Err fault
+    → judged_from outcome [] 1 records ≡ Err (number, fault)
 so_far-broken records left number old fields rest fault so_far is broken =
-    so_far.judged ∙ ap (judged_from judge so_far.came number) is
-    ∙ ap (judged_next (λ more. judged_from judge more (number + 1) rest) so_far.came number)
-    (ap (λ rows. judge_over rows fields) (sym so_far.kept.current) ∙ broken)
+    so_far.judged ∙ ap (judged_from outcome so_far.came number) is
+    ∙ ap (judged_next (λ more. judged_from outcome more (number + 1) rest) so_far.came number)
+    (ap (λ rows. outcome_over rows fields) (sym so_far.kept.current) ∙ broken)
 
 -- What was counted is one more at most.
 pub tallied-more : (old new : Table) (row : Row) → HasTaken row old new

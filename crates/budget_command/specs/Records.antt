@@ -59,16 +59,16 @@ row_of fields =
 
 -- A row is taken, unless the kept row of its cell has the same revision and another amount, or it
 -- would make one cell more than there may be.
-abbrev pub taken_as : ℕ → RowVerdict → Row → Result Row RecordFault
-taken_as cells New row = if nat_lt cells MAX_CELLS then Ok row else Err fault.Limit
-taken_as cells (Newer old) row = Ok row
-taken_as cells Repeated row = Ok row
-taken_as cells (Superseded revision) row = Ok row
-taken_as cells (Conflict kept) row = Err (fault.Conflict kept.amount)
+abbrev pub row_by_verdict : ℕ → RowVerdict → Row → Result Row RecordFault
+row_by_verdict cells New row = if nat_lt cells MAX_CELLS then Ok row else Err fault.Limit
+row_by_verdict cells (Newer old) row = Ok row
+row_by_verdict cells Repeated row = Ok row
+row_by_verdict cells (Superseded revision) row = Ok row
+row_by_verdict cells (Conflict kept) row = Err (fault.Conflict kept.amount)
 
 abbrev pub of_row : List Row → Result Row RecordFault → Result Row RecordFault
 of_row current (Err fault) = Err fault
-of_row current (Ok row) = taken_as (length current) (verdict_of current row) row
+of_row current (Ok row) = row_by_verdict (length current) (verdict_of current row) row
 
 abbrev pub of_five : List Row → Option (List ℕ × List ℕ × List ℕ × List ℕ × List ℕ) →
     Result Row RecordFault
@@ -76,14 +76,14 @@ of_five current None = Err fault.Fields
 of_five current (Some fields) = of_row current (row_of fields)
 
 -- what a record comes to over the current rows
-abbrev pub judge_over : List Row → Fields → Result Row RecordFault
-judge_over current fields = of_five current (five_fields fields)
+abbrev pub outcome_over : List Row → Fields → Result Row RecordFault
+outcome_over current fields = of_five current (five_fields fields)
 
 -- What a record comes to behind the rows that came before it: a row, or the first rule that it
 -- breaks, in the order: five fields, the source, the minute, the revision, the counts, no conflict
 -- with the current row of its cell, and not too many cells.
-abbrev pub judge : List Row → Fields → Result Row RecordFault
-judge before fields = judge_over (current_rows before) fields
+abbrev pub outcome : List Row → Fields → Result Row RecordFault
+outcome before fields = outcome_over (current_rows before) fields
 
 -- what became of each row, behind those before it
 abbrev pub verdicts_from : List Row → List Row → List RowVerdict

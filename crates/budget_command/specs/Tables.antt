@@ -10,8 +10,8 @@ use Rattle.sample_book.specs.declared.Row.{Row}
 use Rattle.sample_book.specs.declared.RowVerdict.{RowVerdict}
 use Rattle.sample_book.specs.History.{is_put}
 use Rattle.sample_book.specs.Rows.{current_rows, verdict_of}
-use Rattle.budget_command.specs.Records.{IsCounted, is_newer, is_repeated, is_superseded, judge}
-use Rattle.budget_command.specs.Records.{judge_over, verdicts}
+use Rattle.budget_command.specs.Records.{IsCounted, is_newer, is_repeated, is_superseded, outcome}
+use Rattle.budget_command.specs.Records.{outcome_over, verdicts}
 use Rattle.budget_command.specs.declared.fault.RecordFault.{RecordFault}
 use Rattle.budget_command.specs.declared.judging.Judging.{Judging}
 use Rattle.budget_command.specs.declared.table.Table.{Table}
@@ -47,7 +47,7 @@ pub record HasTaken (row : Row) (old new : Table) : Type 0 where
 -- A table with the row of one more record, which keeps the rules.
 pub record HasTakenRecord (fields : Fields) (old new : Table) : Type 0 where
   pub row : Row
-  pub judged : judge_over old.book.rows fields ≡ Ok row
+  pub judged : outcome_over old.book.rows fields ≡ Ok row
   pub counted : IsCounted row
   pub taken : HasTaken row old new
 
@@ -66,7 +66,7 @@ pub record IsSoFar (records left : List Fields) (number : ℕ) (rows : List Row)
     (corrected repeated superseded : ℕ) : Type 0 where
   pub came : List Row
   pub kept : AreKeptAs rows corrected repeated superseded came
-  pub judged : judged_from judge [] 1 records ≡ judged_from judge came number left
+  pub judged : judged_from outcome [] 1 records ≡ judged_from outcome came number left
   pub numbered : number ≡ length came + 1
   pub shorter : corrected + repeated + superseded ≤ length came
 
@@ -90,14 +90,14 @@ AreAll records next table =
 abbrev pub IsBroken : List ℕ → ℕ → Table → ℕ → RecordFault → Type 0
 IsBroken part number table at fault =
     ((before : List Fields) → AreAll before number table →
-    judged_from judge [] 1 (before ++ csv_records part) ≡ Err (at, fault))
+    judged_from outcome [] 1 (before ++ csv_records part) ≡ Err (at, fault))
     × (at ≤ number + length (csv_records part))
 
 -- What came of records: all keep the rules, or the one of this number is the first that breaks one.
 abbrev pub ComesTo : List Fields → Option RecordFault → ℕ → Table → Type 0
 ComesTo records None number table = AreAll records number table
 ComesTo records (Some fault) number table =
-    judged_from judge [] 1 records ≡ Err (number, fault)
+    judged_from outcome [] 1 records ≡ Err (number, fault)
 
 -- These records were judged, and this is what came of them.
 pub record HasJudged (records : List Fields) (judging : Judging) : Type 0 where

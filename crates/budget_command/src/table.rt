@@ -4,8 +4,8 @@ ghost use Rattle.std.specs.Prelude.{OnOk, length};
 ghost use Rattle.csv_records.specs.Records.{Fields, csv_records};
 ghost use Rattle.budget_command.specs.Records.{BUDGET, is_newer as is_newer_lem};
 ghost use Rattle.budget_command.specs.Records.{is_repeated as is_repeated_lem};
-ghost use Rattle.budget_command.specs.Records.{is_superseded as is_superseded_lem, judge_over};
-ghost use Rattle.budget_command.specs.Records.{IsCounted, of_row, taken_as};
+ghost use Rattle.budget_command.specs.Records.{is_superseded as is_superseded_lem, outcome_over};
+ghost use Rattle.budget_command.specs.Records.{IsCounted, of_row, row_by_verdict};
 ghost use Rattle.budget_command.specs.Tables.{AreAll, HasTaken, HasTakenRecord, IsBroken, IsEmpty};
 ghost use Rattle.budget_command.specs.Tables.{IsFit, tallies_in};
 
@@ -38,7 +38,7 @@ pub struct Table {
 /// The row that a record stands for, or the first rule that it breaks by itself.
 fn read_record(sli: &Label, sources: &mut Sources, fields: &Record) -> Result<Row, RecordFault>
     requires { sli.now ≡ BUDGET }
-    ensures read { (current : List Row) → judge_over current fields.now ≡ of_row current result }
+    ensures read { (current : List Row) → outcome_over current fields.now ≡ of_row current result }
     ensures counted { IfOk result IsCounted }
 {
     match fields.five() {
@@ -49,9 +49,9 @@ fn read_record(sli: &Label, sources: &mut Sources, fields: &Record) -> Result<Ro
 
 /// The rule that a row breaks by what becomes of it over so many cells.
 fn refusal(cells: u32, verdict: &RowVerdict) -> Option<RecordFault>
-    ensures taken { IfNone result ((row : Row) → taken_as cells verdict.now row ≡ Ok row) }
+    ensures taken { IfNone result ((row : Row) → row_by_verdict cells verdict.now row ≡ Ok row) }
     ensures refused { IfSome result (λ fault. (row : Row) →
-        taken_as cells verdict.now row ≡ Err fault) }
+        row_by_verdict cells verdict.now row ≡ Err fault) }
 {
     match verdict {
         RowVerdict::New if cells < MAX_CELLS => None,
@@ -145,7 +145,7 @@ impl Table {
         ensures few { OnOk result (length self.new.book.rows ≤ MAX_CELLS) }
         ensures broken { (at : ℕ) (fault : RecordFault) →
             result ≡ Err (TableFault.Broken at fault) →
-            (at ≡ number) × (judge_over self.old.book.rows fields.now ≡ Err fault) }
+            (at ≡ number) × (outcome_over self.old.book.rows fields.now ≡ Err fault) }
     {
         match read_record(sli, sources, fields) {
             Ok(row) => self.take(number, &row),
