@@ -16,7 +16,7 @@ use Rattle.record_form.specs.declared.Refusal.TheVariants as refusals
 abbrev pub word_of_yaml : YamlWord → List ℕ
 word_of_yaml yaml.TooLarge = codes "too_large"
 word_of_yaml yaml.NotUtf8 = codes "not_utf8"
-word_of_yaml (yaml.Form row) = which.word row
+word_of_yaml (yaml.Form fault) = which.word fault
 
 -- the word for a limit of a definition
 abbrev pub word_of_limit : LimitName → List ℕ

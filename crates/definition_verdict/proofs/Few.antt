@@ -7,10 +7,10 @@ use Rattle.yaml_subset.specs.Text.{StandsFor}
 use Rattle.yaml_subset.specs.declared.node.Node.{Node}
 use Rattle.yaml_subset.specs.declared.which.Which.{Which}
 use Rattle.yaml_subset.specs.declared.YamlFault.TheVariants as faults
+use Rattle.yaml_subset.proofs.CountLemmas.{few_documents, few_lines}
 use Rattle.definition_verdict.specs.declared.definition.Definition.{Definition}
 use Rattle.definition_verdict.specs.Verdict.{IsDefinition, Known}
 use Rattle.definition_verdict.proofs.ObjectCounts.{few_objects}
-use Rattle.definition_verdict.proofs.SizeLemmas.{few_documents, few_lines}
 
 pub line_is_short : (text : List ℕ) (line : ℕ) (which : Which)
     → NamesFault text (faults.Form line which) → line < 2 ^ 32

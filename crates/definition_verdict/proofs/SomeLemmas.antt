@@ -8,9 +8,10 @@ use Rattle.std.specs.Str.Lossy.{utf8_error_len}
 use Rattle.std.proofs.lemmas.Bool.{cases_lt}
 use Rattle.std.proofs.lemmas.List.{take_all}
 use Rattle.std.proofs.lemmas.Str.{IsUtf8-nil, IsUtf8-from_is_utf8, is_utf8-from_IsUtf8}
+use Rattle.slo_limits.specs.declared.TheConstants.{MAX_TEXT_BYTES}
 use Rattle.yaml_subset.specs.Tree.{Tree}
 use Rattle.yaml_subset.specs.BadPlace.{IsBadPlace}
-use Rattle.yaml_subset.specs.Text.{StandsFor, without_mark, max_bytes}
+use Rattle.yaml_subset.specs.Text.{StandsFor, without_mark}
 use Rattle.yaml_subset.proofs.FaultLemmas.{Outcome, either}
 use Rattle.yaml_subset.proofs.PlaceLemmas.{place_at_first, place_at_end, place_inside}
 use Rattle.yaml_subset.proofs.PlaceLemmas.{place_in_text}
@@ -120,7 +121,8 @@ of_nodes known text nodes stands = by (objects_in nodes) refl
     by (Err refusal) e = inr (refusal, refused_documents known text nodes refusal stands e)
     by (Ok all) e = of_objects known text nodes all stands e
 
-of_lines : (known : Known) (text : List ℕ) → length text ≤ max_bytes → IsUtf8 (without_mark text)
+of_lines : (known : Known) (text : List ℕ) → length text ≤ MAX_TEXT_BYTES
+    → IsUtf8 (without_mark text)
     → Outcome (lines (without_mark text)) → HasVerdict known text
 of_lines known text small utf8 (inl (nodes, e)) =
     of_nodes known text nodes (record { small = small; utf8 = utf8; nodes = e })
@@ -128,9 +130,9 @@ of_lines known text small utf8 (inr (line, which, fault)) =
     inr (Yaml line (words.Form which), no_text (small, utf8, fault))
 
 pub has_verdict : (known : Known) (text : List ℕ) → HasVerdict known text
-has_verdict known text = by_size (cases_lt max_bytes (length text))
+has_verdict known text = by_size (cases_lt MAX_TEXT_BYTES (length text))
   where
-    by_utf8 : length text ≤ max_bytes → (b : Bool) → is_utf8 (without_mark text) ≡ b
+    by_utf8 : length text ≤ MAX_TEXT_BYTES → (b : Bool) → is_utf8 (without_mark text) ≡ b
         → HasVerdict known text
     by_utf8 small true e = of_lines known text small (IsUtf8-from_is_utf8 (without_mark text) e)
         (either (lines (without_mark text)))
@@ -140,6 +142,7 @@ has_verdict known text = by_size (cases_lt max_bytes (length text))
         let place = place_of text not_utf8 in
         inr (Yaml 0 words.NotUtf8, no_text (refl, (place.0, (small, not_utf8, place.1))))
 
-    by_size : (max_bytes < length text) ⊎ (length text ≤ max_bytes) → HasVerdict known text
+    by_size : (MAX_TEXT_BYTES < length text) ⊎ (length text ≤ MAX_TEXT_BYTES)
+        → HasVerdict known text
     by_size (inl large) = inr (Yaml 0 words.TooLarge, no_text (refl, large))
     by_size (inr small) = by_utf8 small (is_utf8 (without_mark text)) refl

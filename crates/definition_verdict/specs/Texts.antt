@@ -5,8 +5,8 @@ use Rattle.yaml_subset.specs.declared.YamlFault.TheVariants as faults
 use Rattle.record_form.specs.declared.YamlWord.{YamlWord}
 use Rattle.record_form.specs.declared.YamlWord.TheVariants.{TooLarge, NotUtf8, Form}
 
--- The fault of a text as a refusal names it: by the line and the row that it meets. Line 0 speaks
--- of the whole text.
+-- The fault of a text as a refusal names it: by its line and what is wrong there. Line 0 speaks of
+-- the whole text.
 abbrev pub IsYamlFault : List ℕ → ℕ → YamlWord → Type 0
 IsYamlFault text line TooLarge = (line ≡ 0) × NamesFault text faults.TooLarge
 IsYamlFault text line NotUtf8 = (line ≡ 0) × ((at : ℕ) × NamesFault text (faults.NotUtf8 at))

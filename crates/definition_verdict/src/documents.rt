@@ -36,7 +36,8 @@ fn form_fault(line: usize, word: YamlWord) -> TextError
     }
 }
 
-/// The documents of a text. It has at most `MAX_BYTES` bytes, so they are few, as its lines are.
+/// The documents of a text. It has at most `MAX_TEXT_BYTES` bytes, so they are few, as its lines
+/// are.
 pub(crate) fn documents_in(alloc: Global, text: &[u8]) -> Result<Nodes, TextError>
     ensures ok { IfOk result (λ nodes. StandsFor text.now (nodes_view nodes.items)) }
     ensures writable { IfOk result (λ nodes. AllByRecursion IsWritable (nodes_view nodes.items)) }

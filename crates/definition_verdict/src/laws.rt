@@ -23,7 +23,7 @@ pub fn each_text_has_a_verdict()
 {}
 
 /// A text defines so few objects that a `u32` counts them: each has a document or a key of its own,
-/// and a text has at most `MAX_BYTES` bytes.
+/// and a text has at most `MAX_TEXT_BYTES` bytes.
 pub fn a_text_defines_few_objects()
     ensures { (known : Known) (text : List ℕ) (made : Definition) → IsDefinition known text made →
         made.objects < 2 ^ 32 }

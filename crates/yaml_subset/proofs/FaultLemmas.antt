@@ -10,9 +10,11 @@ use Rattle.slo_limits.specs.declared.TheConstants.{MAX_TEXT_BYTES}
 use Rattle.yaml_subset.specs.Tree.{Tree}
 use Rattle.yaml_subset.specs.Mark.{start}
 use Rattle.yaml_subset.specs.FaultOrder.{earlier, place}
-use Rattle.yaml_subset.specs.Text.{MarkedLines, StandsFor, line_at, parent_after, scalar_after, marked_lines}
+use Rattle.yaml_subset.specs.Text.{MarkedLines, StandsFor, line_at, parent_after, scalar_after}
+use Rattle.yaml_subset.specs.Text.{marked_lines}
 use Rattle.yaml_subset.specs.Text.{nodes_of, without_mark}
-use Rattle.yaml_subset.specs.OpenNodes.{Open, nothing, within, open_after_all, open_nodes, documents_so_far}
+use Rattle.yaml_subset.specs.OpenNodes.{Open, nothing, within, open_after_all, open_nodes}
+use Rattle.yaml_subset.specs.OpenNodes.{documents_so_far}
 use Rattle.yaml_subset.specs.Fault.{IsFault, misfit, fault_of}
 use Rattle.yaml_subset.specs.Reader.{Reading, IsRead, Follows}
 use Rattle.yaml_subset.specs.declared.which.Which.{Which}
@@ -55,8 +57,8 @@ not_before ls j k v w f g rest e =
     let some = g.is_text in
     cc (none, some)
 
-same_fault : (ls : List (List ℕ)) (j k : ℕ) (v w : Which) (f : IsFault ls j v) (g : IsFault ls k w) →
-    f.before ≡ g.before → f.line ≡ g.line → (j ≡ k) × (v ≡ w)
+same_fault : (ls : List (List ℕ)) (j k : ℕ) (v w : Which) (f : IsFault ls j v) (g : IsFault ls k w)
+    → f.before ≡ g.before → f.line ≡ g.line → (j ≡ k) × (v ≡ w)
 same_fault ls j k v w f g before line =
     let marks : f.marks ≡ g.marks = cc (f.are_marks, g.are_marks, ap marked_lines before) in
     let opens : f.nodes_open ≡ g.nodes_open =

@@ -125,7 +125,8 @@ at_end f x y c cs e same =
 
 pub at_byte : (f w x : Option Which) (c : ℕ) (cs : List ℕ) → ends_item c cs ≡ false
     → fault_within c (slice_index cs 0) ≡ w
-    → earlier f (earlier (inner_fault (c ∷ cs)) x) ≡ earlier (earlier f w) (earlier (inner_fault cs) x)
+    → earlier f (earlier (inner_fault (c ∷ cs)) x)
+    ≡ earlier (earlier f w) (earlier (inner_fault cs) x)
 at_byte f w x c cs e same =
     ap (λ (b : Bool). earlier f (earlier
     (cond b None (earlier (fault_within c (slice_index cs 0)) (inner_fault cs))) x)) e
@@ -133,7 +134,8 @@ at_byte f w x c cs e same =
     ∙ ap (earlier f) (earlier_assoc w (inner_fault cs) x)
     ∙ sym (earlier_assoc f w (earlier (inner_fault cs) x))
 
-pub within_indicator : (c n : ℕ) → is_flow_indicator c ≡ true → fault_within c n ≡ Some (byte_fault c n)
+pub within_indicator : (c n : ℕ) → is_flow_indicator c ≡ true
+    → fault_within c n ≡ Some (byte_fault c n)
 within_indicator c n i = ap (λ (b : Bool). cond b (Some (byte_fault c n))
     (cond (c == 58 && (is_blank_byte n || is_flow_indicator n)) (Some FlowForm) None)) i
 
@@ -365,7 +367,8 @@ plain_fault (c ∷ cs) x t ys f o colon free h = by (is_blank_byte c && slice_in
     all : Option Which → Option Which
     all p = earlier f (earlier p (earlier (inner_fault (c ∷ cs)) x))
 
-    colon_is : eqb (slice_index (trimmed_text is_blank_byte t) (length (trimmed_text is_blank_byte t) - 1)) 58
+    colon_is : eqb (slice_index (trimmed_text is_blank_byte t)
+        (length (trimmed_text is_blank_byte t) - 1)) 58
         ≡ o
     colon_is = ap (λ (u : List ℕ). eqb (slice_index u (length u - 1)) 58) (trimmed-strip t)
         ∙ last_colon (strip t) ∙ colon

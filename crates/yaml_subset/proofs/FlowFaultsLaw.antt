@@ -10,16 +10,19 @@ use Rattle.std.proofs.lemmas.List.{length-drop}
 use Rattle.yaml_subset.specs.Tree.{Tree, scalar}
 use Rattle.yaml_subset.specs.FaultOrder.{earlier}
 use Rattle.yaml_subset.specs.Block.{is_blank_byte}
-use Rattle.yaml_subset.specs.Quoted.{Quoted, quote_end, with_byte, with_escape, escaped_byte, single}
+use Rattle.yaml_subset.specs.Quoted.{Quoted, quote_end, with_byte, with_escape, escaped_byte}
+use Rattle.yaml_subset.specs.Quoted.{single}
 use Rattle.yaml_subset.specs.Quoted.{double}
 use Rattle.yaml_subset.specs.Line.{escape_fault, inline_value, flow_value, is_quote, is_tail}
 use Rattle.yaml_subset.specs.Flow.{Flow, flow, flow_start, flow_fault, flow_part, flow_more}
 use Rattle.yaml_subset.specs.Flow.{flow_item}
 use Rattle.yaml_subset.specs.Flow.{flow_quoted, byte_fault, in_escape, end_fault, is_flow_indicator}
 use Rattle.yaml_subset.specs.Flow.{is_flow_start, is_left_out}
-use Rattle.yaml_subset.specs.FlowFaults.{ends_item, from_end, fault_within, inner_fault, behind_blanks}
+use Rattle.yaml_subset.specs.FlowFaults.{ends_item, from_end, fault_within, inner_fault}
+use Rattle.yaml_subset.specs.FlowFaults.{behind_blanks}
 use Rattle.yaml_subset.specs.FlowFaults.{Item}
-use Rattle.yaml_subset.specs.FlowFaults.{fault_behind, quoted_item, fault_at_start, item_at, item_of}
+use Rattle.yaml_subset.specs.FlowFaults.{fault_behind, quoted_item, fault_at_start, item_at}
+use Rattle.yaml_subset.specs.FlowFaults.{item_of}
 use Rattle.yaml_subset.specs.FlowFaults.{fault_at_end, HasListFault, goes_on, ends}
 use Rattle.yaml_subset.specs.declared.which.Which.{Which}
 use Rattle.yaml_subset.specs.declared.which.Which.TheVariants.{LeftOut, Quote, FlowForm}
@@ -35,7 +38,8 @@ use Rattle.yaml_subset.proofs.FlowFaultLemmas.{ends_comment, goes_further, Follo
 use Rattle.yaml_subset.proofs.FlowFaultLemmas.{further, at_end, at_byte, within_indicator}
 use Rattle.yaml_subset.proofs.FlowFaultLemmas.{within_other}
 use Rattle.yaml_subset.proofs.FlowFaultLemmas.{over_fault, closed_fault, broken_fault, pending}
-use Rattle.yaml_subset.proofs.FlowFaultLemmas.{within_pending, next_filled, filled_last, plain_fault}
+use Rattle.yaml_subset.proofs.FlowFaultLemmas.{within_pending, next_filled, filled_last}
+use Rattle.yaml_subset.proofs.FlowFaultLemmas.{plain_fault}
 
 gathered : (f w i x : Option Which)
     → earlier (earlier f w) (earlier i x) ≡ earlier f (earlier (earlier w i) x)
@@ -142,7 +146,8 @@ after_fault (c ∷ cs) x t ys f h = by (is_blank_byte c && slice_index cs 0 == 3
         ∙ ap (λ (g : Option Which). earlier g (earlier (inner_fault cs) x)) (alike i refl)
         ∙ sym (at_byte quote (fault_within c n) x c cs on refl)
         ∙ gathered f (Some Quote) (inner_fault (c ∷ cs)) x
-        ∙ ap (λ (d : Bool). all (cond d None (earlier (Some Quote) (inner_fault (c ∷ cs))))) (sym on)
+        ∙ ap (λ (d : Bool). all (cond d None (earlier (Some Quote) (inner_fault (c ∷ cs)))))
+        (sym on)
         ∙ ap (λ (l : List ℕ). all (fault_behind l))
         (sym (stay c cs (no_blank (is_blank_byte c) _ p)))
 
@@ -272,7 +277,8 @@ adds_quoted f x r cs (Some q) h end = h x end
 
 -- the fault of an item that isn't quoted
 abbrev item_fault : ℕ → List ℕ → Option Which
-item_fault c cs = cond (c == 93) None (earlier (fault_at_start c (slice_index cs 0)) (inner_fault (c ∷ cs)))
+item_fault c cs = cond (c == 93) None (earlier (fault_at_start c (slice_index cs 0))
+    (inner_fault (c ∷ cs)))
 
 fault_plain : (c : ℕ) (cs : List ℕ) → eqb c 93 ≡ false → is_flow_start c (slice_index cs 0) ≡ true
     → item_fault c cs ≡ inner_fault (c ∷ cs)
@@ -357,7 +363,8 @@ want_fault (c ∷ cs) x t ys f = by (is_blank_byte c && slice_index cs 0 == 35) 
             by true = refl
             by false = refl
     once false i = sym (soaked (earlier f fault)
-        (c == 58 && (is_blank_byte n || is_flow_indicator n)) (soaks_more f fault (soaks_fault c n)))
+        (c == 58 && (is_blank_byte n || is_flow_indicator n))
+        (soaks_more f fault (soaks_fault c n)))
         ∙ ap (earlier (earlier f fault)) (sym (within_other c n i))
 
     by : (m l b a p d st : Bool) → (is_blank_byte c && slice_index cs 0 == 35) ≡ m
@@ -403,14 +410,16 @@ want_fault (c ∷ cs) x t ys f = by (is_blank_byte c && slice_index cs 0 == 35) 
         let item : item_of (c ∷ cs) ≡ quoted_item cs (single cs) =
         ap item_at (stay c cs (no_blank (is_blank_byte c) _ l'))
         ∙ ap (λ (k : ℕ). item_at (k ∷ cs)) quote in
-        subst (AddsItem f x r) (sym item) (adds_quoted f x r cs (single cs) (single_fault cs [] ys f))
+        subst (AddsItem f x r) (sym item)
+        (adds_quoted f x r cs (single cs) (single_fault cs [] ys f))
     by false false false false false true st m l' b' a' p' d' st' more =
         let quote = eqb-true c 34 d' in
         let r = comes_to (so_far Double [] ys f) cs in
         let item : item_of (c ∷ cs) ≡ quoted_item cs (double cs) =
         ap item_at (stay c cs (no_blank (is_blank_byte c) _ l'))
         ∙ ap (λ (k : ℕ). item_at (k ∷ cs)) quote in
-        subst (AddsItem f x r) (sym item) (adds_quoted f x r cs (double cs) (double_fault cs ys [] f))
+        subst (AddsItem f x r) (sym item)
+        (adds_quoted f x r cs (double cs) (double_fault cs ys [] f))
     by false false false false false false true m l' b' a' p' d' st' more =
         let on = goes_further c cs m a' b' in
         let colon = start_no_colon c n st' in
@@ -446,7 +455,8 @@ last_fault (c ∷ cs) e = record {
       (blank_apart c 93 (and_left (is_blank_byte c) (slice_index cs 0 == 35) m) refl);
 }
 
-fault_read : (line : List ℕ) (fault : Option Which) → HasListFault line fault → Follows Want line fault
+fault_read : (line : List ℕ) (fault : Option Which) → HasListFault line fault
+    → Follows Want line fault
 fault_read _ _ (goes_on line rest fault e h) t ys f =
     want_fault line fault t ys f (subst (λ (l : List ℕ). Ends l fault) (sym e) (record {
       comma = λ p. fault_read rest fault h;
@@ -495,7 +505,8 @@ behind_comma : (l : List ℕ) → eqb (slice_index l 0) 44 ≡ true → (more : 
 behind_comma [] e = absurd (cc e)
 behind_comma (c ∷ cs) e = (cs, ap (λ (x : ℕ). x ∷ cs) (eqb-true c 44 e))
 
-pub has_fault : (n : ℕ) (line : List ℕ) → length line ≤ n → (fault : Option Which) × HasListFault line fault
+pub has_fault : (n : ℕ) (line : List ℕ) → length line ≤ n → (fault : Option Which)
+    × HasListFault line fault
 has_fault zero line few = by (eqb (slice_index (item_of line).rest 0) 44) refl
   where
     by : (b : Bool) → eqb (slice_index (item_of line).rest 0) 44 ≡ b
@@ -526,11 +537,13 @@ fault_is n s = by (earlier s.fault (end_fault s.part)) refl
     by None e = rw e refl
     by (Some w) e = rw e refl
 
-pub fault_met : (column : ℕ) (line : List ℕ) → HasListFault line (inline_value column (91 ∷ line)).fault
+pub fault_met : (column : ℕ) (line : List ℕ)
+    → HasListFault line (inline_value column (91 ∷ line)).fault
 fault_met column line =
     let r = has_fault (length line) line (omega arith) in
     subst (HasListFault line) (sym (fault_is column (flow flow_start line)
     ∙ fault_read line r.0 r.1 [] [] None)) r.1
 
-pub one_list_fault : (line : List ℕ) (a b : Option Which) → HasListFault line a → HasListFault line b → a ≡ b
+pub one_list_fault : (line : List ℕ) (a b : Option Which) → HasListFault line a
+    → HasListFault line b → a ≡ b
 one_list_fault line a b h k = sym (fault_read line a h [] [] None) ∙ fault_read line b k [] [] None

@@ -8,7 +8,8 @@ use Rattle.std.proofs.lemmas.Bool.Decides.{nat_tests}
 use Rattle.yaml_subset.specs.Tree.{Tree, scalar}
 use Rattle.yaml_subset.specs.Block.{is_blank_byte, is_blank}
 use Rattle.yaml_subset.specs.Line.{stops_plain}
-use Rattle.yaml_subset.specs.Flow.{flow_fault, flow_scalar, flow_plain, byte_fault, is_flow_indicator}
+use Rattle.yaml_subset.specs.Flow.{flow_fault, flow_scalar, flow_plain, byte_fault}
+use Rattle.yaml_subset.specs.Flow.{is_flow_indicator}
 use Rattle.yaml_subset.specs.Flow.{is_indicator, is_soft_indicator, ends_soft, is_flow_start}
 use Rattle.yaml_subset.specs.FlowList.{goes_on}
 use Rattle.yaml_subset.specs.declared.which.Which.TheVariants.{FlowForm}

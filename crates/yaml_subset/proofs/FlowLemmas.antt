@@ -10,7 +10,8 @@ use Rattle.std.proofs.lemmas.Bool.Decides.{nat_tests}
 use Rattle.yaml_subset.specs.Tree.{Tree, scalar}
 use Rattle.yaml_subset.specs.FaultOrder.{earlier, place}
 use Rattle.yaml_subset.specs.Block.{is_blank_byte, is_blank, trimmed_text}
-use Rattle.yaml_subset.specs.Quoted.{Quoted, quote_end, with_byte, with_escape, escaped_byte, single}
+use Rattle.yaml_subset.specs.Quoted.{Quoted, quote_end, with_byte, with_escape, escaped_byte}
+use Rattle.yaml_subset.specs.Quoted.{single}
 use Rattle.yaml_subset.specs.Quoted.{double}
 use Rattle.yaml_subset.specs.Line.{is_tail}
 use Rattle.yaml_subset.specs.Flow.{Flow, flow, flow_step, flow_at, flow_fault, flow_part, flow_more}
@@ -95,14 +96,16 @@ stays_want s c n f = either (is_blank_byte c) _ _ (faulty _ f)
     (either (c == 44) _ _ (faulty _ (later_fault s.fault FlowForm))
     (either (c == 39) _ _ (faulty _ f)
     (either (c == 34) _ _ (faulty _ f)
-    (either (is_flow_start c n) _ _ (faulty _ f) (faulty _ (later_fault s.fault (byte_fault c n))))))))
+    (either (is_flow_start c n) _ _ (faulty _ f)
+    (faulty _ (later_fault s.fault (byte_fault c n))))))))
 
 stays_plain : (s : Flow) (c n : ℕ) → is_some s.fault ≡ true → Faulty (in_plain s c n)
 stays_plain s c n f = let colon = colon_stays s.fault (trimmed_text is_blank_byte s.text) f in
     either (c == 44) _ _ (faulty _ colon)
     (either (c == 93) _ _ (faulty _ colon)
     (either (is_flow_indicator c) _ _ (faulty _ (later_fault s.fault (byte_fault c n)))
-    (either (c == 58 && is_blank_byte n) _ _ (faulty _ (later_fault s.fault FlowForm)) (faulty _ f))))
+    (either (c == 58 && is_blank_byte n) _ _ (faulty _ (later_fault s.fault FlowForm))
+    (faulty _ f))))
 
 stays_escape : (s : Flow) (o : Option ℕ) → is_some s.fault ≡ true → Faulty (in_escape s o)
 stays_escape s (Some c) f = faulty _ f
@@ -121,13 +124,15 @@ stays_at After s c n f =
     either (is_blank_byte c) _ _ (faulty _ f) (either (c == 44) _ _ (faulty _ f)
     (either (c == 93) _ _ (faulty _ f) (faulty _ (later_fault (earlier s.fault (Some Quote)) _))))
 stays_at Broken s c n f = either (c == 44) _ _ (faulty _ f) (either (c == 93) _ _ (faulty _ f)
-    (either (is_flow_indicator c) _ _ (faulty _ (later_fault s.fault (byte_fault c n))) (faulty _ f)))
+    (either (is_flow_indicator c) _ _ (faulty _ (later_fault s.fault (byte_fault c n)))
+    (faulty _ f)))
 stays_at Closed s c n f = either (is_blank_byte c) _ _
     (either (n == 35) _ _ (faulty _ f) (faulty _ f)) (faulty _ (later_fault s.fault FlowForm))
 stays_at Over s c n f = faulty _ f
 
 stays_step : (s : Flow) (c n : ℕ) → is_some s.fault ≡ true → Faulty (flow_step s c n)
-stays_step s c n f = either (begins_comment s.part c n) _ _ (faulty _ (later_fault s.fault FlowForm))
+stays_step s c n f = either (begins_comment s.part c n) _ _
+    (faulty _ (later_fault s.fault FlowForm))
     (stays_at s.part s c n f)
 
 stays : (s : Flow) (cs : List ℕ) → is_some s.fault ≡ true → is_some (flow s cs).fault ≡ true
@@ -139,7 +144,8 @@ stays s (c ∷ cs) f =
 pub never : {G : Type 0} (s : Flow) (cs : List ℕ) (zs : List Tree) → is_some s.fault ≡ true
     → Good s cs zs → G
 never s cs zs f g =
-    absurd (some_none (sym (keeps_fault (flow s cs).fault (end_fault (flow s cs).part) (stays s cs f))
+    absurd (some_none (sym (keeps_fault (flow s cs).fault (end_fault (flow s cs).part)
+    (stays s cs f))
     ∙ ap is_some g.ends.fine))
   where
     some_none : true ≡ false → ⊥
@@ -284,32 +290,36 @@ no_comment : (bs rest : List ℕ) → is_blank bs ≡ true → eqb (slice_index 
 no_comment [] rest e f = f
 no_comment (b ∷ bs) rest e f = blank_apart b 35 (and_left (is_blank_byte b) (is_blank bs) e) refl
 
+-- blanks in a part of a list in which a blank changes nothing
+blanks_within : (p : Part) (t : List ℕ) (ys : List Tree)
+    → ((b : ℕ) (cs : List ℕ) (zs : List Tree) → is_blank_byte b ≡ true
+    → (is_blank_byte b && slice_index cs 0 == 35) ≡ false → Good (at p t ys) cs zs
+    → Good (flow_step (at p t ys) b (slice_index cs 0)) cs zs)
+    → (bs rest : List ℕ) (zs : List Tree) → is_blank bs ≡ true
+    → eqb (slice_index rest 0) 35 ≡ false → Good (at p t ys) rest zs
+    → Good (at p t ys) (bs ++ rest) zs
+blanks_within p t ys one [] rest zs e f g = g
+blanks_within p t ys one (b ∷ bs) rest zs e f g =
+    let others = and_right (is_blank_byte b) (is_blank bs) e in
+    over_one (at p t ys) b (bs ++ rest) zs
+    (one b (bs ++ rest) zs (and_left (is_blank_byte b) (is_blank bs) e)
+    (and_false (is_blank_byte b) _ (no_comment bs rest others f))
+    (blanks_within p t ys one bs rest zs others f g))
+
 -- blanks before an item, or behind one
 pub want_blanks : (t : List ℕ) (ys : List Tree) (bs rest : List ℕ) (zs : List Tree)
     → is_blank bs ≡ true → eqb (slice_index rest 0) 35 ≡ false → Good (at Want t ys) rest zs
     → Good (at Want t ys) (bs ++ rest) zs
-want_blanks t ys [] rest zs e f g = g
-want_blanks t ys (b ∷ bs) rest zs e f g =
-    let blank = and_left (is_blank_byte b) (is_blank bs) e in
-    let others = and_right (is_blank_byte b) (is_blank bs) e in
-    over_one (at Want t ys) b (bs ++ rest) zs
-    (when_false (is_blank_byte b && slice_index (bs ++ rest) 0 == 35) _ _ (bs ++ rest) zs
-    (and_false (is_blank_byte b) _ (no_comment bs rest others f))
-    (when_true (is_blank_byte b) _ _ (bs ++ rest) zs blank
-    (want_blanks t ys bs rest zs others f g)))
+want_blanks t ys = blanks_within Want t ys
+    (λ b cs zs e f g. when_false (is_blank_byte b && slice_index cs 0 == 35) _ _ cs zs f
+    (when_true (is_blank_byte b) _ _ cs zs e g))
 
 pub after_blanks : (t : List ℕ) (ys : List Tree) (bs rest : List ℕ) (zs : List Tree)
     → is_blank bs ≡ true → eqb (slice_index rest 0) 35 ≡ false → Good (at After t ys) rest zs
     → Good (at After t ys) (bs ++ rest) zs
-after_blanks t ys [] rest zs e f g = g
-after_blanks t ys (b ∷ bs) rest zs e f g =
-    let blank = and_left (is_blank_byte b) (is_blank bs) e in
-    let others = and_right (is_blank_byte b) (is_blank bs) e in
-    over_one (at After t ys) b (bs ++ rest) zs
-    (when_false (is_blank_byte b && slice_index (bs ++ rest) 0 == 35) _ _ (bs ++ rest) zs
-    (and_false (is_blank_byte b) _ (no_comment bs rest others f))
-    (when_true (is_blank_byte b) _ _ (bs ++ rest) zs blank
-    (after_blanks t ys bs rest zs others f g)))
+after_blanks t ys = blanks_within After t ys
+    (λ b cs zs e f g. when_false (is_blank_byte b && slice_index cs 0 == 35) _ _ cs zs f
+    (when_true (is_blank_byte b) _ _ cs zs e g))
 
 -- QUOTED ITEMS
 

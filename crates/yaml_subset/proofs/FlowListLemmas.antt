@@ -409,7 +409,8 @@ from_here n t ys (c ∷ cs) zs shorter few filled g =
     (double_is [] ys cs) h.ends))
     (λ d. pick (is_flow_start c (slice_index cs 0)) _ _ cs zs
     (λ s h. plain_found n c ys cs zs shorter less b s (plain_reads (c ∷ []) ys cs zs h))
-    (λ s. never (flow_fault (at Want t ys) Broken (byte_fault c (slice_index cs 0))) cs zs refl)))))))
+    (λ s. never (flow_fault (at Want t ys) Broken (byte_fault c (slice_index cs 0))) cs zs
+    refl)))))))
     (tail_of (at Want t ys) c cs zs g)
 
 pub list_reads : (n : ℕ) → Shorter n

@@ -17,7 +17,8 @@ entries-map n [] = refl
 entries-map n (p ∷ es) = ap (entry p.0 (node_view p.1)) (entries-map n es)
 
 -- entries that begin with a key are a map
-pub collection-entries : (n : ℕ) (e : ScalarText × Node) (es : List (ScalarText × Node)) → collection
+pub collection-entries : (n : ℕ) (e : ScalarText × Node) (es : List (ScalarText × Node))
+    → collection
     (map (entry_child n) (e ∷ es)) ≡ mapping (entries_of (map (λ p. (p.0, node_view p.1)) (e ∷ es)))
 collection-entries n e es = ap mapping (entries-map n (e ∷ es))
 

@@ -66,7 +66,8 @@ or_last false true = refl
 or_last false false = refl
 
 -- the entries and one more have the keys and one more
-pub keys-more : (es : List (ScalarText × Node)) (old new : BTreeSet (Vec ℕ)) (k : Vec ℕ) (key : ScalarText)
+pub keys-more : (es : List (ScalarText × Node)) (old new : BTreeSet (Vec ℕ)) (k : Vec ℕ)
+    (key : ScalarText)
     (value : Node)
     → AreKeysOf es old → new.keys ≡ insert_key (λ x y. in_order x.items y.items) old.keys k
     → k.items ≡ key → AreKeysOf (es ++ (key, value) ∷ []) new

@@ -49,7 +49,8 @@ joined_blank : (l m : Line) (c : ℕ)
     → joined_lines l (with_fault (tab_fault c) m) ≡ joined_lines (blank_seen l c) m
 joined_blank l m c = rw (earlier_assoc l.fault (tab_fault c) m.fault) refl
 
-joined_dash : (l m : Line) (n : ℕ) → joined_lines l (with_mark (dash n) m) ≡ joined_lines (dash_seen l n) m
+joined_dash : (l m : Line) (n : ℕ) → joined_lines l (with_mark (dash n) m)
+    ≡ joined_lines (dash_seen l n) m
 joined_dash l m n = rw (append_assoc l.marks (dash n ∷ []) m.marks) refl
 
 next_column : (column at : ℕ) → suc (column + at) ≡ column + (at + 1)
@@ -88,12 +89,14 @@ module _ (l : Line) (bytes : List ℕ) (column at : ℕ) (within : at < length b
       ∙ ap (λ (x : Ahead). by_ahead x (column + at) (get_or bytes at 0) (drop (at + 1) bytes)) e)
 
   pub content_blank : ahead_of (get_or bytes at 0) (drop (at + 1) bytes) ≡ Blank
-      → joined_lines l (content (column + at) (drop at bytes)) ≡ joined_lines (blank_seen l (get_or bytes at 0))
+      → joined_lines l (content (column + at) (drop at bytes))
+      ≡ joined_lines (blank_seen l (get_or bytes at 0))
       (content (column + (at + 1)) (drop (at + 1) bytes))
   unfolding by_ahead
   content_blank e = there Blank e
       ∙ joined_blank l (content (suc (column + at)) (drop (at + 1) bytes)) (get_or bytes at 0)
-      ∙ ap (λ (n : ℕ). joined_lines (blank_seen l (get_or bytes at 0)) (content n (drop (at + 1) bytes)))
+      ∙ ap (λ (n : ℕ). joined_lines (blank_seen l (get_or bytes at 0))
+      (content n (drop (at + 1) bytes)))
       (next_column column at)
 
   pub content_dash : ahead_of (get_or bytes at 0) (drop (at + 1) bytes) ≡ Dashed

@@ -7,7 +7,8 @@ use Rattle.yaml_subset.specs.NodeView.{node_view, entries_of, fields_view}
 use Rattle.yaml_subset.specs.declared.text.ScalarText.{ScalarText}
 use Rattle.yaml_subset.specs.declared.node.Node.{Node, Map, List as Items, Scalar, the_lemmas}
 
-pub view-Scalar : (text : ScalarText) (plain : Bool) → node_view (Scalar text plain) ≡ scalar text plain
+pub view-Scalar : (text : ScalarText) (plain : Bool)
+    → node_view (Scalar text plain) ≡ scalar text plain
 view-Scalar text plain = search (rules, the_lemmas)
 
 pub view-List : (v : Vec Node Global)

@@ -12,8 +12,10 @@ use Rattle.yaml_subset.specs.Profile.{max_depth, has_room, Pieces, last_piece, p
 use Rattle.yaml_subset.specs.Profile.{with_first, pieces, with_child, is_repeated, children}
 use Rattle.yaml_subset.specs.Profile.{collection, behind, raw_lines, is_shallow, leaf, node}
 use Rattle.yaml_subset.specs.Profile.{documents}
-use Rattle.yaml_subset.specs.OpenNodes.{Open, nothing, inline, block, within, node_so_far, open_nodes}
-use Rattle.yaml_subset.specs.OpenNodes.{documents_so_far, begun_node, next_open, open_after, open_after_all}
+use Rattle.yaml_subset.specs.OpenNodes.{Open, nothing, inline, block, within, node_so_far}
+use Rattle.yaml_subset.specs.OpenNodes.{open_nodes}
+use Rattle.yaml_subset.specs.OpenNodes.{documents_so_far, begun_node, next_open, open_after}
+use Rattle.yaml_subset.specs.OpenNodes.{open_after_all}
 
 -- FROM THE OUTSIDE IN
 
@@ -246,7 +248,8 @@ leaf-snoc d start ms h m = refl
 leaf-snoc d (dash n) ms h m = refl
 leaf-snoc d (key n k) ms h m = refl
 leaf-snoc d (value n x) [] h m = elim (is_shallow d x) as (λ b. None
-    ≡ option_and_then (next_open d h m) (cond b (Some (inline x)) None)) [ true ↦ refl | false ↦ refl ]
+    ≡ option_and_then (next_open d h m) (cond b (Some (inline x)) None))
+    [ true ↦ refl | false ↦ refl ]
 leaf-snoc d (value n x) (y ∷ ms) h m = refl
 leaf-snoc d (header n s) ms h m = rw (raw_lines-snoc ms m) (by_lines (raw_lines ms) m)
   where
@@ -286,7 +289,8 @@ behind-snoc : (open_of : Mark → List Mark → Option Open) (d : ℕ)
     ≡ option_and_then (next_open d h m) (open_behind open_of h ms)
 behind-snoc open_of d first more h [] m = rw (first m) refl
 behind-snoc open_of d first more h (x ∷ ms) m = rw (more x ms h m) (elim (has_room h x) as (λ b.
-    cond b (option_and_then (next_open d h m) (open_of x ms)) None ≡ option_and_then (next_open d h m)
+    cond b (option_and_then (next_open d h m) (open_of x ms)) None
+    ≡ option_and_then (next_open d h m)
     (cond b (open_of x ms) None)) [ true ↦ refl | false ↦ refl ])
 
 opened-snoc : (d : ℕ) (x : Mark) (ms : List Mark) (h m : Mark)
@@ -327,7 +331,8 @@ outside-append ms [] = rw append-nil (at_end (from_outside ms))
     at_end None = refl
     at_end (Some x) = refl
 outside-append ms (n ∷ ns) = ap from_outside (sym (append_assoc ms (n ∷ []) ns))
-    ∙ outside-append (ms ++ (n ∷ [])) ns ∙ ap (option_and_then (open_after_all ns)) (outside-snoc ms n)
+    ∙ outside-append (ms ++ (n ∷ [])) ns ∙ ap (option_and_then (open_after_all ns))
+    (outside-snoc ms n)
     ∙ option_and_then-assoc (open_after n) (open_after_all ns) (from_outside ms)
 
 -- MARK BY MARK
@@ -342,7 +347,8 @@ add_all-append [] ns o = refl
 add_all-append (m ∷ ms) ns o = behind_one (open_after m o) (λ q. add_all-append ms ns q)
   where
     behind_one : (p : Option Open)
-        → ((q : Open) → open_after_all (ms ++ ns) q ≡ option_and_then (open_after_all ns) (open_after_all ms q))
+        → ((q : Open) → open_after_all (ms ++ ns) q
+        ≡ option_and_then (open_after_all ns) (open_after_all ms q))
         → option_and_then (open_after_all (ms ++ ns)) p
         ≡ option_and_then (open_after_all ns) (option_and_then (open_after_all ms) p)
     behind_one None ih = refl

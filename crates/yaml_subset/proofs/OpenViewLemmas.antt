@@ -58,7 +58,8 @@ pub any_at_more : (c : Option ℕ) (fs : List Frame) (at : ℕ) (d : Frame) → 
 any_at_more c fs at d h = let e : drop at fs ≡ get_or fs at d ∷ drop (at + 1) fs =
     rw (add-one, drop-cons fs at d) refl in ap (any_at c) e
 
-pub closed_open : (fs : List Frame) (o : Open) → node_so_far (open_of fs o) ≡ closed_with fs (node_so_far o)
+pub closed_open : (fs : List Frame) (o : Open)
+    → node_so_far (open_of fs o) ≡ closed_with fs (node_so_far o)
 closed_open [] o = refl
 closed_open (f ∷ fs) o = ap (λ (v : Option Tree).
     Some (collection (with_child (done_of f) (head_of f) v))) (closed_open fs o)
@@ -286,7 +287,8 @@ module _ (docs : List Child) (all : List Frame) (l : Last) (m : Mark)
       by_last (lasts.Block b) e = rw (no_raw (block_view b)) refl
 
   pub begun_there : cond (is_nothing l) (has_room (last_head start all) m) false ≡ true
-      → open_after m (within start docs (open_of all (last_view l))) ≡ option_map (within start docs)
+      → open_after m (within start docs (open_of all (last_view l)))
+      ≡ option_map (within start docs)
       (option_map (open_of all) (begun_node (max_depth - length all) m))
   begun_there room = stream_none ∙ by_last l room
     where

@@ -9,7 +9,8 @@ use Rattle.std.proofs.lemmas.List.Sums.{fold-append}
 use Rattle.yaml_subset.specs.Tree.{Tree}
 use Rattle.yaml_subset.specs.Profile.{documents}
 use Rattle.yaml_subset.specs.OpenNodes.{Open, open_nodes, documents_so_far, open_after_all}
-use Rattle.yaml_subset.specs.Text.{MarkedLines, line_at, parent_after, scalar_after, next_line, no_line}
+use Rattle.yaml_subset.specs.Text.{MarkedLines, line_at, parent_after, scalar_after, next_line}
+use Rattle.yaml_subset.specs.Text.{no_line}
 use Rattle.yaml_subset.specs.Text.{marked_lines, nodes_of, StandsFor}
 use Rattle.yaml_subset.specs.Fault.{IsFault}
 use Rattle.yaml_subset.specs.ReadView.{NamesFault}
@@ -42,7 +43,8 @@ never_text (l ∷ ls) s e = by_fault (is_none (line_at s.scalar l).fault)
     by_fault : (b : Bool) → ((t : MarkedLines) → open_nodes t.marks ≡ None
         → option_and_then (λ (u : MarkedLines). documents u.marks) (fold step (Some t) ls) ≡ None)
         → open_nodes (s.marks ++ (line_at s.scalar l).marks) ≡ None
-        → (p : Option ℕ) (k : Option Scalar) → option_and_then (λ (u : MarkedLines). documents u.marks)
+        → (p : Option ℕ) (k : Option Scalar)
+        → option_and_then (λ (u : MarkedLines). documents u.marks)
         (fold step (cond b (Some (record {
           marks = s.marks ++ (line_at s.scalar l).marks;
           parent = p;
@@ -60,10 +62,12 @@ none_open (Some x) e = cc
 -- The first lines of a text are a text.
 pub first_lines : (ls ms : List (List ℕ)) → nodes_of ls ≡ None → nodes_of (ls ++ ms) ≡ None
 first_lines ls ms e =
-    ap (option_and_then (λ (s : MarkedLines). documents s.marks)) (fold-append step (Some no_line) ls ms)
+    ap (option_and_then (λ (s : MarkedLines). documents s.marks))
+    (fold-append step (Some no_line) ls ms)
     ∙ by_marks (marked_lines ls) e
   where
-    by_marks : (o : Option MarkedLines) → option_and_then (λ (s : MarkedLines). documents s.marks) o ≡ None
+    by_marks : (o : Option MarkedLines) → option_and_then (λ (s : MarkedLines). documents s.marks) o
+        ≡ None
         → option_and_then (λ (s : MarkedLines). documents s.marks) (fold step o ms) ≡ None
     by_marks None f = ap (option_and_then (λ (s : MarkedLines). documents s.marks)) (none_stays ms)
     by_marks (Some s) f =

@@ -7,7 +7,8 @@ use Rattle.std.specs.List.{slice_index}
 use Rattle.yaml_subset.specs.declared.quoted.Step.{Step}
 use Rattle.yaml_subset.specs.declared.quoted.Step.TheVariants as steps
 use Rattle.yaml_subset.specs.Flow.{Flow, flow, flow_step}
-use Rattle.yaml_subset.specs.Quoted.{Quoted, quote_end, with_byte, with_escape, escaped_byte, single}
+use Rattle.yaml_subset.specs.Quoted.{Quoted, quote_end, with_byte, with_escape, escaped_byte}
+use Rattle.yaml_subset.specs.Quoted.{single}
 use Rattle.yaml_subset.specs.Quoted.{double, quoted}
 use Rattle.yaml_subset.specs.Scan.{Scan, scan_start, step_of, longer, inside, next_scan, scan}
 use Rattle.yaml_subset.specs.Scan.{scan_end}

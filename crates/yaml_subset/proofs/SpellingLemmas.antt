@@ -55,7 +55,8 @@ entries_joined [] e = refl
 entries_joined (d ∷ es) e = ap (field true d.0 (spelled (node_view d.1))) (entries_joined es e)
 
 pub fields_more : (ps : List (FieldKey × Written)) (es : List (ScalarText × Node))
-    (p : FieldKey × Written) (e : ScalarText × Node) → fields_view ps ≡ fields_spelled (entries_view es)
+    (p : FieldKey × Written) (e : ScalarText × Node)
+    → fields_view ps ≡ fields_spelled (entries_view es)
     → fields_view (p ∷ []) ≡ fields_spelled (entries_view (e ∷ []))
     → fields_view (ps ++ (p ∷ [])) ≡ fields_spelled (entries_view (es ++ (e ∷ [])))
 fields_more ps es p e h i = written_fields_joined ps p

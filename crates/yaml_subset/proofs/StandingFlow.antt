@@ -12,7 +12,8 @@ use Rattle.yaml_subset.specs.FaultOrder.{place, earlier}
 use Rattle.yaml_subset.specs.Block.{is_blank_byte, trimmed_text}
 use Rattle.yaml_subset.specs.Quoted.{escaped_byte}
 use Rattle.yaml_subset.specs.Flow.{Flow, flow, flow_step, flow_at, flow_fault, flow_part, flow_item}
-use Rattle.yaml_subset.specs.Flow.{flow_more, flow_quoted, flow_plain, byte_fault, in_closed, in_want}
+use Rattle.yaml_subset.specs.Flow.{flow_more, flow_quoted, flow_plain, byte_fault, in_closed}
+use Rattle.yaml_subset.specs.Flow.{in_want}
 use Rattle.yaml_subset.specs.Flow.{in_plain, in_single, in_double, in_escape, in_after, in_broken}
 use Rattle.yaml_subset.specs.Flow.{begins_comment, is_flow_indicator, is_indicator}
 use Rattle.yaml_subset.specs.Flow.{is_soft_indicator, ends_soft, is_flow_start}
@@ -134,7 +135,8 @@ begun_form : (t : List ℕ) (c : ℕ) → EndsItem c → IsBegun t c
     → is_plain (trimmed_text is_blank_byte t) ≡ true
 begun_form t c e b free l =
     let begins : trimmed_text is_blank_byte t ≡ b.first ∷ trimmed_text is_blank_byte b.rest =
-    ap (trimmed_text is_blank_byte) b.text ∙ trimmed_first is_blank_byte b.first b.rest b.nonblank in
+    ap (trimmed_text is_blank_byte) b.text
+    ∙ trimmed_first is_blank_byte b.first b.rest b.nonblank in
     let here : runs (trimmed_text is_blank_byte t) ≡ true =
     runs_front (trimmed_text is_blank_byte t) (drop _ t) (subst (λ l. runs l ≡ true)
     (sym (take-append-drop _ t)) (runs_front t (c ∷ []) b.runs_on)) in
@@ -279,7 +281,8 @@ module _ (t : List ℕ) (xs : List Tree) (f : Option Which) (c : ℕ) (cs : List
 
   -- a plain item that ends at this byte
   plain_ends : (c < 128) → EndsItem c → f ≡ None → AllByRecursion IsItem xs
-      × (IsBegun t c × IsPure (t ++ (c ∷ cs))) → (last_byte (trimmed_text is_blank_byte t) == 58) ≡ false
+      × (IsBegun t c × IsPure (t ++ (c ∷ cs)))
+      → (last_byte (trimmed_text is_blank_byte t) == 58) ≡ false
       → AllByRecursion IsItem (xs ++ (scalar (trimmed_text is_blank_byte t) true ∷ [])) × IsPure cs
   plain_ends low ends g h l = (
     items_more xs _ h.0 (λ d. (

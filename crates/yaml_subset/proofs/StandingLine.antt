@@ -13,7 +13,8 @@ use Rattle.yaml_subset.specs.FaultOrder.{earlier}
 use Rattle.yaml_subset.specs.Block.{is_space, is_blank_byte, is_blank, indentation, trimmed_text}
 use Rattle.yaml_subset.specs.Quoted.{Quoted, quoted}
 use Rattle.yaml_subset.specs.Flow.{Flow, flow, flow_start, end_fault}
-use Rattle.yaml_subset.specs.Line.{Line, no_marks, faulty, one_mark, spoiled_value, with_mark, with_fault}
+use Rattle.yaml_subset.specs.Line.{Line, no_marks, faulty, one_mark, spoiled_value, with_mark}
+use Rattle.yaml_subset.specs.Line.{with_fault}
 use Rattle.yaml_subset.specs.Line.{has_control, ends_word, is_tail, is_plain_start, plain_len}
 use Rattle.yaml_subset.specs.Line.{plain_value, is_quote, escape_fault, quoted_value, flow_value}
 use Rattle.yaml_subset.specs.Line.{empty_map, chomping_of, is_sign, is_digit, header_tail}
@@ -105,7 +106,8 @@ empty_map_good n cs = pick IsGoodLine (slice_index cs 0 == 125 && is_tail (drop 
 
 header_good : (n : ℕ) (s : Style) (cs : List ℕ) → IsGoodLine (header_tail n s cs)
 header_good n s cs = pick IsGoodLine (is_digit (slice_index cs 0)) (spoiled_value n LeftOut)
-    (cond (is_tail cs) (one_mark (header n s) None) (spoiled_value n Colon)) (λ _. spoiled_good n LeftOut)
+    (cond (is_tail cs) (one_mark (header n s) None) (spoiled_value n Colon))
+    (λ _. spoiled_good n LeftOut)
     (λ _. pick IsGoodLine (is_tail cs) (one_mark (header n s) None) (spoiled_value n Colon)
     (λ _ g. (tt, tt)) (λ _. spoiled_good n Colon))
 

@@ -14,7 +14,8 @@ use Rattle.yaml_subset.specs.Block.{is_space, is_blank, indentation, joint, Bloc
 use Rattle.yaml_subset.specs.Block.{indent_of, filled_block, with_line, ended_text}
 use Rattle.yaml_subset.specs.Profile.{has_room, is_next, with_child, or_no_text, is_key}
 use Rattle.yaml_subset.specs.Profile.{is_repeated, entries, collection, is_shallow}
-use Rattle.yaml_subset.specs.OpenNodes.{Open, nothing, inline, block, within, node_so_far, documents_so_far}
+use Rattle.yaml_subset.specs.OpenNodes.{Open, nothing, inline, block, within, node_so_far}
+use Rattle.yaml_subset.specs.OpenNodes.{documents_so_far}
 use Rattle.yaml_subset.specs.OpenNodes.{begun_node, with_raw, next_piece, next_open}
 use Rattle.yaml_subset.specs.Text.{scalar_with}
 use Rattle.yaml_subset.specs.Spelling.{spelled, fields_spelled, items_spelled}
@@ -274,7 +275,8 @@ added_good d h m (block b) k g = by m g
     by (raw l) g = absurd g
 added_good zero h m (within f done i) k g = absurd k
 added_good (suc d) h m (within f done i) k g = pick (OnOpen (suc d)) (is_next f m)
-    (next_piece m (with_child done f (node_so_far i))) (option_map (within f done) (next_open d f m i))
+    (next_piece m (with_child done f (node_so_far i)))
+    (option_map (within f done) (next_open d f m i))
     (λ _. next_good d m (with_child done f (node_so_far i)) g
     (with_child_good d done f (node_so_far i) k.2 k.0 k.1 (closed_good d i k.3)))
     (λ _. under d f done (next_open d f m i) k.0 k.1 k.2 (added_good d f m i k.3 g))
@@ -285,7 +287,8 @@ pub finished_good : (d : ℕ) (o : Open) → IsGoodOpen (suc d) o
 finished_good d nothing h = tt
 finished_good d (inline x) h = tt
 finished_good d (block b) h = tt
-finished_good d (within g done i) h = all_fit (map (λ c. c.tree) (with_child done g (node_so_far i)))
+finished_good d (within g done i) h = all_fit
+    (map (λ c. c.tree) (with_child done g (node_so_far i)))
     (with_child_good d done g (node_so_far i) h.2 h.0 h.1 (closed_good d i h.3)).1
   where
     all_fit : (xs : List Tree) → FitItems d (items_spelled (trees xs))
@@ -334,7 +337,8 @@ under_indents j h done (Some i) v = v
 -- one more line of the open block scalar
 pub raw_good : (d : ℕ) (h : Mark) (l : List ℕ) (j : Option ℕ) (o : Open) → IsGoodOpen d o
     → Indents j o → IsPure l → (is_blank l ≡ false → Deep j l) → OnOpen d (next_open d h (raw l) o)
-raw_good d h l j nothing k i p deep = pick (OnOpen d) (has_room h (raw l)) (begun_node d (raw l)) None
+raw_good d h l j nothing k i p deep =
+    pick (OnOpen d) (has_room h (raw l)) (begun_node d (raw l)) None
     (λ _. subst (OnOpen d) (sym (no_raw d l)) tt) (λ _. tt)
 raw_good d h l j (inline x) k i p deep = tt
 raw_good d h l j (block b) k i p deep =
@@ -374,4 +378,5 @@ header_indents d h n s nothing = pick (OnIndents None) (has_room h (header n s))
 header_indents d h n s (inline x) = tt
 header_indents d h n s (block b) = tt
 header_indents d h n s (within f done o) = rw (next_header f n s)
-    (under_indents None f done (next_open (pred d) f (header n s) o) (header_indents (pred d) f n s o))
+    (under_indents None f done (next_open (pred d) f (header n s) o)
+    (header_indents (pred d) f n s o))

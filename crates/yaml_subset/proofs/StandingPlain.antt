@@ -41,7 +41,8 @@ module _ (test : ℕ → Bool) where
       ∙ ap (λ n. cond (eqb (prefix_len test (reverse xs)) n) (n + cond (test x) (1 + 0) 0)
       (prefix_len test (reverse xs))) (length-reverse xs)
 
-  trimmed-cons : (x : ℕ) (xs : List ℕ) → trimmed_text test (x ∷ xs) ≡ onto test x (trimmed_text test xs)
+  trimmed-cons : (x : ℕ) (xs : List ℕ) → trimmed_text test (x ∷ xs)
+      ≡ onto test x (trimmed_text test xs)
   unfolding last_len
   trimmed-cons x xs =
       ap (λ n. take (suc (length xs) - n) (x ∷ xs)) (last_cons x xs)

@@ -4,7 +4,8 @@ use Rattle.std.proofs.Common.{Option, Some, None, drop, option_map, IsUtf8, refl
 use Rattle.std.specs.Prelude.{⊤}
 use Rattle.std.specs.List.{list_all}
 use Rattle.std.proofs.lemmas.Bool.{and_parts, and_from, true≢false}
-use Rattle.yaml_subset.specs.Quoted.{Quoted, quote_end, with_byte, with_escape, escaped_byte, single}
+use Rattle.yaml_subset.specs.Quoted.{Quoted, quote_end, with_byte, with_escape, escaped_byte}
+use Rattle.yaml_subset.specs.Quoted.{single}
 use Rattle.yaml_subset.specs.Quoted.{double, quoted}
 use Rattle.yaml_subset.specs.Fits.{is_quotable}
 use Rattle.yaml_subset.proofs.StandingBytes.{pick, back, before_end, without, in_place, onward}
@@ -88,7 +89,8 @@ double_fine p (c ∷ d ∷ cs) u g =
     (Some quote_end) (cond (c == 92) (option_map (with_escape (escaped_byte d)) (double cs))
     (option_map (with_byte c 1) (double (d ∷ cs))))
     (λ e. ends p c (d ∷ cs) (ascii_of c 34 e (omega arith)) u)
-    (λ _. pick (IsFine p (c ∷ d ∷ cs)) (c == 92) (option_map (with_escape (escaped_byte d)) (double cs))
+    (λ _. pick (IsFine p (c ∷ d ∷ cs)) (c == 92)
+    (option_map (with_escape (escaped_byte d)) (double cs))
     (option_map (with_byte c 1) (double (d ∷ cs)))
     (λ e. by_escape (escaped_byte d) (escape_fine d) (λ k v. double_fine (p ++ (k ∷ [])) cs v t.1)
     (without_first (ascii_of c 92 e (omega arith))))

@@ -13,7 +13,8 @@ use Rattle.yaml_subset.specs.Mark.{Mark, start, dash, key, value, header, raw}
 use Rattle.yaml_subset.specs.Block.{is_blank, indentation}
 use Rattle.yaml_subset.specs.Line.{has_control, is_marker, line_of}
 use Rattle.yaml_subset.specs.Profile.{max_depth, documents}
-use Rattle.yaml_subset.specs.OpenNodes.{Open, nothing, within, open_nodes, documents_so_far, open_after, open_after_all}
+use Rattle.yaml_subset.specs.OpenNodes.{Open, nothing, within, open_nodes, documents_so_far}
+use Rattle.yaml_subset.specs.OpenNodes.{open_after, open_after_all}
 use Rattle.yaml_subset.specs.Text.{MarkedLines, is_content, takes, is_more_indented, has_early_tab}
 use Rattle.yaml_subset.specs.Text.{raw_fault, line_at, parent_at, parent_after, header_scalar}
 use Rattle.yaml_subset.specs.Text.{scalar_with, scalar_after, no_line, without_mark, StandsFor}
@@ -86,7 +87,8 @@ marks_linked p (m ∷ []) o = by m
     linked s None h = tt
     linked s (Some o) h = h
 
-    by : (m : Mark) → OnLinks (header_scalar p (m ∷ [])) (option_and_then (open_after_all []) (open_after m o))
+    by : (m : Mark) → OnLinks (header_scalar p (m ∷ []))
+        (option_and_then (open_after_all []) (open_after m o))
     by start = none_linked _
     by (dash n) = none_linked _
     by (key n k) = none_linked _
@@ -96,11 +98,13 @@ marks_linked p (m ∷ []) o = by m
         (linked sc (open_after (header n s) o) (header_indents deepest start n s o))
     by (raw l) = none_linked _
 marks_linked p (m ∷ n ∷ ms) o = subst (λ sc. OnLinks sc (open_after_all (m ∷ n ∷ ms) o))
-    (sym (header_scalar-cons p m n ms)) (by (open_after m o) (λ q. marks_linked (parent_at m) (n ∷ ms) q))
+    (sym (header_scalar-cons p m n ms)) (by (open_after m o)
+    (λ q. marks_linked (parent_at m) (n ∷ ms) q))
   where
     by : (a : Option Open) → ((q : Open)
         → OnLinks (header_scalar (parent_at m) (n ∷ ms)) (open_after_all (n ∷ ms) q))
-        → OnLinks (header_scalar (parent_at m) (n ∷ ms)) (option_and_then (open_after_all (n ∷ ms)) a)
+        → OnLinks (header_scalar (parent_at m) (n ∷ ms))
+        (option_and_then (open_after_all (n ∷ ms)) a)
     by None ih = tt
     by (Some q) ih = ih q
 
@@ -141,7 +145,8 @@ own_line : (sc : Option Scalar) (p : Option ℕ) (l : List ℕ) (o : Open) → I
     → IsGoodOpen deepest o → takes sc l ≡ false → (line_at sc l).fault ≡ None
     → OnStep (scalar_after sc p l) (open_after_all (line_at sc l).marks o)
 own_line sc p l o u g e f =
-    rw e (both_known (header_scalar p (line_of l).marks) (open_after_all (line_of l).marks o) (marks_good
+    rw e (both_known (header_scalar p (line_of l).marks) (open_after_all (line_of l).marks o)
+    (marks_good
     (line_of l).marks o g (line_good l u (rw e at f))) (marks_linked p (line_of l).marks o))
 
 taken_line : (s : Scalar) (p : Option ℕ) (l : List ℕ) (o : Open) → IsUtf8 l → IsGoodOpen deepest o
@@ -149,7 +154,8 @@ taken_line : (s : Scalar) (p : Option ℕ) (l : List ℕ) (o : Open) → IsUtf8 
     → OnStep (scalar_after (Some s) p l) (open_after_all (line_at (Some s) l).marks o)
 taken_line s p l o u g i e f =
     let pure = raw_pure s l (rw e at f) in
-    rw e (by (open_after (raw l) o) (raw_good deepest start l s.indent o g i (u, pure) (taken_deep s l e))
+    rw e (by (open_after (raw l) o) (raw_good deepest start l s.indent o g i (u, pure)
+    (taken_deep s l e))
     (raw_indents deepest start l s o i))
   where
     by : (a : Option Open) → OnOpen deepest a → OnIndents (scalar_with l s).indent a
@@ -185,11 +191,13 @@ lines_standing : (ls : List (List ℕ)) (s : MarkedLines) (o : Open) → open_no
     → IsGoodOpen deepest o → Links s.scalar o → AllByRecursion IsUtf8 ls
     → OnNodes (nodes (fold step (Some s) ls))
 lines_standing [] s o e g i u = subst OnNodes
-    (sym (documents_closed s.marks ∙ ap (option_map documents_so_far) e)) (finished_good max_depth o g)
+    (sym (documents_closed s.marks ∙ ap (option_map documents_so_far) e))
+    (finished_good max_depth o g)
 lines_standing (l ∷ ls) s o e g i u =
     pick (λ a. OnNodes (nodes (fold step a ls))) (is_none (line_at s.scalar l).fault)
     (Some more) None
-    (λ f. by (open_after_all (line_at s.scalar l).marks o) refl (line_step s.scalar s.parent l o u.0 g i
+    (λ f. by (open_after_all (line_at s.scalar l).marks o) refl
+    (line_step s.scalar s.parent l o u.0 g i
     (no_fault (line_at s.scalar l).fault f)) (λ q h k v. lines_standing ls more q h k v u.1))
     (λ _. subst (λ a. OnNodes (nodes a)) (sym (none_stays ls)) tt)
   where

@@ -11,7 +11,8 @@ use Rattle.yaml_subset.specs.Mark.{Mark, start}
 use Rattle.yaml_subset.specs.FaultOrder.{earlier}
 use Rattle.yaml_subset.specs.Profile.{documents}
 use Rattle.yaml_subset.specs.Text.{MarkedLines, line_at, next_line, no_line, marked_lines, nodes_of}
-use Rattle.yaml_subset.specs.OpenNodes.{Open, nothing, within, open_nodes, documents_so_far, open_after, open_after_all}
+use Rattle.yaml_subset.specs.OpenNodes.{Open, nothing, within, open_nodes, documents_so_far}
+use Rattle.yaml_subset.specs.OpenNodes.{open_after, open_after_all}
 use Rattle.yaml_subset.specs.Fault.{fault_of_mark, misfit, fault_of, IsFault}
 use Rattle.yaml_subset.specs.Reader.{IsRead, Reading, Follows}
 use Rattle.std.proofs.lemmas.Bool.{false≢true}
@@ -20,11 +21,13 @@ use Rattle.yaml_subset.specs.declared.which.Which.{Which}
 use Rattle.yaml_subset.proofs.OpenLemmas.{open_nodes-append, documents_closed}
 
 -- marks that all have a place have no fault, and else the first that has none has one
-pub misfit_of_add : (ms : List Mark) (o : Open) → is_none (misfit ms o) ≡ is_some (open_after_all ms o)
+pub misfit_of_add : (ms : List Mark) (o : Open)
+    → is_none (misfit ms o) ≡ is_some (open_after_all ms o)
 misfit_of_add [] o = refl
 misfit_of_add (m ∷ ms) o = at_add (open_after m o) (λ p. misfit_of_add ms p)
   where
-    at_add : (a : Option Open) → ((p : Open) → is_none (misfit ms p) ≡ is_some (open_after_all ms p))
+    at_add : (a : Option Open)
+        → ((p : Open) → is_none (misfit ms p) ≡ is_some (open_after_all ms p))
         → is_none (option_map_or (misfit ms) a (Some (fault_of_mark m o)))
         ≡ is_some (option_and_then (open_after_all ms) a)
     at_add None ih = refl
@@ -88,7 +91,8 @@ module _ (ls : List (List ℕ)) (line : List ℕ) (r : Reading) (h : IsRead ls r
       sym (misfit_of_add (line_at r.scalar line).marks r.nodes)
       ∙ ap (λ (o : Option Which). is_none o) misses in
       ap (option_and_then (λ (s : MarkedLines). documents s.marks)) marked_here ∙ rw
-      g (documents_closed (h.marks ++ (line_at r.scalar line).marks) ∙ ap (option_map documents_so_far)
+      g (documents_closed (h.marks ++ (line_at r.scalar line).marks) ∙ ap
+      (option_map documents_so_far)
       (open_here ∙ none_of (open_after_all (line_at r.scalar line).marks r.nodes) gone))
     where
       none_of : (o : Option Open) → is_some o ≡ false → o ≡ None

@@ -277,7 +277,8 @@ index_past : (t rest : List ℕ) (c : ℕ) → slice_index (t ++ (c ∷ rest)) (
 index_past [] rest c = refl
 index_past (x ∷ t) rest c = index_past t rest c
 
-plain_key_at : (t rest : List ℕ) → plain_len (t ++ (58 ∷ rest)) ≡ length t → trimmed_text is_space t ≡ t
+plain_key_at : (t rest : List ℕ) → plain_len (t ++ (58 ∷ rest)) ≡ length t
+    → trimmed_text is_space t ≡ t
     → plain_key_fault t ≡ None
     → plain_key (t ++ (58 ∷ rest)) ≡ Some (record { text = t; length = length t + 1; fault = None })
 plain_key_at t rest e f g = rw (e, index_past t rest 58, take-append_seam t (58 ∷ rest), f, g) refl

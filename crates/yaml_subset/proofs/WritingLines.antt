@@ -128,7 +128,8 @@ lines_read _ _ (a_line l ms text ns e h) own before parent =
     let more : _ = lines_read text ns h o.1 (before ++ ms) (parent_after parent ms) in (
       more.0,
       ap (fold after (Some (at_mark before parent))) (line_first l text (no_control l ms e))
-          ∙ ap (λ (s : Option MarkedLines). fold after s (lines text)) (next_is l ms before parent e o.0)
+          ∙ ap (λ (s : Option MarkedLines). fold after s (lines text))
+          (next_is l ms before parent e o.0)
           ∙ more.1,
       more.2 ∙ append_assoc before ms ns,
     )

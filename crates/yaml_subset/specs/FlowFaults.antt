@@ -1,4 +1,5 @@
--- The fault of a one-line list in YAML's words (YAML 1.2.2, section 7.4.1): the earliest that one of
+-- The fault of a one-line list in YAML's words (YAML 1.2.2, section 7.4.1): the earliest that one
+-- of
 -- its items has with what stands behind it, or the end of the list.
 use Rattle.std.specs.Prelude.{ℕ, ◌≡◌, ◌==◌, ◌&&◌, ◌||◌, Bool, false, not, List, [], ◌∷◌, Option}
 use Rattle.std.specs.Prelude.{Some, None, cond, drop, slice_index}
@@ -62,7 +63,8 @@ fault_at_start c next = cond (is_flow_start c next) None (Some (byte_fault c nex
 abbrev pub item_at : List ℕ → Item
 item_at [] = record { fault = None; rest = [] }
 item_at (c ∷ cs) = cond (is_quote c) (quoted_item cs (quoted c cs)) (record {
-  fault = cond (c == 93) None (earlier (fault_at_start c (slice_index cs 0)) (inner_fault (c ∷ cs)));
+  fault = cond (c == 93) None (earlier (fault_at_start c (slice_index cs 0))
+      (inner_fault (c ∷ cs)));
   rest = from_end (c ∷ cs);
 })
 

@@ -17,6 +17,7 @@ pub mod BadPlace
 pub mod Spelling
 pub mod Fits
 pub mod Standing
+pub mod Size
 pub mod Room
 pub mod NodeView
 pub mod KeysView

@@ -9,7 +9,8 @@ use Rattle.yaml_subset.specs.Mark.{Mark, start, dash, key, value, header}
 use Rattle.yaml_subset.specs.FaultOrder.{earlier}
 use Rattle.yaml_subset.specs.Block.{is_space, is_blank_byte, is_blank, indentation, trimmed_text}
 use Rattle.yaml_subset.specs.Quoted.{Quoted, quoted}
-use Rattle.yaml_subset.specs.Flow.{Flow, flow, flow_start, end_fault, is_indicator, is_soft_indicator}
+use Rattle.yaml_subset.specs.Flow.{Flow, flow, flow_start, end_fault, is_indicator}
+use Rattle.yaml_subset.specs.Flow.{is_soft_indicator}
 use Rattle.yaml_subset.specs.declared.which.Which.{Which}
 use Rattle.yaml_subset.specs.declared.which.Which.TheVariants.{Control, Tab, LeftOut, Quote, Escape}
 use Rattle.yaml_subset.specs.declared.which.Which.TheVariants.{FlowForm, Colon}
@@ -80,8 +81,10 @@ plain_value n cs = let k = plain_len cs in
 abbrev pub is_quote : ℕ → Bool
 is_quote c = c == 39 || c == 34
 
+-- the fault of a quoted scalar, by whether it has an escape that is none
 abbrev pub escape_fault : Bool → Option Which
-escape_fault bad = cond bad (Some Escape) None
+escape_fault true = Some Escape
+escape_fault false = None
 
 abbrev pub quoted_value : ℕ → List ℕ → Option Quoted → Line
 quoted_value n cs None = spoiled_value n Quote

@@ -49,7 +49,8 @@ abbrev pub next_open : ℕ → Mark → Mark → Open → Option Open
 next_open d h m nothing = cond (has_room h m) (begun_node d m) None
 next_open d h m (inline x) = None
 next_open d h m (block b) = with_raw b m
-next_open d h m (within g done i) = cond (is_next g m) (next_piece m (with_child done g (node_so_far i)))
+next_open d h m (within g done i) = cond (is_next g m)
+    (next_piece m (with_child done g (node_so_far i)))
     (option_map (within g done) (next_open (pred d) g m i))
 
 abbrev pub open_after : Mark → Open → Option Open

@@ -16,7 +16,11 @@ pub record Reading : Type 0 where
 -- after these lines, which are a text of the profile, the reader keeps what is theirs
 pub record IsRead (ls : List (List ℕ)) (r : Reading) : Type 0 where
   pub marks : List Mark
-  pub are_marks : marked_lines ls ≡ Some (record { marks = marks; parent = r.parent; scalar = r.scalar })
+  pub are_marks : marked_lines ls ≡ Some (record {
+    marks = marks;
+    parent = r.parent;
+    scalar = r.scalar;
+  })
   pub are_open : open_nodes marks ≡ Some r.nodes
 
 -- One more line, which has no fault: what the reader keeps then.

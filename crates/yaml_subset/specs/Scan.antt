@@ -20,7 +20,8 @@ scan_start = record {
 abbrev pub step_of : ℕ → ℕ → ℕ → Step
 step_of quote byte next = cond (quote == 39)
     (cond (byte == 39) (cond (next == 39) (steps.Pair (Some 39)) steps.Stop) (steps.One byte))
-    (cond (byte == 34) steps.Stop (cond (byte == 92) (steps.Pair (escaped_byte next)) (steps.One byte)))
+    (cond (byte == 34) steps.Stop (cond (byte == 92) (steps.Pair (escaped_byte next))
+    (steps.One byte)))
 
 abbrev pub longer : Quoted → List ℕ → Bool → Quoted
 longer q more bad = record { text = q.text ++ more; length = q.length + 1; bad = bad }

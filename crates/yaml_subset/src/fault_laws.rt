@@ -7,6 +7,7 @@ ghost use Rattle.slo_limits.specs.declared.TheConstants.{MAX_TEXT_BYTES};
 ghost use Rattle.yaml_subset.specs.Tree.{Tree};
 ghost use Rattle.yaml_subset.specs.Text.{StandsFor, nodes_of, without_mark};
 ghost use Rattle.yaml_subset.specs.Fault.{IsFault};
+ghost use Rattle.yaml_subset.specs.Size.{size};
 ghost use Rattle.yaml_subset.specs.declared.which.Which.{Which};
 
 /// Lines stand for nodes or have a fault, and never both. They have one fault alone: the least
@@ -31,10 +32,12 @@ pub fn a_text_has_nodes_or_a_fault()
 {}
 
 /// The line at fault and the number of documents lie within the number of bytes of a text, but for
-/// one or two.
+/// one or two; so do the documents and the keys in them together, at any depth.
 pub fn lines_and_documents_are_few()
     ensures lines { (text : List ℕ) (line : ℕ) (which : Which)
         → IsFault (lines (without_mark text)) line which → line ≤ length text + 1 }
     ensures documents { (text : List ℕ) (xs : List Tree) → StandsFor text xs
         → length xs ≤ length text + 2 }
+    ensures keys { (text : List ℕ) (xs : List Tree) → StandsFor text xs
+        → size xs ≤ length text + 2 }
 {}

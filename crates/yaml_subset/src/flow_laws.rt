@@ -25,5 +25,6 @@ pub fn one_line_lists()
 pub fn faults_of_one_line_lists()
     ensures met { (column : ℕ) (line : List ℕ)
         → HasListFault line (inline_value column (91 ∷ line)).fault }
-    ensures one { (line : List ℕ) (a b : Option Which) → HasListFault line a → HasListFault line b → a ≡ b }
+    ensures one { (line : List ℕ) (a b : Option Which) → HasListFault line a → HasListFault line b
+        → a ≡ b }
 {}

@@ -22,7 +22,8 @@ pub fn standing_nodes_are_writable()
 {}
 
 /// What is written reads back: the text of a value that can be written stands for its node, where
-/// it isn't a plain scalar alone and has at most `MAX_TEXT_BYTES` bytes. A text stands for one list of
+/// it isn't a plain scalar alone and has at most `MAX_TEXT_BYTES` bytes. A text stands for one list
+/// of
 /// nodes at most; and values with one text are one node, whatever its size.
 pub fn written_text_reads_back()
     ensures stands { (s : Spelling) → Fits max_depth s → is_word s ≡ false

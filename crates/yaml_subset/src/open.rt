@@ -283,7 +283,8 @@ fn next_frames(
         ≡ Some (stream_of docs frames.new.items nothing)) }
     ensures refused { IfErr result (λ s. Refuses s (λ w. (docs : List Node)
         → (open_after (mark_view mark) (stream_of docs frames.old.items (last_view last)) ≡ None)
-        × (fault_of_mark (mark_view mark) (stream_of docs frames.old.items (last_view last)) ≡ w))) }
+        × (fault_of_mark (mark_view mark) (stream_of docs frames.old.items (last_view last))
+        ≡ w))) }
 {
     let value = close_above(alloc, frames, last, at + 1)?;
     match frames.pop() {
@@ -346,7 +347,8 @@ fn all_documents(alloc: Global, nodes: OpenNodes) -> Result<Nodes, AllocError>
 
 /// A document ends, and the next one begins.
 fn next_document(alloc: Global, nodes: OpenNodes) -> Result<OpenNodes, Stop>
-    ensures ok { IfOk result (λ o. open_after marks.start (nodes_open nodes) ≡ Some (nodes_open o)) }
+    ensures ok { IfOk result (λ o. open_after marks.start (nodes_open nodes)
+        ≡ Some (nodes_open o)) }
     ensures refused { IfErr result (λ s. s ≡ Stop.NoMemory) }
 {
     let documents = all_documents(alloc, nodes)?;

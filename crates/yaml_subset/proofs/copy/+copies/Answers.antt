@@ -48,7 +48,8 @@ copy_nodes-returns t c = copied_all node_view c.loop-node.copies.items c.args.it
 
 pub copy_pairs-loop-key-preserved : goal.copy_pairs-loop-key-preserved
 copy_pairs-loop-key-preserved t c =
-    let seen : ScalarText × Node → List ℕ × Tree = λ (p : ScalarText × Node). (p.0, node_view p.1) in
+    let seen : ScalarText × Node → List ℕ × Tree =
+    λ (p : ScalarText × Node). (p.0, node_view p.1) in
     let text : c.in_ok-key.key ≡ c.loop-key-item.result.0 = c.in_ok-key.ensures in
     let tree : node_view c.in_ok-node.node ≡ node_view c.loop-key-item.result.1 =
     c.in_ok-node.ensures in

@@ -9,6 +9,7 @@ use Rattle.yaml_subset.proofs.frame.node_of_entries.Goals as goal
 
 pub returns : goal.returns
 returns c = view-Map c.ended.result
-    ∙ ap (λ (es : List (ScalarText × Node)). mapping (entries_of (map (λ p. (p.0, node_view p.1)) es)))
+    ∙ ap (λ (es : List (ScalarText × Node)). mapping
+    (entries_of (map (λ p. (p.0, node_view p.1)) es)))
     c.ended.ensures
     ∙ sym (collection-map c.args.column c.args.entries c.requires)

@@ -45,7 +45,8 @@ loop-at-preserved c =
           c.loop-at-test.true e in
           let seen : line_view c.match-begun_by.line ≡ blank_seen (line_view c.loop-at.line)
           (get_or bytes at 0) = ap line_view w.line-is ∙ w.with_blank-line.ensures in
-          ap (λ (x : Line). joined_lines x (content (c.args.column + (at + 1)) (drop (at + 1) bytes)))
+          ap (λ (x : Line). joined_lines x
+          (content (c.args.column + (at + 1)) (drop (at + 1) bytes)))
           seen ∙ sym more ∙ c.loop-at.invariant
       | in-Dash+in_ok-line-in-Dash w ↦
           let e : ahead_of (get_or bytes at 0) (drop (at + 1) bytes) ≡ Dash =
@@ -55,7 +56,8 @@ loop-at-preserved c =
           c.loop-at-test.true e in
           let seen : line_view c.match-begun_by.line ≡ dash_seen (line_view c.loop-at.line)
           (c.args.column + at) = ap line_view w.line-is ∙ w.in_ok-line-in-Dash.ensures in
-          ap (λ (x : Line). joined_lines x (content (c.args.column + (at + 1)) (drop (at + 1) bytes)))
+          ap (λ (x : Line). joined_lines x
+          (content (c.args.column + (at + 1)) (drop (at + 1) bytes)))
           seen ∙ sym more ∙ c.loop-at.invariant
     ]
 

@@ -5,5 +5,6 @@ use Rattle.yaml_subset.proofs.line.content.Given as goal
 
 -- what stands before, and behind it what is left, is all
 abbrev pub invariant-loop-at : goal.invariant-loop-at
-invariant-loop-at l = joined_lines (line_view l.line) (content (l.column + l.at) (drop l.at l.bytes))
+invariant-loop-at l = joined_lines (line_view l.line)
+    (content (l.column + l.at) (drop l.at l.bytes))
     ≡ content l.column l.bytes

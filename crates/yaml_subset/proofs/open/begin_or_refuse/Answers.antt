@@ -31,7 +31,8 @@ returns-then-may_begin-clause-refused c =
     let may : cond (is_nothing n.last) (has_room (last_head start n.frames.items) m) false ≡ true =
     subst (λ (fs : List Frame). cond (is_nothing n.last) (has_room (last_head start fs) m) false
     ≡ true) c.deref.ensures.value (sym c.may_begin.ensures ∙ c.if-may_begin.true) in
-    begin_refused n.documents.items n.frames.items (begun_node (max_depth - length n.frames.items) m)
+    begin_refused n.documents.items n.frames.items
+    (begun_node (max_depth - length n.frames.items) m)
     (open_after m (nodes_open n)) (fault_of_mark m (nodes_open n))
     (begun_there (map (child start) n.documents.items) n.frames.items n.last m c.requires.place
     c.requires.no_start may)

@@ -13,5 +13,9 @@ returns-in-Err-clause-fault c =
     let whole = place_in_text text c.bad_place-at.result placed in
     let few = whole.within in
     let e : c.saturating_add.result
-    ≡ length text - length (without_mark text) + c.bad_place-at.result = search rules in
-    (c.if-text-gt-MAX_TEXT_BYTES.false, search rules, subst (λ (m : ℕ). IsBadPlace text m) (sym e) whole)
+    ≡ length text - length (without_mark text) + c.bad_place-at.result = search rules in (
+      c.if-text-gt-MAX_TEXT_BYTES.false,
+      search rules,
+      subst (λ (m : ℕ). IsBadPlace text m) (sym e)
+          whole,
+    )

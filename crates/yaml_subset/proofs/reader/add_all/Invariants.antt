@@ -10,7 +10,8 @@ use Rattle.yaml_subset.proofs.reader.add_all.Given as goal
 abbrev pub invariant-loop-mark : goal.invariant-loop-mark
 invariant-loop-mark l = record {
   rest : open_after_all (map mark_view (into_iter_items l.mark-iterator))
-      (nodes_open l.nodes) ≡ open_after_all (map mark_view l.fn.marks.items) (nodes_open l.fn.nodes);
+      (nodes_open l.nodes) ≡ open_after_all (map mark_view l.fn.marks.items)
+      (nodes_open l.fn.nodes);
   fault : misfit (map mark_view (into_iter_items l.mark-iterator))
       (nodes_open l.nodes) ≡ misfit (map mark_view l.fn.marks.items) (nodes_open l.fn.nodes);
 }
