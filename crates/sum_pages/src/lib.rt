@@ -3,7 +3,9 @@
 //! Promises that a leaf, an hour or a day is read in one step, and that totals follow each change.
 #![tactic(auto)]
 
+mod days;
 mod page;
 mod sum_pages;
 
+pub use days::value_on;
 pub use sum_pages::SumPages;

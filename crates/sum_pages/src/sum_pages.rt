@@ -7,6 +7,7 @@ ghost use Rattle.slo_terms.specs.Sums.{AreFew, AreSound, leaves_over, most_event
 ghost use Rattle.sum_pages.specs.DayTables.{values_of_day};
 ghost use Rattle.sum_pages.specs.Pages.{has_day, leaf_after, leaf_at, leaf_in, slots_a_day};
 
+use crate::days::value_on;
 use crate::page::{HOURS_A_DAY, NO_LEAF, Page};
 use counted_steps::Steps;
 use exact_fraction::Leaf;
@@ -112,7 +113,7 @@ impl SumPages {
     {
         steps.tick();
         let slots = self.slots_a_day();
-        match self.pages.get(&(slot / slots)) {
+        match value_on(&self.pages, slot / slots) {
             Some(page) => page.leaf((slot % slots) as usize),
             None => NO_LEAF,
         }
@@ -125,7 +126,7 @@ impl SumPages {
         ensures cost { steps.new ≡ steps.old + 1 }
     {
         steps.tick();
-        match self.pages.get(&(hour / HOURS_A_DAY)) {
+        match value_on(&self.pages, hour / HOURS_A_DAY) {
             Some(page) => page.hour((hour % HOURS_A_DAY) as usize),
             None => NO_LEAF,
         }
@@ -138,7 +139,7 @@ impl SumPages {
         ensures cost { steps.new ≡ steps.old + 1 }
     {
         steps.tick();
-        match self.pages.get(&day) {
+        match value_on(&self.pages, day) {
             Some(page) => page.total(),
             None => NO_LEAF,
         }

@@ -15,7 +15,7 @@ returns-in-Some-clause-value g c =
       days = c.self.inside.pages.entries;
     } in
     let found : lookup (nat_eq c.args.day) pages.days ≡ Some c.in-Some.page.now =
-    sym c.get.ensures.value ∙ ap option_copied c.in-Some.is in
+    sym c.value_on.ensures ∙ ap option_copied c.in-Some.is in
     let page : values_of_day pages.days c.args.day ≡ c.in-Some.page.now =
     ap (λ o. unwrap_or o []) found in
     let there : IsTrue (has_day pages c.args.day) = ap is_some found in
@@ -30,7 +30,7 @@ returns-in-None-clause-value g c =
       per_hour = c.self.inside.per_hour;
       days = c.self.inside.pages.entries;
     } in
-    let found : lookup (nat_eq c.args.day) pages.days ≡ None = sym c.get.ensures.value
+    let found : lookup (nat_eq c.args.day) pages.days ≡ None = sym c.value_on.ensures
     ∙ ap option_copied c.in-None.is in
     day-nothing pages c.args.day (ap (λ o. unwrap_or o []) found)
     ∙ ap (λ (p : LeafDays). leaves_over (leaf_at p) (c.args.day * slots_a_day p) (slots_a_day p))
