@@ -124,11 +124,14 @@ pub day_whole : (pages : LeafDays) (day : ℕ) → ArePages pages → IsTrue (ha
 day_whole pages day are there =
     of_day no_leaf pages.days (λ leaves. length leaves ≡ slots_a_day pages) are.whole day there
 
--- the pages, once the leaf of a slot is another
+-- the pages, each of so many slots, once the leaf of one is another
+abbrev pub days_by : ℕ → LeafDays → ℕ → Leaf → List (ℕ × List Leaf)
+days_by slots pages slot value =
+    set_value (nat_eq (slot / slots)) pages.days
+    (slice_set (values_of_day pages.days (slot / slots)) (slot % slots) value)
+
 abbrev pub days_after : LeafDays → ℕ → Leaf → List (ℕ × List Leaf)
-days_after pages slot value =
-    set_value (nat_eq (slot / slots_a_day pages)) pages.days (slice_set
-    (values_of_day pages.days (slot / slots_a_day pages)) (slot % slots_a_day pages) value)
+days_after pages slot value = days_by (slots_a_day pages) pages slot value
 
 module _ (pages : LeafDays) (slot : ℕ) (value : Leaf) (are : ArePages pages)
     (there : IsTrue (has_day pages (slot / slots_a_day pages))) where
