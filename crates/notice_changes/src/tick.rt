@@ -98,15 +98,14 @@ pub fn judge_tick(alloc: Global, derived: &Derived, lines: &mut KeptLines, momen
     }
 }
 
-/// Makes room for the notices of a tick. After an error all is as before.
+/// Makes room for the notices of a tick, of which there are no more than may wait. After an error
+/// all is as before.
 pub fn room_for_tick(derived: &mut Derived, told: &[(Binding, State)]) -> Result<(), AllocError>
+    requires few { length told.now ≤ most.MAX_NOTICES }
     ensures room { OnOk result (length told.now ≤ derived.new.notices.spare) }
     ensures stays { Stays derived.old derived.new }
 {
-    let Ok(places) = u32::try_from(told.len()) else {
-        return Err(AllocError);
-    };
-    derived.notices.reserve(places)
+    derived.notices.reserve(count(told))
 }
 
 fn count(told: &[(Binding, State)]) -> u32

@@ -6,6 +6,7 @@ ghost use Rattle.office_derived.specs.Derived.{HasRoom, IsJudged, IsNext, IsSoun
 ghost use Rattle.office_derived.specs.Derived.{command_of, entry_of};
 ghost use Rattle.watched_objectives.specs.Known.{AllKnow};
 ghost use Rattle.watched_objectives.specs.Lines.{HasLines};
+ghost use Rattle.notice_changes.specs.Works.{TellsFew};
 ghost use Rattle.office_core.specs.Forgetting.{ForgetsOnlyNear};
 ghost use Rattle.office_core.specs.Machine.{HasLinesPlan};
 
@@ -54,6 +55,7 @@ pub(crate) fn judge(
 
 /// Takes all memory that an accepted command needs.
 pub(crate) fn make_room(derived: &mut Derived, work: &Work) -> Result<(), AllocError>
+    requires few { TellsFew work.now }
     ensures room { OnOk result (HasRoom derived.new work.now) }
     ensures stays { Stays derived.old derived.new }
 {

@@ -22,6 +22,7 @@ ghost use Rattle.history_answers.specs.Learning.{KnowsAnswered};
 ghost use Rattle.history_answers.specs.States.{binding_state};
 ghost use Rattle.watched_objectives.specs.Known.{AllKnow};
 ghost use Rattle.watched_objectives.specs.Lines.{HasLines};
+ghost use Rattle.notice_changes.specs.Works.{TellsFew};
 ghost use Rattle.office_core.specs.Forgetting.{ForgetsOnlyNear};
 ghost use Rattle.office_core.specs.Lent.{CountTheSame, LendsLine, LendsSums};
 ghost use Rattle.office_core.specs.Machine.{HasLinesPlan, HasRevisions, IsKept, IsPending};
@@ -36,6 +37,7 @@ use exact_fraction::Label;
 use history_answers::{answer, state_of};
 use kept_objectives::KeptSums;
 use notice_box::NoticeBox;
+use notice_changes::an_accepted_tick_tells_few;
 use office_derived::{Derived, Judged, Work, Zones};
 use record_form::{
     Command, Outcome, Query, Refusal, no_bytes_are_no_history, one_record_more, write_command,
@@ -355,6 +357,7 @@ fn judge_and_make_room(
     ensures sums { CountTheSame derived.old.sums.kept derived.new.sums.kept }
     ensures know { AllKnow lines.old.kept lines.new.kept }
 {
+    an_accepted_tick_tells_few();
     match judge(alloc, derived, lines, moment, command) {
         Judged::Same(outcome) => (Verdict::Same(outcome), None),
         Judged::Refused(refusal) => (Verdict::Refused(refusal), None),
@@ -382,6 +385,7 @@ fn make_ready(
     work: &Work,
 ) -> Result<(Vec<u8>, Option<LinesPlan>), AllocError>
     requires command { command_of work.now ≡ command.now }
+    requires few { TellsFew work.now }
     requires range { IsEntryInRange (record { moment = moment; command = command.now }) }
     requires lines { HasLines derived.old lines.old.kept }
     ensures stays { Stays derived.old derived.new }

@@ -26,6 +26,15 @@ make_ready-requires-clause-command c =
     (subst (IsJudged o c.args.moment c.args.command.now) c.in-Ready.is
     (c.judge.ensures.judged o c.requires.kept.2.reflects)).1
 
+pub make_ready-requires-clause-few : goal.make_ready-requires-clause-few
+make_ready-requires-clause-few c =
+    let o = office_of c.args.derived.now c.args.records.now.items in
+    let judged = subst (IsJudged o c.args.moment c.args.command.now) c.in-Ready.is
+    (c.judge.ensures.judged o c.requires.kept.2.reflects) in
+    c.an_accepted_tick_tells_few.ensures o c.args.moment c.in-Ready.work
+    (subst (λ (command : Command). Judges o c.args.moment command Accepted) (sym judged.1) judged.0)
+    judged.2
+
 pub make_ready-requires-clause-range : goal.make_ready-requires-clause-range
 make_ready-requires-clause-range c =
     let o = office_of c.args.derived.now c.args.records.now.items in
