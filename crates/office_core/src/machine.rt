@@ -248,7 +248,7 @@ impl Core {
             → ForgetsOnlyNear self.old.office e self.old.lines self.new.lines }
     {
         let Some(Pending { moment, work, plan }) = self.pending.take() else {
-            return Outcome::NoMemory;
+            unreachable!()
         };
         one_record_more();
         self.records.extend_from_slice(value.bytes()).unwrap();

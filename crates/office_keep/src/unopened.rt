@@ -44,7 +44,7 @@ fn why_unopened(fault: KeepFault) -> Unopened
         KeepFault::NotAJournal => Unopened::NotAJournal,
         KeepFault::Damaged { at } => Unopened::Damaged { at },
         KeepFault::NoMemory => Unopened::NoMemory,
-        KeepFault::AlreadyThere => Unopened::NoMemory,
+        KeepFault::AlreadyThere => unreachable!(),
     }
 }
 

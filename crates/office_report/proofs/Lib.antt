@@ -1,3 +1,4 @@
+mod AnswerLemmas
 mod LawLemmas
 mod LineLemmas
 mod PresentLemmas

@@ -9,7 +9,7 @@ use crate::lines::{counted_lines, unbegun_lines};
 use burn_core::State;
 use exact_fraction::Label;
 use office_core::{Core, measures_named};
-use record_form::{BudgetRows, Outcome, Query, Refusal};
+use record_form::{BudgetRows, Outcome, Query};
 use slo_catalog::{Binding, Catalog};
 use slo_objects::Kind;
 use std::alloc::{AllocError, Global};
@@ -58,9 +58,10 @@ fn rows_of(
     };
     match core.answer(alloc, moment, &query) {
         Outcome::Budgets { budgets, .. } => Ok(Some(budgets)),
-        Outcome::Refused(Refusal::NoWindow { .. }) => Ok(None),
-        // An SLO of the catalog has no other answer at a minute of the range but `NoMemory`.
-        _ => Err(AllocError),
+        // Every refusal at a minute of the range is that no window had begun.
+        Outcome::Refused(_) => Ok(None),
+        Outcome::NoMemory => Err(AllocError),
+        _ => unreachable!(),
     }
 }
 

@@ -1,5 +1,6 @@
-use Rattle.std.proofs.Common.{◌<◌, arith}
+use Rattle.std.proofs.Common.{◌<◌, ◌≤◌, arith}
 use Rattle.office_history.specs.History.{end_of, present}
+use Rattle.office_report.proofs.AnswerLemmas.{nothing_else, refused_rows}
 use Rattle.office_report.proofs.PresentLemmas.{present_in_range}
 use Rattle.office_report.proofs.budgets.rows_of.Goals as goal
 
@@ -8,3 +9,9 @@ answer-requires-clause-in_range c =
     let o = c.args.core.now.office in
     let now : present o < end_of o.origin = present_in_range o.origin c.is_legal.ensures.legal in
     omega (arith, c.moment-moment.ensures)
+
+pub unreachable-requires : goal.unreachable-requires
+unreachable-requires c =
+    nothing_else c.args.core.now.office c.moment-moment.result c.args.at c.args.name
+    c.answer.result c.answer.ensures.answer c.in_default.not-Budgets c.in_default.not-Refused
+    c.in_default.not-NoMemory
