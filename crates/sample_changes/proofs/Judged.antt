@@ -32,7 +32,7 @@ use Rattle.office_derived.specs.declared.Judged.TheVariants as judged
 use Rattle.office_derived.specs.declared.Tally.{Tally}
 use Rattle.office_derived.specs.declared.Work.TheVariants as works
 use Rattle.office_derived.specs.Tallies.{changes, tally_of, tally_outcome}
-use Rattle.sample_changes.specs.Judging.{faultless_verdict, rows_verdict}
+use Rattle.sample_changes.specs.Judging.{faultless_verdict, rows_fault, rows_verdict}
 use Rattle.sample_changes.specs.Works.{ComesTo}
 use Rattle.sample_changes.proofs.GoodRows.{IsGood, good_rows}
 use Rattle.sample_changes.proofs.Tallies.{accepted-more, any_put, count_put, verdicts_each}
@@ -170,7 +170,7 @@ over_taken fault cells taken days e f h =
     ∷ when (lt-ltb most.MAX_ACCEPTED_ROWS taken h i) (refusals.Limit limits.Accepted)
     ∷ when (nat_lt most.MAX_DAYS days) (refusals.Limit limits.Days) ∷ []))
 
-pub by_days : (fault : Option Refusal) (cells taken days : ℕ) (b : Bool) → fault ≡ None →
+by_days : (fault : Option Refusal) (cells taken days : ℕ) (b : Bool) → fault ≡ None →
     cells ≤ most.MAX_CELLS → taken ≤ most.MAX_ACCEPTED_ROWS → nat_lt most.MAX_DAYS days ≡ b →
     first_some (when b (refusals.Limit limits.Days) ∷ []) ≡ fault_by fault cells taken days
 by_days fault cells taken days b e f g h =
@@ -199,6 +199,27 @@ pub batch_clean : (origin m : ℕ) (members : List Object) (kept rows : List Row
     batch_fault origin m members kept rows ≡ None
 batch_clean origin m members kept rows vs found judged is none =
     ap (λ vs. first_some (rows_faults origin m members 1 rows vs)) (sym judged) ∙ sym is ∙ none
+
+-- the limit of days decides on a batch that keeps all rules before it
+pub days_decide : (d : Derived) (moment : ℕ) (rows : List Row) (vs : List RowVerdict)
+    (tally : Tally) (found : Option Refusal) (passes : Bool) → vs ≡ verdicts d.book.rows rows →
+    tally ≡ tally_of vs → current_rows d.book.rows ≡ d.book.rows →
+    found ≡ first_some (rows_faults d.origin moment d.catalog 1 rows vs) → found ≡ None →
+    length d.book.rows + tally.new ≤ most.MAX_CELLS →
+    d.accepted + (tally.new + tally.newer) ≤ most.MAX_ACCEPTED_ROWS →
+    nat_lt most.MAX_DAYS (objective_days d.catalog (current_rows (d.book.rows ++ rows))) ≡ passes →
+    first_some (when passes (refusals.Limit limits.Days) ∷ [])
+    ≡ rows_fault d.origin moment d.catalog d.book.rows d.accepted rows
+days_decide d moment rows vs tally found passes judged counted current is none few taken days =
+    let tallied : tally ≡ tally_of (verdicts d.book.rows rows) = counted ∙ ap tally_of judged in
+    by_days (batch_fault d.origin moment d.catalog d.book.rows rows)
+    (length (current_rows (d.book.rows ++ rows)))
+    (d.accepted + count is_put (verdicts d.book.rows rows))
+    (objective_days d.catalog (current_rows (d.book.rows ++ rows))) passes
+    (batch_clean d.origin moment d.catalog d.book.rows rows vs found judged is none)
+    (omega (arith, batch_cells d.book.rows rows tally current tallied, few))
+    (omega (arith, batch_taken d.accepted d.book.rows rows tally tallied, taken))
+    days
 
 pub batch_within : (origin m until : ℕ) (members : List Object) (kept rows : List Row)
     → batch_fault origin m members kept rows ≡ None → m ≤ until → All (IsWithin origin until) rows

@@ -1,13 +1,11 @@
-use Rattle.std.proofs.Common.{◌+◌, refl, sym, true}
-use Rattle.std.proofs.lemmas.List.{append-nil}
+use Rattle.std.proofs.Common.{refl, true}
 use Rattle.office_derived.specs.kept_sums.Walks.{made_on}
 use Rattle.office_history.specs.History.{events_in}
-use Rattle.office_derived.specs.declared.Derived.{Derived}
 use Rattle.office_derived.specs.declared.Work.TheVariants as works
 use Rattle.office_derived.proofs.FormLemmas.{sound_forms}
-use Rattle.office_derived.proofs.Still.{reflects_still}
-use Rattle.sample_changes.proofs.Following.{change_followed, kept_over}
-use Rattle.sample_changes.proofs.Kept.{accepted_still, exclude_entries, sound_still}
+use Rattle.sample_changes.proofs.ExclusionLemmas.{change_reflected, change_sound}
+use Rattle.sample_changes.proofs.Following.{kept_over}
+use Rattle.sample_changes.proofs.Kept.{exclude_entries}
 use Rattle.sample_changes.proofs.exclusions.apply_exclude.Goals as goal
 
 pub follow_exclusion-requires-clause-forms : goal.follow_exclusion-requires-clause-forms
@@ -15,32 +13,23 @@ follow_exclusion-requires-clause-forms c = sound_forms c.args.derived.now c.requ
 
 pub returns-clause-reflects : goal.returns-clause-reflects
 returns-clause-reflects c o next =
-    let d = c.args.derived.now in
-    let d' : Derived = record d {
-      book = c.exclude.new.self;
-      sums = c.follow_exclusion.new.self;
-      entries = d.entries + 1;
-      present = c.args.moment;
-    } in
-    reflects_still d d' o c.args.moment (works.Exclude c.args.value) next.reflects next.later
-    (record { no_tick = refl; no_taking = λ number. refl }) refl refl refl refl refl refl
-    (sym (append-nil d.zones.kept)) (c.exclude.ensures.history (events_in o.history)
-    next.reflects.held) (accepted_still d o next.reflects)
+    change_reflected c.args.derived.now c.exclude.new.self c.follow_exclusion.new.self o
+    c.args.moment (works.Exclude c.args.value) next
+    (record {
+      still = record { no_tick = refl; no_taking = λ number. refl };
+      no_object = refl;
+      no_zone = refl;
+      no_row = refl;
+    })
+    (c.exclude.ensures.history (events_in o.history) next.reflects.held)
 
 pub returns-clause-sound : goal.returns-clause-sound
 returns-clause-sound c =
     let d = c.args.derived.now in
-    let value = c.args.value in
-    let d' : Derived = record d {
-      book = c.exclude.new.self;
-      sums = c.follow_exclusion.new.self;
-      entries = d.entries + 1;
-      present = c.args.moment;
-    } in
-    sound_still d d' c.requires.sound (exclude_entries d c.requires.next.0 c.args.moment value
-    c.requires.next.1) refl refl refl refl c.exclude.ensures.rows refl
-    (change_followed d d' c.requires.sound refl c.exclude.ensures.rows
-    c.follow_exclusion.ensures.measures
-    (kept_over (made_on d.book.exclusions value true) d'.book.exclusions d.book.rows d'.book.rows
-    d'.sums.kept c.exclude.ensures.exclusions c.exclude.ensures.rows
-    c.follow_exclusion.ensures.kept))
+    let book = c.exclude.new.self in
+    change_sound d book c.follow_exclusion.new.self c.args.moment c.requires.sound
+    (exclude_entries d c.requires.next.0 c.args.moment c.args.value c.requires.next.1)
+    c.exclude.ensures.rows c.follow_exclusion.ensures.measures
+    (kept_over (made_on d.book.exclusions c.args.value true) book.exclusions d.book.rows book.rows
+    c.follow_exclusion.new.self.kept c.exclude.ensures.exclusions c.exclude.ensures.rows
+    c.follow_exclusion.ensures.kept)

@@ -1,14 +1,12 @@
-use Rattle.std.proofs.Common.{◌+◌, ◌++◌, ◌∷◌, [], refl, sym, subst, true, List}
-use Rattle.std.proofs.lemmas.List.{append-nil}
+use Rattle.std.proofs.Common.{◌++◌, ◌∷◌, [], refl, sym, subst, true, List}
 use Rattle.sample_book.specs.declared.Row.{Row}
 use Rattle.office_derived.specs.kept_objectives.Objectives.{HaveForms}
 use Rattle.office_history.specs.History.{events_in}
-use Rattle.office_derived.specs.declared.Derived.{Derived}
 use Rattle.office_derived.specs.declared.Work.TheVariants as works
 use Rattle.office_derived.proofs.FormLemmas.{sound_forms}
-use Rattle.office_derived.proofs.Still.{reflects_still}
-use Rattle.sample_changes.proofs.Following.{change_followed, kept_alike, kept_over, made_anew}
-use Rattle.sample_changes.proofs.Kept.{accepted_still, lift_entries, sound_still}
+use Rattle.sample_changes.proofs.ExclusionLemmas.{change_reflected, change_sound}
+use Rattle.sample_changes.proofs.Following.{kept_alike, kept_over, made_anew}
+use Rattle.sample_changes.proofs.Kept.{lift_entries}
 use Rattle.sample_changes.proofs.exclusions.apply_lift.Goals as goal
 
 pub follow_exclusion-requires-clause-kept : goal.follow_exclusion-requires-clause-kept
@@ -30,31 +28,22 @@ follow_exclusion-requires-clause-forms c =
 
 pub returns-clause-reflects : goal.returns-clause-reflects
 returns-clause-reflects c o next =
-    let d = c.args.derived.now in
-    let d' : Derived = record d {
-      book = c.lift.new.self;
-      sums = c.follow_exclusion.new.self;
-      entries = d.entries + 1;
-      present = c.args.moment;
-    } in
-    reflects_still d d' o c.args.moment (works.Lift c.args.id) next.reflects next.later
-    (record { no_tick = refl; no_taking = λ number. refl }) refl refl refl refl refl refl
-    (sym (append-nil d.zones.kept)) (c.lift.ensures.history (events_in o.history)
-    next.reflects.held) (accepted_still d o next.reflects)
+    change_reflected c.args.derived.now c.lift.new.self c.follow_exclusion.new.self o c.args.moment
+    (works.Lift c.args.id) next
+    (record {
+      still = record { no_tick = refl; no_taking = λ number. refl };
+      no_object = refl;
+      no_zone = refl;
+      no_row = refl;
+    })
+    (c.lift.ensures.history (events_in o.history) next.reflects.held)
 
 pub returns-clause-sound : goal.returns-clause-sound
 returns-clause-sound c =
     let d = c.args.derived.now in
-    let d' : Derived = record d {
-      book = c.lift.new.self;
-      sums = c.follow_exclusion.new.self;
-      entries = d.entries + 1;
-      present = c.args.moment;
-    } in
-    sound_still d d' c.requires.sound (lift_entries d c.requires.next.0 c.args.moment c.args.id
-    c.requires.next.1) refl refl refl refl c.lift.ensures.rows refl
-    (change_followed d d' c.requires.sound refl c.lift.ensures.rows
-    c.follow_exclusion.ensures.measures c.follow_exclusion.ensures.kept)
+    change_sound d c.lift.new.self c.follow_exclusion.new.self c.args.moment c.requires.sound
+    (lift_entries d c.requires.next.0 c.args.moment c.args.id c.requires.next.1)
+    c.lift.ensures.rows c.follow_exclusion.ensures.measures c.follow_exclusion.ensures.kept
 
 pub returns-clause-minutes : goal.returns-clause-minutes
 returns-clause-minutes c value slo minute is = c.lift.ensures.minutes value slo minute is

@@ -6,7 +6,7 @@ use Rattle.sample_book.specs.Rows.{current_rows}
 use Rattle.office_history.specs.Batches.{batch_fault, count, objective_days}
 use Rattle.office_derived.specs.Tallies.{tally_of}
 use Rattle.sample_changes.proofs.Judged.{batch_cells, batch_clean, batch_taken, batch_within}
-use Rattle.sample_changes.proofs.Judged.{by_days, over_cells, over_taken}
+use Rattle.sample_changes.proofs.Judged.{days_decide, over_cells, over_taken}
 use Rattle.sample_changes.proofs.Tallies.{verdicts_each}
 use Rattle.sample_changes.proofs.samples.rows_fault.Goals as goal
 
@@ -71,51 +71,19 @@ passes_days_limit-requires-clause-more c =
 
 pub returns-then-passes : goal.returns-then-passes
 returns-then-passes c =
-    let a = c.args in
-    let d = a.derived.now in
-    let tally : a.tally ≡ tally_of (verdicts d.book.rows a.rows.now) = c.requires.counted
-    ∙ ap tally_of c.requires.judged in
     ap (λ (refusal : Refusal). Some refusal) c.limit-then-passes.ensures
-    ∙ by_days (batch_fault d.origin a.moment d.catalog d.book.rows a.rows.now)
-    (length (current_rows (d.book.rows ++ a.rows.now)))
-    (d.accepted + count is_put (verdicts d.book.rows a.rows.now))
-    (objective_days d.catalog (current_rows (d.book.rows ++ a.rows.now))) true
-    (batch_clean d.origin a.moment d.catalog d.book.rows a.rows.now a.verdicts.now
-    c.batch_fault.result c.requires.judged c.batch_fault.ensures c.in-None.is)
-    (omega (
-      arith,
-      batch_cells d.book.rows a.rows.now a.tally c.rows_are_current.ensures tally,
-      c.cells.ensures,
-      c.if-cells-tally-gt-MAX_CELLS.false,
-    ))
-    (omega (
-      arith,
-      batch_taken d.accepted d.book.rows a.rows.now a.tally tally,
-      c.if-derived-tally-gt-MAX_ACCEPTED_ROWS.false,
-    ))
+    ∙ days_decide c.args.derived.now c.args.moment c.args.rows.now c.args.verdicts.now c.args.tally
+    c.batch_fault.result true c.requires.judged c.requires.counted c.rows_are_current.ensures
+    c.batch_fault.ensures c.in-None.is
+    (omega (arith, c.cells.ensures, c.if-cells-tally-gt-MAX_CELLS.false))
+    (omega (arith, c.if-derived-tally-gt-MAX_ACCEPTED_ROWS.false))
     (sym c.in_ok-passes.ensures ∙ c.if-passes.true)
 
 pub returns : goal.returns
 returns c =
-    let a = c.args in
-    let d = a.derived.now in
-    let tally : a.tally ≡ tally_of (verdicts d.book.rows a.rows.now) = c.requires.counted
-    ∙ ap tally_of c.requires.judged in
-    by_days (batch_fault d.origin a.moment d.catalog d.book.rows a.rows.now)
-    (length (current_rows (d.book.rows ++ a.rows.now)))
-    (d.accepted + count is_put (verdicts d.book.rows a.rows.now))
-    (objective_days d.catalog (current_rows (d.book.rows ++ a.rows.now))) false
-    (batch_clean d.origin a.moment d.catalog d.book.rows a.rows.now a.verdicts.now
-    c.batch_fault.result c.requires.judged c.batch_fault.ensures c.in-None.is)
-    (omega (
-      arith,
-      batch_cells d.book.rows a.rows.now a.tally c.rows_are_current.ensures tally,
-      c.cells.ensures,
-      c.if-cells-tally-gt-MAX_CELLS.false,
-    ))
-    (omega (
-      arith,
-      batch_taken d.accepted d.book.rows a.rows.now a.tally tally,
-      c.if-derived-tally-gt-MAX_ACCEPTED_ROWS.false,
-    ))
+    days_decide c.args.derived.now c.args.moment c.args.rows.now c.args.verdicts.now c.args.tally
+    c.batch_fault.result false c.requires.judged c.requires.counted c.rows_are_current.ensures
+    c.batch_fault.ensures c.in-None.is
+    (omega (arith, c.cells.ensures, c.if-cells-tally-gt-MAX_CELLS.false))
+    (omega (arith, c.if-derived-tally-gt-MAX_ACCEPTED_ROWS.false))
     (sym c.in_ok-passes.ensures ∙ c.if-passes.false)

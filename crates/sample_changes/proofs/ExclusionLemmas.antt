@@ -1,0 +1,55 @@
+-- What is kept after an exclusion or a lifting.
+use Rattle.std.proofs.Common.{◌≡◌, ℕ, ◌+◌, ◌<◌, ◌++◌, List, [], fold, refl, ap, sym, ◌∙◌}
+use Rattle.std.proofs.lemmas.List.{append-nil}
+use Rattle.slo_limits.specs.declared.TheConstants as most
+use Rattle.sample_book.specs.declared.Row.{Row}
+use Rattle.sample_book.specs.Book.{Book}
+use Rattle.sample_book.specs.History.{Holds}
+use Rattle.record_form.specs.declared.Command.{Command}
+use Rattle.office_history.specs.Catalog.{definitions_of, members_after}
+use Rattle.office_history.specs.History.{Office, accepted_rows, events_in, events_of, rows_in}
+use Rattle.office_history.specs.History.{rows_of, with_entry}
+use Rattle.office_history.specs.Zones.{zones_of}
+use Rattle.office_derived.specs.declared.Derived.{Derived}
+use Rattle.office_derived.specs.declared.Work.{Work}
+use Rattle.office_derived.specs.kept_objectives.Objectives.{AreKept, KeptObjectives, measures_of}
+use Rattle.office_derived.specs.Derived.{IsNext, IsSound, Reflects, command_of, entry_of}
+use Rattle.office_derived.proofs.Still.{IsStill, reflects_still}
+use Rattle.sample_changes.proofs.Following.{change_followed}
+use Rattle.sample_changes.proofs.Kept.{accepted_still, sound_still}
+
+-- what is kept with one entry more that changes the book and the sums
+abbrev pub changed : Derived → Book → KeptObjectives → ℕ → Derived
+changed d book sums moment =
+    record d { book = book; sums = sums; entries = d.entries + 1; present = moment; }
+
+-- a command that changes no more than exclusions
+pub record IsOfExclusions (c : Command) : Type 0 where
+  pub still : IsStill c
+  pub no_object : definitions_of c ≡ []
+  pub no_zone : zones_of c ≡ []
+  pub no_row : rows_of c ≡ []
+
+-- it is what the history with the entry says
+pub change_reflected : (d : Derived) (book : Book) (sums : KeptObjectives) (o : Office)
+    (moment : ℕ) (work : Work) → IsNext d o moment work → IsOfExclusions (command_of work) →
+    Holds (events_in o.history ++ events_of (command_of work)) book.rows book.exclusions →
+    Reflects (changed d book sums moment) (with_entry o (entry_of moment work))
+change_reflected d book sums o moment work next only held =
+    reflects_still d (changed d book sums moment) o moment work next.reflects next.later only.still
+    refl refl refl refl refl
+    (ap (fold members_after d.catalog) (sym only.no_object))
+    (sym (ap (λ zs. d.zones.kept ++ zs) only.no_zone ∙ append-nil d.zones.kept))
+    held
+    (accepted_still d o next.reflects
+    ∙ ap (λ (rows : List Row). accepted_rows (rows_in o.history ++ rows)) (sym only.no_row))
+
+-- it agrees in itself, where the sums have followed
+pub change_sound : (d : Derived) (book : Book) (sums : KeptObjectives) (moment : ℕ) → IsSound d →
+    d.entries < most.MAX_ENTRIES → book.rows ≡ d.book.rows →
+    measures_of sums.kept ≡ measures_of d.sums.kept → AreKept book.exclusions book.rows sums.kept →
+    IsSound (changed d book sums moment)
+change_sound d book sums moment sound few rows measures are =
+    let d' = changed d book sums moment in
+    sound_still d d' sound few refl refl refl refl rows refl
+    (change_followed d d' sound refl rows measures are)
