@@ -33,7 +33,7 @@ use Rattle.catalog_changes.specs.Laws.{BeginsLegally, EachMayFollow, ZoneActsOnc
 use Rattle.notice_changes.specs.Laws.{ATakingActsOnce}
 use Rattle.history_laws.specs.Kept.{DaysAreFew, RowsAreRead}
 use Rattle.history_laws.specs.Once.{BatchActsOnce, BatchBringsNothing, ChangesActOnce}
-use Rattle.history_laws.specs.Once.{NoneStandsTwice, again}
+use Rattle.history_laws.specs.Once.{NoneStandsTwice, repeated_judgement}
 
 -- A BATCH
 
@@ -113,7 +113,7 @@ pub changes_act_once : ActOnce → ChangesActOnce
 changes_act_once laws origin h before after e moment judgement legal split later told =
     by e.command refl told
   where
-    by : (c : Command) → e.command ≡ c → again h c ≡ Some judgement →
+    by : (c : Command) → e.command ≡ c → repeated_judgement h c ≡ Some judgement →
         Judges (office origin h) moment c judgement
     by (Samples rows) is g =
         as_said origin h moment (Samples rows) (Same (sampled (verdicts (rows_in h) rows) None))
@@ -153,8 +153,8 @@ not_withdrawn false id e = cc e
 
 -- what comes again isn't accepted
 not_accepted : (origin : ℕ) (h : List Entry) (moment : ℕ) (c : Command) →
-    ((j : Judgement) → again h c ≡ Some j → Judges (office origin h) moment c j) →
-    Judges (office origin h) moment c Accepted → again h c ≡ None
+    ((j : Judgement) → repeated_judgement h c ≡ Some j → Judges (office origin h) moment c j) →
+    Judges (office origin h) moment c Accepted → repeated_judgement h c ≡ None
 not_accepted origin h moment (Samples rows) once v =
     let outcome = sampled (verdicts (rows_in h) rows) None in
     absurd (not_same outcome (v ∙ sym (once (Same outcome) refl)))
@@ -173,7 +173,8 @@ not_accepted origin h moment (Remove kind name) once v = refl
 not_accepted origin h moment Tick once v = refl
 
 -- whether a change may act anew doesn't lie in the history
-anew : (h h' : List Entry) (c : Command) → again h c ≡ None → again h' c ≡ None
+anew : (h h' : List Entry) (c : Command) → repeated_judgement h c ≡ None →
+    repeated_judgement h' c ≡ None
 anew h h' (Define text) e = refl
 anew h h' (Remove kind name) e = refl
 anew h h' Tick e = refl

@@ -34,26 +34,26 @@ BatchBringsNothing = (origin : ℕ) (h before after : List Entry) (e : Entry) (r
 -- What becomes of a change that a history has already: all stays as it is, and no entry is added;
 -- only an exclusion whose id was lifted is withdrawn. Nothing is said of a definition, a removal
 -- and a tick, which may change something again.
-abbrev pub again : List Entry → Command → Option Judgement
-again h (Samples rows) = Some (Same (sampled (verdicts (rows_in h) rows) None))
-again h (PutZone name bytes) = Some (Same (Changed None))
-again h (Exclude value) = Some
+abbrev pub repeated_judgement : List Entry → Command → Option Judgement
+repeated_judgement h (Samples rows) = Some (Same (sampled (verdicts (rows_in h) rows) None))
+repeated_judgement h (PutZone name bytes) = Some (Same (Changed None))
+repeated_judgement h (Exclude value) = Some
     (cond (is_lifted h value.id) (Refused (refusals.Withdrawn value.id)) (Same (Changed None)))
-again h (Lift id) = Some (Same (Changed None))
-again h (Take number) = Some (Same (Changed None))
-again h (Define text) = None
-again h (Remove kind name) = None
-again h Tick = None
+repeated_judgement h (Lift id) = Some (Same (Changed None))
+repeated_judgement h (Take number) = Some (Same (Changed None))
+repeated_judgement h (Define text) = None
+repeated_judgement h (Remove kind name) = None
+repeated_judgement h Tick = None
 
 -- so it is judged at any moment from the present on
 abbrev pub ChangesActOnce : Type 0
 ChangesActOnce = (origin : ℕ) (h before after : List Entry) (e : Entry) (moment : ℕ)
     (judgement : Judgement) → IsLegal origin h → h ≡ before ++ e ∷ after →
-    present (office origin h) ≤ moment → again h e.command ≡ Some judgement →
+    present (office origin h) ≤ moment → repeated_judgement h e.command ≡ Some judgement →
     Judges (office origin h) moment e.command judgement
 
 -- two entries of one command are definitions, removals or ticks
 abbrev pub NoneStandsTwice : Type 0
 NoneStandsTwice = (origin : ℕ) (h before between after : List Entry) (first second : Entry) →
     IsLegal origin h → h ≡ before ++ first ∷ (between ++ second ∷ after) →
-    second.command ≡ first.command → again h first.command ≡ None
+    second.command ≡ first.command → repeated_judgement h first.command ≡ None

@@ -19,7 +19,7 @@ use Rattle.office_history.specs.Objectives.{measures_named, slo_named}
 use Rattle.office_history.specs.Windows.{WindowBegins}
 use Rattle.office_history.specs.Zones.{zones_in}
 use Rattle.office_core.specs.history_answers.Laws.{EachQueryHasOneAnswer}
-use Rattle.office_report.specs.Lines.{framed}
+use Rattle.office_report.specs.Lines.{report_text}
 use Rattle.office_report.specs.Report.{BeginsFor, IsReport, IsWindowAt, SloWindow, slo_lines}
 use Rattle.office_report.specs.Report.{slo_names}
 use Rattle.office_report.proofs.LineLemmas.{row_lines, rows_tell}
@@ -110,6 +110,6 @@ one_report law o at a b begun of_a of_b =
     (of_a.slos.stand.all ∙ sym of_b.slos.stand.all) of_a.slos.stand.begun
     of_b.slos.stand.begun in
     of_a.exact
-    ∙ ap (λ (ls : List ℕ). framed at (length o.history) ls slos (waiting (notices_in o)))
+    ∙ ap (λ (ls : List ℕ). report_text at (length o.history) ls slos (waiting (notices_in o)))
     (of_a.slos.told ∙ same ∙ sym of_b.slos.told)
     ∙ sym of_b.exact

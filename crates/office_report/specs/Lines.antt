@@ -44,8 +44,8 @@ objective_lines states name number words =
     name ++ 32 ∷ (decimal number ++ 32 ∷ (words ++ 10 ∷ state_lines states name number))
 
 -- the whole report: the lines of the SLOs between the first line and the last
-abbrev pub framed : ℕ → ℕ → List ℕ → ℕ → ℕ → List ℕ
-framed at entries lines slos notices =
+abbrev pub report_text : ℕ → ℕ → List ℕ → ℕ → ℕ → List ℕ
+report_text at entries lines slos notices =
     codes "report at " ++ (decimal at ++ (codes ", entries " ++ (decimal entries ++ 10 ∷
     (lines
     ++ (codes "slos " ++ (decimal slos ++ (codes ", notices " ++ (decimal notices ++ 10 ∷ []))))))))

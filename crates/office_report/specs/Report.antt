@@ -17,7 +17,7 @@ use Rattle.office_history.specs.Notices.{notices_in, samples_in, states_over, wa
 use Rattle.office_history.specs.Objectives.{measures_named, slo_named}
 use Rattle.office_history.specs.Windows.{WindowBegins}
 use Rattle.office_history.specs.Zones.{zones_in}
-use Rattle.office_report.specs.Lines.{framed, objective_lines, row_words, unbegun_words}
+use Rattle.office_report.specs.Lines.{objective_lines, report_text, row_words, unbegun_words}
 
 abbrev pub is_slo : Kind → Bool
 is_slo kinds.Slo = true
@@ -76,5 +76,5 @@ pub record IsReport (o : Office) (at : ℕ) (text : List ℕ) : Type 0 where
   pub lines : List ℕ
   pub slos : AreLines (states_over o at) o at (slo_names (catalog_in o.history)) lines
   pub exact :
-      text ≡ framed at (length o.history) lines (length (slo_names (catalog_in o.history)))
+      text ≡ report_text at (length o.history) lines (length (slo_names (catalog_in o.history)))
       (waiting (notices_in o))

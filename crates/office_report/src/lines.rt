@@ -2,8 +2,9 @@
 ghost use Rattle.std.specs.Prelude.{◌≡◌, IfOk, Some, string_bytes};
 ghost use Rattle.std.specs.List.{enumerate_from, flat_map};
 ghost use Rattle.record_form.specs.declared.BudgetRow.{BudgetRow};
-ghost use Rattle.office_report.specs.Lines.{counted_words, framed, is_of as is_of_lem};
+ghost use Rattle.office_report.specs.Lines.{counted_words, is_of as is_of_lem};
 ghost use Rattle.office_report.specs.Lines.{objective_lines as objective_lines_lem};
+ghost use Rattle.office_report.specs.Lines.{report_text as report_text_lem};
 ghost use Rattle.office_report.specs.Lines.{row_words as row_words_lem};
 ghost use Rattle.office_report.specs.Lines.{state_line as state_line_lem};
 ghost use Rattle.office_report.specs.Lines.{state_lines as state_lines_lem, unbegun_words};
@@ -133,7 +134,7 @@ pub(crate) fn unbegun_lines(
 }
 
 /// The whole report: the lines of the SLOs between the first line and the last.
-pub(crate) fn framed(
+pub(crate) fn report_text(
     alloc: Global,
     at: u32,
     entries: u32,
@@ -141,7 +142,7 @@ pub(crate) fn framed(
     slos: usize,
     notices: u32,
 ) -> Result<Bytes, AllocError>
-    ensures { IfOk result (λ text. text ≡ framed at entries lines.now slos notices) }
+    ensures { IfOk result (λ text. text ≡ report_text_lem at entries lines.now slos notices) }
 {
     let mut text = format!(in alloc; "report at {at}, entries {entries}\n")?.into_bytes();
     let last = format!(in alloc; "slos {slos}, notices {notices}\n")?;

@@ -4,7 +4,7 @@ ghost use Rattle.office_history.specs.History.{end_of};
 ghost use Rattle.office_report.specs.Report.{IsReport};
 
 use crate::budgets::{lines_of, slo_names};
-use crate::lines::framed;
+use crate::lines::report_text;
 use crate::states::states_at;
 use exact_fraction::Bytes;
 use office_core::Core;
@@ -26,7 +26,7 @@ pub fn report(alloc: Global, core: &mut Core, at: u32) -> Result<Bytes, AllocErr
     let names = slo_names(alloc, core.catalog())?;
     let states = states_at(alloc, core, at)?;
     let lines = lines_of(alloc, core, at, &states, &names)?;
-    framed(
+    report_text(
         alloc,
         at,
         core.length(),

@@ -23,9 +23,9 @@ abbrev pub standing_of : {D : Type 0} → (D → ℕ) → OwnOn D → Standing
 standing_of faults c = record { office = c.kept.office; own = c.own; faults = faults c.kept.disk }
 
 -- the own places, and that of an entry that was added
-abbrev pub noted : Option ℕ → List ℕ → List ℕ
-noted None own = own
-noted (Some place) own = own ++ place ∷ []
+abbrev pub places_with : Option ℕ → List ℕ → List ℕ
+places_with None own = own
+places_with (Some place) own = own ++ place ∷ []
 
 -- The office performed the request; or there was no memory for the place of its entry, and nothing
 -- was done.
@@ -43,7 +43,7 @@ pub record OwnAsks {D : Type 0} (images : D → List ℕ → Type 0) (moment : D
     (request : Request) (outcome : Outcome) (new : OwnOn D) : Type 0 where
   pub place : Option ℕ
   pub ended : Ends old.kept reading request outcome place new.kept
-  pub places : new.own ≡ noted place old.own
+  pub places : new.own ≡ places_with place old.own
   pub any_moment : LeavesOnly moment images_since old.kept.disk new.kept.disk
       (LeavesBy old.kept reading request new.kept)
   pub stands : All (StandsSettled new.kept.office new.kept.doubt) (images new.kept.disk)

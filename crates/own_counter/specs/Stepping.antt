@@ -12,7 +12,8 @@ use Rattle.office_history.specs.History.{Office}
 use Rattle.office_history.specs.Legal.{office}
 use Rattle.office_counter.specs.Steps as steps
 use Rattle.office_keep.specs.Office as keep
-use Rattle.own_counter.specs.Own.{Ends, performed, no_room, OwnAsks, OwnOn, noted, standing_of}
+use Rattle.own_counter.specs.Own.{Ends, performed, no_room, OwnAsks, OwnOn, places_with}
+use Rattle.own_counter.specs.Own.{standing_of}
 
 -- an office with nobody's entries behind it
 with_none : (o : Office) → o ≡ steps.with_others o []
@@ -27,7 +28,7 @@ settled_others o (Some e) settled (inl is) = ([], is ∙ with_none o)
 settled_others o (Some e) settled (inr is) = (e ∷ [], is)
 
 noted_own : (o : Office) (made : Option Entry) (own : List ℕ)
-    → noted (steps.place_of o made) own ≡ steps.own_with o made own
+    → places_with (steps.place_of o made) own ≡ steps.own_with o made own
 noted_own o None own = refl
 noted_own o (Some e) own = refl
 
@@ -46,12 +47,13 @@ at_point o point reading request outcome before now (others, is) does =
     (others, subst (λ (p : Office). steps.Does p reading request outcome before now) is does)
 
 module _ {D : Type 0} (faults : D → ℕ) (old new : OwnOn D) (reading : ℕ) (outcome : Outcome) where
-  own_still : (place : Option ℕ) → new.own ≡ noted place old.own → place ≡ None → new.own ≡ old.own
-  own_still place places none = places ∙ ap (λ (p : Option ℕ). noted p old.own) none
+  own_still : (place : Option ℕ) → new.own ≡ places_with place old.own → place ≡ None →
+      new.own ≡ old.own
+  own_still place places none = places ∙ ap (λ (p : Option ℕ). places_with p old.own) none
 
   does_query : (query : Query) (place : Option ℕ)
       → keep.Asks old.kept reading query outcome place new.kept
-      → new.own ≡ noted place old.own
+      → new.own ≡ places_with place old.own
       → DoesBehind old.kept.office reading (Ask query) outcome (standing_of faults old)
       (standing_of faults new)
   does_query query place asks places =
@@ -66,7 +68,7 @@ module _ {D : Type 0} (faults : D → ℕ) (old new : OwnOn D) (reading : ℕ) (
 
   does_change : (command : Command) (place : Option ℕ)
       → keep.Changes old.kept reading command outcome place new.kept
-      → new.own ≡ noted place old.own
+      → new.own ≡ places_with place old.own
       → keep.IsBlamed (faults old.kept.disk) (faults new.kept.disk) outcome
       → DoesBehind old.kept.office reading (Change command) outcome (standing_of faults old)
       (standing_of faults new)
@@ -101,11 +103,11 @@ module _ {D : Type 0} (faults : D → ℕ) (old new : OwnOn D) (reading : ℕ) (
       (standing_of faults new)
       (settled_others old.kept.office old.kept.doubt settled is)
       (steps.acts made came now
-      (places ∙ ap (λ (p : Option ℕ). noted p old.own) at ∙ noted_own settled made old.own))
+      (places ∙ ap (λ (p : Option ℕ). places_with p old.own) at ∙ noted_own settled made old.own))
 
   does_nothing : (request : Request) (place : Option ℕ) → outcome ≡ NoMemory → place ≡ None
       → new.kept ≡ old.kept
-      → new.own ≡ noted place old.own
+      → new.own ≡ places_with place old.own
       → DoesBehind old.kept.office reading request outcome (standing_of faults old)
       (standing_of faults new)
   does_nothing request place told none same places =
@@ -116,7 +118,7 @@ module _ {D : Type 0} (faults : D → ℕ) (old new : OwnOn D) (reading : ℕ) (
 
   does_own : (request : Request) (place : Option ℕ)
       → Ends old.kept reading request outcome place new.kept
-      → new.own ≡ noted place old.own
+      → new.own ≡ places_with place old.own
       → keep.IsBlamed (faults old.kept.disk) (faults new.kept.disk) outcome
       → DoesBehind old.kept.office reading request outcome (standing_of faults old)
       (standing_of faults new)

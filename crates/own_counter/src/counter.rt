@@ -2,7 +2,7 @@
 ghost use Rattle.std.specs.Prelude.{◌≡◌, ◌≤◌, ◌<◌, [], length, vec_capacity};
 ghost use Rattle.slo_limits.specs.declared.TheConstants.{MAX_MINUTE};
 ghost use Rattle.office_counter.specs.Steps.{HasRevisionsIn};
-ghost use Rattle.own_counter.specs.Own.{OwnAsks, noted, own_on};
+ghost use Rattle.own_counter.specs.Own.{OwnAsks, places_with, own_on};
 
 use office_counter::Counter;
 use office_keep::Office;
@@ -56,7 +56,7 @@ impl<D: Disk + Drop> OwnCounter<D> {
 // Notes the place of an entry that was added, where there is one.
 fn note(own: &mut Vec<u32>, place: Option<u32>)
     requires { length own.old.items < vec_capacity own.old }
-    ensures { own.new.items ≡ noted place own.old.items }
+    ensures { own.new.items ≡ places_with place own.old.items }
 {
     if let Some(place) = place {
         let _ = own.push(place);

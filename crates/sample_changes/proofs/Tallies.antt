@@ -16,7 +16,7 @@ use Rattle.office_history.specs.History.{accepted_rows}
 use Rattle.office_history.specs.Batches.{count, is_newer, is_repeated, is_superseded}
 use Rattle.office_derived.specs.declared.Tally.{Tally}
 use Rattle.office_derived.specs.Tallies.{changes, tally_of}
-use Rattle.sample_changes.specs.Works.{tallied}
+use Rattle.sample_changes.specs.Works.{tally_with}
 
 -- each row has a verdict
 pub verdicts_each : (came rows : List Row) → length (verdicts came rows) ≡ length rows
@@ -106,7 +106,7 @@ tally a b c d = record { new = a; newer = b; repeated = c; superseded = d }
 
 -- one verdict more
 pub tally-push : (vs : List RowVerdict) (v : RowVerdict)
-    → tally_of (vs ++ v ∷ []) ≡ tallied (tally_of vs) v
+    → tally_of (vs ++ v ∷ []) ≡ tally_with (tally_of vs) v
 tally-push vs v =
     (λ i. record {
       new = count-push is_new vs v i;
@@ -121,7 +121,7 @@ tally-push vs v =
 
     by : (v : RowVerdict) (a b c d : ℕ) →
         tally (a + cond (is_new v) 1 0) (b + cond (is_newer v) 1 0) (c + cond (is_repeated v) 1 0)
-        (d + cond (is_superseded v) 1 0) ≡ tallied (tally a b c d) v
+        (d + cond (is_superseded v) 1 0) ≡ tally_with (tally a b c d) v
     by New a b c d = λ i. tally (a + 1) (stays b i) (stays c i) (stays d i)
     by (Newer kept) a b c d = λ i. tally (stays a i) (b + 1) (stays c i) (stays d i)
     by Repeated a b c d = λ i. tally (stays a i) (stays b i) (c + 1) (stays d i)

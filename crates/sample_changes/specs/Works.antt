@@ -12,32 +12,32 @@ use Rattle.office_derived.specs.declared.Judged.{Judged}
 use Rattle.office_derived.specs.declared.Judged.TheVariants as judged
 
 -- one row more
-abbrev pub tallied : Tally → RowVerdict → Tally
-tallied tally New = record {
+abbrev pub tally_with : Tally → RowVerdict → Tally
+tally_with tally New = record {
   new = tally.new + 1;
   newer = tally.newer;
   repeated = tally.repeated;
   superseded = tally.superseded;
 }
-tallied tally (Newer kept) = record {
+tally_with tally (Newer kept) = record {
   new = tally.new;
   newer = tally.newer + 1;
   repeated = tally.repeated;
   superseded = tally.superseded;
 }
-tallied tally Repeated = record {
+tally_with tally Repeated = record {
   new = tally.new;
   newer = tally.newer;
   repeated = tally.repeated + 1;
   superseded = tally.superseded;
 }
-tallied tally (Superseded revision) = record {
+tally_with tally (Superseded revision) = record {
   new = tally.new;
   newer = tally.newer;
   repeated = tally.repeated;
   superseded = tally.superseded + 1;
 }
-tallied tally (Conflict kept) = tally
+tally_with tally (Conflict kept) = tally
 
 -- what the judging of rows comes to: where they are accepted, the work of a copy of them
 abbrev pub ComesTo : Judgement → List Row → Tally → List RowVerdict → Judged → Type 0

@@ -2,15 +2,15 @@
 ghost use Rattle.std.specs.Prelude.{◌≡◌, ◌+◌, ◌<◌, ◌≤◌, ◌^◌, length};
 ghost use Rattle.slo_limits.specs.declared.TheConstants.{MAX_BATCH_ROWS};
 ghost use Rattle.office_derived.specs.Tallies.{tally_of as tally_of_lem};
-ghost use Rattle.sample_changes.specs.Works.{tallied as tallied_lem};
+ghost use Rattle.sample_changes.specs.Works.{tally_with as tally_with_lem};
 
 use office_derived::Tally;
 use sample_book::RowVerdict;
 
 /// One row more.
-fn tallied(tally: Tally, verdict: &RowVerdict) -> Tally
+fn tally_with(tally: Tally, verdict: &RowVerdict) -> Tally
     requires { tally.new + tally.newer + tally.repeated + tally.superseded < 2 ^ 31 }
-    ensures { result ≡ tallied_lem tally verdict.now }
+    ensures { result ≡ tally_with_lem tally verdict.now }
 {
     match verdict {
         RowVerdict::New => Tally {
@@ -54,7 +54,7 @@ pub(crate) fn tally_of(verdicts: &[RowVerdict]) -> Tally
         superseded: 0,
     };
     for verdict in verdicts {
-        tally = tallied(tally, verdict);
+        tally = tally_with(tally, verdict);
     }
     tally
 }

@@ -1,5 +1,5 @@
 use Rattle.std.proofs.Common.{◌∙◌, ap, List, ℕ}
-use Rattle.own_counter.specs.Own.{noted, performed}
+use Rattle.own_counter.specs.Own.{places_with, performed}
 use Rattle.own_counter.proofs.Asking.{asks_without_room}
 use Rattle.own_counter.proofs.counter.ask_alone.Goals as goal
 
@@ -14,7 +14,8 @@ returns g c = record {
   place = c.act-outcome.result.1;
   ended = performed c.act-outcome.ensures.ended;
   places =
-      c.note.ensures ∙ ap (λ (l : List ℕ). noted c.act-outcome.result.1 l) c.reserve.ensures.items;
+      c.note.ensures
+          ∙ ap (λ (l : List ℕ). places_with c.act-outcome.result.1 l) c.reserve.ensures.items;
   any_moment = c.act-outcome.ensures.any_moment;
   stands = c.act-outcome.ensures.stands;
   whole = c.act-outcome.ensures.whole;
