@@ -1,6 +1,7 @@
 -- The days of an indicator, counted one by one.
 use Rattle.std.specs.Prelude.{ℕ, ◌+◌, ◌-◌, ◌/◌, ◌≤◌, ◌<◌, ◌||◌, Bool, false, cond, List, length}
 use Rattle.std.specs.Prelude.{slice_index_or, Option, Some, None}
+use Rattle.slo_limits.specs.declared.TheConstants.{MINUTES_A_DAY}
 use Rattle.slo_objects.specs.declared.Object.{Object}
 use Rattle.slo_objects.specs.declared.Slo.{Slo}
 use Rattle.slo_objects.specs.Slo.{slo_in}
@@ -15,7 +16,8 @@ IsWithin origin until row = (origin ≤ row.minute) × (row.minute < until)
 
 -- a row lies on one of so many days
 abbrev pub IsOnDays : ℕ → ℕ → Row → Type 0
-IsOnDays first count row = (first ≤ row.minute / 1440) × (row.minute / 1440 < first + count)
+IsOnDays first count row =
+    (first ≤ row.minute / MINUTES_A_DAY) × (row.minute / MINUTES_A_DAY < first + count)
 
 -- one of the rows is of the indicator, on that day
 abbrev pub has_day : List ℕ → List Row → ℕ → Bool
@@ -26,10 +28,10 @@ one_if b = cond b 1 0
 
 -- the first day that has a minute of [origin, until), and how many there are at most from it on
 abbrev pub first_day : ℕ → ℕ
-first_day origin = origin / 1440
+first_day origin = origin / MINUTES_A_DAY
 
 abbrev pub day_count : ℕ → ℕ → ℕ
-day_count origin until = (until - origin) / 1440 + 2
+day_count origin until = (until - origin) / MINUTES_A_DAY + 2
 
 -- how many of so many days from one on pass a test
 abbrev pub days_passing : (ℕ → Bool) → ℕ → ℕ → ℕ

@@ -9,10 +9,8 @@ ghost use Rattle.objective_days.specs.Days.{day_count, days_passing};
 
 use exact_fraction::Label;
 use sample_book::{Row, SampleBook};
+use slo_limits::MINUTES_A_DAY;
 use std::alloc::{AllocError, Global};
-
-/// The minutes of a day.
-const DAY: u32 = 1440;
 
 /// Days, one behind another.
 #[derive(Clone, Copy)]
@@ -29,8 +27,8 @@ impl Days {
         ensures count { result.count ≡ day_count origin until }
     {
         Days {
-            first: origin / DAY,
-            count: (until.saturating_sub(origin) / DAY) as usize + 2,
+            first: origin / MINUTES_A_DAY,
+            count: (until.saturating_sub(origin) / MINUTES_A_DAY) as usize + 2,
         }
     }
 }
@@ -59,7 +57,7 @@ fn marked_days(alloc: Global, days: Days, sli: Label, rows: &[Row]) -> Result<Ve
     let mut marks = vec![in alloc; false; days.count]?;
     for row in rows {
         if row.sli == sli {
-            marks[(row.minute / DAY - days.first) as usize] = true;
+            marks[(row.minute / MINUTES_A_DAY - days.first) as usize] = true;
         }
     }
     Ok(marks)

@@ -170,7 +170,7 @@ samples_fit origin moment members came entries rows few revised e = batch_fits o
     came rows (nat_lt most.MAX_BATCH_ROWS (length rows)) _ _ few revised refl e
 
 in_bounds : (origin from to : ℕ) → origin ≤ most.MAX_MINUTE
-    → (nat_le origin from && (nat_lt from to && nat_le to (origin + 2097152))) ≡ true
+    → (nat_le origin from && (nat_lt from to && nat_le to (origin + most.RANGE_MINUTES))) ≡ true
     → (from ≤ MAX_EXCLUDED_MINUTE) × (to ≤ MAX_EXCLUDED_MINUTE)
 in_bounds origin from to few range = (
   grind (arith, nat_tests, range, few),
