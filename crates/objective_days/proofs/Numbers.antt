@@ -15,7 +15,12 @@ abbrev times : List ℕ → ℕ → ℕ
 times xs d = amount_at (λ x. x) (λ x. 1) xs d
 
 times-cons : (x : ℕ) (xs : List ℕ) (d : ℕ) → times (x ∷ xs) d ≡ one_if (x == d) + times xs d
-times-cons x xs d = sum_by-cons (λ x. if x == d then 1 else 0) x xs
+times-cons x xs d =
+    sum_by-cons (λ x. if x == d then 1 else 0) x xs ∙ ap (λ n. n + times xs d) (one (x == d))
+  where
+    one : (b : Bool) → cond b 1 0 ≡ one_if b
+    one true = refl
+    one false = refl
 
 both : (x y d : ℕ) → (x == y) ≡ true → (x == d) ≡ (y == d)
 both x y d h = grind (arith, nat_tests, h)

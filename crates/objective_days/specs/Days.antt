@@ -1,5 +1,5 @@
 -- The days of an indicator, counted one by one.
-use Rattle.std.specs.Prelude.{ℕ, ◌+◌, ◌-◌, ◌/◌, ◌≤◌, ◌<◌, ◌||◌, Bool, false, cond, List, length}
+use Rattle.std.specs.Prelude.{ℕ, ◌+◌, ◌-◌, ◌/◌, ◌≤◌, ◌<◌, ◌||◌, Bool, true, false, List, length}
 use Rattle.std.specs.Prelude.{slice_index_or, Option, Some, None}
 use Rattle.slo_limits.specs.declared.TheConstants.{MINUTES_A_DAY}
 use Rattle.slo_objects.specs.declared.Object.{Object}
@@ -24,7 +24,8 @@ abbrev pub has_day : List ℕ → List Row → ℕ → Bool
 has_day sli rows day = list_any (is_on sli day) rows
 
 abbrev pub one_if : Bool → ℕ
-one_if b = cond b 1 0
+one_if true = 1
+one_if false = 0
 
 -- the first day that has a minute of [origin, until), and how many there are at most from it on
 abbrev pub first_day : ℕ → ℕ
