@@ -1,8 +1,10 @@
 -- Two outcomes that answer one query over one office are the same.
-use Rattle.std.proofs.Common.{◌≡◌, ℕ, ◌<◌, ◌≤◌, Bool, true, false, cond, length, List, Option, Some}
-use Rattle.std.proofs.Common.{None, refl, sym, ap, ◌∙◌, subst, arith}
+use Rattle.std.proofs.Common.{◌≡◌, ℕ, Bool, true, false, cond, length, List, Option, Some, None}
+use Rattle.std.proofs.Common.{sym, ap, ◌∙◌}
 use Rattle.slo_duration.specs.declared.duration.Duration.{Duration}
+use Rattle.zone_calendar.specs.Starts.{is_counted, start_at}
 use Rattle.zone_calendar.specs.Zone.{ZoneText}
+use Rattle.zone_calendar.proofs.LastLemmas.{one_last}
 use Rattle.slo_objects.specs.declared.slo.Calendar.{Calendar}
 use Rattle.slo_objects.specs.declared.Slo.{Slo}
 use Rattle.record_form.specs.declared.Outcome.{Outcome}
@@ -15,7 +17,7 @@ use Rattle.office_history.specs.History.{Office, end_of}
 use Rattle.office_history.specs.Catalog.{catalog_in}
 use Rattle.office_history.specs.Zones.{zones_in}
 use Rattle.office_history.specs.Objectives.{slo_named, measures_named}
-use Rattle.office_history.specs.Windows.{IsLastStart, BeginsIn, BeginsBy, WindowBegins}
+use Rattle.office_history.specs.Windows.{BeginsIn, BeginsBy, WindowBegins}
 use Rattle.office_history.specs.Alerts.{Watch, watched, state_at, is_watch_active}
 use Rattle.office_history.specs.Notices.{samples_in}
 use Rattle.office_history.specs.Answers.{Answers, AnswersBudgets, AnswersTimeline, asked_at}
@@ -32,39 +34,14 @@ choice : (t : Bool) (P Q : Outcome → Type 0) → ((a b : Outcome) → P a → 
 choice true P Q one_p one_q a b of_a of_b = one_p a b of_a of_b
 choice false P Q one_p one_q a b of_a of_b = one_q a b of_a of_b
 
-no_later : (zone : ZoneText) (calendar : Calendar) (step : Duration) (horizon minute s t : ℕ) →
-    IsLastStart zone calendar step horizon minute s →
-    IsLastStart zone calendar step horizon minute t → s ≤ t
-no_later zone calendar step horizon minute s t of_s of_t =
-    subst (λ (x : ℕ). x ≤ t) (sym of_s.started)
-    (of_t.greatest of_s.number of_s.counted (subst (λ (x : ℕ). x ≤ minute) of_s.started of_s.begun))
-
-one_in_zone : (zone : ZoneText) (calendar : Calendar) (step : Duration) (horizon minute : ℕ)
-    (s t : Option ℕ) →
-    BeginsIn (Some zone) calendar step horizon minute s →
-    BeginsIn (Some zone) calendar step horizon minute t → s ≡ t
-one_in_zone zone calendar step horizon minute None None of_s of_t = refl
-one_in_zone zone calendar step horizon minute None (Some t) of_s of_t =
-    let after = subst (λ (x : ℕ). minute < x) (sym of_t.started) (of_s of_t.number of_t.counted) in
-    let begun = of_t.begun in
-    absurd (omega arith)
-one_in_zone zone calendar step horizon minute (Some s) None of_s of_t =
-    let after = subst (λ (x : ℕ). minute < x) (sym of_s.started) (of_t of_s.number of_s.counted) in
-    let begun = of_s.begun in
-    absurd (omega arith)
-one_in_zone zone calendar step horizon minute (Some s) (Some t) of_s of_t =
-    let up = no_later zone calendar step horizon minute s t of_s of_t in
-    let down = no_later zone calendar step horizon minute t s of_t of_s in
-    let same : s ≡ t = omega arith in
-    ap Some same
-
 one_start : (zone : Option ZoneText) (calendar : Calendar) (step : Duration) (horizon minute : ℕ)
     (s t : Option ℕ) →
     BeginsIn zone calendar step horizon minute s →
     BeginsIn zone calendar step horizon minute t → s ≡ t
 one_start None calendar step horizon minute s t of_s of_t = of_s ∙ sym of_t
 one_start (Some zone) calendar step horizon minute s t of_s of_t =
-    one_in_zone zone calendar step horizon minute s t of_s of_t
+    one_last (λ k. is_counted calendar.start_time step horizon k ≡ true)
+    (start_at zone calendar.start_time step) minute s t of_s of_t
 
 -- a window begins at one minute
 one_begin : (zones : List (List ℕ × List ℕ)) (duration : Duration) (horizon minute : ℕ)

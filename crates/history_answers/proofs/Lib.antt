@@ -1,6 +1,5 @@
 mod BudgetLemmas
 mod LawLemmas
 mod SpanLemmas
-mod StartLemmas
 mod SumLemmas
 mod TimelineLemmas

@@ -1,9 +1,9 @@
 -- The window over which an SLO's budget is counted at a minute (OpenSLO v1, `timeWindow`).
-use Rattle.std.specs.Prelude.{◌≡◌, ℕ, ◌-◌, ◌*◌, ◌<◌, ◌≤◌, true, List, Option, Some, None}
+use Rattle.std.specs.Prelude.{◌≡◌, ℕ, ◌-◌, ◌*◌, List, Option, Some, None}
 use Rattle.slo_duration.specs.declared.Duration.{Duration}
 use Rattle.slo_duration.specs.Unit.{unit_minutes}
+use Rattle.definition_verdict.specs.zone_calendar.Window.{IsLastStart}
 use Rattle.definition_verdict.specs.zone_calendar.Zone.{ZoneText}
-use Rattle.definition_verdict.specs.zone_calendar.Starts.{is_counted, start_at}
 use Rattle.definition_verdict.specs.slo_objects.declared.slo.Calendar.{Calendar}
 use Rattle.definition_verdict.specs.slo_objects.declared.slo.TimeWindow.{TimeWindow}
 use Rattle.office_history.specs.Zones.{zone_named}
@@ -12,29 +12,12 @@ use Rattle.office_history.specs.Zones.{zone_named}
 abbrev pub minutes_of : Duration → ℕ
 minutes_of duration = duration.count * unit_minutes duration.unit
 
--- the greatest start of a calendar at or before a minute, of all that lie below the horizon
-pub record IsLastStart (zone : ZoneText) (calendar : Calendar) (step : Duration)
-    (horizon minute start : ℕ) : Type 0 where
-  pub number : ℕ
-  pub counted : is_counted calendar.start_time step horizon number ≡ true
-  pub started : start ≡ start_at zone calendar.start_time step number
-  pub begun : start ≤ minute
-  pub greatest : (k : ℕ) → is_counted calendar.start_time step horizon k ≡ true →
-      start_at zone calendar.start_time step k ≤ minute →
-      start_at zone calendar.start_time step k ≤ start
-
--- no start of a calendar is at or before a minute
-abbrev pub HasNotBegun : ZoneText → Calendar → Duration → ℕ → ℕ → Type 0
-HasNotBegun zone calendar step horizon minute =
-    (k : ℕ) → is_counted calendar.start_time step horizon k ≡ true
-    → minute < start_at zone calendar.start_time step k
-
+-- the last start of a calendar at or before a minute, of all that lie below the horizon, by the
+-- clock of its zone; none where the zone isn't there
 abbrev pub BeginsIn : Option ZoneText → Calendar → Duration → ℕ → ℕ → Option ℕ → Type 0
 BeginsIn None calendar step horizon minute start = start ≡ None
-BeginsIn (Some zone) calendar step horizon minute None =
-    HasNotBegun zone calendar step horizon minute
-BeginsIn (Some zone) calendar step horizon minute (Some start) =
-    IsLastStart zone calendar step horizon minute start
+BeginsIn (Some zone) calendar step horizon minute start =
+    IsLastStart zone calendar.start_time step horizon minute start
 
 abbrev pub BeginsBy : List (List ℕ × List ℕ) → Duration → ℕ → ℕ → Option Calendar
     → Option ℕ → Type 0
