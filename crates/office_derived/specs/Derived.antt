@@ -49,7 +49,7 @@ IsPlaced origin row = (origin ≤ row.minute) × (row.minute < end_of origin)
 
 -- what is kept agrees in itself
 pub record IsSound (d : Derived) : Type 0 where
-  pub origin : d.origin < 67108864
+  pub origin : d.origin ≤ most.MAX_MINUTE
   pub entries : d.entries ≤ most.MAX_ENTRIES
   pub cells : length d.book.rows ≤ most.MAX_CELLS
   pub accepted : d.accepted ≤ most.MAX_ACCEPTED_ROWS

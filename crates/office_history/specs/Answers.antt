@@ -1,7 +1,8 @@
 -- What a query answers over a history.
 use Rattle.std.specs.Prelude.{◌≡◌, ℕ, ◌+◌, ◌-◌, ◌||◌, ◌==◌, Bool, cond, nat_lt, nat_le, List, []}
 use Rattle.std.specs.Prelude.{◌∷◌, map, filter, take, length, Option, Some, None, ◌&&◌, true}
-use Rattle.slo_limits.specs.declared.TheConstants.{MAX_LOOKBACK, MAX_TIMELINE}
+use Rattle.slo_limits.specs.declared.TheConstants.{MAX_LOOKBACK, MAX_NOTICES_IN_ANSWER}
+use Rattle.slo_limits.specs.declared.TheConstants.{MAX_TIMELINE}
 use Rattle.exact_fraction.specs.declared.Leaf.{Leaf}
 use Rattle.slo_terms.specs.Budget.{burn_of, error_rate_of, remaining_of}
 use Rattle.definition_verdict.specs.yaml_subset.Spelling.{writing}
@@ -111,9 +112,10 @@ AnswersTimeline o moment from to (Some w) outcome =
     (state_at o.origin (samples_in o.history) w moment)))
     (outcome ≡ Refused refusals.Range)
 
--- the first 1,000 of the notices that wait
+-- the first of the notices that wait, as many as an answer has at most
 abbrev pub first_waiting : List (Notice × Bool) → List Notice
-first_waiting made = take 1000 (map (λ kept. kept.0) (filter (λ kept. kept.1) made))
+first_waiting made =
+    take MAX_NOTICES_IN_ANSWER (map (λ kept. kept.0) (filter (λ kept. kept.1) made))
 
 -- the answer to a query at a moment
 abbrev pub Answers : Office → ℕ → Query → Outcome → Type 0

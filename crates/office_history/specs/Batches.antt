@@ -1,7 +1,7 @@
 -- What becomes of a batch of rows, judged row by row, each behind those before it.
 use Rattle.std.specs.Prelude.{ℕ, ◌+◌, ◌*◌, ◌/◌, ◌||◌, ◌==◌, Bool, true, false, cond, nat_lt, nat_le}
 use Rattle.std.specs.Prelude.{List, [], ◌∷◌, map, filter, length, sum_by, Option, Some, None}
-use Rattle.slo_limits.specs.declared.TheConstants.{WHOLE, MAX_AMOUNT}
+use Rattle.slo_limits.specs.declared.TheConstants.{MAX_AMOUNT, MINUTES_A_DAY, WHOLE}
 use Rattle.slice_method.specs.declared.Amount.{Amount}
 use Rattle.slice_method.specs.declared.Amount.TheVariants as amounts
 use Rattle.slice_method.specs.declared.Reading.{Reading}
@@ -100,7 +100,7 @@ sampled vs entry = Sampled entry (count is_new vs) (count is_newer vs) (count is
 -- the days that have a current row of an indicator
 abbrev pub days_of : List Row → List ℕ → ℕ
 days_of rows sli = length (first_of_each (λ a b. a == b)
-    (map (λ (row : Row). row.minute / 1440) (filter (is_of sli) rows)))
+    (map (λ (row : Row). row.minute / MINUTES_A_DAY) (filter (is_of sli) rows)))
 
 abbrev pub days_of_slo : List Row → Option Slo → ℕ
 days_of_slo rows None = 0

@@ -1,6 +1,7 @@
 //! Exclusions and their liftings.
-ghost use Rattle.std.specs.Prelude.{◌≡◌, ◌<◌, ◌++◌, ◌∷◌, ◌||◌, [], ℕ, List, true, OnOk, Some};
+ghost use Rattle.std.specs.Prelude.{◌≡◌, ◌≤◌, ◌++◌, ◌∷◌, ◌||◌, [], ℕ, List, true, OnOk, Some};
 ghost use Rattle.std.specs.Prelude.{is_none, length};
+ghost use Rattle.slo_limits.specs.declared.TheConstants.{MAX_MINUTE};
 ghost use Rattle.sample_book.specs.declared.Exclusion.{Exclusion};
 ghost use Rattle.sample_book.specs.Exclusions.{IsLive, excludes, exclusion_of, is_excluded};
 ghost use Rattle.record_form.specs.declared.Command.TheVariants as commands;
@@ -45,7 +46,7 @@ fn is_same_content(a: &Exclusion, b: &Exclusion) -> bool
 
 /// Whether an exclusion is of minutes of the office, one at least.
 fn is_range(origin: u32, value: &Exclusion) -> bool
-    requires { origin < 67108864 }
+    requires { origin ≤ MAX_MINUTE }
     ensures { result ≡ is_range_lem origin value.now }
 {
     origin <= value.from && value.from < value.to && value.to <= origin + RANGE_MINUTES
@@ -58,7 +59,7 @@ fn new_exclusion_fault(
     made: u32,
     value: &Exclusion,
 ) -> Option<Refusal>
-    requires { origin < 67108864 }
+    requires { origin ≤ MAX_MINUTE }
     ensures { result ≡ new_exclusion_fault_lem origin catalog.now made value.now }
 {
     if has_no_slo(catalog, value.slo) {

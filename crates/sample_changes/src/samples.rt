@@ -3,6 +3,7 @@ ghost use Rattle.std.specs.Prelude.{◌≡◌, ◌+◌, ◌<◌, ◌≤◌, ◌+
 ghost use Rattle.std.specs.Prelude.{OnOk, cond, length, map};
 ghost use Rattle.std.specs.Global.{Vec};
 ghost use Rattle.slo_limits.specs.declared.TheConstants.{MAX_BATCH_ROWS as most_rows};
+ghost use Rattle.slo_limits.specs.declared.TheConstants.{MAX_MINUTE, RANGE_MINUTES};
 ghost use Rattle.sample_book.specs.declared.RowVerdict.{RowVerdict};
 ghost use Rattle.sample_book.specs.Rows.{cell_of, current_rows, verdict_of};
 ghost use Rattle.sample_book.specs.History.{Came, Event, Gains, Holds, MayComeAll, MayComeAs};
@@ -33,8 +34,8 @@ use std::alloc::{AllocError, Global};
 
 /// A minute before which all rows of an office lie, and those that are over at the moment.
 fn end_of_rows(origin: u32, moment: u32) -> u32
-    requires { origin < 67108864 }
-    ensures range { origin + 2097152 ≤ result }
+    requires { origin ≤ MAX_MINUTE }
+    ensures range { origin + RANGE_MINUTES ≤ result }
     ensures moment { moment ≤ result }
 {
     moment.max(origin + RANGE_MINUTES)
