@@ -27,7 +27,8 @@ use Rattle.record_form.specs.declared.Refusal.TheVariants as refusals
 use Rattle.definition_verdict.specs.Verdict.{Known}
 use Rattle.office_history.specs.declared.Judgement.{Judgement}
 use Rattle.office_history.specs.declared.Judgement.TheVariants.{Accepted, Same}
-use Rattle.office_history.specs.Batches.{batch_fault, days_of_slo, objective_days, sampled, when}
+use Rattle.office_history.specs.Batches.{batch_fault, batch_outcome, days_of_slo, objective_days}
+use Rattle.office_history.specs.Batches.{when}
 use Rattle.office_history.specs.Catalog.{catalog_in, definitions_of, members_after, text_objects}
 use Rattle.office_history.specs.History.{accepted_rows, current_in, rows_in, rows_of}
 use Rattle.office_history.specs.Judges.{Judges, JudgesText, defined, refused, known_of}
@@ -91,7 +92,7 @@ batch_days origin m members came entries rows e =
     (refusals.Limit limits.Accepted))
     (objective_days members (current_rows (came ++ rows)))
     (cond (list_any is_put (verdicts came rows)) (accepted entries)
-    (Same (sampled (verdicts came rows) None))) e
+    (Same (batch_outcome (verdicts came rows) None))) e
 
 -- objects that are left come to no more than all
 fewer : (f : Object → ℕ) (p : Object → Bool) (os : List Object) →

@@ -19,12 +19,12 @@ use Rattle.record_form.specs.declared.Refusal.{Refusal}
 use Rattle.record_form.specs.declared.Refusal.TheVariants as refusals
 use Rattle.office_history.specs.declared.Judgement.{Judgement}
 use Rattle.office_history.specs.declared.Judgement.TheVariants.{Accepted, Same, Refused}
-use Rattle.office_history.specs.Batches.{sampled}
+use Rattle.office_history.specs.Batches.{batch_outcome}
 use Rattle.office_history.specs.Catalog.{catalog_in}
 use Rattle.office_history.specs.History.{present, rows_in, rows_of}
 use Rattle.office_history.specs.Judges.{Judges}
 use Rattle.office_history.specs.Legal.{IsLegal, office}
-use Rattle.office_history.specs.Notices.{is_taken, takes}
+use Rattle.office_history.specs.Notices.{is_taken, is_taking}
 use Rattle.office_history.specs.Verdicts.{accepted, samples_fault, unless_refused}
 use Rattle.office_derived.specs.Derived.{IsRead}
 use Rattle.sample_changes.specs.Once as samples
@@ -81,7 +81,8 @@ batch_brings_nothing law origin h before after e rows legal split is =
     let now = present (office origin h) in
     let vs = verdicts (rows_in h) rows in
     puts_nothing (samples_fault origin now (catalog_in h) (rows_in h) rows) (list_any is_put vs)
-    (length h) (sampled vs None) (law origin h before after e rows now legal split is (omega arith))
+    (length h) (batch_outcome vs None)
+    (law origin h before after e rows now legal split is (omega arith))
 
 -- EACH CHANGE
 
@@ -90,9 +91,9 @@ was_taken : (before after : List Entry) (e : Entry) (number : ℕ) → e.command
     is_taken (before ++ e ∷ after) number ≡ true
 was_taken [] after e number is =
     ap (λ b. b || is_taken after number)
-    (ap (takes number) is ∙ eq-eqb number number refl)
+    (ap (is_taking number) is ∙ eq-eqb number number refl)
 was_taken (x ∷ before) after e number is =
-    or_right (takes number x.command) (is_taken (before ++ e ∷ after) number)
+    or_right (is_taking number x.command) (is_taken (before ++ e ∷ after) number)
     (was_taken before after e number is)
 
 -- what is known of the changes of each kind
@@ -116,7 +117,8 @@ changes_act_once laws origin h before after e moment judgement legal split later
     by : (c : Command) → e.command ≡ c → repeated_judgement h c ≡ Some judgement →
         Judges (office origin h) moment c judgement
     by (Samples rows) is g =
-        as_said origin h moment (Samples rows) (Same (sampled (verdicts (rows_in h) rows) None))
+        as_said origin h moment (Samples rows)
+        (Same (batch_outcome (verdicts (rows_in h) rows) None))
         judgement g (laws.batch origin h before after e rows moment legal split is later)
     by (PutZone name bytes) is g =
         as_said origin h moment (PutZone name bytes) (Same (Changed None)) judgement g
@@ -156,7 +158,7 @@ not_accepted : (origin : ℕ) (h : List Entry) (moment : ℕ) (c : Command) →
     ((j : Judgement) → repeated_judgement h c ≡ Some j → Judges (office origin h) moment c j) →
     Judges (office origin h) moment c Accepted → repeated_judgement h c ≡ None
 not_accepted origin h moment (Samples rows) once v =
-    let outcome = sampled (verdicts (rows_in h) rows) None in
+    let outcome = batch_outcome (verdicts (rows_in h) rows) None in
     absurd (not_same outcome (v ∙ sym (once (Same outcome) refl)))
 not_accepted origin h moment (PutZone name bytes) once v =
     absurd (not_same (Changed None) (v ∙ sym (once (Same (Changed None)) refl)))

@@ -12,7 +12,7 @@ use Rattle.record_form.specs.declared.Outcome.TheVariants.{Changed}
 use Rattle.record_form.specs.declared.Refusal.TheVariants as refusals
 use Rattle.office_history.specs.declared.Judgement.{Judgement}
 use Rattle.office_history.specs.declared.Judgement.TheVariants.{Same, Refused}
-use Rattle.office_history.specs.Batches.{sampled}
+use Rattle.office_history.specs.Batches.{batch_outcome}
 use Rattle.office_history.specs.History.{present, rows_in}
 use Rattle.office_history.specs.Judges.{Judges}
 use Rattle.office_history.specs.Legal.{IsLegal, office}
@@ -23,7 +23,8 @@ abbrev pub BatchActsOnce : Type 0
 BatchActsOnce = (origin : ℕ) (h before after : List Entry) (e : Entry) (rows : List Row)
     (moment : ℕ) → IsLegal origin h → h ≡ before ++ e ∷ after → e.command ≡ Samples rows →
     present (office origin h) ≤ moment →
-    Judges (office origin h) moment (Samples rows) (Same (sampled (verdicts (rows_in h) rows) None))
+    Judges (office origin h) moment (Samples rows)
+    (Same (batch_outcome (verdicts (rows_in h) rows) None))
 
 -- none of its rows is new then, or newer than what is kept
 abbrev pub BatchBringsNothing : Type 0
@@ -35,7 +36,7 @@ BatchBringsNothing = (origin : ℕ) (h before after : List Entry) (e : Entry) (r
 -- only an exclusion whose id was lifted is withdrawn. Nothing is said of a definition, a removal
 -- and a tick, which may change something again.
 abbrev pub repeated_judgement : List Entry → Command → Option Judgement
-repeated_judgement h (Samples rows) = Some (Same (sampled (verdicts (rows_in h) rows) None))
+repeated_judgement h (Samples rows) = Some (Same (batch_outcome (verdicts (rows_in h) rows) None))
 repeated_judgement h (PutZone name bytes) = Some (Same (Changed None))
 repeated_judgement h (Exclude value) = Some
     (cond (is_lifted h value.id) (Refused (refusals.Withdrawn value.id)) (Same (Changed None)))

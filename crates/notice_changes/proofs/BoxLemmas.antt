@@ -10,7 +10,7 @@ use Rattle.burn_core.specs.declared.State.{State}
 use Rattle.notice_box.specs.declared.Notice.{Notice}
 use Rattle.notice_box.specs.Box.{AreNumbered, notices_of, taken}
 use Rattle.slo_catalog.specs.declared.Binding.{Binding}
-use Rattle.office_history.specs.Notices.{Told, notice_of, numbered, waiting}
+use Rattle.office_history.specs.Notices.{Told, notice_of, notices_from, waiting}
 use Rattle.office_history.specs.Verdicts.{is_waiting}
 use Rattle.notice_changes.specs.Works.{new_notices}
 
@@ -118,15 +118,16 @@ waiting_at from (suc place) (kept ∷ made) are = by (eqb_tells kept.0.number (f
     by (inr other) rest = rw other.0 rest
 
 pub numbered_more : (number : ℕ) (xs ys : List Told)
-    → numbered number (xs ++ ys) ≡ numbered number xs ++ numbered (number + length xs) ys
-numbered_more number [] ys = ap (λ k. numbered k ys) (omega arith)
+    → notices_from number (xs ++ ys)
+    ≡ notices_from number xs ++ notices_from (number + length xs) ys
+numbered_more number [] ys = ap (λ k. notices_from k ys) (omega arith)
 numbered_more number (x ∷ xs) ys =
     ap (λ ns. notice_of number x ∷ ns) (numbered_more (number + 1) xs ys
-    ∙ ap (λ k. numbered (number + 1) xs ++ numbered k ys) (moved number (length xs)))
+    ∙ ap (λ k. notices_from (number + 1) xs ++ notices_from k ys) (moved number (length xs)))
   where
     moved : (number n : ℕ) → number + 1 + n ≡ number + suc n
     moved number n = omega arith
 
-pub length_numbered : (number : ℕ) (xs : List Told) → length (numbered number xs) ≡ length xs
+pub length_numbered : (number : ℕ) (xs : List Told) → length (notices_from number xs) ≡ length xs
 length_numbered number [] = refl
 length_numbered number (x ∷ xs) = ap suc (length_numbered (number + 1) xs)

@@ -16,7 +16,8 @@ use Rattle.office_history.specs.declared.Judgement.TheVariants.{Accepted, Same, 
 use Rattle.office_history.specs.History.{Office, with_entry}
 use Rattle.office_history.specs.Judges.{Judges}
 use Rattle.office_history.specs.Legal.{IsLegal, empty, followed, office}
-use Rattle.office_history.specs.Notices.{Told, is_taken, notices_in, numbered, takes, told_at}
+use Rattle.office_history.specs.Notices.{Told, is_taken, is_taking, notices_from, notices_in}
+use Rattle.office_history.specs.Notices.{told_at}
 use Rattle.office_history.specs.Notices.{told_in}
 use Rattle.office_history.specs.Verdicts.{accepted, is_waiting}
 use Rattle.office_derived.proofs.More.{taken_more, told_more}
@@ -26,7 +27,7 @@ use Rattle.notice_changes.proofs.TakeLemmas.{take_within}
 
 count_notices : (o : Office) → length (notices_in o) ≡ length (told_in o)
 count_notices o =
-    length-map (numbered 1 (told_in o)) (λ (n : Notice). (n, not (is_taken o.history n.number)))
+    length-map (notices_from 1 (told_in o)) (λ (n : Notice). (n, not (is_taken o.history n.number)))
     ∙ length_numbered 1 (told_in o)
 
 same_number : (a b : ℕ) → (a == b) ≡ true → a ≡ b
@@ -37,7 +38,7 @@ same_number a b h = by (eqb_tells a b)
     by (inr other) = let none : false ≡ true = sym other.0 ∙ h in cc none
 
 -- only its taking takes a notice
-taking : (c : Command) (number : ℕ) → takes number c ≡ true → c ≡ Take number
+taking : (c : Command) (number : ℕ) → is_taking number c ≡ true → c ≡ Take number
 taking (Take n) number h = ap Take (sym (same_number number n h))
 taking Tick number h = cc h
 taking (Define text) number h = cc h
@@ -52,7 +53,7 @@ taken_within : (origin : ℕ) (h : List Entry) → IsLegal origin h → (number 
     → is_taken h number ≡ true → (0 < number) × (number ≤ length (told_in (office origin h)))
 taken_within origin _ empty number t = cc t
 taken_within origin _ (followed {h = h} e legal may) number t =
-    by (is_taken h number) (takes number e.command) refl refl
+    by (is_taken h number) (is_taking number e.command) refl refl
     (λ was. taken_within origin h legal number was) (sym (taken_more h e number) ∙ t)
   where
     grown : (n : ℕ) → n ≤ length (told_in (office origin h))
@@ -64,7 +65,7 @@ taken_within origin _ (followed {h = h} e legal may) number t =
         ∙ length-append (told_in (office origin h)) (told_at (office origin h) e) in
         omega (arith, le, more)
 
-    now : takes number e.command ≡ true
+    now : is_taking number e.command ≡ true
         → (0 < number) × (number ≤ length (told_in (with_entry (office origin h) e)))
     now took =
         let judged : Judges (office origin h) e.moment (Take number) Accepted =
@@ -74,9 +75,9 @@ taken_within origin _ (followed {h = h} e legal may) number t =
         let count = count_notices (office origin h) in
         (within.0, grown number (omega (arith, within.1, count)))
 
-    by : (a b : Bool) → is_taken h number ≡ a → takes number e.command ≡ b →
+    by : (a b : Bool) → is_taken h number ≡ a → is_taking number e.command ≡ b →
         (is_taken h number ≡ true → (0 < number) × (number ≤ length (told_in (office origin h)))) →
-        (is_taken h number || takes number e.command) ≡ true →
+        (is_taken h number || is_taking number e.command) ≡ true →
         (0 < number) × (number ≤ length (told_in (with_entry (office origin h) e)))
     by true b was took before t = let w = before was in (w.0, grown number w.1)
     by false true was took before t = now took
@@ -104,7 +105,7 @@ taking_once origin h number moment legal t =
     let within = taken_within origin h legal number t in
     let count = count_notices o in
     sym (by (number == 0) (nat_lt (length (notices_in o)) number) (is_waiting (notices_in o) number)
-    refl refl (no_more h number (numbered 1 (told_in o)) t) within.0
+    refl refl (no_more h number (notices_from 1 (told_in o)) t) within.0
     (omega (arith, within.1, count)))
   where
     by : (a b w : Bool) → (number == 0) ≡ a →
@@ -121,22 +122,22 @@ notices_back : (flag : Notice → Bool) (ns : List Notice)
 notices_back flag [] = refl
 notices_back flag (n ∷ ns) = ap (λ ns. n ∷ ns) (notices_back flag ns)
 
-are_numbered : (number : ℕ) (ts : List Told) → AreNumbered number (numbered number ts)
+are_numbered : (number : ℕ) (ts : List Told) → AreNumbered number (notices_from number ts)
 are_numbered number [] = tt
 are_numbered number (t ∷ ts) = (refl, are_numbered (number + 1) ts)
 
 pub in_order : NoticesAreInOrder
 in_order o = subst (AreNumbered 1)
-    (sym (notices_back (λ n. not (is_taken o.history n.number)) (numbered 1 (told_in o))))
+    (sym (notices_back (λ n. not (is_taken o.history n.number)) (notices_from 1 (told_in o))))
     (are_numbered 1 (told_in o))
 
 pub notices_kept : NoticesStay
 notices_kept o e = (
-  numbered (1 + length (told_in o)) (told_at o e),
+  notices_from (1 + length (told_in o)) (told_at o e),
   notices_back (λ n. not (is_taken (with_entry o e).history n.number))
-      (numbered 1 (told_in (with_entry o e)))
-      ∙ ap (numbered 1) (told_more o e)
+      (notices_from 1 (told_in (with_entry o e)))
+      ∙ ap (notices_from 1) (told_more o e)
       ∙ numbered_more 1 (told_in o) (told_at o e)
-      ∙ ap (λ ns. ns ++ numbered (1 + length (told_in o)) (told_at o e))
-      (sym (notices_back (λ n. not (is_taken o.history n.number)) (numbered 1 (told_in o)))),
+      ∙ ap (λ ns. ns ++ notices_from (1 + length (told_in o)) (told_at o e))
+      (sym (notices_back (λ n. not (is_taken o.history n.number)) (notices_from 1 (told_in o)))),
 )

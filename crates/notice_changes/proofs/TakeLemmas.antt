@@ -19,7 +19,7 @@ use Rattle.office_history.specs.History.{Office, with_entry, present, rows_in, c
 use Rattle.office_history.specs.History.{events_in, accepted_rows}
 use Rattle.office_history.specs.Zones.{zones_in}
 use Rattle.office_history.specs.Judges.{Judges}
-use Rattle.office_history.specs.Notices.{is_taken, notices_in, numbered, told_in, waiting}
+use Rattle.office_history.specs.Notices.{is_taken, notices_in, notices_from, told_in, waiting}
 use Rattle.office_history.specs.Verdicts.{accepted, is_waiting, take_verdict}
 use Rattle.office_derived.specs.declared.Derived.{Derived}
 use Rattle.office_derived.specs.Derived.{IsSound, Reflects}
@@ -62,11 +62,11 @@ next_within d o moment number r judged =
 pub notices_taken : (o : Office) (moment number : ℕ)
     → taken (notices_in o) number ≡ notices_in (with_entry o (take_at moment number))
 notices_taken o moment number =
-    all (numbered 1 (told_in o))
+    all (notices_from 1 (told_in o))
     ∙ ap (λ ts. map (λ (n : Notice). (
       n,
       not (is_taken (o.history ++ take_at moment number ∷ []) n.number),
-    )) (numbered 1 ts))
+    )) (notices_from 1 ts))
     (sym (told_still o (take_at moment number) refl))
   where
     both : (a b : Bool) → (not a && not b) ≡ not (a || b)
@@ -125,7 +125,7 @@ reflects_take d d' o moment number r later within origin entries now catalog zon
 
     few : number ≤ length (told_in o)
     few = let many : length d.notices.made ≡ length (told_in o) =
-        ap length r.notices ∙ length-map (numbered 1 (told_in o)) (λ (n : Notice).
+        ap length r.notices ∙ length-map (notices_from 1 (told_in o)) (λ (n : Notice).
         (n, not (is_taken o.history n.number))) ∙ length_numbered 1 (told_in o) in
         omega (arith, within, many)
 

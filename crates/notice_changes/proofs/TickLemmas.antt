@@ -25,7 +25,7 @@ use Rattle.office_history.specs.Zones.{zones_in}
 use Rattle.office_history.specs.Alerts.{state_if, states_at, watch_of}
 use Rattle.office_history.specs.Lists.{last_of}
 use Rattle.office_history.specs.Notices.{changes, is_taken, last_states, notice_of, notices_in}
-use Rattle.office_history.specs.Notices.{numbered, samples_in, states_of_tick, states_over}
+use Rattle.office_history.specs.Notices.{notices_from, samples_in, states_of_tick, states_over}
 use Rattle.office_history.specs.Notices.{tick_changes}
 use Rattle.office_history.specs.Notices.{ticks_in, told_at, told_in, waiting}
 use Rattle.office_history.specs.Batches.{when}
@@ -181,7 +181,7 @@ few_told o moment (works.Take number) judged found = tt
 fresh : (h : List Entry) (moment number : ℕ) (told : List (Binding × State)) →
     ((k : ℕ) → number ≤ k → is_taken h k ≡ false) →
     map (λ (n : Notice). (n, not (is_taken h n.number)))
-    (numbered number (map (λ c. (moment, c)) told)) ≡ new_notices moment number told
+    (notices_from number (map (λ c. (moment, c)) told)) ≡ new_notices moment number told
 fresh h moment number [] none = refl
 fresh h moment number (c ∷ told) none =
     (λ i. (notice_of number (moment, c), not (none number (omega arith) i))
@@ -197,13 +197,13 @@ notices_told o moment told e none =
     let h' = o.history ++ tick_at moment ∷ [] in
     let flag : Notice → Notice × Bool = λ n. (n, not (is_taken h' n.number)) in
     let many : length (notices_in o) ≡ length (told_in o) =
-    length-map (numbered 1 (told_in o)) (λ (n : Notice). (n, not (is_taken o.history n.number)))
+    length-map (notices_from 1 (told_in o)) (λ (n : Notice). (n, not (is_taken o.history n.number)))
     ∙ length_numbered 1 (told_in o) in
-    let old : notices_in o ≡ map flag (numbered 1 (told_in o)) =
+    let old : notices_in o ≡ map flag (notices_from 1 (told_in o)) =
     map_ext (λ (n : Notice). (n, not (is_taken o.history n.number))) flag (λ n. ap (λ b. (n, not b))
-    (sym (taken_still o.history (tick_at moment) n.number refl))) (numbered 1 (told_in o)) in
+    (sym (taken_still o.history (tick_at moment) n.number refl))) (notices_from 1 (told_in o)) in
     let new : new_notices moment (length (notices_in o) + 1) told
-    ≡ map flag (numbered (1 + length (told_in o)) (map (λ c. (moment, c)) told)) =
+    ≡ map flag (notices_from (1 + length (told_in o)) (map (λ c. (moment, c)) told)) =
     ap (λ k. new_notices moment k told) (omega (arith, many))
     ∙ sym (fresh h' moment (1 + length (told_in o)) told
     (λ k l. taken_still o.history (tick_at moment) k refl ∙ none k (omega (arith, l)))) in
@@ -211,10 +211,10 @@ notices_told o moment told e none =
     told_more o (tick_at moment) ∙ ap (λ ts. told_in o ++ ts) (told_by_tick o moment
     ∙ ap (map (λ c. (moment, c))) (sym e)) in
     (λ i. old i ++ new i)
-    ∙ sym (map-append flag (numbered 1 (told_in o))
-    (numbered (1 + length (told_in o)) (map (λ c. (moment, c)) told)))
+    ∙ sym (map-append flag (notices_from 1 (told_in o))
+    (notices_from (1 + length (told_in o)) (map (λ c. (moment, c)) told)))
     ∙ ap (map flag) (sym (numbered_more 1 (told_in o) (map (λ c. (moment, c)) told)))
-    ∙ ap (λ ts. map flag (numbered 1 ts)) (sym all)
+    ∙ ap (λ ts. map flag (notices_from 1 ts)) (sym all)
 
 -- the last tick is this one
 pub last_tick : (o : Office) (moment : ℕ)

@@ -20,7 +20,8 @@ use Rattle.kept_objectives.specs.office_history.History.{changes_in, events_of, 
 use Rattle.kept_objectives.specs.office_history.Catalog.{catalog_in, definitions_of, definitions_in}
 use Rattle.kept_objectives.specs.office_history.Catalog.{members_after}
 use Rattle.kept_objectives.specs.office_history.Zones.{zones_of, zones_in}
-use Rattle.kept_objectives.specs.office_history.Notices.{tick_of, ticks_in, told_at, told_in, takes}
+use Rattle.kept_objectives.specs.office_history.Notices.{is_taking, tick_of, ticks_in, told_at}
+use Rattle.kept_objectives.specs.office_history.Notices.{told_in}
 use Rattle.kept_objectives.specs.office_history.Notices.{is_taken}
 use Rattle.office_derived.proofs.Lists.{flat-push}
 
@@ -68,9 +69,9 @@ pub ticks_more : (o : Office) (e : Entry)
 ticks_more o e = flat-push (λ (p : List Entry × Entry). tick_of o.origin p.0 p.1) o.history e
 
 pub taken_more : (h : List Entry) (e : Entry) (number : ℕ)
-    → is_taken (h ++ e ∷ []) number ≡ (is_taken h number || takes number e.command)
-taken_more h e number = list_any-append (λ (e : Entry). takes number e.command) h (e ∷ [])
-    ∙ ap (λ b. is_taken h number || b) (or-false (takes number e.command))
+    → is_taken (h ++ e ∷ []) number ≡ (is_taken h number || is_taking number e.command)
+taken_more h e number = list_any-append (λ (e : Entry). is_taking number e.command) h (e ∷ [])
+    ∙ ap (λ b. is_taken h number || b) (or-false (is_taking number e.command))
   where
     or-false : (b : Bool) → (b || false) ≡ b
     or-false true = refl

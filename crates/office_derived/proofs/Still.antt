@@ -17,7 +17,8 @@ use Rattle.kept_objectives.specs.office_history.Catalog.{definitions_of, members
 use Rattle.kept_objectives.specs.office_history.Zones.{zones_of}
 use Rattle.kept_objectives.specs.office_history.Notices.{is_tick, tick_of, ticks_in, last_states}
 use Rattle.kept_objectives.specs.office_history.Notices.{told_at, told_in}
-use Rattle.kept_objectives.specs.office_history.Notices.{takes, is_taken, notices_in, numbered}
+use Rattle.kept_objectives.specs.office_history.Notices.{is_taken, is_taking, notices_from}
+use Rattle.kept_objectives.specs.office_history.Notices.{notices_in}
 use Rattle.kept_objectives.specs.office_history.Notices.{states_of_tick}
 use Rattle.kept_objectives.specs.office_history.Notices.{tick_changes}
 use Rattle.kept_objectives.specs.office_history.Lists.{last_of}
@@ -32,7 +33,7 @@ use Rattle.office_derived.proofs.More.{event_changes}
 -- a command that neither ticks nor takes
 pub record IsStill (c : Command) : Type 0 where
   pub no_tick : is_tick c ≡ false
-  pub no_taking : (number : ℕ) → takes number c ≡ false
+  pub no_taking : (number : ℕ) → is_taking number c ≡ false
 
 nothing_told : (o : Office) (e : Entry) → is_tick e.command ≡ false → told_at o e ≡ []
 nothing_told o e h = ap (λ b.
@@ -57,7 +58,7 @@ pub states_still : (o : Office) (e : Entry) → is_tick e.command ≡ false
     → last_states (with_entry o e) ≡ last_states o
 states_still o e h = ap (λ ts. states_of_tick (last_of ts)) (ticks_still o e h)
 
-pub taken_still : (h : List Entry) (e : Entry) (number : ℕ) → takes number e.command ≡ false
+pub taken_still : (h : List Entry) (e : Entry) (number : ℕ) → is_taking number e.command ≡ false
     → is_taken (h ++ e ∷ []) number ≡ is_taken h number
 taken_still h e number not-taken = taken_more h e number
     ∙ ap (λ b. is_taken h number || b) not-taken ∙ or-false (is_taken h number)
@@ -70,11 +71,11 @@ pub notices_still : (o : Office) (e : Entry) → IsStill e.command
     → notices_in (with_entry o e) ≡ notices_in o
 notices_still o e still =
     ap (λ ts. map (λ (n : Notice). (n, not (is_taken (o.history ++ e ∷ []) n.number)))
-    (numbered 1 ts)) (told_still o e still.no_tick)
+    (notices_from 1 ts)) (told_still o e still.no_tick)
     ∙ map_ext (λ (n : Notice). (n, not (is_taken (o.history ++ e ∷ []) n.number)))
     (λ (n : Notice). (n, not (is_taken o.history n.number)))
     (λ n. ap (λ b. (n, not b)) (taken_still o.history e n.number (still.no_taking n.number)))
-    (numbered 1 (told_in o))
+    (notices_from 1 (told_in o))
 
 -- what is kept is what the history with one entry more says, for an entry that is no tick
 -- and no taking

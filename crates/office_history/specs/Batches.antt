@@ -93,8 +93,8 @@ abbrev pub count : {A : Type 0} → (A → Bool) → List A → ℕ
 count p xs = length (filter p xs)
 
 -- the outcome of a batch: how many rows became what
-abbrev pub sampled : List RowVerdict → Option ℕ → Outcome
-sampled vs entry = Sampled entry (count is_new vs) (count is_newer vs) (count is_repeated vs)
+abbrev pub batch_outcome : List RowVerdict → Option ℕ → Outcome
+batch_outcome vs entry = Sampled entry (count is_new vs) (count is_newer vs) (count is_repeated vs)
     (count is_superseded vs)
 
 -- the days that have a current row of an indicator

@@ -94,21 +94,23 @@ notice_of number t = record {
   state = t.1.1;
 }
 
-abbrev pub numbered : ℕ → List Told → List Notice
-numbered number [] = []
-numbered number (t ∷ ts) = notice_of number t ∷ numbered (number + 1) ts
+-- the notices of what was told, numbered from a number on
+abbrev pub notices_from : ℕ → List Told → List Notice
+notices_from number [] = []
+notices_from number (t ∷ ts) = notice_of number t ∷ notices_from (number + 1) ts
 
-abbrev pub takes : ℕ → Command → Bool
-takes number (Take n) = number == n
-takes number _ = false
+-- whether a command takes the notice of a number
+abbrev pub is_taking : ℕ → Command → Bool
+is_taking number (Take n) = number == n
+is_taking number _ = false
 
 -- whether a history takes the notice of a number
 abbrev pub is_taken : List Entry → ℕ → Bool
-is_taken history number = list_any (λ (e : Entry). takes number e.command) history
+is_taken history number = list_any (λ (e : Entry). is_taking number e.command) history
 
 -- The notices of an office, numbered from 1, each waiting unless it was taken.
 abbrev pub notices_in : Office → List (Notice × Bool)
-notices_in o = map (λ n. (n, not (is_taken o.history n.number))) (numbered 1 (told_in o))
+notices_in o = map (λ n. (n, not (is_taken o.history n.number))) (notices_from 1 (told_in o))
 
 -- how many of these wait
 abbrev pub waiting : List (Notice × Bool) → ℕ

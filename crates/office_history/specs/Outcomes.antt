@@ -21,7 +21,7 @@ use Rattle.office_history.specs.History.{Office, moment_of, end_of, rows_in}
 use Rattle.office_history.specs.Catalog.{text_objects}
 use Rattle.office_history.specs.Notices.{told_at}
 use Rattle.sample_book.specs.Puts.{verdicts}
-use Rattle.office_history.specs.Batches.{sampled}
+use Rattle.office_history.specs.Batches.{batch_outcome}
 use Rattle.office_history.specs.Answers.{Answers}
 use Rattle.office_history.specs.Judges.{Judges}
 
@@ -31,7 +31,7 @@ outcome_of o moment (Define text) = Defined (length (text_objects text)) (Some (
 outcome_of o moment (Remove kind name) = Changed (Some (length o.history))
 outcome_of o moment (PutZone name bytes) = Changed (Some (length o.history))
 outcome_of o moment (Samples rows) =
-    sampled (verdicts (rows_in o.history) rows) (Some (length o.history))
+    batch_outcome (verdicts (rows_in o.history) rows) (Some (length o.history))
 outcome_of o moment (Exclude value) = Changed (Some (length o.history))
 outcome_of o moment (Lift id) = Changed (Some (length o.history))
 outcome_of o moment Tick =

@@ -32,7 +32,7 @@ use Rattle.office_history.specs.History.{end_of, accepted_rows}
 use Rattle.office_history.specs.Zones.{utc, bytes_named}
 use Rattle.office_history.specs.Objectives.{slo_named}
 use Rattle.office_history.specs.Notices.{waiting}
-use Rattle.office_history.specs.Batches.{when, batch_fault, sampled, objective_days}
+use Rattle.office_history.specs.Batches.{when, batch_fault, batch_outcome, objective_days}
 
 -- the first refusal of a table, or else this
 abbrev pub unless_refused : Option Refusal → Judgement → Judgement
@@ -61,7 +61,7 @@ abbrev pub samples_verdict : ℕ → ℕ → List Object → List Row → ℕ �
 samples_verdict origin moment members came entries rows =
     unless_refused (samples_fault origin moment members came rows)
     (cond (list_any is_put (verdicts came rows)) (accepted entries)
-    (Same (sampled (verdicts came rows) None)))
+    (Same (batch_outcome (verdicts came rows) None)))
 
 -- Remove: an object that no other refers to, and no sample if it is an indicator
 abbrev pub removal_fault : RemoveFault → Refusal

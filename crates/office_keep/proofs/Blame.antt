@@ -37,7 +37,7 @@ use Rattle.office_history.specs.Alerts.{Watch, is_watch_active, state_at, watche
 use Rattle.office_history.specs.Answers.{Answers, AnswersBudgets, AnswersTimeline, asked_at}
 use Rattle.office_history.specs.Answers.{budgets_from, burn_answer, burn_fault, burn_over}
 use Rattle.office_history.specs.Answers.{is_outside, is_timeline, object_answer, refused_or}
-use Rattle.office_history.specs.Batches.{objective_days, sampled, when}
+use Rattle.office_history.specs.Batches.{objective_days, batch_outcome, when}
 use Rattle.office_history.specs.Catalog.{catalog_in}
 use Rattle.office_history.specs.Counts.{sum_between}
 use Rattle.office_history.specs.History.{Office, current_in, end_of, exclusions_in, rows_in}
@@ -121,10 +121,11 @@ by_take b made entries refusal =
     (by_cond made (accepted entries) (Same (Changed None)) (by_accepted entries) refl)
 
 by_batch : (fault : Option Refusal) (puts : Bool) (entries : ℕ) (vs : List RowVerdict) →
-    judged_so (unless_refused fault (cond puts (accepted entries) (Same (sampled vs None)))) ≡ false
+    judged_so (unless_refused fault
+    (cond puts (accepted entries) (Same (batch_outcome vs None)))) ≡ false
 by_batch fault puts entries vs =
-    by_refusal fault (cond puts (accepted entries) (Same (sampled vs None)))
-    (by_cond puts (accepted entries) (Same (sampled vs None)) (by_accepted entries) refl)
+    by_refusal fault (cond puts (accepted entries) (Same (batch_outcome vs None)))
+    (by_cond puts (accepted entries) (Same (batch_outcome vs None)) (by_accepted entries) refl)
 
 by_definition : (fault : Option Refusal) (same : Bool) (objects entries : ℕ) →
     judged_so (unless_refused fault (cond same (Same (Defined objects None)) (accepted entries)))

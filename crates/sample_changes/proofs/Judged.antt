@@ -21,7 +21,7 @@ use Rattle.office_history.specs.Lists.{first_some}
 use Rattle.office_history.specs.History.{Office, accepted_rows, current_in, rows_in}
 use Rattle.office_history.specs.Catalog.{catalog_in}
 use Rattle.office_history.specs.Batches.{when, batch_fault, count, objective_days, rows_faults}
-use Rattle.office_history.specs.Batches.{sampled}
+use Rattle.office_history.specs.Batches.{batch_outcome}
 use Rattle.office_history.specs.Verdicts.{accepted, samples_verdict, unless_refused}
 use Rattle.office_derived.specs.declared.Derived.{Derived}
 use Rattle.office_derived.specs.Derived.{IsJudged, Reflects}
@@ -46,7 +46,7 @@ by_parts fault cells taken days vs entries =
     ∷ when (nat_lt most.MAX_ACCEPTED_ROWS taken) (refusals.Limit limits.Accepted)
     ∷ when (nat_lt most.MAX_DAYS days) (refusals.Limit limits.Days)
     ∷ []))
-    (cond (list_any is_put vs) (accepted entries) (Same (sampled vs None)))
+    (cond (list_any is_put vs) (accepted entries) (Same (batch_outcome vs None)))
 
 abbrev with_rows : Bool → Option Refusal → ℕ → ℕ → ℕ → List RowVerdict → ℕ → Judgement
 with_rows many fault cells taken days vs entries =
@@ -57,7 +57,7 @@ with_rows many fault cells taken days vs entries =
     ∷ when (nat_lt most.MAX_ACCEPTED_ROWS taken) (refusals.Limit limits.Accepted)
     ∷ when (nat_lt most.MAX_DAYS days) (refusals.Limit limits.Days)
     ∷ []))
-    (cond (list_any is_put vs) (accepted entries) (Same (sampled vs None)))
+    (cond (list_any is_put vs) (accepted entries) (Same (batch_outcome vs None)))
 
 over_current : (origin m : ℕ) (members : List Object) (came : List Row) (n : ℕ) (rows : List Row) →
     rows_verdict origin m members (current_rows came) (accepted_rows came) n rows
@@ -127,7 +127,7 @@ accepted_keeps origin m members came n rows h =
         when a (refusals.Limit limits.Rows) ∷ f ∷ when b (refusals.Limit limits.Cells)
         ∷ when c (refusals.Limit limits.Accepted) ∷ when d (refusals.Limit limits.Days) ∷ []))
         (cond p (cond q Accepted (Refused (refusals.Limit limits.Entries)))
-        (Same (sampled (verdicts came rows) None))) ≡ Accepted
+        (Same (batch_outcome (verdicts came rows) None))) ≡ Accepted
         → IsAccepted origin m members came n rows
     by true f b c d p q ea ef eb ec eq h = cc h
     by false (Some r) b c d p q ea ef eb ec eq h = cc h
@@ -245,7 +245,7 @@ pub faultless_by : (vs : List RowVerdict) (tally : Tally) (n : ℕ) → tally �
     → cond (changes tally) (accepted n) (Same (tally_outcome tally None)) ≡ faultless_verdict vs n
 faultless_by vs tally n e =
     (λ i. cond (changes (e i)) (accepted n) (Same (tally_outcome (e i) None)))
-    ∙ ap (λ b. cond b (accepted n) (Same (sampled vs None))) (sym (any_put vs))
+    ∙ ap (λ b. cond b (accepted n) (Same (batch_outcome vs None))) (sym (any_put vs))
 
 -- what the judging comes to is what the history says
 pub comes_to : (d : Derived) (o : Office) (m : ℕ) (rows batch : List Row) (j : Judgement)

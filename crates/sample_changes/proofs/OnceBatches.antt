@@ -33,7 +33,8 @@ use Rattle.record_form.specs.declared.LimitName.TheVariants as limits
 use Rattle.office_history.specs.declared.Judgement.TheVariants.{Accepted, Same}
 use Rattle.office_history.specs.Lists.{first_some}
 use Rattle.office_history.specs.Batches.{amount_fault, conflict_fault, count, form_fault}
-use Rattle.office_history.specs.Batches.{objective_days, row_fault, rows_faults, sampled, when}
+use Rattle.office_history.specs.Batches.{batch_outcome, objective_days, row_fault, rows_faults}
+use Rattle.office_history.specs.Batches.{when}
 use Rattle.office_history.specs.Catalog.{catalog_in}
 use Rattle.office_history.specs.History.{accepted_rows, present, rows_in, rows_of}
 use Rattle.office_history.specs.Judges.{Judges}
@@ -317,7 +318,7 @@ no_faults origin m members number (row ∷ rows) (v ∷ vs) read over settled =
 same_again : (origin m : ℕ) (members : List Object) (came : List Row) (n : ℕ) (rows : List Row) →
     HasCome origin m came rows → IsWithin came → AllByRecursion (IsRead members) rows →
     objective_days members (current_rows came) ≤ most.MAX_DAYS →
-    samples_verdict origin m members came n rows ≡ Same (sampled (verdicts came rows) None)
+    samples_verdict origin m members came n rows ≡ Same (batch_outcome (verdicts came rows) None)
 same_again origin m members came n rows h w read days =
     let vs = all-settled came rows h.settled in
     let same = same-current came rows h.settled in
@@ -338,7 +339,7 @@ same_again origin m members came n rows h w read days =
     (refusals.Limit limits.Days)
     ∷ []))
     (cond (none-put (verdicts came rows) vs i) (accepted n)
-    (Same (sampled (verdicts came rows) None)))
+    (Same (batch_outcome (verdicts came rows) None)))
 
 pub batch_once : BatchActsOnce
 batch_once origin h before after e rows moment legal split is later read days =

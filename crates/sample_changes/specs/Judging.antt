@@ -14,7 +14,7 @@ use Rattle.record_form.specs.declared.LimitName.TheVariants as limits
 use Rattle.office_history.specs.declared.Judgement.{Judgement}
 use Rattle.office_history.specs.declared.Judgement.TheVariants.{Same}
 use Rattle.office_history.specs.Lists.{first_some}
-use Rattle.office_history.specs.Batches.{when, batch_fault, count, sampled, objective_days}
+use Rattle.office_history.specs.Batches.{when, batch_fault, count, batch_outcome, objective_days}
 use Rattle.office_history.specs.Verdicts.{unless_refused, accepted}
 
 -- the first rule that rows break behind the limit of their number
@@ -31,7 +31,8 @@ rows_fault origin moment members kept taken rows = first_some (
 
 -- what becomes of rows that break no rule
 abbrev pub faultless_verdict : List RowVerdict → ℕ → Judgement
-faultless_verdict vs entries = cond (list_any is_put vs) (accepted entries) (Same (sampled vs None))
+faultless_verdict vs entries =
+    cond (list_any is_put vs) (accepted entries) (Same (batch_outcome vs None))
 
 -- what becomes of rows that come over current rows, of which there aren't too many
 abbrev pub rows_verdict : ℕ → ℕ → List Object → List Row → ℕ → ℕ → List Row → Judgement

@@ -12,7 +12,7 @@ use Rattle.record_form.specs.declared.Entry.{Entry}
 use Rattle.record_form.specs.declared.Outcome.TheVariants.{Changed}
 use Rattle.record_form.specs.declared.Refusal.TheVariants as refusals
 use Rattle.office_history.specs.declared.Judgement.TheVariants.{Same, Refused}
-use Rattle.office_history.specs.Batches.{objective_days, sampled}
+use Rattle.office_history.specs.Batches.{objective_days, batch_outcome}
 use Rattle.office_history.specs.Catalog.{catalog_in}
 use Rattle.office_history.specs.History.{present, rows_in, current_in, changes_in}
 use Rattle.office_history.specs.Judges.{Judges}
@@ -45,4 +45,5 @@ BatchActsOnce =
     IsLegal origin h → h ≡ before ++ e ∷ after → e.command ≡ Samples rows →
     present (office origin h) ≤ moment → AllByRecursion (IsRead (catalog_in h)) rows →
     objective_days (catalog_in h) (current_in h) ≤ MAX_DAYS →
-    Judges (office origin h) moment (Samples rows) (Same (sampled (verdicts (rows_in h) rows) None))
+    Judges (office origin h) moment (Samples rows)
+    (Same (batch_outcome (verdicts (rows_in h) rows) None))
