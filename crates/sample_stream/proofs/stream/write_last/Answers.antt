@@ -1,4 +1,4 @@
-use Rattle.std.proofs.Common.{◌++◌, refl, List, ℕ, subst}
+use Rattle.std.proofs.Common.{◌≡◌, ◌++◌, refl, List, ℕ, Option, subst}
 use Rattle.office_outside.specs.Told.{Gained, GainedPrefix}
 use Rattle.sample_stream.specs.Batches.{batch_of, corrections}
 use Rattle.sample_stream.specs.Stream.{last_requests, questions, samples}
@@ -9,6 +9,11 @@ use Rattle.sample_stream.proofs.stream.write_last.Goals as goal
 -- the requests behind the corrections
 abbrev again : List ℕ
 again = samples (batch_of 0) ++ questions
+
+-- the first batch again, as the sink gained it
+again_gained : (a b : Option (List ℕ)) (batch : Batch) → batch ≡ batch_of 0
+    → Gained (samples batch) a b → Gained (samples (batch_of 0)) a b
+again_gained a b batch is = subst (λ (x : Batch). Gained (samples x) a b) is
 
 pub returns-in_err-write_samples-clause-part : goal.returns-in_err-write_samples-clause-part
 returns-in_err-write_samples-clause-part g c =
@@ -33,11 +38,7 @@ returns-clause-gained g c =
     both_behind last_requests (samples corrections) again refl _ _ _ r
     c.in_ok-write_samples.ensures.gained
     (both_behind again (samples (batch_of 0)) questions refl _ _ _ r
-    (subst
-    (λ (b : Batch).
-    Gained (samples b) (g.K.Sink.held c.write_samples.new.output)
-    (g.K.Sink.held c.write_samples-2.new.output))
-    c.batch_of.ensures c.in_ok-write_samples-2.ensures.gained)
+    (again_gained _ _ _ c.batch_of.ensures c.in_ok-write_samples-2.ensures.gained)
     c.write_questions.ensures.gained)
 
 pub returns-clause-part : goal.returns-clause-part
@@ -46,9 +47,5 @@ returns-clause-part g c =
     part_behind last_requests (samples corrections) again refl _ _ _ r
     c.in_ok-write_samples.ensures.gained
     (part_behind again (samples (batch_of 0)) questions refl _ _ _ r
-    (subst
-    (λ (b : Batch).
-    Gained (samples b) (g.K.Sink.held c.write_samples.new.output)
-    (g.K.Sink.held c.write_samples-2.new.output))
-    c.batch_of.ensures c.in_ok-write_samples-2.ensures.gained)
+    (again_gained _ _ _ c.batch_of.ensures c.in_ok-write_samples-2.ensures.gained)
     c.write_questions.ensures.part)
