@@ -1,8 +1,9 @@
 //! YAML texts that are no UTF-8, with the place where they stop being it, and texts too large.
 
 use crate::expectations::expect;
+use slo_limits::MAX_TEXT_BYTES;
 use std::alloc::{AllocError, Global};
-use yaml_subset::{MAX_BYTES, YamlFault, read_documents};
+use yaml_subset::{YamlFault, read_documents};
 
 /// Bytes, and the place of the first that no UTF-8 text has there.
 const PLACES: [(&[u8], usize); 16] = [
@@ -53,8 +54,8 @@ fn is_too_large(alloc: Global, byte: u8, length: usize) -> Result<bool, AllocErr
 /// Its size is judged first, whatever its bytes are.
 #[test]
 fn a_text_with_a_byte_too_many(rt: HostRuntime) {
-    let above = is_too_large(rt.alloc(), 0xFF, MAX_BYTES + 1);
+    let above = is_too_large(rt.alloc(), 0xFF, MAX_TEXT_BYTES + 1);
     expect(&rt, above == Ok(true), "a byte too many");
-    let within = is_too_large(rt.alloc(), b'#', MAX_BYTES);
+    let within = is_too_large(rt.alloc(), b'#', MAX_TEXT_BYTES);
     expect(&rt, within == Ok(false), "as many bytes as may be");
 }

@@ -5,7 +5,7 @@ use Rattle.std.proofs.Crossing.{crosses}
 use Rattle.std.proofs.MapsCrossing as maps
 use Rattle.yaml_subset.specs.contracts.node.Node as node
 use Rattle.yaml_subset.proofs.node.Node.TheLaws.TheKnot.{send-Node, sync-Node}
-use Rattle.yaml_subset.specs.contracts.text.Text as text
+use Rattle.yaml_subset.specs.contracts.text.ScalarText as text
 use Rattle.slo_objects.specs.contracts.part.Part as part
 use Rattle.slo_objects.specs.contracts.sli.MetricSource as source
 use Rattle.slo_objects.specs.contracts.sli.Events as events

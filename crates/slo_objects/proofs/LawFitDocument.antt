@@ -3,11 +3,12 @@ use Rattle.std.proofs.Common.{◌≡◌, ℕ, ◌≤◌, false, List, [], ◌∷
 use Rattle.std.proofs.Common.{arith}
 use Rattle.std.specs.Prelude.{codes}
 use Rattle.std.specs.List.{AllByRecursion}
+use Rattle.slo_limits.specs.declared.TheConstants.{MAX_TEXT_BYTES}
 use Rattle.yaml_subset.specs.Tree.{Tree}
 use Rattle.yaml_subset.specs.Spelling.{Spelling, word, no_fields, meant, writing, is_word}
 use Rattle.yaml_subset.specs.Profile.{max_depth}
 use Rattle.yaml_subset.specs.Fits.{Fits, FitFields, IsWritable}
-use Rattle.yaml_subset.specs.Text.{StandsFor, max_bytes}
+use Rattle.yaml_subset.specs.Text.{StandsFor}
 use Rattle.slo_objects.specs.declared.object.Object.{Object}
 use Rattle.slo_objects.specs.declared.object.Body.{Body}
 use Rattle.slo_objects.specs.declared.object.Metadata.{Metadata}
@@ -118,14 +119,14 @@ each_fits t os w e = by ((map_with document).read DOCUMENT.now t) refl e
 
 -- the text of an object's writing stands for its node, where every spelling's text does
 pub texts_stand : ((s : Spelling) → Fits max_depth s → is_word s ≡ false
-    → length (writing 0 s) ≤ max_bytes → StandsFor (writing 0 s) (meant s ∷ []))
+    → length (writing 0 s) ≤ MAX_TEXT_BYTES → StandsFor (writing 0 s) (meant s ∷ []))
     → (t : Tree) (os : List Object) → IsWritable t
-    → objects_of t ≡ Ok os → AllByRecursion (λ o. length (writing 0 (written o)) ≤ max_bytes
+    → objects_of t ≡ Ok os → AllByRecursion (λ o. length (writing 0 (written o)) ≤ MAX_TEXT_BYTES
     → StandsFor (writing 0 (written o)) (meant (written o) ∷ [])) os
 texts_stand law t os w e = each os (each_fits t os w e)
   where
     each : (os : List Object) → AllByRecursion IsFit os
-        → AllByRecursion (λ o. length (writing 0 (written o)) ≤ max_bytes
+        → AllByRecursion (λ o. length (writing 0 (written o)) ≤ MAX_TEXT_BYTES
         → StandsFor (writing 0 (written o)) (meant (written o) ∷ [])) os
     each [] h = tt
     each (o ∷ os) h = (λ b. law (written o) h.0 refl b, each os h.1)

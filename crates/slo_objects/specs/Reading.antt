@@ -2,7 +2,7 @@
 use Rattle.std.specs.Prelude.{◌≡◌, List, [], Result, Ok, Err, map}
 use Rattle.yaml_subset.specs.Tree.{Entries, Trees, trees}
 use Rattle.yaml_subset.specs.NodeView.{node_view, entries_of, fields_view}
-use Rattle.yaml_subset.specs.declared.text.Text.{Text}
+use Rattle.yaml_subset.specs.declared.text.ScalarText.{ScalarText}
 use Rattle.yaml_subset.specs.declared.node.Node.{Node}
 use Rattle.slo_objects.specs.declared.fault.ObjectFault.{ObjectFault}
 use Rattle.slo_objects.specs.declared.fault.ReadError.{ReadError}
@@ -31,7 +31,7 @@ abbrev pub both : {A : Type 0} → List Object × A → List Object × A
 both p = p
 
 -- what contracts see of a map's entries and of a list's items
-abbrev pub entries_view : List (Text × Node) → Entries
+abbrev pub entries_view : List (ScalarText × Node) → Entries
 entries_view ps = entries_of (fields_view ps)
 
 abbrev pub trees_view : List Node → Trees

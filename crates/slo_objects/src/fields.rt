@@ -13,7 +13,7 @@ use crate::object::Objects;
 use crate::shape::is_null;
 use exact_fraction::Text;
 use std::str;
-use yaml_subset::{Node, Text as NodeText};
+use yaml_subset::{Node, ScalarText};
 
 /// Fails at a key: the one way in which a reader finds a fault.
 pub(crate) fn fail_at<T>(found: &Objects, key: &str, rule: Rule) -> Result<T, ReadError>
@@ -36,14 +36,14 @@ pub(crate) fn is_among(known: &[&str], key: &[u8]) -> bool
 }
 
 /// Whether it is the field of that key, and not omitted.
-fn is_field(name: &NodeText, value: &Node, key: &str) -> bool
+fn is_field(name: &ScalarText, value: &Node, key: &str) -> bool
     ensures { result ≡ (bytes_eq name.now key.now && not (is_null_lem (node_view value.now))) }
 {
     name.as_bytes() == key.as_bytes() && !is_null(value)
 }
 
 /// The value of the field of that key. A field whose value is null is as omitted.
-pub(crate) fn field<'a>(fields: &'a [(NodeText, Node)], key: &str) -> Option<&'a Node>
+pub(crate) fn field<'a>(fields: &'a [(ScalarText, Node)], key: &str) -> Option<&'a Node>
     ensures { option_map (λ n. node_view n.now) result
         ≡ field_of key.now (entries_view fields.now) }
 {
@@ -56,7 +56,7 @@ pub(crate) fn field<'a>(fields: &'a [(NodeText, Node)], key: &str) -> Option<&'a
 }
 
 /// Whether one of these fields stands.
-pub(crate) fn has_one_of(fields: &[(NodeText, Node)], keys: &[&str]) -> bool
+pub(crate) fn has_one_of(fields: &[(ScalarText, Node)], keys: &[&str]) -> bool
     ensures { result ≡ has_one_of_lem (map (λ k. k.now) keys.now) (entries_view fields.now) }
 {
     for key in keys {
@@ -68,7 +68,7 @@ pub(crate) fn has_one_of(fields: &[(NodeText, Node)], keys: &[&str]) -> bool
 }
 
 /// Whether the field is known, or as omitted.
-fn may_stand(name: &NodeText, value: &Node, known: &[&str]) -> bool
+fn may_stand(name: &ScalarText, value: &Node, known: &[&str]) -> bool
     ensures { result ≡ (is_among_lem (map (λ k. k.now) known.now) name.now
         || is_null_lem (node_view value.now)) }
 {
@@ -97,7 +97,7 @@ fn fail_at_unknown<T>(found: &Objects, name: &[u8]) -> Result<T, ReadError>
 }
 
 /// Refuses a map with a field beside the known ones.
-fn close(found: &Objects, fields: &[(NodeText, Node)], known: &[&str]) -> Result<(), ReadError>
+fn close(found: &Objects, fields: &[(ScalarText, Node)], known: &[&str]) -> Result<(), ReadError>
     ensures { Gives alone result (closed (map (λ k. k.now) known.now) (entries_view fields.now)) }
 {
     for (name, value) in fields {
@@ -111,7 +111,7 @@ fn close(found: &Objects, fields: &[(NodeText, Node)], known: &[&str]) -> Result
 /// Closes a map behind the value that was read of it.
 pub(crate) fn close_with<T: Drop>(
     found: &Objects,
-    fields: &[(NodeText, Node)],
+    fields: &[(ScalarText, Node)],
     known: &[&str],
     value: T,
 ) -> Result<T, ReadError>

@@ -17,7 +17,7 @@ use crate::rows::{optional, required};
 use crate::scalars::{NameForm, OnlyKindForm, TextForm, VersionForm};
 use crate::shape::map_entries;
 use exact_fraction::Label;
-use yaml_subset::{Node, Text};
+use yaml_subset::{Node, ScalarText};
 
 // The keys of metadata that no other map has.
 pub(crate) const NAME: &str = "name";
@@ -89,7 +89,7 @@ pub(crate) fn object_with(kind: Kind, metadata: Metadata, body: Body) -> Object
 #[tactic(auto, unfolding(crate::specs::Inline::inline_object))]
 fn inline_object<B: ReadForm<Value = Body>>(
     found: &mut Objects,
-    fields: &[(Text, Node)],
+    fields: &[(ScalarText, Node)],
     kind: Kind,
     body: &B,
 ) -> Result<Object, ReadError>
@@ -114,7 +114,7 @@ fn inline_object<B: ReadForm<Value = Body>>(
 /// An object that stands inline: it is taken out behind those that stood in it, and its name stays.
 pub(crate) fn inline_name<B: ReadForm<Value = Body>>(
     found: &mut Objects,
-    fields: &[(Text, Node)],
+    fields: &[(ScalarText, Node)],
     kind: Kind,
     body: &B,
 ) -> Result<Label, ReadError>
@@ -131,7 +131,7 @@ pub(crate) fn inline_name<B: ReadForm<Value = Body>>(
 #[tactic(auto, unfolding(crate::specs::Inline::reference))]
 fn reference_name(
     found: &mut Objects,
-    fields: &[(Text, Node)],
+    fields: &[(ScalarText, Node)],
     key: &str,
 ) -> Result<Label, ReadError>
     ensures { Reads found.old found.new result

@@ -2,9 +2,10 @@
 
 ghost use Rattle.std.specs.Prelude.{◌≡◌, ◌≤◌, List, [], ◌∷◌, Ok, length};
 ghost use Rattle.std.specs.List.{AllByRecursion};
+ghost use Rattle.slo_limits.specs.declared.TheConstants.{MAX_TEXT_BYTES};
 ghost use Rattle.yaml_subset.specs.Tree.{Tree};
 ghost use Rattle.yaml_subset.specs.Profile.{max_depth};
-ghost use Rattle.yaml_subset.specs.Text.{StandsFor, max_bytes};
+ghost use Rattle.yaml_subset.specs.Text.{StandsFor};
 ghost use Rattle.yaml_subset.specs.Spelling.{meant, writing};
 ghost use Rattle.yaml_subset.specs.Fits.{Fits, IsWritable};
 ghost use Rattle.slo_objects.specs.declared.object.Object.{Object};
@@ -20,13 +21,13 @@ pub fn each_object_reads_back()
 {}
 
 /// The canonical writing of each object of a document that can be written, as every node of a text
-/// can, can be written itself; and its text, where it has at most `MAX_BYTES` bytes, stands for the
-/// node that it means.
+/// can, can be written itself; and its text, where it has at most `MAX_TEXT_BYTES` bytes, stands
+/// for the node that it means.
 pub fn each_object_can_be_written()
     ensures fits { (t : Tree) (os : List Object) → IsWritable t → objects_of t ≡ Ok os
         → AllByRecursion (λ o. Fits max_depth (written o)) os }
     ensures stands { (t : Tree) (os : List Object) → IsWritable t → objects_of t ≡ Ok os
-        → AllByRecursion (λ o. length (writing 0 (written o)) ≤ max_bytes
+        → AllByRecursion (λ o. length (writing 0 (written o)) ≤ MAX_TEXT_BYTES
         → StandsFor (writing 0 (written o)) (meant (written o) ∷ [])) os }
 {
     written_text_reads_back();

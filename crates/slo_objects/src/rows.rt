@@ -12,12 +12,12 @@ use crate::fault::{ReadError, Rule};
 use crate::fields::{fail_at, field, has_one_of};
 use crate::forms::ReadForm;
 use crate::object::Objects;
-use yaml_subset::{Node, Text};
+use yaml_subset::{Node, ScalarText};
 
 /// A field that must stand.
 pub(crate) fn required<F: ReadForm>(
     found: &mut Objects,
-    fields: &[(Text, Node)],
+    fields: &[(ScalarText, Node)],
     key: &str,
     how: &F,
 ) -> Result<F::Value, ReadError>
@@ -49,7 +49,7 @@ fn read_some<F: ReadForm>(
 /// A field that may be omitted.
 pub(crate) fn optional<F: ReadForm>(
     found: &mut Objects,
-    fields: &[(Text, Node)],
+    fields: &[(ScalarText, Node)],
     key: &str,
     how: &F,
 ) -> Result<Option<F::Value>, ReadError>
@@ -65,7 +65,7 @@ pub(crate) fn optional<F: ReadForm>(
 /// A field that must stand where it is needed.
 pub(crate) fn required_where<F: ReadForm>(
     found: &mut Objects,
-    fields: &[(Text, Node)],
+    fields: &[(ScalarText, Node)],
     needed: bool,
     key: &str,
     how: &F,
@@ -83,7 +83,7 @@ pub(crate) fn required_where<F: ReadForm>(
 /// A field that must stand unless it is barred, where it may not.
 pub(crate) fn required_unless<F: ReadForm>(
     found: &mut Objects,
-    fields: &[(Text, Node)],
+    fields: &[(ScalarText, Node)],
     barred: bool,
     key: &str,
     how: &F,
@@ -102,7 +102,7 @@ pub(crate) fn required_unless<F: ReadForm>(
 /// A field that may be omitted, and beside which none of the others may stand.
 pub(crate) fn optional_alone<F: ReadForm>(
     found: &mut Objects,
-    fields: &[(Text, Node)],
+    fields: &[(ScalarText, Node)],
     key: &str,
     others: &[&str],
     how: &F,
@@ -122,7 +122,7 @@ pub(crate) fn optional_alone<F: ReadForm>(
 /// Exactly one of two fields, whose fault has the first one's name.
 pub(crate) fn one_of<F: ReadForm, G: ReadForm<Value = F::Value>>(
     found: &mut Objects,
-    fields: &[(Text, Node)],
+    fields: &[(ScalarText, Node)],
     key: &str,
     how: &F,
     other: &str,

@@ -5,7 +5,7 @@ ghost use Rattle.slo_objects.specs.Form.{scalar_in, mapping_in, list_in, is_null
 ghost use Rattle.slo_objects.specs.Reading.{entries_view, trees_view};
 
 use crate::fields::is_among;
-use yaml_subset::{Node, Text};
+use yaml_subset::{Node, ScalarText};
 
 /// The text of a scalar.
 pub(crate) fn scalar_text(node: &Node) -> Option<&[u8]>
@@ -19,7 +19,7 @@ pub(crate) fn scalar_text(node: &Node) -> Option<&[u8]>
 }
 
 /// The entries of a map.
-pub(crate) fn map_entries(node: &Node) -> Option<&[(Text, Node)]>
+pub(crate) fn map_entries(node: &Node) -> Option<&[(ScalarText, Node)]>
     ensures { option_map (λ entries. entries_view entries.now) result
         ≡ mapping_in (node_view node.now) }
 {

@@ -24,7 +24,7 @@ use crate::scalars::{BooleanForm, DescriptionForm, NameForm, TextForm, is_word};
 use crate::shape::map_entries;
 use exact_fraction::{Label, Text};
 use std::alloc::{AllocError, Global};
-use yaml_subset::{Node, Text as NodeText};
+use yaml_subset::{Node, ScalarText};
 
 // The keys that no other map has.
 pub(crate) const METRIC_SOURCE: &str = "metricSource";
@@ -230,7 +230,7 @@ impl ReadForm for BadForm {
 #[tactic(auto, unfolding(crate::specs::Sli::raw_ratio))]
 fn raw_ratio_of(
     found: &mut Objects,
-    fields: &[(NodeText, Node)],
+    fields: &[(ScalarText, Node)],
     counter: Option<bool>,
     raw: MetricSource,
 ) -> Result<RatioMetric, ReadError>
@@ -255,7 +255,7 @@ fn raw_ratio_of(
 #[tactic(auto, unfolding(crate::specs::Sli::counted_ratio))]
 fn counted_ratio_of(
     found: &mut Objects,
-    fields: &[(NodeText, Node)],
+    fields: &[(ScalarText, Node)],
     counter: Option<bool>,
 ) -> Result<RatioMetric, ReadError>
     ensures { Reads found.old found.new result

@@ -1,6 +1,7 @@
 //! Objects as documents.
 ghost use Rattle.std.specs.Prelude.{◌≡◌, ◌≤◌, ◌++◌, ◌∷◌, [], Ok, IfOk, OnOk, OnErr, length};
-ghost use Rattle.yaml_subset.specs.Text.{StandsFor, max_bytes};
+ghost use Rattle.slo_limits.specs.declared.TheConstants.{MAX_TEXT_BYTES};
+ghost use Rattle.yaml_subset.specs.Text.{StandsFor};
 ghost use Rattle.yaml_subset.specs.Spelling.{meant, writing};
 ghost use Rattle.yaml_subset.specs.Room.{up_to};
 ghost use Rattle.yaml_subset.specs.SpellingView.{spelling_view};
@@ -69,15 +70,15 @@ fn document_map(alloc: Global, value: &Object) -> Result<Spelling, AllocError>
 /// left out, fixed words, numbers, booleans and durations plain, every other text in double quotes,
 /// objects that stood inline as references.
 ///
-/// The text stands for the object alone, where it has at most `MAX_BYTES` bytes. The error is want
-/// of memory, and leaves all as it was.
+/// The text stands for the object alone, where it has at most `MAX_TEXT_BYTES` bytes. The error is
+/// want of memory, and leaves all as it was.
 pub fn write_object(out: &mut Vec<u8>, value: &Object) -> Result<(), AllocError>
     requires { IsOfDocument value.now }
     ensures exact { OnOk result (out.new.items ≡ out.old.items ++ writing 0 (written value.now)) }
     ensures kept { OnErr result (out.new.items ≡ out.old.items) }
 
     // The text stands for one node, and this node for the object alone.
-    ensures stands { length (writing 0 (written value.now)) ≤ max_bytes
+    ensures stands { length (writing 0 (written value.now)) ≤ MAX_TEXT_BYTES
         → StandsFor (writing 0 (written value.now)) (meant (written value.now) ∷ []) }
     ensures alone { objects_of (meant (written value.now)) ≡ Ok (value.now ∷ []) }
 {

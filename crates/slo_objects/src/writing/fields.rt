@@ -7,7 +7,7 @@ ghost use Rattle.slo_objects.specs.Form.{own};
 ghost use Rattle.slo_objects.specs.Adding.{before, Adds, items_before};
 
 use std::alloc::AllocError;
-use yaml_subset::{FieldKey, Spelling, Text};
+use yaml_subset::{FieldKey, ScalarText, Spelling};
 
 /// Adds a field whose key stands plain.
 #[tactic(auto, using(crate::proofs::AddLemmas::before_more))]
@@ -19,7 +19,7 @@ pub(crate) fn put(
     ensures { OnOk result (Adds fields.old.items fields.new.items
         (own key.now (spelling_view value))) }
 {
-    let text = Text::of(Vec::from_slice(*fields.allocator(), key.as_bytes())?);
+    let text = ScalarText::of(Vec::from_slice(*fields.allocator(), key.as_bytes())?);
     fields.push((FieldKey::Plain(text), value))?;
     Ok(())
 }

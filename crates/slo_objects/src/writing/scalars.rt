@@ -10,21 +10,21 @@ use crate::part::Part;
 use exact_fraction::{Decimal, write_decimal};
 use slo_duration::{Duration, write_duration};
 use std::alloc::{AllocError, Global};
-use yaml_subset::{Spelling, Text, spelled};
+use yaml_subset::{ScalarText, Spelling, spelled};
 use zone_calendar::{Civil, write_civil};
 
 /// A text that is written plain.
 pub(crate) fn plain(alloc: Global, text: &str) -> Result<Spelling, AllocError>
     ensures { IfOk result (λ s. spelling_view s ≡ word text.now) }
 {
-    Ok(Spelling::Word(Text::of(Vec::from_slice(alloc, text.as_bytes())?)))
+    Ok(Spelling::Word(ScalarText::of(Vec::from_slice(alloc, text.as_bytes())?)))
 }
 
 /// A text that is written in double quotes.
 pub(crate) fn in_quotes(alloc: Global, text: &[u8]) -> Result<Spelling, AllocError>
     ensures { IfOk result (λ s. spelling_view s ≡ quoted text.now) }
 {
-    Ok(Spelling::Quoted(Text::of(Vec::from_slice(alloc, text)?)))
+    Ok(Spelling::Quoted(ScalarText::of(Vec::from_slice(alloc, text)?)))
 }
 
 /// A boolean.
@@ -45,7 +45,7 @@ pub(crate) fn number(alloc: Global, value: Decimal) -> Result<Spelling, AllocErr
 {
     let mut text = Vec::new(alloc);
     write_decimal(&mut text, value)?;
-    Ok(Spelling::Word(Text::of(text)))
+    Ok(Spelling::Word(ScalarText::of(text)))
 }
 
 /// A number of minutes, in digits.
@@ -62,7 +62,7 @@ pub(crate) fn duration(alloc: Global, value: Duration) -> Result<Spelling, Alloc
 {
     let mut text = Vec::new(alloc);
     write_duration(alloc, &mut text, value)?;
-    Ok(Spelling::Word(Text::of(text)))
+    Ok(Spelling::Word(ScalarText::of(text)))
 }
 
 /// A civil moment.
@@ -71,7 +71,7 @@ pub(crate) fn moment(alloc: Global, value: Civil) -> Result<Spelling, AllocError
 {
     let mut text = Vec::new(alloc);
     write_civil(&mut text, value)?;
-    Ok(Spelling::Quoted(Text::of(text)))
+    Ok(Spelling::Quoted(ScalarText::of(text)))
 }
 
 /// A free part, as it was written.

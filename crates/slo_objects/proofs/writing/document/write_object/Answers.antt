@@ -1,7 +1,8 @@
 use Rattle.std.proofs.Common.{◌≡◌, ◌≤◌, [], ◌∷◌, Ok, length, subst, sym}
+use Rattle.slo_limits.specs.declared.TheConstants.{MAX_TEXT_BYTES}
 use Rattle.yaml_subset.specs.Profile.{max_depth}
 use Rattle.yaml_subset.specs.Fits.{Fits}
-use Rattle.yaml_subset.specs.Text.{StandsFor, max_bytes}
+use Rattle.yaml_subset.specs.Text.{StandsFor}
 use Rattle.yaml_subset.specs.Spelling.{meant, writing}
 use Rattle.slo_objects.specs.Document.{objects_of, written}
 use Rattle.slo_objects.proofs.OriginLemmas.{of_document}
@@ -9,7 +10,7 @@ use Rattle.slo_objects.proofs.writing.document.write_object.Goals as goal
 
 pub returns-in_err-document-clause-stands : goal.returns-in_err-document-clause-stands
 returns-in_err-document-clause-stands c =
-    of_document (λ o. length (writing 0 (written o)) ≤ max_bytes
+    of_document (λ o. length (writing 0 (written o)) ≤ MAX_TEXT_BYTES
     → StandsFor (writing 0 (written o)) (meant (written o) ∷ []))
     c.each_object_can_be_written.ensures.stands c.args.value.now c.requires
 
@@ -26,7 +27,7 @@ write_spelling-requires c =
 
 pub returns-clause-stands : goal.returns-clause-stands
 returns-clause-stands c =
-    of_document (λ o. length (writing 0 (written o)) ≤ max_bytes
+    of_document (λ o. length (writing 0 (written o)) ≤ MAX_TEXT_BYTES
     → StandsFor (writing 0 (written o)) (meant (written o) ∷ []))
     c.each_object_can_be_written.ensures.stands c.args.value.now c.requires
 
