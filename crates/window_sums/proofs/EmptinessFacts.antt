@@ -99,14 +99,14 @@ module _ (f : ℕ → Leaf) where
       )
 
   -- the units of a range that is cut at larger ones, of `count` units each
-  parts : (from to first end count u : ℕ) → IsCut from to count first end → first ≤ end
+  parts : (from to first end count u : ℕ) → IsCut from to count first end
       → den_of f from to u ≡ den_of f from (first * count) u + den_of f first end (count * u)
       + den_of f (end * count) to u
-  parts from to first end count u cut le = by (mul-le-mul_right count le)
+  parts from to first end count u cut = by (mul-le-mul_right count cut.order)
     where
       larger : first * count ≤ end * count
           → den_of f first end (count * u) ≡ den_of f (first * count) (end * count) u
-      larger order = ap (λ (l : Leaf). l.den) (larger-slots f first end count u le
+      larger order = ap (λ (l : Leaf). l.den) (larger-slots f first end count u cut.order
           ∙ sym (units-slots f (first * count) (end * count) u order))
 
       by : first * count ≤ end * count → den_of f from to u
@@ -145,27 +145,27 @@ module _ (f : ℕ → Leaf) where
 
 -- A range of units that is cut at larger ones: from the end on, the first part with an event
 -- decides ..
-module _ (f : ℕ → Leaf) (from to first end count u : ℕ) (cut : IsCut from to count first end)
-    (le : first ≤ end) where
+module _ (f : ℕ → Leaf) (from to first end count u : ℕ)
+    (cut : IsCut from to count first end) where
   pub units-behind : false ≡ (den_of f (end * count) to u == 0)
       → false ≡ (den_of f from to u == 0)
   units-behind = last-some (den_of f from (first * count) u) (den_of f first end (count * u))
-      (den_of f (end * count) to u) (den_of f from to u) (parts f from to first end count u cut le)
+      (den_of f (end * count) to u) (den_of f from to u) (parts f from to first end count u cut)
 
   pub units-whole : false ≡ (den_of f first end (count * u) == 0)
       → false ≡ (den_of f from to u == 0)
   units-whole = middle-some (den_of f from (first * count) u) (den_of f first end (count * u))
-      (den_of f (end * count) to u) (den_of f from to u) (parts f from to first end count u cut le)
+      (den_of f (end * count) to u) (den_of f from to u) (parts f from to first end count u cut)
 
   pub units-before : true ≡ (den_of f (end * count) to u == 0)
       → true ≡ (den_of f first end (count * u) == 0)
       → (den_of f from (first * count) u == 0) ≡ (den_of f from to u == 0)
   units-before = first-left (den_of f from (first * count) u) (den_of f first end (count * u))
-      (den_of f (end * count) to u) (den_of f from to u) (parts f from to first end count u cut le)
+      (den_of f (end * count) to u) (den_of f from to u) (parts f from to first end count u cut)
 
 -- .. and so of slots.
-module _ (f : ℕ → Leaf) (from to first end count : ℕ) (cut : IsCut from to count first end)
-    (le : first ≤ end) where
+module _ (f : ℕ → Leaf) (from to first end count : ℕ)
+    (cut : IsCut from to count first end) where
   slots : (den_of f from to 1 == 0) ≡ ((leaves_over f from (to - from)).den == 0)
   slots = ap (λ (l : Leaf). l.den == 0) (slots-units f from (to - from))
 
@@ -177,17 +177,17 @@ module _ (f : ℕ → Leaf) (from to first end count : ℕ) (cut : IsCut from to
 
   pub slots-behind : false ≡ (den_of f (end * count) to 1 == 0)
       → false ≡ ((leaves_over f from (to - from)).den == 0)
-  slots-behind some = units-behind f from to first end count 1 cut le some ∙ slots
+  slots-behind some = units-behind f from to first end count 1 cut some ∙ slots
 
   pub slots-whole : false ≡ (den_of f first end count == 0)
       → false ≡ ((leaves_over f from (to - from)).den == 0)
-  slots-whole some = units-whole f from to first end count 1 cut le (some ∙ whole) ∙ slots
+  slots-whole some = units-whole f from to first end count 1 cut (some ∙ whole) ∙ slots
 
   pub slots-before : true ≡ (den_of f (end * count) to 1 == 0)
       → true ≡ (den_of f first end count == 0)
       → (den_of f from (first * count) 1 == 0) ≡ ((leaves_over f from (to - from)).den == 0)
   slots-before none none-2 =
-      units-before f from to first end count 1 cut le none (none-2 ∙ whole) ∙ slots
+      units-before f from to first end count 1 cut none (none-2 ∙ whole) ∙ slots
 
 -- the days that a range touches have no event, nor has the range
 pub days-none : (f : ℕ → Leaf) (from to day : ℕ) → 0 < day

@@ -13,15 +13,15 @@ use Rattle.exact_fraction.specs.declared.leaf.Leaf.{Leaf}
 use Rattle.slice_method.specs.declared.amount.Counts.{Counts}
 use Rattle.slice_method.specs.declared.method.Method.{Method}
 use Rattle.slice_method.specs.Leaves.{leaf}
-use Rattle.slo_terms.specs.Sums.{AreFew, leaves_over}
+use Rattle.slo_terms.specs.Sums.{AreFew, leaves_over, most_events}
 use Rattle.slo_terms.proofs.RangeLemmas.{sum_over-none, sum_over-same}
 use Rattle.sum_pages.specs.DayTables.{values_of_day}
 use Rattle.sum_pages.specs.Pages as paged
 use Rattle.sum_pages.proofs.DayLemmas.{days-added, days-changed, of_day, value_at-added}
 use Rattle.sum_pages.proofs.DayLemmas.{value_at-changed, values_of-push}
-use Rattle.window_sums.specs.Slices.{AreCounted, AreSoundCounts, CountedDays, IsKept, MayExchange}
-use Rattle.window_sums.specs.Slices.{counts_after, counts_of, day_of, exchanged, has_day, leaf_at}
-use Rattle.window_sums.specs.Slices.{no_counts, slice_of, slices_a_day, width_of}
+use Rattle.window_sums.specs.Slices.{AreCounted, AreSoundCounts, CountedDays, IsKept, IsPart}
+use Rattle.window_sums.specs.Slices.{MayExchange, counts_after, counts_of, day_of, exchanged}
+use Rattle.window_sums.specs.Slices.{has_day, no_counts, slice_of, slices_a_day, width_of}
 use Rattle.window_sums.proofs.SoundFacts.{after-here, few-one, sound-same}
 use Rattle.window_sums.proofs.WidthFacts.{day_of_slice, slices-some}
 
@@ -42,20 +42,33 @@ days_with sums slice counts = days_at sums.days (slices_a_day sums.method) slice
 abbrev pub sums_with : CountedDays → ℕ → Counts → CountedDays
 sums_with sums slice counts = record { method = sums.method; days = days_with sums slice counts }
 
--- the counts may be exchanged, where a part of few events is left
+-- What `change` asks for: the day of the minute is there, its slice has what is taken away, and
+-- what is left is a part of few events.
+pub record IsChange (sums : CountedDays) (minute : ℕ) (before after : Counts) : Type 0 where
+  pub day : IsTrue (has_day sums (day_of minute))
+  pub good : before.good ≤ (counts_of sums (slice_of sums.method minute)).good
+  pub total : before.total ≤ (counts_of sums (slice_of sums.method minute)).total
+  pub part : IsPart (counts_after sums minute before after (slice_of sums.method minute))
+  pub events : AreFew (λ k. (counts_after sums minute before after k).total)
+  pub leaves : AreFew (λ k. (leaf sums.method (counts_after sums minute before after k)).den)
+
+-- the day of the slice is there
+pub day-there : (sums : CountedDays) (minute : ℕ) (before after : Counts) → AreCounted sums →
+    IsChange sums minute before after →
+    IsTrue (has_day sums (slice_of sums.method minute / slices_a_day sums.method))
+day-there sums minute before after counted change =
+    subst (λ day. IsTrue (has_day sums day)) (sym (its_day sums minute counted)) change.day
+
+-- the counts may be exchanged
 pub may_exchange : (sums : CountedDays) (minute : ℕ) (before after : Counts) →
-    before.good ≤ (counts_of sums (slice_of sums.method minute)).good →
-    before.total ≤ (counts_of sums (slice_of sums.method minute)).total →
-    (counts_after sums minute before after (slice_of sums.method minute)).good
-    ≤ (counts_after sums minute before after (slice_of sums.method minute)).total →
-    AreFew (λ k. (counts_after sums minute before after k).total) →
+    IsChange sums minute before after →
     MayExchange (counts_of sums (slice_of sums.method minute)) before after
-may_exchange sums minute before after good total part events = record {
-  good = good;
-  total = total;
-  part = subst (λ (c : Counts). c.good ≤ c.total) (after-here sums minute before after) part;
-  few = subst (λ (c : Counts). c.total ≤ 4000000000000000) (after-here sums minute before after)
-      (few-one (λ k. (counts_after sums minute before after k).total) events
+may_exchange sums minute before after change = record {
+  good = change.good;
+  total = change.total;
+  part = subst IsPart (after-here sums minute before after) change.part;
+  few = subst (λ (c : Counts). c.total ≤ most_events) (after-here sums minute before after)
+      (few-one (λ k. (counts_after sums minute before after k).total) change.events
       (slice_of sums.method minute));
 }
 
@@ -145,7 +158,7 @@ pub pages-few : (sums : CountedDays) (pages : paged.LeafDays) (minute : ℕ) (be
     AreFew (λ k. (paged.leaf_after pages (slice_of sums.method minute) (leaf sums.method
     (exchanged (counts_of sums (slice_of sums.method minute)) before after)) k).den)
 pages-few sums pages minute before after kept few first count =
-    subst (λ n. n ≤ 4000000000000000)
+    subst (λ n. n ≤ most_events)
     (sum_over-same (λ k. (leaf sums.method (counts_after sums minute before after k)).den)
     (λ k. (paged.leaf_after pages (slice_of sums.method minute) (leaf sums.method
     (exchanged (counts_of sums (slice_of sums.method minute)) before after)) k).den)

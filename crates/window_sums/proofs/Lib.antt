@@ -5,4 +5,5 @@ pub mod SoundFacts
 pub mod EmptinessFacts
 pub mod KeptFacts
 pub mod RaisedFacts
+pub mod ReadLemmas
 pub mod ShareLemmas

@@ -1,5 +1,5 @@
 -- How far a change can raise the sums.
-use Rattle.std.proofs.Common.{◌≡◌, ◌≢◌, ◌⊎◌, ℕ, zero, suc, ◌+◌, ◌-◌, ◌≤◌, nat_eq, Bool, true, false}
+use Rattle.std.proofs.Common.{◌≡◌, ◌≢◌, ◌⊎◌, ℕ, ◌+◌, ◌-◌, ◌≤◌, nat_eq, Bool, true, false}
 use Rattle.std.proofs.Common.{cond, inl, inr, refl, sym, ap, subst, arith, List, []}
 use Rattle.std.proofs.lemmas.Bool.Decides.{eqb_tells}
 use Rattle.exact_fraction.specs.declared.leaf.Leaf.{Leaf}
@@ -8,7 +8,6 @@ use Rattle.slice_method.specs.declared.method.Method.{Method}
 use Rattle.slice_method.specs.declared.method.Method.TheVariants.{Occurrences, Timeslices}
 use Rattle.slice_method.specs.declared.method.Method.TheVariants.{RatioTimeslices}
 use Rattle.slice_method.specs.Leaves.{leaf, leaf_with_data}
-use Rattle.slo_terms.specs.Sums.{sum_over}
 use Rattle.slo_terms.proofs.RangeLemmas.{sum_over-none, sum_over-same}
 use Rattle.sum_pages.proofs.RaisedLemmas.{sum_over-raised}
 use Rattle.window_sums.specs.Slices.{CountedDays, HasAtMost, counts_after, counts_of, exchanged}

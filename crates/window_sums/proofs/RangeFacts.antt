@@ -1,12 +1,12 @@
 -- Ranges of slots that are cut at whole hours or days.
-use Rattle.std.proofs.Common.{◌≡◌, ℕ, zero, suc, ◌+◌, ◌-◌, ◌*◌, ◌/◌, ◌%◌, ◌<◌, ◌≤◌, min, refl, sym}
+use Rattle.std.proofs.Common.{◌≡◌, ℕ, zero, suc, ◌+◌, ◌-◌, ◌*◌, ◌/◌, ◌<◌, ◌≤◌, refl, sym}
 use Rattle.std.proofs.Common.{ap, subst, ◌∙◌, arith}
 use Rattle.std.specs.Int.{div_ceil}
 use Rattle.std.proofs.Math.Nat.{div-mul-le_self, le_of_mul-le-mul_right, lt-div-mul-add}
 use Rattle.std.proofs.Math.Nat.{mul-le-mul_right}
 use Rattle.std.proofs.lemmas.Grind.{div_ceil_times}
 use Rattle.exact_fraction.specs.declared.leaf.Leaf.{Leaf}
-use Rattle.slo_terms.specs.Sums.{AreSound, leaves_over, most_events, sum_over}
+use Rattle.slo_terms.specs.Sums.{AreSound, leaves_over, most_events}
 use Rattle.slo_terms.proofs.RangeLemmas.{leaves-part, no_term, sum_over-join, sum_over-one}
 use Rattle.slo_terms.proofs.RangeLemmas.{sum_over-split}
 use Rattle.window_sums.specs.Ranges.{plus}
@@ -131,80 +131,83 @@ module _ {f : ℕ → Leaf} {a b c d : ℕ} {before middle after : Leaf}
   parts-sum = ap (λ l. plus l after) two_are ∙ ap (plus (leaves_over f a (c - a))) parts.after_is
       ∙ two f a c d (omega (arith, parts.order.0, parts.order.1)) parts.order.2
 
-  -- what may be added
-  pub first-few : AreSound f → (before.num + middle.num ≤ before.den + middle.den)
-      × (before.den + middle.den ≤ most_events)
-  first-few sound = subst (λ (l : Leaf). (l.num ≤ l.den) × (l.den ≤ most_events)) (sym two_are)
-      (leaves-part f sound a (c - a), sound.few a (c - a))
+  -- they may be added up
+  pub parts-few : AreSound f
+      → (before.num + middle.num + after.num ≤ before.den + middle.den + after.den)
+      × (before.den + middle.den + after.den ≤ most_events)
+  parts-few sound = subst (λ (l : Leaf). (l.num ≤ l.den) × (l.den ≤ most_events)) (sym parts-sum)
+      (leaves-part f sound a (d - a), sound.few a (d - a))
 
-  pub second-few : AreSound f → (sum : Leaf) → sum ≡ plus before middle
-      → (sum.num + after.num ≤ sum.den + after.den) × (sum.den + after.den ≤ most_events)
-  second-few sound sum e =
-      subst (λ (l : Leaf). (l.num ≤ l.den) × (l.den ≤ most_events))
-      (sym (ap (λ l. plus l after) e ∙ parts-sum)) (
-        leaves-part f sound a (d - a),
-        sound.few a (d - a),
-      )
-
--- the whole units of `count` slots in a range: from `first` up to `end`
+-- the whole units of `count` slots in a range: from `first` up to `end`, where that is behind it
 pub record IsCut (from to count first end : ℕ) : Type 0 where
   pub some : 0 < count
+  pub order : first ≤ end
   pub from_first : from ≤ first * count
   pub near_first : first * count < from + count
   pub end_to : end * count ≤ to
   pub near_end : to < end * count + count
 
-pub is_cut : (from to count : ℕ) → 0 < count
-    → IsCut from to count (div_ceil from count) (to / count)
-is_cut from to count some = record {
+pub is_cut : (from to count first : ℕ) → 0 < count → first ≡ div_ceil from count
+    → first < to / count → IsCut from to count first (to / count)
+is_cut from to count first some is less = record {
   some = some;
-  from_first = (div_ceil_times from count some).0;
-  near_first = (div_ceil_times from count some).1;
+  order = at_most first (to / count) less;
+  from_first = subst (λ n. from ≤ n * count) (sym is) (div_ceil_times from count some).0;
+  near_first = subst (λ n. n * count < from + count) (sym is) (div_ceil_times from count some).1;
   end_to = div-mul-le_self to count;
   near_end = lt-div-mul-add some;
 }
+  where
+    at_most : (a b : ℕ) → a < b → a ≤ b
+    at_most a b less = omega (arith, less)
 
-pub at_most : (a b : ℕ) → a < b → a ≤ b
-at_most a b less = omega (arith, less)
+-- there are larger units, so the range isn't empty
+pub cut-range : (from to count first end : ℕ) → IsCut from to count first end → from ≤ to
+cut-range from to count first end cut = omega (
+  arith,
+  cut.from_first,
+  mul-le-mul_right count cut.order,
+  cut.end_to,
+)
 
 -- A range of units that is cut at larger ones, of `count` units each ..
 pub larger-parts : (f : ℕ → Leaf) (from to first end count u : ℕ) (before middle after : Leaf) →
-    IsCut from to count first end → first ≤ end →
+    IsCut from to count first end →
     before ≡ leaves_over f (from * u) ((first * count - from) * u) →
     middle ≡ leaves_over f (first * (count * u)) ((end - first) * (count * u)) →
     after ≡ leaves_over f (end * count * u) ((to - end * count) * u) →
     AreParts f (from * u) (first * count * u) (end * count * u) (to * u) before middle after
-larger-parts f from to first end count u before middle after cut le x y z = record {
+larger-parts f from to first end count u before middle after cut x y z = record {
   order = (
     mul-le-mul_right u cut.from_first,
-    mul-le-mul_right u (mul-le-mul_right count le),
+    mul-le-mul_right u (mul-le-mul_right count cut.order),
     mul-le-mul_right u cut.end_to,
   );
   before_is = x ∙ units-slots f from (first * count) u cut.from_first;
-  middle_is = y ∙ larger-slots f first end count u le;
+  middle_is = y ∙ larger-slots f first end count u cut.order;
   after_is = z ∙ units-slots f (end * count) to u cut.end_to;
 }
 
 -- .. and a range of slots.
 pub slot-parts : (f : ℕ → Leaf) (from to first end count : ℕ) (before middle after : Leaf) →
-    IsCut from to count first end → first ≤ end →
+    IsCut from to count first end →
     before ≡ leaves_over f (from * 1) ((first * count - from) * 1) →
     middle ≡ leaves_over f (first * count) ((end - first) * count) →
     after ≡ leaves_over f (end * count * 1) ((to - end * count) * 1) →
     AreParts f from (first * count) (end * count) to before middle after
-slot-parts f from to first end count before middle after cut le x y z = record {
-  order = (cut.from_first, mul-le-mul_right count le, cut.end_to);
+slot-parts f from to first end count before middle after cut x y z = record {
+  order = (cut.from_first, mul-le-mul_right count cut.order, cut.end_to);
   before_is = x ∙ slots-units f from (first * count - from);
-  middle_is = y ∙ units-slots f first end count le;
+  middle_is = y ∙ units-slots f first end count cut.order;
   after_is = z ∙ slots-units f (end * count) (to - end * count);
 }
 
 -- reads that take no more than there are slots
-pub cut-steps : (from to count first end : ℕ) → IsCut from to count first end → first ≤ end →
+pub cut-steps : (from to count first end : ℕ) → IsCut from to count first end →
     first * count - from + (end - first) + (to - end * count) ≤ to - from
-cut-steps from to count first end cut le =
+cut-steps from to count first end cut =
     by (end - first) (ap (λ n. n * count) (let e : end ≡ first + (end - first) =
-    omega (arith, le) in e) ∙ units_times first (end - first) count)
+    omega (arith, cut.order) in e) ∙ units_times first (end - first) count)
     (grow (end - first) count cut.some)
   where
     grow : (d count : ℕ) → 0 < count → d ≤ d * count
@@ -219,12 +222,27 @@ cut-steps from to count first end cut le =
     by d e less = omega (arith, e, less, cut.from_first, cut.end_to)
 
 -- the whole hours of 400 days
-pub cut-days : (from to count first end : ℕ) → IsCut from to count first end → first ≤ end
+cut-days : (from to count first end : ℕ) → IsCut from to count first end
     → to - from ≤ 400 * (24 * count) → end - first ≤ 9600
-cut-days from to count first end cut le few =
+cut-days from to count first end cut few =
     le_of_mul-le-mul_right
     (by (end - first) (ap (λ n. n * count) (let e : end ≡ first + (end - first) =
-    omega (arith, le) in e) ∙ units_times first (end - first) count)) cut.some
+    omega (arith, cut.order) in e) ∙ units_times first (end - first) count)) cut.some
   where
     by : (d : ℕ) → end * count ≡ first * count + d * count → d * count ≤ 9600 * count
     by d e = omega (arith, e, few, cut.from_first, cut.end_to)
+
+-- the reads of 400 days that are cut at whole hours: slots of two hours that aren't whole, and
+-- hours, of which those of a whole day are read at once
+pub reads-few : (from to count per_hour first end : ℕ) → IsCut from to count first end
+    → count ≡ per_hour → count ≤ 60 → to - from ≤ 400 * (24 * per_hour)
+    → first * count - from + (46 + (end - first) / 24) + (to - end * count) ≤ 564
+reads-few from to count per_hour first end cut same small few =
+    omega (
+      arith,
+      cut-days from to count first end cut
+          (subst (λ n. to - from ≤ 400 * (24 * n)) (sym same) few),
+      cut.near_first,
+      cut.near_end,
+      small,
+    )

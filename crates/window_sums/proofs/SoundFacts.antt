@@ -10,18 +10,18 @@ use Rattle.slice_method.specs.declared.method.Method.TheVariants.{Occurrences, T
 use Rattle.slice_method.specs.declared.method.Method.TheVariants.{RatioTimeslices}
 use Rattle.slice_method.specs.Leaves.{is_at_least, leaf, leaf_with_data}
 use Rattle.exact_fraction.specs.declared.leaf.Leaf.{Leaf}
-use Rattle.slo_terms.specs.Sums.{AreFew, AreSound}
+use Rattle.slo_terms.specs.Sums.{AreFew, AreSound, most_events}
 use Rattle.slo_terms.proofs.RangeLemmas.{sum_over-one, sum_over-same}
 use Rattle.window_sums.specs.Slices.{AreSoundCounts, CountedDays, counts_after, counts_of}
 use Rattle.window_sums.specs.Slices.{exchanged, leaf_at, slice_of}
 
 -- one place has no more than all of them
-pub few-one : (f : ℕ → ℕ) → AreFew f → (k : ℕ) → f k ≤ 4000000000000000
-few-one f few k = subst (λ n. n ≤ 4000000000000000) (sum_over-one f k) (few k 1)
+pub few-one : (f : ℕ → ℕ) → AreFew f → (k : ℕ) → f k ≤ most_events
+few-one f few k = subst (λ n. n ≤ most_events) (sum_over-one f k) (few k 1)
 
 few-same : (f g : ℕ → ℕ) → ((k : ℕ) → f k ≡ g k) → AreFew f → AreFew g
 few-same f g same few first count =
-    subst (λ n. n ≤ 4000000000000000) (sum_over-same f g same first count) (few first count)
+    subst (λ n. n ≤ most_events) (sum_over-same f g same first count) (few first count)
 
 -- the same counts are as sound
 pub sound-same : (method : Method) (f g : ℕ → Counts) → ((k : ℕ) → f k ≡ g k)

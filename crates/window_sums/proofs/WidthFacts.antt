@@ -76,7 +76,7 @@ hour-divides w divides =
     subst (λ n. 60 / w ∣ n) (mul-div_cancel' w divides) (dvd-mul_left (60 / w) w)
 
 -- so many days have the slices of so many days at most
-slices-of_days : (n w from to first : ℕ) → w ∣ 60 → from ≤ first * w → to - from ≤ n * 1440
+pub slices-of_days : (n w from to first : ℕ) → w ∣ 60 → from ≤ first * w → to - from ≤ n * 1440
     → to / w - first ≤ n * (24 * (60 / w))
 slices-of_days n w from to first divides begins few =
     le_of_mul-le-mul_right (by (leb_tells first (to / w))) (width-some w divides)
@@ -103,15 +103,3 @@ slices-of_days n w from to first divides begins few =
         (some (to / w - first) (ap (λ n. n * w) (let e2 : to / w ≡ first + (to / w - first) =
         omega (arith, e.1) in e2) ∙ times first (to / w - first)))
     by (inr e) = rw (all (60 / w) (day_long w divides)) (none (to / w - first) (omega (arith, e.1)))
-
--- 400 days have the slices of 400 days at most
-pub slices-few : (w from to first : ℕ) → w ∣ 60 → from ≤ first * w → to - from ≤ 576000
-    → to / w - first ≤ 400 * (24 * (60 / w))
-slices-few w from to first divides begins few =
-    slices-of_days 400 w from to first divides begins few
-
--- and 30 days those of 30
-pub slices-of_a_month : (w from to first : ℕ) → w ∣ 60 → from ≤ first * w → to - from ≤ 43200
-    → to / w - first ≤ 30 * (24 * (60 / w))
-slices-of_a_month w from to first divides begins few =
-    slices-of_days 30 w from to first divides begins few

@@ -41,7 +41,7 @@ pub(crate) fn sum_slots<L: Ledger>(
     let hours = sum_hours(pages, first, end, steps);
     let after = sum_units(pages, Unit::Slot, end * per_hour, to, steps);
     pages.sound();
-    plus(plus(before, hours), after)
+    joined(before, hours, after)
 }
 
 // The leaves of the hours from `from` up to `to`: hours up to a whole day, then days, and hours
@@ -61,7 +61,7 @@ fn sum_hours<L: Ledger>(pages: &SumPages, from: u32, to: u32, steps: &mut Steps<
     let days = sum_units(pages, Unit::Day, first, end, steps);
     let after = sum_units(pages, Unit::Hour, end * HOURS_A_DAY, to, steps);
     pages.sound();
-    plus(plus(before, days), after)
+    joined(before, days, after)
 }
 
 // The leaves of the units from `from` up to `to`, each read by itself.
@@ -94,6 +94,18 @@ pub(crate) fn read<L: Ledger>(pages: &SumPages, unit: Unit, at: u32, steps: &mut
         Unit::Slot => pages.read_leaf(at, steps),
         Unit::Hour => pages.read_hour(at, steps),
         Unit::Day => pages.read_day(at, steps),
+    }
+}
+
+// Three sums side by side.
+fn joined(before: Leaf, middle: Leaf, after: Leaf) -> Leaf
+    requires part { before.num + middle.num + after.num ≤ before.den + middle.den + after.den }
+    requires few { before.den + middle.den + after.den ≤ most_events }
+    ensures { result ≡ plus (plus before middle) after }
+{
+    Leaf {
+        num: before.num + middle.num + after.num,
+        den: before.den + middle.den + after.den,
     }
 }
 

@@ -1,84 +1,40 @@
-use Rattle.std.proofs.Common.{◌+◌, ◌-◌, ◌*◌, ◌/◌, ◌≤◌, ap, sym, subst, ◌∙◌, arith}
-use Rattle.slo_terms.specs.Sums.{leaves_over}
+use Rattle.std.proofs.Common.{◌*◌, ◌/◌, sym, ◌∙◌, arith}
 use Rattle.sum_pages.specs.Pages.{leaf_at}
-use Rattle.window_sums.specs.Ranges.{plus}
-use Rattle.window_sums.proofs.RangeFacts.{IsCut, cut-days, cut-steps, first-few, at_most, is_cut}
-use Rattle.window_sums.proofs.RangeFacts.{larger-parts, parts-sum, second-few, slot-parts}
-use Rattle.window_sums.proofs.RangeFacts.{units-slots}
+use Rattle.window_sums.proofs.RangeFacts.{AreParts, IsCut, cut-range, is_cut}
+use Rattle.window_sums.proofs.RangeFacts.{larger-parts, parts-few, parts-sum, units-slots}
+use Rattle.window_sums.proofs.range.sum_hours.Given.{Over}
 use Rattle.window_sums.proofs.range.sum_hours.Goals as goal
+use Rattle.window_sums.proofs.range.sum_hours.Goals.{After-sound}
 
-pub plus-requires-clause-part : goal.plus-requires-clause-part
-plus-requires-clause-part g c =
-    let leaf = leaf_at c.args.pages.now in
-    let first = c.div_ceil-first.result in
-    let end = c.args.to / 24 in
-    let cut : IsCut c.args.from c.args.to 24 first end =
-    subst (λ n. IsCut c.args.from c.args.to 24 n end) (sym c.div_ceil-first.ensures)
-    (is_cut c.args.from c.args.to 24 (omega arith)) in
-    let parts = larger-parts leaf c.args.from c.args.to first end 24 c.args.pages.now.per_hour
-    c.sum_units-before.result c.sum_units-days.result c.sum_units-after.result cut
-    (at_most first end c.if-end-first.false) c.sum_units-before.ensures.value
-    c.sum_units-days.ensures.value c.sum_units-after.ensures.value in
-    (first-few parts c.sound.ensures).0
+-- the hours are cut at whole days
+cut : (g : Over) (c : After-sound g)
+    → IsCut c.args.from c.args.to 24 c.div_ceil-first.result (c.args.to / 24)
+cut g c = is_cut c.args.from c.args.to 24 c.div_ceil-first.result (omega arith)
+    c.div_ceil-first.ensures c.if-end-first.false
 
-pub plus-requires-clause-few : goal.plus-requires-clause-few
-plus-requires-clause-few g c =
-    let leaf = leaf_at c.args.pages.now in
-    let first = c.div_ceil-first.result in
-    let end = c.args.to / 24 in
-    let cut : IsCut c.args.from c.args.to 24 first end =
-    subst (λ n. IsCut c.args.from c.args.to 24 n end) (sym c.div_ceil-first.ensures)
-    (is_cut c.args.from c.args.to 24 (omega arith)) in
-    let parts = larger-parts leaf c.args.from c.args.to first end 24 c.args.pages.now.per_hour
-    c.sum_units-before.result c.sum_units-days.result c.sum_units-after.result cut
-    (at_most first end c.if-end-first.false) c.sum_units-before.ensures.value
-    c.sum_units-days.ensures.value c.sum_units-after.ensures.value in
-    (first-few parts c.sound.ensures).1
+-- their three sums, side by side
+parts : (g : Over) (c : After-sound g) → AreParts (leaf_at c.args.pages.now)
+    (c.args.from * c.args.pages.now.per_hour)
+    (c.div_ceil-first.result * 24 * c.args.pages.now.per_hour)
+    (c.args.to / 24 * 24 * c.args.pages.now.per_hour) (c.args.to * c.args.pages.now.per_hour)
+    c.sum_units-before.result c.sum_units-days.result c.sum_units-after.result
+parts g c =
+    larger-parts (leaf_at c.args.pages.now) c.args.from c.args.to c.div_ceil-first.result
+    (c.args.to / 24) 24 c.args.pages.now.per_hour c.sum_units-before.result
+    c.sum_units-days.result c.sum_units-after.result (cut g c) c.sum_units-before.ensures.value
+    c.sum_units-days.ensures.value c.sum_units-after.ensures.value
 
-pub plus-requires-2-clause-part : goal.plus-requires-2-clause-part
-plus-requires-2-clause-part g c =
-    let leaf = leaf_at c.args.pages.now in
-    let first = c.div_ceil-first.result in
-    let end = c.args.to / 24 in
-    let cut : IsCut c.args.from c.args.to 24 first end =
-    subst (λ n. IsCut c.args.from c.args.to 24 n end) (sym c.div_ceil-first.ensures)
-    (is_cut c.args.from c.args.to 24 (omega arith)) in
-    let parts = larger-parts leaf c.args.from c.args.to first end 24 c.args.pages.now.per_hour
-    c.sum_units-before.result c.sum_units-days.result c.sum_units-after.result cut
-    (at_most first end c.if-end-first.false) c.sum_units-before.ensures.value
-    c.sum_units-days.ensures.value c.sum_units-after.ensures.value in
-    (second-few parts c.sound.ensures c.plus.result c.plus.ensures).0
+pub joined-requires-clause-part : goal.joined-requires-clause-part
+joined-requires-clause-part g c =
+    (parts-few (parts g (goal.at.joined-requires-clause-part g c).After-sound) c.sound.ensures).0
 
-pub plus-requires-2-clause-few : goal.plus-requires-2-clause-few
-plus-requires-2-clause-few g c =
-    let leaf = leaf_at c.args.pages.now in
-    let first = c.div_ceil-first.result in
-    let end = c.args.to / 24 in
-    let cut : IsCut c.args.from c.args.to 24 first end =
-    subst (λ n. IsCut c.args.from c.args.to 24 n end) (sym c.div_ceil-first.ensures)
-    (is_cut c.args.from c.args.to 24 (omega arith)) in
-    let parts = larger-parts leaf c.args.from c.args.to first end 24 c.args.pages.now.per_hour
-    c.sum_units-before.result c.sum_units-days.result c.sum_units-after.result cut
-    (at_most first end c.if-end-first.false) c.sum_units-before.ensures.value
-    c.sum_units-days.ensures.value c.sum_units-after.ensures.value in
-    (second-few parts c.sound.ensures c.plus.result c.plus.ensures).1
+pub joined-requires-clause-few : goal.joined-requires-clause-few
+joined-requires-clause-few g c =
+    (parts-few (parts g (goal.at.joined-requires-clause-few g c).After-sound) c.sound.ensures).1
 
 pub returns-clause-value : goal.returns-clause-value
 returns-clause-value g c =
-    let leaf = leaf_at c.args.pages.now in
-    let first = c.div_ceil-first.result in
-    let end = c.args.to / 24 in
-    let cut : IsCut c.args.from c.args.to 24 first end =
-    subst (λ n. IsCut c.args.from c.args.to 24 n end) (sym c.div_ceil-first.ensures)
-    (is_cut c.args.from c.args.to 24 (omega arith)) in
-    let parts = larger-parts leaf c.args.from c.args.to first end 24 c.args.pages.now.per_hour
-    c.sum_units-before.result c.sum_units-days.result c.sum_units-after.result cut
-    (at_most first end c.if-end-first.false) c.sum_units-before.ensures.value
-    c.sum_units-days.ensures.value c.sum_units-after.ensures.value in
-    c.plus-2.ensures ∙ ap (λ s. plus s c.sum_units-after.result) c.plus.ensures ∙ parts-sum parts
-    ∙ sym (units-slots leaf c.args.from c.args.to c.args.pages.now.per_hour (omega (
-      arith,
-      cut.from_first,
-      cut.end_to,
-      at_most first end c.if-end-first.false,
-    )))
+    let at = (goal.at.returns-clause-value g c).After-sound in
+    c.joined.ensures ∙ parts-sum (parts g at)
+    ∙ sym (units-slots (leaf_at c.args.pages.now) c.args.from c.args.to c.args.pages.now.per_hour
+    (cut-range c.args.from c.args.to 24 c.div_ceil-first.result (c.args.to / 24) (cut g at)))

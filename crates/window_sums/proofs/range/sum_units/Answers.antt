@@ -1,4 +1,4 @@
-use Rattle.std.proofs.Common.{◌+◌, ◌-◌, ◌*◌, ap, sym, ◌∙◌, arith}
+use Rattle.std.proofs.Common.{◌-◌, ◌*◌, ap, sym, ◌∙◌, arith}
 use Rattle.slo_terms.specs.Sums.{leaves_over}
 use Rattle.sum_pages.specs.Pages.{leaf_at}
 use Rattle.window_sums.specs.Ranges.{plus, slots_of}

@@ -1,9 +1,8 @@
 use Rattle.std.proofs.Common.{◌≡◌, Some, IfSome, sym, ap, subst, ◌∙◌, position, nat_eq, slice_get}
-use Rattle.std.proofs.Common.{slice_set, slice_index_or, unwrap_or, []}
+use Rattle.std.proofs.Common.{slice_set, unwrap_or, []}
 use Rattle.std.specs.Map.{keys_of, lookup, set_value, values_of}
 use Rattle.sum_pages.specs.DayTables.{values_of_day}
 use Rattle.sum_pages.proofs.DayLemmas.{set_value_at-found}
-use Rattle.window_sums.specs.Slices.{exchanged, no_counts}
 use Rattle.window_sums.proofs.window_sums.exchange_in.Goals as goal
 
 pub returns-clause-days : goal.returns-clause-days

@@ -1,118 +1,55 @@
-use Rattle.std.proofs.Common.{◌≡◌, ◌+◌, ◌-◌, ◌*◌, ◌/◌, ◌≤◌, ap, sym, subst, ◌∙◌}
-use Rattle.std.specs.Int.{◌∣◌}
-use Rattle.std.proofs.lemmas.Grind.{div_ceil_times}
+use Rattle.std.proofs.Common.{◌≡◌, ◌+◌, ◌-◌, ◌/◌, ◌≤◌, sym, subst, ◌∙◌}
 use Rattle.exact_fraction.specs.declared.leaf.Leaf.{Leaf}
-use Rattle.slo_terms.specs.Sums.{leaves_over, most_events, slice_from, slices_until}
+use Rattle.slo_terms.specs.Sums.{most_events, slice_from, slices_until, sum_of_slices}
 use Rattle.slo_terms.proofs.RangeLemmas.{leaves-part}
-use Rattle.sum_pages.specs.Pages as paged
-use Rattle.window_sums.specs.Slices.{CountedDays, leaf_at, width_of}
-use Rattle.window_sums.proofs.KeptFacts.{leaves_over-same}
-use Rattle.window_sums.proofs.WidthFacts.{slice_from-div_ceil, slices-few}
+use Rattle.window_sums.specs.Slices.{leaf_at, width_of}
+use Rattle.window_sums.proofs.ReadLemmas.{AreSlots, are_slots}
+use Rattle.window_sums.proofs.window_sums.WindowSums.sum.Given.{Over}
 use Rattle.window_sums.proofs.window_sums.WindowSums.sum.Goals as goal
+use Rattle.window_sums.proofs.window_sums.WindowSums.sum.Goals.{After-sum_slots}
+
+-- the slots that are read
+slots : (g : Over) (c : After-sum_slots g) → AreSlots c.args.self.now c.self.inside.pages
+    c.args.from c.args.to c.div_ceil.result
+    (c.args.to / c.width_of-width.result - c.div_ceil.result)
+slots g c =
+    are_slots c.args.self.now
+    (record { method = c.self.inside.method; days = c.self.inside.days.entries })
+    c.self.inside.pages c.args.from c.args.to c.width_of-width.result c.div_ceil.result
+    c.self.invariant c.self.view_is c.width_of-width.ensures.value c.div_ceil.ensures
+
+-- and what they add up to
+value : (g : Over) (c : After-sum_slots g) → c.sum_slots.result
+    ≡ sum_of_slices (width_of c.args.self.now.method) (leaf_at c.args.self.now) c.args.from
+    c.args.to
+value g c = c.sum_slots.ensures.value ∙ (slots g c).sum
 
 pub returns-clause-value : goal.returns-clause-value
-returns-clause-value g c =
-    let sums : CountedDays = record {
-      method = c.self.inside.method;
-      days = c.self.inside.days.entries;
-    } in
-    let width : c.width_of-width.result ≡ width_of c.args.self.now.method =
-    c.width_of-width.ensures.value
-    ∙ ap (λ (s : CountedDays). width_of s.method) c.self.view_is in
-    let first : c.div_ceil.result ≡ slice_from (width_of c.args.self.now.method) c.args.from =
-    c.div_ceil.ensures ∙ slice_from-div_ceil c.width_of-width.result c.args.from
-    c.width_of-width.ensures.some ∙ ap (λ w. slice_from w c.args.from) width in
-    let value = c.sum_slots.ensures.value
-    ∙ leaves_over-same (paged.leaf_at c.self.inside.pages) (leaf_at sums) c.self.invariant.leaves
-    c.div_ceil.result (c.args.to / c.width_of-width.result - c.div_ceil.result)
-    ∙ ap (λ s. leaves_over (leaf_at s) c.div_ceil.result
-    (c.args.to / c.width_of-width.result - c.div_ceil.result)) c.self.view_is
-    ∙ ap (λ n. leaves_over (leaf_at c.args.self.now) n (c.args.to / c.width_of-width.result - n))
-    first
-    ∙ ap (λ w. leaves_over (leaf_at c.args.self.now)
-    (slice_from (width_of c.args.self.now.method) c.args.from)
-    (c.args.to / w - slice_from (width_of c.args.self.now.method) c.args.from)) width in
-    value
+returns-clause-value g c = value g (goal.at.returns-clause-value g c).After-sum_slots
 
 pub returns-clause-part : goal.returns-clause-part
 returns-clause-part g c =
-    let sums : CountedDays = record {
-      method = c.self.inside.method;
-      days = c.self.inside.days.entries;
-    } in
-    let width : c.width_of-width.result ≡ width_of c.args.self.now.method =
-    c.width_of-width.ensures.value
-    ∙ ap (λ (s : CountedDays). width_of s.method) c.self.view_is in
-    let first : c.div_ceil.result ≡ slice_from (width_of c.args.self.now.method) c.args.from =
-    c.div_ceil.ensures ∙ slice_from-div_ceil c.width_of-width.result c.args.from
-    c.width_of-width.ensures.some ∙ ap (λ w. slice_from w c.args.from) width in
-    let value = c.sum_slots.ensures.value
-    ∙ leaves_over-same (paged.leaf_at c.self.inside.pages) (leaf_at sums) c.self.invariant.leaves
-    c.div_ceil.result (c.args.to / c.width_of-width.result - c.div_ceil.result)
-    ∙ ap (λ s. leaves_over (leaf_at s) c.div_ceil.result
-    (c.args.to / c.width_of-width.result - c.div_ceil.result)) c.self.view_is
-    ∙ ap (λ n. leaves_over (leaf_at c.args.self.now) n (c.args.to / c.width_of-width.result - n))
-    first
-    ∙ ap (λ w. leaves_over (leaf_at c.args.self.now)
+    subst (λ (l : Leaf). l.num ≤ l.den)
+    (sym (value g (goal.at.returns-clause-part g c).After-sum_slots))
+    (leaves-part (leaf_at c.args.self.now) c.sound.ensures
     (slice_from (width_of c.args.self.now.method) c.args.from)
-    (c.args.to / w - slice_from (width_of c.args.self.now.method) c.args.from)) width in
-    subst (λ (l : Leaf). l.num ≤ l.den) (sym value) (leaves-part (leaf_at c.args.self.now)
-    c.sound.ensures (slice_from (width_of c.args.self.now.method) c.args.from)
     (slices_until (width_of c.args.self.now.method) c.args.to - slice_from
     (width_of c.args.self.now.method) c.args.from))
 
 pub returns-clause-few : goal.returns-clause-few
 returns-clause-few g c =
-    let sums : CountedDays = record {
-      method = c.self.inside.method;
-      days = c.self.inside.days.entries;
-    } in
-    let width : c.width_of-width.result ≡ width_of c.args.self.now.method =
-    c.width_of-width.ensures.value
-    ∙ ap (λ (s : CountedDays). width_of s.method) c.self.view_is in
-    let first : c.div_ceil.result ≡ slice_from (width_of c.args.self.now.method) c.args.from =
-    c.div_ceil.ensures ∙ slice_from-div_ceil c.width_of-width.result c.args.from
-    c.width_of-width.ensures.some ∙ ap (λ w. slice_from w c.args.from) width in
-    let value = c.sum_slots.ensures.value
-    ∙ leaves_over-same (paged.leaf_at c.self.inside.pages) (leaf_at sums) c.self.invariant.leaves
-    c.div_ceil.result (c.args.to / c.width_of-width.result - c.div_ceil.result)
-    ∙ ap (λ s. leaves_over (leaf_at s) c.div_ceil.result
-    (c.args.to / c.width_of-width.result - c.div_ceil.result)) c.self.view_is
-    ∙ ap (λ n. leaves_over (leaf_at c.args.self.now) n (c.args.to / c.width_of-width.result - n))
-    first
-    ∙ ap (λ w. leaves_over (leaf_at c.args.self.now)
-    (slice_from (width_of c.args.self.now.method) c.args.from)
-    (c.args.to / w - slice_from (width_of c.args.self.now.method) c.args.from)) width in
     subst (λ (l : Leaf). l.den ≤ most_events)
-    (sym value) (c.sound.ensures.few (slice_from (width_of c.args.self.now.method) c.args.from)
+    (sym (value g (goal.at.returns-clause-few g c).After-sum_slots))
+    (c.sound.ensures.few (slice_from (width_of c.args.self.now.method) c.args.from)
     (slices_until (width_of c.args.self.now.method) c.args.to - slice_from
     (width_of c.args.self.now.method) c.args.from))
 
 pub returns-clause-bounded : goal.returns-clause-bounded
 returns-clause-bounded g c = λ few.
-    let hour = c.self.invariant.hour ∙ ap (λ w. 60 / w) (sym c.width_of-width.ensures.value) in
-    let divides =
-    subst (λ w. w ∣ 60) (sym c.width_of-width.ensures.value) c.self.invariant.counted.divides in
-    let begins = subst (λ n. c.args.from ≤ n * c.width_of-width.result) (sym c.div_ceil.ensures)
-    (div_ceil_times c.args.from c.width_of-width.result c.width_of-width.ensures.some).0 in
     c.sum_slots.ensures.bounded
-    (subst (λ n. c.args.to / c.width_of-width.result - c.div_ceil.result ≤ 400 * (24 * n))
-    (sym hour)
-    (slices-few c.width_of-width.result c.args.from c.args.to c.div_ceil.result divides begins few))
+    ((slots g (goal.at.returns-clause-bounded g c).After-sum_slots).few 400 few)
 
 pub returns-clause-short : goal.returns-clause-short
 returns-clause-short g c =
-    let sums : CountedDays = record {
-      method = c.self.inside.method;
-      days = c.self.inside.days.entries;
-    } in
-    let width : c.width_of-width.result ≡ width_of c.args.self.now.method =
-    c.width_of-width.ensures.value
-    ∙ ap (λ (s : CountedDays). width_of s.method) c.self.view_is in
-    let first : c.div_ceil.result ≡ slice_from (width_of c.args.self.now.method) c.args.from =
-    c.div_ceil.ensures ∙ slice_from-div_ceil c.width_of-width.result c.args.from
-    c.width_of-width.ensures.some ∙ ap (λ w. slice_from w c.args.from) width in
-    subst (λ w. c.sum_slots.new.steps ≤ c.args.steps.now
-    + (c.args.to / w - slice_from (width_of c.args.self.now.method) c.args.from)) width
-    (subst (λ n. c.sum_slots.new.steps ≤ c.args.steps.now
-    + (c.args.to / c.width_of-width.result - n)) first c.sum_slots.ensures.short)
+    subst (λ n. c.sum_slots.new.steps ≤ c.args.steps.now + n)
+    (slots g (goal.at.returns-clause-short g c).After-sum_slots).slices c.sum_slots.ensures.short
