@@ -5,6 +5,7 @@ use Rattle.std.specs.Int.{◌∣◌, div_ceil}
 use Rattle.std.proofs.Math.Nat.{div-add-mod', div-div-eq-div-mul, div-mul-le_self, dvd-mul_left}
 use Rattle.std.proofs.Math.Nat.{le_of_mul-le-mul_right, mul-div_cancel', pos_of_dvd_of_pos}
 use Rattle.std.proofs.lemmas.Bool.Decides.{leb_tells}
+use Rattle.slo_limits.specs.declared.TheConstants.{MINUTES_A_DAY}
 use Rattle.slice_method.specs.declared.method.Method.{Method}
 use Rattle.slice_method.specs.declared.method.Method.TheVariants.{Timeslices, RatioTimeslices}
 use Rattle.window_sums.specs.Slices.{width_of}
@@ -26,24 +27,25 @@ width-named method w (inl is) divides = subst (λ m. width_of m ∣ 60) is.1 div
 width-named method w (inr is) divides = subst (λ m. width_of m ∣ 60) is divides
 
 -- the slices of a day are a day long
-day_long : (w : ℕ) → w ∣ 60 → w * (24 * (60 / w)) ≡ 1440
+day_long : (w : ℕ) → w ∣ 60 → w * (24 * (60 / w)) ≡ MINUTES_A_DAY
 day_long w divides = by (60 / w) (mul-div_cancel' w divides)
   where
     regroup : (q : ℕ) → w * (24 * q) ≡ 24 * (w * q)
     regroup q = omega arith
 
-    by : (q : ℕ) → w * q ≡ 60 → w * (24 * q) ≡ 1440
+    by : (q : ℕ) → w * q ≡ 60 → w * (24 * q) ≡ MINUTES_A_DAY
     by q e = regroup q ∙ ap (λ n. 24 * n) e
 
 pub slices-some : (w : ℕ) → w ∣ 60 → 0 < 24 * (60 / w)
 slices-some w divides = by (24 * (60 / w)) (day_long w divides)
   where
-    by : (n : ℕ) → w * n ≡ 1440 → 0 < n
+    by : (n : ℕ) → w * n ≡ MINUTES_A_DAY → 0 < n
     by zero e = omega (arith, e)
     by (suc n) e = omega arith
 
 -- the day of a minute's slice is the minute's day
-pub day_of_slice : (w minute : ℕ) → w ∣ 60 → minute / w / (24 * (60 / w)) ≡ minute / 1440
+pub day_of_slice : (w minute : ℕ) → w ∣ 60
+    → minute / w / (24 * (60 / w)) ≡ minute / MINUTES_A_DAY
 day_of_slice w minute divides = div-div-eq-div-mul minute w (24 * (60 / w))
     ∙ ap (λ n. minute / n) (day_long w divides)
 
@@ -76,8 +78,8 @@ hour-divides w divides =
     subst (λ n. 60 / w ∣ n) (mul-div_cancel' w divides) (dvd-mul_left (60 / w) w)
 
 -- so many days have the slices of so many days at most
-pub slices-of_days : (n w from to first : ℕ) → w ∣ 60 → from ≤ first * w → to - from ≤ n * 1440
-    → to / w - first ≤ n * (24 * (60 / w))
+pub slices-of_days : (n w from to first : ℕ) → w ∣ 60 → from ≤ first * w
+    → to - from ≤ n * MINUTES_A_DAY → to / w - first ≤ n * (24 * (60 / w))
 slices-of_days n w from to first divides begins few =
     le_of_mul-le-mul_right (by (leb_tells first (to / w))) (width-some w divides)
   where
@@ -87,13 +89,13 @@ slices-of_days n w from to first divides begins few =
     regroup : (q : ℕ) → n * (24 * q) * w ≡ n * (w * (24 * q))
     regroup q = omega arith
 
-    all : (q : ℕ) → w * (24 * q) ≡ 1440 → n * (24 * q) * w ≡ n * 1440
+    all : (q : ℕ) → w * (24 * q) ≡ MINUTES_A_DAY → n * (24 * q) * w ≡ n * MINUTES_A_DAY
     all q e = regroup q ∙ ap (λ m. n * m) e
 
-    none : (m : ℕ) → m ≡ 0 → m * w ≤ n * 1440
+    none : (m : ℕ) → m ≡ 0 → m * w ≤ n * MINUTES_A_DAY
     none m e = rw e (omega arith)
 
-    some : (d : ℕ) → to / w * w ≡ first * w + d * w → d * w ≤ n * 1440
+    some : (d : ℕ) → to / w * w ≡ first * w + d * w → d * w ≤ n * MINUTES_A_DAY
     some d e = omega (arith, e, begins, few, div-mul-le_self to w)
 
     by : ((nat_le first (to / w) ≡ true) × (first ≤ to / w))

@@ -3,6 +3,7 @@ use Rattle.std.specs.Prelude.{ℕ, Bool, ◌+◌, ◌-◌, ◌*◌, ◌/◌, ◌
 use Rattle.std.specs.Prelude.{nat_lt, IsTrue, List, All, length, if◌then◌else◌}
 use Rattle.std.specs.Int.{◌∣◌}
 use Rattle.std.specs.Map.{values_of}
+use Rattle.slo_limits.specs.declared.TheConstants.{MINUTES_A_DAY}
 use Rattle.slice_method.specs.declared.amount.Counts.{Counts}
 use Rattle.slice_method.specs.declared.method.Method.{Method}
 use Rattle.slice_method.specs.declared.method.Method.TheVariants.{Occurrences, Timeslices}
@@ -25,7 +26,7 @@ slices_a_day method = 24 * (60 / width_of method)
 
 -- the day that a minute lies in
 abbrev pub day_of : ℕ → ℕ
-day_of minute = minute / 1440
+day_of minute = minute / MINUTES_A_DAY
 
 -- the slice that a minute lies in
 abbrev pub slice_of : Method → ℕ → ℕ

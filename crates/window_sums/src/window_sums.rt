@@ -22,12 +22,11 @@ use counted_steps::Steps;
 use exact_fraction::Leaf;
 use indexmap::IndexMap;
 use slice_method::{Counts, Method, leaf_of};
+use slo_limits::MINUTES_A_DAY;
 use std::alloc::{AllocError, Global};
 use std::marker::Model;
 use std::sync::ledger::Ledger;
 use sum_pages::SumPages;
-
-const MINUTES_A_DAY: u32 = 1_440;
 
 /// The counts of each slice of time, and pages of their leaves, from which sums over ranges are
 /// made. A slice of a day that isn't there has the counts (0, 0).
