@@ -11,7 +11,7 @@ use Rattle.slo_terms.specs.Sums.{leaves_over, most_events, sum_over}
 use Rattle.slo_terms.proofs.RangeLemmas.{sum_over-apart, sum_over-changed, sum_over-like}
 use Rattle.slo_terms.proofs.RangeLemmas.{sum_over-none, sum_over-part, sum_over-split}
 use Rattle.slo_terms.proofs.RangeLemmas.{sum_over-term, sum_over-within}
-use Rattle.sum_pages.specs.Pages.{IsPage, MayExchange, exchanged, leaf_in, no_leaf}
+use Rattle.sum_pages.specs.Pages.{IsPage, MayExchange, new_total, leaf_in, no_leaf}
 
 -- a total that gains `new` and loses `old`
 exchange : (old new a b : ℕ) → b ≤ old → new + b ≡ old + a → new ≡ old - b + a
@@ -30,7 +30,7 @@ module _ (leaves : List Leaf) (place : ℕ) (value : Leaf) (within : place < len
   -- a range with the place loses the old leaf and gains the new one
   pub leaves_over-changed : (first count : ℕ) → first ≤ place → place < first + count →
       leaves_over (leaf_in (slice_set leaves place value)) first count
-      ≡ exchanged (leaves_over (leaf_in leaves) first count) (leaf_in leaves place) value
+      ≡ new_total (leaves_over (leaf_in leaves) first count) (leaf_in leaves place) value
   leaves_over-changed first count a b = λ i. record { num = num i; den = den i }
     where
       num : (leaves_over (leaf_in after) first count).num
@@ -214,9 +214,9 @@ pub IsPage-set : (leaves hours : List Leaf) (total : Leaf) (place per_hour : ℕ
     (value of_hour of_day : Leaf) → IsPage leaves hours total →
     place < length leaves → length leaves ≡ 24 * per_hour → value.num ≤ value.den →
     (leaves_over (leaf_in (slice_set leaves place value)) 0 (length leaves)).den ≤ most_events →
-    of_hour ≡ exchanged (leaves_over (leaf_in leaves) (place / per_hour * (length leaves / 24))
+    of_hour ≡ new_total (leaves_over (leaf_in leaves) (place / per_hour * (length leaves / 24))
     (length leaves / 24)) (leaf_in leaves place) value →
-    of_day ≡ exchanged (leaves_over (leaf_in leaves) 0 (length leaves))
+    of_day ≡ new_total (leaves_over (leaf_in leaves) 0 (length leaves))
     (leaf_in leaves place) value →
     IsPage (slice_set leaves place value) (slice_set hours (place / per_hour) of_hour) of_day
 IsPage-set leaves hours total place per_hour value of_hour of_day page within hours_are part few
@@ -249,7 +249,7 @@ IsPage-set leaves hours total place per_hour value of_hour of_day page within ho
             ap (λ k. leaf_in (slice_set hours (place / per_hour) of_hour) k) same.1
             ∙ get_or-set_same hours (place / per_hour) of_hour no_leaf
             (omega (arith, its.hour, page.all))
-            ∙ hour_is ∙ ap (λ n. exchanged (leaves_over (leaf_in leaves) (place / per_hour * n) n)
+            ∙ hour_is ∙ ap (λ n. new_total (leaves_over (leaf_in leaves) (place / per_hour * n) n)
             (leaf_in leaves place) value) long
             ∙ sym (leaves_over-changed leaves place value within (place / per_hour * per_hour)
             per_hour its.from its.to)

@@ -41,16 +41,16 @@ abbrev pub leaf_in : List Leaf → ℕ → Leaf
 leaf_in leaves place = slice_index_or leaves place no_leaf
 
 -- a total that loses one leaf and gains another
-abbrev pub exchanged : Leaf → Leaf → Leaf → Leaf
-exchanged total before after =
+abbrev pub new_total : Leaf → Leaf → Leaf → Leaf
+new_total total before after =
     record { num = total.num - before.num + after.num; den = total.den - before.den + after.den }
 
 -- the total has the one, and stays small with the other
 pub record MayExchange (total before after : Leaf) : Type 0 where
   pub num : before.num ≤ total.num
   pub den : before.den ≤ total.den
-  pub num_after : (exchanged total before after).num ≤ most_events
-  pub den_after : (exchanged total before after).den ≤ most_events
+  pub num_after : (new_total total before after).num ≤ most_events
+  pub den_after : (new_total total before after).den ≤ most_events
 
 -- what is kept of a page: 24 hours of leaves, the total of each hour and that of the day
 pub record IsPage (leaves hours : List Leaf) (total : Leaf) : Type 0 where

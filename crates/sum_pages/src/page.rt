@@ -2,7 +2,7 @@
 ghost use Rattle.std.specs.Prelude.{◌≡◌, ◌+◌, ◌-◌, ◌*◌, ◌/◌, ◌<◌, ◌≤◌, ◌^◌, IfOk, length};
 ghost use Rattle.std.specs.Prelude.{replicate, slice_set};
 ghost use Rattle.slo_terms.specs.Sums.{leaves_over, most_events};
-ghost use Rattle.sum_pages.specs.Pages.{MayExchange, exchanged, leaf_in};
+ghost use Rattle.sum_pages.specs.Pages.{MayExchange, new_total, leaf_in};
 
 use exact_fraction::Leaf;
 use std::alloc::{AllocError, Global};
@@ -80,8 +80,8 @@ impl Page {
     {
         let before = self.leaf(place);
         let hour = place / per_hour;
-        let of_hour = exchanged(self.hour(hour), before, value);
-        let of_day = exchanged(self.total(), before, value);
+        let of_hour = new_total(self.hour(hour), before, value);
+        let of_day = new_total(self.total(), before, value);
         self.leaves[place] = value;
         self.hours[hour] = of_hour;
         self.total = of_day;
@@ -95,9 +95,9 @@ fn no_leaves(alloc: Global, count: u32) -> Result<Vec<Leaf>, AllocError>
 }
 
 // A total that loses one leaf and gains another.
-fn exchanged(total: Leaf, before: Leaf, after: Leaf) -> Leaf
+fn new_total(total: Leaf, before: Leaf, after: Leaf) -> Leaf
     requires { MayExchange total before after }
-    ensures { result ≡ exchanged total before after }
+    ensures { result ≡ new_total total before after }
 {
     Leaf {
         num: total.num - before.num + after.num,

@@ -16,7 +16,7 @@ use Rattle.slo_terms.proofs.RangeLemmas.{sum_over-part}
 use Rattle.sum_pages.specs.DayTables.{values_of_day}
 use Rattle.sum_pages.proofs.DayLemmas.{nothing_found}
 use Rattle.window_sums.specs.Slices.{AreCounted, AreSoundCounts, CountedDays, counts_after}
-use Rattle.window_sums.specs.Slices.{counts_of, counts_without, day_of, exchanged}
+use Rattle.window_sums.specs.Slices.{counts_of, counts_without, day_of, new_counts}
 use Rattle.window_sums.specs.Slices.{has_day, is_whole, no_counts, slice_of, slices_a_day, width_of}
 use Rattle.window_sums.proofs.WidthFacts.{day_of_slice}
 
@@ -73,8 +73,8 @@ day_there sums slice some =
     by false e = absurd (some (none_there sums (slice / slices_a_day sums.method) slice e refl))
 
 -- counts that lose all that they have
-exchanged-none : (c : Counts) → exchanged c c no_counts ≡ no_counts
-exchanged-none c = λ i. record { good = none c.good i; total = none c.total i }
+new_counts-none : (c : Counts) → new_counts c c no_counts ≡ no_counts
+new_counts-none c = λ i. record { good = none c.good i; total = none c.total i }
   where
     none : (n : ℕ) → n - n + 0 ≡ 0
     none n = omega arith
@@ -85,17 +85,17 @@ pub counts-cleared : (sums : CountedDays) (minute slice : ℕ) (counts : Counts)
     → counts_after sums minute counts no_counts k
     ≡ (if k == slice then no_counts else counts_of sums k)
 counts-cleared sums minute slice counts is all k =
-    ap (λ s. if k == s then exchanged (counts_of sums k) counts no_counts
+    ap (λ s. if k == s then new_counts (counts_of sums k) counts no_counts
     else counts_of sums k) is
-    ∙ ap (λ c. if k == slice then exchanged (counts_of sums k) c no_counts
+    ∙ ap (λ c. if k == slice then new_counts (counts_of sums k) c no_counts
     else counts_of sums k) all ∙ by (eqb_tells k slice)
   where
     by : ((nat_eq k slice ≡ true) × (k ≡ slice)) ⊎ ((nat_eq k slice ≡ false) × (k ≢ slice)) →
-        (if k == slice then exchanged (counts_of sums k) (counts_of sums slice) no_counts
+        (if k == slice then new_counts (counts_of sums k) (counts_of sums slice) no_counts
         else counts_of sums k) ≡ (if k == slice then no_counts else counts_of sums k)
     by (inl same) = rw same.0
-        (ap (λ j. exchanged (counts_of sums j) (counts_of sums slice) no_counts) same.1
-        ∙ exchanged-none (counts_of sums slice))
+        (ap (λ j. new_counts (counts_of sums j) (counts_of sums slice) no_counts) same.1
+        ∙ new_counts-none (counts_of sums slice))
     by (inr other) = rw other.0 refl
 
 -- where each place has no more, all together have no more

@@ -20,7 +20,7 @@ use Rattle.sum_pages.specs.Pages as paged
 use Rattle.sum_pages.proofs.DayLemmas.{days-added, days-changed, of_day, value_at-added}
 use Rattle.sum_pages.proofs.DayLemmas.{value_at-changed, values_of-push}
 use Rattle.window_sums.specs.Slices.{AreCounted, AreSoundCounts, CountedDays, IsKept, IsPart}
-use Rattle.window_sums.specs.Slices.{MayExchange, counts_after, counts_of, day_of, exchanged}
+use Rattle.window_sums.specs.Slices.{MayExchange, counts_after, counts_of, day_of, new_counts}
 use Rattle.window_sums.specs.Slices.{has_day, no_counts, slice_of, slices_a_day, width_of}
 use Rattle.window_sums.proofs.SoundFacts.{after-here, few-one, sound-same}
 use Rattle.window_sums.proofs.WidthFacts.{day_of_slice, slices-some}
@@ -106,36 +106,36 @@ module _ (sums : CountedDays) (slice : ℕ) (counts : Counts) (counted : AreCoun
 pub counts_of-after : (sums : CountedDays) (minute : ℕ) (before after : Counts) → AreCounted sums →
     IsTrue (has_day sums (slice_of sums.method minute / slices_a_day sums.method)) → (k : ℕ) →
     counts_of (sums_with sums (slice_of sums.method minute)
-    (exchanged (counts_of sums (slice_of sums.method minute)) before after)) k
+    (new_counts (counts_of sums (slice_of sums.method minute)) before after)) k
     ≡ counts_after sums minute before after k
 counts_of-after sums minute before after counted there k =
     with sums (slice_of sums.method minute)
-    (exchanged (counts_of sums (slice_of sums.method minute)) before after) counted there k
+    (new_counts (counts_of sums (slice_of sums.method minute)) before after) counted there k
     ∙ by (eqb_tells k (slice_of sums.method minute))
   where
     by : ((nat_eq k (slice_of sums.method minute) ≡ true) × (k ≡ slice_of sums.method minute))
         ⊎ ((nat_eq k (slice_of sums.method minute) ≡ false) × (k ≢ slice_of sums.method minute)) →
         (if k == slice_of sums.method minute
-        then exchanged (counts_of sums (slice_of sums.method minute)) before after
+        then new_counts (counts_of sums (slice_of sums.method minute)) before after
         else counts_of sums k) ≡ counts_after sums minute before after k
-    by (inl same) = rw same.0 (ap (λ j. exchanged (counts_of sums j) before after) (sym same.1))
+    by (inl same) = rw same.0 (ap (λ j. new_counts (counts_of sums j) before after) (sym same.1))
     by (inr other) = rw other.0 refl
 
 -- the leaf of each slice after a change, by the leaf of the one that changed
 pub leaf-after : (sums : CountedDays) (pages : paged.LeafDays) (minute : ℕ)
     (before after : Counts) → IsKept sums pages → (k : ℕ) →
     paged.leaf_after pages (slice_of sums.method minute)
-    (leaf sums.method (exchanged (counts_of sums (slice_of sums.method minute)) before after)) k
+    (leaf sums.method (new_counts (counts_of sums (slice_of sums.method minute)) before after)) k
     ≡ leaf sums.method (counts_after sums minute before after k)
 leaf-after sums pages minute before after kept k = by (eqb_tells k (slice_of sums.method minute))
   where
     by : ((nat_eq k (slice_of sums.method minute) ≡ true) × (k ≡ slice_of sums.method minute))
         ⊎ ((nat_eq k (slice_of sums.method minute) ≡ false) × (k ≢ slice_of sums.method minute)) →
         paged.leaf_after pages (slice_of sums.method minute) (leaf sums.method
-        (exchanged (counts_of sums (slice_of sums.method minute)) before after)) k
+        (new_counts (counts_of sums (slice_of sums.method minute)) before after)) k
         ≡ leaf sums.method (counts_after sums minute before after k)
     by (inl same) = rw same.0
-        (ap (λ j. leaf sums.method (exchanged (counts_of sums j) before after)) (sym same.1))
+        (ap (λ j. leaf sums.method (new_counts (counts_of sums j) before after)) (sym same.1))
     by (inr other) = rw other.0 (kept.leaves k)
 
 -- the same leaves have the same sum
@@ -156,12 +156,12 @@ pub pages-few : (sums : CountedDays) (pages : paged.LeafDays) (minute : ℕ) (be
     IsKept sums pages →
     AreFew (λ k. (leaf sums.method (counts_after sums minute before after k)).den) →
     AreFew (λ k. (paged.leaf_after pages (slice_of sums.method minute) (leaf sums.method
-    (exchanged (counts_of sums (slice_of sums.method minute)) before after)) k).den)
+    (new_counts (counts_of sums (slice_of sums.method minute)) before after)) k).den)
 pages-few sums pages minute before after kept few first count =
     subst (λ n. n ≤ most_events)
     (sum_over-same (λ k. (leaf sums.method (counts_after sums minute before after k)).den)
     (λ k. (paged.leaf_after pages (slice_of sums.method minute) (leaf sums.method
-    (exchanged (counts_of sums (slice_of sums.method minute)) before after)) k).den)
+    (new_counts (counts_of sums (slice_of sums.method minute)) before after)) k).den)
     (λ k. ap (λ (l : Leaf). l.den) (sym (leaf-after sums pages minute before after kept k))) first
     count) (few first count)
 
@@ -180,16 +180,16 @@ pub IsKept-after : (sums : CountedDays) (pages new : paged.LeafDays) (minute : �
     AreSoundCounts sums.method (counts_after sums minute before after) →
     new.per_hour ≡ pages.per_hour →
     ((k : ℕ) → paged.leaf_at new k ≡ paged.leaf_after pages (slice_of sums.method minute) (leaf
-    sums.method (exchanged (counts_of sums (slice_of sums.method minute)) before after)) k) →
+    sums.method (new_counts (counts_of sums (slice_of sums.method minute)) before after)) k) →
     ((day : ℕ) → paged.has_day new day ≡ paged.has_day pages day) →
     IsKept (sums_with sums (slice_of sums.method minute)
-    (exchanged (counts_of sums (slice_of sums.method minute)) before after)) new
+    (new_counts (counts_of sums (slice_of sums.method minute)) before after)) new
 IsKept-after sums pages new minute before after kept there sound hours leaves days = record {
   counted = AreCounted-with sums (slice_of sums.method minute)
-      (exchanged (counts_of sums (slice_of sums.method minute)) before after) kept.counted there
+      (new_counts (counts_of sums (slice_of sums.method minute)) before after) kept.counted there
       (sound-same sums.method (counts_after sums minute before after)
       (counts_of (sums_with sums (slice_of sums.method minute)
-      (exchanged (counts_of sums (slice_of sums.method minute)) before after)))
+      (new_counts (counts_of sums (slice_of sums.method minute)) before after)))
       (λ k. sym (counts_of-after sums minute before after kept.counted there k)) sound);
   hour = hours ∙ kept.hour;
   leaves = λ k. leaves k ∙ leaf-after sums pages minute before after kept k

@@ -10,7 +10,7 @@ use Rattle.slice_method.specs.declared.method.Method.TheVariants.{RatioTimeslice
 use Rattle.slice_method.specs.Leaves.{leaf, leaf_with_data}
 use Rattle.slo_terms.proofs.RangeLemmas.{sum_over-none, sum_over-same}
 use Rattle.sum_pages.proofs.RaisedLemmas.{sum_over-raised}
-use Rattle.window_sums.specs.Slices.{CountedDays, HasAtMost, counts_after, counts_of, exchanged}
+use Rattle.window_sums.specs.Slices.{CountedDays, HasAtMost, counts_after, counts_of, new_counts}
 use Rattle.window_sums.specs.Slices.{slice_of}
 use Rattle.window_sums.proofs.SoundFacts.{after-here}
 
@@ -69,8 +69,8 @@ raised-here sums minute before after =
 -- that and a billion
 pub HasAtMost-after : (sums : CountedDays) (minute : ℕ) (before after : Counts) (most : ℕ) →
     HasAtMost sums.method (counts_of sums) most →
-    (exchanged (counts_of sums (slice_of sums.method minute)) before after).good
-    ≤ (exchanged (counts_of sums (slice_of sums.method minute)) before after).total →
+    (new_counts (counts_of sums (slice_of sums.method minute)) before after).good
+    ≤ (new_counts (counts_of sums (slice_of sums.method minute)) before after).total →
     HasAtMost sums.method (counts_after sums minute before after)
     (most + (after.total + 1000000000))
 HasAtMost-after sums minute before after most few part = record {

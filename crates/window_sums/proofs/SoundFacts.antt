@@ -13,7 +13,7 @@ use Rattle.exact_fraction.specs.declared.leaf.Leaf.{Leaf}
 use Rattle.slo_terms.specs.Sums.{AreFew, AreSound, most_events}
 use Rattle.slo_terms.proofs.RangeLemmas.{sum_over-one, sum_over-same}
 use Rattle.window_sums.specs.Slices.{AreSoundCounts, CountedDays, counts_after, counts_of}
-use Rattle.window_sums.specs.Slices.{exchanged, leaf_at, slice_of}
+use Rattle.window_sums.specs.Slices.{new_counts, leaf_at, slice_of}
 
 -- one place has no more than all of them
 pub few-one : (f : ℕ → ℕ) → AreFew f → (k : ℕ) → f k ≤ most_events
@@ -37,7 +37,7 @@ sound-same method f g same sound = record {
 -- the counts of the slice that was changed
 pub after-here : (sums : CountedDays) (minute : ℕ) (before after : Counts) →
     counts_after sums minute before after (slice_of sums.method minute)
-    ≡ exchanged (counts_of sums (slice_of sums.method minute)) before after
+    ≡ new_counts (counts_of sums (slice_of sums.method minute)) before after
 after-here sums minute before after = rw (nat_eq_equiv.refl (slice_of sums.method minute)) refl
 
 -- a change leaves sound counts where it leaves a sound slice and few events

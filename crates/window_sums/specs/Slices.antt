@@ -54,8 +54,8 @@ abbrev pub has_day : CountedDays → ℕ → Bool
 has_day sums day = is_day_of sums.days day
 
 -- counts that lose `before` and gain `after`
-abbrev pub exchanged : Counts → Counts → Counts → Counts
-exchanged counts before after =
+abbrev pub new_counts : Counts → Counts → Counts → Counts
+new_counts counts before after =
     record {
       good = counts.good - before.good + after.good;
       total = counts.total - before.total + after.total;
@@ -65,13 +65,13 @@ exchanged counts before after =
 pub record MayExchange (counts before after : Counts) : Type 0 where
   pub good : before.good ≤ counts.good
   pub total : before.total ≤ counts.total
-  pub part : (exchanged counts before after).good ≤ (exchanged counts before after).total
-  pub few : (exchanged counts before after).total ≤ most_events
+  pub part : (new_counts counts before after).good ≤ (new_counts counts before after).total
+  pub few : (new_counts counts before after).total ≤ most_events
 
 -- the counts of each slice once the slice of a minute has lost `before` and gained `after`
 abbrev pub counts_after : CountedDays → ℕ → Counts → Counts → ℕ → Counts
 counts_after sums minute before after slice =
-    if slice == slice_of sums.method minute then exchanged (counts_of sums slice) before after
+    if slice == slice_of sums.method minute then new_counts (counts_of sums slice) before after
     else counts_of sums slice
 
 -- a slice lies wholly in a range of minutes

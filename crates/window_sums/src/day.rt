@@ -1,6 +1,6 @@
 // The counts of the slices of one day.
 ghost use Rattle.std.specs.Prelude.{◌≡◌, ◌<◌, IfOk, length, replicate, slice_index_or, slice_set};
-ghost use Rattle.window_sums.specs.Slices.{MayExchange, exchanged, no_counts};
+ghost use Rattle.window_sums.specs.Slices.{MayExchange, new_counts, no_counts};
 
 use slice_method::Counts;
 use std::alloc::{AllocError, Global};
@@ -50,14 +50,14 @@ impl Day {
         requires within { place < length self.old }
         requires may { MayExchange (slice_index_or self.old place no_counts) before after }
         ensures slices { self.new ≡ slice_set self.old place result }
-        ensures value { result ≡ exchanged (slice_index_or self.old place no_counts) before after }
+        ensures value { result ≡ new_counts (slice_index_or self.old place no_counts) before after }
     {
         let counts = self.at(place);
-        let exchanged = Counts {
+        let new_counts = Counts {
             good: counts.good - before.good + after.good,
             total: counts.total - before.total + after.total,
         };
-        self.slices[place] = exchanged;
-        exchanged
+        self.slices[place] = new_counts;
+        new_counts
     }
 }

@@ -10,7 +10,7 @@ ghost use Rattle.slo_terms.specs.Sums.{sum_of_slices};
 ghost use Rattle.sum_pages.specs.DayTables.{is_day_of, values_of_day};
 ghost use Rattle.window_sums.specs.Slices.{AreCounted, IsPart, MayExchange, counts_after};
 ghost use Rattle.window_sums.specs.Slices.{counts_of, counts_outside, counts_without, day_of};
-ghost use Rattle.window_sums.specs.Slices.{exchanged};
+ghost use Rattle.window_sums.specs.Slices.{new_counts};
 ghost use Rattle.window_sums.specs.Slices.{has_day, leaf_at, no_counts, slice_of, slices_a_day};
 ghost use Rattle.window_sums.specs.Slices.{width_of};
 
@@ -277,7 +277,7 @@ fn exchange_in(
         before after }
     ensures days { days.new.entries ≡ set_value (nat_eq day) days.old.entries
         (slice_set (values_of_day days.old.entries day) place result) }
-    ensures value { result ≡ exchanged (slice_index_or (values_of_day days.old.entries day) place
+    ensures value { result ≡ new_counts (slice_index_or (values_of_day days.old.entries day) place
         no_counts) before after }
 {
     let index = days.get_index_of(&day).unwrap();

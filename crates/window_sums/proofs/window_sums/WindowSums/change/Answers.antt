@@ -5,7 +5,7 @@ use Rattle.slo_terms.specs.Sums.{AreFew, most_events}
 use Rattle.sum_pages.specs.DayTables.{is_day_of, value_at}
 use Rattle.sum_pages.specs.Pages as paged
 use Rattle.sum_pages.proofs.DayLemmas.{days-changed}
-use Rattle.window_sums.specs.Slices.{CountedDays, IsKept, counts_after, counts_of, exchanged}
+use Rattle.window_sums.specs.Slices.{CountedDays, IsKept, counts_after, counts_of, new_counts}
 use Rattle.window_sums.specs.Slices.{has_day, no_counts, slice_of, slices_a_day, width_of}
 use Rattle.window_sums.proofs.KeptFacts.{IsChange, IsKept-after, counts_of-after, day-there}
 use Rattle.window_sums.proofs.KeptFacts.{days_at, may_exchange, page-there, pages-few, place-within}
@@ -38,20 +38,21 @@ there c = day-there (before c) c.args.minute c.args.before c.args.after c.self.i
     (change c)
 
 -- what stands in the slice then
-counts : (c : After-exchange_in-counts) → c.exchange_in-counts.result ≡ exchanged
+counts : (c : After-exchange_in-counts) → c.exchange_in-counts.result ≡ new_counts
     (counts_of (record { method = c.self.inside.method; days = c.self.inside.days.entries })
     (c.args.minute / width_of c.self.inside.method)) c.args.before c.args.after
 counts c = c.exchange_in-counts.ensures.value
-    ∙ ap (λ w. exchanged (value_at no_counts c.slices_a_day-slices.result c.self.inside.days.entries
-    (c.args.minute / w)) c.args.before c.args.after) c.width_of.ensures.value
-    ∙ ap (λ n. exchanged (value_at no_counts n c.self.inside.days.entries
+    ∙ ap (λ w. new_counts (value_at no_counts c.slices_a_day-slices.result
+    c.self.inside.days.entries (c.args.minute / w)) c.args.before c.args.after)
+    c.width_of.ensures.value
+    ∙ ap (λ n. new_counts (value_at no_counts n c.self.inside.days.entries
     (c.args.minute / width_of c.self.inside.method)) c.args.before c.args.after)
     c.slices_a_day-slices.ensures.value
 
 -- and the days with it
 days : (c : After-exchange_in-counts) → c.exchange_in-counts.new.days.entries
     ≡ days_at c.self.inside.days.entries (slices_a_day c.self.inside.method)
-    (c.args.minute / width_of c.self.inside.method) (exchanged
+    (c.args.minute / width_of c.self.inside.method) (new_counts
     (counts_of (record { method = c.self.inside.method; days = c.self.inside.days.entries })
     (c.args.minute / width_of c.self.inside.method)) c.args.before c.args.after)
 days c = c.exchange_in-counts.ensures.days
