@@ -10,7 +10,7 @@ use Rattle.burn_core.specs.Condition.{condition}
 use Rattle.burn_core.proofs.ConditionLemmas.{condition-apart}
 use Rattle.alert_line.specs.Laws.{MarkedLinesAgree}
 use Rattle.alert_line.specs.Minutes.{Forgets, kept_at}
-use Rattle.alert_line.specs.Line.{Agrees, Line, SameAlert, condition_on, known}
+use Rattle.alert_line.specs.Line.{Agrees, Line, SameAlert, condition_on, knowledge}
 use Rattle.alert_line.proofs.MinuteLemmas.{kept_at-beyond}
 
 -- after a slice changed, a line that forgets just the minutes whose windows may have it agrees with
@@ -30,14 +30,14 @@ Agrees-marked before after old new slice some widths same alert agrees marked = 
     one minute = λ i. condition (alert.rule i) (alert.target i) (alert.origin i) (widths i)
         (leaf_at new) minute
 
-    kept : (minute : ℕ) (holds : Bool) → known before minute ≡ Some holds
+    kept : (minute : ℕ) (holds : Bool) → knowledge before minute ≡ Some holds
         → (minute < slice * width + width) ⊎ (slice * width + reach_of before.rule < minute)
         → holds ≡ condition_on after new minute
     kept minute holds e out =
         agrees.each minute holds e ∙ condition-apart before.rule before.target before.origin width
         slice (leaf_at old) (leaf_at new) some same minute out ∙ sym (one minute)
 
-    by : (minute : ℕ) (holds : Bool) → known after minute ≡ Some holds →
+    by : (minute : ℕ) (holds : Bool) → knowledge after minute ≡ Some holds →
         ((nat_le (slice * width + width) minute ≡ true) × (slice * width + width ≤ minute))
         ⊎ ((nat_le (slice * width + width) minute ≡ false) × (minute < slice * width + width)) →
         ((nat_lt minute (slice * width + reach_of before.rule + 1) ≡ true)
@@ -56,7 +56,7 @@ Agrees-marked before after old new slice some widths same alert agrees marked = 
 -- a line that has learnt a minute's condition agrees as before
 pub Agrees-learnt : (before after : Line) (sums : CountedDays) (minute : ℕ) (holds : Bool) →
     SameAlert before after → Agrees before sums → holds ≡ condition_on before sums minute →
-    ((u : ℕ) → known after u ≡ (if u == minute then Some holds else known before u)) →
+    ((u : ℕ) → knowledge after u ≡ (if u == minute then Some holds else knowledge before u)) →
     Agrees after sums
 Agrees-learnt before after sums minute holds alert agrees right learnt =
     record { each = λ u b e. by u b e (eqb_tells u minute) }
@@ -65,7 +65,7 @@ Agrees-learnt before after sums minute holds alert agrees right learnt =
     one u = λ i. condition (sym alert.rule i) (sym alert.target i) (sym alert.origin i)
         (width_of sums.method) (leaf_at sums) u
 
-    by : (u : ℕ) (b : Bool) → known after u ≡ Some b → ((nat_eq u minute ≡ true) × (u ≡ minute))
+    by : (u : ℕ) (b : Bool) → knowledge after u ≡ Some b → ((nat_eq u minute ≡ true) × (u ≡ minute))
         ⊎ ((nat_eq u minute ≡ false) × (u ≢ minute)) → b ≡ condition_on after sums u
     by u b e (inl same) =
         let here : Some holds ≡ Some b = sym (learnt u ∙ (rw same.0 refl)) ∙ e in
@@ -77,8 +77,8 @@ Agrees-learnt before after sums minute holds alert agrees right learnt =
 pub known-forgotten : (before after : List ℕ) (rule : AlertRule) (target origin from to most : ℕ) →
     4 * length before ≡ most → 4 * length after ≡ most →
     Forgets before after (min (from - origin) most) (min (to - origin) most) → (minute : ℕ) →
-    known (record { rule = rule; target = target; origin = origin; bytes = after }) minute
-    ≡ (if nat_le from minute && nat_lt minute to then None else known
+    knowledge (record { rule = rule; target = target; origin = origin; bytes = after }) minute
+    ≡ (if nat_le from minute && nat_lt minute to then None else knowledge
     (record { rule = rule; target = target; origin = origin; bytes = before }) minute)
 known-forgotten before after rule target origin from to most len len2 forgets minute =
     by (leb_tells (suc minute) origin) (leb_tells (suc (minute - origin)) most)
@@ -112,7 +112,8 @@ known-forgotten before after rule target origin from to most len len2 forgets mi
 
 -- to forget keeps agreement
 pub Agrees-forgotten : (before after : Line) (sums : CountedDays) (gone : ℕ → Bool)
-    → SameAlert before after → ((u : ℕ) → known after u ≡ (if gone u then None else known before u))
+    → SameAlert before after
+    → ((u : ℕ) → knowledge after u ≡ (if gone u then None else knowledge before u))
     → Agrees before sums → Agrees after sums
 Agrees-forgotten before after sums gone alert forgot agrees =
     record { each = λ u b e. by u b (gone u) (sym (forgot u) ∙ e) ∙ one u }
@@ -121,7 +122,7 @@ Agrees-forgotten before after sums gone alert forgot agrees =
     one u = λ i. condition (sym alert.rule i) (sym alert.target i) (sym alert.origin i)
         (width_of sums.method) (leaf_at sums) u
 
-    by : (u : ℕ) (b q : Bool) → (if q then None else known before u) ≡ Some b
+    by : (u : ℕ) (b q : Bool) → (if q then None else knowledge before u) ≡ Some b
         → b ≡ condition_on before sums u
     by u b true e = absurd (cc e)
     by u b false e = agrees.each u b e

@@ -9,7 +9,7 @@ use Rattle.burn_core.specs.Condition.{condition}
 use Rattle.burn_core.specs.Timeline.{AreSpansOf, IsActive, is_active}
 use Rattle.burn_core.proofs.TimelineLemmas.{active-law}
 use Rattle.burn_core.proofs.ConditionLemmas.{condition-below}
-use Rattle.alert_line.specs.Line.{Agrees, Line, SameAlert, condition_on, known}
+use Rattle.alert_line.specs.Line.{Agrees, Line, SameAlert, condition_on, knowledge}
 use Rattle.alert_line.specs.Spans.{with_minute}
 use Rattle.burn_core.specs.Alert.{wait_of}
 use Rattle.alert_line.specs.Learnt.{IsLearnt, IsRun, start_of, unknown_in}
@@ -137,19 +137,20 @@ learnt-none line sums start =
     by : (u : ℕ) → ((nat_le start u ≡ true) × (start ≤ u))
         ⊎ ((nat_le start u ≡ false) × (u < start)) →
         ((nat_lt u start ≡ true) × (suc u ≤ start)) ⊎ ((nat_lt u start ≡ false) × (start < suc u)) →
-        known line u ≡ (if nat_le start u && nat_lt u start then Some (condition_on line sums u)
-        else known line u)
+        knowledge line u ≡ (if nat_le start u && nat_lt u start then Some (condition_on line sums u)
+        else knowledge line u)
     by u (inl a) (inl b) = absurd (omega (arith, a.1, b.1))
     by u (inl a) (inr b) = rw (a.0, b.0) refl
     by u (inr a) b = rw a.0 refl
 
 pub learnt-next : (before at after : Line) (sums : CountedDays) (start minute : ℕ) (b : Bool) →
     start ≤ minute → b ≡ condition_on before sums minute → IsLearnt before at sums start minute →
-    ((u : ℕ) → known after u ≡ (if u == minute then Some b else known at u)) →
+    ((u : ℕ) → knowledge after u ≡ (if u == minute then Some b else knowledge at u)) →
     IsLearnt before after sums start (minute + 1)
 learnt-next before at after sums start minute b le is learnt new = record {
   each = λ u. two (nat_le start u && nat_lt u minute) (u == minute)
-      (nat_le start u && nat_lt u (minute + 1)) u (known before u) (known at u) (known after u)
+      (nat_le start u && nat_lt u (minute + 1)) u (knowledge before u) (knowledge at u)
+      (knowledge after u)
       (one-more u start minute le) (here u (eqb_tells u minute)) (learnt.each u) (new u);
 }
   where
@@ -170,14 +171,14 @@ learnt-next before at after sums start minute b le is learnt new = record {
 
 -- a minute that the pass hasn't come to is known as it was
 pub learnt-ahead : (before after : Line) (sums : CountedDays) (start minute : ℕ)
-    → IsLearnt before after sums start minute → known after minute ≡ known before minute
+    → IsLearnt before after sums start minute → knowledge after minute ≡ knowledge before minute
 learnt-ahead before after sums start minute learnt = learnt.each minute
     ∙ by (nat_le start minute) (leb_tells (suc minute) minute)
   where
     by : (a : Bool) → ((nat_lt minute minute ≡ true) × (suc minute ≤ minute))
         ⊎ ((nat_lt minute minute ≡ false) × (minute < suc minute)) →
         (if a && nat_lt minute minute then Some (condition_on before sums minute)
-        else known before minute) ≡ known before minute
+        else knowledge before minute) ≡ knowledge before minute
     by a (inl e) = absurd (omega (arith, e.1))
     by true (inr e) = rw e.0 refl
     by false (inr e) = refl
@@ -191,31 +192,33 @@ Agrees-after before after sums start minute alert agrees learnt =
           ∙ sym (condition-alert before after sums u alert);
     }
   where
-    by : (u : ℕ) (b q : Bool) → (if q then Some (condition_on before sums u) else known before u)
-        ≡ Some b → b ≡ condition_on before sums u
+    by : (u : ℕ) (b q : Bool) →
+        (if q then Some (condition_on before sums u) else knowledge before u) ≡ Some b →
+        b ≡ condition_on before sums u
     by u b true e = cc e
     by u b false e = agrees.each u b e
 
 pub kept-after : (before after : Line) (sums : CountedDays) (start minute : ℕ) → Agrees before sums
-    → IsLearnt before after sums start minute → (u : ℕ) (b : Bool) → known before u ≡ Some b
-    → known after u ≡ Some b
+    → IsLearnt before after sums start minute → (u : ℕ) (b : Bool) → knowledge before u ≡ Some b
+    → knowledge after u ≡ Some b
 kept-after before after sums start minute agrees learnt u b e = learnt.each u
     ∙ by (nat_le start u && nat_lt u minute)
   where
-    by : (q : Bool) → (if q then Some (condition_on before sums u) else known before u) ≡ Some b
+    by : (q : Bool) → (if q then Some (condition_on before sums u) else knowledge before u) ≡ Some b
     by true = ap (λ (x : Bool). Some x) (sym (agrees.each u b e))
     by false = e
 
 pub unknown-next : (line : Line) (start minute : ℕ) → start ≤ minute →
     unknown_in line start (minute + 1 - start)
-    ≡ unknown_in line start (minute - start) + (if is_none (known line minute) then 1 else 0)
+    ≡ unknown_in line start (minute - start) + (if is_none (knowledge line minute) then 1 else 0)
 unknown-next line start minute le =
-    sum_over-next (λ u. if is_none (known line u) then 1 else 0) start minute le
+    sum_over-next (λ u. if is_none (knowledge line u) then 1 else 0) start minute le
 
 pub unknown-part : (line : Line) (start at to : ℕ) → at ≤ to
     → unknown_in line start (at - start) ≤ unknown_in line start (to - start)
-unknown-part line start at to le = sum_over-within (λ u. if is_none (known line u) then 1 else 0)
-    start (at - start) (to - start) (omega arith)
+unknown-part line start at to le =
+    sum_over-within (λ u. if is_none (knowledge line u) then 1 else 0) start (at - start)
+    (to - start) (omega arith)
 
 pub alert-then : (before at after : Line) → SameAlert before at → SameAlert at after
     → SameAlert before after
@@ -227,13 +230,14 @@ alert-then before at after p q = record {
 
 -- the steps of one minute more
 pub steps-next : (line at : Line) (start minute old was now : ℕ) →
-    start ≤ minute → known at minute ≡ known line minute →
+    start ≤ minute → knowledge at minute ≡ knowledge line minute →
     was ≤ old + 2400 * unknown_in line start (minute - start) →
-    now ≤ was + 2400 * (if is_none (known at minute) then 1 else 0) →
+    now ≤ was + 2400 * (if is_none (knowledge at minute) then 1 else 0) →
     now ≤ old + 2400 * unknown_in line start (minute + 1 - start)
 steps-next line at start minute old was now le same p q =
     by (unknown_in line start (minute - start)) (unknown_in line start (minute + 1 - start))
-    (if is_none (known line minute) then 1 else 0) (if is_none (known at minute) then 1 else 0)
+    (if is_none (knowledge line minute) then 1 else 0)
+    (if is_none (knowledge at minute) then 1 else 0)
     (unknown-next line start minute le)
     (ap (λ (o : Option Bool). if is_none o then 1 else 0) same) p q
   where

@@ -1,7 +1,6 @@
 -- The first and the last slice of a window, minute by minute, and its sum.
-use Rattle.std.proofs.Common.{◌≡◌, ◌⊎◌, ℕ, zero, suc, ◌+◌, ◌-◌, ◌*◌, ◌/◌, ◌%◌, ◌≤◌, ◌<◌, min}
-use Rattle.std.proofs.Common.{nat_le, true, false, inl, inr, arith, ap, sym, ◌∙◌}
-use Rattle.std.specs.Int.{div_ceil}
+use Rattle.std.proofs.Common.{◌≡◌, ◌⊎◌, ℕ, ◌+◌, ◌-◌, ◌*◌, ◌/◌, ◌%◌, ◌≤◌, ◌<◌, nat_le, true, false}
+use Rattle.std.proofs.Common.{inl, inr, arith, ap, sym, ◌∙◌}
 use Rattle.std.proofs.Math.Nat.{div-add-mod'}
 use Rattle.std.proofs.lemmas.Nat.{div-mul-add, mod_below}
 use Rattle.std.proofs.lemmas.Bool.Decides.{leb_tells}
@@ -9,29 +8,6 @@ use Rattle.exact_fraction.specs.declared.leaf.Leaf.{Leaf}
 use Rattle.slo_terms.specs.Sums.{slice_from}
 use Rattle.slo_terms.specs.Sums.{leaves_over}
 use Rattle.slo_terms.proofs.RangeLemmas.{no_term, sum_over-next, sum_over-rest}
-
--- the first slice from a minute on, by a division that is rounded up
-pub slice_from-div_ceil : (w minute : ℕ) → 0 < w → div_ceil minute w ≡ slice_from w minute
-slice_from-div_ceil w minute some =
-    by (minute / w) (minute % w) (sym (div-add-mod' minute w)) (mod_below minute w some)
-  where
-    none : (q : ℕ) → q + min 1 0 ≡ q
-    none q = omega arith
-
-    one : (q r : ℕ) → q + min 1 (suc r) ≡ q + 1
-    one q r = omega arith
-
-    short : (q : ℕ) → minute ≡ q * w + 0 → minute + (w - 1) ≡ q * w + (w - 1)
-    short q e = omega (arith, e)
-
-    next : (q r : ℕ) → minute ≡ q * w + suc r → minute + (w - 1) ≡ (q + 1) * w + r
-    next q r e = omega (arith, e)
-
-    by : (q r : ℕ) → minute ≡ q * w + r → r < w → q + min 1 r ≡ (minute + (w - 1)) / w
-    by q zero e less = none q
-        ∙ sym (ap (λ n. n / w) (short q e) ∙ div-mul-add q w (w - 1) (omega arith))
-    by q (suc r) e less = one q r
-        ∙ sym (ap (λ n. n / w) (next q r e) ∙ div-mul-add (q + 1) w r (omega arith))
 
 -- a quotient rises by one at most
 pub div-next : (w n : ℕ) → 0 < w → ((n + 1) / w ≡ n / w) ⊎ ((n + 1) / w ≡ n / w + 1)

@@ -1,7 +1,7 @@
 -- A line: the alert it is about, and what it remembers of the condition, minute by minute.
-use Rattle.std.specs.Prelude.{ℕ, Bool, ◌+◌, ◌-◌, ◌*◌, ◌^◌, ◌<◌, ◌≤◌, ◌≡◌, nat_lt, List, length}
+use Rattle.std.specs.Prelude.{ℕ, Bool, ◌+◌, ◌-◌, ◌*◌, ◌<◌, ◌≤◌, ◌≡◌, nat_lt, List, length}
 use Rattle.std.specs.Prelude.{Option, Some, None, if◌then◌else◌}
-use Rattle.slo_limits.specs.declared.TheConstants.{RANGE_MINUTES}
+use Rattle.slo_limits.specs.declared.TheConstants.{RANGE_MINUTES, WHOLE}
 use Rattle.burn_core.specs.declared.alert.AlertRule.{AlertRule}
 use Rattle.burn_core.specs.Alert.{IsRule, lookback_of, wait_of}
 use Rattle.burn_core.specs.Condition.{condition}
@@ -18,7 +18,7 @@ pub record Line : Type 0 where
 
 pub record IsLine (line : Line) : Type 0 where
   pub rule : IsRule line.rule
-  pub target : line.target < 10 ^ 9
+  pub target : line.target < WHOLE
   pub whole : 4 * length line.bytes ≡ RANGE_MINUTES
 
 -- a line is about the minutes of an office's range, from its origin on
@@ -26,8 +26,8 @@ abbrev pub IsMinute : Line → ℕ → Type 0
 IsMinute line minute = (line.origin ≤ minute) × (minute < line.origin + RANGE_MINUTES)
 
 -- what the line remembers of a minute; nothing outside of its range
-abbrev pub known : Line → ℕ → Option Bool
-known line minute = if nat_lt minute line.origin then None
+abbrev pub knowledge : Line → ℕ → Option Bool
+knowledge line minute = if nat_lt minute line.origin then None
     else kept_at line.bytes (minute - line.origin)
 
 -- the condition of the line's alert at a minute, computed from sums
@@ -46,7 +46,7 @@ den_before line sums minute = (sum_of_slices (width_of sums.method) (leaf_at sum
 
 -- Each minute that is known is the condition, computed from these sums.
 pub record Agrees (line : Line) (sums : CountedDays) : Type 0 where
-  pub each : (minute : ℕ) (holds : Bool) → known line minute ≡ Some holds
+  pub each : (minute : ℕ) (holds : Bool) → knowledge line minute ≡ Some holds
       → holds ≡ condition_on line sums minute
 
 -- two lines are about one alert

@@ -1,5 +1,6 @@
 //! The windows of a rule, which move on minute by minute.
 ghost use Rattle.std.specs.Prelude.{◌≡◌, ◌+◌, ◌-◌, ◌*◌, ◌^◌, ◌<◌, ◌≤◌, ◌&&◌};
+ghost use Rattle.slo_limits.specs.declared.TheConstants.{MAX_LOOKBACK, MAX_THRESHOLD, WHOLE};
 ghost use Rattle.slo_terms.specs.Budget.{above_of};
 ghost use Rattle.exact_fraction.specs.declared.op.Op.TheVariants.{Gt};
 ghost use Rattle.burn_core.specs.Alert.{IsRule};
@@ -29,8 +30,8 @@ impl PairWindows {
         sums: &WindowSums,
         steps: &mut Steps<L>,
     ) -> PairWindows
-        requires long { pair.long ≤ 43200 }
-        requires short { pair.short ≤ 43200 }
+        requires long { pair.long ≤ MAX_LOOKBACK }
+        requires short { pair.short ≤ MAX_LOOKBACK }
         ensures value { AreOver (width_of sums.now.method) (leaf_at sums.now) pair.long pair.short
             pair.above minute result }
         ensures steps { steps.new ≤ steps.old + 1200 }
@@ -56,8 +57,8 @@ impl PairWindows {
 
     // Both windows burn faster than the pair allows.
     fn both_burn(&self, target: Decimal, minute: u32, sums: &WindowSums) -> bool
-        requires target { target < 10 ^ 9 }
-        requires few { self.now.pair.above ≤ 10 ^ 13 }
+        requires target { target < WHOLE }
+        requires few { self.now.pair.above ≤ MAX_THRESHOLD }
         requires value { AreOver (width_of sums.now.method) (leaf_at sums.now) self.now.pair.long
             self.now.pair.short self.now.pair.above minute self.now }
         ensures { result ≡ both_burn (width_of sums.now.method) (leaf_at sums.now) target minute
@@ -170,7 +171,7 @@ impl Windows {
     // What the rule says, by the sums of its windows.
     fn burn(&self, target: Decimal, minute: u32, sums: &WindowSums) -> bool
         requires rule { IsRule (rule_of self.now) }
-        requires target { target < 10 ^ 9 }
+        requires target { target < WHOLE }
         requires stand { StandAt (width_of sums.now.method) (leaf_at sums.now) minute self.now }
         ensures { result ≡ burns_by (rule_of self.now) target (width_of sums.now.method)
             (leaf_at sums.now) minute }
@@ -252,7 +253,7 @@ impl Cursor {
     // What the rule says at the cursor's minute.
     pub(crate) fn burns(&self, target: Decimal, sums: &WindowSums) -> bool
         requires rule { IsRule (rule_of self.now.windows) }
-        requires target { target < 10 ^ 9 }
+        requires target { target < WHOLE }
         requires stand { StandAt (width_of sums.now.method) (leaf_at sums.now) self.now.minute
             self.now.windows }
         ensures { result ≡ burns_by (rule_of self.now.windows) target (width_of sums.now.method)

@@ -2,14 +2,15 @@
 ghost use Rattle.std.specs.Prelude.{◌≡◌, ℕ, Bool, true, ◌+◌, ◌-◌, ◌*◌, ◌^◌, [], IfSome, OnOk};
 ghost use Rattle.std.specs.Prelude.{is_none, ◌<◌, ◌≤◌, ◌==◌, ◌&&◌, nat_le, nat_lt, IfOk, IsTrue};
 ghost use Rattle.std.specs.Prelude.{is_some, None, Some, length, slice_index, if◌then◌else◌};
+ghost use Rattle.slo_limits.specs.declared.TheConstants.{WHOLE};
 ghost use Rattle.burn_core.specs.Alert.{IsRule, wait_of};
 ghost use Rattle.burn_core.specs.Timeline.{AreSpansOf, is_active, state_of};
 ghost use Rattle.window_sums.specs.Slices.{CountedDays, leaf_at, width_of};
 ghost use Rattle.alert_line.specs.Cursor.{IsAt, IsBehind, StandAt, rule_of};
 ghost use Rattle.alert_line.specs.Laws.{HasForgotten};
-ghost use Rattle.alert_line.specs.Learnt.{IsLearnt, IsRun, start_of, unknown_in};
+ghost use Rattle.alert_line.specs.Learnt.{HasLearnt, IsLearnt, IsRun, start_of, unknown_in};
 ghost use Rattle.alert_line.specs.Line.{Agrees, IsMinute, SameAlert, active_on, condition_on};
-ghost use Rattle.alert_line.specs.Line.{den_before, known};
+ghost use Rattle.alert_line.specs.Line.{den_before, knowledge};
 
 use crate::cursor::Cursor;
 use crate::minutes::{forget_in, keep, kept_at};
@@ -65,11 +66,11 @@ impl AlertLine {
         target: Decimal,
     ) -> Result<AlertLine, AllocError>
         requires rule { IsRule rule }
-        requires target { target < 10 ^ 9 }
+        requires target { target < WHOLE }
         ensures rule { IfOk result (λ line. line.rule ≡ rule) }
         ensures target { IfOk result (λ line. line.target ≡ target) }
         ensures origin { IfOk result (λ line. line.origin ≡ origin) }
-        ensures unknown { IfOk result (λ line. (minute : ℕ) → known line minute ≡ None) }
+        ensures unknown { IfOk result (λ line. (minute : ℕ) → knowledge line minute ≡ None) }
         ensures agrees { IfOk result (λ line. (sums : CountedDays) → Agrees line sums) }
     {
         let bytes = zeros(alloc, (RANGE_MINUTES / 4) as usize)?;
@@ -84,7 +85,7 @@ impl AlertLine {
     /// The condition of a minute as far as it is known. None exactly where the minute is unknown
     /// or out of the line's range.
     pub fn known_at(&self, minute: u32) -> Option<bool>
-        ensures { result ≡ known self.now minute }
+        ensures { result ≡ knowledge self.now minute }
     {
         if minute < self.origin || minute - self.origin >= RANGE_MINUTES {
             return None;
@@ -118,9 +119,9 @@ impl AlertLine {
         ensures value { result ≡ condition_on self.old sums.now minute }
         ensures alert { SameAlert self.old self.new }
         ensures agrees { Agrees self.new sums.now }
-        ensures known { (u : ℕ) → known self.new u
-            ≡ (if u == minute then Some result else known self.old u) }
-        ensures free { IsTrue (is_some (known self.old minute)) → steps.new ≡ steps.old }
+        ensures known { (u : ℕ) → knowledge self.new u
+            ≡ (if u == minute then Some result else knowledge self.old u) }
+        ensures free { IsTrue (is_some (knowledge self.old minute)) → steps.new ≡ steps.old }
         ensures steps { steps.new ≤ steps.old + 2400 }
     {
         if let Some(holds) = self.known_at(minute) {
@@ -150,8 +151,8 @@ impl AlertLine {
             (λ minute. active_on self.old sums.now minute ≡ true) from to spans.items) }
         ensures alert { SameAlert self.old self.new }
         ensures agrees { Agrees self.new sums.now }
-        ensures kept { (u : ℕ) (holds : Bool) → known self.old u ≡ Some holds
-            → known self.new u ≡ Some holds }
+        ensures kept { (u : ℕ) (holds : Bool) → knowledge self.old u ≡ Some holds
+            → knowledge self.new u ≡ Some holds }
         ensures known { OnOk result (IsLearnt self.old self.new sums.now (start_of self.old from)
             to) }
         ensures steps { steps.new ≤ steps.old
@@ -185,8 +186,8 @@ impl AlertLine {
             (den_before self.old sums.now minute) }
         ensures alert { SameAlert self.old self.new }
         ensures agrees { Agrees self.new sums.now }
-        ensures kept { (u : ℕ) (holds : Bool) → known self.old u ≡ Some holds
-            → known self.new u ≡ Some holds }
+        ensures kept { (u : ℕ) (holds : Bool) → knowledge self.old u ≡ Some holds
+            → knowledge self.new u ≡ Some holds }
         ensures known { IsLearnt self.old self.new sums.now (start_of self.old minute)
             (minute + 1) }
         ensures steps { steps.new ≤ steps.old + 600
@@ -226,8 +227,8 @@ impl AlertLine {
         ensures value { result ≡ active_on self.old sums.now minute }
         ensures alert { SameAlert self.old self.new }
         ensures agrees { Agrees self.new sums.now }
-        ensures kept { (u : ℕ) (holds : Bool) → known self.old u ≡ Some holds
-            → known self.new u ≡ Some holds }
+        ensures kept { (u : ℕ) (holds : Bool) → knowledge self.old u ≡ Some holds
+            → knowledge self.new u ≡ Some holds }
         ensures known { IsLearnt self.old self.new sums.now (start_of self.old minute)
             (minute + 1) }
         ensures steps { steps.new ≤ steps.old
@@ -296,13 +297,11 @@ impl AlertLine {
         requires behind { IfSome cursor.old
             (IsBehind self.old.rule (width_of sums.now.method) (leaf_at sums.now) minute) }
         ensures value { result ≡ condition_on self.old sums.now minute }
-        ensures alert { SameAlert self.old self.new }
-        ensures known { (u : ℕ) → known self.new u
-            ≡ (if u == minute then Some result else known self.old u) }
+        ensures learnt { HasLearnt self.old self.new minute result }
         ensures behind { IfSome cursor.new
             (IsBehind self.old.rule (width_of sums.now.method) (leaf_at sums.now) (minute + 1)) }
         ensures steps { steps.new ≤ steps.old
-            + 2400 * (if is_none (known self.old minute) then 1 else 0) }
+            + 2400 * (if is_none (knowledge self.old minute) then 1 else 0) }
     {
         if let Some(holds) = self.known_at(minute) {
             return holds;
@@ -322,13 +321,10 @@ impl AlertLine {
         steps: &mut Steps<L>,
     ) -> bool
         requires minute { IsMinute self.old minute }
-        requires agrees { Agrees self.old sums.now }
         requires behind { IfSome cursor.old
             (IsBehind self.old.rule (width_of sums.now.method) (leaf_at sums.now) minute) }
         ensures value { result ≡ condition_on self.old sums.now minute }
-        ensures alert { SameAlert self.old self.new }
-        ensures known { (u : ℕ) → known self.new u
-            ≡ (if u == minute then Some result else known self.old u) }
+        ensures learnt { HasLearnt self.old self.new minute result }
         ensures stands { IfSome cursor.new
             (IsAt self.old.rule (width_of sums.now.method) (leaf_at sums.now) minute) }
         ensures stays { IsTrue (is_some cursor.new) }
@@ -401,9 +397,7 @@ impl AlertLine {
     // Remembers the condition of a minute.
     fn learn(&mut self, minute: u32, holds: bool)
         requires { IsMinute self.old minute }
-        ensures alert { SameAlert self.old self.new }
-        ensures known { (u : ℕ) → known self.new u
-            ≡ (if u == minute then Some holds else known self.old u) }
+        ensures { HasLearnt self.old self.new minute holds }
     {
         let slot = (minute - self.origin) as usize;
         keep(&mut self.bytes, slot, holds);

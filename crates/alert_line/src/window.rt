@@ -1,5 +1,6 @@
 //! One running window.
 ghost use Rattle.std.specs.Prelude.{◌≡◌, ◌+◌, ◌-◌, ◌*◌, ◌^◌, ◌<◌, ◌≤◌};
+ghost use Rattle.slo_limits.specs.declared.TheConstants.{MAX_LOOKBACK};
 ghost use Rattle.slo_terms.specs.Sums.{leaves_over};
 ghost use Rattle.window_sums.specs.Slices.{leaf_at, width_of};
 ghost use Rattle.alert_line.specs.Cursor.{IsOver};
@@ -25,7 +26,7 @@ impl Window {
         sums: &WindowSums,
         steps: &mut Steps<L>,
     ) -> Window
-        requires { length ≤ 43200 }
+        requires { length ≤ MAX_LOOKBACK }
         ensures value { IsOver (width_of sums.now.method) (leaf_at sums.now) length minute result }
         ensures steps { steps.new ≤ steps.old + 600 }
     {
@@ -56,66 +57,59 @@ impl Window {
         let width = sums.width();
         let first = (minute + 1).saturating_sub(length).div_ceil(width);
         let end = (minute + 1) / width;
-        let grown = grow(self.sum, self.first, self.end, end, sums, steps);
+        let sum = self.grown(end, sums, steps);
         sums.sound();
-        let sum = shrink(grown, self.first, first, end, sums, steps);
+        let grown = Window {
+            first: self.first,
+            end,
+            sum,
+        };
+        let sum = grown.shrunk(first, sums, steps);
         Window { first, end, sum }
     }
-}
 
-// The sum over the slices up to `to` in place of `end`, which is at most one slice more.
-fn grow<L: Ledger>(
-    sum: Leaf,
-    first: u32,
-    end: u32,
-    to: u32,
-    sums: &WindowSums,
-    steps: &mut Steps<L>,
-) -> Leaf
-    requires value { sum ≡ leaves_over (leaf_at sums.now) first (end - first) }
-    requires from { end ≤ to }
-    requires one { to ≤ end + 1 }
-    ensures value { result ≡ leaves_over (leaf_at sums.now) first (to - first) }
-    ensures steps { steps.new ≤ steps.old + 1 }
-{
-    if end < to && first <= end {
-        sums.sound();
-        let leaf = sums.slice(end, steps);
-        Leaf {
-            num: sum.num + leaf.num,
-            den: sum.den + leaf.den,
-        }
-    } else {
-        sum
-    }
-}
-
-// The sum over the slices from `to` in place of `first`, which is at most one slice less.
-fn shrink<L: Ledger>(
-    sum: Leaf,
-    first: u32,
-    to: u32,
-    end: u32,
-    sums: &WindowSums,
-    steps: &mut Steps<L>,
-) -> Leaf
-    requires value { sum ≡ leaves_over (leaf_at sums.now) first (end - first) }
-    requires from { first ≤ to }
-    requires one { to ≤ first + 1 }
-    ensures value { result ≡ leaves_over (leaf_at sums.now) to (end - to) }
-    ensures steps { steps.new ≤ steps.old + 1 }
-{
-    if first < to {
-        if first < end {
-            let leaf = sums.slice(first, steps);
+    // The sum over the slices up to `to`, which is at most one slice more.
+    fn grown<L: Ledger>(self, to: u32, sums: &WindowSums, steps: &mut Steps<L>) -> Leaf
+        requires value { self.sum
+            ≡ leaves_over (leaf_at sums.now) self.first (self.end - self.first) }
+        requires from { self.end ≤ to }
+        requires one { to ≤ self.end + 1 }
+        ensures value { result ≡ leaves_over (leaf_at sums.now) self.first (to - self.first) }
+        ensures steps { steps.new ≤ steps.old + 1 }
+    {
+        if self.end < to && self.first <= self.end {
+            sums.sound();
+            let leaf = sums.slice(self.end, steps);
             Leaf {
-                num: sum.num - leaf.num,
-                den: sum.den - leaf.den,
+                num: self.sum.num + leaf.num,
+                den: self.sum.den + leaf.den,
             }
         } else {
-            sum
+            self.sum
         }
-    } else {
-        sum
+    }
+
+    // The sum over the slices from `to` on, which is at most one slice less.
+    fn shrunk<L: Ledger>(self, to: u32, sums: &WindowSums, steps: &mut Steps<L>) -> Leaf
+        requires value { self.sum
+            ≡ leaves_over (leaf_at sums.now) self.first (self.end - self.first) }
+        requires from { self.first ≤ to }
+        requires one { to ≤ self.first + 1 }
+        ensures value { result ≡ leaves_over (leaf_at sums.now) to (self.end - to) }
+        ensures steps { steps.new ≤ steps.old + 1 }
+    {
+        if self.first < to {
+            if self.first < self.end {
+                let leaf = sums.slice(self.first, steps);
+                Leaf {
+                    num: self.sum.num - leaf.num,
+                    den: self.sum.den - leaf.den,
+                }
+            } else {
+                self.sum
+            }
+        } else {
+            self.sum
+        }
     }
 }

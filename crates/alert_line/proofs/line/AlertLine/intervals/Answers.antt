@@ -1,11 +1,11 @@
 use Rattle.std.proofs.Common.{ℕ, ◌≡◌, ◌≤◌, ◌+◌, ◌-◌, ◌*◌, true, ap, sym, subst, ◌∙◌, arith, IfSome}
-use Rattle.std.proofs.Common.{nat_le, nat_lt, ◌&&◌, List}
+use Rattle.std.proofs.Common.{nat_le, nat_lt, ◌&&◌, List, rules}
 use Rattle.burn_core.specs.Alert.{wait_of}
 use Rattle.burn_core.specs.Timeline.{AreSpansOf, IsActive}
 use Rattle.burn_core.proofs.TimelineLemmas.{AreSpansOf-same, active-law}
 use Rattle.window_sums.specs.Slices.{leaf_at, width_of}
 use Rattle.alert_line.specs.Cursor.{IsBehind}
-use Rattle.alert_line.specs.Learnt.{IsRun, unknown_in}
+use Rattle.alert_line.specs.Learnt.{IsLearnt, IsRun, unknown_in}
 use Rattle.alert_line.specs.Line.{active_on, condition_on}
 use Rattle.alert_line.proofs.SpanLemmas.{EndBy}
 use Rattle.alert_line.proofs.RunLemmas.{Agrees-after, IsRun-next, alert-then, condition-alert}
@@ -36,8 +36,8 @@ loop-minute-preserved g c =
     && nat_le c.args.from minute) c.wait-wait.ensures.value in
     record {
       learnt = learnt-next before at after sums start minute b from is inv.learnt
-          c.evaluate-holds.ensures.known;
-      alert = alert-then before at after inv.alert c.evaluate-holds.ensures.alert;
+          c.evaluate-holds.ensures.learnt.each;
+      alert = alert-then before at after inv.alert c.evaluate-holds.ensures.learnt.alert;
       behind = subst (λ r. IfSome c.evaluate-holds.new.cursor (IsBehind r (width_of sums.method)
           (leaf_at sums) (minute + 1))) inv.alert.rule c.evaluate-holds.ensures.behind;
       spans = subst (λ (l : List (ℕ × ℕ)). AreSpansOf (IsActive wait (condition_on before sums))
@@ -55,8 +55,8 @@ loop-minute-preserved g c =
           inv.steps c.evaluate-holds.ensures.steps;
     }
 
-pub returns-in_err-note_minute-clause-agrees : goal.returns-in_err-note_minute-clause-agrees
-returns-in_err-note_minute-clause-agrees g c =
+pub returns-in_err-note_minute : goal.returns-in_err-note_minute
+returns-in_err-note_minute g c =
     let before = c.args.self.now in
     let at = c.loop-minute.self in
     let after = c.evaluate-holds.new.self in
@@ -64,45 +64,30 @@ returns-in_err-note_minute-clause-agrees g c =
     let start = c.start-start.result in
     let minute = c.loop-minute.minute in
     let inv = c.loop-minute.invariant in
+    let from : start ≤ minute = omega arith in
     let is : c.evaluate-holds.result ≡ condition_on before sums minute =
     c.evaluate-holds.ensures.value ∙ condition-alert before at sums minute inv.alert in
-    Agrees-after before after sums start (minute + 1)
-    (alert-then before at after inv.alert c.evaluate-holds.ensures.alert) c.requires.agrees
-    (learnt-next before at after sums start minute c.evaluate-holds.result (omega arith) is
-    inv.learnt c.evaluate-holds.ensures.known)
-
-pub returns-in_err-note_minute-clause-kept : goal.returns-in_err-note_minute-clause-kept
-returns-in_err-note_minute-clause-kept g c =
-    let before = c.args.self.now in
-    let at = c.loop-minute.self in
-    let after = c.evaluate-holds.new.self in
-    let sums = c.args.sums.now in
-    let start = c.start-start.result in
-    let minute = c.loop-minute.minute in
-    let inv = c.loop-minute.invariant in
-    let is : c.evaluate-holds.result ≡ condition_on before sums minute =
-    c.evaluate-holds.ensures.value ∙ condition-alert before at sums minute inv.alert in
-    kept-after before after sums start (minute + 1) c.requires.agrees
-    (learnt-next before at after sums start minute c.evaluate-holds.result (omega arith) is
-    inv.learnt c.evaluate-holds.ensures.known)
-
-pub returns-in_err-note_minute-clause-steps : goal.returns-in_err-note_minute-clause-steps
-returns-in_err-note_minute-clause-steps g c =
-    let before = c.args.self.now in
-    let at = c.loop-minute.self in
-    let sums = c.args.sums.now in
-    let start = c.start-start.result in
-    let minute = c.loop-minute.minute in
-    let inv = c.loop-minute.invariant in
+    let alert = alert-then before at after inv.alert c.evaluate-holds.ensures.learnt.alert in
+    let learnt : IsLearnt before after sums start (minute + 1) =
+    learnt-next before at after sums start minute c.evaluate-holds.result from is inv.learnt
+    c.evaluate-holds.ensures.learnt.each in
     let here : c.evaluate-holds.new.steps ≤ c.args.steps.now
     + 2400 * unknown_in before start (minute + 1 - start) =
     steps-next before at start minute c.args.steps.now c.loop-minute.steps
-    c.evaluate-holds.new.steps (omega arith) (learnt-ahead before at sums start minute
-    inv.learnt) inv.steps c.evaluate-holds.ensures.steps in
+    c.evaluate-holds.new.steps from (learnt-ahead before at sums start minute inv.learnt)
+    inv.steps c.evaluate-holds.ensures.steps in
     let more : unknown_in before start (minute + 1 - start) ≤ unknown_in before start
     (c.args.to - start) = unknown-part before start (minute + 1) c.args.to (omega arith) in
-    subst (λ s. c.evaluate-holds.new.steps ≤ c.args.steps.now + 2400 * unknown_in before s
-    (c.args.to - s)) c.start-start.ensures.value (omega (arith, here, more))
+    record {
+      value = search rules;
+      alert = alert;
+      agrees = Agrees-after before after sums start (minute + 1) alert c.requires.agrees learnt;
+      kept = kept-after before after sums start (minute + 1) c.requires.agrees learnt;
+      known = search rules;
+      steps = subst (λ s. c.evaluate-holds.new.steps ≤ c.args.steps.now
+          + 2400 * unknown_in before s (c.args.to - s)) c.start-start.ensures.value
+          (omega (arith, here, more));
+    }
 
 pub returns-clause-value : goal.returns-clause-value
 returns-clause-value g c =

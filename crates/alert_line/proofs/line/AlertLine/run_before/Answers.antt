@@ -22,8 +22,8 @@ loop-at-preserved g c =
     ∙ condition-alert before at sums minute inv.alert in
     record {
       learnt = learnt-next before at after sums start minute b from is inv.learnt
-          c.evaluate-holds.ensures.known;
-      alert = alert-then before at after inv.alert c.evaluate-holds.ensures.alert;
+          c.evaluate-holds.ensures.learnt.each;
+      alert = alert-then before at after inv.alert c.evaluate-holds.ensures.learnt.alert;
       behind = subst (λ r. IfSome c.evaluate-holds.new.cursor (IsBehind r (width_of sums.method)
           (leaf_at sums) (minute + 1))) inv.alert.rule c.evaluate-holds.ensures.behind;
       run = subst (IsRun (condition_on before sums) start (minute + 1)) (sym c.next_run-run.ensures)

@@ -1,7 +1,7 @@
 use Rattle.std.proofs.Common.{◌/◌, ap, ◌∙◌}
 use Rattle.slo_terms.specs.Sums.{slice_from, sum_of_slices}
 use Rattle.window_sums.specs.Slices.{leaf_at, width_of}
-use Rattle.alert_line.proofs.WindowLemmas.{slice_from-div_ceil}
+use Rattle.window_sums.proofs.WidthFacts.{slice_from-div_ceil}
 use Rattle.alert_line.proofs.window.Window.new.Goals as goal
 
 pub returns-clause-value : goal.returns-clause-value

@@ -4,13 +4,13 @@ use Rattle.slo_terms.specs.Sums.{leaves_over}
 use Rattle.window_sums.specs.Slices.{leaf_at}
 use Rattle.slo_terms.proofs.RangeLemmas.{leaves-part}
 use Rattle.alert_line.proofs.WindowLemmas.{grown-num, grown-den}
-use Rattle.alert_line.proofs.window.grow.Goals as goal
+use Rattle.alert_line.proofs.window.Window.grown.Goals as goal
 
 pub overflow_add-result : goal.overflow_add-result
 overflow_add-result g c =
     let leaf = leaf_at c.args.sums.now in
-    let first = c.args.first in
-    let end = c.args.end in
+    let first = c.args.self.first in
+    let end = c.args.self.end in
     omega (
       arith,
       ap (λ (l : Leaf). l.num) c.requires.value,
@@ -20,11 +20,11 @@ overflow_add-result g c =
       c.sound.ensures.few first (end + 1 - first),
     )
 
-pub overflow_add-result-then-first-end : goal.overflow_add-result-then-first-end
-overflow_add-result-then-first-end g c =
+pub overflow_add-result-then-self : goal.overflow_add-result-then-self
+overflow_add-result-then-self g c =
     let leaf = leaf_at c.args.sums.now in
-    let first = c.args.first in
-    let end = c.args.end in
+    let first = c.args.self.first in
+    let end = c.args.self.end in
     omega (
       arith,
       ap (λ (l : Leaf). l.den) c.requires.value,
@@ -33,13 +33,13 @@ overflow_add-result-then-first-end g c =
       c.sound.ensures.few first (end + 1 - first),
     )
 
-pub returns-then-first-end-clause-value : goal.returns-then-first-end-clause-value
-returns-then-first-end-clause-value g c =
+pub returns-then-self-clause-value : goal.returns-then-self-clause-value
+returns-then-self-clause-value g c =
     let leaf = leaf_at c.args.sums.now in
-    let first = c.args.first in
-    let end = c.args.end in
+    let first = c.args.self.first in
+    let end = c.args.self.end in
     let last : end + 1 ≡ c.args.to = omega arith in
-    let num : c.args.sum.num + c.slice-leaf.result.num
+    let num : c.args.self.sum.num + c.slice-leaf.result.num
     ≡ (leaves_over leaf first (end + 1 - first)).num =
     omega (
       arith,
@@ -47,7 +47,7 @@ returns-then-first-end-clause-value g c =
       ap (λ (l : Leaf). l.num) c.slice-leaf.ensures.value,
       grown-num leaf first end (omega arith),
     ) in
-    let den : c.args.sum.den + c.slice-leaf.result.den
+    let den : c.args.self.sum.den + c.slice-leaf.result.den
     ≡ (leaves_over leaf first (end + 1 - first)).den =
     omega (
       arith,
