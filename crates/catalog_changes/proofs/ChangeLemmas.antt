@@ -275,7 +275,7 @@ pub sound_with : (d d' : Derived) → IsSound d → d.entries < most.MAX_ENTRIES
     All (IsRead d'.catalog) d.book.rows →
     KeepsSums d'.catalog d'.book.exclusions d'.book.rows d'.sums.kept → IsSound d'
 sound_with d d' s few origin entries rows puts notices read sums = record {
-  origin = subst (λ n. n < 67108864) (sym origin) s.origin;
+  origin = subst (λ n. n ≤ most.MAX_MINUTE) (sym origin) s.origin;
   entries = omega (arith, entries, few);
   cells = subst (λ (rs : List Row). length rs ≤ most.MAX_CELLS) (sym rows) s.cells;
   accepted = subst (λ n. n ≤ most.MAX_ACCEPTED_ROWS) (sym puts) s.accepted;

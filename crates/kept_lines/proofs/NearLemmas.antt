@@ -14,7 +14,7 @@ use Rattle.burn_core.specs.declared.AlertRule.TheVariants.{Single, Page, Ticket}
 use Rattle.burn_core.specs.Alert.{reach_of}
 use Rattle.burn_core.specs.Condition.{burns_by, condition}
 use Rattle.window_sums.specs.Slices.{CountedDays, leaf_at, width_of}
-use Rattle.alert_line.specs.Line.{Agrees, Line, condition_on, known}
+use Rattle.alert_line.specs.Line.{Agrees, Line, condition_on, knowledge}
 use Rattle.kept_lines.specs.Touched.{IsClear, LinesAgreeAgain, is_near}
 
 -- two lists of leaves are the same over the slices near a minute
@@ -119,7 +119,7 @@ pub agree-again : LinesAgreeAgain
 agree-again line old new some widths same agrees =
     record { each = λ minute holds e. agrees.each minute holds e ∙ one minute holds e }
   where
-    one : (minute : ℕ) (holds : Bool) → known line minute ≡ Some holds
+    one : (minute : ℕ) (holds : Bool) → knowledge line minute ≡ Some holds
         → condition_on line old minute ≡ condition_on line new minute
     one minute holds e =
         condition-same line.rule line.target line.origin (width_of old.method) (leaf_at old)
@@ -137,7 +137,7 @@ pub clear-agrees : (line : Line) (old new : CountedDays) (touched : ℕ → Type
 clear-agrees line old new touched some widths same clear agrees = agree-again line old new some
     widths (λ minute holds k e near. same k (apart minute holds k e near)) agrees
   where
-    apart : (minute : ℕ) (holds : Bool) (k : ℕ) → known line minute ≡ Some holds
+    apart : (minute : ℕ) (holds : Bool) (k : ℕ) → knowledge line minute ≡ Some holds
         → is_near (width_of old.method) (reach_of line.rule) k minute ≡ true → touched k → ⊥
     apart minute holds k e near is = let no : true ≡ false = sym near ∙ clear k is minute holds e in
         cc no

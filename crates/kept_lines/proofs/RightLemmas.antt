@@ -7,7 +7,7 @@ use Rattle.burn_core.specs.declared.AlertRule.{AlertRule}
 use Rattle.burn_core.specs.Alert.{reach_of}
 use Rattle.burn_core.specs.Condition.{condition}
 use Rattle.window_sums.specs.Slices.{CountedDays, width_of}
-use Rattle.alert_line.specs.Line.{Line, condition_on, known}
+use Rattle.alert_line.specs.Line.{Line, condition_on, knowledge}
 use Rattle.office_history.specs.Alerts.{Watch, holds_at}
 use Rattle.office_history.specs.Counts.{Samples, leaf_at, slice_counts}
 use Rattle.kept_sums.specs.Replacing.{HasMoved}
@@ -71,7 +71,7 @@ stays-right touched begin s s' w before after some same forgets right = record {
     rule : after.rule ≡ w.rule
     rule = alert.rule ∙ right.rule
 
-    apart : (minute : ℕ) (holds : Bool) → known after minute ≡ Some holds → (k : ℕ) →
+    apart : (minute : ℕ) (holds : Bool) → knowledge after minute ≡ Some holds → (k : ℕ) →
         is_near width (reach_of w.rule) k minute ≡ true → touched k → ⊥
     apart minute holds e k near is =
         let no : true ≡ false =

@@ -10,7 +10,7 @@ use Rattle.burn_core.specs.declared.AlertRule.{AlertRule}
 use Rattle.burn_core.specs.Alert.{reach_of}
 use Rattle.window_sums.specs.Slices.{CountedDays}
 use Rattle.alert_line.specs.Laws.{HasForgotten}
-use Rattle.alert_line.specs.Line.{Agrees, Line, SameAlert, known}
+use Rattle.alert_line.specs.Line.{Agrees, Line, SameAlert, knowledge}
 use Rattle.kept_lines.specs.Touched.{Forgets, IsApart, IsInRun, is_near}
 use Rattle.kept_lines.proofs.NearLemmas.{ends, near-is}
 
@@ -114,21 +114,22 @@ marked-run before after width reach first last some order joined is alert marked
     test : ℕ → Bool
     test minute = nat_le (first * width + width) minute && nat_lt minute (last * width + reach + 1)
 
-    gone : (minute : ℕ) → test minute ≡ true → known after minute ≡ None
-    gone minute t = marked minute ∙ ap (λ (b : Bool). if b then None else known before minute) t
+    gone : (minute : ℕ) → test minute ≡ true → knowledge after minute ≡ None
+    gone minute t = marked minute ∙ ap (λ (b : Bool). if b then None else knowledge before minute) t
 
-    stays : (minute : ℕ) → test minute ≡ false → known after minute ≡ known before minute
-    stays minute t = marked minute ∙ ap (λ (b : Bool). if b then None else known before minute) t
+    stays : (minute : ℕ) → test minute ≡ false → knowledge after minute ≡ knowledge before minute
+    stays minute t = marked minute
+        ∙ ap (λ (b : Bool). if b then None else knowledge before minute) t
 
-    learnt : (minute : ℕ) (holds : Bool) → known after minute ≡ Some holds → (b : Bool)
-        → test minute ≡ b → known before minute ≡ Some holds
+    learnt : (minute : ℕ) (holds : Bool) → knowledge after minute ≡ Some holds → (b : Bool)
+        → test minute ≡ b → knowledge before minute ≡ Some holds
     learnt minute holds e false t = sym (stays minute t) ∙ e
     learnt minute holds e true t = let no : ◌≡◌ {A = Option Bool} None (Some holds) =
         sym (gone minute t) ∙ e in cc no
 
-    keep : (minute : ℕ) (holds : Bool) → known before minute ≡ Some holds
+    keep : (minute : ℕ) (holds : Bool) → knowledge before minute ≡ Some holds
         → IsApart (IsInRun first last) width (reach_of before.rule) minute → (b : Bool)
-        → test minute ≡ b → known after minute ≡ Some holds
+        → test minute ≡ b → knowledge after minute ≡ Some holds
     keep minute holds e apart false t = stays minute t ∙ e
     keep minute holds e apart true t =
         let w = within (first * width + width) (last * width + reach + 1) minute t in
@@ -141,7 +142,7 @@ marked-run before after width reach first last some order joined is alert marked
     up a b le = Rattle.std.proofs.Math.Nat.mul-le-mul_right {m = a} {n = b} width le
 
     free : (slice : ℕ) → IsInRun first last slice → (minute : ℕ) (holds : Bool)
-        → known after minute ≡ Some holds → (b : Bool) → is_near width reach slice minute ≡ b
+        → knowledge after minute ≡ Some holds → (b : Bool) → is_near width reach slice minute ≡ b
         → is_near width reach slice minute ≡ false
     free slice inside minute holds e false n = n
     free slice inside minute holds e true n =

@@ -6,7 +6,7 @@ use Rattle.sample_book.specs.Exclusions.{is_excluded}
 use Rattle.sample_book.specs.Puts.{verdicts}
 use Rattle.sample_book.specs.Rows.{current_rows}
 use Rattle.window_sums.specs.Slices.{CountedDays, width_of, leaf_at as leaf_of_days}
-use Rattle.alert_line.specs.Line.{Agrees, Line, known}
+use Rattle.alert_line.specs.Line.{Agrees, Line, knowledge}
 use Rattle.office_history.specs.Alerts.{Watch, holds_at}
 use Rattle.office_history.specs.Counts.{Samples, leaf_at}
 use Rattle.kept_sums.specs.Replacing.{HasMoved}
@@ -19,7 +19,7 @@ pub record IsRight (begin : ℕ) (s : Samples) (w : Watch) (line : Line) : Type 
   pub rule : line.rule ≡ w.rule
   pub target : line.target ≡ w.measure.target
   pub origin : line.origin ≡ begin
-  pub each : (minute : ℕ) (holds : Bool) → known line minute ≡ Some holds →
+  pub each : (minute : ℕ) (holds : Bool) → knowledge line minute ≡ Some holds →
       holds ≡ holds_at begin s w minute
 
 -- the line is about the alert that is watched, and the sums are those of its objective

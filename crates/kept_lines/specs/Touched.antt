@@ -14,7 +14,7 @@ use Rattle.kept_sums.specs.Replacing.{HasMoved}
 use Rattle.kept_sums.specs.Sums.{row_counts}
 use Rattle.kept_sums.specs.Walks.{made_on}
 use Rattle.kept_lines.specs.declared.run.Run.{Run}
-use Rattle.alert_line.specs.Line.{Agrees, Line, SameAlert, known}
+use Rattle.alert_line.specs.Line.{Agrees, Line, SameAlert, knowledge}
 
 -- A minute is near a slice [l, l + width) where its condition may look at it: it lies in
 -- [l + width, l + reach + 1).
@@ -25,7 +25,7 @@ is_near width reach slice minute =
 -- nothing is known near a slice
 abbrev pub IsClear : Line → ℕ → ℕ → Type 0
 IsClear line width slice =
-    (minute : ℕ) (holds : Bool) → known line minute ≡ Some holds →
+    (minute : ℕ) (holds : Bool) → knowledge line minute ≡ Some holds →
     is_near width (reach_of line.rule) slice minute ≡ false
 
 -- a minute is near no touched slice
@@ -36,10 +36,10 @@ IsApart touched width reach minute =
 -- A line has forgotten at most what is near touched slices.
 pub record ForgetsOnly (touched : ℕ → Type 0) (width : ℕ) (before after : Line) : Type 0 where
   pub alert : SameAlert before after
-  pub kept : (minute : ℕ) (holds : Bool) → known before minute ≡ Some holds →
-      IsApart touched width (reach_of before.rule) minute → known after minute ≡ Some holds
-  pub learnt_nothing : (minute : ℕ) (holds : Bool) → known after minute ≡ Some holds →
-      known before minute ≡ Some holds
+  pub kept : (minute : ℕ) (holds : Bool) → knowledge before minute ≡ Some holds →
+      IsApart touched width (reach_of before.rule) minute → knowledge after minute ≡ Some holds
+  pub learnt_nothing : (minute : ℕ) (holds : Bool) → knowledge after minute ≡ Some holds →
+      knowledge before minute ≡ Some holds
   pub agrees : (sums : CountedDays) → Agrees before sums → Agrees after sums
 
 -- It has forgotten just that.
@@ -59,7 +59,7 @@ abbrev pub LinesAgreeAgain : Type 0
 LinesAgreeAgain =
     (line : Line) (old new : CountedDays) → 0 < width_of old.method →
     width_of new.method ≡ width_of old.method →
-    ((minute : ℕ) (holds : Bool) (slice : ℕ) → known line minute ≡ Some holds →
+    ((minute : ℕ) (holds : Bool) (slice : ℕ) → knowledge line minute ≡ Some holds →
     is_near (width_of old.method) (reach_of line.rule) slice minute ≡ true →
     leaf_at old slice ≡ leaf_at new slice) →
     Agrees line old → Agrees line new

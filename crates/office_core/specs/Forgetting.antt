@@ -3,7 +3,7 @@ use Rattle.std.specs.Prelude.{◌≡◌, ◌≢◌, ℕ, Bool, List, Some}
 use Rattle.burn_core.specs.Alert.{reach_of}
 use Rattle.sample_book.specs.Puts.{verdicts}
 use Rattle.window_sums.specs.Slices.{slice_of, width_of}
-use Rattle.alert_line.specs.Line.{Line, known}
+use Rattle.alert_line.specs.Line.{Line, knowledge}
 use Rattle.record_form.specs.declared.Entry.{Entry}
 use Rattle.office_history.specs.declared.Measure.{Measure}
 use Rattle.office_history.specs.Alerts.{Watch}
@@ -28,9 +28,9 @@ pub data IsTouched (o : Office) (e : Entry) (m : Measure) (slice : ℕ) : Type 0
 -- slice [l, l + s) are the minutes of [l + s, l + reach + 1).
 abbrev pub KnowsApart : (ℕ → Type 0) → Watch → Line → Line → Type 0
 KnowsApart touched w before after =
-    (minute : ℕ) (holds : Bool) → known before minute ≡ Some holds →
+    (minute : ℕ) (holds : Bool) → knowledge before minute ≡ Some holds →
     IsApart touched (width_of w.measure.method) (reach_of w.rule) minute →
-    known after minute ≡ Some holds
+    knowledge after minute ≡ Some holds
 
 -- Lines forget only near what an entry touches: of each alert that is watched before it and after
 -- it, the line still knows what it knew elsewhere.

@@ -2,7 +2,7 @@
 ghost use Rattle.std.specs.Prelude.{◌≡◌, ◌≢◌, ℕ, ◌+◌, ◌*◌, ◌<◌, ◌≤◌};
 ghost use Rattle.std.specs.Int.{◌∣◌};
 ghost use Rattle.slo_terms.specs.Sums.{most_events};
-ghost use Rattle.window_sums.specs.Slices.{HasAtMost, IsPart, counts_of, exchanged, no_counts};
+ghost use Rattle.window_sums.specs.Slices.{HasAtMost, IsPart, counts_of, new_counts, no_counts};
 ghost use Rattle.window_sums.specs.Slices.{slice_of, width_of};
 
 use exact_fraction::Decimal;
@@ -60,13 +60,13 @@ pub(crate) fn put<R: Abort>(
     requires most { most + (after.total + 1000000000) ≤ most_events }
     requires good { before.good ≤ (counts_of sums.old (slice_of sums.old.method minute)).good }
     requires total { before.total ≤ (counts_of sums.old (slice_of sums.old.method minute)).total }
-    requires part { IsPart (exchanged (counts_of sums.old (slice_of sums.old.method minute)) before
+    requires part { IsPart (new_counts (counts_of sums.old (slice_of sums.old.method minute)) before
         after) }
     ensures method { sums.new.method ≡ sums.old.method }
     ensures few { HasAtMost sums.new.method (counts_of sums.new)
         (most + (after.total + 1000000000)) }
     ensures here { counts_of sums.new (slice_of sums.old.method minute)
-        ≡ exchanged (counts_of sums.old (slice_of sums.old.method minute)) before after }
+        ≡ new_counts (counts_of sums.old (slice_of sums.old.method minute)) before after }
     ensures others { (slice : ℕ) → slice ≢ slice_of sums.old.method minute
         → counts_of sums.new slice ≡ counts_of sums.old slice }
 {

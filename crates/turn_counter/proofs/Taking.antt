@@ -11,7 +11,7 @@ use Rattle.record_form.specs.declared.Outcome.{Outcome}
 use Rattle.record_form.specs.declared.Request.{Request}
 use Rattle.record_form.specs.Laws.{EntriesAreReadBack}
 use Rattle.record_form.specs.Records.{record_of}
-use Rattle.own_counter.specs.Own.{noted}
+use Rattle.own_counter.specs.Own.{places_with}
 use Rattle.turn_counter.specs.Seen.{ledger_of, office_seen}
 use Rattle.turn_counter.specs.Turns.{Acts, Asked, TurnAsks}
 use Rattle.turn_counter.proofs.Going.{went_on}
@@ -20,7 +20,7 @@ use Rattle.turn_counter.proofs.Reading.{sees_beginning, sees_office}
 -- the last position is the place that was told
 places : (place : Option ℕ) (own : List ℕ) (count : ℕ)
     → ((p : ℕ) → place ≡ Some p → count ≡ p + 1)
-    → own_after own (is_some place) count ≡ noted place own
+    → own_after own (is_some place) count ≡ places_with place own
 places None own count last = refl
 places (Some p) own count last =
     let at : count - 1 ≡ p = omega (arith, last p refl) in

@@ -10,7 +10,7 @@ use Rattle.office_counter.specs.Laws.{Extends}
 use Rattle.own_counter.specs.office_keep.Files.{IsWhole}
 use Rattle.own_counter.specs.office_keep.Office.{IsBlamed, LeavesBy, OfficeOn, Performs, SettlesBy}
 use Rattle.own_counter.specs.office_keep.Office.{StandsSettled}
-use Rattle.own_counter.specs.Own.{noted}
+use Rattle.own_counter.specs.Own.{places_with}
 use Rattle.turn_counter.specs.Seen.{office_seen}
 
 -- a request, and the reading of the clock for it
@@ -47,7 +47,7 @@ pub record TurnAsks {D : Type 0} (images : D → List ℕ → Type 0) (moment : 
   pub goes_on : Extends (office_seen old) taken.office
   pub acts : Acts images moment images_since faults taken reading request outcome place put
   pub seen : office_seen new ≡ put.office
-  pub own : new.own ≡ noted place old.own
+  pub own : new.own ≡ places_with place old.own
   pub counted : new.faults ≡ faults_after old.faults
       (has_risen (faults taken.disk) (faults put.disk))
   pub desk : new.desk ≡ old.desk

@@ -2,6 +2,7 @@
 use Rattle.std.proofs.Common.{◌≡◌, ℕ, zero, suc, ◌+◌, ◌≤◌, ◌<◌, add-one, refl, ap, sym, subst}
 use Rattle.std.proofs.Common.{arith, List, [], ◌∷◌, length, slice_index_or, slice_set}
 use Rattle.std.specs.List.{AllByRecursion, Contains}
+use Rattle.slo_limits.specs.declared.TheConstants.{MAX_MINUTE}
 use Rattle.sample_book.specs.Book.{Book}
 use Rattle.sample_book.specs.Puts.{verdicts}
 use Rattle.sample_book.specs.Rows.{current_rows}
@@ -134,7 +135,7 @@ keeps_over begin members s s' old new same right keeps = record {
 }
 
 -- the rows of an office have minutes of some office's range
-pub all_early : (origin : ℕ) (rows : List Row) → origin < 67108864 →
+pub all_early : (origin : ℕ) (rows : List Row) → origin ≤ MAX_MINUTE →
     AllByRecursion (IsPlaced origin) rows →
     AllByRecursion (λ (row : Row). row.minute ≤ LAST_MINUTE) rows
 all_early origin [] begun placed = tt

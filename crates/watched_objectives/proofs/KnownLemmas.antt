@@ -8,7 +8,7 @@ use Rattle.std.specs.List.{AllByRecursion}
 use Rattle.std.proofs.lemmas.Bool.Decides.{nat_tests}
 use Rattle.window_sums.specs.Slices.{CountedDays}
 use Rattle.alert_line.specs.Learnt.{IsLearnt, start_of}
-use Rattle.alert_line.specs.Line.{Line, SameAlert, condition_on, known}
+use Rattle.alert_line.specs.Line.{Line, SameAlert, condition_on, knowledge}
 use Rattle.office_history.specs.Alerts.{Watch}
 use Rattle.watched_objectives.specs.Known.{AllKnow, EachBecomes, IsLineOf, LineKnows, StillKnows}
 use Rattle.watched_objectives.specs.Lines.{watches_of}
@@ -141,8 +141,8 @@ know_set (x ∷ kept) (suc place) d k knows = (still x, know_set kept place d k 
 -- the line that was found there has learnt something, and the others stay
 pub know_there : (kept items : List WatchLine) (place : ℕ) (k : WatchLine) (after : Line) →
     items ≡ kept → k ≡ slice_index_or items place k → SameAlert k.line after →
-    ((minute : ℕ) (holds : Bool) → known k.line minute ≡ Some holds →
-    known after minute ≡ Some holds) →
+    ((minute : ℕ) (holds : Bool) → knowledge k.line minute ≡ Some holds →
+    knowledge after minute ≡ Some holds) →
     AllKnow kept (slice_set items place (record { watch = k.watch; line = after }))
 know_there kept items place k after same at alert each =
     subst (λ (ks : List WatchLine). AllKnow ks (slice_set items place (beside k.watch after))) same
@@ -155,11 +155,11 @@ know_there kept items place k after same at alert each =
 -- a pass from before a minute on has learnt its condition
 pub learnt_each : (before after : Line) (sums : CountedDays) (from to minute : ℕ) →
     IsLearnt before after sums (start_of before from) to → before.origin ≤ from → from ≤ minute →
-    minute < to → (holds : Bool) × (known after minute ≡ Some holds)
+    minute < to → (holds : Bool) × (knowledge after minute ≡ Some holds)
 learnt_each before after sums from to minute learnt begun first last = (
   condition_on before sums minute,
   learnt.each minute ∙ ap (λ (b : Bool). if b then Some (condition_on before sums minute)
-      else known before minute) inside,
+      else knowledge before minute) inside,
 )
   where
     start : start_of before from ≤ minute
@@ -173,14 +173,14 @@ pub knows_put : (kept items : List WatchLine) (w : Watch) (place from to : ℕ) 
     (after : Line) → items ≡ kept → slice_get (watches_of kept) place ≡ Some w →
     AllByRecursion (λ (k : WatchLine). k.watch ≢ w) (take place kept) → k.watch ≡ w →
     ((minute : ℕ) → from ≤ minute → minute < to →
-    (holds : Bool) × (known after minute ≡ Some holds)) →
+    (holds : Bool) × (knowledge after minute ≡ Some holds)) →
     LineKnows (slice_set items place (record { watch = k.watch; line = after })) w from to
 knows_put kept items w place from to k after same at before is learnt = record {
   each = λ line minute of_w first last.
       let put : IsLineOf (slice_set items place (beside k.watch after)) w after =
       subst (λ (ks : List WatchLine). IsLineOf (slice_set ks place (beside k.watch after)) w after)
       (sym same) (line_put kept w place (beside k.watch after) at before is) in
-      subst (λ (l : Line). (holds : Bool) × (known l minute ≡ Some holds))
+      subst (λ (l : Line). (holds : Bool) × (knowledge l minute ≡ Some holds))
       (one_line (slice_set items place (beside k.watch after)) w after line put of_w)
       (learnt minute first last);
 }

@@ -8,7 +8,7 @@ use Rattle.std.specs.List.Retain.{IsFiltered, ReturnsInTurn}
 use Rattle.std.proofs.lemmas.List.Elements.{All-contains, All-from_recursion}
 use Rattle.std.proofs.lemmas.List.Elements.{Contains-append_left, Contains-append_right}
 use Rattle.slo_objects.specs.declared.Object.{Object}
-use Rattle.alert_line.specs.Line.{Line, known}
+use Rattle.alert_line.specs.Line.{Line, knowledge}
 use Rattle.office_history.specs.Alerts.{Watch, holds_at}
 use Rattle.office_history.specs.Counts.{Samples}
 use Rattle.watched_objectives.specs.Watches.{IsWatched}
@@ -144,8 +144,8 @@ fresh_right begin s (k ∷ made) fresh = (
   fresh_right begin s made fresh.1,
 )
   where
-    unknown : (minute : ℕ) (holds : Bool) → known k.line minute ≡ None →
-        known k.line minute ≡ Some holds → holds ≡ holds_at begin s k.watch minute
+    unknown : (minute : ℕ) (holds : Bool) → knowledge k.line minute ≡ None →
+        knowledge k.line minute ≡ Some holds → holds ≡ holds_at begin s k.watch minute
     unknown minute holds none e = let never : None ≡ Some holds = sym none ∙ e in cc never
 
 -- what a plan wants is watched in the catalog that comes

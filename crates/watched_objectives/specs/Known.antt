@@ -1,6 +1,6 @@
 -- What lines know of the minutes of their alerts, and still know as they change.
 use Rattle.std.specs.Prelude.{◌≡◌, ◌≢◌, ◌⊎◌, ℕ, ◌<◌, ◌≤◌, Bool, List, [], ◌∷◌, Some}
-use Rattle.alert_line.specs.Line.{Line, SameAlert, known}
+use Rattle.alert_line.specs.Line.{Line, SameAlert, knowledge}
 use Rattle.office_history.specs.Alerts.{Watch}
 use Rattle.watched_objectives.specs.declared.kept.WatchLine.{WatchLine}
 
@@ -20,8 +20,8 @@ EachBecomes R _ _ = ⊥
 pub record StillKnows (before after : WatchLine) : Type 0 where
   pub watch : after.watch ≡ before.watch
   pub alert : SameAlert before.line after.line
-  pub each : (minute : ℕ) (holds : Bool) → known before.line minute ≡ Some holds →
-      known after.line minute ≡ Some holds
+  pub each : (minute : ℕ) (holds : Bool) → knowledge before.line minute ≡ Some holds →
+      knowledge after.line minute ≡ Some holds
 
 -- so does each of the lines: no minute that was known becomes unknown
 abbrev pub AllKnow : List WatchLine → List WatchLine → Type 0
@@ -30,4 +30,4 @@ AllKnow old new = EachBecomes StillKnows old new
 -- the line of an alert knows each minute of [from, to)
 pub record LineKnows (kept : List WatchLine) (w : Watch) (from to : ℕ) : Type 0 where
   pub each : (line : Line) (minute : ℕ) → IsLineOf kept w line → from ≤ minute → minute < to →
-      (holds : Bool) × (known line minute ≡ Some holds)
+      (holds : Bool) × (knowledge line minute ≡ Some holds)

@@ -4,7 +4,7 @@ use Rattle.std.specs.List.{AllByRecursion, Contains, flat_map}
 use Rattle.slo_objects.specs.declared.Object.{Object}
 use Rattle.slo_catalog.specs.declared.Binding.{Binding}
 use Rattle.slo_catalog.specs.Bindings.{bindings}
-use Rattle.alert_line.specs.Line.{known}
+use Rattle.alert_line.specs.Line.{knowledge}
 use Rattle.office_history.specs.Alerts.{Watch, watch_of}
 use Rattle.watched_objectives.specs.Watches.{IsWatched}
 use Rattle.watched_objectives.specs.Lines.{watches_of}
@@ -16,7 +16,7 @@ pub record IsFresh (begin : ℕ) (k : WatchLine) : Type 0 where
   pub rule : k.line.rule ≡ k.watch.rule
   pub target : k.line.target ≡ k.watch.measure.target
   pub origin : k.line.origin ≡ begin
-  pub unknown : (minute : ℕ) → known k.line minute ≡ None
+  pub unknown : (minute : ℕ) → knowledge k.line minute ≡ None
 
 -- a plan wants the alerts that the catalog watches, and brings fresh lines of those that the one
 -- before didn't watch

@@ -6,7 +6,7 @@ ghost use Rattle.burn_core.specs.Timeline.{AreSpansOf, state_of};
 ghost use Rattle.window_sums.specs.Slices.{CountedDays};
 ghost use Rattle.alert_line.specs.Learnt.{IsLearnt, start_of};
 ghost use Rattle.alert_line.specs.Line.{Agrees, IsMinute, SameAlert, active_on, den_before};
-ghost use Rattle.alert_line.specs.Line.{known};
+ghost use Rattle.alert_line.specs.Line.{knowledge};
 ghost use Rattle.office_history.specs.Alerts.{is_watch_active, state_at};
 ghost use Rattle.office_derived.specs.Derived.{IsSound};
 ghost use Rattle.kept_lines.specs.Right.{IsRight};
@@ -43,8 +43,8 @@ fn state_of_line<L: Ledger>(
         (den_before line.old sums.now minute) }
     ensures alert { SameAlert line.old line.new }
     ensures agrees { Agrees line.new sums.now }
-    ensures kept { (u : ℕ) (holds : Bool) → known line.old u ≡ Some holds
-        → known line.new u ≡ Some holds }
+    ensures kept { (u : ℕ) (holds : Bool) → knowledge line.old u ≡ Some holds
+        → knowledge line.new u ≡ Some holds }
 {
     let mut steps = Steps::<L>::new(blank);
     line.state_at(minute, sums, &mut steps)
@@ -67,8 +67,8 @@ fn spans_of_line<L: Ledger>(
         (λ minute. active_on line.old sums.now minute ≡ true) from to spans.items) }
     ensures alert { SameAlert line.old line.new }
     ensures agrees { Agrees line.new sums.now }
-    ensures kept { (u : ℕ) (holds : Bool) → known line.old u ≡ Some holds
-        → known line.new u ≡ Some holds }
+    ensures kept { (u : ℕ) (holds : Bool) → knowledge line.old u ≡ Some holds
+        → knowledge line.new u ≡ Some holds }
     ensures learnt { OnOk result (IsLearnt line.old line.new sums.now (start_of line.old from) to) }
 {
     let mut steps = Steps::<L>::new(blank);
