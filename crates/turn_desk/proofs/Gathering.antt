@@ -4,7 +4,7 @@ use Rattle.std.proofs.Common.{arith, append_assoc}
 use Rattle.std.specs.Prelude.{All, flat_map}
 use Rattle.std.proofs.lemmas.List.{append-nil}
 use Rattle.turn_desk.specs.Histories.{Extends, Comparable}
-use Rattle.turn_desk.specs.Passes.{PassState, longer, joined}
+use Rattle.turn_desk.specs.Passes.{PassState, longer_history, pass_of_both}
 use Rattle.turn_desk.proofs.Histories.{extends_same, extends_trans, longer_from_left}
 use Rattle.turn_desk.proofs.Histories.{longer_from_right}
 
@@ -76,10 +76,11 @@ begins all rest last is = record {
 
 pub goes_on : (all rest : List PassState) (one : PassState) (before : List PassState)
     (next both : PassState) → Stands all rest one → rest ≡ before ++ next ∷ []
-    → both ≡ joined next one → one.root ≡ next.root → Comparable next.seen one.seen
+    → both ≡ pass_of_both next one → one.root ≡ next.root → Comparable next.seen one.seen
     → Stands all before both
 goes_on all rest one before next both s is joins roots compare =
-    let long : both.seen ≡ longer next.seen one.seen = ap (λ (p : PassState). p.seen) joins in
+    let long : both.seen ≡ longer_history next.seen one.seen =
+    ap (λ (p : PassState). p.seen) joins in
     let kept : next.root ≡ both.root = sym (ap (λ (p : PassState). p.root) joins) in
     record {
       done = next ∷ s.done;

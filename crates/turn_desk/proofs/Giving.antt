@@ -10,7 +10,7 @@ use Rattle.turn_desk.specs.declared.view.View.{View}
 use Rattle.turn_desk.specs.Histories.{Extends, Has, Distinct}
 use Rattle.turn_desk.specs.Ledgers.{Ledger}
 use Rattle.turn_desk.specs.Passes.{own_after}
-use Rattle.turn_desk.specs.Views.{grown, freed}
+use Rattle.turn_desk.specs.Views.{holder_after, without_turn}
 use Rattle.turn_desk.specs.Rule.{Fits, Ruled, Grew, Freed}
 use Rattle.turn_desk.proofs.Histories.{distinct_append, extends_same, extends_trans, extends-length}
 use Rattle.turn_desk.proofs.Histories.{has_append}
@@ -53,7 +53,7 @@ module _ {T : Type 0} (ledger : T → Ledger) (first : T) (slots : ℕ) where
       (v, (0, Some y) ∷ []) (length (ledger y).history))
   grow b rose id v y holds live more gains s h long at small =
       let now = (ledger y).history in
-      let w = grown b rose v now in
+      let w = holder_after b rose v now in
       let mine = h.each id v at in
       let is : v.seen ≡ h.history = (mine.holder holds).1 in
       let set_mark : h.mark ≡ 1 = (mine.holder holds).0 in
@@ -103,7 +103,7 @@ module _ {T : Type 0} (ledger : T → Ledger) (first : T) (slots : ℕ) where
               inr (omega (arith, new.0, same)))
               (own_from b v.own (length v.seen) (length now) p gains had));
         },
-        λ z e. ap (λ (x : List (List ℕ)). (grown b rose v x, (0, Some y) ∷ []))
+        λ z e. ap (λ (x : List (List ℕ)). (holder_after b rose v x, (0, Some y) ∷ []))
             (ap (λ (t : T). (ledger t).history) (value_of y z e)),
       )
     where
@@ -140,7 +140,7 @@ module _ {T : Type 0} (ledger : T → Ledger) (first : T) (slots : ℕ) where
       → Allows Rule slots id (v, (0, Some y) ∷ []) 0 (λ _. 0)
       (λ _. Freed ledger (step slots 0 0 0 none) (v, (0, Some y) ∷ []) 0)
   free id v y holds live told stays s h long at small =
-      let w = freed v in
+      let w = without_turn v in
       let mine = h.each id v at in
       let is : v.seen ≡ h.history = (mine.holder holds).1 in (
         w,

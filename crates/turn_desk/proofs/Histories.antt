@@ -6,8 +6,8 @@ use Rattle.std.specs.Prelude.{All, if◌then◌else◌}
 use Rattle.std.proofs.lemmas.List.{append-nil}
 use Rattle.std.proofs.lemmas.Bool.Decides.{nat_tests}
 use Rattle.turn_desk.specs.Histories.{Extends, Comparable, Has, Distinct}
-use Rattle.turn_desk.specs.Passes.{longer}
-use Rattle.turn_desk.specs.Views.{shorter}
+use Rattle.turn_desk.specs.Passes.{longer_history}
+use Rattle.turn_desk.specs.Views.{shorter_history}
 
 pub extends_same : {X : Type 0} (xs : List X) → Extends xs xs
 extends_same xs = ([], sym (append-nil xs))
@@ -46,40 +46,41 @@ comparable {X} (x ∷ xs) (y ∷ ys) (z ∷ zs) a b =
 
 -- the longer of two, as a choice
 longer_is : (F : List (List ℕ) → Type 0) (b : Bool) (a c : List (List ℕ))
-    → nat_lt (length a) (length c) ≡ b → (b ≡ true → F c) → (b ≡ false → F a) → F (longer a c)
+    → nat_lt (length a) (length c) ≡ b → (b ≡ true → F c) → (b ≡ false → F a)
+    → F (longer_history a c)
 longer_is F true a c e x y = subst F (sym (ap (λ t. if t then c else a) e)) (x refl)
 longer_is F false a c e x y = subst F (sym (ap (λ t. if t then c else a) e)) (y refl)
 
 shorter_is : (F : List (List ℕ) → Type 0) (b : Bool) (a c : List (List ℕ))
-    → nat_lt (length a) (length c) ≡ b → F a → F c → F (shorter a c)
+    → nat_lt (length a) (length c) ≡ b → F a → F c → F (shorter_history a c)
 shorter_is F true a c e x y = subst F (sym (ap (λ t. if t then a else c) e)) x
 shorter_is F false a c e x y = subst F (sym (ap (λ t. if t then a else c) e)) y
 
 pub longer_extended : (a c history : List (List ℕ)) → Extends a history → Extends c history
-    → Extends (longer a c) history
+    → Extends (longer_history a c) history
 longer_extended a c history x y =
     longer_is (λ l. Extends l history) (nat_lt (length a) (length c)) a c refl (λ _. y) (λ _. x)
 
 pub shorter_extended : (a c history : List (List ℕ)) → Extends a history → Extends c history
-    → Extends (shorter a c) history
+    → Extends (shorter_history a c) history
 shorter_extended a c history x y =
     shorter_is (λ l. Extends l history) (nat_lt (length a) (length c)) a c refl x y
 
-pub longer_left : (a c : List (List ℕ)) → length a ≤ length (longer a c)
+pub longer_left : (a c : List (List ℕ)) → length a ≤ length (longer_history a c)
 longer_left a c = longer_is (λ l. length a ≤ length l) (nat_lt (length a) (length c)) a c refl
     (λ (e : nat_lt (length a) (length c) ≡ true). grind (arith, nat_tests)) (λ _. omega arith)
 
-pub longer_right : (a c : List (List ℕ)) → length c ≤ length (longer a c)
+pub longer_right : (a c : List (List ℕ)) → length c ≤ length (longer_history a c)
 longer_right a c = longer_is (λ l. length c ≤ length l) (nat_lt (length a) (length c)) a c refl
     (λ _. omega arith) (λ (e : nat_lt (length a) (length c) ≡ false). grind (arith, nat_tests))
 
-pub longer_from_left : (a c : List (List ℕ)) → Comparable a c → Extends a (longer a c)
+pub longer_from_left : (a c : List (List ℕ)) → Comparable a c → Extends a (longer_history a c)
 longer_from_left a c both = longer_is (Extends a) (nat_lt (length a) (length c)) a c refl
     (λ (e : nat_lt (length a) (length c) ≡ true). ⊎_elim (λ x. x) (λ (y : Extends c a).
     absurd (let le = extends-length c a y in grind (arith, nat_tests))) both)
     (λ _. extends_same a)
 
-pub longer_from_right : (a c : List (List ℕ)) → Comparable a c → Extends c (longer a c)
+pub longer_from_right : (a c : List (List ℕ)) → Comparable a c → Extends c (longer_history a c)
 longer_from_right a c both = longer_is (Extends c) (nat_lt (length a) (length c)) a c refl
     (λ _. extends_same c)
     (λ (e : nat_lt (length a) (length c) ≡ false).

@@ -10,7 +10,7 @@ use Rattle.atomic_table.proofs.Lists.{set_again, at_set}
 use Rattle.turn_desk.specs.declared.view.View.{View}
 use Rattle.turn_desk.specs.Histories.{Has}
 use Rattle.turn_desk.specs.Ledgers.{Ledger}
-use Rattle.turn_desk.specs.Views.{visitor, spent, merged}
+use Rattle.turn_desk.specs.Views.{visitor, spent_pass, view_of_both}
 use Rattle.turn_desk.specs.Rule.{Fits, One, Apart, Held, Ruled, first_view}
 use Rattle.turn_desk.proofs.Histories.{distinct_append, extends_same, has_append, longer_extended}
 use Rattle.turn_desk.proofs.Histories.{shorter_extended, longer_left, longer_right}
@@ -61,9 +61,9 @@ module _ {T : Type 0} (ledger : T → Ledger) (first : T) where
       }
 
   pub joins : (id : ℕ) (v : View) (other : ℕ) (w : View) → v.holds ≡ false → w.holds ≡ false
-      → w.live ≡ true → Joins Rule id v other w (merged v w) spent
+      → w.live ≡ true → Joins Rule id v other w (view_of_both v w) spent_pass
   joins id v other w idle other_idle other_live s h at two there' =
-      let both = merged v w in
+      let both = view_of_both v w in
       let there : get_elem? s.views other ≡ some w = ⊎_elim (λ (t : (other ≡ id) × (both ≡ w)).
       absurd (two t.0)) (λ (t : (other ≢ id) × (get_elem? s.views other ≡ some w)). t.1)
       (at_set s.views id other both w there') in
@@ -92,9 +92,9 @@ module _ {T : Type 0} (ledger : T → Ledger) (first : T) where
         homes_are = h.homes_are;
         extends = h.extends;
         at_home = h.at_home;
-        held = λ set_mark. held_join s.views id other v w both spent at there two refl
+        held = λ set_mark. held_join s.views id other v w both spent_pass at there two refl
             (λ p had. has_append v.own w.own p had) (h.held set_mark) idle other_idle;
-        each = each_set (set s.views id both) other w spent there'
+        each = each_set (set s.views id both) other w spent_pass there'
             (Fits h.history (ledger first).root h.mark) (Fits h.history (ledger first).root h.mark)
             fits (λ j u ne here f. f)
             (record {
@@ -106,9 +106,10 @@ module _ {T : Type 0} (ledger : T → Ledger) (first : T) where
               distinct = tt;
               holder = λ t. absurd (off t);
             });
-        one = one_set (set s.views id both) other w spent there' (one_set s.views id v both at h.one
+        one = one_set (set s.views id both) other w spent_pass there'
+            (one_set s.views id v both at h.one
             (λ t. absurd (true≢false (sym t ∙ idle)))) (λ t. absurd (off t));
-        apart = apart_join s.views id other v w both spent at there two refl
+        apart = apart_join s.views id other v w both spent_pass at there two refl
             (λ p had. has_append v.own w.own p had) h.apart;
       }
 

@@ -12,7 +12,7 @@ use Rattle.atomic_table.proofs.Lists.{exchanged, set_again}
 use Rattle.turn_desk.specs.declared.view.View.{View}
 use Rattle.turn_desk.specs.Histories.{Extends, Has}
 use Rattle.turn_desk.specs.Ledgers.{Ledger}
-use Rattle.turn_desk.specs.Views.{IsIdle, taken}
+use Rattle.turn_desk.specs.Views.{IsIdle, with_turn}
 use Rattle.turn_desk.specs.Rule.{Fits, One, Apart, Held, Ruled, Took, Compared}
 use Rattle.turn_desk.proofs.Histories.{comparable, extends_same, extends-length}
 use Rattle.turn_desk.proofs.Views.{each_set, held_set, one_set, apart_set}
@@ -60,7 +60,7 @@ module _ {T : Type 0} (ledger : T → Ledger) (first : T) (slots : ℕ) where
       )
   take_won s h id v live idle at clear =
       let y = h.at_home clear in
-      let w = taken v h.history in
+      let w = with_turn v h.history in
       let mine = h.each id v at in (
         w,
         takes 0 (Some y.0),
@@ -103,7 +103,7 @@ module _ {T : Type 0} (ledger : T → Ledger) (first : T) (slots : ℕ) where
           won = λ _. (
             y.0,
             refl,
-            ap (taken v) (sym y.2),
+            ap (with_turn v) (sym y.2),
             subst (Extends v.seen) (sym y.2) mine.extends,
             y.3 ∙ sym (mine.root_is live),
           );

@@ -31,10 +31,10 @@ after_turn added rose history p = record p {
   faults = faults_after p.faults rose;
 }
 
-abbrev pub longer : List (List ℕ) → List (List ℕ) → List (List ℕ)
-longer a b = if nat_lt (length a) (length b) then b else a
+abbrev pub longer_history : List (List ℕ) → List (List ℕ) → List (List ℕ)
+longer_history a b = if nat_lt (length a) (length b) then b else a
 
 -- one pass for two: it has seen the longer history and has both lists of own entries, and keeps its
 -- root and its count
-abbrev pub joined : PassState → PassState → PassState
-joined p q = record p { seen = longer p.seen q.seen; own = p.own ++ q.own }
+abbrev pub pass_of_both : PassState → PassState → PassState
+pass_of_both p q = record p { seen = longer_history p.seen q.seen; own = p.own ++ q.own }

@@ -8,7 +8,7 @@ use Rattle.atomic_table.specs.Seated.{TableId}
 use Rattle.atomic_table.specs.Table.{State, Me, Step}
 use Rattle.turn_desk.specs.Histories.{Extends, Comparable, Has, Distinct}
 use Rattle.turn_desk.specs.Ledgers.{Ledger}
-use Rattle.turn_desk.specs.Views.{visitor, taken, grown, freed}
+use Rattle.turn_desk.specs.Views.{visitor, with_turn, holder_after, without_turn}
 use Rattle.turn_desk.specs.declared.view.View.{View}
 
 -- a table with two words and one slot
@@ -68,7 +68,8 @@ module _ {T : Type 0} (ledger : T → Ledger) where
   -- Where the mark was clear, the pass holds the turn and has the value; else nothing changes.
   pub record Took (st : Step (Maybe T)) (m : Me (Maybe T) View) (n : ℕ)
       (m' : Me (Maybe T) View) : Type 0 where
-    pub won : n ≡ 0 → (y : T) × (m'.1 ≡ (0, Some y) ∷ m.1) × (m'.0 ≡ taken m.0 (ledger y).history)
+    pub won : n ≡ 0 → (y : T) × (m'.1 ≡ (0, Some y) ∷ m.1)
+        × (m'.0 ≡ with_turn m.0 (ledger y).history)
         × Extends m.0.seen (ledger y).history × ((ledger y).root ≡ m.0.root)
     pub lost : n ≢ 0 → m' ≡ m
 
@@ -76,11 +77,11 @@ module _ {T : Type 0} (ledger : T → Ledger) where
   abbrev pub Grew : Bool → Bool → Step (Maybe T) → Me (Maybe T) View → ℕ
       → Me (Maybe T) View → Type 0
   Grew added rose st m n m' = (y : T) → m.1 ≡ (0, Some y) ∷ []
-      → m' ≡ (grown added rose m.0 (ledger y).history, m.1)
+      → m' ≡ (holder_after added rose m.0 (ledger y).history, m.1)
 
   -- the holder has given back the turn and the value
   abbrev pub Freed : Step (Maybe T) → Me (Maybe T) View → ℕ → Me (Maybe T) View → Type 0
-  Freed st m n m' = m' ≡ (freed m.0, [])
+  Freed st m n m' = m' ≡ (without_turn m.0, [])
 
   -- what a pass finds by a look, of itself and of the pass that was joined to it last
   pub record Compared (st : Step (Maybe T)) (m : Me (Maybe T) View) (n : ℕ)

@@ -6,7 +6,7 @@ use Rattle.atomic_table.specs.declared.Seat.{Seat}
 use Rattle.turn_desk.specs.Histories.{Extends}
 use Rattle.turn_desk.specs.Ledgers.{Ledger}
 use Rattle.turn_desk.specs.Rule.{IsDesk}
-use Rattle.turn_desk.specs.Views.{taken}
+use Rattle.turn_desk.specs.Views.{with_turn}
 use Rattle.turn_desk.specs.declared.view.View.{View}
 
 -- the seat is one of the table, and the table is a desk's
@@ -25,5 +25,5 @@ Continues v ledger = Extends v.seen ledger.history × (ledger.root ≡ v.root)
 abbrev pub HasTurn : {T : Type 0} → (T → Ledger) → Seat (Maybe T) View → Seat (Maybe T) View
     → Type 0
 HasTurn {T} ledger old new = (y : T)
-    × (new.me ≡ (taken old.me.0 (ledger y).history, (0, Some y) ∷ []))
+    × (new.me ≡ (with_turn old.me.0 (ledger y).history, (0, Some y) ∷ []))
     × Continues old.me.0 (ledger y)

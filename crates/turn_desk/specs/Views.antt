@@ -3,7 +3,7 @@ use Rattle.std.specs.Prelude.{◌≡◌, ℕ, Bool, true, false, List, [], ◌++
 use Rattle.std.specs.Prelude.{if◌then◌else◌}
 use Rattle.atomic_table.specs.Seated.{TableId}
 use Rattle.atomic_table.specs.Table.{Me}
-use Rattle.turn_desk.specs.Passes.{PassState, own_after, faults_after, longer}
+use Rattle.turn_desk.specs.Passes.{PassState, own_after, faults_after, longer_history}
 use Rattle.turn_desk.specs.declared.view.View.{View}
 
 -- what a pass is seen as
@@ -36,8 +36,8 @@ visitor root seen = record {
 }
 
 -- a pass that was joined to another
-abbrev pub spent : View
-spent = record {
+abbrev pub spent_pass : View
+spent_pass = record {
   live = false;
   holds = false;
   root = [];
@@ -49,29 +49,29 @@ spent = record {
 }
 
 -- the pass, once it holds the turn over this history
-abbrev pub taken : View → List (List ℕ) → View
-taken v history = record v { holds = true; seen = history }
+abbrev pub with_turn : View → List (List ℕ) → View
+with_turn v history = record v { holds = true; seen = history }
 
 -- the holder, once the history has grown
-abbrev pub grown : Bool → Bool → View → List (List ℕ) → View
-grown added rose v history = record v {
+abbrev pub holder_after : Bool → Bool → View → List (List ℕ) → View
+holder_after added rose v history = record v {
   seen = history;
   own = own_after v.own added (length history);
   faults = faults_after v.faults rose;
 }
 
 -- the holder, once it has given the turn back
-abbrev pub freed : View → View
-freed v = record v { holds = false }
+abbrev pub without_turn : View → View
+without_turn v = record v { holds = false }
 
-abbrev pub shorter : List (List ℕ) → List (List ℕ) → List (List ℕ)
-shorter a b = if nat_lt (length a) (length b) then a else b
+abbrev pub shorter_history : List (List ℕ) → List (List ℕ) → List (List ℕ)
+shorter_history a b = if nat_lt (length a) (length b) then a else b
 
 -- what two passes have seen and made
-abbrev pub merged : View → View → View
-merged v w = record v {
-  seen = longer v.seen w.seen;
+abbrev pub view_of_both : View → View → View
+view_of_both v w = record v {
+  seen = longer_history v.seen w.seen;
   own = v.own ++ w.own;
   other_root = w.root;
-  other_seen = shorter v.seen w.seen;
+  other_seen = shorter_history v.seen w.seen;
 }

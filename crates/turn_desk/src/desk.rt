@@ -1,7 +1,7 @@
 //! The desk: how it is made, taken in turns, and closed.
 ghost use Rattle.std.specs.Prelude.{◌≡◌, IfOk, IfErr, ◌++◌, ◌<◌, length, All, flat_map};
 ghost use Rattle.turn_desk.specs.Histories.{Extends, Comparable, Distinct};
-ghost use Rattle.turn_desk.specs.Passes.{newcomer, joined};
+ghost use Rattle.turn_desk.specs.Passes.{newcomer, pass_of_both};
 ghost use Rattle.turn_desk.specs.Turns.{TookTurn};
 
 use crate::bell::Bell;
@@ -137,7 +137,7 @@ impl<T: Ledgered + Drop> Desk<T> {
     pub fn join(&self, pass: &mut Pass<T>, other: Pass<T>)
         requires own { pass.old.desk ≡ self.now }
         requires other { other.desk ≡ self.now }
-        ensures both { pass.new ≡ joined pass.old other }
+        ensures both { pass.new ≡ pass_of_both pass.old other }
         ensures one_root { other.root ≡ pass.old.root }
         ensures one_history { Comparable pass.old.seen other.seen }
         ensures within { All (λ p. p < length pass.new.seen) pass.new.own }

@@ -79,9 +79,9 @@ impl Split<View> for Another {
 pub struct Both;
 
 impl Join<View> for Both {
-    ghost use Rattle.turn_desk.specs.Views.{merged, spent};
+    ghost use Rattle.turn_desk.specs.Views.{view_of_both, spent_pass};
 
-    ghost both = { merged };
+    ghost both = { view_of_both };
 
-    ghost spent = { spent };
+    ghost spent = { spent_pass };
 }

@@ -1,7 +1,7 @@
 //! One turn over the table: how the value comes out, and how it goes back.
 ghost use Rattle.std.specs.Prelude.{◌≡◌, [], ◌∷◌, true, false, Some, None, ◌<◌, length};
 ghost use Rattle.turn_desk.specs.Histories.{Extends};
-ghost use Rattle.turn_desk.specs.Views.{IsIdle, taken, grown, freed};
+ghost use Rattle.turn_desk.specs.Views.{IsIdle, with_turn, holder_after, without_turn};
 ghost use Rattle.turn_desk.specs.Seats.{Continues, HasTurn, IsSameSeat, IsSeatOf};
 
 use crate::bell::Bell;
@@ -97,7 +97,8 @@ pub(crate) fn take_out<R: Wait, T: Ledgered>(
     requires idle { IsIdle seat.old.me }
     ensures seat { IsSameSeat seat.old seat.new }
     ensures value { Continues seat.old.me.0 (T.ledger result) }
-    ensures view { seat.new.me ≡ (taken seat.old.me.0 (T.ledger result).history, (0, None) ∷ []) }
+    ensures view { seat.new.me
+        ≡ (with_turn seat.old.me.0 (T.ledger result).history, (0, None) ∷ []) }
 {
     take_turn(rt, board, bell, seat);
     let found = board.exchange(seat, PLACE, None);
@@ -124,7 +125,7 @@ pub(crate) fn give_back<T: Ledgered, C: Call<T>, B: Did>(
         × (B.added ≡ true → length seat.old.me.0.seen < length (T.ledger value).history) }
     ensures seat { IsSameSeat seat.old seat.new }
     ensures view { seat.new.me ≡ (
-      freed (grown B.added B.rose seat.old.me.0
+      without_turn (holder_after B.added B.rose seat.old.me.0
           (T.ledger value).history),
       [],
     ) }
