@@ -17,14 +17,14 @@ use Rattle.std.proofs.lemmas.Option.{get_or_from_slice_get, slice_get_within}
 use Rattle.sample_book.specs.declared.cells.Key.{Key}
 use Rattle.sample_book.specs.declared.row.Cell.{Cell}
 use Rattle.sample_book.specs.Keys.{key_eq, cell_named, IsNamed, AreNamed, IsKeyOf, HasNoKey}
-use Rattle.sample_book.specs.Names.{named, IsGrown}
+use Rattle.sample_book.specs.NameTable.{name_at, IsGrown}
 use Rattle.sample_book.specs.Rows.{cell_eq}
 use Rattle.sample_book.proofs.FirstPlaces.{first, position-first, first-none, none-first, fails_at}
 
 -- a name that is another than all in a list is another than the one at a place
 apart_at : (name : List ℕ) (names : List (List ℕ)) (n : ℕ)
     → AllByRecursion (λ other. bytes_eq name other ≡ false) names → n < length names
-    → bytes_eq name (named names n) ≡ false
+    → bytes_eq name (name_at names n) ≡ false
 apart_at name [] n all lt = absurd (omega arith)
 apart_at name (x ∷ xs) zero all lt = all.0
 apart_at name (x ∷ xs) (suc n) all lt = apart_at name xs n all.1 (omega arith)
@@ -41,7 +41,7 @@ eq-above n = grind (arith, nat_tests)
 -- of names that stand once each the number tells which name it is
 same_number : (names : List (List ℕ)) (name : List ℕ) (i j : ℕ)
     → IsDistinct bytes_eq names → first (bytes_eq name) names ≡ Some i → j < length names
-    → nat_eq i j ≡ bytes_eq name (named names j)
+    → nat_eq i j ≡ bytes_eq name (name_at names j)
 unfolding IsDistinct
 same_number [] name i j apart here lt = cc here
 same_number (x ∷ xs) name i j apart here lt =
@@ -49,8 +49,8 @@ same_number (x ∷ xs) name i j apart here lt =
   where
     later : (o : Option ℕ) (j : ℕ) → first (bytes_eq name) xs ≡ o → option_map suc o ≡ Some i →
         j < length xs →
-        ((k : ℕ) → first (bytes_eq name) xs ≡ Some k → nat_eq k j ≡ bytes_eq name (named xs j)) →
-        nat_eq i (suc j) ≡ bytes_eq name (named xs j)
+        ((k : ℕ) → first (bytes_eq name) xs ≡ Some k → nat_eq k j ≡ bytes_eq name (name_at xs j)) →
+        nat_eq i (suc j) ≡ bytes_eq name (name_at xs j)
     later None j o e lt go = cc e
     later (Some k) j o e lt go = let s : suc k ≡ i = cc e in
         ap (λ n. nat_eq n (suc j)) (sym s) ∙ eq-suc k j ∙ go k o
@@ -63,13 +63,13 @@ same_number (x ∷ xs) name i j apart here lt =
     by : (b : Bool) (j : ℕ) → bytes_eq name x ≡ b →
         cond b (Some 0) (option_map suc (first (bytes_eq name) xs)) ≡ Some i → j < length (x ∷ xs) →
         ((k j : ℕ) → first (bytes_eq name) xs ≡ Some k
-        → j < length xs → nat_eq k j ≡ bytes_eq name (named xs j)) →
-        nat_eq i j ≡ bytes_eq name (named (x ∷ xs) j)
+        → j < length xs → nat_eq k j ≡ bytes_eq name (name_at xs j)) →
+        nat_eq i j ≡ bytes_eq name (name_at (x ∷ xs) j)
     by true zero b e lt go = let z : 0 ≡ i = cc e in ap (λ n. nat_eq n zero) (sym z) ∙ sym b
     by true (suc j) b e lt go =
         let z : 0 ≡ i = cc e in
         ap (λ n. nat_eq n (suc j)) (sym z) ∙ eq-zero j ∙ sym
-        (nat_list_eq_equiv.congr name x (named xs j) b ∙ apart_at x xs j apart.0 (omega arith))
+        (nat_list_eq_equiv.congr name x (name_at xs j) b ∙ apart_at x xs j apart.0 (omega arith))
     by false zero b e lt go = none_before (first (bytes_eq name) xs) e ∙ sym b
     by false (suc j) b e lt go = let below : j < length xs = omega arith in
         later (first (bytes_eq name) xs) j refl e below (λ k h. go k j h below)
@@ -97,7 +97,7 @@ no_key slis sources cell other (inl e) n =
 no_key slis sources cell other (inr e) n =
     rw (fails_at (bytes_eq cell.source) sources other.source [] (none-first (bytes_eq cell.source)
     sources (sym (position-first (bytes_eq cell.source) sources) ∙ e)) n.source)
-    (by (bytes_eq cell.sli (named slis other.sli)))
+    (by (bytes_eq cell.sli (name_at slis other.sli)))
   where
     by : (b : Bool) → (b && false) ≡ false
     by true = refl
@@ -167,8 +167,8 @@ slice_get-named slis sources (x ∷ xs) (suc place) key e =
 
 -- names that come later change no cell
 named-grown : (names names' : List (List ℕ)) (n : ℕ) → IsGrown names names' → n < length names
-    → named names' n ≡ named names n
-named-grown names names' n g lt = ap (λ ns. named ns n) g.grown
+    → name_at names' n ≡ name_at names n
+named-grown names names' n g lt = ap (λ ns. name_at ns n) g.grown
     ∙ get_or_append_left names g.added [] n lt
 
 length-grown : (names names' : List (List ℕ)) (n : ℕ) → IsGrown names names' → n < length names
@@ -213,22 +213,22 @@ AreNamed-push slis sources (x ∷ xs) key n k = (n.0, AreNamed-push slis sources
 
 -- the name at the first place where it stands
 named_first : (names : List (List ℕ)) (name : List ℕ) (n : ℕ) → first (bytes_eq name) names ≡ Some n
-    → (n < length names) × (bytes_eq name (named names n) ≡ true)
+    → (n < length names) × (bytes_eq name (name_at names n) ≡ true)
 named_first [] name n e = cc e
 named_first (x ∷ xs) name n e =
     by (bytes_eq name x) (first (bytes_eq name) xs) refl e (named_first xs name)
   where
     by : (b : Bool) (o : Option ℕ) → bytes_eq name x ≡ b →
         cond b (Some 0) (option_map suc o) ≡ Some n →
-        ((m : ℕ) → o ≡ Some m → (m < length xs) × (bytes_eq name (named xs m) ≡ true)) →
-        (n < length (x ∷ xs)) × (bytes_eq name (named (x ∷ xs) n) ≡ true)
+        ((m : ℕ) → o ≡ Some m → (m < length xs) × (bytes_eq name (name_at xs m) ≡ true)) →
+        (n < length (x ∷ xs)) × (bytes_eq name (name_at (x ∷ xs) n) ≡ true)
     by true o b e go = let z : 0 ≡ n = cc e in subst (λ m. (m < length (x ∷ xs))
-        × (bytes_eq name (named (x ∷ xs) m) ≡ true)) z (omega arith, b)
+        × (bytes_eq name (name_at (x ∷ xs) m) ≡ true)) z (omega arith, b)
     by false None b e go = cc e
     by false (Some m) b e go =
         let s : suc m ≡ n = cc e in
         let rest = go m refl in
-        subst (λ k. (k < length (x ∷ xs)) × (bytes_eq name (named (x ∷ xs) k) ≡ true)) s
+        subst (λ k. (k < length (x ∷ xs)) × (bytes_eq name (name_at (x ∷ xs) k) ≡ true)) s
         (let lt = rest.0 in omega arith, rest.1)
 
 pub map-take : {A B : Type 0} (f : A → B) (count : ℕ) (xs : List A)
@@ -250,10 +250,11 @@ IsNamed-key slis sources cell key k = record {
 pub cell_named-key : (slis sources : List (List ℕ)) (cell : Cell) (key : Key)
     → IsKeyOf slis sources cell key → cell_named slis sources key ≡ cell
 cell_named-key slis sources cell key k =
-    let sli = (bytes_eq-Decides cell.sli (named slis key.sli)).0 (named_first slis cell.sli key.sli
+    let sli =
+    (bytes_eq-Decides cell.sli (name_at slis key.sli)).0 (named_first slis cell.sli key.sli
     (sym (position-first (bytes_eq cell.sli) slis) ∙ k.sli)).1 in
     let source =
-    (bytes_eq-Decides cell.source (named sources key.source)).0 (named_first sources cell.source
+    (bytes_eq-Decides cell.source (name_at sources key.source)).0 (named_first sources cell.source
     key.source (sym (position-first (bytes_eq cell.source) sources) ∙ k.source)).1 in
     λ i. record { sli = sym sli i; source = sym source i; minute = k.minute i }
 
@@ -310,12 +311,12 @@ pub position_at : (names : List (List ℕ)) (name : List ℕ) (i : ℕ) → IsDi
     → slice_get names i ≡ Some name → position (bytes_eq name) names ≡ Some i
 position_at names name i apart there =
     let within = slice_get_within names i name there in
-    let at : named names i ≡ name = get_or_from_slice_get names i name [] there in
-    let same : bytes_eq name (named names i) ≡ true = rw at (nat_list_eq_equiv.refl name) in
+    let at : name_at names i ≡ name = get_or_from_slice_get names i name [] there in
+    let same : bytes_eq name (name_at names i) ≡ true = rw at (nat_list_eq_equiv.refl name) in
     position-first (bytes_eq name) names ∙ by (first (bytes_eq name) names) refl within same
   where
     by : (o : Option ℕ) → first (bytes_eq name) names ≡ o → i < length names
-        → bytes_eq name (named names i) ≡ true → o ≡ Some i
+        → bytes_eq name (name_at names i) ≡ true → o ≡ Some i
     by None e within same =
         (let no = fails_at (bytes_eq name) names i [] (none-first (bytes_eq name) names e) within in
         cc (no, same))

@@ -9,7 +9,7 @@ use Rattle.std.proofs.lemmas.List.{map-append}
 use Rattle.std.proofs.lemmas.Bool.{or_parts, or_from}
 use Rattle.sample_book.specs.declared.exclusions.Exclusion.{Exclusion}
 use Rattle.sample_book.proofs.StandingLemmas.{list_any-append}
-use Rattle.sample_book.specs.Exclusions.{has_id, exclusion_of, excludes, is_excluded, lifted}
+use Rattle.sample_book.specs.Exclusions.{has_id, exclusion_of, excludes, is_excluded, after_lifting}
 use Rattle.sample_book.specs.Exclusions.{IsLive, Change, Excluded, Lifted, excluded_in, lifted_in}
 use Rattle.sample_book.specs.Exclusions.{excludes_in, is_excluded_in}
 
@@ -20,7 +20,7 @@ pub data Made : List Change → List (Exclusion × Bool) → Type 0 where
       Made changes made → exclusion_of made value.id ≡ None →
       Made (changes ++ Excluded value ∷ []) (made ++ (value, true) ∷ [])
   lifted_one : {changes : List Change} {made : List (Exclusion × Bool)} (id : List ℕ) →
-      Made changes made → IsLive made id → Made (changes ++ Lifted id ∷ []) (lifted made id)
+      Made changes made → IsLive made id → Made (changes ++ Lifted id ∷ []) (after_lifting made id)
 
 -- the exclusions, each live unless its id was lifted
 abbrev flagged : List (List ℕ) → List Exclusion → List (Exclusion × Bool)
@@ -56,10 +56,10 @@ not_or false b = refl
 
 -- one more id is lifted
 lifted-flagged : (ids : List (List ℕ)) (id : List ℕ) (values : List Exclusion)
-    → lifted (flagged ids values) id ≡ flagged (ids ++ id ∷ []) values
+    → after_lifting (flagged ids values) id ≡ flagged (ids ++ id ∷ []) values
 lifted-flagged ids id [] = refl
 lifted-flagged ids id (v ∷ values) =
-    ap (λ (b : Bool). (v, b) ∷ lifted (flagged ids values) id)
+    ap (λ (b : Bool). (v, b) ∷ after_lifting (flagged ids values) id)
     (flag (bytes_eq v.id id) ∙ ap not (sym (list_any-append (bytes_eq v.id) ids (id ∷ []))))
     ∙ ap (λ made. (v, not (list_any (bytes_eq v.id) (ids ++ id ∷ []))) ∷ made)
     (lifted-flagged ids id values)
@@ -133,7 +133,7 @@ shape _ _ (lifted_one {changes = changes} {made = made} id before live) =
     let ids = lifted_in changes in
     let values = excluded_in changes in
     record {
-      flags = ap (λ made. lifted made id) s.flags ∙ lifted-flagged ids id values
+      flags = ap (λ made. after_lifting made id) s.flags ∙ lifted-flagged ids id values
           ∙ (λ i. flagged (sym (lifted-lifted changes id) i) (sym (excluded-lifted changes id) i));
       among = λ other h.
           let p = λ (value : Exclusion). bytes_eq value.id other in

@@ -11,7 +11,7 @@ use Rattle.std.proofs.lemmas.Bool.{and_parts}
 use Rattle.std.proofs.lemmas.Bool.Decides.{nat_tests}
 use Rattle.std.proofs.lemmas.List.{length-map, map-append, take-take}
 use Rattle.sample_book.specs.Chains.{AreLinked, HasRoomFor, group_eq, last, later}
-use Rattle.sample_book.specs.Exclusions.{AreExclusions, excludes, is_excluded, lifted}
+use Rattle.sample_book.specs.Exclusions.{AreExclusions, excludes, is_excluded, after_lifting}
 use Rattle.sample_book.specs.ExclusionGroups.{AreGrouped, day_of, excludes_in, excludes_on}
 use Rattle.sample_book.specs.ExclusionGroups.{group_of, group_of_kept, room_left}
 use Rattle.sample_book.specs.declared.chains.Chains.{Chains}
@@ -296,7 +296,7 @@ searching_on made group minute place next kept here so missed e =
 
 -- a lifting leaves the groups
 pub groups_lifted : (made : List (Exclusion × Bool)) (id : List ℕ)
-    → map group_of_kept (lifted made id) ≡ map group_of_kept made
+    → map group_of_kept (after_lifting made id) ≡ map group_of_kept made
 groups_lifted [] id = refl
 groups_lifted (kept ∷ made) id = ap (λ groups. group_of kept.0 ∷ groups) (groups_lifted made id)
 
@@ -347,7 +347,7 @@ grouped_more made made' value groups groups' are exclusions is linked = record {
 }
 
 pub grouped_lifted : (made made' : List (Exclusion × Bool)) (id : List ℕ) (groups : Chains)
-    → AreGrouped made groups → AreExclusions made' → made' ≡ lifted made id
+    → AreGrouped made groups → AreExclusions made' → made' ≡ after_lifting made id
     → AreGrouped made' groups
 grouped_lifted made made' id groups are exclusions is = record {
   exclusions = exclusions;

@@ -9,8 +9,8 @@ use Rattle.sample_book.specs.declared.row.RowVerdict.TheVariants.{New, Newer, Re
 use Rattle.sample_book.specs.declared.row.RowVerdict.TheVariants.{Conflict}
 use Rattle.sample_book.specs.Book.{Book}
 use Rattle.sample_book.specs.Exclusions.{Change, Excluded, Lifted, exclusion_of, is_excluded}
-use Rattle.sample_book.specs.Exclusions.{is_excluded_in, IsLive, lifted}
-use Rattle.sample_book.specs.History.{Event, Came, Changed, Gains, Holds, empty, put, passed}
+use Rattle.sample_book.specs.Exclusions.{is_excluded_in, IsLive, after_lifting}
+use Rattle.sample_book.specs.History.{Arrival, Came, Changed, Gains, Holds, empty, put, passed}
 use Rattle.sample_book.specs.History.{excluded, lifted_one, changes_in, exclusions_of, is_put}
 use Rattle.sample_book.specs.History.{rows_in}
 use Rattle.sample_book.specs.Rows.{MayPutAs, cell_of, current_rows, verdict_of}
@@ -18,79 +18,80 @@ use Rattle.sample_book.proofs.CameLemmas.{put-current, pass-current}
 use Rattle.sample_book.proofs.ExclusionLemmas as shapes
 use Rattle.sample_book.proofs.ExclusionLemmas.{Made, is_excluded-made, shape}
 
-rows-came : (events : List Event) (row : Row)
-    → rows_in (events ++ Came row ∷ []) ≡ rows_in events ++ row ∷ []
+rows-came : (arrivals : List Arrival) (row : Row)
+    → rows_in (arrivals ++ Came row ∷ []) ≡ rows_in arrivals ++ row ∷ []
 rows-came [] row = refl
-rows-came (Came r ∷ events) row = ap (λ rows. r ∷ rows) (rows-came events row)
-rows-came (Changed change ∷ events) row = rows-came events row
+rows-came (Came r ∷ arrivals) row = ap (λ rows. r ∷ rows) (rows-came arrivals row)
+rows-came (Changed change ∷ arrivals) row = rows-came arrivals row
 
-rows-changed : (events : List Event) (change : Change)
-    → rows_in (events ++ Changed change ∷ []) ≡ rows_in events
+rows-changed : (arrivals : List Arrival) (change : Change)
+    → rows_in (arrivals ++ Changed change ∷ []) ≡ rows_in arrivals
 rows-changed [] change = refl
-rows-changed (Came r ∷ events) change = ap (λ rows. r ∷ rows) (rows-changed events change)
-rows-changed (Changed other ∷ events) change = rows-changed events change
+rows-changed (Came r ∷ arrivals) change = ap (λ rows. r ∷ rows) (rows-changed arrivals change)
+rows-changed (Changed other ∷ arrivals) change = rows-changed arrivals change
 
-changes-came : (events : List Event) (row : Row)
-    → changes_in (events ++ Came row ∷ []) ≡ changes_in events
+changes-came : (arrivals : List Arrival) (row : Row)
+    → changes_in (arrivals ++ Came row ∷ []) ≡ changes_in arrivals
 changes-came [] row = refl
-changes-came (Came r ∷ events) row = changes-came events row
-changes-came (Changed change ∷ events) row =
-    ap (λ changes. change ∷ changes) (changes-came events row)
+changes-came (Came r ∷ arrivals) row = changes-came arrivals row
+changes-came (Changed change ∷ arrivals) row =
+    ap (λ changes. change ∷ changes) (changes-came arrivals row)
 
-changes-changed : (events : List Event) (change : Change)
-    → changes_in (events ++ Changed change ∷ []) ≡ changes_in events ++ change ∷ []
+changes-changed : (arrivals : List Arrival) (change : Change)
+    → changes_in (arrivals ++ Changed change ∷ []) ≡ changes_in arrivals ++ change ∷ []
 changes-changed [] change = refl
-changes-changed (Came r ∷ events) change = changes-changed events change
-changes-changed (Changed other ∷ events) change =
-    ap (λ changes. other ∷ changes) (changes-changed events change)
+changes-changed (Came r ∷ arrivals) change = changes-changed arrivals change
+changes-changed (Changed other ∷ arrivals) change =
+    ap (λ changes. other ∷ changes) (changes-changed arrivals change)
 
 -- A book's rows are the current rows of all that came.
-pub rows-held : (events : List Event) (rows : List Row) (made : List (Exclusion × Bool))
-    → Holds events rows made → rows ≡ current_rows (rows_in events)
+pub rows-held : (arrivals : List Arrival) (rows : List Row) (made : List (Exclusion × Bool))
+    → Holds arrivals rows made → rows ≡ current_rows (rows_in arrivals)
 rows-held _ _ _ empty = refl
-rows-held _ _ _ (put {events = events} {rows = rows} {made = made} row before is) =
-    let e = rows-held events rows made before in
-    ap (λ rows. current_rows (rows ++ row ∷ [])) e ∙ put-current (rows_in events) row
-    ∙ ap current_rows (sym (rows-came events row))
-rows-held _ _ _ (passed {events = events} {rows = rows} {made = made} row before is) =
-    let e = rows-held events rows made before in
-    e ∙ sym (pass-current (rows_in events)
+rows-held _ _ _ (put {arrivals = arrivals} {rows = rows} {made = made} row before is) =
+    let e = rows-held arrivals rows made before in
+    ap (λ rows. current_rows (rows ++ row ∷ [])) e ∙ put-current (rows_in arrivals) row
+    ∙ ap current_rows (sym (rows-came arrivals row))
+rows-held _ _ _ (passed {arrivals = arrivals} {rows = rows} {made = made} row before is) =
+    let e = rows-held arrivals rows made before in
+    e ∙ sym (pass-current (rows_in arrivals)
     row (subst (λ rows. is_put (verdict_of rows row) ≡ false) e is))
-    ∙ ap current_rows (sym (rows-came events row))
-rows-held _ _ _ (excluded {events = events} {rows = rows} {made = made} value before unused) =
-    rows-held events rows made before ∙ ap current_rows (sym (rows-changed events (Excluded value)))
-rows-held _ _ _ (lifted_one {events = events} {rows = rows} {made = made} id before live) =
-    rows-held events rows made before ∙ ap current_rows (sym (rows-changed events (Lifted id)))
+    ∙ ap current_rows (sym (rows-came arrivals row))
+rows-held _ _ _ (excluded {arrivals = arrivals} {rows = rows} {made = made} value before unused) =
+    rows-held arrivals rows made before
+    ∙ ap current_rows (sym (rows-changed arrivals (Excluded value)))
+rows-held _ _ _ (lifted_one {arrivals = arrivals} {rows = rows} {made = made} id before live) =
+    rows-held arrivals rows made before ∙ ap current_rows (sym (rows-changed arrivals (Lifted id)))
 
--- and its exclusions are those of the exclusions and liftings among the events
-pub made-held : (events : List Event) (rows : List Row) (made : List (Exclusion × Bool))
-    → Holds events rows made → Made (changes_in events) made
+-- and its exclusions are those of the exclusions and liftings among the arrivals
+pub made-held : (arrivals : List Arrival) (rows : List Row) (made : List (Exclusion × Bool))
+    → Holds arrivals rows made → Made (changes_in arrivals) made
 made-held _ _ _ empty = shapes.none
-made-held _ _ _ (put {events = events} {rows = rows} {made = made} row before is) =
-    subst (λ (changes : List Change). Made changes made) (sym (changes-came events row))
-    (made-held events rows made before)
-made-held _ _ _ (passed {events = events} {rows = rows} {made = made} row before is) =
-    subst (λ (changes : List Change). Made changes made) (sym (changes-came events row))
-    (made-held events rows made before)
-made-held _ _ _ (excluded {events = events} {rows = rows} {made = made} value before unused) =
+made-held _ _ _ (put {arrivals = arrivals} {rows = rows} {made = made} row before is) =
+    subst (λ (changes : List Change). Made changes made) (sym (changes-came arrivals row))
+    (made-held arrivals rows made before)
+made-held _ _ _ (passed {arrivals = arrivals} {rows = rows} {made = made} row before is) =
+    subst (λ (changes : List Change). Made changes made) (sym (changes-came arrivals row))
+    (made-held arrivals rows made before)
+made-held _ _ _ (excluded {arrivals = arrivals} {rows = rows} {made = made} value before unused) =
     subst (λ (changes : List Change). Made changes (made ++ (value, true) ∷ []))
-    (sym (changes-changed events (Excluded value)))
-    (shapes.excluded value (made-held events rows made before) unused)
-made-held _ _ _ (lifted_one {events = events} {rows = rows} {made = made} id before live) =
-    subst (λ (changes : List Change). Made changes (lifted made id))
-    (sym (changes-changed events (Lifted id)))
-    (shapes.lifted_one id (made-held events rows made before) live)
+    (sym (changes-changed arrivals (Excluded value)))
+    (shapes.excluded value (made-held arrivals rows made before) unused)
+made-held _ _ _ (lifted_one {arrivals = arrivals} {rows = rows} {made = made} id before live) =
+    subst (λ (changes : List Change). Made changes (after_lifting made id))
+    (sym (changes-changed arrivals (Lifted id)))
+    (shapes.lifted_one id (made-held arrivals rows made before) live)
 
-pub exclusions-held : (events : List Event) (rows : List Row) (made : List (Exclusion × Bool))
-    → Holds events rows made → made ≡ exclusions_of (changes_in events)
-exclusions-held events rows made h =
-    (shape (changes_in events) made (made-held events rows made h)).flags
+pub exclusions-held : (arrivals : List Arrival) (rows : List Row) (made : List (Exclusion × Bool))
+    → Holds arrivals rows made → made ≡ exclusions_of (changes_in arrivals)
+exclusions-held arrivals rows made h =
+    (shape (changes_in arrivals) made (made-held arrivals rows made h)).flags
 
-pub excluded-held : (events : List Event) (rows : List Row) (made : List (Exclusion × Bool))
-    (slo : List ℕ) (minute : ℕ) → Holds events rows made →
-    is_excluded made slo minute ≡ is_excluded_in (changes_in events) slo minute
-excluded-held events rows made slo minute h =
-    is_excluded-made (changes_in events) made slo minute (made-held events rows made h)
+pub excluded-held : (arrivals : List Arrival) (rows : List Row) (made : List (Exclusion × Bool))
+    (slo : List ℕ) (minute : ℕ) → Holds arrivals rows made →
+    is_excluded made slo minute ≡ is_excluded_in (changes_in arrivals) slo minute
+excluded-held arrivals rows made slo minute h =
+    is_excluded-made (changes_in arrivals) made slo minute (made-held arrivals rows made h)
 
 may-put : (verdict : RowVerdict) (room : List Cell) (cell : Cell) → MayPutAs verdict room cell
     → is_put verdict ≡ true
@@ -105,30 +106,30 @@ pub gains-put : (before after : Book) (row : Row) →
     MayPutAs (verdict_of before.rows row) before.room (cell_of row) →
     after.rows ≡ current_rows (before.rows ++ row ∷ []) → after.exclusions ≡ before.exclusions →
     Gains before (Came row) after
-gains-put before after row may e f events h =
-    subst (λ (rows : List Row). Holds (events ++ Came row ∷ []) rows after.exclusions) (sym e)
+gains-put before after row may e f arrivals h =
+    subst (λ (rows : List Row). Holds (arrivals ++ Came row ∷ []) rows after.exclusions) (sym e)
     (subst (λ (made : List (Exclusion × Bool)).
-    Holds (events ++ Came row ∷ []) (current_rows (before.rows ++ row ∷ [])) made) (sym f)
+    Holds (arrivals ++ Came row ∷ []) (current_rows (before.rows ++ row ∷ [])) made) (sym f)
     (put row h (may-put (verdict_of before.rows row) before.room (cell_of row) may)))
 
 pub gains-excluded : (before after : Book) (value : Exclusion) →
     exclusion_of before.exclusions value.id ≡ None →
     after.exclusions ≡ before.exclusions ++ (value, true) ∷ [] → after.rows ≡ before.rows →
     Gains before (Changed (Excluded value)) after
-gains-excluded before after value unused e f events h =
+gains-excluded before after value unused e f arrivals h =
     subst (λ (rows : List Row).
-    Holds (events ++ Changed (Excluded value) ∷ []) rows after.exclusions) (sym f)
-    (subst (λ (made : List (Exclusion × Bool)). Holds (events ++ Changed (Excluded value) ∷ [])
+    Holds (arrivals ++ Changed (Excluded value) ∷ []) rows after.exclusions) (sym f)
+    (subst (λ (made : List (Exclusion × Bool)). Holds (arrivals ++ Changed (Excluded value) ∷ [])
     before.rows made) (sym e) (excluded value h unused))
 
 pub gains-lifted : (before after : Book) (id : List ℕ) → IsLive before.exclusions id →
-    after.exclusions ≡ lifted before.exclusions id → after.rows ≡ before.rows →
+    after.exclusions ≡ after_lifting before.exclusions id → after.rows ≡ before.rows →
     Gains before (Changed (Lifted id)) after
-gains-lifted before after id live e f events h =
-    subst (λ (rows : List Row). Holds (events ++ Changed (Lifted id) ∷ []) rows after.exclusions)
+gains-lifted before after id live e f arrivals h =
+    subst (λ (rows : List Row). Holds (arrivals ++ Changed (Lifted id) ∷ []) rows after.exclusions)
     (sym f)
     (subst (λ (made : List (Exclusion × Bool)).
-    Holds (events ++ Changed (Lifted id) ∷ []) before.rows made) (sym e) (lifted_one id h live))
+    Holds (arrivals ++ Changed (Lifted id) ∷ []) before.rows made) (sym e) (lifted_one id h live))
 
 pub holds-empty : (rows : List Row) (made : List (Exclusion × Bool)) → rows ≡ [] → made ≡ []
     → Holds [] rows made

@@ -7,7 +7,7 @@ use Rattle.std.specs.Cmp.Lexicographic.{nat_list_eq_equiv}
 use Rattle.std.proofs.lemmas.Slice.Eq.{bytes_eq-Decides}
 use Rattle.sample_book.specs.declared.exclusions.Exclusion.{Exclusion}
 use Rattle.sample_book.specs.Exclusions.{AreExclusions, HaveOwnIds, Kept, MOST_EXCLUSIONS, excludes}
-use Rattle.sample_book.specs.Exclusions.{exclusion_of, has_id, is_excluded, lifted}
+use Rattle.sample_book.specs.Exclusions.{exclusion_of, has_id, is_excluded, after_lifting}
 use Rattle.sample_book.proofs.StandingLemmas.{list_any-append}
 
 find_push : (id : List ℕ) (made : List (Exclusion × Bool)) (value : Exclusion)
@@ -40,19 +40,20 @@ own_ids_push (kept ∷ made) value apart none =
     )
 
 find_lifted : (made : List (Exclusion × Bool)) (id other : List ℕ) → exclusion_of made other ≡ None
-    → exclusion_of (lifted made id) other ≡ None
+    → exclusion_of (after_lifting made id) other ≡ None
 find_lifted [] id other none = refl
 find_lifted (kept ∷ made) id other none = by (has_id other kept) none (find_lifted made id other)
   where
     by : (b : Bool) → cond b (Some kept) (exclusion_of made other) ≡ None →
-        (exclusion_of made other ≡ None → exclusion_of (lifted made id) other ≡ None) →
-        cond b (Some (kept.0, kept.1 && not (has_id id kept))) (exclusion_of (lifted made id) other)
+        (exclusion_of made other ≡ None → exclusion_of (after_lifting made id) other ≡ None) →
+        cond b (Some (kept.0, kept.1 && not (has_id id kept)))
+        (exclusion_of (after_lifting made id) other)
         ≡ None
     by true none go = cc none
     by false none go = go none
 
 pub own_ids_lifted : (made : List (Exclusion × Bool)) (id : List ℕ) → HaveOwnIds made
-    → HaveOwnIds (lifted made id)
+    → HaveOwnIds (after_lifting made id)
 own_ids_lifted [] id apart = tt
 own_ids_lifted (kept ∷ made) id apart = (
   find_lifted made id kept.0.id apart.0,
@@ -61,7 +62,7 @@ own_ids_lifted (kept ∷ made) id apart = (
 
 -- where none has the id, lifting it changes nothing
 lifted_none : (made : List (Exclusion × Bool)) (id slo : List ℕ) (minute : ℕ) → exclusion_of made id
-    ≡ None → is_excluded (lifted made id) slo minute ≡ is_excluded made slo minute
+    ≡ None → is_excluded (after_lifting made id) slo minute ≡ is_excluded made slo minute
 lifted_none [] id slo minute none = refl
 lifted_none (kept ∷ made) id slo minute none =
     by (has_id id kept) kept.1 refl none (lifted_none made id slo minute)
@@ -71,8 +72,9 @@ lifted_none (kept ∷ made) id slo minute none =
 
     by : (b live : Bool) → kept.1 ≡ live →
         cond b (Some kept) (exclusion_of made id) ≡ None → (exclusion_of made id ≡ None
-        → is_excluded (lifted made id) slo minute ≡ is_excluded made slo minute) →
-        (excludes slo minute (kept.0, live && not b) || is_excluded (lifted made id) slo minute)
+        → is_excluded (after_lifting made id) slo minute ≡ is_excluded made slo minute) →
+        (excludes slo minute (kept.0, live && not b)
+        || is_excluded (after_lifting made id) slo minute)
         ≡ (excludes slo minute (kept.0, live) || is_excluded made slo minute)
     by true live e none go = cc none
     by false true e none go = ap (λ (b : Bool). excludes slo minute (kept.0, true) || b) (go none)
@@ -86,7 +88,7 @@ swap_or false b c = refl
 -- an exclusion that is lifted takes the minutes that it took
 lifted_back : (made : List (Exclusion × Bool)) (id slo : List ℕ) (minute : ℕ) (value : Exclusion) →
     HaveOwnIds made → exclusion_of made id ≡ Some (value, true) →
-    (excludes slo minute (value, true) || is_excluded (lifted made id) slo minute)
+    (excludes slo minute (value, true) || is_excluded (after_lifting made id) slo minute)
     ≡ is_excluded made slo minute
 lifted_back [] id slo minute value apart found = cc found
 lifted_back (kept ∷ made) id slo minute value apart found =
@@ -104,11 +106,11 @@ lifted_back (kept ∷ made) id slo minute value apart found =
         (exclusion_of made id ≡ Some (value, true) → (excludes slo minute (
           value,
           true,
-        ) || is_excluded (lifted made id) slo minute) ≡ is_excluded made slo minute) →
+        ) || is_excluded (after_lifting made id) slo minute) ≡ is_excluded made slo minute) →
         (excludes slo minute (value, true) || (excludes slo minute (
           kept.0,
           kept.1 && not b,
-        ) || is_excluded (lifted made id) slo minute))
+        ) || is_excluded (after_lifting made id) slo minute))
         ≡ (excludes slo minute kept || is_excluded made slo minute)
     by true e found go =
         let same : kept ≡ (value, true) = cc found in
@@ -116,7 +118,7 @@ lifted_back (kept ∷ made) id slo minute value apart found =
         subst (λ i. exclusion_of made i ≡ None) (id_is e) apart.0 in
         let dead : (kept.1 && false) ≡ false = dead_is kept.1 in
         ap (λ (b : Bool). excludes slo minute (value, true)
-        || (excludes slo minute (kept.0, b) || is_excluded (lifted made id) slo minute)) dead
+        || (excludes slo minute (kept.0, b) || is_excluded (after_lifting made id) slo minute)) dead
         ∙ ap (λ (b : Bool). excludes slo minute (value, true) || b)
         (lifted_none made id slo minute none)
         ∙ ap (λ k. excludes slo minute k || is_excluded made slo minute) (sym same)
@@ -128,9 +130,9 @@ lifted_back (kept ∷ made) id slo minute value apart found =
         ap (λ (b : Bool). excludes slo minute (value, true) || (excludes slo minute (
           kept.0,
           b,
-        ) || is_excluded (lifted made id) slo minute)) (plain kept.1)
+        ) || is_excluded (after_lifting made id) slo minute)) (plain kept.1)
         ∙ swap_or (excludes slo minute (value, true)) (excludes slo minute kept)
-        (is_excluded (lifted made id) slo minute)
+        (is_excluded (after_lifting made id) slo minute)
         ∙ ap (λ (b : Bool). excludes slo minute kept || b) (go found)
 
 or_swap : (a b : Bool) → (a || b) ≡ (b || a)
@@ -156,10 +158,10 @@ excluded_more made value slo minute =
 excluded_less : (made : List (Exclusion × Bool)) (id : List ℕ) (value : Exclusion) →
     HaveOwnIds made → exclusion_of made id ≡ Some (value, true) → (slo : List ℕ) (minute : ℕ) →
     is_excluded made slo minute
-    ≡ (is_excluded (lifted made id) slo minute || excludes slo minute (value, true))
+    ≡ (is_excluded (after_lifting made id) slo minute || excludes slo minute (value, true))
 excluded_less made id value apart found slo minute =
     sym (lifted_back made id slo minute value apart found)
-    ∙ or_swap (excludes slo minute (value, true)) (is_excluded (lifted made id) slo minute)
+    ∙ or_swap (excludes slo minute (value, true)) (is_excluded (after_lifting made id) slo minute)
 
 pub exclusions_more : (made made' : List (Exclusion × Bool)) (value : Exclusion) →
     AreExclusions made → exclusion_of made value.id ≡ None → length made < MOST_EXCLUSIONS →
@@ -171,12 +173,12 @@ exclusions_more made made' value are none few is =
     })
 
 length_lifted : (made : List (Exclusion × Bool)) (id : List ℕ)
-    → length (lifted made id) ≡ length made
+    → length (after_lifting made id) ≡ length made
 length_lifted [] id = refl
 length_lifted (kept ∷ made) id = ap suc (length_lifted made id)
 
 pub exclusions_lifted : (made made' : List (Exclusion × Bool)) (id : List ℕ) → AreExclusions made
-    → made' ≡ lifted made id → AreExclusions made'
+    → made' ≡ after_lifting made id → AreExclusions made'
 exclusions_lifted made made' id are is =
     subst AreExclusions (sym is) (record {
       apart = own_ids_lifted made id are.apart;
@@ -185,7 +187,7 @@ exclusions_lifted made made' id are is =
 
 pub excluded_lifted : (kept : Kept) (made made' : List (Exclusion × Bool)) (id : List ℕ)
     (value : Exclusion) (slo : List ℕ) (minute : ℕ) → made ≡ kept.made → AreExclusions made →
-    made' ≡ lifted made id →
+    made' ≡ after_lifting made id →
     exclusion_of kept.made id ≡ Some (value, true) → is_excluded kept.made slo minute
     ≡ (is_excluded made' slo minute || excludes slo minute (value, true))
 excluded_lifted kept made made' id value slo minute view are is found =

@@ -4,7 +4,7 @@ use Rattle.std.proofs.Common.{length-append, map, max, min, take, slice_get, Som
 use Rattle.std.proofs.Common.{subst, arith, add-one}
 use Rattle.std.proofs.lemmas.List.{get_or-take, length-take-le, take-append-le, take-take}
 use Rattle.sample_book.specs.Keys.{AreKnown, AreNamed, AreNumbered, IsNamed, cell_named}
-use Rattle.sample_book.specs.Names.{IsGrown}
+use Rattle.sample_book.specs.NameTable.{IsGrown}
 use Rattle.sample_book.specs.declared.cells.Key.{Key}
 use Rattle.sample_book.specs.declared.row.Cell.{Cell}
 use Rattle.sample_book.proofs.CellLemmas.{AreNamed-grown, AreNamed-push, AreNamed-take, map-take}

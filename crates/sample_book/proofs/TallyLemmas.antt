@@ -25,7 +25,7 @@ use Rattle.sample_book.proofs.ChainLemmas.{last-push, last-take, last-within, le
 use Rattle.sample_book.proofs.StandingLemmas.{eq-itself}
 use Rattle.sample_book.specs.declared.row.Row.{Row}
 use Rattle.sample_book.specs.declared.row.RowVerdict.{RowVerdict}
-use Rattle.sample_book.specs.Puts.{IsPutInto, behind, in_place, replaced}
+use Rattle.sample_book.specs.Puts.{IsPutInto, behind, in_place, replaced_rows}
 use Rattle.sample_book.specs.Counting.{IsSmallRow, is_of, counts_of_minute}
 
 drop_at : {A : Type 0} (xs : List A) (n : ℕ) (x : A) → slice_get xs n ≡ Some x
@@ -69,7 +69,7 @@ own-append f sli minute xs ys =
 -- place it takes
 pub amount-put : (f : Row → ℕ) (sli : List ℕ) (minute : ℕ) (rows after : List Row) (row : Row)
     (verdict : RowVerdict) → IsPutInto rows row verdict after →
-    own f sli minute after + own f sli minute (replaced verdict)
+    own f sli minute after + own f sli minute (replaced_rows verdict)
     ≡ own f sli minute rows + own f sli minute (row ∷ [])
 amount-put f sli minute _ _ _ _ (behind rows row) =
     omega (arith, own-append f sli minute rows (row ∷ []))

@@ -3,6 +3,7 @@ use Rattle.std.specs.Prelude.{◌≡◌, ◌<◌, ◌≤◌, ◌+◌, ◌/◌, �
 use Rattle.std.specs.Prelude.{nat_eq, List, [], ◌∷◌, ◌++◌, length, map, slice_get, Option, Some}
 use Rattle.std.specs.Prelude.{None, vec_capacity}
 use Rattle.std.specs.Str.{bytes_eq}
+use Rattle.slo_limits.specs.declared.TheConstants.{MINUTES_A_DAY}
 use Rattle.indexmap.specs.IndexMap.{get, spare}
 use Rattle.sample_book.specs.Counting.{is_of}
 use Rattle.sample_book.specs.Extents.{AreExtents}
@@ -12,9 +13,9 @@ use Rattle.sample_book.specs.declared.row.Cell.{Cell}
 use Rattle.sample_book.specs.declared.row.Row.{Row}
 use Rattle.sample_book.specs.declared.row_index.RowIndex.{RowIndex}
 
--- a row is of this indicator, on this day: day d is the minutes from d * 1440 on
+-- a row is of this indicator, on this day: day d is the minutes from d * 1,440 on
 abbrev pub is_on : List ℕ → ℕ → Row → Bool
-is_on sli day row = is_of sli row && nat_eq (row.minute / 1440) day
+is_on sli day row = is_of sli row && nat_eq (row.minute / MINUTES_A_DAY) day
 
 abbrev pub later : ℕ → Bool → ℕ
 later zero here = cond here 1 0
@@ -45,7 +46,7 @@ abbrev pub group_eq : Group → Group → Bool
 group_eq a b = bytes_eq a.name b.name && nat_eq a.day b.day
 
 abbrev pub day_group : Row → Group
-day_group row = record { name = row.sli; day = row.minute / 1440 }
+day_group row = record { name = row.sli; day = row.minute / MINUTES_A_DAY }
 
 abbrev pub sli_group : Row → Group
 sli_group row = record { name = row.sli; day = 0 }

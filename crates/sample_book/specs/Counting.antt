@@ -3,6 +3,7 @@ use Rattle.std.specs.Prelude.{◌≡◌, ◌/◌, ◌==◌, ℕ, Bool, true, Lis
 use Rattle.std.specs.Prelude.{if◌then◌else◌}
 use Rattle.std.specs.List.{find, All}
 use Rattle.std.specs.Str.{bytes_eq}
+use Rattle.slo_limits.specs.declared.TheConstants.{MINUTES_A_DAY}
 use Rattle.exact_fraction.specs.declared.Op.{Op}
 use Rattle.slice_method.specs.declared.Counts.{Counts}
 use Rattle.slice_method.specs.declared.Reading.{Reading}
@@ -21,11 +22,12 @@ is_of sli row = bytes_eq row.sli sli
 abbrev pub first_of : List Row → List ℕ → Option Row
 first_of rows sli = find (is_of sli) rows
 
--- the days that have a current row of an indicator, each once: day d is the minutes from d
--- * 1440 on
+-- the days that have a current row of an indicator, each once: day d is the minutes from
+-- d * 1,440 on
 abbrev pub days_with_rows : List Row → List ℕ → List ℕ
 days_with_rows rows sli =
-    first_of_each (λ a b. a == b) (map (λ (row : Row). row.minute / 1440) (filter (is_of sli) rows))
+    first_of_each (λ a b. a == b)
+    (map (λ (row : Row). row.minute / MINUTES_A_DAY) (filter (is_of sli) rows))
 
 -- the sums of good and total over the current rows of an indicator at a minute
 abbrev pub counts_of_minute : Reading → Op → ℕ → List Row → List ℕ → ℕ → Counts
@@ -53,6 +55,6 @@ abbrev pub HaveForm : Reading → List Row → List ℕ → ℕ → Type 0
 HaveForm reading rows sli minute = All
     (λ (row : Row). is_of sli row ≡ true → row.minute ≡ minute → HasForm reading row.amount) rows
 
--- the row counts at most 10^9 events, which is the limit of a row
+-- the row counts at most `MAX_AMOUNT` events, the limit of a row
 abbrev pub IsSmallRow : Row → Type 0
 IsSmallRow row = IsSmall row.amount

@@ -2,6 +2,7 @@
 -- a day together.
 use Rattle.std.specs.Prelude.{◌&&◌, ◌-◌, ◌+◌, ◌/◌, ℕ, Bool, List, length, map, min, nat_le}
 use Rattle.std.specs.Prelude.{if◌then◌else◌, vec_capacity}
+use Rattle.slo_limits.specs.declared.TheConstants.{MINUTES_A_DAY}
 use Rattle.indexmap.specs.IndexMap.{spare}
 use Rattle.sample_book.specs.Chains.{AreLinked, group_eq}
 use Rattle.sample_book.specs.Exclusions.{AreExclusions, MOST_EXCLUSIONS, excludes}
@@ -11,7 +12,9 @@ use Rattle.sample_book.specs.declared.exclusions.Exclusion.{Exclusion}
 
 -- the day on which an exclusion begins, counted from 1, or 0 where it is longer than a day
 abbrev pub day_of : Exclusion → ℕ
-day_of value = if nat_le (value.to - value.from) 1440 then value.from / 1440 + 1 else 0
+day_of value =
+    if nat_le (value.to - value.from) MINUTES_A_DAY then value.from / MINUTES_A_DAY + 1
+    else 0
 
 abbrev pub group_of : Exclusion → Group
 group_of value = record { name = value.slo; day = day_of value }

@@ -42,8 +42,8 @@ abbrev pub is_excluded : List (Exclusion × Bool) → List ℕ → ℕ → Bool
 is_excluded made slo minute = list_any (excludes slo minute) made
 
 -- the exclusion of this id isn't live any more
-abbrev pub lifted : List (Exclusion × Bool) → List ℕ → List (Exclusion × Bool)
-lifted made id = map (λ kept. (kept.0, kept.1 && not (has_id id kept))) made
+abbrev pub after_lifting : List (Exclusion × Bool) → List ℕ → List (Exclusion × Bool)
+after_lifting made id = map (λ kept. (kept.0, kept.1 && not (has_id id kept))) made
 
 -- the exclusion of this id is live
 abbrev pub IsLive : List (Exclusion × Bool) → List ℕ → Type 0

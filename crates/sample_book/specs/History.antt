@@ -9,26 +9,26 @@ use Rattle.sample_book.specs.declared.row.RowVerdict.{RowVerdict}
 use Rattle.sample_book.specs.declared.row.RowVerdict.TheVariants.{New, Newer}
 use Rattle.sample_book.specs.declared.exclusions.Exclusion.{Exclusion}
 use Rattle.sample_book.specs.Book.{Book}
-use Rattle.sample_book.specs.Exclusions.{Change, Excluded, Lifted, IsLive, exclusion_of, lifted}
-use Rattle.sample_book.specs.Exclusions.{excluded_in, lifted_in}
+use Rattle.sample_book.specs.Exclusions.{Change, Excluded, Lifted, IsLive, after_lifting}
+use Rattle.sample_book.specs.Exclusions.{exclusion_of, excluded_in, lifted_in}
 use Rattle.sample_book.specs.Rows.{MayPutAs, cell_of, current_rows, verdict_of}
 
--- what happens to a book: a row comes, an exclusion is made, or the one of an id is lifted
-pub data Event : Type 0 where
-  Came : Row → Event
-  Changed : Change → Event
+-- what comes to a book: a row, an exclusion, or the lifting of the one of an id
+pub data Arrival : Type 0 where
+  Came : Row → Arrival
+  Changed : Change → Arrival
 
 -- the rows that came
-abbrev pub rows_in : List Event → List Row
+abbrev pub rows_in : List Arrival → List Row
 rows_in [] = []
-rows_in (Came row ∷ events) = row ∷ rows_in events
-rows_in (Changed change ∷ events) = rows_in events
+rows_in (Came row ∷ arrivals) = row ∷ rows_in arrivals
+rows_in (Changed change ∷ arrivals) = rows_in arrivals
 
--- the exclusions and liftings among the events
-abbrev pub changes_in : List Event → List Change
+-- the exclusions and liftings among the arrivals
+abbrev pub changes_in : List Arrival → List Change
 changes_in [] = []
-changes_in (Came row ∷ events) = changes_in events
-changes_in (Changed change ∷ events) = change ∷ changes_in events
+changes_in (Came row ∷ arrivals) = changes_in arrivals
+changes_in (Changed change ∷ arrivals) = change ∷ changes_in arrivals
 
 -- The exclusions that were made, each live unless its id was lifted.
 abbrev pub exclusions_of : List Change → List (Exclusion × Bool)
@@ -41,30 +41,31 @@ is_put New = true
 is_put (Newer kept) = true
 is_put _ = false
 
--- The rows and exclusions of a book after these events, one call after another: each row that
+-- The rows and exclusions of a book after these arrivals, one call after another: each row that
 -- came was put or passed over, each exclusion was of an id that was unused, each lifting of one
 -- that was live.
-pub data Holds : List Event → List Row → List (Exclusion × Bool) → Type 0 where
+pub data Holds : List Arrival → List Row → List (Exclusion × Bool) → Type 0 where
   empty : Holds [] [] []
-  put : {events : List Event} {rows : List Row} {made : List (Exclusion × Bool)} (row : Row) →
-      Holds events rows made →
+  put : {arrivals : List Arrival} {rows : List Row} {made : List (Exclusion × Bool)} (row : Row) →
+      Holds arrivals rows made →
       is_put (verdict_of rows row) ≡ true →
-      Holds (events ++ Came row ∷ []) (current_rows (rows ++ row ∷ [])) made
-  passed : {events : List Event} {rows : List Row} {made : List (Exclusion × Bool)} (row : Row) →
-      Holds events rows made →
-      is_put (verdict_of rows row) ≡ false → Holds (events ++ Came row ∷ []) rows made
-  excluded : {events : List Event} {rows : List Row} {made : List (Exclusion × Bool)}
-      (value : Exclusion) → Holds events rows made →
+      Holds (arrivals ++ Came row ∷ []) (current_rows (rows ++ row ∷ [])) made
+  passed : {arrivals : List Arrival} {rows : List Row} {made : List (Exclusion × Bool)}
+      (row : Row) → Holds arrivals rows made →
+      is_put (verdict_of rows row) ≡ false → Holds (arrivals ++ Came row ∷ []) rows made
+  excluded : {arrivals : List Arrival} {rows : List Row} {made : List (Exclusion × Bool)}
+      (value : Exclusion) → Holds arrivals rows made →
       exclusion_of made value.id ≡ None →
-      Holds (events ++ Changed (Excluded value) ∷ []) rows (made ++ (value, true) ∷ [])
-  lifted_one : {events : List Event} {rows : List Row} {made : List (Exclusion × Bool)}
-      (id : List ℕ) → Holds events rows made →
-      IsLive made id → Holds (events ++ Changed (Lifted id) ∷ []) rows (lifted made id)
+      Holds (arrivals ++ Changed (Excluded value) ∷ []) rows (made ++ (value, true) ∷ [])
+  lifted_one : {arrivals : List Arrival} {rows : List Row} {made : List (Exclusion × Bool)}
+      (id : List ℕ) → Holds arrivals rows made →
+      IsLive made id → Holds (arrivals ++ Changed (Lifted id) ∷ []) rows (after_lifting made id)
 
--- a book of some events becomes the book of these and one more
-abbrev pub Gains : Book → Event → Book → Type 0
-Gains before event after = (events : List Event) → Holds events before.rows before.exclusions
-    → Holds (events ++ event ∷ []) after.rows after.exclusions
+-- a book of some arrivals becomes the book of these and one more
+abbrev pub Gains : Book → Arrival → Book → Type 0
+Gains before arrival after =
+    (arrivals : List Arrival) → Holds arrivals before.rows before.exclusions
+    → Holds (arrivals ++ arrival ∷ []) after.rows after.exclusions
 
 -- the rows of a book after a row came: a row is put where it is new or newer
 abbrev pub rows_after : List Row → Row → List Row

@@ -5,7 +5,7 @@ use Rattle.std.specs.List.{IsDistinct, position}
 use Rattle.std.specs.Str.{bytes_eq}
 use Rattle.sample_book.specs.declared.cells.Key.{Key}
 use Rattle.sample_book.specs.declared.row.Cell.{Cell}
-use Rattle.sample_book.specs.Names.{named}
+use Rattle.sample_book.specs.NameTable.{name_at}
 
 -- whether two keys are one
 abbrev pub key_eq : Key → Key → Bool
@@ -14,8 +14,8 @@ key_eq a b = nat_eq a.sli b.sli && (nat_eq a.source b.source && nat_eq a.minute 
 -- the cell of a key, by the names of its numbers
 abbrev pub cell_named : List (List ℕ) → List (List ℕ) → Key → Cell
 cell_named slis sources key = record {
-  sli = named slis key.sli;
-  source = named sources key.source;
+  sli = name_at slis key.sli;
+  source = name_at sources key.source;
   minute = key.minute;
 }
 

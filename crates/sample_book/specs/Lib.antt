@@ -1,5 +1,5 @@
 pub mod Rows
-pub mod Names
+pub mod NameTable
 pub mod Places
 pub mod Keys
 pub mod Standing

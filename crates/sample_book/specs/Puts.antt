@@ -15,9 +15,9 @@ pub data IsPutInto : List Row → Row → RowVerdict → List Row → Type 0 whe
       IsPutInto (before ++ kept ∷ after) row (Newer kept) (before ++ row ∷ after)
 
 -- the rows that a row takes the place of where it is put: one where it is newer, else none
-abbrev pub replaced : RowVerdict → List Row
-replaced (Newer kept) = kept ∷ []
-replaced _ = []
+abbrev pub replaced_rows : RowVerdict → List Row
+replaced_rows (Newer kept) = kept ∷ []
+replaced_rows _ = []
 
 -- of a kept row and a later one of the cell the one that counts: the later one where its
 -- revision is greater

@@ -2,14 +2,15 @@
 ghost use Rattle.std.specs.Prelude.{◌/◌, take, ℕ, List, ◌||◌, ◌≡◌, ◌≢◌, ◌+◌, ◌*◌, ◌^◌, ◌<◌, ◌≤◌};
 ghost use Rattle.std.specs.Prelude.{◌++◌, ◌∷◌, [], true, false, Some, None, OnOk, OnErr, IfOk};
 ghost use Rattle.std.specs.Prelude.{length, slice_get};
-ghost use Rattle.slo_limits.specs.declared.TheConstants.{MAX_ACCEPTED_ROWS};
+ghost use Rattle.slo_limits.specs.declared.TheConstants.{MAX_ACCEPTED_ROWS, MAX_AMOUNT};
+ghost use Rattle.slo_limits.specs.declared.TheConstants.{MINUTES_A_DAY};
 ghost use Rattle.sample_book.specs.Book.{Book};
 ghost use Rattle.std.specs.List.{AllByRecursion};
 ghost use Rattle.sample_book.specs.Chains.{below, is_on, last_place};
 ghost use Rattle.sample_book.specs.Counting.{HaveForm, IsSmallRow, is_of, counted_in_minute};
 ghost use Rattle.sample_book.specs.Counting.{counts_of_minute, days_with_rows, first_of};
 ghost use Rattle.sample_book.specs.Exclusions.{Excluded, HaveOwnIds, IsLive, Lifted, excludes};
-ghost use Rattle.sample_book.specs.Exclusions.{exclusion_of, is_excluded, lifted};
+ghost use Rattle.sample_book.specs.Exclusions.{exclusion_of, is_excluded, after_lifting};
 ghost use Rattle.sample_book.specs.History.{Came, Changed, Gains, Holds, is_put};
 ghost use Rattle.sample_book.specs.Puts.{IsPutInto, verdicts};
 ghost use Rattle.sample_book.specs.Rows.{MayPutAs, cell_of, current_rows, room_for, verdict_of};
@@ -185,7 +186,7 @@ impl SampleBook {
     /// Lifts the exclusion of an id.
     pub fn lift(&mut self, id: Label)
         requires { IsLive self.old.exclusions id }
-        ensures exclusions { self.new.exclusions ≡ lifted self.old.exclusions id }
+        ensures exclusions { self.new.exclusions ≡ after_lifting self.old.exclusions id }
         // It gives its minutes back, but for those that others take.
         ensures minutes { (value : Exclusion) (slo : List ℕ) (minute : ℕ)
             → exclusion_of self.old.exclusions id ≡ Some (value, true)
@@ -230,7 +231,7 @@ impl SampleBook {
     }
 
     /// How many days have a current row of an indicator, by a look-up: day d is the minutes from
-    /// d * 1440 on.
+    /// d * 1,440 on.
     pub fn days_of(&self, sli: Label) -> u32
         ensures { result ≡ length (days_with_rows self.now.rows sli) }
     {
@@ -254,7 +255,7 @@ impl SampleBook {
         below(self.index.before(place as usize))
     }
 
-    /// The place of the last row of an indicator on a day: day d is the minutes from d * 1440 on.
+    /// The place of the last row of an indicator on a day: day d is the minutes from d * 1,440 on.
     pub fn last_row_on(&self, sli: Label, day: u32) -> Option<u32>
         ensures { result ≡ last_place (is_on sli day) self.now.rows }
     {
@@ -265,7 +266,8 @@ impl SampleBook {
     pub fn row_before_on(&self, place: u32) -> Option<u32>
         requires { place < length self.now.rows }
         ensures { (row : Row) → slice_get self.now.rows place ≡ Some row
-            → result ≡ last_place (is_on row.sli (row.minute / 1440)) (take place self.now.rows) }
+            → result ≡ last_place (is_on row.sli (row.minute / MINUTES_A_DAY))
+            (take place self.now.rows) }
     {
         below(self.index.before_on_day(place as usize))
     }
@@ -286,7 +288,7 @@ impl SampleBook {
         ensures counts { result ≡ counts_of_minute reading op value self.now.rows sli minute }
         ensures part { result.good ≤ result.total }
         ensures few { AllByRecursion IsSmallRow self.now.rows
-            → result.total ≤ 10 ^ 9 * length self.now.rows }
+            → result.total ≤ MAX_AMOUNT * length self.now.rows }
     {
         counts_at(&self.rows, &self.index, sli, reading, op, value, minute)
     }
@@ -308,7 +310,7 @@ impl SampleBook {
             self.now.rows slo sli minute }
         ensures part { result.good ≤ result.total }
         ensures few { AllByRecursion IsSmallRow self.now.rows
-            → result.total ≤ 10 ^ 9 * length self.now.rows }
+            → result.total ≤ MAX_AMOUNT * length self.now.rows }
     {
         if self.is_excluded(slo, minute) {
             return Counts { good: 0, total: 0 };

@@ -4,10 +4,10 @@ ghost use Rattle.std.specs.Prelude.{◌≡◌, ◌<◌, ◌≤◌, [], None, Som
 ghost use Rattle.std.specs.Prelude.{IfOk, OnOk, OnErr, length, slice_get, take};
 ghost use Rattle.std.specs.List.{position};
 ghost use Rattle.sample_book.specs.Keys.{AreNumbered, HasNoKey, IsKeyOf, IsNamed, cell_named};
-ghost use Rattle.sample_book.specs.Names.{IsGrown};
+ghost use Rattle.sample_book.specs.NameTable.{IsGrown};
 ghost use Rattle.sample_book.specs.Rows.{cell_eq, with_cell};
 
-use crate::names::Names;
+use crate::name_table::NameTable;
 use crate::places::Places;
 use crate::row::Cell;
 use std::alloc::{AllocError, Global};
@@ -23,8 +23,8 @@ pub(crate) struct Key {
 
 #[derive(Drop)]
 pub(crate) struct Cells {
-    slis: Names,
-    sources: Names,
+    slis: NameTable,
+    sources: NameTable,
     keys: Places,
     // So many cells had these numbers of names when the others were forgotten last: where what was
     // added since is forgotten again, its names are too.
@@ -51,8 +51,8 @@ impl Cells {
         ensures { result ≡ [] }
     {
         Cells {
-            slis: Names::new(alloc),
-            sources: Names::new(alloc),
+            slis: NameTable::new(alloc),
+            sources: NameTable::new(alloc),
             keys: Places::new(alloc),
             settled: 0,
             settled_slis: 0,
@@ -123,7 +123,7 @@ impl Cells {
 }
 
 // The key of a cell whose names came.
-fn key_of(slis: &Names, sources: &Names, cell: &Cell) -> Option<Key>
+fn key_of(slis: &NameTable, sources: &NameTable, cell: &Cell) -> Option<Key>
     ensures known { IfSome result (IsKeyOf slis.now sources.now cell.now) }
     ensures unknown { IfNone result (HasNoKey slis.now sources.now cell.now) }
 {
@@ -137,7 +137,7 @@ fn key_of(slis: &Names, sources: &Names, cell: &Cell) -> Option<Key>
 }
 
 // The key of a cell whose names get numbers where they have none.
-fn number_of(slis: &mut Names, sources: &mut Names, cell: &Cell) -> Result<Key, AllocError>
+fn number_of(slis: &mut NameTable, sources: &mut NameTable, cell: &Cell) -> Result<Key, AllocError>
     ensures slis { IsGrown slis.old slis.new }
     ensures sources { IsGrown sources.old sources.new }
     ensures key { IfOk result (IsKeyOf slis.new sources.new cell.now) }
@@ -151,7 +151,7 @@ fn number_of(slis: &mut Names, sources: &mut Names, cell: &Cell) -> Result<Key, 
     })
 }
 
-fn named_cell(slis: &Names, sources: &Names, key: &Key) -> Cell
+fn named_cell(slis: &NameTable, sources: &NameTable, key: &Key) -> Cell
     requires { IsNamed slis.now sources.now key.now }
     ensures { result ≡ cell_named slis.now sources.now key.now }
 {

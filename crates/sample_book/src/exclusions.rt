@@ -4,12 +4,12 @@ ghost use Rattle.std.specs.Prelude.{None, OnOk, length, map, slice_get};
 ghost use Rattle.std.specs.List.{list_any};
 ghost use Rattle.sample_book.specs.Chains.{AreLinked};
 ghost use Rattle.sample_book.specs.Exclusions.{HaveOwnIds, excludes, exclusion_of, is_excluded};
-ghost use Rattle.sample_book.specs.Exclusions.{lifted};
+ghost use Rattle.sample_book.specs.Exclusions.{after_lifting};
 ghost use Rattle.sample_book.specs.ExclusionGroups.{excludes_on, group_of, group_of_kept};
 
 use crate::chains::{Chains, Group};
-use crate::row_index::DAY_MINUTES;
 use exact_fraction::Label;
+use slo_limits::MINUTES_A_DAY;
 use std::alloc::{AllocError, Global};
 use std::marker::Model;
 
@@ -133,7 +133,7 @@ impl Exclusions {
 
     // Lifts the exclusion of an id, with no memory.
     pub(crate) fn lift(&mut self, id: Label)
-        ensures made { self.new.made ≡ lifted self.old.made id }
+        ensures made { self.new.made ≡ after_lifting self.old.made id }
         ensures minutes { (value : Exclusion) (slo : List ℕ) (minute : ℕ)
             → exclusion_of self.old.made id ≡ Some (value, true)
             → is_excluded self.old.made slo minute
@@ -158,8 +158,8 @@ fn excludes(kept: &(Exclusion, bool), slo: Label, minute: u32) -> bool
 fn group_of(value: &Exclusion) -> Group
     ensures { result ≡ group_of value.now }
 {
-    let day = if value.to.saturating_sub(value.from) <= DAY_MINUTES {
-        value.from / DAY_MINUTES + 1
+    let day = if value.to.saturating_sub(value.from) <= MINUTES_A_DAY {
+        value.from / MINUTES_A_DAY + 1
     } else {
         0
     };
@@ -175,7 +175,7 @@ fn is_excluded(made: &[(Exclusion, bool)], groups: &Chains, slo: Label, minute: 
     requires { AreLinked (map group_of_kept made.now) groups.now }
     ensures { result ≡ is_excluded made.now slo minute }
 {
-    let day = minute / DAY_MINUTES;
+    let day = minute / MINUTES_A_DAY;
     let long = one_excludes(made, groups, slo, 0, minute);
     let before = one_excludes(made, groups, slo, day, minute);
     let own = one_excludes(made, groups, slo, day + 1, minute);

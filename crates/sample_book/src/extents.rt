@@ -1,6 +1,7 @@
 // Where the rows of an indicator begin, and on how many days it has some.
 ghost use Rattle.std.specs.Prelude.{◌/◌, ◌≡◌, ◌<◌, ◌≤◌, ◌+◌, ◌++◌, ◌∷◌, [], ℕ, List, OnOk, length};
 ghost use Rattle.std.specs.List.{position};
+ghost use Rattle.slo_limits.specs.declared.TheConstants.{MINUTES_A_DAY};
 ghost use Rattle.indexmap.specs.IndexMap.{spare};
 ghost use Rattle.sample_book.specs.Chains.{is_on, last};
 ghost use Rattle.sample_book.specs.Counting.{days_with_rows, is_of};
@@ -70,7 +71,8 @@ impl Extents {
         requires room { 0 < spare self.old.known }
         requires few { place < 4294967295 }
         ensures known { (rows : List Row) (row : Row) → AreExtents rows self.old
-            → row.sli ≡ sli → place ≡ length rows → last (is_on sli (row.minute / 1440)) rows ≡ 0
+            → row.sli ≡ sli → place ≡ length rows
+            → last (is_on sli (row.minute / MINUTES_A_DAY)) rows ≡ 0
             → AreExtents (rows ++ row ∷ []) self.new }
         ensures room { spare self.old.known ≤ spare self.new.known + 1 }
     {

@@ -2,11 +2,11 @@
 ghost use Rattle.std.specs.Prelude.{◌≡◌, ◌+◌, ◌++◌, ◌∷◌, [], List, ℕ, Bool, true, false, filter};
 ghost use Rattle.std.specs.Prelude.{length, slice_get, take, Some};
 ghost use Rattle.sample_book.specs.Exclusions.{is_excluded, is_excluded_in};
-ghost use Rattle.sample_book.specs.History.{Event, Holds, MayComeAll, changes_in, exclusions_of};
+ghost use Rattle.sample_book.specs.History.{Arrival, Holds, MayComeAll, changes_in, exclusions_of};
 ghost use Rattle.sample_book.specs.History.{rows_in};
 ghost use Rattle.sample_book.specs.Chains.{IsLastPlace, last_place};
 ghost use Rattle.sample_book.specs.Counting.{counts_of_minute};
-ghost use Rattle.sample_book.specs.Puts.{IsPutInto, is_conflict, is_new, is_settled, replaced};
+ghost use Rattle.sample_book.specs.Puts.{IsPutInto, is_conflict, is_new, is_settled, replaced_rows};
 ghost use Rattle.sample_book.specs.Puts.{verdicts};
 ghost use Rattle.sample_book.specs.Rows.{current_rows, room_for, verdict_of};
 ghost use Rattle.sample_book.specs.declared.row.RowVerdict.{RowVerdict};
@@ -19,13 +19,14 @@ ghost use Rattle.sample_book.specs.declared.row.Row.{Row};
 /// that came, and its exclusions are all that were made, each live unless it was lifted. So a
 /// minute is excluded exactly where some exclusion of the objective that wasn't lifted has it.
 pub fn a_book_is_what_came()
-    ensures rows { (events : List Event) (rows : List Row) (made : List (Exclusion × Bool))
-        → Holds events rows made → rows ≡ current_rows (rows_in events) }
-    ensures exclusions { (events : List Event) (rows : List Row) (made : List (Exclusion × Bool))
-        → Holds events rows made → made ≡ exclusions_of (changes_in events) }
-    ensures excluded { (events : List Event) (rows : List Row) (made : List (Exclusion × Bool))
-        (slo : List ℕ) (minute : ℕ) → Holds events rows made
-        → is_excluded made slo minute ≡ is_excluded_in (changes_in events) slo minute }
+    ensures rows { (arrivals : List Arrival) (rows : List Row) (made : List (Exclusion × Bool))
+        → Holds arrivals rows made → rows ≡ current_rows (rows_in arrivals) }
+    ensures exclusions { (arrivals : List Arrival) (rows : List Row)
+        (made : List (Exclusion × Bool)) → Holds arrivals rows made
+        → made ≡ exclusions_of (changes_in arrivals) }
+    ensures excluded { (arrivals : List Arrival) (rows : List Row) (made : List (Exclusion × Bool))
+        (slo : List ℕ) (minute : ℕ) → Holds arrivals rows made
+        → is_excluded made slo minute ≡ is_excluded_in (changes_in arrivals) slo minute }
 {}
 
 /// Room that was made for a batch of rows is enough for them: each of them that is new or newer, in
@@ -72,13 +73,13 @@ pub fn a_row_changes_its_own_minute()
     ensures good { (rows after : List Row) (row : Row) (verdict : RowVerdict) (reading : Reading)
         (op : Op) (value : ℕ) (sli : List ℕ) (minute : ℕ) → IsPutInto rows row verdict after
         → (counts_of_minute reading op value after sli minute).good
-        + (counts_of_minute reading op value (replaced verdict) sli minute).good
+        + (counts_of_minute reading op value (replaced_rows verdict) sli minute).good
         ≡ (counts_of_minute reading op value rows sli minute).good
         + (counts_of_minute reading op value (row ∷ []) sli minute).good }
     ensures total { (rows after : List Row) (row : Row) (verdict : RowVerdict) (reading : Reading)
         (op : Op) (value : ℕ) (sli : List ℕ) (minute : ℕ) → IsPutInto rows row verdict after
         → (counts_of_minute reading op value after sli minute).total
-        + (counts_of_minute reading op value (replaced verdict) sli minute).total
+        + (counts_of_minute reading op value (replaced_rows verdict) sli minute).total
         ≡ (counts_of_minute reading op value rows sli minute).total
         + (counts_of_minute reading op value (row ∷ []) sli minute).total }
 {}

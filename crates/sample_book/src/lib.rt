@@ -12,7 +12,7 @@ mod current_rows;
 mod exclusions;
 mod extents;
 mod laws;
-mod names;
+mod name_table;
 mod places;
 mod row;
 mod row_index;

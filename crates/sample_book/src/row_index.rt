@@ -2,6 +2,7 @@
 ghost use Rattle.std.specs.Prelude.{◌/◌, ◌≡◌, ◌<◌, ◌≤◌, ◌+◌, ◌++◌, ◌∷◌, [], ℕ, List, Some, OnOk};
 ghost use Rattle.std.specs.Prelude.{length, slice_get, take};
 ghost use Rattle.std.specs.List.{position};
+ghost use Rattle.slo_limits.specs.declared.TheConstants.{MINUTES_A_DAY};
 ghost use Rattle.sample_book.specs.Chains.{IsIndexed, IsReadyFor, is_on, last};
 ghost use Rattle.sample_book.specs.Counting.{days_with_rows, is_of};
 
@@ -9,10 +10,8 @@ use crate::chains::{Chains, Group};
 use crate::extents::Extents;
 use crate::row::Row;
 use exact_fraction::Label;
+use slo_limits::MINUTES_A_DAY;
 use std::alloc::{AllocError, Global};
-
-/// Minutes of a day: day d is the minutes from d * 1440 on.
-pub(crate) const DAY_MINUTES: u32 = 1440;
 
 #[derive(Drop)]
 pub(crate) struct RowIndex {
@@ -48,7 +47,7 @@ impl RowIndex {
         requires { (rows : List Row) × IsIndexed rows self.now × (place < length rows) }
         ensures { (rows : List Row) (row : Row) → IsIndexed rows self.now
             → slice_get rows place ≡ Some row
-            → result ≡ last (is_on row.sli (row.minute / 1440)) (take place rows) }
+            → result ≡ last (is_on row.sli (row.minute / MINUTES_A_DAY)) (take place rows) }
     {
         self.days.before(place)
     }
@@ -105,7 +104,7 @@ impl RowIndex {
         let place = self.slis.len();
         let before = self.days.push(Group {
             name: row.sli,
-            day: row.minute / DAY_MINUTES,
+            day: row.minute / MINUTES_A_DAY,
         });
         self.slis.push(Group {
             name: row.sli,

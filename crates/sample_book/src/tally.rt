@@ -7,9 +7,10 @@ ghost use Rattle.sample_book.specs.Counting.{HaveForm, counts_of_minute, first_o
 
 use crate::current_rows::CurrentRows;
 use crate::row::Row;
-use crate::row_index::{DAY_MINUTES, RowIndex};
+use crate::row_index::RowIndex;
 use exact_fraction::{Decimal, Label, Op};
 use slice_method::{Counts, Reading, counts_of};
+use slo_limits::MINUTES_A_DAY;
 
 // The first row of an indicator.
 pub(crate) fn first_of(rows: &CurrentRows, index: &RowIndex, sli: Label) -> Option<Row>
@@ -39,7 +40,7 @@ pub(crate) fn counts_at(
     ensures part { result.good ≤ result.total }
 {
     let mut sum = Counts { good: 0, total: 0 };
-    let mut next = index.last_on_day(sli, minute / DAY_MINUTES);
+    let mut next = index.last_on_day(sli, minute / MINUTES_A_DAY);
     while 0 < next {
         let place = next as usize - 1;
         let counts = share_of(rows.row(place), sli, reading, op, value, minute);

@@ -1,6 +1,6 @@
 use Rattle.std.proofs.Common.{ap, ◌∙◌, List, Bool}
 use Rattle.sample_book.specs.Book.{Book}
-use Rattle.sample_book.specs.Exclusions.{lifted}
+use Rattle.sample_book.specs.Exclusions.{after_lifting}
 use Rattle.sample_book.specs.declared.exclusions.Exclusion.{Exclusion}
 use Rattle.sample_book.proofs.HistoryLemmas.{gains-lifted}
 use Rattle.sample_book.proofs.book.SampleBook.lift.Goals as goal
@@ -17,4 +17,4 @@ returns-clause-history c =
       spare = c.lift.new.self.spare;
     }) c.args.id
     c.requires (c.lift.ensures.made
-    ∙ ap (λ (made : List (Exclusion × Bool)). lifted made c.args.id) made) rows
+    ∙ ap (λ (made : List (Exclusion × Bool)). after_lifting made c.args.id) made) rows

@@ -3,7 +3,7 @@ use Rattle.std.proofs.Common.{set}
 use Rattle.std.proofs.lemmas.Grind.{common_steps}
 use Rattle.std.proofs.lemmas.List.Edits.{map_over_more}
 use Rattle.sample_book.specs.declared.exclusions.Exclusion.{Exclusion}
-use Rattle.sample_book.specs.Exclusions.{Kept, has_id, lifted}
+use Rattle.sample_book.specs.Exclusions.{Kept, has_id, after_lifting}
 use Rattle.sample_book.proofs.GroupLemmas.{grouped_lifted}
 use Rattle.sample_book.proofs.IdLemmas.{exclusions_lifted, excluded_lifted}
 use Rattle.sample_book.proofs.exclusions.Exclusions.lift.Goals as goal
@@ -24,7 +24,7 @@ loop-kept-preserved c =
 -- the exclusions are written back
 written : (c : goal.After-self-1) → take c.self.inside.made.len
     (c.loop-kept.kept-items ++ drop (length c.loop-kept.kept-items) c.self.inside.made.items)
-    ≡ lifted c.self.inside.made.items c.args.id
+    ≡ after_lifting c.self.inside.made.items c.args.id
 written c = grind (arith, common_steps)
 
 pub invariant_of-self : goal.invariant_of-self

@@ -4,8 +4,8 @@ use Rattle.std.specs.List.{IsDistinct}
 use Rattle.std.specs.Str.{bytes_eq}
 
 -- the name of a number
-abbrev pub named : List (List ℕ) → ℕ → List ℕ
-named names number = slice_index_or names number []
+abbrev pub name_at : List (List ℕ) → ℕ → List ℕ
+name_at names number = slice_index_or names number []
 
 -- names were added behind those that were there
 pub record IsGrown (old new : List (List ℕ)) : Type 0 where

@@ -3,7 +3,7 @@ use Rattle.std.specs.List.{position, list_any}
 use Rattle.std.specs.Str.{bytes_eq}
 use Rattle.std.specs.Cmp.Lexicographic.{nat_list_eq_equiv}
 use Rattle.sample_book.proofs.FirstPlaces.{position_added}
-use Rattle.sample_book.proofs.names.Names.add.Goals as goal
+use Rattle.sample_book.proofs.name_table.NameTable.add.Goals as goal
 
 pub returns-clause-number : goal.returns-clause-number
 returns-clause-number c =

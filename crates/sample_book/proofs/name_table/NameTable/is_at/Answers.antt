@@ -3,7 +3,7 @@ use Rattle.std.specs.List.{position}
 use Rattle.std.specs.Str.{bytes_eq}
 use Rattle.std.proofs.lemmas.Slice.Eq.{bytes_eq-Decides}
 use Rattle.sample_book.proofs.CellLemmas.{position_at}
-use Rattle.sample_book.proofs.names.Names.is_at.Goals as goal
+use Rattle.sample_book.proofs.name_table.NameTable.is_at.Goals as goal
 
 pub returns-in-Some-clause-number : goal.returns-in-Some-clause-number
 returns-in-Some-clause-number c told =

@@ -3,7 +3,7 @@ ghost use Rattle.std.specs.Prelude.{◌≡◌, ◌<◌, ◌++◌, List, ℕ, [],
 ghost use Rattle.std.specs.Prelude.{Some, take, true};
 ghost use Rattle.std.specs.List.{IsDistinct, position};
 ghost use Rattle.std.specs.Str.{bytes_eq};
-ghost use Rattle.sample_book.specs.Names.{IsGrown, named};
+ghost use Rattle.sample_book.specs.NameTable.{IsGrown, name_at};
 
 use exact_fraction::Label;
 use indexmap::IndexSet;
@@ -14,7 +14,7 @@ use std::marker::Model;
 const MOST_NAMES: usize = 4_294_967_296;
 
 #[derive(Drop)]
-pub(crate) struct Names {
+pub(crate) struct NameTable {
     set: IndexSet<Label>,
     // The number that was used last, and the one that came after each number last time. Rows come
     // source after source, so these are tried before a look-up; nothing rests on them.
@@ -22,9 +22,9 @@ pub(crate) struct Names {
     followers: Vec<u32>,
 }
 
-impl Model for Names {
+impl Model for NameTable {
     ghost use Rattle.std.specs.Prelude.{List, ℕ};
-    ghost use Rattle.sample_book.specs.Names.{AreApart};
+    ghost use Rattle.sample_book.specs.NameTable.{AreApart};
 
     ghost Value = { List (List ℕ) };
 
@@ -33,11 +33,11 @@ impl Model for Names {
     ghost invariant = { λ a. AreApart a.set.keys };
 }
 
-impl Names {
-    pub(crate) fn new(alloc: Global) -> Names
+impl NameTable {
+    pub(crate) fn new(alloc: Global) -> NameTable
         ensures { result ≡ [] }
     {
-        Names {
+        NameTable {
             set: IndexSet::new(alloc),
             latest: 0,
             followers: Vec::new(alloc),
@@ -93,7 +93,7 @@ impl Names {
     // The name of a number.
     pub(crate) fn name(&self, number: u32) -> Label
         requires { number < length self.now }
-        ensures { result ≡ named self.now number }
+        ensures { result ≡ name_at self.now number }
     {
         *self.set.get_index(number as usize).unwrap()
     }
