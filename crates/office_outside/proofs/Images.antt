@@ -8,9 +8,9 @@ use Rattle.std.proofs.lemmas.List.{take-replicate, append-nil, drop_all, length-
 use Rattle.std.proofs.lemmas.List.{length-replicate}
 use Rattle.std.proofs.Math.Nat.{eq-or-lt_of_le}
 use Rattle.std.proofs.lemmas.List.Sums.{fold-append}
-use Rattle.office_outside.specs.Disk.{Torn, Follows, Elapses, written_over}
-use Rattle.office_outside.specs.DiskCalls.{State, after, replay, at_first, IsImage, LeftSince, Left}
-use Rattle.office_outside.specs.DiskCalls.{Reaches}
+use Rattle.office_outside.specs.Disk.{Torn, Follows, Elapses, file_after_write}
+use Rattle.office_outside.specs.DiskCalls.{State, after, at_first, IsImage, LeftSince, Left}
+use Rattle.office_outside.specs.DiskCalls.{Reaches, state_after}
 use Rattle.office_outside.specs.declared.memory_disk.DiskCall.{DiskCall}
 use Rattle.office_outside.specs.declared.memory_disk.DiskCall.TheVariants.{Looked, Wrote, Synced}
 
@@ -30,7 +30,7 @@ module _ (old : List ℕ) (at : ℕ) (bytes : List ℕ) where
     length-replicate {A = ℕ} (at - length old) 0,
   )
 
-  length-written_over : length (written_over old at bytes)
+  length-written_over : length (file_after_write old at bytes)
       ≡ at + length bytes + (length old - (at + length bytes))
   length-written_over = omega (
     arith,
@@ -41,7 +41,7 @@ module _ (old : List ℕ) (at : ℕ) (bytes : List ℕ) where
   )
 
   -- a write that is done is one that a crash cuts short nowhere
-  pub torn_written : Torn at (length bytes) old (written_over old at bytes)
+  pub torn_written : Torn at (length bytes) old (file_after_write old at bytes)
   torn_written = record {
     before =
         ap (λ (l : List ℕ). take (min at (length old)) l) (append_assoc (take at old
@@ -82,22 +82,25 @@ follows_after s at v false c (inr r) = (r.0, inr r.1, r.2)
 -- an image after a write is one from before it, with the write cut short
 pub follows_wrote : (first : List ℕ) (calls later : List DiskCall) (at : ℕ) (v : Vec ℕ Global)
     (done : Bool) (piece : List ℕ) → v.items ≡ piece → later ≡ calls ++ Wrote at v done ∷ []
-    → Follows (Torn at (length piece)) (IsImage (replay first calls)) (IsImage (replay first later))
+    → Follows (Torn at (length piece)) (IsImage (state_after first calls))
+    (IsImage (state_after first later))
 follows_wrote first calls later at v done piece same is c image =
-    let now : replay first later ≡ after (replay first calls) (Wrote at v done) =
-    ap (replay first) is ∙ fold-append after (at_first first) calls (Wrote at v done ∷ []) in
-    subst (λ (p : List ℕ). (d : List ℕ) × IsImage (replay first calls) d
+    let now : state_after first later ≡ after (state_after first calls) (Wrote at v done) =
+    ap (state_after first) is ∙ fold-append after (at_first first) calls (Wrote at v done ∷ []) in
+    subst (λ (p : List ℕ). (d : List ℕ) × IsImage (state_after first calls) d
     × Torn at (length p) d c) same
-    (follows_after (replay first calls) at v done c (subst (λ (s : State). IsImage s c) now image))
+    (follows_after (state_after first calls) at v done c
+    (subst (λ (s : State). IsImage s c) now image))
 
 pub follows_either : (first : List ℕ) (calls later : List DiskCall) (at : ℕ) (done : Bool)
     (piece : List ℕ)
     → (later ≡ calls) ⊎ ((v : Vec ℕ Global) × (v.items ≡ piece)
     × (later ≡ calls ++ Wrote at v done ∷ []))
-    → Follows (Torn at (length piece)) (IsImage (replay first calls)) (IsImage (replay first later))
+    → Follows (Torn at (length piece)) (IsImage (state_after first calls))
+    (IsImage (state_after first later))
 follows_either first calls later at done piece (inl same) c image = (
   c,
-  subst (λ (l : List DiskCall). IsImage (replay first l) c) same image,
+  subst (λ (l : List DiskCall). IsImage (state_after first l) c) same image,
   torn_same c at (length piece),
 )
 follows_either first calls later at done piece (inr more) c image =
@@ -123,7 +126,7 @@ drop-append (suc n) (x ∷ xs) ys = let e : suc n - suc (length xs) ≡ n - leng
 pub padded_write : (old : List ℕ) (at : ℕ) (piece : List ℕ) (end : ℕ) → end ≡ at + length piece
     → (padded : List ℕ) → padded ≡ old ++ replicate (end - length old) 0
     → (new : List ℕ) → new ≡ take at padded ++ piece ++ drop (at + length piece) padded
-    → new ≡ written_over old at piece
+    → new ≡ file_after_write old at piece
 padded_write old at piece end ends padded pads new is =
     let zeros : List ℕ = replicate (end - length old) 0 in
     let front : take at padded ≡ take at old ++ replicate (at - length old) 0 = ap (take at) pads
@@ -143,17 +146,17 @@ abbrev pub OneMore : List DiskCall → List DiskCall → Type 0
 OneMore calls later = (later ≡ calls) ⊎ ((call : DiskCall) × (later ≡ calls ++ call ∷ []))
 
 elapses_same : (first : List ℕ) (calls : List DiskCall) → Elapses (length calls) (length calls)
-    (LeftSince first calls) (LeftSince first calls) (IsImage (replay first calls))
+    (LeftSince first calls) (LeftSince first calls) (IsImage (state_after first calls))
 elapses_same first calls = record { later = omega arith; nothing_else = λ t c le left. inl left }
 
 elapses_push : (first : List ℕ) (calls : List DiskCall) (call : DiskCall)
     → Elapses (length calls) (length (calls ++ call ∷ [])) (LeftSince first calls)
-    (LeftSince first (calls ++ call ∷ [])) (IsImage (replay first (calls ++ call ∷ [])))
+    (LeftSince first (calls ++ call ∷ [])) (IsImage (state_after first (calls ++ call ∷ [])))
 elapses_push first calls call = record {
   later = omega (arith, length-append calls (call ∷ []));
   nothing_else = λ t c le left. ⊎_elim
       (λ (is : left.at ≡ length (calls ++ call ∷ [])).
-      inr (subst (λ (l : List DiskCall). IsImage (replay first l) c)
+      inr (subst (λ (l : List DiskCall). IsImage (state_after first l) c)
       (take_all left.at (calls ++ call ∷ []) (omega (arith, is))) left.image))
       (λ (less : left.at < length (calls ++ call ∷ [])).
       let before : left.at ≤ length calls = omega (arith, less, length-append calls (call ∷ [])) in
@@ -161,7 +164,7 @@ elapses_push first calls call = record {
         at = left.at;
         not_before = left.not_before;
         happened = before;
-        image = subst (λ (l : List DiskCall). IsImage (replay first l) c)
+        image = subst (λ (l : List DiskCall). IsImage (state_after first l) c)
             (take-append-le left.at calls (call ∷ []) before) left.image;
       }))
       (eq-or-lt_of_le left.happened);
@@ -170,13 +173,13 @@ elapses_push first calls call = record {
 -- time goes on by a call
 pub elapses_more : (first : List ℕ) (calls later : List DiskCall) → OneMore calls later
     → Elapses (length calls) (length later) (LeftSince first calls) (LeftSince first later)
-    (IsImage (replay first later))
+    (IsImage (state_after first later))
 elapses_more first calls later (inl same) =
     subst (λ (l : List DiskCall). Elapses (length calls) (length l) (LeftSince first calls)
-    (LeftSince first l) (IsImage (replay first l))) (sym same) (elapses_same first calls)
+    (LeftSince first l) (IsImage (state_after first l))) (sym same) (elapses_same first calls)
 elapses_more first calls later (inr more) =
     subst (λ (l : List DiskCall). Elapses (length calls) (length l)
-    (LeftSince first calls) (LeftSince first l) (IsImage (replay first l))) (sym more.1)
+    (LeftSince first calls) (LeftSince first l) (IsImage (state_after first l))) (sym more.1)
     (elapses_push first calls more.0)
 
 pub one_write : (calls later : List DiskCall) (at : ℕ) (done : Bool) (piece : List ℕ)
@@ -239,10 +242,10 @@ torn_put old mid new piece at n within few fits t is =
 
 left_wrote : (s : State) (at : ℕ) (v : Vec ℕ Global) (done : Bool)
     (reads left new_reads new_left : List ℕ) → Left s reads left
-    → new_reads ≡ (if done then written_over reads at v.items else reads)
+    → new_reads ≡ (if done then file_after_write reads at v.items else reads)
     → Torn at (length v.items) left new_left → Left (after s (Wrote at v done)) new_reads new_left
 left_wrote s at v true reads left new_reads new_left l is torn = record {
-  same = is ∙ ap (λ (r : List ℕ). written_over r at v.items) l.same;
+  same = is ∙ ap (λ (r : List ℕ). file_after_write r at v.items) l.same;
   reached = (left, l.reached, torn);
 }
 left_wrote s at v false reads left new_reads new_left l is torn = record {
@@ -253,11 +256,11 @@ left_wrote s at v false reads left new_reads new_left l is torn = record {
 pub left_after : (s : State) (call : DiskCall) (at : ℕ) (v : Vec ℕ Global) (done : Bool)
     (piece reads left new_reads new_left : List ℕ) → call ≡ Wrote at v done → piece ≡ v.items
     → Left s reads left
-    → new_reads ≡ (if done then written_over reads at piece else reads)
+    → new_reads ≡ (if done then file_after_write reads at piece else reads)
     → Torn at (length piece) left new_left → Left (after s call) new_reads new_left
 left_after s call at v done piece reads left new_reads new_left is same l read torn =
-    let read : new_reads ≡ (if done then written_over reads at v.items else reads) = read
-    ∙ ap (λ (p : List ℕ). if done then written_over reads at p else reads) same in
+    let read : new_reads ≡ (if done then file_after_write reads at v.items else reads) = read
+    ∙ ap (λ (p : List ℕ). if done then file_after_write reads at p else reads) same in
     subst (λ (k : DiskCall). Left (after s k) new_reads new_left) (sym is)
     (left_wrote s at v done reads left new_reads new_left l read
     (subst (λ (p : List ℕ). Torn at (length p) left new_left) same torn))

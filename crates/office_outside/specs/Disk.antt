@@ -3,8 +3,8 @@ use Rattle.std.specs.Prelude.{◌≡◌, ◌⊎◌, ℕ, ◌+◌, ◌-◌, ◌�
 use Rattle.std.specs.Prelude.{replicate, Option, Some, None, ⊤}
 
 -- the bytes after a write, with zeros up to it where it begins past the end
-abbrev pub written_over : List ℕ → ℕ → List ℕ → List ℕ
-written_over old at bytes =
+abbrev pub file_after_write : List ℕ → ℕ → List ℕ → List ℕ
+file_after_write old at bytes =
     take at old ++ replicate (at - length old) 0 ++ bytes ++ drop (at + length bytes) old
 
 -- after a write of n bytes that a crash cuts short: any bytes in the range and past the old end,
@@ -38,7 +38,7 @@ abbrev pub IsWritten : ℕ → List ℕ → Option (List ℕ) → Option (List �
 IsWritten at bytes None None = ⊤
 IsWritten at bytes None (Some new) = ⊥
 IsWritten at bytes (Some old) None = ⊥
-IsWritten at bytes (Some old) (Some new) = new ≡ written_over old at bytes
+IsWritten at bytes (Some old) (Some new) = new ≡ file_after_write old at bytes
 
 -- what a read at `at` into a piece answers, where the disk tells its bytes
 pub record IsRead (at : ℕ) (file piece : List ℕ) (count : ℕ) : Type 0 where

@@ -3,7 +3,7 @@ use Rattle.std.specs.Prelude.{◌≡◌, ◌⊎◌, ℕ, Bool, ◌≤◌, true, 
 use Rattle.std.specs.Prelude.{fold}
 use Rattle.std.proofs.Common.{subst, sym, arith}
 use Rattle.std.proofs.lemmas.List.{take_all}
-use Rattle.office_outside.specs.Disk.{Torn, written_over}
+use Rattle.office_outside.specs.Disk.{Torn, file_after_write}
 use Rattle.office_outside.specs.declared.memory_disk.DiskCall.{DiskCall}
 use Rattle.office_outside.specs.declared.memory_disk.DiskCall.TheVariants.{Looked, Wrote, Synced}
 
@@ -18,7 +18,10 @@ pub record State : Type 0 where
 abbrev pub after : State → DiskCall → State
 after s (Looked at size done) = s
 after s (Wrote at v true) =
-    record s { reads = written_over s.reads at v.items; writes = (at, length v.items) ∷ s.writes }
+    record s {
+      reads = file_after_write s.reads at v.items;
+      writes = (at, length v.items) ∷ s.writes;
+    }
 after s (Wrote at v false) = record s { writes = (at, length v.items) ∷ s.writes }
 after s (Synced true) = record s { synced = s.reads; writes = [] }
 after s (Synced false) = s
@@ -28,8 +31,8 @@ abbrev pub at_first : List ℕ → State
 at_first bytes = record { reads = bytes; synced = bytes; writes = [] }
 
 -- after these calls, the oldest first
-abbrev pub replay : List ℕ → List DiskCall → State
-replay bytes calls = fold after (at_first bytes) calls
+abbrev pub state_after : List ℕ → List DiskCall → State
+state_after bytes calls = fold after (at_first bytes) calls
 
 -- from what was synced through the writes, each of them cut short anywhere
 abbrev pub Reaches : List ℕ → List (ℕ × ℕ) → List ℕ → Type 0
@@ -45,24 +48,24 @@ pub record LeftSince (bytes : List ℕ) (calls : List DiskCall) (t : ℕ) (c : L
   pub at : ℕ
   pub not_before : t ≤ at
   pub happened : at ≤ length calls
-  pub image : IsImage (replay bytes (take at calls)) c
+  pub image : IsImage (state_after bytes (take at calls)) c
 
 -- this moment is one of those since an earlier one
 pub counts_now : (bytes : List ℕ) (calls : List DiskCall) (t : ℕ) (c : List ℕ) → t ≤ length calls
-    → IsImage (replay bytes calls) c → LeftSince bytes calls t c
+    → IsImage (state_after bytes calls) c → LeftSince bytes calls t c
 counts_now bytes calls t c le image = record {
   at = length calls;
   not_before = le;
   happened = omega arith;
-  image = subst (λ (l : List DiskCall). IsImage (replay bytes l) c)
+  image = subst (λ (l : List DiskCall). IsImage (state_after bytes l) c)
       (sym (take_all (length calls) calls (omega arith))) image;
 }
 
 -- since this moment there is no other
 pub only_now : (bytes : List ℕ) (calls : List DiskCall) (c : List ℕ)
-    → LeftSince bytes calls (length calls) c → IsImage (replay bytes calls) c
+    → LeftSince bytes calls (length calls) c → IsImage (state_after bytes calls) c
 only_now bytes calls c left =
-    subst (λ (l : List DiskCall). IsImage (replay bytes l) c)
+    subst (λ (l : List DiskCall). IsImage (state_after bytes l) c)
     (take_all left.at calls left.not_before) left.image
 
 -- what a read gives and what a stop leaves, after these calls

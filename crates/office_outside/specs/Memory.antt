@@ -3,7 +3,7 @@ use Rattle.std.specs.Prelude.{ℕ, List, ◌++◌, drop, min, max, Option, Some,
 use Rattle.office_outside.specs.Faults.{next_count}
 
 -- how the calls of a memory form go
-pub record Planned : Type 0 where
+pub record CallPlan : Type 0 where
   -- the call of each of these numbers fails; calls are counted from 0
   pub failing : List ℕ
   -- the move of number k moves at most the k-th of these sizes; moves are counted from 0
@@ -16,7 +16,7 @@ pub record Planned : Type 0 where
   pub faults : ℕ
 
 -- a plan before its first call
-abbrev pub fresh_plan : List ℕ → List ℕ → Planned
+abbrev pub fresh_plan : List ℕ → List ℕ → CallPlan
 fresh_plan failing sizes = record {
   failing = failing;
   sizes = sizes;
@@ -31,30 +31,30 @@ cut_at None count = count
 cut_at (Some size) count = min (max size 1) count
 
 -- how many bytes the next move moves where `count` of them could be
-abbrev pub share_of : Planned → ℕ → ℕ
-share_of plan count = cut_at (slice_get plan.sizes plan.moves) count
+abbrev pub move_size : CallPlan → ℕ → ℕ
+move_size plan count = cut_at (slice_get plan.sizes plan.moves) count
 
 -- the plan after a call that moved bytes
-abbrev pub after_move : Planned → Planned
+abbrev pub after_move : CallPlan → CallPlan
 after_move plan = record plan { calls = next_count plan.calls; moves = next_count plan.moves }
 
 -- the plan after a flush that succeeded
-abbrev pub after_flush : Planned → Planned
+abbrev pub after_flush : CallPlan → CallPlan
 after_flush plan = record plan { calls = next_count plan.calls }
 
 -- the plan after a call that failed
-abbrev pub after_failure : Planned → Planned
+abbrev pub after_failure : CallPlan → CallPlan
 after_failure plan = record plan { calls = next_count plan.calls; faults = next_count plan.faults }
 
 -- a memory source: the bytes that are left, and its plan
 pub record SourceInMemory : Type 0 where
   pub left : List ℕ
-  pub plan : Planned
+  pub plan : CallPlan
 
 -- a memory sink: the bytes that it holds, and its plan
 pub record SinkInMemory : Type 0 where
   pub held : List ℕ
-  pub plan : Planned
+  pub plan : CallPlan
 
 -- the source after a read of so many bytes
 abbrev pub after_read : ℕ → SourceInMemory → SourceInMemory

@@ -89,9 +89,9 @@ pub type StdSource<R> = Adapter<R>;
 pub type StdSink<W> = Adapter<W>;
 
 impl<T: Drop> Model for Adapter<T> {
-    ghost use Rattle.office_outside.specs.Adapter.{Counted};
+    ghost use Rattle.office_outside.specs.Adapter.{WithFaults};
 
-    ghost Value = { Counted T };
+    ghost Value = { WithFaults T };
 
     ghost view = { λ s. record { inner = s.inner; faults = s.faults } };
 }

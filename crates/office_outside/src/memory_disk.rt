@@ -6,9 +6,9 @@ ghost use Rattle.std.proofs.Common.{inl};
 ghost use Rattle.office_outside.specs.Faults.{HasCause};
 ghost use Rattle.office_outside.specs.Memory.{after_flush, after_failure};
 ghost use Rattle.office_outside.specs.Disk.{OnlyAsRead, NoMore, Follows, Torn, Elapses, IsWritten};
-ghost use Rattle.office_outside.specs.Disk.{written_over, IsRead};
-ghost use Rattle.office_outside.specs.DiskCalls.{State, after, Left, replay, IsImage, LeftSince};
-ghost use Rattle.office_outside.specs.DiskCalls.{counts_now, only_now};
+ghost use Rattle.office_outside.specs.Disk.{file_after_write, IsRead};
+ghost use Rattle.office_outside.specs.DiskCalls.{State, after, Left, IsImage, LeftSince};
+ghost use Rattle.office_outside.specs.DiskCalls.{counts_now, only_now, state_after};
 ghost use Rattle.office_outside.specs.declared.memory_disk.DiskCall.TheVariants.{Looked, Wrote};
 ghost use Rattle.office_outside.specs.declared.memory_disk.DiskCall.TheVariants.{Synced};
 
@@ -35,12 +35,12 @@ pub struct MemoryDisk {
     bytes: Vec<u8>,
     calls: Vec<DiskCall>,
     plan: Plan,
-    ghost replayed: { bytes.items ≡ (replay first.items calls.items).reads },
+    ghost replayed: { bytes.items ≡ (state_after first.items calls.items).reads },
 }
 
 impl MemoryDisk {
     ghost use Rattle.std.specs.Prelude.{length};
-    ghost use Rattle.office_outside.specs.DiskMemory.{bytes_read, calls_made, planned, IsFresh};
+    ghost use Rattle.office_outside.specs.DiskMemory.{bytes_read, calls_made, plan_of, IsFresh};
     ghost use Rattle.office_outside.specs.DiskMemory.{IsLeftAt};
 
     /// A disk whose file has these bytes, all of them kept.
@@ -73,7 +73,7 @@ impl MemoryDisk {
 
     /// The plan, with its counts of calls and faults.
     pub fn plan(&self) -> &Plan
-        ensures { result.now ≡ planned self.now }
+        ensures { result.now ≡ plan_of self.now }
     {
         &self.plan
     }
@@ -96,7 +96,7 @@ impl MemoryDisk {
 impl Disk for MemoryDisk {
     ghost content = { λ m. Some m.bytes.items };
 
-    ghost images = { λ m. IsImage (replay m.first.items m.calls.items) };
+    ghost images = { λ m. IsImage (state_after m.first.items m.calls.items) };
 
     ghost moment = { λ m. length m.calls.items };
 
@@ -164,7 +164,7 @@ impl Disk for MemoryDisk {
 
 /// Puts the piece into the file, with zeros before it where the file ends earlier.
 fn overwrite(file: &mut Vec<u8>, at: usize, piece: &[u8]) -> Result<(), AllocError>
-    ensures ok { OnOk result (file.new.items ≡ written_over file.old.items at piece.now) }
+    ensures ok { OnOk result (file.new.items ≡ file_after_write file.old.items at piece.now) }
     ensures err { OnErr result (file.new.items ≡ file.old.items) }
 {
     let end = at.checked_add(piece.len()).ok_or(AllocError)?;
@@ -205,7 +205,7 @@ fn write_into(
     ensures noted { OnOk result ((v : _) × (v.items ≡ piece.now)
         × (calls.new.items ≡ calls.old.items ++ Wrote at v done ∷ [])) }
     ensures ok { OnOk result (file.new.items
-        ≡ (if done then written_over file.old.items at piece.now else file.old.items)) }
+        ≡ (if done then file_after_write file.old.items at piece.now else file.old.items)) }
     ensures err { OnErr result (file.new.items ≡ file.old.items) }
     ensures unnoted { OnErr result (calls.new.items ≡ calls.old.items) }
     ensures either { (calls.new.items ≡ calls.old.items)
@@ -271,7 +271,7 @@ fn leave_write(
     wanted: &[u8],
 ) -> Result<(), AllocError>
     ensures reads { OnOk result (reads.new.items
-        ≡ (if done then written_over reads.old.items at bytes.now else reads.old.items)) }
+        ≡ (if done then file_after_write reads.old.items at bytes.now else reads.old.items)) }
     ensures left { OnOk result (Torn at (length bytes.now) left.old.items left.new.items) }
 {
     if done {

@@ -2,7 +2,7 @@
 ghost use Rattle.std.specs.Prelude.{◌≡◌, ◌<◌, ◌≤◌, ◌↔◌, ◌++◌, [], length, take, IsErr, IfOk, OnOk};
 ghost use Rattle.std.specs.Prelude.{OnErr, Contains};
 ghost use Rattle.office_outside.specs.Faults.{HasCause};
-ghost use Rattle.office_outside.specs.Memory.{share_of, after_write, after_flush, after_failure};
+ghost use Rattle.office_outside.specs.Memory.{move_size, after_write, after_flush, after_failure};
 
 use crate::{Failed, Plan, Sink};
 use std::alloc::Global;
@@ -68,12 +68,12 @@ impl Sink for MemorySink {
 
         // A failure at another call is a refused growth.
         ensures failing { Contains self.old.plan.failing self.old.plan.calls → IsErr result }
-        ensures exact_count { IfOk result (λ n. n ≡ share_of self.old.plan (length piece.now)) }
+        ensures exact_count { IfOk result (λ n. n ≡ move_size self.old.plan (length piece.now)) }
         ensures after { IfOk result (λ n. self.new ≡ after_write (take n piece.now) self.old) }
         ensures after_failure { OnErr result
             (self.new ≡ record self.old { plan = after_failure self.old.plan }) }
     {
-        let count = self.plan.share(piece.len());
+        let count = self.plan.move_size(piece.len());
         if self.plan.fails_now() || self.bytes.extend_from_slice(&piece[..count]).is_err() {
             self.plan.note_failure();
             return Err(Failed);

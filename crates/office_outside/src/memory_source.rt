@@ -2,7 +2,7 @@
 ghost use Rattle.std.specs.Prelude.{◌≡◌, ◌<◌, ◌≤◌, ◌↔◌, ◌++◌, [], length, take, drop, min, IsErr};
 ghost use Rattle.std.specs.Prelude.{IfOk, OnErr, Contains};
 ghost use Rattle.office_outside.specs.Faults.{HasCause};
-ghost use Rattle.office_outside.specs.Memory.{share_of, after_read, after_failure};
+ghost use Rattle.office_outside.specs.Memory.{move_size, after_read, after_failure};
 
 use crate::{Failed, Plan, Source};
 use std::marker::Model;
@@ -68,7 +68,7 @@ impl Source for MemorySource {
 
         ensures failing { IsErr result ↔ Contains self.old.plan.failing self.old.plan.calls }
         ensures exact_count { IfOk result
-            (λ n. n ≡ share_of self.old.plan (min (length self.old.left) (length piece.old))) }
+            (λ n. n ≡ move_size self.old.plan (min (length self.old.left) (length piece.old))) }
         ensures piece { IfOk result (λ n. piece.new ≡ take n self.old.left ++ drop n piece.old) }
         ensures after { IfOk result (λ n. self.new ≡ after_read n self.old) }
         ensures piece_kept { OnErr result (piece.new ≡ piece.old) }
@@ -80,7 +80,7 @@ impl Source for MemorySource {
             return Err(Failed);
         }
         let rest = &self.bytes[self.at..];
-        let count = self.plan.share(rest.len().min(piece.len()));
+        let count = self.plan.move_size(rest.len().min(piece.len()));
         piece[..count].copy_from_slice(&rest[..count]);
         self.at += count;
         self.plan.note_move();

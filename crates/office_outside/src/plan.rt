@@ -1,6 +1,6 @@
 //! The plan by which the calls of a memory form go: which of them fail, and how much they move.
 ghost use Rattle.std.specs.Prelude.{◌≡◌, ◌≤◌, ◌↔◌, IsTrue, Contains, []};
-ghost use Rattle.office_outside.specs.Memory.{fresh_plan, share_of, after_move, after_flush};
+ghost use Rattle.office_outside.specs.Memory.{fresh_plan, move_size, after_move, after_flush};
 ghost use Rattle.office_outside.specs.Memory.{after_failure};
 
 use std::alloc::Global;
@@ -18,9 +18,9 @@ pub struct Plan {
 }
 
 impl Model for Plan {
-    ghost use Rattle.office_outside.specs.Memory.{Planned};
+    ghost use Rattle.office_outside.specs.Memory.{CallPlan};
 
-    ghost Value = { Planned };
+    ghost Value = { CallPlan };
 
     ghost view = { λ p. record {
       failing = p.failing.items;
@@ -75,8 +75,8 @@ impl Plan {
     }
 
     /// How many bytes the call that comes now moves where so many could be moved.
-    pub(crate) fn share(&self, count: usize) -> usize
-        ensures { result ≡ share_of self.now count }
+    pub(crate) fn move_size(&self, count: usize) -> usize
+        ensures { result ≡ move_size self.now count }
     {
         match self.sizes.get(self.moves) {
             Some(size) => (*size).max(1).min(count),

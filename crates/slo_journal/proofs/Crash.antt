@@ -5,7 +5,7 @@ use Rattle.std.proofs.Common.{append_assoc, length-append, take-append-drop}
 use Rattle.std.specs.declared.option.Option.{Option}
 use Rattle.std.specs.Prelude.{IfSome}
 use Rattle.std.proofs.lemmas.List.{take_at, drop_at, drop_more, append-nil}
-use Rattle.office_outside.specs.Disk.{Torn, Follows, OnlyAsRead, IsWritten, written_over, All}
+use Rattle.office_outside.specs.Disk.{Torn, Follows, OnlyAsRead, IsWritten, file_after_write, All}
 use Rattle.slo_journal.specs.File.{four, IsRecord, frame_of, Records, Parts, Closed, size_of}
 use Rattle.slo_journal.specs.File.{tail_of, Stands, EitherGate, Staged, Opened, StandsInDoubt}
 use Rattle.slo_journal.specs.File.{limit}
@@ -18,7 +18,7 @@ Begins front file = (rest : List ℕ) × (file ≡ front ++ rest)
 -- what a write that was done makes of a disk that tells
 pub was_written : (at : ℕ) (bytes : List ℕ) (old new : Option (List ℕ)) (c : List ℕ)
     → IsWritten at bytes old new → new ≡ Some c → (d : List ℕ) × (old ≡ Some d)
-    × (c ≡ written_over d at bytes)
+    × (c ≡ file_after_write d at bytes)
 was_written at bytes None None c w e = absurd (cc)
 was_written at bytes None (Some new) c w e = absurd w
 was_written at bytes (Some old) None c w e = absurd w
@@ -50,7 +50,7 @@ torn_keeps front rest c n torn =
     )
 
 -- and in what it writes
-pub written_at : (front rest bytes : List ℕ) → written_over (front ++ rest) (length front) bytes
+pub written_at : (front rest bytes : List ℕ) → file_after_write (front ++ rest) (length front) bytes
     ≡ front ++ (bytes ++ drop (length front + length bytes) (front ++ rest))
 written_at front rest bytes =
     let none : length front - length (front ++ rest) ≡ 0 =
@@ -104,8 +104,8 @@ module _ (o : ℕ) (rs : List (List ℕ)) (tail : ℕ) (is : tail ≡ tail_of rs
       let after =
       drop (length (s.front ++ 0 ∷ []) + length (frame_of r)) ((s.front ++ 0 ∷ []) ++ s.is.0) in
       let c_is : c ≡ s.front ++ 0 ∷ (frame_of r ++ after) =
-      w.2 ∙ ap (λ (l : List ℕ). written_over l (tail + 1) (frame_of r)) split
-      ∙ ap (λ k. written_over ((s.front ++ 0 ∷ []) ++ s.is.0) k (frame_of r))
+      w.2 ∙ ap (λ (l : List ℕ). file_after_write l (tail + 1) (frame_of r)) split
+      ∙ ap (λ k. file_after_write ((s.front ++ 0 ∷ []) ++ s.is.0) k (frame_of r))
       (sym (length-closed s.front s.are))
       ∙ written_at (s.front ++ 0 ∷ []) s.is.0 (frame_of r)
       ∙ append_assoc s.front (0 ∷ []) (frame_of r ++ after) in
@@ -163,8 +163,8 @@ module _ (o : ℕ) (rs : List (List ℕ)) (tail : ℕ) (is : tail ≡ tail_of rs
       let split : w.0 ≡ s.front ++ s.is.0 ∷ more = s.split
       ∙ ap (λ (l : List ℕ). s.front ++ l) s.is.2 in
       let c_is : c ≡ s.front ++ 1 ∷ more =
-      w.2 ∙ ap (λ (l : List ℕ). written_over l tail (1 ∷ [])) split
-      ∙ ap (λ k. written_over (s.front ++ s.is.0 ∷ more) k (1 ∷ [])) long
+      w.2 ∙ ap (λ (l : List ℕ). file_after_write l tail (1 ∷ [])) split
+      ∙ ap (λ k. file_after_write (s.front ++ s.is.0 ∷ more) k (1 ∷ [])) long
       ∙ written_at s.front (s.is.0 ∷ more) (1 ∷ [])
       ∙ ap (λ k. s.front ++ (1 ∷ [] ++ drop (k + 1) (s.front ++ s.is.0 ∷ more))) (sym long)
       ∙ ap (λ (l : List ℕ). s.front ++ (1 ∷ [] ++ l)) (past s.front long s.is.0 more) in

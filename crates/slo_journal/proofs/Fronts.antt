@@ -4,7 +4,7 @@ use Rattle.std.proofs.Common.{◌-◌, List, [], ◌∷◌, ◌++◌, length, ta
 use Rattle.std.proofs.Common.{sym, ap, ◌∙◌, subst, arith}
 use Rattle.std.specs.declared.option.Option.{Option}
 use Rattle.std.specs.Prelude.{IfSome, Some}
-use Rattle.office_outside.specs.Disk.{Torn, Follows, OnlyAsRead, IsWritten, written_over, All}
+use Rattle.office_outside.specs.Disk.{Torn, Follows, OnlyAsRead, IsWritten, file_after_write, All}
 use Rattle.office_outside.specs.Disk.{Always}
 use Rattle.std.proofs.lemmas.Bool.{cases_eq}
 use Rattle.std.proofs.lemmas.List.{take_all}
@@ -27,7 +27,7 @@ torn_first old new all follows c image gate origin header =
     all from.0 from.1 gate origin
     (subst (λ (l : List ℕ). IsHeader origin (take 13 (gate ∷ l))) from.2.after header)
 
-over_first : (d : List ℕ) → written_over d 0 (0 ∷ []) ≡ 0 ∷ drop 1 d
+over_first : (d : List ℕ) → file_after_write d 0 (0 ∷ []) ≡ 0 ∷ drop 1 d
 over_first d = let none : 0 - length d ≡ 0 = omega arith in
     ap (λ (k : ℕ). take 0 d ++ replicate k 0 ++ (0 ∷ []) ++ drop 1 d) none
 
@@ -69,7 +69,7 @@ header_laid h old_content new_content old new all read written only c image =
     let w = was_written 1 h old_content new_content c written (only c image) in
     let d = all w.0 (told_image old_content old w.0 read w.1) in (
       drop (1 + length h) (0 ∷ d.0),
-      w.2 ∙ ap (λ (l : List ℕ). written_over l 1 h) d.1 ∙ written_at (0 ∷ []) d.0 h,
+      w.2 ∙ ap (λ (l : List ℕ). file_after_write l 1 h) d.1 ∙ written_at (0 ∷ []) d.0 h,
     )
 
 torn_any : (h d c : List ℕ) → AnyGate h d → Torn 0 1 d c → AnyGate h c
