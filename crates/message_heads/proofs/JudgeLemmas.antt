@@ -14,7 +14,7 @@ use Rattle.httparse.specs.Spans.{IsRequestAt, IsRequestWithin, header_bytes, nam
 use Rattle.httparse.specs.Spans.{span_bytes}
 use Rattle.httparse.proofs.GrammarLemmas.{ReadsRequest-append}
 use Rattle.message_heads.specs.Fields.{fields_of, counted_length, is_encoded, closes}
-use Rattle.message_heads.specs.Judged.{judged, body_or_status}
+use Rattle.message_heads.specs.BodyLength.{length_or_status, body_or_status}
 use Rattle.message_heads.specs.Start.{Begins}
 use Rattle.message_heads.specs.declared.start.Start.TheVariants.{Head}
 use Rattle.message_heads.specs.Hearing.{Ruling, malformed, encoded, body_too_large, whole}
@@ -66,7 +66,7 @@ refused bytes h rest status reads fits few says =
     large n false counted plain over e = absurd (cc e)
 
     by : (b : Bool) (o : Option ℕ) → is_encoded (fields_of h) ≡ b → counted_length (fields_of h) ≡ o
-        → Err status ≡ judged b o → Hears bytes (Bad status)
+        → Err status ≡ length_or_status b o → Hears bytes (Bad status)
     by b None coded counted e = (
       length (print_request h),
       malformed,
@@ -100,7 +100,7 @@ fine h n few says = by (is_encoded (fields_of h)) (counted_length (fields_of h))
         }
 
     by : (b : Bool) (o : Option ℕ) → is_encoded (fields_of h) ≡ b → counted_length (fields_of h) ≡ o
-        → Ok n ≡ judged b o → IsFine h n
+        → Ok n ≡ length_or_status b o → IsFine h n
     by b None coded counted e = absurd (cc e)
     by true (Some k) coded counted e = absurd (cc e)
     by false (Some k) coded counted e = small k (nat_lt 1048576 k) counted coded refl e

@@ -17,6 +17,7 @@ use Rattle.message_heads.specs.declared.message.Hearing.TheVariants as hearing
 pub data Ruling : Type 0 where
   head_too_large malformed encoded body_too_large whole : Ruling
 
+-- the place of a ruling in that order
 abbrev pub place : Ruling → ℕ
 place head_too_large = 0
 place malformed = 1
@@ -56,6 +57,7 @@ pub record IsDecided (bytes : List ℕ) (n : ℕ) (r : Ruling) : Type 0 where
   pub first : (q : Ruling) → Holds q (take n bytes) → place r ≤ place q
   pub earlier : (m : ℕ) → m < n → IsPassed (take m bytes)
 
+-- the status of the answer, none for a whole message
 abbrev pub status_of : Ruling → Option ℕ
 status_of head_too_large = Some 431
 status_of malformed = Some 400

@@ -1,8 +1,8 @@
+pub mod BodyLength
 pub mod Fields
 pub mod Hearing
-pub mod Streams
-pub mod Start
-pub mod Named
-pub mod Judged
-pub mod Targets
 pub mod Laws
+pub mod Named
+pub mod Start
+pub mod Streams
+pub mod Targets

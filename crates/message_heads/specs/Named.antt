@@ -9,6 +9,7 @@ sort_of [] = Some None
 sort_of (v ∷ []) = Some (Some v)
 sort_of _ = None
 
+-- what was found under a name, as `sort_of` says it
 abbrev pub named_of : Named → Option (Option (List ℕ))
 named_of Absent = Some None
 named_of (One v) = Some (Some v.now)

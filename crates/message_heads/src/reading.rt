@@ -7,7 +7,7 @@ ghost use Rattle.message_heads.specs.Hearing.{Hears, IsFront, IsHeard};
 ghost use Rattle.message_heads.specs.Start.{Begins};
 ghost use Rattle.message_heads.specs.declared.start.Start.TheVariants.{Head};
 ghost use Rattle.message_heads.specs.declared.message.Hearing.TheVariants.{Bad};
-ghost use Rattle.message_heads.specs.Judged.{body_or_status};
+ghost use Rattle.message_heads.specs.BodyLength.{body_or_status};
 
 use crate::fields::{closes, counted_length, is_encoded};
 use crate::first_refused::first_refused;

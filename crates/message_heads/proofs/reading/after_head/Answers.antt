@@ -1,6 +1,6 @@
 use Rattle.std.proofs.Common.{rules, ◌≡◌, ◌≤◌, ◌<◌, ◌-◌, ◌∙◌, refl, sym, length, map, take, Err, Ok}
 use Rattle.httparse.specs.Spans.{header_bytes}
-use Rattle.message_heads.specs.Judged.{body_or_status}
+use Rattle.message_heads.specs.BodyLength.{body_or_status}
 use Rattle.message_heads.proofs.JudgeLemmas.{behind_refused, behind_more, behind_whole}
 use Rattle.message_heads.proofs.reading.after_head.Goals as goal
 
