@@ -17,6 +17,7 @@ use Rattle.sample_book.specs.declared.row_index.RowIndex.{RowIndex}
 abbrev pub is_on : List ℕ → ℕ → Row → Bool
 is_on sli day row = is_of sli row && nat_eq (row.minute / MINUTES_A_DAY) day
 
+-- the last place, counted from 1, once one more item stands in front, which may pass the test
 abbrev pub later : ℕ → Bool → ℕ
 later zero here = cond here 1 0
 later (suc n) here = suc (suc n)
@@ -26,6 +27,7 @@ abbrev pub last : {A : Type 0} → (A → Bool) → List A → ℕ
 last p [] = 0
 last p (x ∷ xs) = later (last p xs) (p x)
 
+-- the number below, none below 0
 abbrev pub below : ℕ → Option ℕ
 below zero = None
 below (suc n) = Some n
@@ -42,12 +44,15 @@ IsLastPlace p rows (Some found) =
     × ((place : ℕ) (row : Row) → found < place → slice_get rows place ≡ Some row → p row ≡ false)
     × (found < length rows)
 
+-- whether two groups are one
 abbrev pub group_eq : Group → Group → Bool
 group_eq a b = bytes_eq a.name b.name && nat_eq a.day b.day
 
+-- the group of a row among those of its indicator on its day
 abbrev pub day_group : Row → Group
 day_group row = record { name = row.sli; day = row.minute / MINUTES_A_DAY }
 
+-- the group of a row among all of its indicator
 abbrev pub sli_group : Row → Group
 sli_group row = record { name = row.sli; day = 0 }
 
@@ -73,16 +78,19 @@ pub record HasRoomFor (count : ℕ) (chains : Chains) : Type 0 where
   pub links : length chains.links.items + count ≤ vec_capacity chains.links
   pub lasts : count ≤ spare chains.lasts
 
+-- the index is of these rows
 pub record IsIndexed (rows : List Row) (index : RowIndex) : Type 0 where
   pub days : AreLinked (map day_group rows) index.days
   pub slis : AreLinked (map sli_group rows) index.slis
   pub extents : AreExtents rows index.extents
 
+-- so many rows can be added to the index without memory
 pub record IsReadyFor (count : ℕ) (index : RowIndex) : Type 0 where
   pub days : HasRoomFor count index.days
   pub slis : HasRoomFor count index.slis
   pub extents : count ≤ spare index.extents.known
 
+-- the index is of the rows, and takes a row of each cell with room
 pub record IsInOrder (rows : List Row) (room : List Cell) (index : RowIndex) : Type 0 where
   pub indexed : IsIndexed rows index
   pub ready : IsReadyFor (length room) index

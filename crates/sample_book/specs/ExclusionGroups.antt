@@ -16,9 +16,11 @@ day_of value =
     if nat_le (value.to - value.from) MINUTES_A_DAY then value.from / MINUTES_A_DAY + 1
     else 0
 
+-- the group of an exclusion: its objective's, of the day on which it begins
 abbrev pub group_of : Exclusion → Group
 group_of value = record { name = value.slo; day = day_of value }
 
+-- the same, whether it is live or not
 abbrev pub group_of_kept : Exclusion × Bool → Group
 group_of_kept kept = group_of kept.0
 
@@ -27,6 +29,7 @@ abbrev pub excludes_in : Group → ℕ → Exclusion × Bool → Bool
 excludes_in group minute kept =
     group_eq group (group_of_kept kept) && excludes group.name minute kept
 
+-- the same for the group of an objective and a day
 abbrev pub excludes_on : List ℕ → ℕ → ℕ → Exclusion × Bool → Bool
 excludes_on slo day minute kept = excludes_in (record { name = slo; day = day }) minute kept
 
@@ -36,6 +39,7 @@ room_left made capacity groups =
     min (min capacity MOST_EXCLUSIONS - length made)
     (min (vec_capacity groups.links - length groups.links.items) (spare groups.lasts))
 
+-- the exclusions are linked by their groups
 pub record AreGrouped (made : List (Exclusion × Bool)) (groups : Chains) : Type 0 where
   pub exclusions : AreExclusions made
   pub linked : AreLinked (map group_of_kept made) groups

@@ -24,6 +24,7 @@ pub record IsNamed (slis sources : List (List ℕ)) (key : Key) : Type 0 where
   pub sli : key.sli < length slis
   pub source : key.source < length sources
 
+-- so have those of each key
 abbrev pub AreNamed : List (List ℕ) → List (List ℕ) → List Key → Type 0
 AreNamed slis sources [] = Unit {0}
 AreNamed slis sources (key ∷ keys) = IsNamed slis sources key × AreNamed slis sources keys

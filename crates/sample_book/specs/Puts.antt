@@ -31,6 +31,7 @@ abbrev pub verdicts : List Row → List Row → List RowVerdict
 verdicts came [] = []
 verdicts came (row ∷ rows) = verdict_of (current_rows came) row ∷ verdicts (came ++ row ∷ []) rows
 
+-- whether a row is the first of its cell
 abbrev pub is_new : RowVerdict → Bool
 is_new New = true
 is_new _ = false
@@ -41,6 +42,7 @@ is_settled Repeated = true
 is_settled (Superseded revision) = true
 is_settled _ = false
 
+-- whether a row has the revision of its cell's row and another amount
 abbrev pub is_conflict : RowVerdict → Bool
 is_conflict (Conflict kept) = true
 is_conflict _ = false

@@ -47,6 +47,7 @@ verdict_on kept row =
     else if same_amount kept.amount row.amount then Repeated
     else Conflict kept
 
+-- the same where none may be kept
 abbrev pub verdict_where : Option Row → Row → RowVerdict
 verdict_where None row = New
 verdict_where (Some kept) row = verdict_on kept row

@@ -6,6 +6,7 @@ use Rattle.sample_book.specs.declared.row.Row.{Row}
 use Rattle.sample_book.specs.declared.stored.Stored.{Stored}
 use Rattle.sample_book.specs.Rows.{same_cell}
 
+-- current rows, and the cells that have room
 pub record Standing : Type 0 where
   pub rows : List Row
   pub room : List Cell
@@ -20,6 +21,7 @@ row_stored cell stored = record {
   amount = stored.amount;
 }
 
+-- the rows of cells, with what is stored for each
 abbrev pub rows_stored : List Cell → List Stored → List Row
 rows_stored cells stored = map (λ place. row_stored place.0 place.1) (zip cells stored)
 

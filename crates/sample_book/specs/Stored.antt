@@ -7,10 +7,12 @@ use Rattle.slice_method.specs.declared.Amount.TheVariants as amounts
 use Rattle.sample_book.specs.declared.stored.Parts.{Parts}
 use Rattle.sample_book.specs.declared.stored.Parts.TheVariants.{Events, Measured}
 
+-- the amount of parts
 abbrev pub amount_of : Parts → Amount
 amount_of (Events part total) = amounts.Counts part total
 amount_of (Measured whole billionths) = amounts.Value (whole * WHOLE + billionths)
 
+-- the parts of an amount
 abbrev pub parts_of : Amount → Parts
 parts_of (amounts.Counts part total) = Events part total
 parts_of (amounts.Value value) = Measured (value / WHOLE) (value % WHOLE)
