@@ -1,9 +1,11 @@
 -- The windows of a rule, summed up at one minute.
-use Rattle.std.specs.Prelude.{ℕ, ◌-◌, ◌≡◌, ◌≤◌, ◌<◌}
+use Rattle.std.specs.Prelude.{ℕ, ◌-◌, ◌≡◌, ◌≤◌, ◌<◌, List, [], ◌∷◌}
 use Rattle.exact_fraction.specs.declared.leaf.Leaf.{Leaf}
 use Rattle.slo_terms.specs.Sums.{most_events, slice_from, slices_until, sum_of_slices}
 use Rattle.burn_core.specs.declared.alert.AlertRule.{AlertRule}
 use Rattle.burn_core.specs.declared.alert.AlertRule.TheVariants.{Single, Page, Ticket}
+use Rattle.burn_core.specs.declared.alert.WindowPair.{WindowPair}
+use Rattle.burn_core.specs.Alert.{page_pairs, ticket_pairs}
 use Rattle.alert_line.specs.declared.window.Window.{Window}
 use Rattle.alert_line.specs.declared.cursor.PairWindows.{PairWindows}
 use Rattle.alert_line.specs.declared.cursor.Windows.{Windows}
@@ -19,11 +21,18 @@ pub record IsOver (width : ℕ) (leaf : ℕ → Leaf) (length minute : ℕ) (win
   pub few : window.sum.den ≤ most_events
 
 -- two windows hold the sums of a pair
-pub record AreOver (width : ℕ) (leaf : ℕ → Leaf) (long short above minute : ℕ)
+pub record AreOver (width : ℕ) (leaf : ℕ → Leaf) (pair : WindowPair) (minute : ℕ)
     (windows : PairWindows) : Type 0 where
-  pub pair : windows.pair ≡ record { long = long; short = short; above = above }
-  pub long_is : IsOver width leaf long minute windows.long
-  pub short_is : IsOver width leaf short minute windows.short
+  pub same : windows.pair ≡ pair
+  pub long : IsOver width leaf pair.long minute windows.long
+  pub short : IsOver width leaf pair.short minute windows.short
+
+-- windows hold the sums of pairs, each of its own
+abbrev pub AllOver : ℕ → (ℕ → Leaf) → ℕ → List WindowPair → List PairWindows → Type 0
+AllOver width leaf minute [] [] = Unit {0}
+AllOver width leaf minute (p ∷ ps) (w ∷ ws) =
+    AreOver width leaf p minute w × AllOver width leaf minute ps ws
+AllOver width leaf minute _ _ = ⊥
 
 abbrev pub rule_of : Windows → AlertRule
 rule_of (OfSingle op threshold lookback after window) = Single op threshold lookback after
@@ -35,9 +44,8 @@ abbrev pub StandAt : ℕ → (ℕ → Leaf) → ℕ → Windows → Type 0
 StandAt width leaf minute (OfSingle op threshold lookback after window) =
     IsOver width leaf lookback minute window
 StandAt width leaf minute (OfPage fast slow) =
-    AreOver width leaf 60 5 14400000000 minute fast
-    × AreOver width leaf 360 30 6000000000 minute slow
-StandAt width leaf minute (OfTicket pair) = AreOver width leaf 4320 360 1000000000 minute pair
+    AllOver width leaf minute page_pairs (fast ∷ slow ∷ [])
+StandAt width leaf minute (OfTicket pair) = AllOver width leaf minute ticket_pairs (pair ∷ [])
 
 -- a cursor of a rule, with the sums of the minute at which it stands
 pub record IsAt (alert : AlertRule) (width : ℕ) (leaf : ℕ → Leaf) (minute : ℕ)

@@ -32,8 +32,7 @@ impl PairWindows {
     ) -> PairWindows
         requires long { pair.long ≤ MAX_LOOKBACK }
         requires short { pair.short ≤ MAX_LOOKBACK }
-        ensures value { AreOver (width_of sums.now.method) (leaf_at sums.now) pair.long pair.short
-            pair.above minute result }
+        ensures value { AreOver (width_of sums.now.method) (leaf_at sums.now) pair minute result }
         ensures steps { steps.new ≤ steps.old + 1200 }
     {
         let long = Window::new(pair.long, minute, sums, steps);
@@ -43,10 +42,10 @@ impl PairWindows {
 
     fn next<L: Ledger>(self, minute: u32, sums: &WindowSums, steps: &mut Steps<L>) -> PairWindows
         requires minute { minute + 1 < 2 ^ 32 }
-        requires value { AreOver (width_of sums.now.method) (leaf_at sums.now) self.pair.long
-            self.pair.short self.pair.above minute self }
-        ensures value { AreOver (width_of sums.now.method) (leaf_at sums.now) self.pair.long
-            self.pair.short self.pair.above (minute + 1) result }
+        requires value { AreOver (width_of sums.now.method) (leaf_at sums.now) self.pair minute
+            self }
+        ensures value { AreOver (width_of sums.now.method) (leaf_at sums.now) self.pair
+            (minute + 1) result }
         ensures steps { steps.new ≤ steps.old + 4 }
     {
         let pair = self.pair;
@@ -59,8 +58,8 @@ impl PairWindows {
     fn both_burn(&self, target: Decimal, minute: u32, sums: &WindowSums) -> bool
         requires target { target < WHOLE }
         requires few { self.now.pair.above ≤ MAX_THRESHOLD }
-        requires value { AreOver (width_of sums.now.method) (leaf_at sums.now) self.now.pair.long
-            self.now.pair.short self.now.pair.above minute self.now }
+        requires value { AreOver (width_of sums.now.method) (leaf_at sums.now) self.now.pair minute
+            self.now }
         ensures { result ≡ both_burn (width_of sums.now.method) (leaf_at sums.now) target minute
             self.now.pair }
     {
