@@ -31,7 +31,7 @@ use Rattle.office_history.specs.declared.Judgement.{Judgement}
 use Rattle.office_history.specs.declared.Judgement.TheVariants.{Accepted, Same, Refused}
 use Rattle.office_history.specs.Batches.{when, objective_days}
 use Rattle.office_history.specs.History.{Office, with_entry, present, end_of, rows_of, rows_in}
-use Rattle.office_history.specs.History.{events_of, events_in, current_in, accepted_rows}
+use Rattle.office_history.specs.History.{arrivals_of, arrivals_in, current_in, accepted_rows}
 use Rattle.office_history.specs.Catalog.{catalog_in, definitions_of, members_after, text_objects}
 use Rattle.office_history.specs.Judges.{Judges, JudgesText, refused, defined, defined_verdict}
 use Rattle.office_history.specs.Judges.{known_of}
@@ -294,7 +294,7 @@ sound_with d d' s few origin entries rows puts notices read sums = record {
 
 -- an entry that brings no rows and no exclusions
 unsampled : (d d' : Derived) (o : Office) (m : ℕ) (w : Work) → Reflects d o → present o ≤ m →
-    IsStill (command_of w) → events_of (command_of w) ≡ [] → rows_of (command_of w) ≡ [] →
+    IsStill (command_of w) → arrivals_of (command_of w) ≡ [] → rows_of (command_of w) ≡ [] →
     d'.origin ≡ d.origin → d'.entries ≡ d.entries + 1 → d'.present ≡ m →
     d'.notices.made ≡ d.notices.made → d'.states.items ≡ d.states.items →
     d'.catalog ≡ fold members_after d.catalog (definitions_of (command_of w)) →
@@ -304,9 +304,9 @@ unsampled : (d d' : Derived) (o : Office) (m : ℕ) (w : Work) → Reflects d o 
 unsampled d d' o m w r later still no_events no_rows origin entries now notices states catalog zones
     rows exclusions puts =
     reflects_still d d' o m w r later still origin entries now notices states catalog zones
-    (subst (λ (p : List book.Event × List Row × List (Exclusion × Bool)). book.Holds p.0 p.1 p.2)
+    (subst (λ (p : List book.Arrival × List Row × List (Exclusion × Bool)). book.Holds p.0 p.1 p.2)
     (λ i. (
-      (sym (append-nil (events_in o.history)) ∙ ap (λ es. events_in o.history ++ es)
+      (sym (append-nil (arrivals_in o.history)) ∙ ap (λ es. arrivals_in o.history ++ es)
           (sym no_events)) i,
       sym rows i,
       sym exclusions i,

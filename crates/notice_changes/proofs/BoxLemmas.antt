@@ -8,7 +8,7 @@ use Rattle.std.proofs.lemmas.List.{length-map}
 use Rattle.std.proofs.lemmas.List.Elements.{filter-append}
 use Rattle.burn_core.specs.declared.State.{State}
 use Rattle.notice_box.specs.declared.Notice.{Notice}
-use Rattle.notice_box.specs.Box.{AreNumbered, notices_of, taken}
+use Rattle.notice_box.specs.Box.{AreNumbered, notices_of, after_taking}
 use Rattle.slo_catalog.specs.declared.Binding.{Binding}
 use Rattle.office_history.specs.Notices.{Told, notice_of, notices_from, waiting}
 use Rattle.office_history.specs.Verdicts.{is_waiting}
@@ -47,18 +47,18 @@ waiting_more xs ys = ap length (filter-append (λ (kept : Notice × Bool). kept.
 
 -- a taking lets no other notice wait
 pub waiting_fewer : (made : List (Notice × Bool)) (number : ℕ)
-    → waiting (taken made number) ≤ waiting made
+    → waiting (after_taking made number) ≤ waiting made
 waiting_fewer [] number = omega arith
 waiting_fewer (kept ∷ made) number = by kept.1 (kept.0.number == number) (waiting_fewer made number)
   where
-    by : (a b : Bool) → waiting (taken made number) ≤ waiting made
-        → waiting ((kept.0, a && not b) ∷ taken made number) ≤ waiting ((kept.0, a) ∷ made)
+    by : (a b : Bool) → waiting (after_taking made number) ≤ waiting made
+        → waiting ((kept.0, a && not b) ∷ after_taking made number) ≤ waiting ((kept.0, a) ∷ made)
     by true true h = omega (arith, h)
     by true false h = omega (arith, h)
     by false b h = h
 
 pub length_taken : (made : List (Notice × Bool)) (number : ℕ)
-    → length (taken made number) ≡ length made
+    → length (after_taking made number) ≡ length made
 length_taken made number =
     length-map made (λ (kept : Notice × Bool). (kept.0, kept.1 && not (kept.0.number == number)))
 

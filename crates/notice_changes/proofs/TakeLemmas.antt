@@ -6,7 +6,7 @@ use Rattle.std.proofs.lemmas.Bool.Decides.{eqb_tells}
 use Rattle.std.proofs.lemmas.List.{append-nil, length-map}
 use Rattle.slo_limits.specs.declared.TheConstants as most
 use Rattle.notice_box.specs.declared.Notice.{Notice}
-use Rattle.notice_box.specs.Box.{taken}
+use Rattle.notice_box.specs.Box.{after_taking}
 use Rattle.sample_book.specs.Rows.{current_rows}
 use Rattle.sample_book.specs.History as book
 use Rattle.sample_book.specs.History.{Holds}
@@ -16,7 +16,7 @@ use Rattle.record_form.specs.declared.Outcome.TheVariants.{Changed}
 use Rattle.record_form.specs.declared.Refusal.TheVariants as refusals
 use Rattle.office_history.specs.declared.Judgement.TheVariants.{Accepted, Same, Refused}
 use Rattle.office_history.specs.History.{Office, with_entry, present, rows_in, changes_in}
-use Rattle.office_history.specs.History.{events_in, accepted_rows}
+use Rattle.office_history.specs.History.{arrivals_in, accepted_rows}
 use Rattle.office_history.specs.Zones.{zones_in}
 use Rattle.office_history.specs.Judges.{Judges}
 use Rattle.office_history.specs.Notices.{is_taken, notices_in, notices_from, told_in, waiting}
@@ -60,7 +60,7 @@ next_within d o moment number r judged =
 
 -- the notices behind a taking
 pub notices_taken : (o : Office) (moment number : ℕ)
-    → taken (notices_in o) number ≡ notices_in (with_entry o (take_at moment number))
+    → after_taking (notices_in o) number ≡ notices_in (with_entry o (take_at moment number))
 notices_taken o moment number =
     all (notices_from 1 (told_in o))
     ∙ ap (λ ts. map (λ (n : Notice). (
@@ -74,7 +74,7 @@ notices_taken o moment number =
     both false b = refl
 
     all : (ns : List Notice)
-        → taken (map (λ (n : Notice). (n, not (is_taken o.history n.number))) ns) number
+        → after_taking (map (λ (n : Notice). (n, not (is_taken o.history n.number))) ns) number
         ≡ map (λ (n : Notice). (
           n,
           not (is_taken (o.history ++ take_at moment number ∷ []) n.number),
@@ -92,7 +92,7 @@ pub reflects_take : (d d' : Derived) (o : Office) (moment number : ℕ) → Refl
     d'.origin ≡ d.origin → d'.entries ≡ d.entries + 1 → d'.present ≡ moment →
     d'.catalog ≡ d.catalog → d'.zones.kept ≡ d.zones.kept →
     d'.book.rows ≡ d.book.rows → d'.book.exclusions ≡ d.book.exclusions → d'.accepted ≡ d.accepted →
-    d'.notices.made ≡ taken d.notices.made number → d'.states.items ≡ d.states.items →
+    d'.notices.made ≡ after_taking d.notices.made number → d'.states.items ≡ d.states.items →
     Reflects d' (with_entry o (take_at moment number))
 reflects_take d d' o moment number r later within origin entries now catalog zones rows exclusions
     accepted notices kept =
@@ -109,12 +109,13 @@ reflects_take d d' o moment number r later within origin entries now catalog zon
       exclusions = exclusions ∙ r.exclusions ∙ ap book.exclusions_of
           (sym (changes_more o.history e ∙ append-nil (changes_in o.history)));
       held = subst (λ es. Holds es d'.book.rows d'.book.exclusions)
-          (sym (events_more o.history e ∙ append-nil (events_in o.history)))
-          (subst (λ rs. Holds (events_in o.history) rs d'.book.exclusions) (sym rows)
-          (subst (λ xs. Holds (events_in o.history) d.book.rows xs) (sym exclusions) r.held));
+          (sym (events_more o.history e ∙ append-nil (arrivals_in o.history)))
+          (subst (λ rs. Holds (arrivals_in o.history) rs d'.book.exclusions) (sym rows)
+          (subst (λ xs. Holds (arrivals_in o.history) d.book.rows xs) (sym exclusions) r.held));
       accepted = accepted ∙ r.accepted
           ∙ ap accepted_rows (sym (rows_more o.history e ∙ append-nil (rows_in o.history)));
-      notices = notices ∙ ap (λ made. taken made number) r.notices ∙ notices_taken o moment number;
+      notices = notices ∙ ap (λ made. after_taking made number) r.notices
+          ∙ notices_taken o moment number;
       states = kept ∙ r.states ∙ sym (states_still o e refl);
       numbers = λ k above. taken_more o.history e k
           ∙ none k (subst (λ ts. length ts < k) (told_still o e refl) above);
@@ -142,12 +143,12 @@ pub sound_take : (d d' : Derived) (number : ℕ) → IsSound d →
     d'.origin ≡ d.origin → d'.entries ≡ d.entries + 1 → d'.catalog ≡ d.catalog →
     d'.book.rows ≡ d.book.rows → d'.book.exclusions ≡ d.book.exclusions →
     d'.sums.kept ≡ d.sums.kept → d'.accepted ≡ d.accepted →
-    d'.notices.made ≡ taken d.notices.made number →
+    d'.notices.made ≡ after_taking d.notices.made number →
     waiting d.notices.made ≤ waiting d'.notices.made + 1 → d.entries < most.MAX_ENTRIES → IsSound d'
 sound_take d d' number s origin entries catalog rows exclusions kept accepted notices one below =
     let many : length d'.notices.made ≡ length d.notices.made = ap length notices
     ∙ length_taken d.notices.made number in
-    let wait : waiting d'.notices.made ≡ waiting (taken d.notices.made number) =
+    let wait : waiting d'.notices.made ≡ waiting (after_taking d.notices.made number) =
     ap waiting notices in
     sound_still d d' s origin catalog exclusions rows kept accepted
     (omega (arith, entries, below))

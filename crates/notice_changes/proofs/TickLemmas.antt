@@ -19,7 +19,7 @@ use Rattle.record_form.specs.declared.LimitName.TheVariants as limits
 use Rattle.office_history.specs.declared.Judgement.{Judgement}
 use Rattle.office_history.specs.declared.Judgement.TheVariants.{Accepted, Same, Refused}
 use Rattle.office_history.specs.History.{Office, with_entry, present, rows_in, changes_in}
-use Rattle.office_history.specs.History.{events_in, accepted_rows}
+use Rattle.office_history.specs.History.{arrivals_in, accepted_rows}
 use Rattle.office_history.specs.Catalog.{catalog_in}
 use Rattle.office_history.specs.Zones.{zones_in}
 use Rattle.office_history.specs.Alerts.{state_if, states_at, watch_of}
@@ -246,9 +246,9 @@ reflects_tick d d' o moment states told r later are_states are_told origin entri
       rows = rows ∙ r.rows ∙ ap current_rows (sym (rows_still o moment));
       exclusions = exclusions ∙ r.exclusions ∙ ap book.exclusions_of (sym (changes_still o moment));
       held = subst (λ es. Holds es d'.book.rows d'.book.exclusions)
-          (sym (events_more o.history e ∙ append-nil (events_in o.history)))
-          (subst (λ rs. Holds (events_in o.history) rs d'.book.exclusions) (sym rows)
-          (subst (λ xs. Holds (events_in o.history) d.book.rows xs) (sym exclusions) r.held));
+          (sym (events_more o.history e ∙ append-nil (arrivals_in o.history)))
+          (subst (λ rs. Holds (arrivals_in o.history) rs d'.book.exclusions) (sym rows)
+          (subst (λ xs. Holds (arrivals_in o.history) d.book.rows xs) (sym exclusions) r.held));
       accepted = accepted ∙ r.accepted ∙ ap accepted_rows (sym (rows_still o moment));
       notices = notices ∙ (λ i. r.notices i ++ new_notices moment (length (r.notices i) + 1) told)
           ∙ notices_told o moment told are_told r.numbers;

@@ -1,7 +1,7 @@
 //! Takings of notices.
 ghost use Rattle.std.specs.Prelude.{◌≡◌, ◌≤◌, ◌<◌, ◌+◌, ℕ, length};
 ghost use Rattle.record_form.specs.declared.Command.TheVariants.{Take};
-ghost use Rattle.notice_box.specs.Box.{count_waiting, taken};
+ghost use Rattle.notice_box.specs.Box.{count_waiting, after_taking};
 ghost use Rattle.office_history.specs.History.{Office, with_entry};
 ghost use Rattle.office_history.specs.Outcomes.{outcome_of};
 ghost use Rattle.office_history.specs.Verdicts.{is_waiting as is_waiting_lem, take_verdict};
@@ -56,7 +56,7 @@ pub fn judge_take(derived: &Derived, number: u32) -> Judged
 fn take(notices: &mut NoticeBox, number: u32)
     requires some { 0 < number }
     requires made { number ≤ length notices.old.made }
-    ensures made { notices.new.made ≡ taken notices.old.made number }
+    ensures made { notices.new.made ≡ after_taking notices.old.made number }
     ensures one { count_waiting notices.old.made ≤ count_waiting notices.new.made + 1 }
 {
     match notices.take(number) {

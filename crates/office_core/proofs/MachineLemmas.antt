@@ -16,7 +16,7 @@ use Rattle.record_form.specs.Ranges.{FitsRecord}
 use Rattle.record_form.specs.Histories.{AreRecords, history_of}
 use Rattle.record_form.specs.Laws.{NoBytesAreNoHistory, OneRecordMore}
 use Rattle.office_history.specs.declared.Judgement.TheVariants.{Accepted}
-use Rattle.office_history.specs.History.{Office, with_entry, events_in, present, end_of}
+use Rattle.office_history.specs.History.{Office, with_entry, arrivals_in, present, end_of}
 use Rattle.office_history.specs.Judges.{Judges}
 use Rattle.office_history.specs.Notices.{waiting}
 use Rattle.office_history.specs.Legal.{IsLegal, MayFollow, empty, followed}
@@ -152,8 +152,8 @@ stays_reflects d d' o s r = record {
   zones = s.zones ∙ r.zones;
   rows = s.rows ∙ r.rows;
   exclusions = s.exclusions ∙ r.exclusions;
-  held = subst (λ (rows : List Row). Holds (events_in o.history) rows d'.book.exclusions)
-      (sym s.rows) (subst (Holds (events_in o.history) d.book.rows) (sym s.exclusions) r.held);
+  held = subst (λ (rows : List Row). Holds (arrivals_in o.history) rows d'.book.exclusions)
+      (sym s.rows) (subst (Holds (arrivals_in o.history) d.book.rows) (sym s.exclusions) r.held);
   accepted = s.accepted ∙ r.accepted;
   notices = s.notices ∙ r.notices;
   states = s.states ∙ r.states;

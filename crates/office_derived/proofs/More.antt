@@ -6,7 +6,7 @@ use Rattle.std.proofs.lemmas.List.{append-nil}
 use Rattle.std.proofs.lemmas.List.Folds.{list_any-append}
 use Rattle.std.proofs.lemmas.Grind.{flat_map-append, fold-append}
 use Rattle.sample_book.specs.declared.Row.{Row}
-use Rattle.sample_book.specs.History.{Event, Came, Changed}
+use Rattle.sample_book.specs.History.{Arrival, Came, Changed}
 use Rattle.sample_book.specs.History as book
 use Rattle.kept_objectives.specs.record_form.declared.Command.{Command}
 use Rattle.kept_objectives.specs.record_form.declared.Command.TheVariants.{Define, Remove, PutZone}
@@ -16,7 +16,7 @@ use Rattle.kept_objectives.specs.record_form.declared.Command.TheVariants.{Take}
 use Rattle.kept_objectives.specs.record_form.declared.Entry.{Entry}
 use Rattle.kept_objectives.specs.office_history.History.{Office, with_entry, present, rows_of}
 use Rattle.kept_objectives.specs.office_history.History.{rows_in, changes_of}
-use Rattle.kept_objectives.specs.office_history.History.{changes_in, events_of, events_in}
+use Rattle.kept_objectives.specs.office_history.History.{changes_in, arrivals_of, arrivals_in}
 use Rattle.kept_objectives.specs.office_history.Catalog.{catalog_in, definitions_of, definitions_in}
 use Rattle.kept_objectives.specs.office_history.Catalog.{members_after}
 use Rattle.kept_objectives.specs.office_history.Zones.{zones_of, zones_in}
@@ -39,8 +39,8 @@ pub changes_more : (h : List Entry) (e : Entry)
 changes_more h e = flat_more (λ (e : Entry). changes_of e.command) h e
 
 pub events_more : (h : List Entry) (e : Entry)
-    → events_in (h ++ e ∷ []) ≡ events_in h ++ events_of e.command
-events_more h e = flat_more (λ (e : Entry). events_of e.command) h e
+    → arrivals_in (h ++ e ∷ []) ≡ arrivals_in h ++ arrivals_of e.command
+events_more h e = flat_more (λ (e : Entry). arrivals_of e.command) h e
 
 pub zones_more : (h : List Entry) (e : Entry)
     → zones_in (h ++ e ∷ []) ≡ zones_in h ++ zones_of e.command
@@ -77,7 +77,7 @@ taken_more h e number = list_any-append (λ (e : Entry). is_taking number e.comm
     or-false true = refl
     or-false false = refl
 
--- what the events of a history come to for its rows and exclusions
+-- what the arrivals of a history come to for its rows and exclusions
 of_rows : (rows : List Row) → book.rows_in (map Came rows) ≡ rows
 of_rows [] = refl
 of_rows (row ∷ rows) = ap (λ rs. row ∷ rs) (of_rows rows)
@@ -86,18 +86,18 @@ no_changes : (rows : List Row) → book.changes_in (map Came rows) ≡ []
 no_changes [] = refl
 no_changes (row ∷ rows) = no_changes rows
 
-rows-append : (xs ys : List Event) → book.rows_in (xs ++ ys) ≡ book.rows_in xs ++ book.rows_in ys
+rows-append : (xs ys : List Arrival) → book.rows_in (xs ++ ys) ≡ book.rows_in xs ++ book.rows_in ys
 rows-append [] ys = refl
 rows-append (Came row ∷ xs) ys = ap (λ rs. row ∷ rs) (rows-append xs ys)
 rows-append (Changed change ∷ xs) ys = rows-append xs ys
 
-changes-append : (xs ys : List Event)
+changes-append : (xs ys : List Arrival)
     → book.changes_in (xs ++ ys) ≡ book.changes_in xs ++ book.changes_in ys
 changes-append [] ys = refl
 changes-append (Came row ∷ xs) ys = changes-append xs ys
 changes-append (Changed change ∷ xs) ys = ap (λ cs. change ∷ cs) (changes-append xs ys)
 
-command_rows : (c : Command) → book.rows_in (events_of c) ≡ rows_of c
+command_rows : (c : Command) → book.rows_in (arrivals_of c) ≡ rows_of c
 command_rows (Samples rows) = of_rows rows
 command_rows (Exclude value) = refl
 command_rows (Lift id) = refl
@@ -107,7 +107,7 @@ command_rows (PutZone name bytes) = refl
 command_rows Tick = refl
 command_rows (Take number) = refl
 
-command_changes : (c : Command) → book.changes_in (events_of c) ≡ changes_of c
+command_changes : (c : Command) → book.changes_in (arrivals_of c) ≡ changes_of c
 command_changes (Samples rows) = no_changes rows
 command_changes (Exclude value) = refl
 command_changes (Lift id) = refl
@@ -117,12 +117,12 @@ command_changes (PutZone name bytes) = refl
 command_changes Tick = refl
 command_changes (Take number) = refl
 
-pub event_rows : (h : List Entry) → book.rows_in (events_in h) ≡ rows_in h
+pub event_rows : (h : List Entry) → book.rows_in (arrivals_in h) ≡ rows_in h
 event_rows [] = refl
-event_rows (e ∷ h) = rows-append (events_of e.command) (events_in h)
+event_rows (e ∷ h) = rows-append (arrivals_of e.command) (arrivals_in h)
     ∙ (λ i. command_rows e.command i ++ event_rows h i)
 
-pub event_changes : (h : List Entry) → book.changes_in (events_in h) ≡ changes_in h
+pub event_changes : (h : List Entry) → book.changes_in (arrivals_in h) ≡ changes_in h
 event_changes [] = refl
-event_changes (e ∷ h) = changes-append (events_of e.command) (events_in h)
+event_changes (e ∷ h) = changes-append (arrivals_of e.command) (arrivals_in h)
     ∙ (λ i. command_changes e.command i ++ event_changes h i)

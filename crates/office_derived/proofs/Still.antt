@@ -11,8 +11,8 @@ use Rattle.kept_objectives.specs.record_form.declared.Command.{Command}
 use Rattle.kept_objectives.specs.record_form.declared.Entry.{Entry}
 use Rattle.notice_box.specs.declared.Notice.{Notice}
 use Rattle.kept_objectives.specs.office_history.History.{Office, with_entry, present, rows_of}
-use Rattle.kept_objectives.specs.office_history.History.{rows_in, events_of}
-use Rattle.kept_objectives.specs.office_history.History.{events_in, accepted_rows}
+use Rattle.kept_objectives.specs.office_history.History.{rows_in, arrivals_of}
+use Rattle.kept_objectives.specs.office_history.History.{arrivals_in, accepted_rows}
 use Rattle.kept_objectives.specs.office_history.Catalog.{definitions_of, members_after}
 use Rattle.kept_objectives.specs.office_history.Zones.{zones_of}
 use Rattle.kept_objectives.specs.office_history.Notices.{is_tick, tick_of, ticks_in, last_states}
@@ -85,13 +85,13 @@ pub reflects_still : (d d' : Derived) (o : Office) (moment : ℕ) (work : Work) 
     d'.notices.made ≡ d.notices.made → d'.states.items ≡ d.states.items →
     d'.catalog ≡ fold members_after d.catalog (definitions_of (command_of work)) →
     d'.zones.kept ≡ d.zones.kept ++ zones_of (command_of work) →
-    Holds (events_in o.history ++ events_of (command_of work)) d'.book.rows d'.book.exclusions →
+    Holds (arrivals_in o.history ++ arrivals_of (command_of work)) d'.book.rows d'.book.exclusions →
     d'.accepted ≡ accepted_rows (rows_in o.history ++ rows_of (command_of work)) →
     Reflects d' (with_entry o (entry_of moment work))
 reflects_still d d' o moment work r later still origin entries now notices states catalog zones
     held accepted =
     let e = entry_of moment work in
-    let holds : Holds (events_in (o.history ++ e ∷ [])) d'.book.rows d'.book.exclusions =
+    let holds : Holds (arrivals_in (o.history ++ e ∷ [])) d'.book.rows d'.book.exclusions =
     subst (λ es. Holds es d'.book.rows d'.book.exclusions) (sym (events_more o.history e)) held in
     record {
       origin = origin ∙ r.origin;
@@ -102,10 +102,10 @@ reflects_still d d' o moment work r later still origin entries now notices state
           ∙ sym (catalog_more o.history e);
       zones = zones ∙ ap (λ zs. zs ++ zones_of (command_of work)) r.zones
           ∙ sym (zones_more o.history e);
-      rows = rows-held (events_in (o.history ++ e ∷ [])) d'.book.rows d'.book.exclusions holds
+      rows = rows-held (arrivals_in (o.history ++ e ∷ [])) d'.book.rows d'.book.exclusions holds
           ∙ ap current_rows (event_rows (o.history ++ e ∷ []));
       exclusions =
-          exclusions-held (events_in (o.history ++ e ∷ [])) d'.book.rows d'.book.exclusions holds
+          exclusions-held (arrivals_in (o.history ++ e ∷ [])) d'.book.rows d'.book.exclusions holds
           ∙ ap book.exclusions_of (event_changes (o.history ++ e ∷ []));
       held = holds;
       accepted = accepted ∙ ap accepted_rows (sym (rows_more o.history e));

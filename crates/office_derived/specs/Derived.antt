@@ -23,7 +23,7 @@ use Rattle.kept_objectives.specs.office_history.declared.Judgement.TheVariants.{
 use Rattle.kept_objectives.specs.office_history.declared.Judgement.TheVariants.{Refused}
 use Rattle.kept_objectives.specs.office_history.History.{Office, end_of, present, rows_in}
 use Rattle.kept_objectives.specs.office_history.History.{current_in}
-use Rattle.kept_objectives.specs.office_history.History.{exclusions_in, events_in, accepted_rows}
+use Rattle.kept_objectives.specs.office_history.History.{exclusions_in, arrivals_in, accepted_rows}
 use Rattle.kept_objectives.specs.office_history.Catalog.{catalog_in, text_objects}
 use Rattle.kept_objectives.specs.office_history.Zones.{zones_in}
 use Rattle.kept_objectives.specs.office_history.Objectives.{reading_named}
@@ -68,7 +68,7 @@ pub record Reflects (d : Derived) (o : Office) : Type 0 where
   pub zones : d.zones.kept ≡ zones_in o.history
   pub rows : d.book.rows ≡ current_in o.history
   pub exclusions : d.book.exclusions ≡ exclusions_in o.history
-  pub held : Holds (events_in o.history) d.book.rows d.book.exclusions
+  pub held : Holds (arrivals_in o.history) d.book.rows d.book.exclusions
   pub accepted : d.accepted ≡ accepted_rows (rows_in o.history)
   pub notices : d.notices.made ≡ notices_in o
   pub states : d.states.items ≡ last_states o

@@ -7,7 +7,7 @@ use Rattle.sample_book.specs.declared.Exclusion.{Exclusion}
 use Rattle.sample_book.specs.Exclusions.{Change, Excluded, Lifted}
 use Rattle.sample_book.specs.Rows.{current_rows}
 use Rattle.sample_book.specs.Puts.{verdicts}
-use Rattle.sample_book.specs.History.{Event, Came, Changed, exclusions_of, is_put}
+use Rattle.sample_book.specs.History.{Arrival, Came, Changed, exclusions_of, is_put}
 use Rattle.definition_verdict.specs.record_form.declared.Command.{Command}
 use Rattle.definition_verdict.specs.record_form.declared.Command.TheVariants.{Samples, Exclude}
 use Rattle.definition_verdict.specs.record_form.declared.Command.TheVariants.{Lift}
@@ -63,12 +63,12 @@ changes_in history = flat_map (λ (e : Entry). changes_of e.command) history
 abbrev pub exclusions_in : List Entry → List (Exclusion × Bool)
 exclusions_in history = exclusions_of (changes_in history)
 
-abbrev pub events_of : Command → List Event
-events_of (Samples rows) = map Came rows
-events_of (Exclude value) = Changed (Excluded value) ∷ []
-events_of (Lift id) = Changed (Lifted id) ∷ []
-events_of _ = []
+abbrev pub arrivals_of : Command → List Arrival
+arrivals_of (Samples rows) = map Came rows
+arrivals_of (Exclude value) = Changed (Excluded value) ∷ []
+arrivals_of (Lift id) = Changed (Lifted id) ∷ []
+arrivals_of _ = []
 
 -- what happens to the book of samples, in order
-abbrev pub events_in : List Entry → List Event
-events_in history = flat_map (λ (e : Entry). events_of e.command) history
+abbrev pub arrivals_in : List Entry → List Arrival
+arrivals_in history = flat_map (λ (e : Entry). arrivals_of e.command) history

@@ -7,7 +7,7 @@ use Rattle.sample_book.specs.Book.{Book}
 use Rattle.sample_book.specs.History.{Holds}
 use Rattle.record_form.specs.declared.Command.{Command}
 use Rattle.office_history.specs.Catalog.{definitions_of, members_after}
-use Rattle.office_history.specs.History.{Office, accepted_rows, events_in, events_of, rows_in}
+use Rattle.office_history.specs.History.{Office, accepted_rows, arrivals_in, arrivals_of, rows_in}
 use Rattle.office_history.specs.History.{rows_of, with_entry}
 use Rattle.office_history.specs.Zones.{zones_of}
 use Rattle.office_derived.specs.declared.Derived.{Derived}
@@ -33,7 +33,7 @@ pub record IsOfExclusions (c : Command) : Type 0 where
 -- it is what the history with the entry says
 pub change_reflected : (d : Derived) (book : Book) (sums : KeptObjectives) (o : Office)
     (moment : ℕ) (work : Work) → IsNext d o moment work → IsOfExclusions (command_of work) →
-    Holds (events_in o.history ++ events_of (command_of work)) book.rows book.exclusions →
+    Holds (arrivals_in o.history ++ arrivals_of (command_of work)) book.rows book.exclusions →
     Reflects (changed d book sums moment) (with_entry o (entry_of moment work))
 change_reflected d book sums o moment work next only held =
     reflects_still d (changed d book sums moment) o moment work next.reflects next.later only.still

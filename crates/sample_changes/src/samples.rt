@@ -6,7 +6,7 @@ ghost use Rattle.slo_limits.specs.declared.TheConstants.{MAX_BATCH_ROWS as most_
 ghost use Rattle.slo_limits.specs.declared.TheConstants.{MAX_MINUTE, RANGE_MINUTES};
 ghost use Rattle.sample_book.specs.declared.RowVerdict.{RowVerdict};
 ghost use Rattle.sample_book.specs.Rows.{cell_of, current_rows, verdict_of};
-ghost use Rattle.sample_book.specs.History.{Came, Event, Gains, Holds, MayComeAll, MayComeAs};
+ghost use Rattle.sample_book.specs.History.{Came, Arrival, Gains, Holds, MayComeAll, MayComeAs};
 ghost use Rattle.sample_book.specs.History.{is_put as is_put_lem, room_after};
 ghost use Rattle.sample_book.specs.Puts.{verdicts as verdicts_lem};
 ghost use Rattle.record_form.specs.declared.Command.TheVariants as commands;
@@ -243,8 +243,8 @@ fn put_row(book: &mut SampleBook, row: &Row)
 /// Puts the rows of a batch, in order.
 fn put_rows(book: &mut SampleBook, rows: &[Row])
     requires { MayComeAll book.old.rows book.old.room rows.now }
-    ensures history { (events : List Event) → Holds events book.old.rows book.old.exclusions →
-        Holds (events ++ map Came rows.now) book.new.rows book.new.exclusions }
+    ensures history { (arrivals : List Arrival) → Holds arrivals book.old.rows book.old.exclusions →
+        Holds (arrivals ++ map Came rows.now) book.new.rows book.new.exclusions }
     ensures exclusions { book.new.exclusions ≡ book.old.exclusions }
 {
     for row in rows {

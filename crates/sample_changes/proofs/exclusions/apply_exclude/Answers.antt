@@ -1,6 +1,6 @@
 use Rattle.std.proofs.Common.{refl, true}
 use Rattle.office_derived.specs.kept_sums.Walks.{made_on}
-use Rattle.office_history.specs.History.{events_in}
+use Rattle.office_history.specs.History.{arrivals_in}
 use Rattle.office_derived.specs.declared.Work.TheVariants as works
 use Rattle.office_derived.proofs.FormLemmas.{sound_forms}
 use Rattle.sample_changes.proofs.ExclusionLemmas.{change_reflected, change_sound}
@@ -21,7 +21,7 @@ returns-clause-reflects c o next =
       no_zone = refl;
       no_row = refl;
     })
-    (c.exclude.ensures.history (events_in o.history) next.reflects.held)
+    (c.exclude.ensures.history (arrivals_in o.history) next.reflects.held)
 
 pub returns-clause-sound : goal.returns-clause-sound
 returns-clause-sound c =

@@ -1,7 +1,7 @@
 use Rattle.std.proofs.Common.{◌++◌, ◌∷◌, [], refl, sym, subst, true, List}
 use Rattle.sample_book.specs.declared.Row.{Row}
 use Rattle.office_derived.specs.kept_objectives.Objectives.{HaveForms}
-use Rattle.office_history.specs.History.{events_in}
+use Rattle.office_history.specs.History.{arrivals_in}
 use Rattle.office_derived.specs.declared.Work.TheVariants as works
 use Rattle.office_derived.proofs.FormLemmas.{sound_forms}
 use Rattle.sample_changes.proofs.ExclusionLemmas.{change_reflected, change_sound}
@@ -36,7 +36,7 @@ returns-clause-reflects c o next =
       no_zone = refl;
       no_row = refl;
     })
-    (c.lift.ensures.history (events_in o.history) next.reflects.held)
+    (c.lift.ensures.history (arrivals_in o.history) next.reflects.held)
 
 pub returns-clause-sound : goal.returns-clause-sound
 returns-clause-sound c =

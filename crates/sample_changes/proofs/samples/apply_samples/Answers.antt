@@ -4,7 +4,7 @@ use Rattle.sample_book.specs.declared.Row.{Row}
 use Rattle.sample_book.specs.History.{Came, Holds, MayComeAll}
 use Rattle.sample_book.specs.Rows.{current_rows}
 use Rattle.office_derived.specs.kept_objectives.Objectives.{AreKept, HaveForms}
-use Rattle.office_history.specs.History.{events_in, with_entry}
+use Rattle.office_history.specs.History.{arrivals_in, with_entry}
 use Rattle.office_derived.specs.declared.Derived.{Derived}
 use Rattle.office_derived.specs.declared.Work.TheVariants as works
 use Rattle.office_derived.specs.Derived.{Reflects, entry_of}
@@ -58,9 +58,9 @@ returns-clause-reflects c o next =
     next.reflects next.later (record { no_tick = refl; no_taking = λ number. refl }) refl refl
     refl refl refl refl
     (sym (append-nil d.zones.kept))
-    (subst (λ (rows : List Row). Holds (events_in o.history ++ map Came rows)
+    (subst (λ (rows : List Row). Holds (arrivals_in o.history ++ map Came rows)
     c.put_rows.new.book.rows c.put_rows.new.book.exclusions) c.as_slice-batch.ensures
-    (c.put_rows.ensures.history (events_in o.history) next.reflects.held))
+    (c.put_rows.ensures.history (arrivals_in o.history) next.reflects.held))
     (samples_taken d o c.args.moment c.args.rows tally c.args.verdicts next)
 
 pub returns-clause-sound : goal.returns-clause-sound
@@ -82,9 +82,9 @@ returns-clause-sound c =
     reflects_still d d' o c.args.moment (works.Samples rows tally becomes) next.reflects next.later
     (record { no_tick = refl; no_taking = λ number. refl }) refl refl refl refl refl refl
     (sym (append-nil d.zones.kept))
-    (subst (λ (rows : List Row). Holds (events_in o.history ++ map Came rows)
+    (subst (λ (rows : List Row). Holds (arrivals_in o.history ++ map Came rows)
     c.put_rows.new.book.rows c.put_rows.new.book.exclusions) c.as_slice-batch.ensures
-    (c.put_rows.ensures.history (events_in o.history) next.reflects.held))
+    (c.put_rows.ensures.history (arrivals_in o.history) next.reflects.held))
     (samples_taken d o c.args.moment rows tally becomes next) in
     samples_sound d d' o c.args.moment rows tally becomes c.requires.sound next r refl refl refl
     refl
