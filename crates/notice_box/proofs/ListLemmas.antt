@@ -7,8 +7,8 @@ use Rattle.std.specs.List.{list_any}
 use Rattle.std.proofs.lemmas.List.Elements.{filter-append}
 use Rattle.std.proofs.lemmas.Bool.Decides.{eqb_tells}
 use Rattle.notice_box.specs.declared.notice.Notice.{Notice}
-use Rattle.notice_box.specs.Box.{AreNumbered, IsNext, count_waiting, no_notice, notices_of, taken}
-use Rattle.notice_box.specs.Box.{waiting_in, waits}
+use Rattle.notice_box.specs.Box.{AreNumbered, IsNext, after_taking, count_waiting, no_notice}
+use Rattle.notice_box.specs.Box.{notices_of, waiting_in, waits}
 use Rattle.notice_box.specs.Laws.{TakingsAreFew}
 
 abbrev Kept : Type 0
@@ -32,7 +32,7 @@ AreNumbered-push number (first ∷ rest) kept are is =
 
 -- later numbers are greater, so none of them is taken by an earlier number
 untouched : (from number : ℕ) (made : List Kept) → number < from
-    → AreNumbered from (notices_of made) → taken made number ≡ made
+    → AreNumbered from (notices_of made) → after_taking made number ≡ made
 untouched from number [] lt are = refl
 untouched from number (kept ∷ rest) lt are =
     by (eqb_tells kept.0.number number) (untouched (from + 1) number rest (omega arith) are.1)
@@ -43,15 +43,16 @@ untouched from number (kept ∷ rest) lt are =
 
     by : ((nat_eq kept.0.number number ≡ true) × (kept.0.number ≡ number))
         ⊎ ((nat_eq kept.0.number number ≡ false) × (kept.0.number ≢ number)) →
-        taken rest number ≡ rest →
-        (kept.0, kept.1 && not (kept.0.number == number)) ∷ taken rest number ≡ kept ∷ rest
+        after_taking rest number ≡ rest →
+        (kept.0, kept.1 && not (kept.0.number == number)) ∷ after_taking rest number ≡ kept ∷ rest
     by (inl same) e = absurd (omega (arith, same.1, are.0))
     by (inr other) e = rw (other.0, waited kept.1) (ap (λ l. kept ∷ l) e)
 
 -- to take the notice of a number is to set the flag at its place
 pub taken-set : (number : ℕ) (made : List Kept) (place : ℕ) (d : Kept) → place < length made →
     AreNumbered number (notices_of made) →
-    slice_set made place ((slice_index_or made place d).0, false) ≡ taken made (number + place)
+    slice_set made place ((slice_index_or made place d).0, false)
+    ≡ after_taking made (number + place)
 taken-set number [] place d lt are = absurd (omega arith)
 taken-set number (kept ∷ rest) zero d lt are = by (eqb_tells kept.0.number (number + 0))
   where
@@ -64,7 +65,7 @@ taken-set number (kept ∷ rest) zero d lt are = by (eqb_tells kept.0.number (nu
         (kept.0, false) ∷ rest ≡ (
           kept.0,
           kept.1 && not (kept.0.number == number + 0),
-        ) ∷ taken rest (number + 0)
+        ) ∷ after_taking rest (number + 0)
     by (inl same) = rw (same.0, none kept.1) (ap (λ l. (kept.0, false) ∷ l)
         (sym (untouched (number + 1) (number + 0) rest (omega arith) are.1)))
     by (inr other) = absurd (other.1 (omega (arith, are.0)))
@@ -85,17 +86,17 @@ taken-set number (kept ∷ rest) (suc place) d lt are =
         slice_set rest place (
           (slice_index_or rest place d).0,
           false,
-        ) ≡ taken rest (number + 1 + place) →
+        ) ≡ after_taking rest (number + 1 + place) →
         kept ∷ slice_set rest place ((slice_index_or rest place d).0, false) ≡ (
           kept.0,
           kept.1 && not (kept.0.number == number + suc place),
-        ) ∷ taken rest (number + suc place)
+        ) ∷ after_taking rest (number + suc place)
     by (inl same) e = absurd (omega (arith, same.1, are.0))
     by (inr other) e =
-        rw (other.0, waited kept.1) (ap (λ l. kept ∷ l) (e ∙ ap (taken rest) same_number))
+        rw (other.0, waited kept.1) (ap (λ l. kept ∷ l) (e ∙ ap (after_taking rest) same_number))
 
 pub AreNumbered-taken : (from number : ℕ) (made : List Kept) → AreNumbered from (notices_of made)
-    → AreNumbered from (notices_of (taken made number))
+    → AreNumbered from (notices_of (after_taking made number))
 AreNumbered-taken from number [] are = tt
 AreNumbered-taken from number (kept ∷ rest) are =
     (are.0, AreNumbered-taken (from + 1) number rest are.1)
@@ -163,7 +164,7 @@ count-few (first ∷ rest) = by first.1 (count-few rest)
 
 -- where a notice doesn't wait, to take it changes nothing
 pub taken-idle : (number : ℕ) (made : List Kept) (place : ℕ) → AreNumbered number (notices_of made)
-    → waits made place ≡ false → made ≡ taken made (number + place)
+    → waits made place ≡ false → made ≡ after_taking made (number + place)
 taken-idle number [] place are w = refl
 taken-idle number (kept ∷ rest) zero are w =
     ap (λ l. kept ∷ l) (sym (untouched (number + 1) (number + 0) rest (omega arith) are.1)) ∙ same
@@ -171,11 +172,11 @@ taken-idle number (kept ∷ rest) zero are w =
     none : (b : Bool) → (kept.1 && b) ≡ false
     none b = rw w refl
 
-    same : kept ∷ taken rest (number + 0) ≡ (
+    same : kept ∷ after_taking rest (number + 0) ≡ (
       kept.0,
       kept.1 && not (kept.0.number == number + 0),
-    ) ∷ taken rest (number + 0)
-    same = ap (λ (b : Bool). (kept.0, b) ∷ taken rest (number + 0))
+    ) ∷ after_taking rest (number + 0)
+    same = ap (λ (b : Bool). (kept.0, b) ∷ after_taking rest (number + 0))
         (w ∙ sym (none (not (kept.0.number == number + 0))))
 taken-idle number (kept ∷ rest) (suc place) are w =
     by (eqb_tells kept.0.number (number + suc place)) (taken-idle (number + 1) rest place are.1 w)
@@ -190,13 +191,13 @@ taken-idle number (kept ∷ rest) (suc place) are w =
     by : ((nat_eq kept.0.number (number + suc place) ≡ true) × (kept.0.number ≡ number + suc place))
         ⊎ ((nat_eq kept.0.number (number + suc place) ≡ false)
         × (kept.0.number ≢ number + suc place)) →
-        rest ≡ taken rest (number + 1 + place) → kept ∷ rest ≡ (
+        rest ≡ after_taking rest (number + 1 + place) → kept ∷ rest ≡ (
           kept.0,
           kept.1 && not (kept.0.number == number + suc place),
-        ) ∷ taken rest (number + suc place)
+        ) ∷ after_taking rest (number + suc place)
     by (inl same) e = absurd (omega (arith, same.1, are.0))
     by (inr other) e =
-        rw (other.0, waited kept.1) (ap (λ l. kept ∷ l) (e ∙ ap (taken rest) same_number))
+        rw (other.0, waited kept.1) (ap (λ l. kept ∷ l) (e ∙ ap (after_taking rest) same_number))
 
 -- ---- the first that wait
 

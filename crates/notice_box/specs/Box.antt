@@ -28,9 +28,10 @@ abbrev pub count_waiting : List (Notice × Bool) → ℕ
 count_waiting made = length (filter (λ kept. kept.1) made)
 
 -- the notice of a number doesn't wait any more
-abbrev pub taken : List (Notice × Bool) → ℕ → List (Notice × Bool)
-taken made number = map (λ kept. (kept.0, kept.1 && not (kept.0.number == number))) made
+abbrev pub after_taking : List (Notice × Bool) → ℕ → List (Notice × Bool)
+after_taking made number = map (λ kept. (kept.0, kept.1 && not (kept.0.number == number))) made
 
+-- what stands behind the end of the list
 abbrev pub no_notice : Notice × Bool
 no_notice =
     (record { number = 0; at = 0; slo = []; objective = 0; policy = []; state = Quiet }, false)

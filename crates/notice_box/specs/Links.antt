@@ -5,9 +5,11 @@ use Rattle.notice_box.specs.declared.links.Link.{Link}
 use Rattle.notice_box.specs.declared.notice.Notice.{Notice}
 use Rattle.notice_box.specs.Box.{AreNumbered, IsLast, IsNext, count_waiting, notices_of, waits}
 
+-- what stands behind the end of the links
 abbrev pub no_link : Link
 no_link = record { earlier = None; later = None }
 
+-- the place before a place, and the one behind it
 abbrev pub earlier_at : List Link → ℕ → Option ℕ
 earlier_at links place = (slice_index_or links place no_link).earlier
 

@@ -7,6 +7,7 @@ use Rattle.burn_core.specs.declared.alert.State.TheVariants.{Quiet, NoData, Brea
 use Rattle.burn_core.specs.declared.alert.Flags.{Flags}
 use Rattle.burn_core.specs.Alert.{flag_of}
 
+-- whether two states are one
 abbrev pub same_state : State → State → Bool
 same_state Quiet Quiet = true
 same_state NoData NoData = true
@@ -18,6 +19,7 @@ same_state _ _ = false
 abbrev pub is_due : State → State → Flags → Bool
 is_due before now flags = not (same_state before now) && flag_of flags now
 
+-- flags that are all off
 abbrev pub no_flags : Flags
 no_flags = record { breaching = false; resolved = false; no_data = false }
 

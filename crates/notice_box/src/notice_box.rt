@@ -1,8 +1,8 @@
 //! The box in which notices wait.
 ghost use Rattle.std.specs.Prelude.{◌≡◌, ◌⊎◌, ℕ, ◌+◌, ◌-◌, ◌<◌, ◌≤◌, ◌++◌, ◌∷◌, [], true, IfOk};
 ghost use Rattle.std.specs.Prelude.{OnErr, OnOk, length, slice_get, take};
-ghost use Rattle.notice_box.specs.Box.{AreNumbered, IsNext, count_waiting, notices_of, taken};
-ghost use Rattle.notice_box.specs.Box.{waiting_in, waits};
+ghost use Rattle.notice_box.specs.Box.{AreNumbered, IsNext, after_taking, count_waiting};
+ghost use Rattle.notice_box.specs.Box.{notices_of, waiting_in, waits};
 
 use crate::links::{Link, come_from, go_on, let_go, link_at, notice_at, waits_at};
 use crate::notice::Notice;
@@ -152,7 +152,7 @@ impl NoticeBox {
         ensures known { OnOk result ((0 < number) × (number ≤ length self.old.made)) }
         ensures unchanged { OnErr result (self.new ≡ self.old) }
         ensures waited { IfOk result (λ waited. waited ≡ waits self.old.made (number - 1)) }
-        ensures made { OnOk result (self.new.made ≡ taken self.old.made number) }
+        ensures made { OnOk result (self.new.made ≡ after_taking self.old.made number) }
         ensures spare { self.new.spare ≡ self.old.spare }
         ensures one { count_waiting self.old.made ≤ count_waiting self.new.made + 1 }
     {

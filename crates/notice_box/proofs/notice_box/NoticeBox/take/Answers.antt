@@ -1,6 +1,6 @@
 use Rattle.std.proofs.Common.{◌≡◌, ◌+◌, ◌-◌, ◌<◌, true, false, Bool, Option, ℕ, List, ap, sym}
 use Rattle.std.proofs.Common.{subst, ◌∙◌, arith, length, slice_index_or, if◌then◌else◌}
-use Rattle.notice_box.specs.Box.{Made, count_waiting, no_notice, taken, waits}
+use Rattle.notice_box.specs.Box.{Made, count_waiting, no_notice, after_taking, waits}
 use Rattle.notice_box.specs.Links.{IsKept, earlier_at, if_there, is_at, later_at, no_link}
 use Rattle.notice_box.proofs.BoxLemmas.{IsKept-taken, let_go}
 use Rattle.notice_box.specs.declared.notice.Notice.{Notice}
@@ -15,8 +15,8 @@ returns-then-not-waits_at-clause-made c =
     let idle : waits made (c.args.number - 1) ≡ false =
     ap (λ m. waits m (c.args.number - 1)) (sym c.deref.ensures.value) ∙ sym c.waits_at.ensures
     ∙ c.if-not-waits_at.true in
-    subst (λ m. m ≡ taken m c.args.number) same (taken-idle 1 made (c.args.number - 1)
-    c.self.invariant.numbered idle ∙ ap (taken made) whole)
+    subst (λ m. m ≡ after_taking m c.args.number) same (taken-idle 1 made (c.args.number - 1)
+    c.self.invariant.numbered idle ∙ ap (after_taking made) whole)
 
 pub overflow_sub-self : goal.overflow_sub-self
 overflow_sub-self c =
@@ -93,7 +93,7 @@ returns-clause-made c =
     let whole : 1 + (c.args.number - 1) ≡ c.args.number = omega (arith, c.if-number-eq0.false) in
     c.let_go.ensures.made ∙ taken-set 1 made (c.args.number - 1) no_notice lt
     c.self.invariant.numbered
-    ∙ (λ i. taken (all i) (whole i))
+    ∙ (λ i. after_taking (all i) (whole i))
 
 pub returns-clause-one : goal.returns-clause-one
 returns-clause-one c =
