@@ -10,7 +10,7 @@ use Rattle.slice_method.specs.declared.Method.{Method}
 use Rattle.slo_terms.specs.Sums.{amount_at}
 use Rattle.window_sums.specs.Shares.{IsSumOf, Share, slice_counts}
 use Rattle.window_sums.specs.Slices.{AreSoundCounts, CountedDays, counts_after, counts_of}
-use Rattle.window_sums.specs.Slices.{exchanged, no_counts, slice_of}
+use Rattle.window_sums.specs.Slices.{new_counts, no_counts, slice_of}
 use Rattle.window_sums.proofs.ShareLemmas.{sound-shares}
 use Rattle.kept_sums.specs.Replacing.{MayReplace, among}
 
@@ -31,7 +31,7 @@ part a b old = omega arith
 counts-exchanged : (method : Method) (xs ys : List Share) (minute : ℕ) (old new : Counts) (k : ℕ) →
     slice_counts method (among xs minute new ys) k
     ≡ (if k == slice_of method minute
-    then exchanged (slice_counts method (among xs minute old ys) k) old new
+    then new_counts (slice_counts method (among xs minute old ys) k) old new
     else slice_counts method (among xs minute old ys) k)
 counts-exchanged method xs ys minute old new k =
     by (eqb_tells k (slice_of method minute)) (eqb_tells (slice_of method minute) k)
@@ -63,7 +63,7 @@ counts-exchanged method xs ys minute old new k =
         ⊎ ((nat_eq (slice_of method minute) k ≡ false) × (slice_of method minute ≢ k)) →
         slice_counts method (among xs minute new ys) k
         ≡ (if k == slice_of method minute
-        then exchanged (slice_counts method (among xs minute old ys) k) old new
+        then new_counts (slice_counts method (among xs minute old ys) k) old new
         else slice_counts method (among xs minute old ys) k)
     by (inl same) (inl same') = rw same.0
         (λ i. record { good = swap (λ c. c.good) same'.0 i; total = swap (λ c. c.total) same'.0 i })
@@ -94,7 +94,7 @@ pub sum-exchanged : (sums : CountedDays) (xs ys : List Share) (minute : ℕ) (ol
     IsSumOf sums (among xs minute old ys) → (k : ℕ) →
     counts_after sums minute old new k ≡ slice_counts sums.method (among xs minute new ys) k
 sum-exchanged sums xs ys minute old new counted k =
-    ap (λ (c : Counts). if k == slice_of sums.method minute then exchanged c old new else c)
+    ap (λ (c : Counts). if k == slice_of sums.method minute then new_counts c old new else c)
     (counted k)
     ∙ sym (counts-exchanged sums.method xs ys minute old new k)
 
