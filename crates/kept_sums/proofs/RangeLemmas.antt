@@ -412,22 +412,26 @@ range_facts m made value taken from to place rows row next sums is at forms few 
 
 -- before the range begins the sums are those of rows that haven't followed
 pub counted_begins : (m : Measure) (made : List (Exclusion × Bool)) (value : Exclusion)
-    (taken : Bool) (rows : List Row) (sums : CountedDays) →
+    (taken way : Bool) (rows : List Row) (sums : CountedDays) → taken ≡ way →
     IsKept m (made_on made value (not taken)) rows sums →
-    IsSumOf sums (shares_by (followed m made value taken value.from) rows)
-counted_begins m made value taken rows sums kept =
-    subst (IsSumOf sums) (range_begins m.sli value.from
+    IsSumOf sums (shares_by (followed m made value way value.from) rows)
+counted_begins m made value taken way rows sums is kept =
+    subst (λ t. IsSumOf sums (shares_by (followed m made value t value.from) rows)) is
+    (subst (IsSumOf sums) (range_begins m.sli value.from
     (row_counts m (made_on made value (not taken))) (row_counts m (made_on made value taken)) rows)
-    kept.counted
+    kept.counted)
 
 -- behind it they are those of rows that have
-pub kept_after : (m : Measure) (made : List (Exclusion × Bool)) (value : Exclusion) (taken : Bool)
-    (rows : List Row) (old new : CountedDays) → IsKept m (made_on made value (not taken)) rows old →
-    IsSumOf new (shares_by (followed m made value taken value.to) rows) →
+pub kept_after : (m : Measure) (made : List (Exclusion × Bool)) (value : Exclusion)
+    (taken way : Bool) (rows : List Row) (old new : CountedDays) → taken ≡ way →
+    IsKept m (made_on made value (not taken)) rows old →
+    IsSumOf new (shares_by (followed m made value way value.to) rows) →
     new.method ≡ old.method → ((day : ℕ) → has_day new day ≡ has_day old day) →
     IsKept m (made_on made value taken) rows new
-kept_after m made value taken rows old new kept counted methods days = record {
+kept_after m made value taken way rows old new is kept counted methods days = record {
   method = methods ∙ kept.method;
-  counted = subst (IsSumOf new) (range_ends m made value taken rows) counted;
+  counted = subst (IsSumOf new) (range_ends m made value taken rows)
+      (subst (λ t. IsSumOf new (shares_by (followed m made value t value.to) rows)) (sym is)
+      counted);
   days = same_days m rows old new days kept.days;
 }

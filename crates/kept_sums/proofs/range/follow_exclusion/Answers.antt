@@ -1,8 +1,8 @@
 use Rattle.std.proofs.Common.{◌≡◌, not, Bool, true, false, refl, subst, sym, ◌∙◌, inl, inr}
 use Rattle.std.specs.Str.{bytes_eq}
 use Rattle.window_sums.specs.Shares.{IsSumOf}
-use Rattle.kept_sums.specs.Sums.{IsKept, shares_by}
-use Rattle.kept_sums.specs.Walks.{followed, made_on}
+use Rattle.kept_sums.specs.Sums.{IsKept}
+use Rattle.kept_sums.specs.Walks.{made_on}
 use Rattle.kept_sums.proofs.DayLemmas.{none_taken}
 use Rattle.kept_sums.proofs.RangeLemmas.{counted_begins, kept_after}
 use Rattle.kept_sums.proofs.ShareLemmas.{untouched}
@@ -43,51 +43,29 @@ follow_taking-requires-clause-own c =
 
 pub follow_taking-requires-clause-counted : goal.follow_taking-requires-clause-counted
 follow_taking-requires-clause-counted c =
-    let m = c.args.measure.now in
-    let made = c.args.book.now.exclusions in
-    let value = c.args.value.now in
-    let rows = c.args.book.now.rows in
-    subst (λ t. IsSumOf c.args.sums.now (shares_by (followed m made value t value.from) rows))
-    c.if-taken.true
-    (counted_begins m made value c.args.taken rows c.args.sums.now c.requires.kept)
+    counted_begins c.args.measure.now c.args.book.now.exclusions c.args.value.now c.args.taken true
+    c.args.book.now.rows c.args.sums.now c.if-taken.true c.requires.kept
 
 pub follow_lifting-requires-clause-counted : goal.follow_lifting-requires-clause-counted
 follow_lifting-requires-clause-counted c =
-    let m = c.args.measure.now in
-    let made = c.args.book.now.exclusions in
-    let value = c.args.value.now in
-    let rows = c.args.book.now.rows in
-    subst (λ t. IsSumOf c.args.sums.now (shares_by (followed m made value t value.from) rows))
-    c.if-taken.false
-    (counted_begins m made value c.args.taken rows c.args.sums.now c.requires.kept)
+    counted_begins c.args.measure.now c.args.book.now.exclusions c.args.value.now c.args.taken false
+    c.args.book.now.rows c.args.sums.now c.if-taken.false c.requires.kept
 
 taken_kept : (c : goal.After-follow_taking) → IsKept c.args.measure.now
     (made_on c.args.book.now.exclusions c.args.value.now c.args.taken) c.args.book.now.rows
     c.follow_taking.new.sums
 taken_kept c =
-    let m = c.args.measure.now in
-    let made = c.args.book.now.exclusions in
-    let value = c.args.value.now in
-    let rows = c.args.book.now.rows in
-    let new = c.follow_taking.new.sums in
-    kept_after m made value c.args.taken rows c.args.sums.now new c.requires.kept
-    (subst (λ t. IsSumOf new (shares_by (followed m made value t value.to) rows))
-    (sym c.if-taken.true) c.follow_taking.ensures.counted) c.follow_taking.ensures.method
-    c.follow_taking.ensures.days
+    kept_after c.args.measure.now c.args.book.now.exclusions c.args.value.now c.args.taken true
+    c.args.book.now.rows c.args.sums.now c.follow_taking.new.sums c.if-taken.true c.requires.kept
+    c.follow_taking.ensures.counted c.follow_taking.ensures.method c.follow_taking.ensures.days
 
 lifted_kept : (c : goal.After-follow_lifting) → IsKept c.args.measure.now
     (made_on c.args.book.now.exclusions c.args.value.now c.args.taken) c.args.book.now.rows
     c.follow_lifting.new.sums
 lifted_kept c =
-    let m = c.args.measure.now in
-    let made = c.args.book.now.exclusions in
-    let value = c.args.value.now in
-    let rows = c.args.book.now.rows in
-    let new = c.follow_lifting.new.sums in
-    kept_after m made value c.args.taken rows c.args.sums.now new c.requires.kept
-    (subst (λ t. IsSumOf new (shares_by (followed m made value t value.to) rows))
-    (sym c.if-taken.false) c.follow_lifting.ensures.counted) c.follow_lifting.ensures.method
-    c.follow_lifting.ensures.days
+    kept_after c.args.measure.now c.args.book.now.exclusions c.args.value.now c.args.taken false
+    c.args.book.now.rows c.args.sums.now c.follow_lifting.new.sums c.if-taken.false c.requires.kept
+    c.follow_lifting.ensures.counted c.follow_lifting.ensures.method c.follow_lifting.ensures.days
 
 pub returns-then-taken-clause-kept : goal.returns-then-taken-clause-kept
 returns-then-taken-clause-kept c = taken_kept c
