@@ -1,5 +1,5 @@
 -- Rows of some minutes count by one, the others by another.
-use Rattle.std.proofs.Common.{◌≢◌, ◌≡◌, ◌⊎◌, inl, inr, ℕ, ◌≤◌, ◌/◌, ◌&&◌, ◌||◌, not}
+use Rattle.std.proofs.Common.{◌≢◌, ◌≡◌, ◌⊎◌, inl, inr, ℕ, ◌≤◌, ◌&&◌, ◌||◌, not}
 use Rattle.std.proofs.Common.{nat_eq, nat_le, nat_lt, Bool, true, false, refl, ap, sym, ◌∙◌}
 use Rattle.std.proofs.Common.{arith, List, [], ◌∷◌, ◌++◌, if◌then◌else◌}
 use Rattle.std.specs.List.{list_any}
@@ -13,7 +13,7 @@ use Rattle.sample_book.specs.Chains.{is_on}
 use Rattle.sample_book.specs.Counting.{is_of}
 use Rattle.sample_book.specs.Exclusions.{excludes, is_excluded}
 use Rattle.window_sums.specs.Shares.{IsSmall}
-use Rattle.window_sums.specs.Slices.{no_counts}
+use Rattle.window_sums.specs.Slices.{day_of, no_counts}
 use Rattle.office_history.specs.declared.Measure.{Measure}
 use Rattle.kept_sums.specs.Sums.{row_counts, shares_by}
 use Rattle.kept_sums.specs.Walks.{is_within, made_on, up_to}
@@ -66,16 +66,16 @@ own_part true b e = refl
 own_part false b e = cc e
 
 pub day_own : (sli : List ℕ) (day : ℕ) (row : Row) → is_on sli day row ≡ true → is_of sli row ≡ true
-day_own sli day row = own_part (is_of sli row) (nat_eq (row.minute / 1440) day)
+day_own sli day row = own_part (is_of sli row) (nat_eq (day_of row.minute) day)
 
 day_part : (a b : Bool) → (a && b) ≡ true → b ≡ true
 day_part true b e = e
 day_part false b e = cc e
 
 pub day_is : (sli : List ℕ) (day : ℕ) (row : Row) → is_on sli day row ≡ true
-    → row.minute / 1440 ≡ day
+    → day_of row.minute ≡ day
 day_is sli day row h =
-    same (row.minute / 1440) day (day_part (is_of sli row) (nat_eq (row.minute / 1440) day) h)
+    same (day_of row.minute) day (day_part (is_of sli row) (nat_eq (day_of row.minute) day) h)
   where
     same : (a b : ℕ) → nat_eq a b ≡ true → a ≡ b
     same a b h = grind (arith, nat_tests, h)

@@ -11,14 +11,15 @@ use Rattle.std.proofs.lemmas.Bool.{and_parts}
 use Rattle.std.proofs.lemmas.Bool.Decides.{leb_tells, nat_tests}
 use Rattle.std.proofs.lemmas.Grind.{div_ceil_times}
 use Rattle.std.proofs.lemmas.Nat.{div-mul-add, le-div, mod_below}
+use Rattle.slo_limits.specs.declared.TheConstants.{MINUTES_A_DAY}
 use Rattle.slice_method.specs.declared.Counts.{Counts}
 use Rattle.sample_book.specs.declared.Exclusion.{Exclusion}
 use Rattle.sample_book.specs.declared.Row.{Row}
 use Rattle.sample_book.specs.Chains.{is_on}
 use Rattle.sample_book.specs.Counting.{is_of}
 use Rattle.window_sums.specs.Shares.{IsSumOf, slice_counts}
-use Rattle.window_sums.specs.Slices.{CountedDays, counts_of, counts_outside, has_day, is_whole}
-use Rattle.window_sums.specs.Slices.{no_counts, slice_of, width_of}
+use Rattle.window_sums.specs.Slices.{CountedDays, counts_of, counts_outside, day_of, has_day}
+use Rattle.window_sums.specs.Slices.{is_whole, no_counts, slice_of, width_of}
 use Rattle.window_sums.proofs.WidthFacts.{day_of_slice}
 use Rattle.office_history.specs.declared.Measure.{Measure}
 use Rattle.kept_sums.specs.Sums.{Fits, IsKept, row_counts, shares_by}
@@ -107,8 +108,8 @@ now_and_then m made value taken from to row begun own inside =
 
 -- so a row of another day counts as before, where the minutes between them all lie on one
 pub other_day : (sli : List ℕ) (first from to : ℕ) (f g : Row → Counts) (row : Row) → from ≤ to
-    → ((minute : ℕ) → from ≤ minute → minute < to → minute / 1440 ≡ from / 1440)
-    → is_on sli (from / 1440) row ≡ false
+    → ((minute : ℕ) → from ≤ minute → minute < to → day_of minute ≡ day_of from)
+    → is_on sli (day_of from) row ≡ false
     → up_to sli first from f g row ≡ up_to sli first to f g row
 other_day sli first from to f g row le day other = by (is_of sli row) refl
   where
@@ -120,10 +121,10 @@ other_day sli first from to f g row le day other = by (is_of sli row) refl
     out own false e = e
     out own true e =
         let p = and_parts (nat_le from row.minute) (nat_lt row.minute to) e in
-        let here : nat_eq (row.minute / 1440) (from / 1440) ≡ true =
-        same (row.minute / 1440) (from / 1440) (day row.minute
+        let here : nat_eq (day_of row.minute) (day_of from) ≡ true =
+        same (day_of row.minute) (day_of from) (day row.minute
         (le_is from row.minute p.0) (lt_is row.minute to p.1)) in
-        let on : is_on sli (from / 1440) row ≡ true = rw (own, here) refl in
+        let on : is_on sli (day_of from) row ≡ true = rw (own, here) refl in
         let no : true ≡ false = sym on ∙ other in
         cc no
 
@@ -312,7 +313,7 @@ counted_without m made value rows old new w first end some wide own begun order 
 
 -- minutes of one slice lie on one day
 pub day_of_one_slice : (w from minute : ℕ) → w ∣ 60 → minute / w ≡ from / w
-    → minute / 1440 ≡ from / 1440
+    → day_of minute ≡ day_of from
 day_of_one_slice w from minute divides same =
     sym (day_of_slice w minute divides) ∙ ap (λ s. s / (24 * (60 / w))) same
     ∙ day_of_slice w from divides
@@ -380,13 +381,13 @@ last_slice w to minute some from less = behind_last w to minute some from less
     ∙ sym (quotient w (to / w) (to / w * w) (omega arith) (omega (arith, some)))
 
 pub last_day : (w to minute : ℕ) → w ∣ 60 → 0 < w → to / w * w ≤ minute → minute < to
-    → minute / 1440 ≡ to / w * w / 1440
+    → day_of minute ≡ day_of (to / w * w)
 last_day w to minute divides some from less =
     day_of_one_slice w (to / w * w) minute divides (last_slice w to minute some from less)
 
 -- from a minute up to the end of its day
-pub rest_of_day : (from to minute : ℕ) → to ≤ from + (1440 - from % 1440) → from ≤ minute
-    → minute < to → minute / 1440 ≡ from / 1440
+pub rest_of_day : (from to minute : ℕ) → to ≤ from + (MINUTES_A_DAY - from % MINUTES_A_DAY)
+    → from ≤ minute → minute < to → day_of minute ≡ day_of from
 rest_of_day from to minute short a b = omega (arith, short, a, b)
 
 -- what the sums need to go on by the row at a place
@@ -394,15 +395,15 @@ pub range_facts : (m : Measure) (made : List (Exclusion × Bool)) (value : Exclu
     (taken : Bool) (from to place : ℕ) (rows : List Row) (row : Row) (next : Option ℕ)
     (sums : CountedDays) → next ≡ Some place → slice_get rows place ≡ Some row →
     AllByRecursion (Fits m) rows → length rows ≤ 4000000 →
-    IsWalking (is_on m.sli (from / 1440)) (followed m made value taken from)
+    IsWalking (is_on m.sli (day_of from)) (followed m made value taken from)
     (followed m made value taken to) rows next sums →
     WalkFacts (followed m made value taken from) (followed m made value taken to) place rows row
     sums
 range_facts m made value taken from to place rows row next sums is at forms few walking =
     let f : Row → Counts = followed m made value taken from in
     let h : Row → Counts = followed m made value taken to in
-    let w = subst (λ n. IsWalking (is_on m.sli (from / 1440)) f h rows n sums) is walking in
-    walk_facts (is_on m.sli (from / 1440)) f h place rows row sums at (small from) (small to) few w
+    let w = subst (λ n. IsWalking (is_on m.sli (day_of from)) f h rows n sums) is walking in
+    walk_facts (is_on m.sli (day_of from)) f h place rows row sums at (small from) (small to) few w
   where
     small : (minute : ℕ) → AreSmallBy (followed m made value taken minute) rows
     small minute = small_within m.sli value.from minute

@@ -15,9 +15,8 @@ use crate::counting::{counts_on, row_at};
 use crate::exchange::exchange;
 use office_history::Measure;
 use sample_book::{Exclusion, Row, SampleBook};
+use slo_limits::MINUTES_A_DAY;
 use window_sums::WindowSums;
-
-const MINUTES_A_DAY: u32 = 1_440;
 
 fn is_between(from: u32, to: u32, minute: u32) -> bool
     ensures { result ≡ (nat_le from minute && nat_lt minute to) }
@@ -74,7 +73,7 @@ fn follow_between(
 )
     requires begun { value.now.from ≤ from }
     requires order { from ≤ to }
-    requires one_day { (minute : ℕ) → from ≤ minute → minute < to → minute / 1440 ≡ from / 1440 }
+    requires one_day { (minute : ℕ) → from ≤ minute → minute < to → day_of minute ≡ day_of from }
     requires counted { IsSumOf sums.old
         (shares_by (followed measure.now book.now.exclusions value.now taken from) book.now.rows) }
     requires days { AllByRecursion (HasItsDay measure.now sums.old) book.now.rows }

@@ -1,4 +1,4 @@
-use Rattle.std.proofs.Common.{◌≡◌, ◌<◌, ◌/◌, not, refl, ap, subst, sym, ◌∙◌, IsTrue, take, List, ℕ}
+use Rattle.std.proofs.Common.{◌≡◌, ◌<◌, not, refl, ap, subst, sym, ◌∙◌, IsTrue, take, List, ℕ}
 use Rattle.std.proofs.Common.{arith}
 use Rattle.std.proofs.lemmas.Slice.Eq.{bytes_eq-Decides}
 use Rattle.slice_method.specs.declared.Counts.{Counts}
@@ -30,7 +30,7 @@ loop-next-init c =
     let a : Row → Counts = row_counts m (made_on made value (not c.args.taken)) in
     let b : Row → Counts = row_counts m (made_on made value c.args.taken) in
     record {
-      walking = walk_begins (is_on m.sli (c.args.from / 1440))
+      walking = walk_begins (is_on m.sli (day_of c.args.from))
           (followed m made value c.args.taken c.args.from)
           (followed m made value c.args.taken c.args.to) c.args.book.now.rows
           c.last_row_on-next.result c.args.sums.now c.last_row_on-next.ensures
@@ -43,18 +43,18 @@ loop-next-init c =
 
 pub row_at-row-requires : goal.row_at-row-requires
 row_at-row-requires c =
-    (subst (IsOnKey (is_on c.args.measure.now.sli (c.args.from / 1440)) c.args.book.now.rows)
+    (subst (IsOnKey (is_on c.args.measure.now.sli (day_of c.args.from)) c.args.book.now.rows)
     c.in-Some.is c.loop-next.invariant.walking.place).0
 
 pub row_before_on-next-requires : goal.row_before_on-next-requires
 row_before_on-next-requires c =
-    (subst (IsOnKey (is_on c.args.measure.now.sli (c.args.from / 1440)) c.args.book.now.rows)
+    (subst (IsOnKey (is_on c.args.measure.now.sli (day_of c.args.from)) c.args.book.now.rows)
     c.in-Some.is c.loop-next.invariant.walking.place).0
 
 pub follow_on_row-requires-clause-own : goal.follow_on_row-requires-clause-own
 follow_on_row-requires-clause-own c =
-    day_own c.args.measure.now.sli (c.args.from / 1440) c.row_at-row.result
-    ((subst (IsOnKey (is_on c.args.measure.now.sli (c.args.from / 1440)) c.args.book.now.rows)
+    day_own c.args.measure.now.sli (day_of c.args.from) c.row_at-row.result
+    ((subst (IsOnKey (is_on c.args.measure.now.sli (day_of c.args.from)) c.args.book.now.rows)
     c.in-Some.is c.loop-next.invariant.walking.place).1 c.row_at-row.result c.row_at-row.ensures)
 
 pub follow_on_row-requires-clause-fits : goal.follow_on_row-requires-clause-fits
@@ -65,8 +65,8 @@ pub follow_on_row-requires-clause-day : goal.follow_on_row-requires-clause-day
 follow_on_row-requires-clause-day c =
     let m = c.args.measure.now in
     let row = c.row_at-row.result in
-    let own = day_own m.sli (c.args.from / 1440) row
-    ((subst (IsOnKey (is_on m.sli (c.args.from / 1440)) c.args.book.now.rows)
+    let own = day_own m.sli (day_of c.args.from) row
+    ((subst (IsOnKey (is_on m.sli (day_of c.args.from)) c.args.book.now.rows)
     c.in-Some.is c.loop-next.invariant.walking.place).1 row c.row_at-row.ensures) in
     subst IsTrue (sym (c.loop-next.invariant.days (day_of row.minute)))
     (all_at (HasItsDay m c.args.sums.now)
@@ -89,7 +89,7 @@ pub loop-next-smaller : goal.loop-next-smaller
 loop-next-smaller c =
     let row = c.row_at-row.result in
     subst (λ n. rows_until c.row_before_on-next.result < rows_until n) (sym c.in-Some.is)
-    (walk_smaller (is_on row.sli (row.minute / 1440)) c.args.book.now.rows c.in-Some.place
+    (walk_smaller (is_on row.sli (day_of row.minute)) c.args.book.now.rows c.in-Some.place
     c.row_before_on-next.result (c.row_before_on-next.ensures row c.row_at-row.ensures))
 
 pub loop-next-preserved : goal.loop-next-preserved
@@ -99,7 +99,7 @@ loop-next-preserved c =
     let value = c.args.value.now in
     let rows = c.args.book.now.rows in
     let row = c.row_at-row.result in
-    let day = c.args.from / 1440 in
+    let day = day_of c.args.from in
     let a : Row → Counts = row_counts m (made_on made value (not c.args.taken)) in
     let b : Row → Counts = row_counts m (made_on made value c.args.taken) in
     let on = subst (IsOnKey (is_on m.sli day) rows) c.in-Some.is
@@ -115,7 +115,7 @@ loop-next-preserved c =
     let here : c.row_before_on-next.result
     ≡ last_place (is_on m.sli day) (take c.in-Some.place rows) =
     c.row_before_on-next.ensures row c.row_at-row.ensures
-    ∙ ap (λ (s : List ℕ). last_place (is_on s (row.minute / 1440)) (take c.in-Some.place rows))
+    ∙ ap (λ (s : List ℕ). last_place (is_on s (day_of row.minute)) (take c.in-Some.place rows))
     same_sli
     ∙ ap (λ d. last_place (is_on m.sli d) (take c.in-Some.place rows)) (day_is m.sli day row key) in
     record {
