@@ -12,17 +12,21 @@ use Rattle.kept_lines.proofs.CountedLemmas.{IsRanged, changed-early, changed-one
 use Rattle.kept_lines.proofs.CountedLemmas.{counted-changed, cut-changed, part-changed}
 use Rattle.kept_lines.proofs.EachLemmas.{each-same, each-then}
 use Rattle.kept_lines.proofs.exclusion.touch_range.Goals as goal
+use Rattle.kept_lines.proofs.exclusion.touch_range.Goals.{After-touch_cut-run, After-width}
+
+-- the width divides an hour
+divides : (c : After-width) → c.args.width ∣ 60
+divides c = subst (λ w. w ∣ 60)
+    (c.width.ensures.value ∙ ap width_of c.requires.kept.method ∙ sym c.requires.width)
+    c.width.ensures.divides
 
 pub touch_cut-requires-clause-one_day : goal.touch_cut-requires-clause-one_day
 touch_cut-requires-clause-one_day c = λ minute a b.
     let value = c.args.value.now in
-    let width = c.args.width in
-    let divides : width ∣ 60 = subst (λ w. w ∣ 60)
-    (c.width.ensures.value ∙ ap width_of c.requires.kept.method ∙ sym c.requires.width)
-    c.width.ensures.divides in
-    day_of_one_slice width value.from minute divides
-    (one_slice width value.from value.to minute c.requires.some
-    (subst (λ n. value.to / width < n) c.div_ceil-first.ensures c.if-end-first.true) a b)
+    day_of_one_slice c.args.width value.from minute
+    (divides (goal.at.touch_cut-requires-clause-one_day c).After-width)
+    (one_slice c.args.width value.from value.to minute c.requires.some
+    (subst (λ n. value.to / c.args.width < n) c.div_ceil-first.ensures c.if-end-first.true) a b)
 
 pub returns-then-end-first : goal.returns-then-end-first
 returns-then-end-first c =
@@ -43,13 +47,22 @@ returns-then-end-first c =
 pub touch_cut-run-requires-clause-one_day : goal.touch_cut-run-requires-clause-one_day
 touch_cut-run-requires-clause-one_day c = λ minute a b.
     let value = c.args.value.now in
-    let width = c.args.width in
-    let divides : width ∣ 60 = subst (λ w. w ∣ 60)
-    (c.width.ensures.value ∙ ap width_of c.requires.kept.method ∙ sym c.requires.width)
-    c.width.ensures.divides in
-    day_of_one_slice width value.from minute divides
-    (before_first width value.from minute c.requires.some a
-    (subst (λ n. minute < n * width) c.div_ceil-first.ensures b))
+    day_of_one_slice c.args.width value.from minute
+    (divides (goal.at.touch_cut-run-requires-clause-one_day c).After-width)
+    (before_first c.args.width value.from minute c.requires.some a
+    (subst (λ n. minute < n * c.args.width) c.div_ceil-first.ensures b))
+
+-- the whole slices of the range
+range : (c : After-touch_cut-run) → IsRanged c.args.measure.now c.args.value.now c.args.width
+    c.div_ceil-first.result (c.args.value.now.to / c.args.width)
+range c = record {
+  wide = c.requires.width;
+  some = c.requires.some;
+  own = c.requires.own;
+  from = subst (λ n. c.args.value.now.from ≤ n * c.args.width) (sym c.div_ceil-first.ensures)
+      (div_ceil_times c.args.value.now.from c.args.width c.requires.some).0;
+  to = div-mul-le_self c.args.value.now.to c.args.width;
+}
 
 pub forget_whole-run-requires-clause-early : goal.forget_whole-run-requires-clause-early
 forget_whole-run-requires-clause-early c = λ slice is.
@@ -57,29 +70,15 @@ forget_whole-run-requires-clause-early c = λ slice is.
     let made = c.args.book.now.exclusions in
     let value = c.args.value.now in
     let rows = c.args.book.now.rows in
-    let width = c.args.width in
-    let sums = c.args.sums.now in
-    let first = c.div_ceil-first.result in
-    let end = value.to / width in
-    let range : IsRanged m value width first end = record {
-      wide = c.requires.width;
-      some = c.requires.some;
-      own = c.requires.own;
-      from = subst (λ n. value.from ≤ n * width) (sym c.div_ceil-first.ensures)
-          (div_ceil_times value.from width c.requires.some).0;
-      to = div-mul-le_self value.to width;
-    } in
-    changed-early m made value rows width slice c.requires.width c.requires.early
-    (counted-changed m made value rows sums width first end slice range c.requires.kept is)
+    let at = (goal.at.forget_whole-run-requires-clause-early c).After-touch_cut-run in
+    changed-early m made value rows c.args.width slice c.requires.width c.requires.early
+    (counted-changed m made value rows c.args.sums.now c.args.width c.div_ceil-first.result
+    (value.to / c.args.width) slice (range at) c.requires.kept is)
 
 pub touch_cut-requires-2-clause-one_day : goal.touch_cut-requires-2-clause-one_day
 touch_cut-requires-2-clause-one_day c = λ minute a b.
-    let value = c.args.value.now in
-    let width = c.args.width in
-    let divides : width ∣ 60 = subst (λ w. w ∣ 60)
-    (c.width.ensures.value ∙ ap width_of c.requires.kept.method ∙ sym c.requires.width)
-    c.width.ensures.divides in
-    last_day width value.to minute divides c.requires.some a b
+    last_day c.args.width c.args.value.now.to minute
+    (divides (goal.at.touch_cut-requires-2-clause-one_day c).After-width) c.requires.some a b
 
 pub returns : goal.returns
 returns c =
@@ -91,14 +90,7 @@ returns c =
     let sums = c.args.sums.now in
     let first = c.div_ceil-first.result in
     let end = value.to / width in
-    let range : IsRanged m value width first end = record {
-      wide = c.requires.width;
-      some = c.requires.some;
-      own = c.requires.own;
-      from = subst (λ n. value.from ≤ n * width) (sym c.div_ceil-first.ensures)
-          (div_ceil_times value.from width c.requires.some).0;
-      to = div-mul-le_self value.to width;
-    } in
+    let ranged = range (goal.at.returns c).After-touch_cut-run in
     let reach = reach_of c.args.rule.now in
     let line = c.args.line.now in
     let start : (minute : ℕ) → value.from ≤ minute → minute < first * width
@@ -117,7 +109,7 @@ returns c =
     each-then both (IsCut m made value rows width (end * width) value.to)
     (IsChanged m made value rows) width reach None c.forget_whole-run.result c.touch_cut-2.result
     line c.forget_whole-run.new.line c.touch_cut-2.new.line
-    (λ k. part-changed m made value rows sums width first end k range c.requires.kept start)
+    (λ k. part-changed m made value rows sums width first end k ranged c.requires.kept start)
     (λ k. cut-changed m made value rows width (end * width) value.to k c.requires.width last)
-    (λ k. changed-parts m made value rows sums width first end k range c.requires.kept start last)
+    (λ k. changed-parts m made value rows sums width first end k ranged c.requires.kept start last)
     half c.touch_cut-2.ensures

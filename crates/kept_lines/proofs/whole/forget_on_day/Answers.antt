@@ -6,6 +6,15 @@ use Rattle.kept_lines.specs.Touched.{IsCountedOn, IsCountedUntil, IsThatOne, Tou
 use Rattle.kept_lines.proofs.CountedLemmas.{AreOn, either, one-counted, until-all, until-parts}
 use Rattle.kept_lines.proofs.EachLemmas.{each-same, each-then}
 use Rattle.kept_lines.proofs.whole.forget_on_day.Goals as goal
+use Rattle.kept_lines.proofs.whole.forget_on_day.Goals.{After-counts_on-counts}
+
+-- the counts of the day
+on_day : (c : After-counts_on-counts)
+    → AreOn c.args.sums.now c.args.day c.counts_on-counts.result.now
+on_day c = record {
+  few = c.counts_on-counts.ensures.few;
+  each = c.counts_on-counts.ensures.counts;
+}
 
 pub loop-place-preserved : goal.loop-place-preserved
 loop-place-preserved c =
@@ -19,10 +28,7 @@ loop-place-preserved c =
     let counts = c.counts_on-counts.result.now in
     let n = slices_a_day sums.method in
     let same : c.slices_a_day.result ≡ n = c.slices_a_day.ensures.value in
-    let are : AreOn sums day counts = record {
-      few = c.counts_on-counts.ensures.few;
-      each = c.counts_on-counts.ensures.counts;
-    } in
+    let are = on_day (goal.at.loop-place-preserved c).After-counts_on-counts in
     let until : place < min (length counts) (end - day * n) =
     subst (λ m. place < min (length counts) (end - day * m)) same
     (subst (λ m. place < m) c.min-until.ensures c.loop-place-test.true) in
@@ -56,27 +62,20 @@ loop-place-preserved c =
 pub returns : goal.returns
 returns c =
     let sums = c.args.sums.now in
-    let first = c.args.first in
-    let end = c.args.end in
-    let day = c.args.day in
-    let width = c.args.width in
-    let reach = reach_of c.args.rule.now in
     let place = c.loop-place.place in
     let counts = c.counts_on-counts.result.now in
     let n = slices_a_day sums.method in
     let same : c.slices_a_day.result ≡ n = c.slices_a_day.ensures.value in
-    let are : AreOn sums day counts = record {
-      few = c.counts_on-counts.ensures.few;
-      each = c.counts_on-counts.ensures.counts;
-    } in
-    let passed : min (length counts) (end - day * n) ≤ place =
-    subst (λ m. min (length counts) (end - day * m) ≤ place) same
+    let passed : min (length counts) (c.args.end - c.args.day * n) ≤ place =
+    subst (λ m. min (length counts) (c.args.end - c.args.day * m) ≤ place) same
     (subst (λ m. m ≤ place) c.min-until.ensures c.loop-place-test.false) in
-    let before = subst (λ m. TouchesEach (IsCountedUntil sums first end day (day * m + place)) width
-    reach c.args.waiting c.loop-place.run c.args.line.now c.loop-place.line) same
-    c.loop-place.invariant.touched in
-    each-same (IsCountedUntil sums first end day (day * n + place))
-    (IsCountedOn sums first end day) width reach c.args.waiting c.loop-place.run c.args.line.now
-    c.loop-place.line (λ k is. is.is)
-    (until-all sums first end day place counts (subst (λ m. 0 < m) same c.slices_a_day.ensures.some)
-    are (either (length counts) (end - day * n) place passed)) before
+    each-same (IsCountedUntil sums c.args.first c.args.end c.args.day (c.args.day * n + place))
+    (IsCountedOn sums c.args.first c.args.end c.args.day) c.args.width (reach_of c.args.rule.now)
+    c.args.waiting c.loop-place.run c.args.line.now c.loop-place.line (λ k is. is.is)
+    (until-all sums c.args.first c.args.end c.args.day place counts
+    (subst (λ m. 0 < m) same c.slices_a_day.ensures.some)
+    (on_day (goal.at.returns c).After-counts_on-counts)
+    (either (length counts) (c.args.end - c.args.day * n) place passed))
+    (subst (λ m. TouchesEach (IsCountedUntil sums c.args.first c.args.end c.args.day
+    (c.args.day * m + place)) c.args.width (reach_of c.args.rule.now) c.args.waiting
+    c.loop-place.run c.args.line.now c.loop-place.line) same c.loop-place.invariant.touched)
