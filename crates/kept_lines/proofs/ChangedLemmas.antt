@@ -1,5 +1,5 @@
 -- The rows that an exclusion changes.
-use Rattle.std.proofs.Common.{◌≡◌, ◌≢◌, ◌⊎◌, inl, inr, ℕ, zero, suc, ◌/◌, ◌≤◌, ◌<◌, ◌&&◌, nat_eq}
+use Rattle.std.proofs.Common.{◌≡◌, ◌≢◌, ◌⊎◌, inl, inr, ℕ, zero, suc, ◌≤◌, ◌<◌, ◌&&◌, nat_eq}
 use Rattle.std.proofs.Common.{nat_le, nat_lt, Bool, true, false, refl, arith, ap, sym, subst, ◌∙◌}
 use Rattle.std.proofs.Common.{List, [], ◌∷◌, take, length, slice_get, Option, Some}
 use Rattle.std.specs.Str.{bytes_eq}
@@ -11,6 +11,7 @@ use Rattle.sample_book.specs.Chains.{below, is_on, last, last_place}
 use Rattle.sample_book.specs.Counting.{is_of}
 use Rattle.sample_book.specs.Exclusions.{excludes}
 use Rattle.sample_book.proofs.ChainLemmas.{last-behind, last-passes, last-within}
+use Rattle.window_sums.specs.Slices.{day_of}
 use Rattle.office_history.specs.declared.Measure.{Measure}
 use Rattle.kept_sums.specs.Sums.{row_counts}
 use Rattle.kept_sums.specs.Walks.{IsChanged, IsOnKey, made_on, rows_until}
@@ -91,10 +92,10 @@ none-empty m made value rows slice empty is =
     omega (arith, empty, taken.from, taken.to)
 
 -- a row of the indicator on the day is one of the walk
-on_day : (sli : List ℕ) (day : ℕ) (row : Row) → is_of sli row ≡ true → row.minute / 1440 ≡ day →
+on_day : (sli : List ℕ) (day : ℕ) (row : Row) → is_of sli row ≡ true → day_of row.minute ≡ day →
     is_on sli day row ≡ true
-on_day sli day row own e = both (is_of sli row) (nat_eq (row.minute / 1440) day) own
-    (same (row.minute / 1440) day e)
+on_day sli day row own e = both (is_of sli row) (nat_eq (day_of row.minute) day) own
+    (same (day_of row.minute) day e)
   where
     same : (a b : ℕ) → a ≡ b → nat_eq a b ≡ true
     same a b e = grind (arith, nat_tests, e)
@@ -105,10 +106,10 @@ on_day sli day row own e = both (is_of sli row) (nat_eq (row.minute / 1440) day)
 
 -- a changed row of minutes that all lie on one day is one of the walk over the day
 row-on : (m : Measure) (made : List (Exclusion × Bool)) (value : Exclusion) (begin end : ℕ)
-    (row : Row) → ((minute : ℕ) → begin ≤ minute → minute < end → minute / 1440 ≡ begin / 1440) →
-    IsChangedRow m made value begin end row → is_on m.sli (begin / 1440) row ≡ true
+    (row : Row) → ((minute : ℕ) → begin ≤ minute → minute < end → day_of minute ≡ day_of begin) →
+    IsChangedRow m made value begin end row → is_on m.sli (day_of begin) row ≡ true
 row-on m made value begin end row day is =
-    on_day m.sli (begin / 1440) row (changed-own m made value row is.changed)
+    on_day m.sli (day_of begin) row (changed-own m made value row is.changed)
     (day row.minute is.from is.to)
 
 -- how many rows stand up to the last place of a test
@@ -125,11 +126,11 @@ NoneFrom m made value rows begin end at =
 -- behind the last row of the day there is none
 pub none-behind : (m : Measure) (made : List (Exclusion × Bool)) (value : Exclusion)
     (rows : List Row) (begin end : ℕ) (next : Option ℕ) →
-    ((minute : ℕ) → begin ≤ minute → minute < end → minute / 1440 ≡ begin / 1440) →
-    next ≡ last_place (is_on m.sli (begin / 1440)) rows →
+    ((minute : ℕ) → begin ≤ minute → minute < end → day_of minute ≡ day_of begin) →
+    next ≡ last_place (is_on m.sli (day_of begin)) rows →
     NoneFrom m made value rows begin end (rows_until next)
 none-behind m made value rows begin end next day last_is place row from here is =
-    let key = is_on m.sli (begin / 1440) in
+    let key = is_on m.sli (day_of begin) in
     let behind = subst (λ n. n ≤ place) (until_last key rows next last_is) from in
     let no : true ≡ false = sym (row-on m made value begin end row day is)
     ∙ last-behind key rows place row behind here in
@@ -149,8 +150,8 @@ order k n = by (leb_tells (suc n) k) (leb_tells (suc k) n)
 -- from a place of the day to the one before it only the row at the place comes to those behind
 pub none-more : (m : Measure) (made : List (Exclusion × Bool)) (value : Exclusion)
     (rows : List Row) (begin end at : ℕ) (row : Row) (next : Option ℕ) →
-    ((minute : ℕ) → begin ≤ minute → minute < end → minute / 1440 ≡ begin / 1440) →
-    slice_get rows at ≡ Some row → next ≡ last_place (is_on m.sli (begin / 1440)) (take at rows) →
+    ((minute : ℕ) → begin ≤ minute → minute < end → day_of minute ≡ day_of begin) →
+    slice_get rows at ≡ Some row → next ≡ last_place (is_on m.sli (day_of begin)) (take at rows) →
     (IsChangedRow m made value begin end row → ⊥) →
     NoneFrom m made value rows begin end (suc at) →
     NoneFrom m made value rows begin end (rows_until next)
@@ -158,7 +159,7 @@ none-more m made value rows begin end at row next day there last_is free none pl
     is = tell (order place at)
   where
     key : Row → Bool
-    key = is_on m.sli (begin / 1440)
+    key = is_on m.sli (day_of begin)
 
     tell : (at < place) ⊎ ((place ≡ at) ⊎ (place < at)) → ⊥
     tell (inl more) = none place other more here is

@@ -4,7 +4,7 @@ ghost use Rattle.std.specs.List.{AllByRecursion};
 ghost use Rattle.std.specs.Str.{bytes_eq};
 ghost use Rattle.sample_book.specs.declared.Row.{Row};
 ghost use Rattle.burn_core.specs.Alert.{IsRule, reach_of};
-ghost use Rattle.window_sums.specs.Slices.{width_of};
+ghost use Rattle.window_sums.specs.Slices.{day_of, width_of};
 ghost use Rattle.kept_sums.specs.Sums.{Fits, IsKept, row_counts as row_counts_lem};
 ghost use Rattle.kept_sums.specs.Walks.{IsChanged, made_on};
 ghost use Rattle.kept_lines.specs.Touched.{Forgets, HasChanged, IsChangedRow, IsCut, IsRunIf};
@@ -17,9 +17,8 @@ use burn_core::AlertRule;
 use kept_sums::{NOTHING, row_at, row_counts, takes};
 use office_history::Measure;
 use sample_book::{Exclusion, Row, SampleBook};
+use slo_limits::MINUTES_A_DAY;
 use window_sums::WindowSums;
-
-const MINUTES_A_DAY: u32 = 1_440;
 
 // Whether a row counts otherwise with an exclusion than without it. Outside its range it doesn't,
 // so such a row is passed over first: whether it is excluded is asked of all exclusions.
@@ -61,7 +60,7 @@ fn is_changed_between(
 
 // Whether there is such a row, where these minutes all lie on one day.
 fn has_changed(measure: &Measure, book: &SampleBook, value: &Exclusion, from: u32, to: u32) -> bool
-    requires one_day { (minute : ℕ) → from ≤ minute → minute < to → minute / 1440 ≡ from / 1440 }
+    requires one_day { (minute : ℕ) → from ≤ minute → minute < to → day_of minute ≡ day_of from }
     requires forms { AllByRecursion (Fits measure.now) book.now.rows }
     ensures some { result ≡ true
         → HasChanged measure.now book.now.exclusions value.now book.now.rows from to }
@@ -96,7 +95,7 @@ fn touch_cut(
     requires ranges { IsRule rule.now }
     requires some { 0 < width }
     requires small { width ≤ 60 }
-    requires one_day { (minute : ℕ) → from ≤ minute → minute < to → minute / 1440 ≡ from / 1440 }
+    requires one_day { (minute : ℕ) → from ≤ minute → minute < to → day_of minute ≡ day_of from }
     requires early { AllByRecursion (λ (row : Row). row.minute ≤ LAST_MINUTE) book.now.rows }
     requires forms { AllByRecursion (Fits measure.now) book.now.rows }
     requires run { IsRunIf width (reach_of rule.now) waiting }

@@ -1,7 +1,8 @@
-use Rattle.std.proofs.Common.{◌≡◌, ◌<◌, ◌≤◌, ◌/◌, ℕ, List, ap, sym, subst, ◌∙◌, arith, take}
+use Rattle.std.proofs.Common.{◌≡◌, ◌<◌, ◌≤◌, ℕ, List, ap, sym, subst, ◌∙◌, arith, take}
 use Rattle.std.proofs.Common.{length}
 use Rattle.std.proofs.lemmas.Slice.Eq.{bytes_eq-Decides}
 use Rattle.sample_book.specs.Chains.{is_on, last_place}
+use Rattle.window_sums.specs.Slices.{day_of}
 use Rattle.kept_sums.specs.Sums.{Fits}
 use Rattle.kept_sums.specs.Walks.{IsOnKey, rows_until}
 use Rattle.kept_sums.proofs.DayLemmas.{day_is, day_own}
@@ -15,7 +16,7 @@ pub loop-next-init : goal.loop-next-init
 loop-next-init c =
     let m = c.args.measure.now in
     let rows = c.args.book.now.rows in
-    let day = c.args.from / 1440 in
+    let day = day_of c.args.from in
     let next = c.last_row_on-next.result in
     record {
       place = on-key_of_all (is_on m.sli day) rows next c.last_row_on-next.ensures;
@@ -25,7 +26,7 @@ loop-next-init c =
 
 pub row_at-row-requires : goal.row_at-row-requires
 row_at-row-requires c =
-    (subst (IsOnKey (is_on c.args.measure.now.sli (c.args.from / 1440)) c.args.book.now.rows)
+    (subst (IsOnKey (is_on c.args.measure.now.sli (day_of c.args.from)) c.args.book.now.rows)
     c.in-Some.is c.loop-next.invariant.place).0
 
 pub is_changed_between-requires : goal.is_changed_between-requires
@@ -43,7 +44,7 @@ returns-then-is_changed_between-clause-some c = λ e. record {
 
 pub row_before_on-next-requires : goal.row_before_on-next-requires
 row_before_on-next-requires c =
-    (subst (IsOnKey (is_on c.args.measure.now.sli (c.args.from / 1440)) c.args.book.now.rows)
+    (subst (IsOnKey (is_on c.args.measure.now.sli (day_of c.args.from)) c.args.book.now.rows)
     c.in-Some.is c.loop-next.invariant.place).0
 
 pub loop-next-smaller : goal.loop-next-smaller
@@ -51,7 +52,7 @@ loop-next-smaller c =
     let row = c.row_at-row.result in
     let next = c.row_before_on-next.result in
     subst (λ n. rows_until next < rows_until n) (sym c.in-Some.is)
-    (walk_smaller (is_on row.sli (row.minute / 1440)) c.args.book.now.rows c.in-Some.place next
+    (walk_smaller (is_on row.sli (day_of row.minute)) c.args.book.now.rows c.in-Some.place next
     (c.row_before_on-next.ensures row c.row_at-row.ensures))
 
 pub loop-next-preserved : goal.loop-next-preserved
@@ -60,7 +61,7 @@ loop-next-preserved c =
     let made = c.args.book.now.exclusions in
     let value = c.args.value.now in
     let rows = c.args.book.now.rows in
-    let day = c.args.from / 1440 in
+    let day = day_of c.args.from in
     let place = c.in-Some.place in
     let row = c.row_at-row.result in
     let next = c.row_before_on-next.result in
@@ -70,7 +71,7 @@ loop-next-preserved c =
     (bytes_eq-Decides row.sli m.sli).0 (day_own m.sli day row key) in
     let is : next ≡ last_place (is_on m.sli day) (take place rows) =
     c.row_before_on-next.ensures row c.row_at-row.ensures
-    ∙ ap (λ (s : List ℕ). last_place (is_on s (row.minute / 1440)) (take place rows)) same_sli
+    ∙ ap (λ (s : List ℕ). last_place (is_on s (day_of row.minute)) (take place rows)) same_sli
     ∙ ap (λ d. last_place (is_on m.sli d) (take place rows)) (day_is m.sli day row key) in
     let within : place ≤ length rows = omega (arith, on.0) in
     record {

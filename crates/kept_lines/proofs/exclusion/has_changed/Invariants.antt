@@ -1,5 +1,5 @@
-use Rattle.std.proofs.Common.{◌/◌}
 use Rattle.sample_book.specs.Chains.{is_on}
+use Rattle.window_sums.specs.Slices.{day_of}
 use Rattle.kept_sums.specs.Walks.{IsOnKey, rows_until}
 use Rattle.kept_lines.proofs.ChangedLemmas.{NoneFrom}
 use Rattle.kept_lines.proofs.exclusion.has_changed.Given as goal
@@ -7,7 +7,7 @@ use Rattle.kept_lines.proofs.exclusion.has_changed.Given as goal
 -- no row behind a place is changed
 abbrev pub invariant-loop-next : goal.invariant-loop-next
 invariant-loop-next l = record {
-  place : IsOnKey (is_on l.measure.sli (l.from / 1440)) l.book.rows l.next;
+  place : IsOnKey (is_on l.measure.sli (day_of l.from)) l.book.rows l.next;
   none : NoneFrom l.measure l.book.exclusions l.value l.book.rows l.from l.to (rows_until l.next);
 }
 
