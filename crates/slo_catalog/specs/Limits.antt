@@ -23,6 +23,10 @@ written_bytes o = length (writing 0 (written o))
 abbrev pub weight : Object → ℕ
 weight o = unwrap_or (up_to MAX_CATALOG_BYTES (written_bytes o)) (MAX_CATALOG_BYTES + 1)
 
+-- what all of them weigh together: more than a catalog may have exactly where their bytes are more
+abbrev pub total_weight : List Object → ℕ
+total_weight members = sum_by weight members
+
 -- the bytes of all of them together
 abbrev pub catalog_bytes : List Object → ℕ
 catalog_bytes members = sum_by written_bytes members

@@ -13,6 +13,7 @@ mod key;
 mod laws;
 mod limits;
 mod member;
+mod member_list;
 mod members;
 mod needs_op;
 mod proposal;

@@ -13,17 +13,11 @@ use slo_objects::Kind;
 use std::alloc::{AllocError, Global};
 
 /// Whether all members together have more bytes than a catalog may.
-fn is_above_bytes(members: &[Member]) -> bool
+#[tactic(auto, using(crate::proofs::WeightLemmas::above_alike))]
+fn is_above_bytes(members: &Members) -> bool
     ensures { result ≡ nat_lt MAX_CATALOG_BYTES (catalog_bytes members.now) }
 {
-    let mut total = 0;
-    for member in members {
-        total += member.weight();
-        if total > MAX_CATALOG_BYTES {
-            return true;
-        }
-    }
-    false
+    members.bytes() > MAX_CATALOG_BYTES as u128
 }
 
 /// How many of the members are of that kind.
@@ -50,7 +44,7 @@ pub(crate) fn first_limit(
     if list.len() > MAX_OBJECTS {
         return Ok(Some(CatalogLimit::Objects));
     }
-    if is_above_bytes(list) {
+    if is_above_bytes(members) {
         return Ok(Some(CatalogLimit::Catalog));
     }
     if count_of_kind(Kind::Sli, list) > MAX_SLIS {

@@ -1,13 +1,14 @@
 //! Sorted members.
-ghost use Rattle.std.specs.Prelude.{◌≡◌, ◌<◌, ◌≤◌, ◌++◌, ◌∷◌, [], length, take, drop, slice_set};
-ghost use Rattle.std.specs.Prelude.{IfOk, MatchResult};
+ghost use Rattle.std.specs.Prelude.{◌≡◌, [], IfOk, MatchResult};
 ghost use Rattle.std.specs.Option.{option_copied};
 ghost use Rattle.slo_catalog.specs.Catalog.{put, put_all, without};
 ghost use Rattle.slo_catalog.specs.Keys.{IsSorted, find_in, key_cmp};
+ghost use Rattle.slo_catalog.specs.Limits.{total_weight};
 ghost use Rattle.slo_catalog.specs.Places.{StandsAt, BelongsAt};
 
 use crate::key::{is_key, kind_rank};
 use crate::member::Member;
+use crate::member_list::MemberList;
 use exact_fraction::Label;
 use slo_objects::{Kind, Object};
 use std::alloc::{AllocError, Global};
@@ -17,7 +18,7 @@ use std::marker::Model;
 /// Members by kind and then by the bytes of the name, each kind and name once.
 #[derive(Drop)]
 pub(crate) struct Members {
-    list: Vec<Member>,
+    list: MemberList,
 }
 
 impl Model for Members {
@@ -31,9 +32,9 @@ impl Model for Members {
 
     ghost coded = { coded_list the_row.coded };
 
-    ghost view = { λ m. m.list.items };
+    ghost view = { λ m. m.list };
 
-    ghost invariant = { λ m. IsSorted m.list.items };
+    ghost invariant = { λ m. IsSorted m.list };
 }
 
 /// How an object stands to a kind and a name in the order of a catalog.
@@ -64,38 +65,15 @@ fn place_of(members: &[Member], kind: Kind, name: Label) -> Result<usize, usize>
     Err(low)
 }
 
-/// The members with another in the place of one of them.
-fn replaced(mut members: Vec<Member>, place: usize, member: Member) -> Vec<Member>
-    requires { place < length members.items }
-    ensures { result.items ≡ slice_set members.items place member }
-{
-    members[place] = member;
-    members
-}
-
-/// The members with another between them, where it has that place.
-fn inserted(
-    mut members: Vec<Member>,
-    place: usize,
-    member: Member,
-) -> Result<Vec<Member>, AllocError>
-    requires { place ≤ length members.items }
-    ensures { IfOk result (λ new. new.items
-        ≡ take place members.items ++ member ∷ drop place members.items) }
-{
-    members.insert(place, member)?;
-    Ok(members)
-}
-
 /// Puts a member at its place among sorted ones, where it replaces the one of its kind and name.
-fn put_in(members: Vec<Member>, member: Member) -> Result<Vec<Member>, AllocError>
-    requires { IsSorted members.items }
-    ensures { IfOk result (λ new. new.items ≡ put member members.items) }
+fn put_in(members: MemberList, member: Member) -> Result<MemberList, AllocError>
+    requires { IsSorted members }
+    ensures { IfOk result (λ new. new ≡ put member members) }
 {
     let object = member.object();
     match place_of(members.as_slice(), object.kind, object.name) {
-        Ok(place) => Ok(replaced(members, place, member)),
-        Err(place) => inserted(members, place, member),
+        Ok(place) => Ok(members.replace(place, member)),
+        Err(place) => members.insert(place, member),
     }
 }
 
@@ -105,7 +83,7 @@ impl Members {
         ensures { result ≡ [] }
     {
         Members {
-            list: Vec::new(alloc),
+            list: MemberList::new(alloc),
         }
     }
 
@@ -115,6 +93,13 @@ impl Members {
         ensures sorted { IsSorted self.now }
     {
         self.list.as_slice()
+    }
+
+    /// What they weigh together.
+    pub(crate) fn bytes(&self) -> u128
+        ensures { result ≡ total_weight self.now }
+    {
+        self.list.bytes()
     }
 
     /// The member of that kind and name: none exactly where there is none.
@@ -153,7 +138,7 @@ impl Members {
         ensures { IfOk result (λ members. members ≡ self.now) }
     {
         Ok(Members {
-            list: shared(alloc, self.as_slice())?,
+            list: self.list.share(alloc)?,
         })
     }
 
@@ -172,27 +157,16 @@ impl Members {
     }
 }
 
-/// The same members once more.
-fn shared(alloc: Global, members: &[Member]) -> Result<Vec<Member>, AllocError>
-    ensures { IfOk result (λ shared. shared.items ≡ members.now) }
-{
-    let mut shared = Vec::with_capacity(alloc, members.len())?;
-    for member in members {
-        shared.push(member.share()?)?;
-    }
-    Ok(shared)
-}
-
 /// The same members once more, but for the one of that kind and name.
 fn shared_without(
     alloc: Global,
     members: &[Member],
     kind: Kind,
     name: Label,
-) -> Result<Vec<Member>, AllocError>
-    ensures { IfOk result (λ kept. kept.items ≡ without kind name members.now) }
+) -> Result<MemberList, AllocError>
+    ensures { IfOk result (λ kept. kept ≡ without kind name members.now) }
 {
-    let mut kept = Vec::new(alloc);
+    let mut kept = MemberList::new(alloc);
     for member in members {
         if !is_key(kind, name, member.object()) {
             kept.push(member.share()?)?;

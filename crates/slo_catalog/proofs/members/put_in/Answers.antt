@@ -5,15 +5,15 @@ use Rattle.slo_catalog.proofs.members.put_in.Goals as goal
 
 pub returns-in-Ok : goal.returns-in-Ok
 returns-in-Ok c =
-    c.replaced.ensures
-    ∙ sym (put_over_as c.args.member c.object-object.result.now c.args.members.items
+    c.replace.ensures
+    ∙ sym (put_over_as c.args.member c.object-object.result.now c.args.members
     c.as_slice.result.now c.place_of.result c.in-Ok.place c.object-object.ensures.all
-    c.as_slice.ensures.value c.place_of.ensures c.in-Ok.is)
+    c.as_slice.ensures c.place_of.ensures c.in-Ok.is)
 
 pub returns-in-Err : goal.returns-in-Err
 returns-in-Err c =
-    subst (λ xs. IfOk c.inserted.result (λ new. new.items ≡ xs))
-    (sym (put_between_as c.args.member c.object-object.result.now c.args.members.items
+    subst (λ xs. IfOk c.insert.result (λ new. new ≡ xs))
+    (sym (put_between_as c.args.member c.object-object.result.now c.args.members
     c.as_slice.result.now c.place_of.result c.in-Err.place c.object-object.ensures.all
-    c.as_slice.ensures.value c.place_of.ensures c.in-Err.is))
-    c.inserted.ensures
+    c.as_slice.ensures c.place_of.ensures c.in-Err.is))
+    c.insert.ensures

@@ -5,4 +5,4 @@ use Rattle.slo_catalog.proofs.members.Members.put.Goals as goal
 
 pub invariant_of-result : goal.invariant_of-result
 invariant_of-result c = subst IsSorted (sym c.in_ok-put_in.ensures)
-    (put_sorted c.args.member c.self.inside.list.items c.self.invariant)
+    (put_sorted c.args.member c.self.inside.list c.self.invariant)
