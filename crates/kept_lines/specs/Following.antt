@@ -17,8 +17,7 @@ pub record AreOf (m : Measure) (old new : CountedDays) : Type 0 where
   pub after : new.method ≡ m.method
 
 -- A line agrees with the sums that follow a batch, where it agreed with those before and has
--- forgotten
--- what is near the slices of the rows that move.
+-- forgotten what is near the slices of the rows that move.
 abbrev pub LinesFollowBatches : Type 0
 LinesFollowBatches =
     (m : Measure) (rows : List Row) (verdicts : List RowVerdict) (before after : Line)

@@ -53,8 +53,7 @@ pub record IsInRun (first last slice : ℕ) : Type 0 where
   pub to : slice ≤ last
 
 -- Where the slices near the minutes that a line knows have the same leaves as before, it agrees
--- with
--- the new sums as with the old ones.
+-- with the new sums as with the old ones.
 abbrev pub LinesAgreeAgain : Type 0
 LinesAgreeAgain =
     (line : Line) (old new : CountedDays) → 0 < width_of old.method →
@@ -79,6 +78,7 @@ pub record IsRun (width reach : ℕ) (run : Run) : Type 0 where
   pub early : run.last * width ≤ LAST_MINUTE
   pub joined : run.first < run.last → 2 * width ≤ reach + 1
 
+-- such a run, if there is one
 abbrev pub IsRunIf : ℕ → ℕ → Option Run → Type 0
 IsRunIf width reach None = Unit {0}
 IsRunIf width reach (Some run) = IsRun width reach run

@@ -18,6 +18,7 @@ row_counts m made row =
     if is_of m.sli row && not (is_excluded made m.slo row.minute) then counts m.reading m.op m.value
     row.amount else no_counts
 
+-- what a row adds to its minute, by what it counts for
 abbrev pub share_by : (Row → Counts) → Row → Share
 share_by f row = record { minute = row.minute; counts = f row }
 
@@ -34,8 +35,7 @@ abbrev pub HasItsDay : Measure → CountedDays → Row → Type 0
 HasItsDay m sums row = is_of m.sli row ≡ true → IsTrue (has_day sums (day_of row.minute))
 
 -- The sums of an objective over these exclusions and rows: each slice has the counts of its rows.
--- The days of excluded rows
--- are there too, so that a lifting takes no memory.
+-- The days of excluded rows are there too, so that a lifting takes no memory.
 pub record IsKept (m : Measure) (made : List (Exclusion × Bool)) (rows : List Row)
     (sums : CountedDays) : Type 0 where
   pub method : sums.method ≡ m.method

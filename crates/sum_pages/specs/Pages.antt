@@ -13,6 +13,7 @@ pub record LeafDays : Type 0 where
   pub per_hour : ℕ
   pub days : List (ℕ × List Leaf)
 
+-- the leaf of a slot without data
 abbrev pub no_leaf : Leaf
 no_leaf = record { num = 0; den = 0 }
 

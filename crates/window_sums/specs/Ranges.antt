@@ -10,5 +10,6 @@ slots_of Slot per_hour = 1
 slots_of Hour per_hour = per_hour
 slots_of Day per_hour = 24 * per_hour
 
+-- two leaves, added up
 abbrev pub plus : Leaf → Leaf → Leaf
 plus a b = record { num = a.num + b.num; den = a.den + b.den }

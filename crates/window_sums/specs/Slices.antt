@@ -38,6 +38,7 @@ pub record CountedDays : Type 0 where
   pub method : Method
   pub days : List (ℕ × List Counts)
 
+-- the counts of a slice in which nothing was counted
 abbrev pub no_counts : Counts
 no_counts = record { good = 0; total = 0 }
 
