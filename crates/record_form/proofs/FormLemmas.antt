@@ -12,8 +12,9 @@ use Rattle.std.proofs.lemmas.List.{take_at, drop_at, take-append-drop, length-ap
 use Rattle.std.proofs.lemmas.List.{get_or-drop, get_or-take, get_or_past}
 use Rattle.std.proofs.lemmas.Nat.{be_bytes_2, be_bytes_4, be_bytes_8, from_be_bytes-to_be_bytes_2}
 use Rattle.std.proofs.lemmas.Nat.{from_be_bytes-to_be_bytes_4, from_be_bytes-to_be_bytes_8}
-use Rattle.record_form.specs.Form.{Form, and_then, byte, first_byte, number, take_bytes, text}
-use Rattle.record_form.specs.Form.{passing, ◌then◌, read_as, made, write_each, read_each, counted}
+use Rattle.record_form.specs.Form.{Form, and_then, byte, first_byte, number, first_bytes, text}
+use Rattle.record_form.specs.Form.{passing, ◌then◌, form_by_parts, form_of_list, reading_as}
+use Rattle.record_form.specs.Form.{reading_of_each, spelling_of_each}
 
 abbrev pub IsBytes : List ℕ → Type 0
 IsBytes bytes = (i : ℕ) → get_or bytes i 0 < 256
@@ -241,7 +242,7 @@ then_exact {A = A} {B = B} one other Fits Follows first second = record {
 -- what was read as another value
 pub read_as_some : {A B : Type 0} (make : A → B) (form : Form A) (Fits : A → Type 0) →
     IsExact form Fits → (bytes : List ℕ) (found : B × List ℕ) → IsBytes bytes →
-    read_as make form bytes ≡ Some found →
+    reading_as make form bytes ≡ Some found →
     (x : A) × (found.0 ≡ make x) × Stands form Fits bytes (x, found.1)
 read_as_some {B = B} make form Fits exact bytes found fits e =
     let x = and_then_some (form.read bytes) (λ x. Some (make x.0, x.1)) found e in
@@ -254,15 +255,15 @@ read_as_some {B = B} make form Fits exact bytes found fits e =
 
 pub made_exact : {A B : Type 0} (make : A → B) (parts : B → A) (form : Form A) (Fits : A → Type 0) →
     ((x : A) → parts (make x) ≡ x) → ((y : B) → make (parts y) ≡ y) → IsExact form Fits →
-    IsExact (made make parts form) (λ y. Fits (parts y))
+    IsExact (form_by_parts make parts form) (λ y. Fits (parts y))
 made_exact {A = A} {B = B} make parts form Fits parted remade exact = record {
   again = λ y rest h. rw (exact.again (parts y) rest h) (ap (λ (z : B). Some (z, rest)) (remade y));
   only = only;
   front = λ y a b. exact.front (parts y) a b;
 }
   where
-    only : (bytes : List ℕ) (found : B × List ℕ) → IsBytes bytes → read_as make form bytes
-        ≡ Some found → Stands (made make parts form) (λ y. Fits (parts y)) bytes found
+    only : (bytes : List ℕ) (found : B × List ℕ) → IsBytes bytes → reading_as make form bytes
+        ≡ Some found → Stands (form_by_parts make parts form) (λ y. Fits (parts y)) bytes found
     only bytes found fits e =
         let x = read_as_some make form Fits exact bytes found fits e in
         let is : x.0 ≡ parts found.0 = sym (ap parts x.1 ∙ parted x.0) in
@@ -293,7 +294,7 @@ text_exact count Fits exact = record { again = again; only = only; front = front
     only : (bytes : List ℕ) (found : List ℕ × List ℕ) → IsBytes bytes → (text count).read bytes
         ≡ Some found → Stands (text count) (λ inside. Fits (length inside)) bytes found
     only bytes found fits e =
-        let n = and_then_some (count.read bytes) (λ n. take_bytes n.0 n.1) found e in
+        let n = and_then_some (count.read bytes) (λ n. first_bytes n.0 n.1) found e in
         let g = where_false (nat_lt (length n.0.1) n.0.0) (
           take n.0.0 n.0.1,
           drop n.0.0 n.0.1,
@@ -319,37 +320,39 @@ text_exact count Fits exact = record { again = again; only = only; front = front
 
 pub each_front : {A : Type 0} (form : Form A)
     → ((x : A) (a b : List ℕ) → form.write x (a ++ b) ≡ form.write x a ++ b)
-    → (xs : List A) (a b : List ℕ) → write_each form xs (a ++ b) ≡ write_each form xs a ++ b
+    → (xs : List A) (a b : List ℕ)
+    → spelling_of_each form xs (a ++ b) ≡ spelling_of_each form xs a ++ b
 each_front form front [] a b = refl
 each_front form front (x ∷ xs) a b = ap (form.write x) (each_front form front xs a b)
-    ∙ front x (write_each form xs a) b
+    ∙ front x (spelling_of_each form xs a) b
 
 each_again : {A : Type 0} (form : Form A) (Fits : A → Type 0) → IsExact form Fits
     → (xs : List A) (rest : List ℕ) → AllByRecursion Fits xs
-    → read_each form (length xs) (write_each form xs rest) ≡ Some (xs, rest)
+    → reading_of_each form (length xs) (spelling_of_each form xs rest) ≡ Some (xs, rest)
 each_again form Fits exact [] rest h = refl
 each_again form Fits exact (x ∷ xs) rest h = rw (
-  exact.again x (write_each form xs rest) h.0,
+  exact.again x (spelling_of_each form xs rest) h.0,
   each_again form Fits exact xs rest h.1,
 ) refl
 
 pub record AreEach {A : Type 0} (form : Form A) (Fits : A → Type 0) (count : ℕ) (bytes : List ℕ)
     (found : List A × List ℕ) : Type 0 where
   pub many : length found.0 ≡ count
-  pub spelled : bytes ≡ write_each form found.0 found.1
+  pub spelled : bytes ≡ spelling_of_each form found.0 found.1
   pub fits : AllByRecursion Fits found.0
   pub rest : IsBytes found.1
 
 each_only : {A : Type 0} (form : Form A) (Fits : A → Type 0) → IsExact form Fits
     → (count : ℕ) (bytes : List ℕ) (found : List A × List ℕ) → IsBytes bytes
-    → read_each form count bytes ≡ Some found → AreEach form Fits count bytes found
+    → reading_of_each form count bytes ≡ Some found → AreEach form Fits count bytes found
 each_only form Fits exact zero bytes found fits e =
     subst (AreEach form Fits zero bytes) (some_is ([], bytes) found e)
     (record { many = refl; spelled = refl; fits = tt; rest = fits })
 each_only form Fits exact (suc n) bytes found fits e =
     let x = and_then_some (form.read bytes)
-    (λ x. and_then (read_each form n x.1) (λ xs. Some (x.0 ∷ xs.0, xs.1))) found e in
-    let xs = and_then_some (read_each form n x.0.1) (λ xs. Some (x.0.0 ∷ xs.0, xs.1)) found x.2 in
+    (λ x. and_then (reading_of_each form n x.1) (λ xs. Some (x.0 ∷ xs.0, xs.1))) found e in
+    let xs = and_then_some (reading_of_each form n x.0.1) (λ xs. Some (x.0.0 ∷ xs.0, xs.1)) found
+    x.2 in
     let first = exact.only bytes x.0 fits x.1 in
     let others = each_only form Fits exact n x.0.1 xs.0 first.rest xs.1 in
     subst (AreEach form Fits (suc n) bytes) (some_is (x.0.0 ∷ xs.0.0, xs.0.1) found xs.2)
@@ -362,25 +365,27 @@ each_only form Fits exact (suc n) bytes found fits e =
 
 pub counted_exact : {A : Type 0} (count : Form ℕ)
     (Few : ℕ → Type 0) (form : Form A) (Fits : A → Type 0) → IsExact count Few → IsExact form Fits
-    → IsExact (counted count form) (λ xs. Few (length xs) × AllByRecursion Fits xs)
+    → IsExact (form_of_list count form) (λ xs. Few (length xs) × AllByRecursion Fits xs)
 counted_exact {A = A} count Few form Fits many exact = record {
-  again = λ xs rest h. rw (many.again (length xs) (write_each form xs rest) h.0)
+  again = λ xs rest h. rw (many.again (length xs) (spelling_of_each form xs rest) h.0)
       (each_again form Fits exact xs rest h.1);
   only = only;
   front = λ xs a b. ap (count.write (length xs)) (each_front form exact.front xs a b)
-      ∙ many.front (length xs) (write_each form xs a) b;
+      ∙ many.front (length xs) (spelling_of_each form xs a) b;
 }
   where
     only : (bytes : List ℕ) (found : List A × List ℕ)
-        → IsBytes bytes → (counted count form).read bytes ≡ Some found
-        → Stands (counted count form) (λ xs. Few (length xs) × AllByRecursion Fits xs) bytes found
+        → IsBytes bytes → (form_of_list count form).read bytes ≡ Some found
+        → Stands (form_of_list count form) (λ xs. Few (length xs) × AllByRecursion Fits xs)
+        bytes found
     only bytes found fits e =
-        let n = and_then_some (count.read bytes) (λ n. read_each form n.0 n.1) found e in
+        let n = and_then_some (count.read bytes) (λ n. reading_of_each form n.0 n.1) found e in
         let number = many.only bytes n.0 fits n.1 in
         let each = each_only form Fits exact n.0.0 n.0.1 found number.rest n.2 in
         record {
           spelled = number.spelled ∙ ap (count.write n.0.0) each.spelled
-              ∙ ap (λ (k : ℕ). count.write k (write_each form found.0 found.1)) (sym each.many);
+              ∙ ap (λ (k : ℕ). count.write k (spelling_of_each form found.0 found.1))
+              (sym each.many);
           fits = (subst Few (sym each.many) number.fits, each.fits);
           rest = each.rest;
         }
@@ -401,7 +406,7 @@ pub tagged : {A B : Type 0} (whole : Form B) (Fits : B → Type 0) (n : ℕ) (ma
     ((x : A) (rest : List ℕ) → whole.write (make x) rest ≡ n ∷ form.write x rest) →
     ((x : A) → FitsPart x → Fits (make x)) →
     (k : ℕ) (bytes : List ℕ) (found : B × List ℕ) → IsBytes (k ∷ bytes) →
-    (k ≡ n) × (read_as make form bytes ≡ Some found) → Stands whole Fits (k ∷ bytes) found
+    (k ≡ n) × (reading_as make form bytes ≡ Some found) → Stands whole Fits (k ∷ bytes) found
 tagged {B = B} whole Fits n make form FitsPart exact wrote fit k bytes found fits h =
     let x = read_as_some make form FitsPart exact bytes found (IsBytes-rest k bytes fits) h.1 in
     record {

@@ -12,7 +12,8 @@ use Rattle.record_form.specs.declared.entry.Entry.{Entry}
 use Rattle.record_form.specs.Records.{number_within, entry, entry_of, whole, record_of}
 use Rattle.record_form.specs.Ranges.{IsRowInRange, IsInRange, IsEntryInRange, FitsRow, Fits}
 use Rattle.record_form.specs.Ranges.{FitsRecord, IsRecord}
-use Rattle.record_form.specs.Histories.{records_of, read_on, read_all, history_of, AreRecords}
+use Rattle.record_form.specs.Histories.{AreRecords, entries_from, first_entries, history_of}
+use Rattle.record_form.specs.Histories.{records_of}
 use Rattle.record_form.specs.Laws.{AddsOne}
 use Rattle.record_form.proofs.FormLemmas.{IsBytes, some_is}
 use Rattle.record_form.proofs.LoopLemmas.{each_push, fits_push}
@@ -102,12 +103,12 @@ unfolding entry number_within
 nothing_there = refl
 
 all_again : (es : List Entry) (n : ℕ) → length (records_of es) ≤ n → AllByRecursion FitsRecord es
-    → read_all n (records_of es) ≡ es
+    → first_entries n (records_of es) ≡ es
 all_again [] zero le h = refl
-all_again [] (suc n) le h = ap (read_on (read_all n)) nothing_there
+all_again [] (suc n) le h = ap (entries_from (first_entries n)) nothing_there
 all_again (e ∷ es) zero le h = absurd (omega (arith, le, longer e (records_of es)))
 all_again (e ∷ es) (suc n) le h =
-    ap (read_on (read_all n)) (entry_exact.again e (records_of es) h.0)
+    ap (entries_from (first_entries n)) (entry_exact.again e (records_of es) h.0)
     ∙ ap (λ (more : List Entry). e ∷ more)
     (all_again es n (omega (arith, le, longer e (records_of es))) h.1)
 

@@ -20,7 +20,7 @@ use Rattle.record_form.specs.declared.fields.TheConstants.{MAX_EXCLUDED_MINUTE}
 use Rattle.record_form.specs.declared.command.Command.{Command}
 use Rattle.record_form.specs.declared.command.Command.TheVariants.{Define, Remove, PutZone, Samples}
 use Rattle.record_form.specs.declared.command.Command.TheVariants.{Exclude, Lift, Tick, Take}
-use Rattle.record_form.specs.Form.{and_then, byte, number, text, passing, ◌then◌, read_as}
+use Rattle.record_form.specs.Form.{and_then, byte, number, text, passing, ◌then◌, reading_as}
 use Rattle.record_form.specs.Records.{number_within, label, zone_name, text_within, minute}
 use Rattle.record_form.specs.Records.{kind_byte, kind_of_byte, kind, counts, billionths, amount}
 use Rattle.record_form.specs.Records.{row, rows, exclusion, command, entry}
@@ -158,11 +158,11 @@ amount_exact = record { again = again; only = only; front = front }
         → amount.read bytes ≡ Some found → Stands amount FitsAmount bytes found
     only [] found fits e = absurd cc
     only (form ∷ bytes) found fits e =
-        elim (arm form 0 (read_as (λ p. Counts p.0 p.1) counts bytes)
-        (cond (nat_eq form 1) (read_as Value billionths bytes) None) found e) [
+        elim (arm form 0 (reading_as (λ p. Counts p.0 p.1) counts bytes)
+        (cond (nat_eq form 1) (reading_as Value billionths bytes) None) found e) [
           | inl h ↦ tagged amount FitsAmount 0 (λ p. Counts p.0 p.1) counts (λ p. (p.0 < 2 ^ 32)
               × (p.1 < 2 ^ 32)) counts_exact (λ p rest. refl) (λ p h. h) form bytes found fits h
-          | inr e ↦ elim (arm form 1 (read_as Value billionths bytes) None found e) [
+          | inr e ↦ elim (arm form 1 (reading_as Value billionths bytes) None found e) [
             | inl h ↦ tagged amount FitsAmount 1 Value billionths (λ n. n ≤ MAX_DECIMAL)
                 billionths_exact (λ n rest. refl) (λ n h. h) form bytes found fits h
             | inr e ↦ absurd cc
@@ -310,43 +310,43 @@ command_front (Lift id) a b = ap (λ (bytes : List ℕ). 6 ∷ bytes) (label_exa
 command_front Tick a b = refl
 command_front (Take n) a b = ap (λ (bytes : List ℕ). 8 ∷ bytes) (exact32.front n a b)
 
-command_only : (bytes : List ℕ) (found : Command × List ℕ) → IsBytes bytes
-    → command.read bytes ≡ Some found → Stands command Fits bytes found
+command_only : (bytes : List ℕ) (got : Command × List ℕ) → IsBytes bytes
+    → command.read bytes ≡ Some got → Stands command Fits bytes got
 unfolding command
-command_only [] found fits e = absurd cc
-command_only (k ∷ bytes) found fits e =
-    elim (arm k 1 (read_as Define (text_within MAX_TEXT_BYTES) bytes) _ found e) [
+command_only [] got fits e = absurd cc
+command_only (k ∷ bytes) got fits e =
+    elim (arm k 1 (reading_as Define (text_within MAX_TEXT_BYTES) bytes) _ got e) [
       | inl h ↦ tagged command Fits 1 Define (text_within MAX_TEXT_BYTES) (λ documents. length
-          documents ≤ MAX_TEXT_BYTES) define_exact (λ x rest. refl) (λ x h. h) k bytes found fits h
-      | inr e ↦ elim (arm k 2 (read_as (λ p. Remove p.0 p.1) (kind then label) bytes) _ found e) [
+          documents ≤ MAX_TEXT_BYTES) define_exact (λ x rest. refl) (λ x h. h) k bytes got fits h
+      | inr e ↦ elim (arm k 2 (reading_as (λ p. Remove p.0 p.1) (kind then label) bytes) _ got e) [
         | inl h ↦ tagged command Fits 2 (λ p. Remove p.0 p.1) (kind then label) (λ p. AnyKind p.0
-            × IsTrue (is_label p.1)) remove_exact (λ x rest. refl) (λ x h. h.1) k bytes found fits h
-        | inr e ↦ elim (arm k 3 (read_as (λ p. PutZone p.0 p.1)
-            (zone_name then text_within MAX_ZONE_BYTES) bytes) _ found e) [
+            × IsTrue (is_label p.1)) remove_exact (λ x rest. refl) (λ x h. h.1) k bytes got fits h
+        | inr e ↦ elim (arm k 3 (reading_as (λ p. PutZone p.0 p.1)
+            (zone_name then text_within MAX_ZONE_BYTES) bytes) _ got e) [
               | inl h ↦ tagged command Fits 3 (λ p. PutZone p.0 p.1) (zone_name then text_within
                   MAX_ZONE_BYTES) (λ p. IsTrue (is_zone_name p.0) × (length p.1 ≤ MAX_ZONE_BYTES))
-                  put_zone_exact (λ x rest. refl) (λ x h. h) k bytes found fits h
-              | inr e ↦ elim (arm k 4 (read_as Samples rows bytes) _ found e) [
+                  put_zone_exact (λ x rest. refl) (λ x h. h) k bytes got fits h
+              | inr e ↦ elim (arm k 4 (reading_as Samples rows bytes) _ got e) [
                 | inl h ↦ tagged command Fits 4 Samples rows FitsRows rows_exact (λ x rest. refl)
-                    (λ x h. h) k bytes found fits h
-                | inr e ↦ elim (arm k 5 (read_as Exclude exclusion bytes) _ found e) [
+                    (λ x h. h) k bytes got fits h
+                | inr e ↦ elim (arm k 5 (reading_as Exclude exclusion bytes) _ got e) [
                   | inl h ↦ tagged command Fits 5 Exclude exclusion FitsExclusion exclusion_exact
-                      (λ x rest. refl) (λ x h. h) k bytes found fits h
-                  | inr e ↦ elim (arm k 6 (read_as Lift label bytes) _ found e) [
+                      (λ x rest. refl) (λ x h. h) k bytes got fits h
+                  | inr e ↦ elim (arm k 6 (reading_as Lift label bytes) _ got e) [
                     | inl h ↦ tagged command Fits 6 Lift label (λ name. IsTrue (is_label name))
-                        label_exact (λ x rest. refl) (λ x h. h) k bytes found fits h
-                    | inr e ↦ elim (arm k 7 (Some (Tick, bytes)) _ found e) [
+                        label_exact (λ x rest. refl) (λ x h. h) k bytes got fits h
+                    | inr e ↦ elim (arm k 7 (Some (Tick, bytes)) _ got e) [
                       | inl h ↦ subst (Stands command Fits (k ∷ bytes)) (some_is (
                         Tick,
                         bytes,
-                      ) found h.1) (record {
+                      ) got h.1) (record {
                         spelled = ap (λ (n : ℕ). n ∷ bytes) h.0;
                         fits = tt;
                         rest = IsBytes-rest k bytes fits;
                       })
-                      | inr e ↦ elim (arm k 8 (read_as Take (number w32) bytes) _ found e) [
+                      | inr e ↦ elim (arm k 8 (reading_as Take (number w32) bytes) _ got e) [
                         | inl h ↦ tagged command Fits 8 Take (number w32) (λ n. n < 2 ^ 32) exact32
-                            (λ x rest. refl) (λ x h. h) k bytes found fits h
+                            (λ x rest. refl) (λ x h. h) k bytes got fits h
                         | inr e ↦ absurd cc
                       ]
                     ]

@@ -16,7 +16,7 @@ use Rattle.record_form.specs.declared.command.Command.{Command}
 use Rattle.record_form.specs.declared.command.Command.TheVariants.{Define, Remove, PutZone, Samples}
 use Rattle.record_form.specs.declared.command.Command.TheVariants.{Exclude, Lift, Tick, Take}
 use Rattle.record_form.specs.declared.entry.Entry.{Entry}
-use Rattle.record_form.specs.Form.{write_each}
+use Rattle.record_form.specs.Form.{spelling_of_each}
 use Rattle.record_form.specs.Records.{number_within, label, zone_name, text_within, kind, amount}
 use Rattle.record_form.specs.Records.{row, rows, exclusion, command, entry}
 use Rattle.record_form.specs.Ranges.{FitsRow, FitsExclusion, Fits, FitsRecord}
@@ -67,9 +67,9 @@ kind_length : (k : Kind) (rest : List ℕ) → length (kind.write k rest) ≡ su
 unfolding kind
 kind_length k rest = refl
 
-rows_length : (rs : List Row) → length (rows.write rs []) ≡ 2 + length (write_each row rs [])
+rows_length : (rs : List Row) → length (rows.write rs []) ≡ 2 + length (spelling_of_each row rs [])
 unfolding rows
-rows_length rs = two (length (write_each row rs []))
+rows_length rs = two (length (spelling_of_each row rs []))
 
 exclusion_length : (x : Exclusion) (rest : List ℕ) → FitsExclusion x
     → length (exclusion.write x rest) ≤ 136 + length rest
@@ -105,9 +105,10 @@ row_length r rest fits =
     )
 
 each_length : (rs : List Row) → AllByRecursion FitsRow rs
-    → length (write_each row rs []) ≤ 145 * length rs
+    → length (spelling_of_each row rs []) ≤ 145 * length rs
 each_length [] h = omega arith
-each_length (r ∷ rs) h = omega (arith, row_length r (write_each row rs []) h.0, each_length rs h.1)
+each_length (r ∷ rs) h =
+    omega (arith, row_length r (spelling_of_each row rs []) h.0, each_length rs h.1)
 
 -- the kind byte at least, and at most the greatest text
 most_command : (c : Command) → Fits c → length (command.write c []) ≤ 1048581

@@ -15,11 +15,12 @@ abbrev pub and_then : {A B : Type 0} → Option A → (A → Option B) → Optio
 and_then None f = None
 and_then (Some x) f = f x
 
--- one byte
+-- the byte at the front, and what follows it
 abbrev pub first_byte : List ℕ → Option (ℕ × List ℕ)
 first_byte [] = None
 first_byte (n ∷ rest) = Some (n, rest)
 
+-- one byte
 abbrev pub byte : Form ℕ
 byte = record { write = λ n rest. n ∷ rest; read = first_byte }
 
@@ -32,15 +33,15 @@ number w = record {
 }
 
 -- the next bytes, as many as the count says
-abbrev pub take_bytes : ℕ → List ℕ → Option (List ℕ × List ℕ)
-take_bytes count bytes =
+abbrev pub first_bytes : ℕ → List ℕ → Option (List ℕ × List ℕ)
+first_bytes count bytes =
     cond (nat_lt (length bytes) count) None (Some (take count bytes, drop count bytes))
 
 -- a length, and that many bytes
 abbrev pub text : Form ℕ → Form (List ℕ)
 text count = record {
   write = λ bytes rest. count.write (length bytes) (bytes ++ rest);
-  read = λ bytes. and_then (count.read bytes) (λ n. take_bytes n.0 n.1);
+  read = λ bytes. and_then (count.read bytes) (λ n. first_bytes n.0 n.1);
 }
 
 -- those values alone that pass the test
@@ -59,29 +60,31 @@ one then other = record {
       (λ x. and_then (other.read x.1) (λ y. Some ((x.0, y.0), y.1)));
 }
 
--- a value that is made of what the form spells
-abbrev pub read_as : {A B : Type 0} → (A → B) → Form A → List ℕ → Option (B × List ℕ)
-read_as make form bytes = and_then (form.read bytes) (λ x. Some (make x.0, x.1))
+-- the reading of a value that is made of what the form spells
+abbrev pub reading_as : {A B : Type 0} → (A → B) → Form A → List ℕ → Option (B × List ℕ)
+reading_as make form bytes = and_then (form.read bytes) (λ x. Some (make x.0, x.1))
 
-abbrev pub made : {A B : Type 0} → (A → B) → (B → A) → Form A → Form B
-made make parts form = record {
+-- the form of values that are made of parts, and spelled as these are
+abbrev pub form_by_parts : {A B : Type 0} → (A → B) → (B → A) → Form A → Form B
+form_by_parts make parts form = record {
   write = λ x rest. form.write (parts x) rest;
-  read = read_as make form;
+  read = reading_as make form;
 }
 
--- values one behind another
-abbrev pub write_each : {A : Type 0} → Form A → List A → List ℕ → List ℕ
-write_each form [] rest = rest
-write_each form (x ∷ xs) rest = form.write x (write_each form xs rest)
+-- the spelling of values one behind another
+abbrev pub spelling_of_each : {A : Type 0} → Form A → List A → List ℕ → List ℕ
+spelling_of_each form [] rest = rest
+spelling_of_each form (x ∷ xs) rest = form.write x (spelling_of_each form xs rest)
 
-abbrev pub read_each : {A : Type 0} → Form A → ℕ → List ℕ → Option (List A × List ℕ)
-read_each form zero bytes = Some ([], bytes)
-read_each form (suc n) bytes = and_then (form.read bytes)
-    (λ x. and_then (read_each form n x.1) (λ xs. Some (x.0 ∷ xs.0, xs.1)))
+-- so many values from the front, and what follows them
+abbrev pub reading_of_each : {A : Type 0} → Form A → ℕ → List ℕ → Option (List A × List ℕ)
+reading_of_each form zero bytes = Some ([], bytes)
+reading_of_each form (suc n) bytes = and_then (form.read bytes)
+    (λ x. and_then (reading_of_each form n x.1) (λ xs. Some (x.0 ∷ xs.0, xs.1)))
 
 -- a number, and that many values
-abbrev pub counted : {A : Type 0} → Form ℕ → Form A → Form (List A)
-counted count form = record {
-  write = λ xs rest. count.write (length xs) (write_each form xs rest);
-  read = λ bytes. and_then (count.read bytes) (λ n. read_each form n.0 n.1);
+abbrev pub form_of_list : {A : Type 0} → Form ℕ → Form A → Form (List A)
+form_of_list count form = record {
+  write = λ xs rest. count.write (length xs) (spelling_of_each form xs rest);
+  read = λ bytes. and_then (count.read bytes) (λ n. reading_of_each form n.0 n.1);
 }

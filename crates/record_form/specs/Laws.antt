@@ -22,6 +22,7 @@ pub record HasSize (e : Entry) : Type 0 where
   pub least : 5 ≤ length (record_of e)
   pub most : length (record_of e) ≤ MAX_RECORD_BYTES
 
+-- Each entry that has a record has one of such a size.
 abbrev pub RecordsHaveSizes : Type 0
 RecordsHaveSizes = (e : Entry) → FitsRecord e → HasSize e
 
@@ -35,6 +36,7 @@ pub record AddsOne (bytes : List ℕ) (e : Entry) : Type 0 where
   pub history : history_of (bytes ++ record_of e) ≡ history_of bytes ++ e ∷ []
   pub records : AreRecords (bytes ++ record_of e)
 
+-- So it is behind the records of any history.
 abbrev pub OneRecordMore : Type 0
 OneRecordMore = (bytes : List ℕ) (e : Entry) → AreRecords bytes → FitsRecord e → AddsOne bytes e
 

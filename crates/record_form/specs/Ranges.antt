@@ -17,19 +17,22 @@ use Rattle.record_form.specs.declared.command.Command.TheVariants.{Exclude, Lift
 use Rattle.record_form.specs.declared.entry.Entry.{Entry}
 use Rattle.record_form.specs.Records.{record_of}
 
--- What is asked of whoever writes a record.
+-- What is asked of whoever writes a record: of a row
 pub record IsRowInRange (r : Row) : Type 0 where
   pub minute : r.minute ≤ MAX_MINUTE
   pub first_revision : 1 ≤ r.revision
   pub last_revision : r.revision ≤ MAX_REVISION
 
+-- of the rows of a batch, which has so many at most
 abbrev pub AreRowsInRange : List Row → Type 0
 AreRowsInRange rows = (length rows ≤ MAX_BATCH_ROWS) × AllByRecursion IsRowInRange rows
 
+-- of an exclusion
 pub record IsExclusionInRange (x : Exclusion) : Type 0 where
   pub from : x.from ≤ MAX_EXCLUDED_MINUTE
   pub to : x.to ≤ MAX_EXCLUDED_MINUTE
 
+-- of a command
 abbrev pub IsInRange : Command → Type 0
 IsInRange (Define documents) = length documents ≤ MAX_TEXT_BYTES
 IsInRange (Remove kind name) = Unit {0}
@@ -40,29 +43,35 @@ IsInRange (Lift id) = Unit {0}
 IsInRange Tick = Unit {0}
 IsInRange (Take number) = Unit {0}
 
+-- and of an entry
 pub record IsEntryInRange (e : Entry) : Type 0 where
   pub moment : e.moment ≤ MAX_MINUTE
   pub command : IsInRange e.command
 
--- What has a record: the ranges, and what the values of the types are by themselves.
+-- What has a record: the ranges, and what the values of the types are by themselves. An amount that
+-- has one
 abbrev pub FitsAmount : Amount → Type 0
 FitsAmount (Counts part total) = (part < 2 ^ 32) × (total < 2 ^ 32)
 FitsAmount (Value value) = value ≤ MAX_DECIMAL
 
+-- a row that has a record
 pub record FitsRow (r : Row) : Type 0 where
   pub sli : IsTrue (is_label r.sli)
   pub source : IsTrue (is_label r.source)
   pub range : IsRowInRange r
   pub amount : FitsAmount r.amount
 
+-- the rows of a batch that has a record
 abbrev pub FitsRows : List Row → Type 0
 FitsRows rows = (length rows ≤ MAX_BATCH_ROWS) × AllByRecursion FitsRow rows
 
+-- an exclusion that has a record
 pub record FitsExclusion (x : Exclusion) : Type 0 where
   pub id : IsTrue (is_label x.id)
   pub slo : IsTrue (is_label x.slo)
   pub range : IsExclusionInRange x
 
+-- a command that has a record
 abbrev pub Fits : Command → Type 0
 Fits (Define documents) = length documents ≤ MAX_TEXT_BYTES
 Fits (Remove kind name) = IsTrue (is_label name)
@@ -73,6 +82,7 @@ Fits (Lift id) = IsTrue (is_label id)
 Fits Tick = Unit {0}
 Fits (Take number) = number < 2 ^ 32
 
+-- an entry that has a record
 pub record FitsRecord (e : Entry) : Type 0 where
   pub moment : e.moment ≤ MAX_MINUTE
   pub command : Fits e.command

@@ -16,9 +16,10 @@ abbrev pub ReadsAs : {X Y : Type 0} → (X → Y) → (List ℕ → Option (Y ×
 ReadsAs view read (Ok x) before after = read before ≡ Some (view x, after)
 ReadsAs view read (Err e) before after = Fails e (read before)
 
+-- the same of a value that is seen as it is
 abbrev pub Reads : {X : Type 0} → Form X → Result X Unread → List ℕ → List ℕ → Type 0
 Reads form = ReadsAs (λ x. x) form.read
 
 -- one value more, behind those that were read before
-abbrev pub read_behind : {A : Type 0} → Form A → List A → List ℕ → Option (List A × List ℕ)
-read_behind form front bytes = and_then (form.read bytes) (λ x. Some (front ++ x.0 ∷ [], x.1))
+abbrev pub reading_behind : {A : Type 0} → Form A → List A → List ℕ → Option (List A × List ℕ)
+reading_behind form front bytes = and_then (form.read bytes) (λ x. Some (front ++ x.0 ∷ [], x.1))

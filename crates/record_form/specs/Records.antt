@@ -20,7 +20,7 @@ use Rattle.record_form.specs.declared.command.Command.TheVariants.{Define, Remov
 use Rattle.record_form.specs.declared.command.Command.TheVariants.{Exclude, Lift, Tick, Take}
 use Rattle.record_form.specs.declared.entry.Entry.{Entry}
 use Rattle.record_form.specs.Form.{Form, and_then, first_byte, byte, number, text, passing, ◌then◌}
-use Rattle.record_form.specs.Form.{read_as, made, counted}
+use Rattle.record_form.specs.Form.{form_by_parts, form_of_list, reading_as}
 
 -- a number of 32 bits within bounds
 unfoldable pub number_within : ℕ → ℕ → Form ℕ
@@ -30,6 +30,7 @@ number_within least most = passing (λ n. nat_le least n && nat_le n most) (numb
 unfoldable pub label : Form (List ℕ)
 label = passing is_label (text byte)
 
+-- the same for the name of a time zone
 unfoldable pub zone_name : Form (List ℕ)
 zone_name = passing is_zone_name (text byte)
 
@@ -51,9 +52,11 @@ kind_byte kinds.AlertPolicy = 4
 kind_byte kinds.AlertCondition = 5
 kind_byte kinds.AlertNotificationTarget = 6
 
+-- the kind at a place among the seven
 abbrev pub kind_of_byte : ℕ → Option Kind
 kind_of_byte n = slice_get all_kinds n
 
+-- the byte of a kind
 unfoldable pub kind : Form Kind
 kind = record {
   write = λ k rest. kind_byte k ∷ rest;
@@ -70,24 +73,27 @@ abbrev pub billionths : Form ℕ
 billionths = passing (λ n. nat_le n MAX_DECIMAL) (number w64)
 
 -- a form byte, and the amount in that form
-abbrev pub write_amount : Amount → List ℕ → List ℕ
-write_amount (Counts part total) rest = 0 ∷ counts.write (part, total) rest
-write_amount (Value value) rest = 1 ∷ billionths.write value rest
+abbrev pub amount_spelling : Amount → List ℕ → List ℕ
+amount_spelling (Counts part total) rest = 0 ∷ counts.write (part, total) rest
+amount_spelling (Value value) rest = 1 ∷ billionths.write value rest
 
-abbrev pub read_amount : ℕ → List ℕ → Option (Amount × List ℕ)
-read_amount form bytes =
-    cond (form == 0) (read_as (λ p. Counts p.0 p.1) counts bytes)
-    (cond (form == 1) (read_as Value billionths bytes)
+-- the amount behind a form byte
+abbrev pub amount_reading : ℕ → List ℕ → Option (Amount × List ℕ)
+amount_reading form bytes =
+    cond (form == 0) (reading_as (λ p. Counts p.0 p.1) counts bytes)
+    (cond (form == 1) (reading_as Value billionths bytes)
     None)
 
+-- an amount
 unfoldable pub amount : Form Amount
 amount = record {
-  write = write_amount;
-  read = λ bytes. and_then (first_byte bytes) (λ form. read_amount form.0 form.1);
+  write = amount_spelling;
+  read = λ bytes. and_then (first_byte bytes) (λ form. amount_reading form.0 form.1);
 }
 
+-- a row, field by field
 unfoldable pub row : Form Row
-row = made
+row = form_by_parts
     (λ p. record {
       sli = p.0;
       source = p.1.0;
@@ -100,60 +106,64 @@ row = made
 
 -- two bytes of how many, and the rows
 unfoldable pub rows : Form (List Row)
-rows = counted (passing (λ n. nat_le n MAX_BATCH_ROWS) (number w16)) row
+rows = form_of_list (passing (λ n. nat_le n MAX_BATCH_ROWS) (number w16)) row
 
+-- an exclusion, field by field
 unfoldable pub exclusion : Form Exclusion
-exclusion = made
+exclusion = form_by_parts
     (λ p. record { id = p.0; slo = p.1.0; from = p.1.1.0; to = p.1.1.1 })
     (λ x. (x.id, (x.slo, (x.from, x.to))))
     (label then label then number_within 0 MAX_EXCLUDED_MINUTE
     then number_within 0 MAX_EXCLUDED_MINUTE)
 
 -- a kind byte, and the fields of a command of that kind
-abbrev pub write_command : Command → List ℕ → List ℕ
-write_command (Define documents) rest = 1 ∷ (text_within MAX_TEXT_BYTES).write documents rest
-write_command (Remove k name) rest = 2 ∷ (kind then label).write (k, name) rest
-write_command (PutZone name bytes) rest =
+abbrev pub command_spelling : Command → List ℕ → List ℕ
+command_spelling (Define documents) rest = 1 ∷ (text_within MAX_TEXT_BYTES).write documents rest
+command_spelling (Remove k name) rest = 2 ∷ (kind then label).write (k, name) rest
+command_spelling (PutZone name bytes) rest =
     3 ∷ (zone_name then text_within MAX_ZONE_BYTES).write (name, bytes) rest
-write_command (Samples batch) rest = 4 ∷ rows.write batch rest
-write_command (Exclude value) rest = 5 ∷ exclusion.write value rest
-write_command (Lift id) rest = 6 ∷ label.write id rest
-write_command Tick rest = 7 ∷ rest
-write_command (Take number_taken) rest = 8 ∷ (number w32).write number_taken rest
+command_spelling (Samples batch) rest = 4 ∷ rows.write batch rest
+command_spelling (Exclude value) rest = 5 ∷ exclusion.write value rest
+command_spelling (Lift id) rest = 6 ∷ label.write id rest
+command_spelling Tick rest = 7 ∷ rest
+command_spelling (Take number_taken) rest = 8 ∷ (number w32).write number_taken rest
 
-abbrev pub read_fields : ℕ → List ℕ → Option (Command × List ℕ)
-read_fields k bytes =
-    cond (k == 1) (read_as Define (text_within MAX_TEXT_BYTES) bytes)
-    (cond (k == 2) (read_as (λ p. Remove p.0 p.1) (kind then label) bytes)
-    (cond (k == 3) (read_as (λ p. PutZone p.0 p.1)
+-- the command of a kind, from its fields
+abbrev pub fields_reading : ℕ → List ℕ → Option (Command × List ℕ)
+fields_reading k bytes =
+    cond (k == 1) (reading_as Define (text_within MAX_TEXT_BYTES) bytes)
+    (cond (k == 2) (reading_as (λ p. Remove p.0 p.1) (kind then label) bytes)
+    (cond (k == 3) (reading_as (λ p. PutZone p.0 p.1)
     (zone_name then text_within MAX_ZONE_BYTES) bytes)
-    (cond (k == 4) (read_as Samples rows bytes)
-    (cond (k == 5) (read_as Exclude exclusion bytes)
-    (cond (k == 6) (read_as Lift label bytes)
+    (cond (k == 4) (reading_as Samples rows bytes)
+    (cond (k == 5) (reading_as Exclude exclusion bytes)
+    (cond (k == 6) (reading_as Lift label bytes)
     (cond (k == 7) (Some (Tick, bytes))
-    (cond (k == 8) (read_as Take (number w32) bytes)
+    (cond (k == 8) (reading_as Take (number w32) bytes)
     None)))))))
 
+-- a command
 unfoldable pub command : Form Command
 command = record {
-  write = write_command;
-  read = λ bytes. and_then (first_byte bytes) (λ k. read_fields k.0 k.1);
+  write = command_spelling;
+  read = λ bytes. and_then (first_byte bytes) (λ k. fields_reading k.0 k.1);
 }
 
 -- the moment, and the command
 unfoldable pub entry : Form Entry
-entry = made (λ p. record { moment = p.0; command = p.1 }) (λ e. (e.moment, e.command))
+entry = form_by_parts (λ p. record { moment = p.0; command = p.1 }) (λ e. (e.moment, e.command))
     (minute then command)
 
 -- the record of an entry
 abbrev pub record_of : Entry → List ℕ
 record_of e = entry.write e []
 
--- the entry whose record the bytes are, all of them
+-- the entry at the front, where nothing follows it
 abbrev pub whole : Option (Entry × List ℕ) → Option Entry
 whole None = None
 whole (Some (e, [])) = Some e
 whole (Some (e, first ∷ rest)) = None
 
+-- the entry whose record the bytes are
 abbrev pub entry_of : List ℕ → Option Entry
 entry_of bytes = whole (entry.read bytes)

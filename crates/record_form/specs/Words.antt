@@ -10,6 +10,7 @@ use Rattle.record_form.specs.declared.refusal.Refusal.TheVariants as refusals
 use Rattle.record_form.specs.declared.yaml_word.YamlWord.{YamlWord}
 use Rattle.record_form.specs.declared.yaml_word.YamlWord.TheVariants.{TooLarge, NotUtf8, Form}
 
+-- the word of each limit
 abbrev pub limit_word : LimitName → List ℕ
 limit_word limits.Objects = codes "objects"
 limit_word limits.Catalog = codes "catalog"
@@ -27,6 +28,7 @@ limit_word limits.Exclusions = codes "exclusions"
 limit_word limits.Notices = codes "notices"
 limit_word limits.Entries = codes "entries"
 
+-- the word of what is wrong with a text of documents
 abbrev pub yaml_word : YamlWord → List ℕ
 yaml_word TooLarge = codes "too_large"
 yaml_word NotUtf8 = codes "not_utf8"

@@ -1,7 +1,7 @@
 //! Reading numbers and bytes from the front of a record.
 ghost use Rattle.std.specs.Prelude.{◌≡◌};
 ghost use Rattle.std.specs.Int.{w16, w32, w64};
-ghost use Rattle.record_form.specs.Form.{byte, number, take_bytes};
+ghost use Rattle.record_form.specs.Form.{byte, number, first_bytes};
 ghost use Rattle.record_form.specs.Records.{number_within};
 ghost use Rattle.record_form.specs.Reading.{Reads, ReadsAs};
 ghost use Rattle.record_form.specs.declared.cursor.Unread.TheVariants.{NoMemory};
@@ -96,7 +96,7 @@ impl<'a> Cursor<'a> {
 
     /// The next bytes, as many as the count says.
     pub(crate) fn bytes(&mut self, count: usize) -> Result<&'a [u8], Unread>
-        ensures { ReadsAs (λ bytes. bytes.now) (take_bytes count) result self.old.left.now
+        ensures { ReadsAs (λ bytes. bytes.now) (first_bytes count) result self.old.left.now
             self.new.left.now }
     {
         if self.left.len() < count {

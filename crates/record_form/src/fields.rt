@@ -3,13 +3,13 @@ ghost use Rattle.std.specs.Prelude.{◌≡◌, ◌++◌, [], OnOk, IsTrue};
 ghost use Rattle.std.specs.Int.{w32};
 ghost use Rattle.exact_fraction.specs.Label.{is_label};
 ghost use Rattle.exact_fraction.specs.ZoneName.{is_zone_name};
-ghost use Rattle.record_form.specs.Form.{number, text, byte, read_each};
+ghost use Rattle.record_form.specs.Form.{number, text, byte, reading_of_each};
 ghost use Rattle.record_form.specs.Records.{amount as amount_form, exclusion as exclusion_form};
 ghost use Rattle.record_form.specs.Records.{kind as kind_form, kind_byte as kind_byte_lem};
 ghost use Rattle.record_form.specs.Records.{kind_of_byte, label as label_form, row as row_form};
 ghost use Rattle.record_form.specs.Records.{rows as rows_form, text_within};
 ghost use Rattle.record_form.specs.Records.{zone_name as zone_name_form};
-ghost use Rattle.record_form.specs.Reading.{Reads, ReadsAs, read_behind};
+ghost use Rattle.record_form.specs.Reading.{Reads, ReadsAs, reading_behind};
 
 use crate::command::Rows;
 use crate::cursor::{Cursor, Unread};
@@ -138,8 +138,8 @@ impl<'a> Cursor<'a> {
     }
 
     fn each_row(&mut self, alloc: Global, count: u16) -> Result<Vec<Row>, Unread>
-        ensures { ReadsAs (λ rows. rows.items) (read_each row_form count) result self.old.left.now
-            self.new.left.now }
+        ensures { ReadsAs (λ rows. rows.items) (reading_of_each row_form count) result
+            self.old.left.now self.new.left.now }
     {
         let mut rows = Vec::new(alloc);
         for _ in 0..count {
@@ -151,7 +151,7 @@ impl<'a> Cursor<'a> {
     // Reads a row, and adds it.
     #[tactic(auto, unfolding(crate::specs::Records::row))]
     fn add_row(&mut self, rows: &mut Vec<Row>) -> Result<(), Unread>
-        ensures { ReadsAs (λ _. rows.new.items) (read_behind row_form rows.old.items) result
+        ensures { ReadsAs (λ _. rows.new.items) (reading_behind row_form rows.old.items) result
             self.old.left.now self.new.left.now }
     {
         let sli = self.label()?;

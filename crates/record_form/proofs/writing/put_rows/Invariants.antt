@@ -1,7 +1,7 @@
 use Rattle.std.proofs.Common.{◌≡◌, ◌++◌, [], take, length}
 use Rattle.std.specs.Int.{w16}
 use Rattle.std.specs.List.{AllByRecursion}
-use Rattle.record_form.specs.Form.{number, write_each}
+use Rattle.record_form.specs.Form.{number, spelling_of_each}
 use Rattle.record_form.specs.Records.{row}
 use Rattle.record_form.specs.Ranges.{FitsRow}
 use Rattle.record_form.proofs.writing.put_rows.Given as goal
@@ -14,5 +14,5 @@ pub record SoFar (P Q : Type 0) : Type 0 where
 abbrev pub invariant-loop-row : goal.invariant-loop-row
 invariant-loop-row l =
     SoFar (l.out.items ≡ (l.fn.out.items ++ (number w16).write (length l.rows) [])
-    ++ write_each row (take l.row-index l.rows) [])
+    ++ spelling_of_each row (take l.row-index l.rows) [])
     (AllByRecursion FitsRow (take l.row-index l.rows))
