@@ -14,8 +14,9 @@ use Rattle.exact_fraction.specs.DecimalCuts.{decimal_of}
 use Rattle.exact_fraction.specs.declared.DecimalFault.TheVariants.{BadByte, Empty}
 use Rattle.budget_command.specs.Order.{budget_order}
 use Rattle.sample_stream.specs.declared.stream.TheConstants.{MAX_NUMBER}
-use Rattle.command_words.specs.Commands.{alone, asked_named, asked_of, command_named, is_dashed}
-use Rattle.command_words.specs.Commands.{max_port, minute_asked, not_zero, number_asked, port_asked}
+use Rattle.command_words.specs.Commands.{asked_alone, asked_named, asked_of, command_named}
+use Rattle.command_words.specs.Commands.{is_dashed, max_port, minute_asked, not_zero, number_asked}
+use Rattle.command_words.specs.Commands.{port_asked}
 use Rattle.command_words.specs.declared.asked.Asked.TheVariants as asked
 use Rattle.command_words.specs.declared.asked.Command.TheVariants as commands
 
@@ -70,7 +71,7 @@ no_dashed_number : (most : ℕ) (w : List ℕ) → is_dashed w ≡ true → plai
 no_dashed_number most w h =
     with_dash (λ (v : List ℕ). plain_number_within most v ≡ None) (no_number most) w h
 
-none_alone : {A : Type 0} (a : A) (ws : List (List ℕ)) → HasDash ws → alone a ws ≡ None
+none_alone : {A : Type 0} (a : A) (ws : List (List ℕ)) → HasDash ws → asked_alone a ws ≡ None
 none_alone a [] h = cc h
 none_alone a (w ∷ ws) h = refl
 

@@ -4,20 +4,21 @@ use Rattle.std.proofs.Common.{None, codes, refl, sym, ap, subst, ◌∙◌, inl,
 use Rattle.std.specs.List.{list_any}
 use Rattle.std.specs.Str.{bytes_eq}
 use Rattle.std.proofs.lemmas.Slice.Eq.{bytes_eq-Decides}
-use Rattle.clap.specs.Walk.{Row, Text}
+use Rattle.clap.specs.Walk.{Row as Argument, Text}
 use Rattle.clap.specs.Kinds.{HasKind, IsAmong}
 use Rattle.clap.specs.Values.{kind_of}
 use Rattle.clap.specs.declared.error.Error.{Error}
 use Rattle.clap.specs.declared.error.kind.ErrorKind.TheVariants as kind
 use Rattle.clap.specs.declared.error.kind.ErrorKind.{ErrorKind}
-use Rattle.clap.specs.Simple.{App, is_simple, subcommand_of}
+use Rattle.clap.specs.Simple.{App, is_simple, new_app, subcommand_of}
 use Rattle.clap.specs.Faults.{fault_of, is_simple_and_free}
+use Rattle.clap.proofs.OnLiterals.{clap_on_literals}
 use Rattle.command_words.specs.Commands.{asked_of, is_dashed}
-use Rattle.command_words.specs.Forms.{whole_form}
-use Rattle.command_words.specs.Rows.{asked_by}
+use Rattle.command_words.specs.Forms.{one_word_form, whole_form}
+use Rattle.command_words.specs.Matches.{asked_by}
 use Rattle.command_words.proofs.Walks as walks
-use Rattle.command_words.proofs.Walks.{IsTaken, IsRefused, simple, simple_and_free, no_words}
-use Rattle.command_words.proofs.Walks.{no_name}
+use Rattle.command_words.proofs.Walks.{IsCommand, IsTaken, IsRefused, simple, simple_and_free}
+use Rattle.command_words.proofs.Walks.{no_words, no_name}
 
 abbrev Sorts : List Text → Type 0
 Sorts ws = IsTaken ws ⊎ (IsRefused ws × (asked_of ws ≡ None))
@@ -34,50 +35,58 @@ first_plain : (w : Text) (ws : List Text) → ArePlain (w ∷ ws) → (is_dashed
 first_plain w ws h = neither (is_dashed w) (list_any is_dashed ws) h
 
 -- a command without words behind its name
-no_word : (name : Text) → Sorts (name ∷ [])
-    → ((a : Text) (ws : List Text) → is_dashed a ≡ false → Sorts (name ∷ a ∷ ws))
+no_word : (name : Text) → IsCommand name (new_app name) → Sorts (name ∷ [])
+    → ((a : Text) (ws : List Text) → asked_of (name ∷ a ∷ ws) ≡ None)
     → (ws : List Text) → ArePlain ws → Sorts (name ∷ ws)
-no_word name none more [] h = none
-no_word name none more (a ∷ ws) h = more a ws (first_plain a ws h).0
+no_word name is none more [] h = none
+no_word name is none more (a ∷ ws) h =
+    inr (walks.one_too_many name is a ws (first_plain a ws h).0, more a ws)
 
 -- one with one word at most
-one_word : (name : Text) → Sorts (name ∷ [])
-    → ((a : Text) → is_dashed a ≡ false → Sorts (name ∷ a ∷ []))
-    → ((a b : Text) (ws : List Text) → is_dashed a ≡ false → is_dashed b ≡ false
-    → Sorts (name ∷ a ∷ b ∷ ws))
+one_word : (name id : Text) (is_needed : Bool) → IsCommand name (one_word_form name id is_needed)
+    → Sorts (name ∷ []) → ((a : Text) → is_dashed a ≡ false → IsTaken (name ∷ a ∷ []))
+    → ((a b : Text) (ws : List Text) → asked_of (name ∷ a ∷ b ∷ ws) ≡ None)
     → (ws : List Text) → ArePlain ws → Sorts (name ∷ ws)
-one_word name none one more [] h = none
-one_word name none one more (a ∷ []) h = one a (first_plain a [] h).0
-one_word name none one more (a ∷ b ∷ ws) h =
-    let p = first_plain a (b ∷ ws) h in
-    more a b ws p.0 (first_plain b ws p.1).0
+one_word name id is_needed is none one more [] h = none
+one_word name id is_needed is none one more (a ∷ []) h = inl (one a (first_plain a [] h).0)
+one_word name id is_needed is none one more (a ∷ b ∷ ws) h =
+    let (p, q) = first_plain a (b ∷ ws) h in
+    inr (
+      walks.second_too_many name id is_needed is a b ws p (first_plain b ws q).0,
+      more a b ws,
+    )
 
 checks : (ws : List Text) → ArePlain ws → Sorts (codes "check" ∷ ws)
-checks =
-    no_word (codes "check") (inl walks.check_0) (λ a ws p. inr (walks.check_1 a ws p, refl))
+unfolding clap_on_literals
+checks = no_word (codes "check") (refl, refl) (inl walks.check_0) (λ a ws. refl)
 
 pipes : (ws : List Text) → ArePlain ws → Sorts (codes "pipe" ∷ ws)
-pipes = no_word (codes "pipe") (inl walks.pipe_0) (λ a ws p. inr (walks.pipe_1 a ws p, refl))
+unfolding clap_on_literals
+pipes = no_word (codes "pipe") (refl, refl) (inl walks.pipe_0) (λ a ws. refl)
 
 inits : (ws : List Text) → ArePlain ws → Sorts (codes "init" ∷ ws)
+unfolding clap_on_literals
 inits =
-    one_word (codes "init") (inl walks.init_0) (λ a p. inl (walks.init_1 a p))
-    (λ a b ws p q. inr (walks.init_2 a b ws p q, refl))
+    one_word (codes "init") (codes "origin") false (refl, refl) (inl walks.init_0) walks.init_1
+    (λ a b ws. refl)
 
 reports : (ws : List Text) → ArePlain ws → Sorts (codes "report" ∷ ws)
+unfolding clap_on_literals
 reports =
-    one_word (codes "report") (inl walks.report_0) (λ a p. inl (walks.report_1 a p))
-    (λ a b ws p q. inr (walks.report_2 a b ws p q, refl))
+    one_word (codes "report") (codes "at") false (refl, refl) (inl walks.report_0) walks.report_1
+    (λ a b ws. refl)
 
 serves : (ws : List Text) → ArePlain ws → Sorts (codes "serve" ∷ ws)
+unfolding clap_on_literals
 serves =
-    one_word (codes "serve") (inr (walks.serve_0, refl)) (λ a p. inl (walks.serve_1 a p))
-    (λ a b ws p q. inr (walks.serve_2 a b ws p q, refl))
+    one_word (codes "serve") (codes "port") true (refl, refl) (inr (walks.serve_0, refl))
+    walks.serve_1 (λ a b ws. refl)
 
 generates : (ws : List Text) → ArePlain ws → Sorts (codes "generate" ∷ ws)
+unfolding clap_on_literals
 generates =
-    one_word (codes "generate") (inr (walks.generate_0, refl)) (λ a p. inl (walks.generate_1 a p))
-    (λ a b ws p q. inr (walks.generate_2 a b ws p q, refl))
+    one_word (codes "generate") (codes "number") true (refl, refl)
+    (inr (walks.generate_0, refl)) walks.generate_1 (λ a b ws. refl)
 
 budgets : (ws : List Text) → ArePlain ws → Sorts (codes "budget" ∷ ws)
 budgets [] h = inr (walks.budget_0, refl)
@@ -156,7 +165,7 @@ all_words (w ∷ ws) h =
     (λ generate. others w ws p.0 budget check init pipe report serve generate)))))))
 
 -- words that `clap` took
-taken : (ws : List Text) (found : Option (Text × List Row)) → ArePlain ws
+taken : (ws : List Text) (found : Option (Text × List Argument)) → ArePlain ws
     → fault_of whole_form ws ≡ [] → found ≡ subcommand_of whole_form ws
     → asked_by found ≡ asked_of ws
 taken ws found plain fine is =
@@ -173,12 +182,12 @@ refused ws k plain among = by (all_words ws plain)
     by (inr refuses) = refuses.1
 
 -- the same, of a command that is read as the whole form
-pub taken_by : (a : App) (ws : List Text) (rows : Type 0) (found : Option (Text × List Row))
+pub taken_by : (a : App) (ws : List Text) (matches : Type 0) (found : Option (Text × List Argument))
     → a ≡ whole_form → ArePlain ws
     → (is_simple_and_free a ≡ true → fault_of a ws ≡ [])
-    → (is_simple a ≡ true → rows × (found ≡ subcommand_of a ws))
+    → (is_simple a ≡ true → matches × (found ≡ subcommand_of a ws))
     → asked_by found ≡ asked_of ws
-taken_by a ws rows found whole plain fine is =
+taken_by a ws matches found whole plain fine is =
     taken ws found plain
     ((subst (λ (x : App). is_simple_and_free x ≡ true → fault_of x ws ≡ []) whole fine)
     simple_and_free)

@@ -18,15 +18,15 @@ is_dashed [] = false
 is_dashed (byte ∷ word) = byte == 45
 
 -- what a form that is its name alone asks for
-abbrev pub alone : {A : Type 0} → A → List (List ℕ) → Option A
-alone asked [] = Some asked
-alone asked _ = None
+abbrev pub asked_alone : {A : Type 0} → A → List (List ℕ) → Option A
+asked_alone asked [] = Some asked
+asked_alone asked _ = None
 
 -- what the words behind the name of a command that is answered from its input ask for
 abbrev pub command_named : List ℕ → List (List ℕ) → Option Command
 command_named name words =
     if bytes_eq name (codes "budget") then option_map Budget (budget_order words)
-    else if bytes_eq name (codes "check") then alone Check words
+    else if bytes_eq name (codes "check") then asked_alone Check words
     else None
 
 -- The minute that the words behind `init` or `report` ask for: none, which leaves it to the clock's
@@ -60,7 +60,7 @@ abbrev pub asked_named : List ℕ → List (List ℕ) → Option Asked
 asked_named name words =
     if bytes_eq name (codes "init") then option_map Init (minute_asked words)
     else if bytes_eq name (codes "report") then option_map Report (minute_asked words)
-    else if bytes_eq name (codes "pipe") then alone Pipe words
+    else if bytes_eq name (codes "pipe") then asked_alone Pipe words
     else if bytes_eq name (codes "serve") then option_map Serve (port_asked words)
     else if bytes_eq name (codes "generate") then option_map Generate (number_asked words)
     else option_map Answer (command_named name words)

@@ -1,3 +1,3 @@
 pub mod Commands
 pub mod Forms
-pub mod Rows
+pub mod Matches

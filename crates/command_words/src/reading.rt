@@ -3,12 +3,12 @@ ghost use Rattle.std.specs.Prelude.{◌≡◌, false, Err, IfOk, IfSome, None, S
 ghost use Rattle.std.specs.Prelude.{string_bytes};
 ghost use Rattle.std.specs.List.{list_any};
 ghost use Rattle.clap.specs.Matches.{found_of};
-ghost use Rattle.clap.specs.Simple.{subcommand_rows_of};
-ghost use Rattle.clap.specs.Walk.{first_of, rows_of};
+ghost use Rattle.clap.specs.Simple.{subcommand_rows_of as found_by};
+ghost use Rattle.clap.specs.Walk.{first_of, rows_of as arguments_of};
 ghost use Rattle.command_words.specs.Commands.{IsSound, IsSoundAsked, asked_of};
 ghost use Rattle.command_words.specs.Commands.{is_dashed as dashed};
-ghost use Rattle.command_words.specs.Rows.{asked_by, asked_in, minute_by, number_by, order_by};
-ghost use Rattle.command_words.specs.Rows.{port_by};
+ghost use Rattle.command_words.specs.Matches.{asked_by, asked_in, minute_by, number_by};
+ghost use Rattle.command_words.specs.Matches.{order_by, port_by};
 
 use crate::asked::{Asked, Command};
 use crate::forms::forms;
@@ -48,7 +48,7 @@ fn has_dashes(words: &[String]) -> bool
 /// The command that the words ask for, and its own words, by `clap`.
 fn parse<'a>(alloc: Global, words: &'a [String]) -> Result<ArgMatches<'a>, WordsFault>
     requires { list_any (λ word. dashed (string_bytes word)) words.now ≡ false }
-    ensures ok { IfOk result (λ m. asked_by (subcommand_rows_of m)
+    ensures ok { IfOk result (λ m. asked_by (found_by m)
         ≡ asked_of (map string_bytes words.entry.now)) }
     ensures usage { result ≡ Err WordsFault.Usage →
         asked_of (map string_bytes words.entry.now) ≡ None }
@@ -69,7 +69,7 @@ fn parse<'a>(alloc: Global, words: &'a [String]) -> Result<ArgMatches<'a>, Words
 
 /// A word of a command.
 fn word<'a>(words: &ArgMatches<'a>, id: &str) -> Option<&'a str>
-    ensures { option_map (λ s. s.now) result ≡ first_of id.now (rows_of (found_of words.now)) }
+    ensures { option_map (λ s. s.now) result ≡ first_of id.now (arguments_of (found_of words.now)) }
 {
     words.get_str(id)
 }
@@ -77,7 +77,7 @@ fn word<'a>(words: &ArgMatches<'a>, id: &str) -> Option<&'a str>
 /// The minute that a word asks for: None leaves it to the clock's reading. None in all where it is
 /// no minute of the clock.
 fn read_minute(words: &ArgMatches, id: &str) -> Option<Option<u32>>
-    ensures { result ≡ minute_by (first_of id.now (rows_of (found_of words.now))) }
+    ensures { result ≡ minute_by (first_of id.now (arguments_of (found_of words.now))) }
 {
     match word(words, id) {
         Some(text) => {
@@ -90,7 +90,7 @@ fn read_minute(words: &ArgMatches, id: &str) -> Option<Option<u32>>
 
 /// The number of a sample stream.
 fn read_number(words: &ArgMatches, id: &str) -> Option<u32>
-    ensures { result ≡ number_by (first_of id.now (rows_of (found_of words.now))) }
+    ensures { result ≡ number_by (first_of id.now (arguments_of (found_of words.now))) }
 {
     let text = word(words, id)?;
     let number = read_plain_number(text.as_bytes(), u64::from(MAX_NUMBER))?;
@@ -102,7 +102,7 @@ fn read_number(words: &ArgMatches, id: &str) -> Option<u32>
 
 /// The number of a port.
 fn read_port(words: &ArgMatches, id: &str) -> Option<u16>
-    ensures { result ≡ port_by (first_of id.now (rows_of (found_of words.now))) }
+    ensures { result ≡ port_by (first_of id.now (arguments_of (found_of words.now))) }
 {
     let text = word(words, id)?;
     let port = read_plain_number(text.as_bytes(), u64::from(u16::MAX))?;
@@ -114,7 +114,7 @@ fn read_port(words: &ArgMatches, id: &str) -> Option<u16>
 
 /// What the words of `budget` ask for.
 fn read_budget(words: &ArgMatches) -> Option<Command>
-    ensures order { result ≡ order_by (rows_of (found_of words.now)) }
+    ensures order { result ≡ order_by (arguments_of (found_of words.now)) }
     ensures sound { IfSome result IsSound }
 {
     let target = word(words, "target")?;
@@ -126,7 +126,7 @@ fn read_budget(words: &ArgMatches) -> Option<Command>
 
 /// What the words of the command of this name ask for.
 fn read_command(name: &str, words: &ArgMatches) -> Option<Asked>
-    ensures asked { result ≡ asked_in name.now (rows_of (found_of words.now)) }
+    ensures asked { result ≡ asked_in name.now (arguments_of (found_of words.now)) }
     ensures sound { IfSome result IsSoundAsked }
 {
     match name {
@@ -143,7 +143,7 @@ fn read_command(name: &str, words: &ArgMatches) -> Option<Asked>
 
 /// What the words ask for, of which `clap` has made these matches.
 fn read_matches(matches: &ArgMatches) -> Option<Asked>
-    ensures asked { result ≡ asked_by (subcommand_rows_of matches.now) }
+    ensures asked { result ≡ asked_by (found_by matches.now) }
     ensures sound { IfSome result IsSoundAsked }
 {
     let (name, words) = matches.subcommand()?;

@@ -1,8 +1,8 @@
--- What the command that `clap` found asks for, with the words that it holds.
+-- What the command that `clap` found asks for, with the arguments that it holds.
 use Rattle.std.specs.Prelude.{ℕ, List, [], ◌∷◌, Option, Some, None, codes, if◌then◌else◌}
 use Rattle.std.specs.Prelude.{option_map}
 use Rattle.std.specs.Str.{bytes_eq}
-use Rattle.clap.specs.Walk.{Row, Text, first_of}
+use Rattle.clap.specs.Walk.{Row as Argument, Text, first_of}
 use Rattle.budget_command.specs.Order.{order_of}
 use Rattle.command_words.specs.Commands.{minute_asked, number_asked, port_asked}
 use Rattle.command_words.specs.declared.asked.Asked.{Asked}
@@ -31,28 +31,28 @@ abbrev pub order_with : Option Text → Option Text → Option Text → Option C
 order_with (Some target) (Some from) (Some to) = option_map Budget (order_of target from to)
 order_with _ _ _ = None
 
-abbrev pub order_by : List Row → Option Command
-order_by rows =
-    order_with (first_of (codes "target") rows) (first_of (codes "from") rows)
-    (first_of (codes "to") rows)
+abbrev pub order_by : List Argument → Option Command
+order_by arguments =
+    order_with (first_of (codes "target") arguments) (first_of (codes "from") arguments)
+    (first_of (codes "to") arguments)
 
--- what a command asks for with the words that are held for it
-abbrev pub asked_in : Text → List Row → Option Asked
-asked_in name rows =
-    if bytes_eq name (codes "budget") then option_map Answer (order_by rows)
+-- what a command asks for with the arguments that are held for it
+abbrev pub asked_in : Text → List Argument → Option Asked
+asked_in name arguments =
+    if bytes_eq name (codes "budget") then option_map Answer (order_by arguments)
     else if bytes_eq name (codes "check") then Some (Answer Check)
     else if bytes_eq name (codes "init")
-    then option_map Init (minute_by (first_of (codes "origin") rows))
+    then option_map Init (minute_by (first_of (codes "origin") arguments))
     else if bytes_eq name (codes "pipe") then Some Pipe
     else if bytes_eq name (codes "report")
-    then option_map Report (minute_by (first_of (codes "at") rows))
+    then option_map Report (minute_by (first_of (codes "at") arguments))
     else if bytes_eq name (codes "serve")
-    then option_map Serve (port_by (first_of (codes "port") rows))
+    then option_map Serve (port_by (first_of (codes "port") arguments))
     else if bytes_eq name (codes "generate")
-    then option_map Generate (number_by (first_of (codes "number") rows))
+    then option_map Generate (number_by (first_of (codes "number") arguments))
     else None
 
 -- what the command that was found asks for
-abbrev pub asked_by : Option (Text × List Row) → Option Asked
+abbrev pub asked_by : Option (Text × List Argument) → Option Asked
 asked_by None = None
 asked_by (Some found) = asked_in found.0 found.1
