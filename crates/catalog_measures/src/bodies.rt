@@ -3,15 +3,13 @@ ghost use Rattle.std.specs.Prelude.{◌≡◌, IfSome};
 ghost use Rattle.std.specs.Option.{option_copied};
 ghost use Rattle.slo_catalog.specs.Bindings.{policy_named as policy_named_lem};
 ghost use Rattle.slo_catalog.specs.References.{names_in as names_in_lem};
-ghost use Rattle.object_ranges.specs.Ranges.{HasObjectives, IsCondition, IsWindow};
+ghost use Rattle.object_ranges.specs.Ranges.{HasObjectives, IsWindow};
 ghost use Rattle.object_ranges.specs.office_history.Alerts.{condition_named as condition_named_lem};
 ghost use Rattle.object_ranges.specs.office_history.Objectives.{reading_named as reading_named_lem};
 ghost use Rattle.object_ranges.specs.office_history.Objectives.{slo_named as slo_named_lem};
 
 use exact_fraction::Label;
-use object_ranges::{
-    conditions_are_in_range, objectives_are_in_range, reading_of, windows_are_in_range,
-};
+use object_ranges::{objectives_are_in_range, reading_of, windows_are_in_range};
 use slice_method::Reading;
 use slo_catalog::{Catalog, condition_in, policy_in, sli_in, slo_in};
 use slo_objects::{AlertCondition, AlertPolicy, Kind, Names, Slo};
@@ -44,10 +42,8 @@ pub(crate) fn policy_named(catalog: &Catalog, name: Label) -> Option<&AlertPolic
 
 /// The alert condition of a name: none exactly where there is no such member.
 pub(crate) fn condition_named(catalog: &Catalog, name: Label) -> Option<&AlertCondition>
-    ensures there { option_copied result ≡ condition_named_lem catalog.now name }
-    ensures ranges { IfSome result (λ condition. IsCondition condition.now.condition) }
+    ensures { option_copied result ≡ condition_named_lem catalog.now name }
 {
-    conditions_are_in_range();
     condition_in(&catalog.find(Kind::AlertCondition, name)?.body)
 }
 

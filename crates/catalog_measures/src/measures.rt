@@ -9,6 +9,8 @@ ghost use Rattle.object_ranges.specs.office_history.Objectives.{measure_at as me
 ghost use Rattle.object_ranges.specs.office_history.Objectives.{measure_of as measure_of_lem};
 ghost use Rattle.object_ranges.specs.office_history.Objectives.{measures_named as named_measures};
 ghost use Rattle.object_ranges.specs.office_history.Objectives.{method_of as method_of_lem};
+ghost use Rattle.object_ranges.specs.office_history.Objectives.{slice_target as slice_target_lem};
+ghost use Rattle.object_ranges.specs.office_history.Objectives.{slice_width as slice_width_lem};
 
 use crate::bodies::{reading_named, slo_named};
 use exact_fraction::{Decimal, Label, Op};
@@ -19,16 +21,19 @@ use slo_objects::{BudgetingMethod, Objective, Slo};
 use std::alloc::{AllocError, Global};
 
 fn slice_width(objective: &Objective) -> u32
-    ensures { result ≡ unwrap_or objective.now.time_slice_window 1 }
+    ensures { result ≡ slice_width_lem objective.now }
 {
-    objective.time_slice_window.unwrap_or(1)
+    match objective.time_slice_window {
+        Some(width) => width.minutes,
+        None => 1,
+    }
 }
 
 fn slice_target(objective: &Objective) -> Decimal
-    ensures { result ≡ unwrap_or objective.now.time_slice_target 0 }
+    ensures { result ≡ slice_target_lem objective.now }
 {
     match objective.time_slice_target {
-        Some(target) => target,
+        Some(target) => target.ratio,
         None => Decimal::of_billionths(0),
     }
 }
@@ -67,7 +72,7 @@ fn measure_of(name: Label, slo: &Slo, reading: Reading, objective: &Objective) -
         op: objective.op.unwrap_or(Op::Gte),
         value: value_of(objective),
         method: method_of(slo.budgeting_method, objective),
-        target: objective.target,
+        target: objective.target.ratio,
     }
 }
 

@@ -1,7 +1,7 @@
 //! The rules of alert policies.
 ghost use Rattle.std.specs.Prelude.{◌≡◌, IfSome, Some, option_map, unwrap_or};
 ghost use Rattle.burn_core.specs.Alert.{IsRule};
-ghost use Rattle.object_ranges.specs.Ranges.{IsCondition};
+ghost use Rattle.slo_objects.specs.declared.AlertAfter.{AlertAfter};
 ghost use Rattle.std.specs.Option.{option_copied};
 ghost use Rattle.object_ranges.specs.office_history.Alerts.{first_condition as first_condition_lem};
 ghost use Rattle.object_ranges.specs.office_history.Alerts.{flags_named as flags_named_lem};
@@ -19,10 +19,11 @@ use slo_duration::rolling_minutes;
 use slo_objects::{AlertCondition, AlertPolicy, Condition};
 
 fn wait_of(condition: &Condition) -> u32
-    ensures { result ≡ unwrap_or (option_map minutes_of condition.now.alert_after) 0 }
+    ensures { result ≡ unwrap_or
+        (option_map (λ (a : AlertAfter). minutes_of a.span) condition.now.alert_after) 0 }
 {
     match condition.alert_after {
-        Some(after) => rolling_minutes(after),
+        Some(after) => rolling_minutes(after.span),
         None => 0,
     }
 }
@@ -32,15 +33,14 @@ fn rule_of(condition: &Condition) -> AlertRule
 {
     AlertRule::Single {
         op: condition.op.unwrap_or(Op::Gte),
-        threshold: condition.threshold,
-        lookback: rolling_minutes(condition.lookback_window),
+        threshold: condition.threshold.rate,
+        lookback: rolling_minutes(condition.lookback_window.span),
         after: wait_of(condition),
     }
 }
 
 fn first_condition<'a>(catalog: &'a Catalog, policy: &AlertPolicy) -> Option<&'a AlertCondition>
-    ensures there { option_copied result ≡ first_condition_lem catalog.now policy.now }
-    ensures ranges { IfSome result (λ condition. IsCondition condition.now.condition) }
+    ensures { option_copied result ≡ first_condition_lem catalog.now policy.now }
 {
     let name = names_in(&policy.conditions).get(0)?;
     condition_named(catalog, *name)

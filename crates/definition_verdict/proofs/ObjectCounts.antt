@@ -25,8 +25,10 @@ use Rattle.slo_objects.specs.Scalars.{text, description, zone_name, version, kin
 use Rattle.slo_objects.specs.Scalars.{boolean, text_value, description_value, name_value}
 use Rattle.slo_objects.specs.Scalars.{zone_value, version_value, kind_value, only_kind_value}
 use Rattle.slo_objects.specs.Scalars.{op_value, boolean_value, number, number_value, percent}
-use Rattle.slo_objects.specs.Scalars.{percent_value, one, name, greatest}
-use Rattle.slo_objects.specs.Durations.{duration, duration_value, month, leap_year}
+use Rattle.slo_objects.specs.Scalars.{percent_value, name}
+use Rattle.slo_objects.specs.Ranges.{every_number, lookback_range, slice_target_range, target_range}
+use Rattle.slo_objects.specs.Ranges.{threshold_range, wait_range, window_range}
+use Rattle.slo_objects.specs.Durations.{duration, duration_value}
 use Rattle.slo_objects.specs.Moments.{moment, moment_value}
 use Rattle.slo_objects.specs.Metadata.{metadata}
 use Rattle.slo_objects.specs.Service.{service}
@@ -35,7 +37,7 @@ use Rattle.slo_objects.specs.Sli.{raw_type, is_good, is_threshold, metric_writte
 use Rattle.slo_objects.specs.Sli.{metric_source, source_map, source, raw_type_value, raw_ratio}
 use Rattle.slo_objects.specs.Sli.{counted_ratio, rest_of_ratio, ratio_metric, sli, sli_body}
 use Rattle.slo_objects.specs.AlertCondition.{condition_kind, condition_kind_value, condition}
-use Rattle.slo_objects.specs.AlertCondition.{alert_condition, condition_body, ten_thousand}
+use Rattle.slo_objects.specs.AlertCondition.{alert_condition, condition_body}
 use Rattle.slo_objects.specs.AlertNotificationTarget.{alert_notification_target, target_body}
 use Rattle.slo_objects.specs.AlertPolicy.{conditions, targets, condition_item, target_item}
 use Rattle.slo_objects.specs.AlertPolicy.{at_most_one, any_number_of, alert_policy, policy_body}
@@ -174,14 +176,14 @@ condition_bare es = (
   λ _. (
     bare_optional (codes "op") op es (bare_scalar rules.BadWord op_value),
     λ _. (
-      bare_required (codes "threshold") (number 0 ten_thousand) es
-          (bare_scalar rules.NotNumber (number_value 0 ten_thousand)),
+      bare_required (codes "threshold") (number threshold_range) es
+          (bare_scalar rules.NotNumber (number_value threshold_range)),
       λ _. (
-        bare_required (codes "lookbackWindow") (duration 1 month) es
-            (bare_scalar rules.NotDuration (duration_value 1 month)),
+        bare_required (codes "lookbackWindow") (duration lookback_range) es
+            (bare_scalar rules.NotDuration (duration_value lookback_range)),
         λ _. (
-          bare_optional (codes "alertAfter") (duration 0 month) es
-              (bare_scalar rules.NotDuration (duration_value 0 month)),
+          bare_optional (codes "alertAfter") (duration wait_range) es
+              (bare_scalar rules.NotDuration (duration_value wait_range)),
           λ _. tt,
         ),
       ),
@@ -223,12 +225,12 @@ calendar_bare es = (
 window_bare : (es : Entries) → AreBare time_window es
 unfolding time_window
 window_bare es = (
-  bare_required (codes "duration") (duration 1 leap_year) es
-      (bare_scalar rules.NotDuration (duration_value 1 leap_year)),
+  bare_required (codes "duration") (duration window_range) es
+      (bare_scalar rules.NotDuration (duration_value window_range)),
   λ d. (
     bare_optional (codes "isRolling") boolean es (bare_scalar rules.NotBool boolean_value),
     λ r. (
-      bare_holding (is_rolling r || is_calendar_unit d.unit) (codes "duration")
+      bare_holding (is_rolling r || is_calendar_unit d.span.unit) (codes "duration")
           rules.OutOfRange es,
       λ _. (
         bare_unless (is_rolling r) (codes "calendar") (map_with calendar) es
@@ -246,15 +248,16 @@ objective_bare method es = (
   λ _. (
     bare_optional (codes "op") op es (bare_scalar rules.BadWord op_value),
     λ _. (
-      bare_optional (codes "value") (number 0 greatest) es
-          (bare_scalar rules.NotNumber (number_value 0 greatest)),
+      bare_optional (codes "value") (number every_number) es
+          (bare_scalar rules.NotNumber (number_value every_number)),
       λ _. (
         bare_one_of (codes "target") target (codes "targetPercent") percent
-            is_target es (bare_scalar rules.NotNumber (number_value 0 999_999_999))
+            is_target es (bare_scalar rules.NotNumber (number_value target_range))
             (bare_scalar rules.NotNumber percent_value),
         λ _. (
-          bare_where (has_slice_target method) (codes "timeSliceTarget") (number 1 one) es
-              (bare_scalar rules.NotNumber (number_value 1 one)),
+          bare_where (has_slice_target method) (codes "timeSliceTarget")
+              (number slice_target_range) es
+              (bare_scalar rules.NotNumber (number_value slice_target_range)),
           λ _. (
             bare_where (has_slices method) (codes "timeSliceWindow") slice_width es
                 (bare_scalar rules.NotDuration width_value),

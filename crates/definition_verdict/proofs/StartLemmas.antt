@@ -7,6 +7,6 @@ use Rattle.slo_objects.specs.declared.slo.TimeWindow.{TimeWindow}
 use Rattle.slo_objects.specs.zone_calendar.Starts.{IsCalendarStep}
 
 pub calendar_step : (window : TimeWindow) (calendar : Calendar) → IsWindow window
-    → window.calendar ≡ Some calendar → IsCalendarStep window.duration
+    → window.calendar ≡ Some calendar → IsCalendarStep window.duration.span
 calendar_step window calendar is has =
-    subst (λ found. IfSome found (λ _. IsCalendarStep window.duration)) has is.step
+    subst (λ found. IfSome found (λ _. IsCalendarStep window.duration.span)) has is.step

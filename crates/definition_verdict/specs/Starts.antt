@@ -19,7 +19,7 @@ has_many_starts horizon step (Some calendar) =
 abbrev pub has_many_starts_in : ℕ → Option Slo → Bool
 has_many_starts_in horizon None = false
 has_many_starts_in horizon (Some slo) =
-    has_many_starts horizon slo.time_window.duration slo.time_window.calendar
+    has_many_starts horizon slo.time_window.duration.span slo.time_window.calendar
 
 abbrev pub begins_too_often : ℕ → Object → Bool
 begins_too_often horizon o = has_many_starts_in horizon (slo_in o.body)

@@ -23,7 +23,7 @@ fn begins_too_often(horizon: u32, object: &Object) -> bool
     let Some(calendar) = &window.calendar else {
         return false;
     };
-    has_too_many_starts(&calendar.start_time, window.duration, horizon)
+    has_too_many_starts(&calendar.start_time, window.duration.span, horizon)
 }
 
 /// Whether the windows of an SLO among the members begin too often.

@@ -1,5 +1,5 @@
--- The ranges and the kind of an object that a document stands for: its canonical writing stands for
--- it alone, so it is a document's own.
+-- What ties the fields of an object that a document stands for, and its kind: its canonical writing
+-- stands for it alone, so it is a document's own.
 use Rattle.std.proofs.Common.{◌≡◌, List, [], ◌∷◌, ◌++◌, Some, Ok, Err, refl, subst}
 use Rattle.std.specs.Prelude.{codes}
 use Rattle.std.specs.List.{AllByRecursion}
@@ -12,28 +12,25 @@ use Rattle.slo_objects.specs.declared.Body.TheVariants as bodies
 use Rattle.slo_objects.specs.declared.Kind.{Kind}
 use Rattle.slo_objects.specs.declared.Kind.TheVariants as kinds
 use Rattle.slo_objects.specs.declared.Slo.{Slo}
-use Rattle.slo_objects.specs.declared.AlertCondition.{AlertCondition}
 use Rattle.slo_objects.specs.Form.{Answer, map_with}
 use Rattle.slo_objects.specs.Document.{body, document, with_own, objects_of, written, IsOfDocument}
-use Rattle.slo_objects.specs.AlertCondition.{alert_condition, condition_in}
 use Rattle.slo_objects.specs.Slo.{slo, slo_in}
 use Rattle.document_ranges.specs.Kinds.{kind_of}
-use Rattle.document_ranges.specs.Ranges.{HasObjectives, IsWindow, IsCondition}
+use Rattle.document_ranges.specs.Ranges.{HasObjectives, IsWindow}
 use Rattle.document_ranges.proofs.Reading.{ok_same, err_not_ok, Reads, Makes, map_reads}
 use Rattle.document_ranges.proofs.Reading.{mapped_gave}
 use Rattle.document_ranges.proofs.Lines.{required_gave}
-use Rattle.document_ranges.proofs.Tables.{IsSlo, slo_reads, alert_condition_reads}
+use Rattle.document_ranges.proofs.Tables.{IsSlo, slo_reads}
 
 -- what a body is to be, by its variant
 abbrev pub IsBody : Body → Type 0
 IsBody (bodies.Slo s) = IsSlo s
-IsBody (bodies.AlertCondition c) = IsCondition c.condition
 IsBody _ = Unit {0}
 
 abbrev Any : {A : Type 0} → A → Type 0
 Any a = Unit {0}
 
--- a body in its ranges, of a kind
+-- a body whose fields are tied, of a kind
 abbrev IsBodyOf : Kind → Body → Type 0
 IsBodyOf kind b = IsBody b × (kind_of b ≡ kind)
 
@@ -52,11 +49,10 @@ body_reads kinds.AlertNotificationTarget key t =
     (λ a q. (tt, refl)) _ (λ p e. tt)
 body_reads kinds.Slo key t = mapped_gave IsSlo (IsBodyOf kinds.Slo) bodies.Slo (λ s h. (h, refl))
     ((map_with slo).read key t) (slo_reads key t)
-body_reads kinds.AlertCondition key t =
-    mapped_gave (λ c. IsCondition c.condition) (IsBodyOf kinds.AlertCondition) bodies.AlertCondition
-    (λ c h. (h, refl)) ((map_with alert_condition).read key t) (alert_condition_reads key t)
+body_reads kinds.AlertCondition key t = mapped_gave Any (IsBodyOf kinds.AlertCondition)
+    bodies.AlertCondition (λ a q. (tt, refl)) _ (λ p e. tt)
 
--- an object whose body is in its ranges, and of its kind
+-- an object whose fields are tied, and whose body is of its kind
 abbrev IsSound : Object → Type 0
 IsSound o = IsBodyOf o.kind o.body
 
@@ -98,12 +94,6 @@ slo_of : (b : Body) (s : Slo) → slo_in b ≡ Some s → IsBody b → IsSlo s
 slo_of (bodies.Slo t) s e h = subst IsSlo (let same : t ≡ s = cc e in same) h
 slo_of _ s e h = absurd (let f : ⊥ = cc e in f)
 
-condition_of : (b : Body) (c : AlertCondition) → condition_in b ≡ Some c → IsBody b
-    → IsCondition c.condition
-condition_of (bodies.AlertCondition d) c e h =
-    subst (λ z. IsCondition z.condition) (let same : d ≡ c = cc e in same) h
-condition_of _ c e h = absurd (let f : ⊥ = cc e in f)
-
 pub slos : ReadsBack → (o : Object) (s : Slo) → IsOfDocument o → slo_in o.body ≡ Some s → IsSlo s
 slos law o s d e = slo_of o.body s e (of_document law o d).0
 
@@ -114,10 +104,6 @@ objectives law o s d e = (slos law o s d e).objectives
 pub windows : ReadsBack → (o : Object) (s : Slo) → IsOfDocument o → slo_in o.body ≡ Some s
     → IsWindow s.time_window
 windows law o s d e = (slos law o s d e).window
-
-pub conditions : ReadsBack → (o : Object) (c : AlertCondition) → IsOfDocument o
-    → condition_in o.body ≡ Some c → IsCondition c.condition
-conditions law o c d e = condition_of o.body c e (of_document law o d).0
 
 pub kinds_of : ReadsBack → (o : Object) → IsOfDocument o → kind_of o.body ≡ o.kind
 kinds_of law o d = (of_document law o d).1

@@ -1,5 +1,4 @@
 pub mod Reading
 pub mod Lines
-pub mod Values
 pub mod Tables
 pub mod Documents

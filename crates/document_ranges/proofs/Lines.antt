@@ -8,10 +8,10 @@ use Rattle.slo_objects.specs.yaml_subset.Tree.{no_trees, item}
 use Rattle.slo_objects.specs.yaml_subset.Spelling.{Spelling}
 use Rattle.slo_objects.specs.declared.Object.{Object}
 use Rattle.slo_objects.specs.declared.Rule.{Rule}
-use Rattle.slo_objects.specs.declared.Rule.TheVariants.{Missing, Both, Neither, NotList, ListLength}
+use Rattle.slo_objects.specs.declared.Rule.TheVariants.{Missing, Both, NotList, ListLength}
 use Rattle.slo_objects.specs.Form.{Key, Answer, gives, refused, mapped, on_some, field_of, Form}
 use Rattle.slo_objects.specs.Form.{required, optional, required_where, required_unless}
-use Rattle.slo_objects.specs.Form.{barred_field, field_or, either_field, one_of, holding, count}
+use Rattle.slo_objects.specs.Form.{barred_field, field_or, holding, count}
 use Rattle.slo_objects.specs.Form.{each, with_item, list_with, only_in, single}
 use Rattle.document_ranges.proofs.Reading.{ok_same, err_not_ok, refused_not_ok, Reads, mapped_gave}
 
@@ -74,18 +74,6 @@ required_unless_gave {A} Q barred key f reads es y e = by (field_of key es) barr
       λ _. (field_gave Q key f reads t y g).1,
       λ no. absurd (let f : ⊥ = cc in f),
     )
-
-pub one_of_gave : {A : Type 0} (Q : A → Type 0) (key : Key) (f : Form A) (other : Key) (g : Form A)
-    (is_first : A → Bool) → Reads f Q → Reads g Q → (es : Entries) (y : List Object × A)
-    → (one_of key f other g is_first).read es ≡ Ok y → Q y.1
-one_of_gave {A} Q key f other g is_first first second es y e =
-    by (field_of key es) (field_of other es) e
-  where
-    by : (o p : Option Tree) → either_field f key g other o p ≡ Ok y → Q y.1
-    by None None h = refused_not_ok key Neither y h
-    by (Some t) None h = first key t y h
-    by None (Some t) h = second other t y h
-    by (Some t) (Some u) h = refused_not_ok key Both y h
 
 pub holding_gave : (holds : Bool) (key : Key) (rule : Rule) (es : Entries)
     (y : List Object × Unit {0}) → (holding holds key rule).read es ≡ Ok y → holds ≡ true

@@ -1,15 +1,12 @@
 -- What holds of each value that a form or a table gives.
-use Rattle.std.proofs.Common.{◌≡◌, ℕ, List, [], ◌++◌, Result, Ok, Err, refl, ap, ◌∙◌, subst}
-use Rattle.std.specs.Prelude.{IfOk}
+use Rattle.std.proofs.Common.{◌≡◌, List, [], ◌++◌, Result, Ok, Err, refl, ap, ◌∙◌, subst}
 use Rattle.slo_objects.specs.yaml_subset.Tree.{Tree, mapping, sequence, scalar, Entries}
-use Rattle.slo_objects.specs.yaml_subset.Spelling.{Spelling}
 use Rattle.slo_objects.specs.declared.Object.{Object}
 use Rattle.slo_objects.specs.declared.Rule.{Rule}
 use Rattle.slo_objects.specs.declared.Rule.TheVariants.{NotMap}
 use Rattle.slo_objects.specs.declared.ObjectFault.{ObjectFault}
-use Rattle.slo_objects.specs.Form.{Key, Answer, gives, refused, after, and_then, mapped, told}
-use Rattle.slo_objects.specs.Form.{closed, Form, Rows, done, row, run, scalar_form, map_with}
-use Rattle.slo_objects.specs.Form.{variant}
+use Rattle.slo_objects.specs.Form.{Key, Answer, gives, refused, after, and_then, mapped, closed}
+use Rattle.slo_objects.specs.Form.{Form, Rows, done, row, run, map_with}
 
 pub ok_same : {X : Type 0} (x y : X) → (let r : Result X ObjectFault = Ok x in r) ≡ Ok y → x ≡ y
 ok_same x y e = cc
@@ -79,22 +76,3 @@ pub mapped_gave : {A B : Type 0} (Q : A → Type 0) (R : B → Type 0) (f : A �
 mapped_gave Q R f h (Ok p) q y e =
     subst R (ap (λ z. z.1) (ok_same (p.0, f p.1) y e)) (h p.1 (q p refl))
 mapped_gave Q R f h (Err x) q y e = absurd (err_not_ok x y e)
-
-pub variant_reads : {A B : Type 0} (Q : A → Type 0) (R : B → Type 0)
-    (f : Form A) (made : A → B) (write : B → Spelling) → ((a : A) → Q a → R (made a)) → Reads f Q
-    → Reads (variant f made write) R
-variant_reads Q R f made write h reads key t = mapped_gave Q R made h (f.read key t) (reads key t)
-
--- a scalar, by what its text stands for
-told_gave : {A : Type 0} (Q : A → Type 0) (key : Key) (r : Result A Rule) (y : List Object × A)
-    → told key r ≡ Ok y → IfOk r Q → Q y.1
-told_gave Q key (Ok a) y e h = subst Q (ap (λ z. z.1) (ok_same ([], a) y e)) h
-told_gave Q key (Err rule) y e h = refused_not_ok key rule y e
-
-pub scalar_reads : {A : Type 0} (Q : A → Type 0) (rule : Rule) (parse : List ℕ → Result A Rule)
-    (write : A → Spelling) → ((text : List ℕ) → IfOk (parse text) Q)
-    → Reads (scalar_form rule parse write) Q
-scalar_reads Q rule parse write h key (scalar text plain) y e =
-    told_gave Q key (parse text) y e (h text)
-scalar_reads Q rule parse write h key (mapping es) y e = refused_not_ok key rule y e
-scalar_reads Q rule parse write h key (sequence ts) y e = refused_not_ok key rule y e

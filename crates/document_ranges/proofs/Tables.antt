@@ -1,35 +1,32 @@
--- The ranges of objectives, windows and conditions, by their tables.
-use Rattle.std.proofs.Common.{◌≡◌, ℕ, zero, suc, ◌*◌, ◌<◌, ◌≤◌, Bool, true, false, ◌||◌, Option}
-use Rattle.std.proofs.Common.{Some, None, length, refl, arith}
+-- What ties the fields of objectives and windows, by their tables.
+use Rattle.std.proofs.Common.{◌≡◌, ℕ, zero, suc, ◌*◌, ◌<◌, Bool, true, false, ◌||◌, Option, Some}
+use Rattle.std.proofs.Common.{None, length, refl, arith}
 use Rattle.std.specs.Prelude.{codes, nat_le, IfSome, IsNone}
 use Rattle.std.proofs.lemmas.Bool.{leb-true, and_parts}
 use Rattle.std.proofs.lemmas.Option.{IfSome_then}
 use Rattle.std.proofs.lemmas.List.Elements.{All-from_recursion}
 use Rattle.slo_objects.specs.yaml_subset.Tree.{Entries}
 use Rattle.slo_objects.specs.slo_duration.Unit.{unit_minutes}
-use Rattle.slo_objects.specs.slo_duration.declared.Duration.{Duration}
 use Rattle.slo_objects.specs.slo_duration.declared.Unit.{Unit as TimeUnit}
 use Rattle.slo_objects.specs.slo_duration.declared.Unit.TheVariants as units
 use Rattle.slo_objects.specs.declared.Slo.{Slo}
+use Rattle.slo_objects.specs.declared.WindowLength.{WindowLength}
 use Rattle.slo_objects.specs.declared.slo.BudgetingMethod.{BudgetingMethod}
 use Rattle.slo_objects.specs.declared.Rule.TheVariants as rules
 use Rattle.slo_objects.specs.Form.{Form, map_with, single}
 use Rattle.slo_objects.specs.Inline.{reference_written}
-use Rattle.slo_objects.specs.Scalars.{number, percent, one}
-use Rattle.slo_objects.specs.Durations.{duration, minutes_of, month, leap_year}
-use Rattle.slo_objects.specs.AlertCondition.{ten_thousand, condition, alert_condition}
+use Rattle.slo_objects.specs.Ranges.{slice_target_range}
+use Rattle.slo_objects.specs.Scalars.{number}
 use Rattle.slo_objects.specs.Slo.{calendar, is_rolling, is_calendar_unit, time_window}
-use Rattle.slo_objects.specs.Slo.{has_slice_target, has_slices, slice_width, target, is_target}
+use Rattle.slo_objects.specs.Slo.{has_slice_target, has_slices, slice_width}
 use Rattle.slo_objects.specs.Slo.{objective, one_to_five, objective_item, objectives, policy_item}
 use Rattle.slo_objects.specs.Slo.{at_most_ten, policies, slo}
 use Rattle.slo_objects.specs.zone_calendar.Starts.{IsCalendarUnit, IsCalendarStep}
-use Rattle.document_ranges.specs.Ranges.{IsWidth, IsObjective, HasObjectives, IsWindow, IsCondition}
+use Rattle.document_ranges.specs.Ranges.{IsObjective, HasObjectives, IsWindow}
 use Rattle.document_ranges.proofs.Reading.{Reads, Makes, map_reads}
 use Rattle.document_ranges.proofs.Lines.{required_gave, optional_gave, required_where_gave}
-use Rattle.document_ranges.proofs.Lines.{required_unless_gave, one_of_gave, holding_gave, HasItems}
+use Rattle.document_ranges.proofs.Lines.{required_unless_gave, holding_gave, HasItems}
 use Rattle.document_ranges.proofs.Lines.{list_reads, single_reads}
-use Rattle.document_ranges.proofs.Values.{IsWithin, number_reads, percent_reads, LastsWithin}
-use Rattle.document_ranges.proofs.Values.{duration_reads, width_reads}
 
 abbrev Any : {A : Type 0} → A → Type 0
 Any a = Unit {0}
@@ -42,21 +39,12 @@ any_read f key t y e = tt
 objective_makes : (method : BudgetingMethod) (es : Entries)
     → Makes (objective method) es (IsObjective method)
 unfolding objective
-objective_makes method es = λ d _ o _ v _ t et s est w ew.
-    let aim = one_of_gave (IsWithin 0 999_999_999) (codes "target") target (codes "targetPercent")
-    percent is_target (number_reads 0 999_999_999) percent_reads es t et in
-    let slice = required_where_gave (IsWithin 1 one) (has_slice_target method)
-    (codes "timeSliceTarget") (number 1 one) (number_reads 1 one) es s est in
-    let width = required_where_gave IsWidth (has_slices method) (codes "timeSliceWindow")
-    slice_width width_reads es w ew in
-    record {
-      target = let below : t.1 ≤ 999_999_999 = aim.1 in omega arith;
-      slice_target = IfSome_then s.1 slice.0
-          (λ n h. record { some = let some : 1 ≤ n = h.0 in omega arith; within_one = h.1 });
-      has_target = slice.1;
-      slice_width = width.0;
-      has_width = width.1;
-    }
+objective_makes method es = λ d _ o _ v _ t _ s est w ew. record {
+  has_target = (required_where_gave Any (has_slice_target method) (codes "timeSliceTarget")
+      (number slice_target_range) (any_read (number slice_target_range)) es s est).1;
+  has_width = (required_where_gave Any (has_slices method) (codes "timeSliceWindow") slice_width
+      (any_read slice_width) es w ew).1;
+}
 
 objective_reads : (method : BudgetingMethod)
     → Reads (map_with (objective method)) (IsObjective method)
@@ -86,35 +74,29 @@ some_units : (count minutes : ℕ) → 0 < count * minutes → 0 < count
 some_units zero minutes h = absurd (omega arith)
 some_units (suc count) minutes h = omega arith
 
-window_step : (d : Duration) → LastsWithin 1 leap_year d → is_calendar_unit d.unit ≡ true
-    → IsCalendarStep d
-window_step d h e = record {
-  unit = calendar_unit d.unit e;
-  some = some_units d.count
-      (unit_minutes d.unit) (let some : 1 ≤ minutes_of d = h.0 in omega arith);
-  short = h.1;
+window_step : (w : WindowLength) → is_calendar_unit w.span.unit ≡ true → IsCalendarStep w.span
+window_step w e = record {
+  unit = calendar_unit w.span.unit e;
+  some = some_units w.span.count (unit_minutes w.span.unit) w.some;
+  short = w.short;
 }
 
-step_where : {A : Type 0} (d : Duration) (o : Option A) (rolling : Bool) → LastsWithin 1 leap_year d
-    → (rolling || is_calendar_unit d.unit) ≡ true → (rolling ≡ true → IsNone o)
-    → IfSome o (λ _. IsCalendarStep d)
-step_where d None rolling h e n = tt
-step_where d (Some a) true h e n = absurd (let f : ⊥ = cc (n refl) in f)
-step_where d (Some a) false h e n = window_step d h e
+step_where : {A : Type 0} (w : WindowLength) (o : Option A) (rolling : Bool)
+    → (rolling || is_calendar_unit w.span.unit) ≡ true → (rolling ≡ true → IsNone o)
+    → IfSome o (λ _. IsCalendarStep w.span)
+step_where w None rolling e n = tt
+step_where w (Some a) true e n = absurd (let f : ⊥ = cc (n refl) in f)
+step_where w (Some a) false e n = window_step w e
 
 window_makes : (es : Entries) → Makes time_window es IsWindow
 unfolding time_window
-window_makes es = λ d ed r _ u eu c ec.
-    let lasts = required_gave (LastsWithin 1 leap_year) (codes "duration") (duration 1 leap_year)
-    (duration_reads 1 leap_year) es d ed in
-    let holds = holding_gave (is_rolling r.1 || is_calendar_unit d.1.unit) (codes "duration")
+window_makes es = λ d _ r _ u eu c ec.
+    let holds = holding_gave (is_rolling r.1 || is_calendar_unit d.1.span.unit) (codes "duration")
     rules.OutOfRange es u eu in
     let there = required_unless_gave Any (is_rolling r.1) (codes "calendar") (map_with calendar)
     (any_read (map_with calendar)) es c ec in
     record {
-      some = let some : 1 ≤ minutes_of d.1 = lasts.0 in omega arith;
-      short = lasts.1;
-      step = step_where d.1 c.1 (is_rolling r.1) lasts holds there.1;
+      step = step_where d.1 c.1 (is_rolling r.1) holds there.1;
       has_calendar = there.0;
       has_none = there.1;
     }
@@ -148,30 +130,3 @@ slo_makes es = λ d _ s _ i _ w ew m _ o eo p ep.
 
 pub slo_reads : Reads (map_with slo) IsSlo
 slo_reads = map_reads slo IsSlo slo_makes
-
--- CONDITIONS
-
-condition_makes : (es : Entries) → Makes condition es IsCondition
-unfolding condition
-condition_makes es = λ k _ o _ t et l el a ea.
-    let threshold = required_gave (IsWithin 0 ten_thousand) (codes "threshold")
-    (number 0 ten_thousand) (number_reads 0 ten_thousand) es t et in
-    let lookback = required_gave (LastsWithin 1 month) (codes "lookbackWindow") (duration 1 month)
-    (duration_reads 1 month) es l el in
-    let wait = optional_gave (LastsWithin 0 month) (codes "alertAfter") (duration 0 month)
-    (duration_reads 0 month) es a ea in
-    record {
-      threshold = threshold.1;
-      some = let some : 1 ≤ minutes_of l.1 = lookback.0 in omega arith;
-      short = lookback.1;
-      wait = IfSome_then a.1 wait (λ d h. h.1);
-    }
-
-alert_condition_makes : (es : Entries) → Makes alert_condition es (λ c. IsCondition c.condition)
-unfolding alert_condition
-alert_condition_makes es = λ d _ s _ c ec. required_gave IsCondition (codes "condition")
-    (map_with condition) (map_reads condition IsCondition condition_makes) es c ec
-
-pub alert_condition_reads : Reads (map_with alert_condition) (λ c. IsCondition c.condition)
-alert_condition_reads =
-    map_reads alert_condition (λ c. IsCondition c.condition) alert_condition_makes

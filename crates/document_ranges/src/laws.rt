@@ -1,18 +1,16 @@
-//! The laws of ranges, and of kinds and bodies.
+//! The laws of objectives, windows and bodies.
 ghost use Rattle.std.specs.Prelude.{◌≡◌, Some};
 ghost use Rattle.slo_objects.specs.declared.Object.{Object};
 ghost use Rattle.slo_objects.specs.declared.Slo.{Slo};
-ghost use Rattle.slo_objects.specs.declared.AlertCondition.{AlertCondition};
-ghost use Rattle.slo_objects.specs.AlertCondition.{condition_in};
 ghost use Rattle.slo_objects.specs.Document.{IsOfDocument};
 ghost use Rattle.slo_objects.specs.Slo.{slo_in};
 ghost use Rattle.document_ranges.specs.Kinds.{kind_of};
-ghost use Rattle.document_ranges.specs.Ranges.{HasObjectives, IsCondition, IsWindow};
+ghost use Rattle.document_ranges.specs.Ranges.{HasObjectives, IsWindow};
 
 use slo_objects::each_object_reads_back;
 
-/// An SLO of a document has one to five objectives, each with a target below one and what its
-/// budgeting method wants of slices, and at most ten policies.
+/// An SLO of a document has one to five objectives, each with what its budgeting method wants of
+/// slices, and at most ten policies.
 pub fn objectives_are_in_range()
     ensures { (o : Object) (slo : Slo) → IsOfDocument o → slo_in o.body ≡ Some slo
         → HasObjectives slo }
@@ -20,19 +18,11 @@ pub fn objectives_are_in_range()
     each_object_reads_back();
 }
 
-/// The window of an SLO of a document lasts at least a minute and at most 366 days; where it has a
-/// calendar, its starts can follow each other by it.
+/// The window of an SLO of a document has a calendar where it isn't rolling, and there alone; the
+/// calendar's starts can follow each other by the window's length.
 pub fn windows_are_in_range()
     ensures { (o : Object) (slo : Slo) → IsOfDocument o → slo_in o.body ≡ Some slo
         → IsWindow slo.time_window }
-{
-    each_object_reads_back();
-}
-
-/// The threshold, the lookback and the wait of a condition of a document are those of a rule.
-pub fn conditions_are_in_range()
-    ensures { (o : Object) (c : AlertCondition) → IsOfDocument o → condition_in o.body ≡ Some c
-        → IsCondition c.condition }
 {
     each_object_reads_back();
 }

@@ -158,8 +158,9 @@ spec:
   description: x
 ~> AlertCondition(AlertCondition { description: Some(Text { string: "x" }), severity: Text {
 string: "page" }, condition: Condition { kind: Some(Burnrate), op: Some(Gte), threshold:
-Decimal { billionths: 2000000000 }, lookback_window: Duration { count: 1, unit: Hour },
-alert_after: Some(Duration { count: 5, unit: Minute }) } })
+Threshold { rate: Decimal { billionths: 2000000000 } }, lookback_window: Lookback { span:
+Duration { count: 1, unit: Hour } }, alert_after: Some(AlertAfter { span: Duration { count: 5,
+unit: Minute } }) } })
 ====
 kind: AlertCondition
 spec:
@@ -168,8 +169,9 @@ spec:
     threshold: 2
     lookbackWindow: 1h
 ~> AlertCondition(AlertCondition { description: None, severity: Text { string: "page" },
-condition: Condition { kind: None, op: None, threshold: Decimal { billionths: 2000000000 },
-lookback_window: Duration { count: 1, unit: Hour }, alert_after: None } })
+condition: Condition { kind: None, op: None, threshold: Threshold { rate: Decimal {
+billionths: 2000000000 } }, lookback_window: Lookback { span: Duration { count: 1, unit: Hour
+} }, alert_after: None } })
 ====
 kind: AlertCondition
 spec:
@@ -182,8 +184,9 @@ spec:
     alertAfter: ~
   description: ~
 ~> AlertCondition(AlertCondition { description: None, severity: Text { string: "page" },
-condition: Condition { kind: None, op: None, threshold: Decimal { billionths: 2000000000 },
-lookback_window: Duration { count: 1, unit: Hour }, alert_after: None } })
+condition: Condition { kind: None, op: None, threshold: Threshold { rate: Decimal {
+billionths: 2000000000 } }, lookback_window: Lookback { span: Duration { count: 1, unit: Hour
+} }, alert_after: None } })
 ====
 kind: AlertNotificationTarget
 spec:
@@ -227,19 +230,21 @@ spec:
   description: x
   alertPolicies: []
 ~> Slo(Slo { description: Some(Text { string: "x" }), service: Label(shop), indicator:
-Label(good), time_window: TimeWindow { duration: Duration { count: 4, unit: Week },
-is_rolling: Some(true), calendar: None }, budgeting_method: Occurrences, objectives:
-Objectives { items: [Objective { display_name: Some(Text { string: "Fast" }), op: Some(Lt),
-value: Some(Decimal { billionths: 1500000000 }), target: Decimal { billionths: 900000000 },
-time_slice_target: Some(Decimal { billionths: 950000000 }), time_slice_window: Some(5) }] },
-alert_policies: Some(Names { items: [] }) })
+Label(good), time_window: TimeWindow { duration: WindowLength { span: Duration { count: 4,
+unit: Week } }, is_rolling: Some(true), calendar: None }, budgeting_method: Occurrences,
+objectives: Objectives { items: [Objective { display_name: Some(Text { string: "Fast" }), op:
+Some(Lt), value: Some(Decimal { billionths: 1500000000 }), target: Target { ratio: Decimal {
+billionths: 900000000 } }, time_slice_target: Some(SliceTarget { ratio: Decimal { billionths:
+950000000 } }), time_slice_window: Some(SliceWidth { minutes: 5 }) }] }, alert_policies:
+Some(Names { items: [] }) })
 ====
   - target: 0.9
 ~> Slo(Slo { description: None, service: Label(shop), indicator: Label(good), time_window:
-TimeWindow { duration: Duration { count: 4, unit: Week }, is_rolling: Some(true), calendar:
-None }, budgeting_method: Occurrences, objectives: Objectives { items: [Objective {
-display_name: None, op: None, value: None, target: Decimal { billionths: 900000000 },
-time_slice_target: None, time_slice_window: None }] }, alert_policies: None })
+TimeWindow { duration: WindowLength { span: Duration { count: 4, unit: Week } }, is_rolling:
+Some(true), calendar: None }, budgeting_method: Occurrences, objectives: Objectives { items:
+[Objective { display_name: None, op: None, value: None, target: Target { ratio: Decimal {
+billionths: 900000000 } }, time_slice_target: None, time_slice_window: None }] },
+alert_policies: None })
 ====
   - target: 0.9
     displayName: ~
@@ -252,10 +257,11 @@ time_slice_target: None, time_slice_window: None }] }, alert_policies: None })
   indicator: ~
   alertPolicies: ~
 ~> Slo(Slo { description: None, service: Label(shop), indicator: Label(good), time_window:
-TimeWindow { duration: Duration { count: 4, unit: Week }, is_rolling: Some(true), calendar:
-None }, budgeting_method: Occurrences, objectives: Objectives { items: [Objective {
-display_name: None, op: None, value: None, target: Decimal { billionths: 900000000 },
-time_slice_target: None, time_slice_window: None }] }, alert_policies: None })
+TimeWindow { duration: WindowLength { span: Duration { count: 4, unit: Week } }, is_rolling:
+Some(true), calendar: None }, budgeting_method: Occurrences, objectives: Objectives { items:
+[Objective { display_name: None, op: None, value: None, target: Target { ratio: Decimal {
+billionths: 900000000 } }, time_slice_target: None, time_slice_window: None }] },
+alert_policies: None })
 
 apiVersion: openslo/v1
 metadata:
@@ -380,8 +386,9 @@ spec:
     threshold: 0
     lookbackWindow: 1m
     alertAfter: 0m
-~> op: Some(Lte), threshold: Decimal { billionths: 0 }, lookback_window: Duration { count: 1,
-unit: Minute }, alert_after: Some(Duration { count: 0, unit: Minute })
+~> op: Some(Lte), threshold: Threshold { rate: Decimal { billionths: 0 } }, lookback_window:
+Lookback { span: Duration { count: 1, unit: Minute } }, alert_after: Some(AlertAfter { span:
+Duration { count: 0, unit: Minute } })
 ====
 kind: AlertCondition
 spec:
@@ -391,8 +398,9 @@ spec:
     threshold: 10000
     lookbackWindow: 43200m
     alertAfter: 720h
-~> op: Some(Gte), threshold: Decimal { billionths: 10000000000000 }, lookback_window: Duration
-{ count: 43200, unit: Minute }, alert_after: Some(Duration { count: 720, unit: Hour })
+~> op: Some(Gte), threshold: Threshold { rate: Decimal { billionths: 10000000000000 } },
+lookback_window: Lookback { span: Duration { count: 43200, unit: Minute } }, alert_after:
+Some(AlertAfter { span: Duration { count: 720, unit: Hour } })
 ====
 kind: AlertCondition
 spec:
@@ -402,8 +410,9 @@ spec:
     threshold: '14.4'
     lookbackWindow: 30d
     alertAfter: 4w
-~> op: Some(Lt), threshold: Decimal { billionths: 14400000000 }, lookback_window: Duration {
-count: 30, unit: Day }, alert_after: Some(Duration { count: 4, unit: Week })
+~> op: Some(Lt), threshold: Threshold { rate: Decimal { billionths: 14400000000 } },
+lookback_window: Lookback { span: Duration { count: 30, unit: Day } }, alert_after:
+Some(AlertAfter { span: Duration { count: 4, unit: Week } })
 ====
 kind: AlertCondition
 spec:
@@ -413,8 +422,8 @@ spec:
     op: gt
     threshold: 0.000000001
     lookbackWindow: 1M
-~> kind: Some(Burnrate), op: Some(Gt), threshold: Decimal { billionths: 1 }, lookback_window:
-Duration { count: 1, unit: Month }
+~> kind: Some(Burnrate), op: Some(Gt), threshold: Threshold { rate: Decimal { billionths: 1 }
+}, lookback_window: Lookback { span: Duration { count: 1, unit: Month } }
 ====
 kind: SLI
 spec:
@@ -457,10 +466,10 @@ spec:
   timeWindow:
   - duration: 366d
     isRolling: true
-~> time_window: TimeWindow { duration: Duration { count: 366, unit: Day }, is_rolling:
-Some(true), calendar: None }, budgeting_method: Occurrences, objectives: Objectives { items:
-[Objective { display_name: None, op: None, value: None, target: Decimal { billionths:
-999999999 }
+~> time_window: TimeWindow { duration: WindowLength { span: Duration { count: 366, unit: Day }
+}, is_rolling: Some(true), calendar: None }, budgeting_method: Occurrences, objectives:
+Objectives { items: [Objective { display_name: None, op: None, value: None, target: Target {
+ratio: Decimal { billionths: 999999999 } }
 ====
 kind: SLO
 spec:
@@ -475,8 +484,9 @@ spec:
   - duration: 1m
     isRolling: 'true'
 ~> budgeting_method: Timeslices, objectives: Objectives { items: [Objective { display_name:
-None, op: None, value: None, target: Decimal { billionths: 0 }, time_slice_target:
-Some(Decimal { billionths: 1000000000 }), time_slice_window: Some(60) }] }
+None, op: None, value: None, target: Target { ratio: Decimal { billionths: 0 } },
+time_slice_target: Some(SliceTarget { ratio: Decimal { billionths: 1000000000 } }),
+time_slice_window: Some(SliceWidth { minutes: 60 }) }] }
 ====
 kind: SLO
 spec:
@@ -492,7 +502,8 @@ spec:
     isRolling: true
 ~> budgeting_method: RatioTimeslices, objectives: Objectives { items: [Objective {
 display_name: None, op: None, value: Some(Decimal { billionths: 1000000000000000000 }),
-target: Decimal { billionths: 0 }, time_slice_target: None, time_slice_window: Some(60) }] }
+target: Target { ratio: Decimal { billionths: 0 } }, time_slice_target: None,
+time_slice_window: Some(SliceWidth { minutes: 60 }) }] }
 
 apiVersion: openslo/v1
 metadata:
@@ -510,35 +521,37 @@ spec:
     calendar:
       startTime: 1999-12-31 23:59:59
       timeZone: UTC
-~> Duration { count: 1, unit: Day }, is_rolling: None, calendar: Some(Calendar { start_time:
-Civil { year: 1999, month: 12, day: 31, hour: 23, minute: 59, second: 59 }, time_zone:
-ZoneName(UTC) })
+~> WindowLength { span: Duration { count: 1, unit: Day } }, is_rolling: None, calendar:
+Some(Calendar { start_time: Civil { year: 1999, month: 12, day: 31, hour: 23, minute: 59,
+second: 59 }, time_zone: ZoneName(UTC) })
 ====
   - duration: 52w
     calendar:
       startTime: 2024-02-29 00:00:00
       timeZone: Etc/GMT+12
-~> Duration { count: 52, unit: Week }, is_rolling: None, calendar: Some(Calendar { start_time:
-Civil { year: 2024, month: 2, day: 29, hour: 0, minute: 0, second: 0 }, time_zone:
-ZoneName(Etc/GMT+12) })
+~> WindowLength { span: Duration { count: 52, unit: Week } }, is_rolling: None, calendar:
+Some(Calendar { start_time: Civil { year: 2024, month: 2, day: 29, hour: 0, minute: 0, second:
+0 }, time_zone: ZoneName(Etc/GMT+12) })
 ====
   - duration: 12M
     calendar:
       startTime: 2024-01-01 00:00:00
       timeZone: UTC
-~> Duration { count: 12, unit: Month }, is_rolling: None, calendar: Some(
+~> WindowLength { span: Duration { count: 12, unit: Month } }, is_rolling: None, calendar:
+Some(
 ====
   - duration: 4Q
     calendar:
       startTime: 2024-01-01 00:00:00
       timeZone: UTC
-~> Duration { count: 4, unit: Quarter }, is_rolling: None, calendar: Some(
+~> WindowLength { span: Duration { count: 4, unit: Quarter } }, is_rolling: None, calendar:
+Some(
 ====
   - duration: 1Y
     calendar:
       startTime: 2024-01-01 00:00:00
       timeZone: UTC
-~> Duration { count: 1, unit: Year }, is_rolling: None, calendar: Some(
+~> WindowLength { span: Duration { count: 1, unit: Year } }, is_rolling: None, calendar: Some(
 
 apiVersion: openslo/v1
 metadata:
@@ -557,11 +570,12 @@ spec:
   - a
 ####
   - alertPolicyRef: b
-~> service: Label(0), indicator: Label(b-2), time_window: TimeWindow { duration: Duration {
-count: 1, unit: Week }, is_rolling: Some(true), calendar: None }, budgeting_method:
-Occurrences, objectives: Objectives { items: [Objective { display_name: None, op: None,
-value: None, target: Decimal { billionths: 500000000 }, time_slice_target: None,
-time_slice_window: None }] }, alert_policies: Some(Names { items: [Label(a), Label(b)] })"#
+~> service: Label(0), indicator: Label(b-2), time_window: TimeWindow { duration: WindowLength
+{ span: Duration { count: 1, unit: Week } }, is_rolling: Some(true), calendar: None },
+budgeting_method: Occurrences, objectives: Objectives { items: [Objective { display_name:
+None, op: None, value: None, target: Target { ratio: Decimal { billionths: 500000000 } },
+time_slice_target: None, time_slice_window: None }] }, alert_policies: Some(Names { items:
+[Label(a), Label(b)] })"#
 }
 
 #[test]

@@ -63,7 +63,7 @@ one_budgets o moment name at (Some slo) a b of_a of_b =
     × (x ≡ budgets_from o at (measures_named (catalog_in o.history) name) start))
     (both (Refused refusals.Range))
     (λ x y of_x of_y.
-    let start = one_begin (zones_in o.history) slo.time_window.duration (end_of o.origin) at
+    let start = one_begin (zones_in o.history) slo.time_window.duration.span (end_of o.origin) at
     slo.time_window.calendar of_x.0 of_y.0 of_x.1 of_y.1 in
     of_x.2 ∙ ap (budgets_from o at (measures_named (catalog_in o.history) name)) start ∙ sym of_y.2)
     a b of_a of_b

@@ -59,12 +59,12 @@ pub(crate) fn window_start(
     horizon: u32,
     minute: u32,
 ) -> Option<u32>
-    requires step { IfSome window.now.calendar (λ _. IsCalendarStep window.now.duration) }
+    requires step { IfSome window.now.calendar (λ _. IsCalendarStep window.now.duration.span) }
     requires horizon { horizon < 2 ^ 27 }
     ensures { WindowBegins zones.now.kept window.now horizon minute result }
 {
     match &window.calendar {
-        Some(calendar) => calendar_start(zones, calendar, window.duration, horizon, minute),
-        None => Some(minute.saturating_sub(rolling_minutes(window.duration))),
+        Some(calendar) => calendar_start(zones, calendar, window.duration.span, horizon, minute),
+        None => Some(minute.saturating_sub(rolling_minutes(window.duration.span))),
     }
 }

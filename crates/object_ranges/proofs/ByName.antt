@@ -1,7 +1,7 @@
 -- The ranges of what the objects of a catalog give by their names.
 use Rattle.std.proofs.Common.{◌≡◌, ℕ, zero, suc, ◌<◌, ◌≤◌, Bool, true, false, List, [], ◌∷◌, map}
 use Rattle.std.proofs.Common.{Option, Some, None, All, cond, refl, subst, arith}
-use Rattle.std.specs.Prelude.{slice_get, option_map, option_and_then, unwrap_or, IfSome, IsSome}
+use Rattle.std.specs.Prelude.{slice_get, option_map, option_and_then, unwrap_or, IsSome}
 use Rattle.std.specs.List.{AllByRecursion}
 use Rattle.std.specs.Str.{bytes_eq}
 use Rattle.std.proofs.Math.Nat.{one-dvd}
@@ -10,7 +10,7 @@ use Rattle.std.proofs.lemmas.List.Elements.{recursion_from_All}
 use Rattle.burn_core.specs.declared.AlertRule.{AlertRule}
 use Rattle.burn_core.specs.declared.AlertRule.TheVariants.{Page, Ticket}
 use Rattle.burn_core.specs.Alert.{IsRule, lookback_of}
-use Rattle.slo_duration.specs.declared.Duration.{Duration}
+use Rattle.slo_limits.specs.declared.TheConstants.{MAX_LOOKBACK}
 use Rattle.slice_method.specs.declared.Reading.{Reading}
 use Rattle.slo_objects.specs.declared.Kind.{Kind}
 use Rattle.slo_objects.specs.declared.Kind.TheVariants as kinds
@@ -21,25 +21,25 @@ use Rattle.slo_objects.specs.declared.slo.BudgetingMethod.{BudgetingMethod}
 use Rattle.slo_objects.specs.declared.slo.BudgetingMethod.TheVariants as budgeting
 use Rattle.slo_objects.specs.declared.slo.Objective.{Objective}
 use Rattle.slo_objects.specs.declared.AlertCondition.{AlertCondition}
-use Rattle.slo_objects.specs.declared.AlertPolicy.{AlertPolicy}
 use Rattle.slo_objects.specs.declared.alert_condition.Condition.{Condition}
-use Rattle.slo_objects.specs.AlertCondition.{condition_in}
+use Rattle.slo_objects.specs.declared.AlertAfter.{AlertAfter}
+use Rattle.slo_objects.specs.declared.SliceTarget.{SliceTarget}
+use Rattle.slo_objects.specs.declared.SliceWidth.{SliceWidth}
 use Rattle.slo_objects.specs.Document.{IsOfDocument}
-use Rattle.slo_objects.specs.Durations.{minutes_of}
 use Rattle.slo_objects.specs.Slo.{slo_in}
 use Rattle.slo_catalog.specs.Bindings.{policy_named}
 use Rattle.slo_catalog.specs.Keys.{is_key, find_in}
-use Rattle.slo_catalog.specs.References.{names_in, page, ticket}
+use Rattle.slo_catalog.specs.References.{page, ticket}
 use Rattle.window_sums.specs.Slices.{width_of}
 use Rattle.office_history.specs.declared.Measure.{Measure}
-use Rattle.office_history.specs.Alerts.{rule_of, condition_named, first_condition, rule_named}
+use Rattle.office_history.specs.Alerts.{rule_of, first_condition, rule_named}
+use Rattle.office_history.specs.Windows.{minutes_of}
 use Rattle.office_history.specs.Objectives.{reading_named, method_of, measure_of, slo_named}
 use Rattle.office_history.specs.Objectives.{measures_with, measures_of, measure_at}
-use Rattle.document_ranges.specs.Ranges.{IsWidth, IsSliceTarget, IsObjective, HasObjectives}
-use Rattle.document_ranges.specs.Ranges.{IsWindow, IsCondition}
-use Rattle.object_ranges.specs.Measures.{HasSliceTarget, IsMeasure}
+use Rattle.document_ranges.specs.Ranges.{IsObjective, HasObjectives, IsWindow}
+use Rattle.object_ranges.specs.Measures.{HasSliceTarget, IsMeasure, IsSliceTarget, IsWidth}
 use Rattle.document_ranges.proofs.Tables.{IsSlo}
-use Rattle.document_ranges.proofs.Documents.{ReadsBack, slos, conditions}
+use Rattle.document_ranges.proofs.Documents.{ReadsBack, slos}
 
 -- OBJECTS BY THEIR NAMES
 
@@ -74,27 +74,24 @@ windows_named law members name s all e = (slo_of_name law members name s all e).
 
 -- MEASURES
 
-width_there : (o : Option ℕ) → IfSome o IsWidth → IsSome o → IsWidth (unwrap_or o 1)
-width_there None h there = absurd (let f : ⊥ = cc there in f)
-width_there (Some n) h there = h
+width_there : (o : Option SliceWidth) → IsWidth (unwrap_or (option_map (λ w. w.minutes) o) 1)
+width_there None = record { some = omega arith; divides = one-dvd 60 }
+width_there (Some w) = record { some = w.some; divides = w.divides }
 
-target_there : (o : Option ℕ) → IfSome o IsSliceTarget → IsSome o → IsSliceTarget (unwrap_or o 0)
-target_there None h there = absurd (let f : ⊥ = cc there in f)
-target_there (Some n) h there = h
+target_there : (o : Option SliceTarget) → IsSome o
+    → IsSliceTarget (unwrap_or (option_map (λ t. t.ratio) o) 0)
+target_there None there = absurd (let f : ⊥ = cc there in f)
+target_there (Some t) there = record { some = t.some; within_one = t.within_one }
 
-method_width : (method : BudgetingMethod) (o : Objective) → IsObjective method o
-    → IsWidth (width_of (method_of method o))
-method_width budgeting.Occurrences o h = record { some = omega arith; divides = one-dvd 60 }
-method_width budgeting.Timeslices o h =
-    width_there o.time_slice_window h.slice_width (h.has_width refl)
-method_width budgeting.RatioTimeslices o h =
-    width_there o.time_slice_window h.slice_width (h.has_width refl)
+method_width : (method : BudgetingMethod) (o : Objective) → IsWidth (width_of (method_of method o))
+method_width budgeting.Occurrences o = record { some = omega arith; divides = one-dvd 60 }
+method_width budgeting.Timeslices o = width_there o.time_slice_window
+method_width budgeting.RatioTimeslices o = width_there o.time_slice_window
 
 method_target : (method : BudgetingMethod) (o : Objective) → IsObjective method o
     → HasSliceTarget (method_of method o)
 method_target budgeting.Occurrences o h = tt
-method_target budgeting.Timeslices o h =
-    target_there o.time_slice_target h.slice_target (h.has_target refl)
+method_target budgeting.Timeslices o h = target_there o.time_slice_target (h.has_target refl)
 method_target budgeting.RatioTimeslices o h = tt
 
 got_mapped : {A B : Type 0} (f : A → B) (P : A → Type 0) (Q : B → Type 0)
@@ -107,8 +104,8 @@ got_mapped f P Q h (x ∷ xs) all (suc n) b e = got_mapped f P Q h xs all.1 n b 
 pub objective_measure : (name : List ℕ) (s : Slo) (reading : Reading) (o : Objective)
     → IsObjective s.budgeting_method o → IsMeasure (measure_of name s reading o)
 objective_measure name s reading o h = record {
-  target = h.target;
-  width = method_width s.budgeting_method o h;
+  target = o.target.below_one;
+  width = method_width s.budgeting_method o;
   slice_target = method_target s.budgeting_method o h;
 }
 
@@ -132,52 +129,31 @@ measures law members name n m all e = by (slo_named members name) refl e
 
 -- RULES
 
-wait_short : (o : Option Duration) → IfSome o (λ d. minutes_of d ≤ 43_200)
-    → unwrap_or (option_map minutes_of o) 0 ≤ 43_200
-wait_short None h = omega arith
-wait_short (Some d) h = h
+wait_short : (o : Option AlertAfter)
+    → unwrap_or (option_map (λ (a : AlertAfter). minutes_of a.span) o) 0 ≤ MAX_LOOKBACK
+wait_short None = omega arith
+wait_short (Some a) = a.short
 
 pub record IsSomeRule (r : AlertRule) : Type 0 where
   pub rule : IsRule r
   pub looks_back : 0 < lookback_of r
 
-pub condition_rule : (c : Condition) → IsCondition c → IsSomeRule (rule_of c)
-condition_rule c h = record {
-  rule = (h.threshold, h.short, wait_short c.alert_after h.wait);
-  looks_back = h.some;
+pub condition_rule : (c : Condition) → IsSomeRule (rule_of c)
+condition_rule c = record {
+  rule = (c.threshold.fits, c.lookback_window.short, wait_short c.alert_after);
+  looks_back = c.lookback_window.some;
 }
 
-mapped_rule : (o : Option AlertCondition)
-    → ((c : AlertCondition) → o ≡ Some c → IsCondition c.condition) → (r : AlertRule)
+mapped_rule : (o : Option AlertCondition) (r : AlertRule)
     → option_map (λ (c : AlertCondition). rule_of c.condition) o ≡ Some r → IsSomeRule r
-mapped_rule None h r e = absurd (let f : ⊥ = cc e in f)
-mapped_rule (Some c) h r e = subst IsSomeRule (let same : rule_of c.condition ≡ r = cc e in same)
-    (condition_rule c.condition (h c refl))
+mapped_rule None r e = absurd (let f : ⊥ = cc e in f)
+mapped_rule (Some c) r e = subst IsSomeRule (let same : rule_of c.condition ≡ r = cc e in same)
+    (condition_rule c.condition)
 
-condition_of_name : ReadsBack → (members : List Object) (name : List ℕ) (c : AlertCondition)
-    → All IsOfDocument members → condition_named members name ≡ Some c → IsCondition c.condition
-condition_of_name law members name c all e = named_of (λ c. IsCondition c.condition) condition_in
-    (conditions law) members kinds.AlertCondition name c all e
-
-first_of_policy : ReadsBack → (members : List Object) → All IsOfDocument members
-    → (p : AlertPolicy) (c : AlertCondition) → first_condition members p ≡ Some c
-    → IsCondition c.condition
-first_of_policy law members all p c e =
-    option_and_then_some (condition_named members) (slice_get (names_in p.conditions) 0) c e
-    (λ n _ told. condition_of_name law members n c all told)
-
-pub rules : ReadsBack → (members : List Object) (name : List ℕ) (r : AlertRule)
-    → All IsOfDocument members → rule_named members name ≡ Some r → IsSomeRule r
-rules law members name r all e = by (bytes_eq name page) (bytes_eq name ticket) e
+pub rules : (members : List Object) (name : List ℕ) (r : AlertRule)
+    → rule_named members name ≡ Some r → IsSomeRule r
+rules members name r e = by (bytes_eq name page) (bytes_eq name ticket) e
   where
-    of_policy : option_map (λ (c : AlertCondition). rule_of c.condition)
-        (option_and_then (first_condition members) (policy_named members name)) ≡ Some r
-        → IsSomeRule r
-    of_policy f =
-        mapped_rule (option_and_then (first_condition members) (policy_named members name))
-        (λ c g. option_and_then_some (first_condition members) (policy_named members name) c g
-        (λ p _ told. first_of_policy law members all p c told)) r f
-
     by : (a b : Bool) → cond a
         (Some Page) (cond b (Some Ticket) (option_map (λ (c : AlertCondition). rule_of c.condition)
         (option_and_then (first_condition members) (policy_named members name)))) ≡ Some r
@@ -186,4 +162,5 @@ rules law members name r all e = by (bytes_eq name page) (bytes_eq name ticket) 
         (record { rule = tt; looks_back = omega arith })
     by false true f = subst IsSomeRule (let same : Ticket ≡ r = cc f in same)
         (record { rule = tt; looks_back = omega arith })
-    by false false f = of_policy f
+    by false false f =
+        mapped_rule (option_and_then (first_condition members) (policy_named members name)) r f

@@ -1,11 +1,21 @@
 -- The ranges of what the objects of a catalog give by their names.
-use Rattle.std.specs.Prelude.{◌<◌, ⊤}
+use Rattle.std.specs.Prelude.{ℕ, ◌<◌, ◌≤◌, ⊤}
+use Rattle.std.specs.Int.{◌∣◌}
 use Rattle.slice_method.specs.declared.Method.{Method}
 use Rattle.slice_method.specs.declared.Method.TheVariants as methods
 use Rattle.slo_limits.specs.declared.TheConstants.{WHOLE}
 use Rattle.window_sums.specs.Slices.{width_of}
 use Rattle.office_history.specs.declared.Measure.{Measure}
-use Rattle.document_ranges.specs.Ranges.{IsWidth, IsSliceTarget}
+
+-- a slice lasts at least a minute, and so many of them are an hour
+pub record IsWidth (width : ℕ) : Type 0 where
+  pub some : 0 < width
+  pub divides : width ∣ 60
+
+-- a slice is good from a ratio on that is above zero and at most one
+pub record IsSliceTarget (target : ℕ) : Type 0 where
+  pub some : 0 < target
+  pub within_one : target ≤ WHOLE
 
 -- a method that asks for a ratio of each slice asks for one above zero and at most one
 abbrev pub HasSliceTarget : Method → Type 0

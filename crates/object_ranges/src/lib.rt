@@ -1,13 +1,12 @@
 //! The ranges of what the objects of a catalog give by their names: measures, rules and windows.
-//! Stands on the ranges of documents, and on histories.
+//! Stands on what ties the fields of documents, and on histories.
 //! Promises what sums, burn rates, alert lines and calendars ask of their arguments.
 #![tactic(auto)]
 
 mod named;
 
 pub use document_ranges::{
-    bodies_are_of_their_kinds, conditions_are_in_range, objectives_are_in_range,
-    windows_are_in_range,
+    bodies_are_of_their_kinds, objectives_are_in_range, windows_are_in_range,
 };
 pub use named::{
     conditions_give_rules, measures_are_in_range, named_windows_are_in_range,

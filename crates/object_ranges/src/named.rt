@@ -15,19 +15,22 @@ ghost use Rattle.slo_objects.specs.declared.alert_condition.Condition.{Condition
 ghost use Rattle.slo_objects.specs.Document.{IsOfDocument};
 ghost use Rattle.window_sums.specs.Slices.{width_of};
 ghost use Rattle.object_ranges.specs.Measures.{HasSliceTarget, IsMeasure};
-ghost use Rattle.document_ranges.specs.Ranges.{IsCondition, IsObjective, IsWindow};
+ghost use Rattle.document_ranges.specs.Ranges.{IsObjective, IsWindow};
 
 use slo_objects::each_object_reads_back;
 
-/// What an objective in its ranges counts is in its ranges, whatever the indicator reads.
+/// What an objective with all that its method wants counts is in its ranges, whatever the indicator
+/// reads.
 pub fn objectives_give_measures()
     ensures { (name : List ℕ) (slo : Slo) (reading : Reading) (o : Objective) →
         IsObjective slo.budgeting_method o → IsMeasure (measure_of name slo reading o) }
 {}
 
-/// The rule of a condition in its ranges is a rule.
+/// The rule of a condition has a threshold of at most 10,000, and a lookback and a wait of at most
+/// 30 days; it looks back for at least a minute.
 pub fn conditions_give_rules()
-    ensures { (c : Condition) → IsCondition c → IsRule (rule_of c) }
+    ensures rule { (c : Condition) → IsRule (rule_of c) }
+    ensures lookback { (c : Condition) → 0 < lookback_of (rule_of c) }
 {}
 
 /// What an objective counts has a target below one (in billionths), slices of which an hour has
@@ -47,19 +50,16 @@ pub fn measures_are_in_range()
     each_object_reads_back();
 }
 
-/// The rule of a policy has a threshold of at most 10,000, a lookback of at least a minute and a
-/// wait, both of at most 30 days.
+/// The rule of a policy is one too, and looks back for at least a minute.
 pub fn rules_are_in_range()
     ensures rule { (members : List Object) (policy : List ℕ) (rule : AlertRule) →
-        All IsOfDocument members → rule_named members policy ≡ Some rule → IsRule rule }
+        rule_named members policy ≡ Some rule → IsRule rule }
     ensures lookback { (members : List Object) (policy : List ℕ) (rule : AlertRule) →
-        All IsOfDocument members → rule_named members policy ≡ Some rule → 0 < lookback_of rule }
-{
-    each_object_reads_back();
-}
+        rule_named members policy ≡ Some rule → 0 < lookback_of rule }
+{}
 
-/// The window of the SLO of a name lasts at least a minute and at most 366 days; where it has a
-/// calendar, its starts can follow each other by it.
+/// The window of the SLO of a name has a calendar where it isn't rolling, and there alone; the
+/// calendar's starts can follow each other by the window's length.
 pub fn named_windows_are_in_range()
     ensures { (members : List Object) (name : List ℕ) (slo : Slo) →
         All IsOfDocument members → slo_named members name ≡ Some slo → IsWindow slo.time_window }

@@ -15,6 +15,7 @@ use Rattle.burn_core.specs.Condition.{condition}
 use Rattle.burn_core.specs.Timeline.{is_active, state_of}
 use Rattle.definition_verdict.specs.slo_objects.declared.kind.Kind.TheVariants as kinds
 use Rattle.definition_verdict.specs.slo_objects.declared.Object.{Object}
+use Rattle.definition_verdict.specs.slo_objects.declared.AlertAfter.{AlertAfter}
 use Rattle.definition_verdict.specs.slo_objects.declared.AlertCondition.{AlertCondition}
 use Rattle.definition_verdict.specs.slo_objects.declared.alert_condition.Condition.{Condition}
 use Rattle.definition_verdict.specs.slo_objects.declared.AlertPolicy.{AlertPolicy}
@@ -31,8 +32,8 @@ use Rattle.office_history.specs.Windows.{minutes_of}
 
 -- the rule of a condition; an omitted `op` is `gte`, an omitted `alertAfter` is `0m`
 abbrev pub rule_of : Condition → AlertRule
-rule_of c = Single (unwrap_or c.op Gte) c.threshold (minutes_of c.lookback_window)
-    (unwrap_or (option_map minutes_of c.alert_after) 0)
+rule_of c = Single (unwrap_or c.op Gte) c.threshold.rate (minutes_of c.lookback_window.span)
+    (unwrap_or (option_map (λ (a : AlertAfter). minutes_of a.span) c.alert_after) 0)
 
 abbrev pub condition_named : List Object → List ℕ → Option AlertCondition
 condition_named members name =

@@ -8,6 +8,8 @@ use Rattle.slice_method.specs.declared.Method.TheVariants as methods
 use Rattle.definition_verdict.specs.slo_objects.declared.kind.Kind.TheVariants as kinds
 use Rattle.definition_verdict.specs.slo_objects.declared.Object.{Object}
 use Rattle.definition_verdict.specs.slo_objects.declared.Sli.{Sli}
+use Rattle.definition_verdict.specs.slo_objects.declared.SliceTarget.{SliceTarget}
+use Rattle.definition_verdict.specs.slo_objects.declared.SliceWidth.{SliceWidth}
 use Rattle.definition_verdict.specs.slo_objects.declared.Slo.{Slo}
 use Rattle.definition_verdict.specs.slo_objects.declared.slo.BudgetingMethod.{BudgetingMethod}
 use Rattle.definition_verdict.specs.slo_objects.declared.slo.BudgetingMethod.TheVariants as ways
@@ -22,13 +24,22 @@ use Rattle.office_history.specs.declared.measure.Measure.{Measure}
 abbrev pub reading_named : List Object → List ℕ → Option Reading
 reading_named members sli = option_map (λ (s : Sli). reading_of s.metric) (sli_named members sli)
 
+-- the minutes of an objective's slices, one where it names none, and the ratio from which on a
+-- slice is good, zero where it names none
+abbrev pub slice_width : Objective → ℕ
+slice_width objective =
+    unwrap_or (option_map (λ (w : SliceWidth). w.minutes) objective.time_slice_window) 1
+
+abbrev pub slice_target : Objective → ℕ
+slice_target objective =
+    unwrap_or (option_map (λ (t : SliceTarget). t.ratio) objective.time_slice_target) 0
+
 -- the method of an objective, with the width of its slices and the ratio from which on one is good
 abbrev pub method_of : BudgetingMethod → Objective → Method
 method_of ways.Occurrences objective = methods.Occurrences
-method_of ways.Timeslices objective = methods.Timeslices
-    (unwrap_or objective.time_slice_window 1) (unwrap_or objective.time_slice_target 0)
-method_of ways.RatioTimeslices objective =
-    methods.RatioTimeslices (unwrap_or objective.time_slice_window 1)
+method_of ways.Timeslices objective =
+    methods.Timeslices (slice_width objective) (slice_target objective)
+method_of ways.RatioTimeslices objective = methods.RatioTimeslices (slice_width objective)
 
 -- an objective over an indicator of this reading; an omitted `op` is `gte`
 abbrev pub measure_of : List ℕ → Slo → Reading → Objective → Measure
@@ -39,7 +50,7 @@ measure_of name slo reading objective = record {
   op = unwrap_or objective.op Gte;
   value = unwrap_or objective.value 0;
   method = method_of slo.budgeting_method objective;
-  target = objective.target;
+  target = objective.target.ratio;
 }
 
 -- the SLO of a name, where it is there

@@ -29,4 +29,4 @@ BeginsBy zones duration horizon minute (Some calendar) start =
 -- before 0; else at the calendar's last start at or before it, where there is one.
 abbrev pub WindowBegins : List (List ℕ × List ℕ) → TimeWindow → ℕ → ℕ → Option ℕ → Type 0
 WindowBegins zones window horizon minute start =
-    BeginsBy zones window.duration horizon minute window.calendar start
+    BeginsBy zones window.duration.span horizon minute window.calendar start

@@ -1,6 +1,6 @@
 -- What is written reads back.
 use Rattle.std.proofs.Common.{◌≡◌, ℕ, ◌*◌, ◌<◌, ◌≤◌, ◌^◌, false, nat_eq, List, [], ◌∷◌, ◌++◌}
-use Rattle.std.proofs.Common.{length, Some, Ok, refl, ◌∙◌, arith}
+use Rattle.std.proofs.Common.{length, Some, Result, Ok, refl, ap, ◌∙◌, arith}
 use Rattle.std.specs.Char.{is_ascii_digit}
 use Rattle.std.specs.List.{prefix_len}
 use Rattle.std.proofs.Math.Seq.{take-append_seam, drop-append_seam}
@@ -14,7 +14,9 @@ use Rattle.slo_duration.specs.declared.unit.Unit.{Unit}
 use Rattle.slo_duration.specs.declared.unit.Unit.TheVariants.{Minute, Hour, Day, Week, Month}
 use Rattle.slo_duration.specs.declared.unit.Unit.TheVariants.{Quarter, Year}
 use Rattle.slo_duration.specs.declared.duration.Duration.{Duration}
+use Rattle.slo_duration.specs.declared.read.DurationFault.{DurationFault}
 use Rattle.slo_duration.proofs.DigitLemmas.{AreDigits, decimal_are_digits}
+use Rattle.slo_duration.proofs.SameLemmas.{fitting_again}
 
 no_digit : (unit : Unit) → is_ascii_digit (letter unit) ≡ false
 no_digit Minute = refl
@@ -49,14 +51,10 @@ front : (digits : List ℕ) (unit : Unit) → prefix_len is_ascii_digit digits �
 front digits unit all = prefix_len-append is_ascii_digit digits (letter unit ∷ [])
     ∙ rw (no_digit unit, all) (grind (arith, nat_tests))
 
-fits_in : (count : ℕ) (unit : Unit) → count * unit_minutes unit ≤ 4_294_967_295
-    → fitting count unit ≡ Ok (count, unit)
-fits_in count unit fits = grind (arith, nat_tests)
-
 of_parts : (count : ℕ) (unit : Unit) (digits : List ℕ) → AreDigits count digits
-    → count * unit_minutes unit ≤ 4_294_967_295
-    → duration_of (digits ++ letter unit ∷ []) ≡ Ok (count, unit)
-of_parts count unit digits are fits =
+    → duration_of (digits ++ letter unit ∷ []) ≡ fitting count unit
+unfolding duration_of
+of_parts count unit digits are =
     let some : nat_eq (length digits) 0 ≡ false =
     (let above = are.some in grind (arith, nat_tests)) in
     let filled : nat_eq (length (digits ++ letter unit ∷ [])) 0 ≡ false =
@@ -70,11 +68,15 @@ of_parts count unit digits are fits =
       are.value,
       unit_of_letter-letter unit,
     )
-    (fits_in count unit fits)
+    refl
 
--- the text of a duration is that of its count and its unit
-pub duration_of-text : (value : Duration)
-    → duration_of (duration_text value) ≡ Ok (value.count, value.unit)
-duration_of-text value =
-    of_parts value.count value.unit _
-    (decimal_are_digits value.count (count_small value.count value.unit value.fits)) value.fits
+-- the text of a duration stands for it
+pub duration_of-text : (value : Duration) → duration_of (duration_text value) ≡ Ok value
+duration_of-text value = of_parts value.count value.unit _
+    (decimal_are_digits value.count (count_small value.count value.unit value.fits))
+    ∙ fitting_again value
+
+-- what is read of the text of a duration is the duration
+pub reads_back : (r : Result Duration DurationFault) (text : List ℕ) → r ≡ duration_of text
+    → (value : Duration) → text ≡ duration_text value → r ≡ Ok value
+reads_back r text read value e = read ∙ ap duration_of e ∙ duration_of-text value

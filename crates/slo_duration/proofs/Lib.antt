@@ -1,3 +1,3 @@
 pub mod DigitLemmas
-pub mod BackLemmas
 pub mod SameLemmas
+pub mod BackLemmas

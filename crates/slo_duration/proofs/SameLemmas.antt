@@ -1,15 +1,13 @@
 -- Durations with the same count and unit are the same duration.
-use Rattle.std.proofs.Common.{◌≡◌, ℕ, ◌*◌, ◌≤◌, List, Result, Ok, Err, sym, ap, ◌∙◌}
-use Rattle.std.specs.Prelude.{MatchResult}
+use Rattle.std.proofs.Common.{◌≡◌, ℕ, ◌*◌, ◌≤◌, Bool, true, false, Ok, refl, sym, ap, ◌∙◌}
+use Rattle.std.proofs.Common.{nat_le, true≢false}
 use Rattle.std.proofs.Math.Path.{to_path_p}
 use Rattle.std.proofs.Props.{props}
+use Rattle.std.proofs.lemmas.Bool.{le-leb}
 use Rattle.slo_duration.specs.Unit.{unit_minutes}
-use Rattle.slo_duration.specs.Reading.{duration_of}
-use Rattle.slo_duration.specs.Writing.{duration_text}
+use Rattle.slo_duration.specs.Reading.{fitting, fitting_where}
 use Rattle.slo_duration.specs.declared.unit.Unit.{Unit}
 use Rattle.slo_duration.specs.declared.duration.Duration.{Duration}
-use Rattle.slo_duration.specs.declared.read.DurationFault.{DurationFault}
-use Rattle.slo_duration.proofs.BackLemmas.{duration_of-text}
 
 abbrev Fits : ℕ → Unit → Type 0
 Fits count unit = count * unit_minutes unit ≤ 4_294_967_295
@@ -31,18 +29,16 @@ pub duration_same : (a b : Duration) → a.count ≡ b.count → a.unit ≡ b.un
 unfolding made
 duration_same a b count unit = made_same a.count b.count a.unit b.unit a.fits b.fits count unit
 
--- what the text of a duration is read as
-pub reads_back : (r : Result Duration DurationFault) (text : List ℕ) → MatchResult
-    r (λ d. duration_of text ≡ Ok (d.count, d.unit)) (λ fault. duration_of text ≡ Err fault)
-    → (value : Duration) → text ≡ duration_text value → r ≡ Ok value
-reads_back (Ok d) text read value e =
-    let told = sym read ∙ ap duration_of e ∙ duration_of-text value in
-    let of_d : ℕ × Unit = (d.count, d.unit) in
-    let of_value : ℕ × Unit = (value.count, value.unit) in
-    let pair : of_d ≡ of_value = cc in
-    ap Ok (duration_same d value (ap (λ (p : ℕ × Unit). p.0) pair)
-    (ap (λ (p : ℕ × Unit). p.1) pair))
-reads_back (Err fault) text read value e =
-    let back = duration_of-text value in
-    let same = ap duration_of e in
-    absurd (cc)
+again_where : (d : Duration) (b : Bool) (fact : b ≡ true → Fits d.count d.unit) → b ≡ true
+    → fitting_where b d.count d.unit fact ≡ Ok d
+again_where d true fact e = ap Ok (duration_same _ d refl refl)
+again_where d false fact e = absurd (true≢false (sym e))
+
+-- a duration is made again of its count and its unit
+pub fitting_again : (d : Duration) → fitting d.count d.unit ≡ Ok d
+fitting_again d =
+    again_where d (nat_le (d.count * unit_minutes d.unit) 4_294_967_295) _ (le-leb _ _ d.fits)
+
+-- a duration is the one of a count that is its own
+pub fitted : (d : Duration) (count : ℕ) → count ≡ d.count → Ok d ≡ fitting count d.unit
+fitted d count e = sym (ap (λ n. fitting n d.unit) e ∙ fitting_again d)

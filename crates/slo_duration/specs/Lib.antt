@@ -1,3 +1,4 @@
 pub mod Unit
+pub mod Minutes
 pub mod Reading
 pub mod Writing

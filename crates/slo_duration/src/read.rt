@@ -1,5 +1,5 @@
 //! Reading a duration.
-ghost use Rattle.std.specs.Prelude.{◌≡◌, ◌≤◌, length, Ok, Err, MatchResult, true};
+ghost use Rattle.std.specs.Prelude.{◌≡◌, ◌≤◌, length, Ok, true};
 ghost use Rattle.std.specs.Char.{is_ascii_digit};
 ghost use Rattle.std.specs.List.{prefix_len};
 ghost use Rattle.exact_fraction.specs.Digits.{is_number, number_of};
@@ -31,10 +31,9 @@ pub enum DurationFault {
 /// # Errors
 ///
 /// The first fault of the text. It takes no memory.
+#[tactic(auto, unfolding(crate::specs::Reading::duration_of))]
 pub fn read_duration(text: &[u8]) -> Result<Duration, DurationFault>
-    ensures value { MatchResult result
-        (λ value. duration_of text.now ≡ Ok (value.count, value.unit))
-        (λ fault. duration_of text.now ≡ Err fault) }
+    ensures value { result ≡ duration_of text.now }
     ensures back { (value : Duration) → text.now ≡ duration_text value → result ≡ Ok value }
 {
     if text.is_empty() {
@@ -69,9 +68,7 @@ fn read_unit(rest: &[u8]) -> Option<Unit>
 
 fn of_digits(digits: &[u8], unit: Unit) -> Result<Duration, DurationFault>
     requires { is_number digits.now ≡ true }
-    ensures { MatchResult result
-        (λ value. fitting (number_of digits.now) unit ≡ Ok (value.count, value.unit))
-        (λ fault. fitting (number_of digits.now) unit ≡ Err fault) }
+    ensures { result ≡ fitting (number_of digits.now) unit }
 {
     let Some(count) = read_number(digits, MOST_MINUTES) else {
         return Err(DurationFault::TooLong);

@@ -14,7 +14,7 @@ use std::alloc::{AllocError, Global};
 /// Memory ran out; `out` is as before.
 pub fn write_duration(alloc: Global, out: &mut Vec<u8>, value: Duration) -> Result<(), AllocError>
     ensures written { OnOk result (out.new.items ≡ out.old.items ++ duration_text value) }
-    ensures back { duration_of (duration_text value) ≡ Ok (value.count, value.unit) }
+    ensures back { duration_of (duration_text value) ≡ Ok value }
     ensures kept { OnErr result (out.new.items ≡ out.old.items) }
 {
     let count = value.count;

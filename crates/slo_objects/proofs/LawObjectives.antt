@@ -3,7 +3,7 @@ use Rattle.std.proofs.Common.{◌≡◌, ℕ, Bool, true, false, List, [], Ok, E
 use Rattle.std.proofs.Common.{◌∙◌, subst, zero, suc, ◌≤◌, ◌∷◌, ◌++◌, Option, Some, None, arith}
 use Rattle.std.specs.Prelude.{◌||◌, codes, decimal, is_none}
 use Rattle.std.specs.List.{AllByRecursion}
-use Rattle.std.proofs.lemmas.Bool.{false≢true, leb-true}
+use Rattle.std.proofs.lemmas.Bool.{false≢true}
 use Rattle.yaml_subset.specs.Tree.{Tree, mapping, sequence, scalar, Entries}
 use Rattle.slo_objects.specs.declared.object.Object.{Object}
 use Rattle.slo_objects.specs.declared.slo.BudgetingMethod.{BudgetingMethod}
@@ -11,9 +11,10 @@ use Rattle.slo_objects.specs.Form.{Key, Answer, gives, refused, told, is_among, 
 use Rattle.slo_objects.specs.Form.{single, written_where, field_of, Form, run, own, required}
 use Rattle.slo_objects.specs.Form.{optional}
 use Rattle.slo_objects.specs.Scalars.{description, text, name, boolean, op, number, percent}
-use Rattle.slo_objects.specs.Scalars.{zone_name, one, greatest, name_value, percent_value, version}
+use Rattle.slo_objects.specs.Scalars.{zone_name, name_value, number_written, percent_value, version}
 use Rattle.slo_objects.specs.Scalars.{only_kind, found_or}
-use Rattle.slo_objects.specs.Durations.{duration, leap_year}
+use Rattle.slo_objects.specs.Ranges.{every_number, slice_target_range, target_range, window_range}
+use Rattle.slo_objects.specs.Durations.{duration}
 use Rattle.slo_objects.specs.Moments.{moment, moment_value}
 use Rattle.slo_objects.specs.Inline.{reference_written, inline_object, taken_out, inline_read}
 use Rattle.slo_objects.specs.Inline.{reference, item_read, reference_item}
@@ -37,7 +38,8 @@ use Rattle.slo_objects.proofs.LawForms.{ItemLaw, map_strong, list_law, single_la
 use Rattle.slo_objects.proofs.LawScalars.{name_law, boolean_law, op_law, zone_law, method_law}
 use Rattle.slo_objects.proofs.LawScalars.{rule_same, rule_not_ok}
 use Rattle.slo_objects.proofs.LawNumbers.{number_law, percent_law, target_law, duration_law}
-use Rattle.slo_objects.proofs.LawNumbers.{width_law, moment_law, percent_ok, width_ok, width_most}
+use Rattle.slo_objects.proofs.LawNumbers.{width_law, moment_law, target_bound, width_most}
+use Rattle.slo_objects.proofs.RangeLemmas.{every_number_is, slice_target_is, target_is, window_is}
 use Rattle.slo_objects.proofs.LawTables.{loose, description_line, text_line, name_line}
 use Rattle.slo_objects.proofs.LawTables.{condition_body_law, target_body_law, sli_body_law, no_room}
 use Rattle.slo_objects.proofs.LawTables.{plain_map_fit, text_fit, description_fit, name_fit}
@@ -63,7 +65,6 @@ use Rattle.slo_objects.specs.declared.window.TheConstants.{START_TIME, TIME_ZONE
 use Rattle.yaml_subset.specs.Spelling.{word, quoted, no_fields, spelled, fields_spelled}
 use Rattle.yaml_subset.specs.Profile.{max_depth}
 use Rattle.yaml_subset.specs.Fits.{Fits, FitFields}
-use Rattle.exact_fraction.specs.DecimalText.{decimal_text}
 use Rattle.zone_calendar.specs.CivilText.{parts_in, parts_of, parts_text, is_moment, civil_text}
 use Rattle.zone_calendar.specs.CivilRead.{in_range, civil_of, civil_from, civil_when, civil_read}
 use Rattle.zone_calendar.specs.declared.civil.Civil.{Civil}
@@ -170,8 +171,8 @@ calendar_law P = (
 pub window_law : (P : Object → Type 0) → RowsLaw P [] time_window
 unfolding time_window
 window_law P = (
-  required_law P DURATION.now (duration 1 leap_year)
-      (loose P (duration 1 leap_year) (duration_law P 1 leap_year)),
+  required_law P DURATION.now (duration window_range)
+      (loose P (duration window_range) (duration_law P window_range window_is)),
   λ d. (
     refl,
     λ r u c. refl,
@@ -181,7 +182,8 @@ window_law P = (
         refl,
         λ u c. refl,
         (
-          holding_law P (is_rolling r || is_calendar_unit d.unit) DURATION.now rules.OutOfRange,
+          holding_law P (is_rolling r || is_calendar_unit d.span.unit) DURATION.now
+              rules.OutOfRange,
           λ u. (
             refl,
             λ c. refl,
@@ -211,8 +213,8 @@ objective_law P method = (
         refl,
         λ v t s w. refl,
         (
-          optional_law P VALUE.now (number 0 greatest)
-              (loose P (number 0 greatest) (number_law P 0 greatest)),
+          optional_law P VALUE.now (number every_number)
+              (loose P (number every_number) (number_law P every_number every_number_is)),
           λ v. (
             refl,
             λ t s w. refl,
@@ -224,7 +226,8 @@ objective_law P method = (
                 λ s w. refl,
                 (
                   required_where_law P (has_slice_target method) TIME_SLICE_TARGET.now
-                      (number 1 one) (loose P (number 1 one) (number_law P 1 one)),
+                      (number slice_target_range) (loose P (number slice_target_range)
+                      (number_law P slice_target_range slice_target_is)),
                   λ s. (
                     refl,
                     λ w. refl,
@@ -544,16 +547,16 @@ moment_fit Q room = scalar_fit Q room rules.NotMoment moment_value (λ m. quoted
     (λ t m e u q d. subst (λ z. Fits d (quoted z)) (moment_same t m e) (u, q))
 
 width_fit : (Q : Object → Type 0) (room : ℕ) → FormFit Q room slice_width
-width_fit Q room = scalar_fit Q room rules.NotDuration width_value (λ n. word (decimal n))
-    (λ t n e u q d. width_written n (leb-true n 60 (width_most n (width_ok t n e))))
+width_fit Q room = scalar_fit Q room rules.NotDuration width_value (λ w. word (decimal w.minutes))
+    (λ t w e u q d. width_written w.minutes (width_most w))
 
 percent_fit : (Q : Object → Type 0) (room : ℕ) → FormFit Q room percent
-percent_fit Q room = scalar_fit Q room rules.NotNumber percent_value (λ n. word (decimal_text n))
-    (λ t n e u q d. decimal_written n (percent_ok t n e).bound)
+percent_fit Q room = scalar_fit Q room rules.NotNumber percent_value (number_written target_range)
+    (λ t a e u q d. decimal_written a.ratio (target_bound a))
 
 target_either : (Q : Object → Type 0) (room : ℕ) → EitherFit Q room target target percent is_target
 target_either Q room key t y e d h m ft = let r =
-    number_fit Q room 0 999_999_999 key t y e d h m ft in (λ _. r.0, λ _. r.0, r.1)
+    number_fit Q room target_range target_is key t y e d h m ft in (λ _. r.0, λ _. r.0, r.1)
 
 percent_either : (Q : Object → Type 0) (room : ℕ)
     → EitherFit Q room percent target percent is_target
@@ -581,11 +584,11 @@ calendar_rows Q = (
 window_rows : (Q : Object → Type 0) → RowsFit Q 0 time_window
 unfolding time_window
 window_rows Q = (
-  required_fit Q 0 DURATION.now (duration 1 leap_year) refl (duration_fit Q 0 1 leap_year),
+  required_fit Q 0 DURATION.now (duration window_range) refl (duration_fit Q 0 window_range),
   λ d. (
     optional_fit Q 0 IS_ROLLING.now boolean refl (boolean_fit Q 0),
     λ r. (
-      holding_fit Q 0 (is_rolling r || is_calendar_unit d.unit) DURATION.now rules.OutOfRange,
+      holding_fit Q 0 (is_rolling r || is_calendar_unit d.span.unit) DURATION.now rules.OutOfRange,
       λ u. (
         required_unless_fit Q 0 (is_rolling r) CALENDAR.now (map_with calendar) refl
             (plain_map_fit Q calendar (calendar_law Any) (calendar_rows Q)),
@@ -602,13 +605,15 @@ objective_rows Q method = (
   λ d. (
     optional_fit Q 0 OP.now op refl (op_fit Q 0),
     λ o. (
-      optional_fit Q 0 VALUE.now (number 0 greatest) refl (number_fit Q 0 0 greatest),
+      optional_fit Q 0 VALUE.now (number every_number) refl
+          (number_fit Q 0 every_number every_number_is),
       λ v. (
         one_of_fit Q 0 TARGET.now target TARGET_PERCENT.now percent is_target refl refl
             (target_either Q 0) (percent_either Q 0),
         λ t. (
-          required_where_fit Q 0 (has_slice_target method) TIME_SLICE_TARGET.now (number 1 one) refl
-              (number_fit Q 0 1 one),
+          required_where_fit Q 0 (has_slice_target method) TIME_SLICE_TARGET.now
+              (number slice_target_range) refl
+              (number_fit Q 0 slice_target_range slice_target_is),
           λ s. (
             required_where_fit Q 0 (has_slices method) TIME_SLICE_WINDOW.now slice_width refl
                 (width_fit Q 0),

@@ -169,8 +169,8 @@ count_low count units.Month h = omega arith
 count_low count units.Quarter h = omega arith
 count_low count units.Year h = omega arith
 
-pub duration_written : (d : Duration) → IsWritten (duration_text d)
-duration_written d = simple_written (duration_text d)
+pub duration_plain : (d : Duration) → IsWritten (duration_text d)
+duration_plain d = simple_written (duration_text d)
     (list_all-append is_simple (decimal d.count) (letter d.unit ∷ [])
     ∙ and_both (list_all is_simple (decimal d.count)) (list_all is_simple (letter d.unit ∷ []))
     (decimal_simple d.count (count_low d.count d.unit d.fits)) (letter_simple d.unit))

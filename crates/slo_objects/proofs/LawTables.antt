@@ -8,16 +8,18 @@ use Rattle.slo_objects.specs.declared.sli.Events.TheVariants.{Good, Bad}
 use Rattle.slo_objects.specs.Form.{Form, map_with, variant, written_where, free, free_map, Rows}
 use Rattle.slo_objects.specs.Scalars.{description, text, name, boolean, op, number}
 use Rattle.slo_objects.specs.Scalars.{description_value, text_value, name_value, boolean_value}
-use Rattle.slo_objects.specs.Scalars.{op_value, op_word, number_value, version, version_value}
+use Rattle.slo_objects.specs.Scalars.{op_value, op_word, number_value, number_written, version}
+use Rattle.slo_objects.specs.Scalars.{version_value}
 use Rattle.slo_objects.specs.Scalars.{version_text, kind, kind_value, kind_word, only_kind}
 use Rattle.slo_objects.specs.Scalars.{only_kind_value, zone_name, zone_value}
-use Rattle.slo_objects.specs.Durations.{duration, month, duration_value}
+use Rattle.slo_objects.specs.Ranges.{Range, lookback_range, threshold_range, wait_range}
+use Rattle.slo_objects.specs.Durations.{duration, duration_value, duration_written}
 use Rattle.slo_objects.specs.Metadata.{metadata}
 use Rattle.slo_objects.specs.Service.{service, service_in, service_body}
 use Rattle.slo_objects.specs.DataSource.{data_source, data_source_in, data_source_body}
 use Rattle.slo_objects.specs.AlertNotificationTarget.{alert_notification_target, target_in}
 use Rattle.slo_objects.specs.AlertNotificationTarget.{target_body}
-use Rattle.slo_objects.specs.AlertCondition.{condition_kind, ten_thousand, condition}
+use Rattle.slo_objects.specs.AlertCondition.{condition_kind, condition}
 use Rattle.slo_objects.specs.AlertCondition.{alert_condition, condition_in, condition_body}
 use Rattle.slo_objects.specs.AlertCondition.{condition_kind_value, condition_word}
 use Rattle.slo_objects.specs.Sli.{metric_source, source_map, source, raw_type, is_good}
@@ -34,6 +36,7 @@ use Rattle.slo_objects.proofs.LawScalars.{text_law, description_law, name_law, b
 use Rattle.slo_objects.proofs.LawScalars.{condition_kind_law, raw_type_law, text_same}
 use Rattle.slo_objects.proofs.LawScalars.{description_same, name_same, zone_same}
 use Rattle.slo_objects.proofs.LawNumbers.{number_law, duration_law, number_ok}
+use Rattle.slo_objects.proofs.RangeLemmas.{IsRange, lookback_is, threshold_is, wait_is}
 use Rattle.slo_objects.specs.declared.alert_condition.TheConstants.{ALERT_AFTER, CONDITION}
 use Rattle.slo_objects.specs.declared.alert_condition.TheConstants.{LOOKBACK_WINDOW, SEVERITY}
 use Rattle.slo_objects.specs.declared.alert_condition.TheConstants.{THRESHOLD}
@@ -46,16 +49,15 @@ use Rattle.slo_objects.specs.declared.sli.TheConstants.{METRIC_SOURCE_REF, RATIO
 use Rattle.slo_objects.specs.declared.sli.TheConstants.{RAW_TYPE, THRESHOLD_METRIC, TOTAL}
 use Rattle.yaml_subset.specs.Spelling.{word, quoted}
 use Rattle.yaml_subset.specs.Fits.{Fits}
-use Rattle.exact_fraction.specs.DecimalText.{decimal_text}
 use Rattle.exact_fraction.specs.declared.op.Op.TheVariants.{Lte, Gte, Lt, Gt}
-use Rattle.slo_duration.specs.Writing.{duration_text}
+use Rattle.slo_duration.specs.declared.duration.Duration.{Duration}
 use Rattle.exact_fraction.specs.declared.op.Op.{Op}
 use Rattle.slo_objects.specs.declared.alert_condition.ConditionKind.{ConditionKind}
 use Rattle.slo_objects.specs.declared.sli.RawType.{RawType}
 use Rattle.slo_objects.specs.declared.alert_condition.ConditionKind.TheVariants.{Burnrate}
 use Rattle.slo_objects.specs.declared.kind.Kind.{Kind}
 use Rattle.slo_objects.specs.declared.sli.RawType.TheVariants.{Success, Failure}
-use Rattle.slo_objects.proofs.LawPlain.{decimal_written, duration_written}
+use Rattle.slo_objects.proofs.LawPlain.{decimal_written, duration_plain}
 use Rattle.slo_objects.proofs.LawFits.{FormFit, RowsFit, Within, map_fit, optional_fit}
 use Rattle.slo_objects.proofs.LawFits.{required_fit, alone_fit, one_of_fit}
 use Rattle.slo_objects.proofs.LawFitForms.{variant_fit, chosen_fit, free_fit, free_map_fit}
@@ -152,20 +154,20 @@ condition_law P = (
         refl,
         λ t l a. refl,
         (
-          required_law P THRESHOLD.now (number 0 ten_thousand)
-              (loose P (number 0 ten_thousand) (number_law P 0 ten_thousand)),
+          required_law P THRESHOLD.now (number threshold_range)
+              (loose P (number threshold_range) (number_law P threshold_range threshold_is)),
           λ t. (
             refl,
             λ l a. refl,
             (
-              required_law P LOOKBACK_WINDOW.now (duration 1 month)
-                  (loose P (duration 1 month) (duration_law P 1 month)),
+              required_law P LOOKBACK_WINDOW.now (duration lookback_range)
+                  (loose P (duration lookback_range) (duration_law P lookback_range lookback_is)),
               λ l. (
                 refl,
                 λ a. refl,
                 (
-                  optional_law P ALERT_AFTER.now (duration 0 month)
-                      (loose P (duration 0 month) (duration_law P 0 month)),
+                  optional_law P ALERT_AFTER.now (duration wait_range)
+                      (loose P (duration wait_range) (duration_law P wait_range wait_is)),
                   λ a. (refl, refl, tt),
                 ),
               ),
@@ -430,15 +432,17 @@ raw_type_fit Q room = scalar_fit Q room rules.BadWord raw_type_value (λ k. word
     by Success d = word_fit (codes "success") d refl refl
     by Failure d = word_fit (codes "failure") d refl refl
 
-pub number_fit : (Q : Object → Type 0) (room least most : ℕ) → FormFit Q room (number least most)
-number_fit Q room least most =
-    scalar_fit Q room rules.NotNumber (number_value least most) (λ n. word (decimal_text n))
-    (λ t n e u q d. decimal_written n (number_ok least most t n e).bound)
+pub number_fit : {A : Type 0} (Q : Object → Type 0) (room : ℕ) (range : Range ℕ A) → IsRange range
+    → FormFit Q room (number range)
+number_fit Q room range is =
+    scalar_fit Q room rules.NotNumber (number_value range) (number_written range)
+    (λ t a e u q d. decimal_written (range.value a) (number_ok range is t a e))
 
-pub duration_fit : (Q : Object → Type 0) (room least most : ℕ)
-    → FormFit Q room (duration least most)
-duration_fit Q room least most = scalar_fit Q room rules.NotDuration (duration_value least most)
-    (λ d. word (duration_text d)) (λ t v e u q d. duration_written v)
+pub duration_fit : {A : Type 0} (Q : Object → Type 0) (room : ℕ) (range : Range Duration A)
+    → FormFit Q room (duration range)
+duration_fit Q room range =
+    scalar_fit Q room rules.NotDuration (duration_value range) (duration_written range)
+    (λ t a e u q d. duration_plain (range.value a))
 
 -- TABLES
 
@@ -489,11 +493,13 @@ condition_rows Q = (
   λ k. (
     optional_fit Q 0 OP.now op refl (op_fit Q 0),
     λ o. (
-      required_fit Q 0 THRESHOLD.now (number 0 ten_thousand) refl (number_fit Q 0 0 ten_thousand),
+      required_fit Q 0 THRESHOLD.now (number threshold_range) refl
+          (number_fit Q 0 threshold_range threshold_is),
       λ t. (
-        required_fit Q 0 LOOKBACK_WINDOW.now (duration 1 month) refl (duration_fit Q 0 1 month),
+        required_fit Q 0 LOOKBACK_WINDOW.now (duration lookback_range) refl
+            (duration_fit Q 0 lookback_range),
         λ l. (
-          optional_fit Q 0 ALERT_AFTER.now (duration 0 month) refl (duration_fit Q 0 0 month),
+          optional_fit Q 0 ALERT_AFTER.now (duration wait_range) refl (duration_fit Q 0 wait_range),
           λ a. tt,
         ),
       ),

@@ -1,4 +1,4 @@
-mod DurationLemmas
+mod RangeLemmas
 mod TextLemmas
 mod ReadLemmas
 mod ListLemmas

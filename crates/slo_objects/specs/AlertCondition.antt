@@ -1,5 +1,5 @@
 -- Alert conditions (OpenSLO v1, AlertCondition).
-use Rattle.std.specs.Prelude.{ℕ, List, [], ◌∷◌, Result, codes, ◌*◌, Option, Some, None}
+use Rattle.std.specs.Prelude.{List, [], ◌∷◌, Result, codes, Option, Some, None}
 use Rattle.yaml_subset.specs.Spelling.{word}
 use Rattle.slo_objects.specs.declared.alert_condition.AlertCondition.{AlertCondition}
 use Rattle.slo_objects.specs.declared.alert_condition.Condition.{Condition}
@@ -11,8 +11,9 @@ use Rattle.slo_objects.specs.declared.object.Body.{Body}
 use Rattle.slo_objects.specs.declared.object.Body.TheVariants as bodies
 use Rattle.slo_objects.specs.Form.{Key, Form, Rows, done, ◌of◌, ◌>>=◌, required, optional, map_with}
 use Rattle.slo_objects.specs.Form.{scalar_form, variant, written_where}
-use Rattle.slo_objects.specs.Scalars.{description, text, op, found_or, of_word, number, one}
-use Rattle.slo_objects.specs.Durations.{duration, month}
+use Rattle.slo_objects.specs.Ranges.{lookback_range, threshold_range, wait_range}
+use Rattle.slo_objects.specs.Scalars.{description, text, op, found_or, of_word, number}
+use Rattle.slo_objects.specs.Durations.{duration}
 use Rattle.slo_objects.specs.declared.alert_condition.TheConstants.{ALERT_AFTER, CONDITION}
 use Rattle.slo_objects.specs.declared.alert_condition.TheConstants.{LOOKBACK_WINDOW, SEVERITY}
 use Rattle.slo_objects.specs.declared.alert_condition.TheConstants.{THRESHOLD}
@@ -32,18 +33,14 @@ condition_kind_value bytes =
 abbrev pub condition_kind : Form ConditionKind
 condition_kind = scalar_form rules.BadWord condition_kind_value (λ k. word (condition_word k))
 
--- the greatest threshold
-abbrev pub ten_thousand : ℕ
-ten_thousand = 10_000 * one
-
--- `condition`: a lookback is above zero, and neither it nor `alertAfter` is above 30 days
+-- `condition`
 unfoldable pub condition : Rows Condition
 condition = do
   kind ← optional KIND.now condition_kind of λ c. c.kind
   op ← optional OP.now op of λ c. c.op
-  threshold ← required THRESHOLD.now (number 0 ten_thousand) of λ c. c.threshold
-  lookback_window ← required LOOKBACK_WINDOW.now (duration 1 month) of λ c. c.lookback_window
-  alert_after ← optional ALERT_AFTER.now (duration 0 month) of λ c. c.alert_after
+  threshold ← required THRESHOLD.now (number threshold_range) of λ c. c.threshold
+  lookback_window ← required LOOKBACK_WINDOW.now (duration lookback_range) of λ c. c.lookback_window
+  alert_after ← optional ALERT_AFTER.now (duration wait_range) of λ c. c.alert_after
   done (record {
     kind = kind;
     op = op;

@@ -3,6 +3,7 @@ pub mod Form
 pub mod Reading
 pub mod Adding
 pub mod Rules
+pub mod Ranges
 pub mod Scalars
 pub mod Durations
 pub mod Metadata

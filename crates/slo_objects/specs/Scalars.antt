@@ -5,7 +5,7 @@ use Rattle.std.specs.Prelude.{Result, Ok, Err, codes}
 use Rattle.std.specs.List.{list_all}
 use Rattle.std.specs.Str.{bytes_eq, chars}
 use Rattle.std.specs.Char.{is_ascii_digit, is_ascii_lowercase}
-use Rattle.yaml_subset.specs.Spelling.{word, quoted}
+use Rattle.yaml_subset.specs.Spelling.{Spelling, word, quoted}
 use Rattle.exact_fraction.specs.DecimalCuts.{decimal_by_cuts, leading_digits}
 use Rattle.exact_fraction.specs.DecimalText.{decimal_text}
 use Rattle.exact_fraction.specs.ZoneName.{zone_name_of}
@@ -17,7 +17,9 @@ use Rattle.slo_objects.specs.declared.fault.Rule.{Rule}
 use Rattle.slo_objects.specs.declared.fault.Rule.TheVariants as rules
 use Rattle.slo_objects.specs.declared.kind.Kind.{Kind}
 use Rattle.slo_objects.specs.declared.kind.Kind.TheVariants as kinds
+use Rattle.slo_objects.specs.declared.ranges.Target.{Target}
 use Rattle.slo_objects.specs.Form.{Key, Form, scalar_form, is_among, utf8_in}
+use Rattle.slo_objects.specs.Ranges.{Range, target_in, target_range}
 
 -- a value where it is found, and else the rule that is broken
 abbrev pub found_or : {A : Type 0} → Rule → Option A → Result A Rule
@@ -141,50 +143,41 @@ abbrev pub boolean : Form Bool
 boolean =
     scalar_form rules.NotBool boolean_value (λ b. word (cond b (codes "true") (codes "false")))
 
--- from `least` to `most`
-abbrev pub within : ℕ → ℕ → ℕ → Bool
-within least most n = nat_le least n && nat_le n most
+-- a value in its range, or the rule that one outside of it breaks
+abbrev pub ranged : {A B : Type 0} → (B → Option A) → Result B Rule → Result A Rule
+ranged in_range (Ok b) = found_or rules.OutOfRange (in_range b)
+ranged in_range (Err rule) = Err rule
 
--- a decimal in billionths, where it is in range
-abbrev pub number_in : ℕ → ℕ → Result ℕ DecimalFault → Result ℕ Rule
-number_in least most (Ok n) = cond (within least most n) (Ok n) (Err rules.OutOfRange)
-number_in least most (Err decimals.TooLarge) = Err rules.OutOfRange
-number_in least most (Err decimals.Empty) = Err rules.NotNumber
-number_in least most (Err (decimals.BadByte place)) = Err rules.NotNumber
-number_in least most (Err decimals.TooManyDecimals) = Err rules.NotNumber
+-- the rule that a text breaks which is no decimal
+abbrev pub number_ruled : Result ℕ DecimalFault → Result ℕ Rule
+number_ruled (Ok n) = Ok n
+number_ruled (Err decimals.TooLarge) = Err rules.OutOfRange
+number_ruled (Err decimals.Empty) = Err rules.NotNumber
+number_ruled (Err (decimals.BadByte place)) = Err rules.NotNumber
+number_ruled (Err decimals.TooManyDecimals) = Err rules.NotNumber
 
--- the reading of decimals of `exact_fraction`, under a name that stays closed
-unfoldable pub decimal_read : List ℕ → Result ℕ DecimalFault
-decimal_read bytes = decimal_by_cuts bytes
+-- the decimal of a text, in billionths, or the rule that it breaks
+unfoldable pub number_or_rule : List ℕ → Result ℕ Rule
+number_or_rule bytes = number_ruled (decimal_by_cuts bytes)
 
--- A decimal in a range of billionths.
-unfoldable pub number_value : ℕ → ℕ → List ℕ → Result ℕ Rule
-number_value least most bytes = number_in least most (decimal_read bytes)
+-- a decimal in a range
+unfoldable pub number_value : {A : Type 0} → Range ℕ A → List ℕ → Result A Rule
+number_value range bytes = ranged range.in_range (number_or_rule bytes)
 
-abbrev pub number : ℕ → ℕ → Form ℕ
-number least most =
-    scalar_form rules.NotNumber (number_value least most) (λ n. word (decimal_text n))
+abbrev pub number_written : {A : Type 0} → Range ℕ A → A → Spelling
+number_written range value = word (decimal_text (range.value value))
 
--- one in billionths, and the greatest decimal
-abbrev pub one : ℕ
-one = 1_000_000_000
-
-abbrev pub greatest : ℕ
-greatest = 1_000_000_000_000_000_000
+abbrev pub number : {A : Type 0} → Range ℕ A → Form A
+number range = scalar_form rules.NotNumber (number_value range) (number_written range)
 
 -- A percentage has at most seven decimals, so that its hundredth has at most nine.
 abbrev pub has_few_decimals : List ℕ → Bool
 has_few_decimals bytes = nat_le (length bytes) (leading_digits bytes + 8)
 
--- the hundredth of a number
-abbrev pub hundredth : Result ℕ Rule → Result ℕ Rule
-hundredth (Ok n) = Ok (n / 100)
-hundredth (Err rule) = Err rule
-
-unfoldable pub percent_value : List ℕ → Result ℕ Rule
+unfoldable pub percent_value : List ℕ → Result Target Rule
 percent_value bytes = cond (has_few_decimals bytes)
-    (hundredth (number_value 0 99_999_999_999 bytes)) (Err rules.NotNumber)
+    (ranged (λ n. target_in (n / 100)) (number_or_rule bytes)) (Err rules.NotNumber)
 
--- A percentage in [0, 100): its hundredth is kept, and is written as a number.
-abbrev pub percent : Form ℕ
-percent = scalar_form rules.NotNumber percent_value (λ n. word (decimal_text n))
+-- A percentage, whose hundredth is a target: it is kept, and is written as a number.
+abbrev pub percent : Form Target
+percent = scalar_form rules.NotNumber percent_value (number_written target_range)

@@ -1,19 +1,19 @@
 -- Objectives over time (OpenSLO v1, SLO).
-use Rattle.std.specs.Prelude.{ℕ, ◌%◌, ◌==◌, Bool, true, false, ◌&&◌, ◌||◌, cond, nat_le, List, []}
-use Rattle.std.specs.Prelude.{◌∷◌, Option, Some, None, Result, Ok, Err, codes, decimal}
+use Rattle.std.specs.Prelude.{ℕ, Bool, true, false, ◌&&◌, ◌||◌, cond, nat_le, List, [], ◌∷◌}
+use Rattle.std.specs.Prelude.{Option, Some, None, Result, Ok, Err, codes, decimal, option_and_then}
 use Rattle.yaml_subset.specs.Tree.{Tree}
 use Rattle.yaml_subset.specs.Spelling.{word, quoted}
 use Rattle.exact_fraction.specs.Digits.{is_number, number_within}
 use Rattle.slo_duration.specs.declared.unit.Unit.{Unit as TimeUnit}
 use Rattle.slo_duration.specs.declared.unit.Unit.TheVariants as units
-use Rattle.slo_duration.specs.declared.duration.Duration.{Duration}
-use Rattle.slo_duration.specs.declared.read.DurationFault.{DurationFault}
-use Rattle.slo_duration.specs.declared.read.DurationFault.TheVariants as durations
+use Rattle.slo_duration.specs.Minutes.{minutes_of}
 use Rattle.slo_objects.specs.declared.fault.Rule.{Rule}
 use Rattle.slo_objects.specs.declared.fault.Rule.TheVariants as rules
 use Rattle.slo_objects.specs.declared.kind.Kind.TheVariants as kinds
 use Rattle.slo_objects.specs.declared.object.Body.{Body}
 use Rattle.slo_objects.specs.declared.object.Body.TheVariants as bodies
+use Rattle.slo_objects.specs.declared.ranges.SliceWidth.{SliceWidth}
+use Rattle.slo_objects.specs.declared.ranges.Target.{Target}
 use Rattle.slo_objects.specs.declared.slo.Slo.{Slo}
 use Rattle.slo_objects.specs.declared.slo.TimeWindow.{TimeWindow}
 use Rattle.slo_objects.specs.declared.slo.Calendar.{Calendar}
@@ -26,8 +26,10 @@ use Rattle.slo_objects.specs.Form.{required, optional, required_where, required_
 use Rattle.slo_objects.specs.Form.{one_of, map_with, map_read, single, list_with, variant}
 use Rattle.slo_objects.specs.Form.{written_where, scalar_form, scalar_in, is_null, is_among}
 use Rattle.slo_objects.specs.Scalars.{description, text, name, zone_name, boolean, op, number}
-use Rattle.slo_objects.specs.Scalars.{percent, found_or, of_word, one, greatest}
-use Rattle.slo_objects.specs.Durations.{duration, duration_read, minutes_of, leap_year}
+use Rattle.slo_objects.specs.Scalars.{percent, found_or, of_word, ranged}
+use Rattle.slo_objects.specs.Durations.{duration, duration_or_rule}
+use Rattle.slo_objects.specs.Ranges.{every_number, target_range, slice_target_range, width_in}
+use Rattle.slo_objects.specs.Ranges.{window_range}
 use Rattle.slo_objects.specs.Moments.{moment}
 use Rattle.slo_objects.specs.Inline.{inline_read, item_read, reference_written}
 use Rattle.slo_objects.specs.Sli.{sli_body}
@@ -63,12 +65,12 @@ is_calendar_unit units.Month = true
 is_calendar_unit units.Quarter = true
 is_calendar_unit units.Year = true
 
--- the one item of `timeWindow`: it lasts at least a minute and at most 366 days
+-- the one item of `timeWindow`
 unfoldable pub time_window : Rows TimeWindow
 time_window = do
-  duration ← required DURATION.now (duration 1 leap_year) of λ w. w.duration
+  duration ← required DURATION.now (duration window_range) of λ w. w.duration
   rolling ← optional IS_ROLLING.now boolean of λ w. w.is_rolling
-  _ ← holding (is_rolling rolling || is_calendar_unit duration.unit) DURATION.now
+  _ ← holding (is_rolling rolling || is_calendar_unit duration.span.unit) DURATION.now
       rules.OutOfRange of λ w. tt
   calendar ← required_unless (is_rolling rolling) CALENDAR.now (map_with calendar) of
       λ w. w.calendar
@@ -100,46 +102,30 @@ has_slices Occurrences = false
 has_slices Timeslices = true
 has_slices RatioTimeslices = true
 
--- a width in minutes divides an hour
-abbrev pub width_in : ℕ → Result ℕ Rule
-width_in n = cond (nat_le 1 n && (nat_le n 60 && (60 % n == 0))) (Ok n) (Err rules.OutOfRange)
+-- the width of a slice: a number of minutes, or a duration; it is written in minutes
+unfoldable pub width_value : List ℕ → Result SliceWidth Rule
+width_value bytes = cond (is_number bytes)
+    (found_or rules.OutOfRange (option_and_then width_in (number_within 60 bytes)))
+    (ranged (λ d. width_in (minutes_of d)) (duration_or_rule bytes))
 
-abbrev pub width_of_duration : Result Duration DurationFault → Result ℕ Rule
-width_of_duration (Ok d) = width_in (minutes_of d)
-width_of_duration (Err durations.TooLong) = Err rules.OutOfRange
-width_of_duration (Err durations.Empty) = Err rules.NotDuration
-width_of_duration (Err durations.BadNumber) = Err rules.NotDuration
-width_of_duration (Err durations.BadUnit) = Err rules.NotDuration
+abbrev pub slice_width : Form SliceWidth
+slice_width = scalar_form rules.NotDuration width_value (λ w. word (decimal w.minutes))
 
--- digits stand for minutes; a number above an hour is out of range
-abbrev pub width_of_digits : Option ℕ → Result ℕ Rule
-width_of_digits None = Err rules.OutOfRange
-width_of_digits (Some n) = width_in n
+abbrev pub target : Form Target
+target = number target_range
 
-unfoldable pub width_value : List ℕ → Result ℕ Rule
-width_value bytes = cond (is_number bytes) (width_of_digits (number_within 60 bytes))
-    (width_of_duration (duration_read bytes))
-
--- the width of a slice: minutes, or a duration; it is written in minutes
-abbrev pub slice_width : Form ℕ
-slice_width = scalar_form rules.NotDuration width_value (λ n. word (decimal n))
-
--- a target is below one, a target for slices above zero and at most one
-abbrev pub target : Form ℕ
-target = number 0 999_999_999
-
-abbrev pub is_target : ℕ → Bool
-is_target n = true
+abbrev pub is_target : Target → Bool
+is_target t = true
 
 -- an item of `objectives`
 unfoldable pub objective : BudgetingMethod → Rows Objective
 objective method = do
   display_name ← optional DISPLAY_NAME.now text of λ o. o.display_name
   op ← optional OP.now op of λ o. o.op
-  value ← optional VALUE.now (number 0 greatest) of λ o. o.value
+  value ← optional VALUE.now (number every_number) of λ o. o.value
   target ← one_of TARGET.now target TARGET_PERCENT.now percent is_target of λ o. o.target
-  time_slice_target ← required_where (has_slice_target method) TIME_SLICE_TARGET.now (number 1 one)
-      of λ o. o.time_slice_target
+  time_slice_target ← required_where (has_slice_target method) TIME_SLICE_TARGET.now
+      (number slice_target_range) of λ o. o.time_slice_target
   time_slice_window ← required_where (has_slices method) TIME_SLICE_WINDOW.now slice_width of λ o.
       o.time_slice_window
   done (record {

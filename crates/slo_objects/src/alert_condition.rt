@@ -9,17 +9,17 @@ ghost use Rattle.slo_objects.specs.AlertCondition.{condition_word, condition_kin
 ghost use Rattle.slo_objects.specs.declared.fault.Rule.TheVariants as rules;
 
 use crate::copy::{copy_optional_text, copy_text};
-use crate::durations::{DurationForm, NumberForm};
+use crate::durations::{LookbackForm, ThresholdForm, WaitForm};
 use crate::fault::{ReadError, Rule};
 use crate::fields::{close_with, fail_at};
 use crate::forms::{ReadForm, ReadText};
 use crate::keys::{DESCRIPTION, KIND, OP};
 use crate::object::{Body, Objects};
+use crate::ranges::{AlertAfter, Lookback, Threshold};
 use crate::rows::{optional, required};
 use crate::scalars::{DescriptionForm, OpForm, TextForm, is_word};
 use crate::shape::map_entries;
-use exact_fraction::{Decimal, Op, Text};
-use slo_duration::Duration;
+use exact_fraction::{Op, Text};
 use std::alloc::{AllocError, Global};
 use yaml_subset::Node;
 
@@ -33,12 +33,6 @@ pub(crate) const THRESHOLD: &str = "threshold";
 pub(crate) const LOOKBACK_WINDOW: &str = "lookbackWindow";
 
 pub(crate) const ALERT_AFTER: &str = "alertAfter";
-
-/// The greatest threshold, 10,000, in billionths.
-const MOST_THRESHOLD: u64 = 10_000_000_000_000;
-
-/// 30 days, in minutes: the longest lookback.
-const MOST_LOOKBACK: u32 = 43_200;
 
 /// A condition under which an alert is told.
 #[derive(Debug, Drop)]
@@ -55,10 +49,10 @@ pub struct Condition {
     pub kind: Option<ConditionKind>,
     /// Omitted is `gte`.
     pub op: Option<Op>,
-    pub threshold: Decimal,
-    pub lookback_window: Duration,
+    pub threshold: Threshold,
+    pub lookback_window: Lookback,
     /// Omitted is `0m`.
-    pub alert_after: Option<Duration>,
+    pub alert_after: Option<AlertAfter>,
 }
 
 /// What a condition is about.
@@ -116,23 +110,11 @@ impl ReadForm for ConditionForm {
         let Some(fields) = map_entries(node) else {
             return fail_at(found, key, Rule::NotMap);
         };
-        let threshold_form = NumberForm {
-            least: 0,
-            most: MOST_THRESHOLD,
-        };
-        let lookback_form = DurationForm {
-            least: 1,
-            most: MOST_LOOKBACK,
-        };
-        let after_form = DurationForm {
-            least: 0,
-            most: MOST_LOOKBACK,
-        };
         let kind = optional(found, fields, KIND, &ConditionKindForm)?;
         let op = optional(found, fields, OP, &OpForm)?;
-        let threshold = required(found, fields, THRESHOLD, &threshold_form)?;
-        let lookback_window = required(found, fields, LOOKBACK_WINDOW, &lookback_form)?;
-        let alert_after = optional(found, fields, ALERT_AFTER, &after_form)?;
+        let threshold = required(found, fields, THRESHOLD, &ThresholdForm)?;
+        let lookback_window = required(found, fields, LOOKBACK_WINDOW, &LookbackForm)?;
+        let alert_after = optional(found, fields, ALERT_AFTER, &WaitForm)?;
         let condition = Condition {
             kind,
             op,

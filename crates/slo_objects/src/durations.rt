@@ -2,39 +2,37 @@
 ghost use Rattle.std.specs.Prelude.{◌≡◌, ◌+◌, ◌≤◌, length, IfOk};
 ghost use Rattle.std.specs.Char.{is_ascii_digit};
 ghost use Rattle.std.specs.List.{prefix_len};
-ghost use Rattle.yaml_subset.specs.Spelling.{word};
-ghost use Rattle.exact_fraction.specs.DecimalText.{decimal_text};
-ghost use Rattle.slo_duration.specs.Writing.{duration_text};
-ghost use Rattle.slo_objects.specs.Scalars.{number_value, decimal_read, percent_value};
+ghost use Rattle.slo_objects.specs.Durations.{duration_or_rule, duration_value, duration_written};
+ghost use Rattle.slo_objects.specs.Ranges.{every_number, lookback_range, slice_target_range};
+ghost use Rattle.slo_objects.specs.Ranges.{target_range, threshold_range, wait_range, window_range};
+ghost use Rattle.slo_objects.specs.Scalars.{found_or, number_or_rule, number_value, number_written};
 ghost use Rattle.slo_objects.specs.Scalars.{has_few_decimals as has_few_decimals_lem};
-ghost use Rattle.slo_objects.specs.Durations.{duration_value, duration_read};
+ghost use Rattle.slo_objects.specs.Scalars.{percent_value};
 ghost use Rattle.slo_objects.specs.declared.fault.Rule.TheVariants as rules;
 
 use crate::fault::Rule;
 use crate::forms::ReadText;
+use crate::ranges::{AlertAfter, Lookback, SliceTarget, Target, Threshold, WindowLength};
 use exact_fraction::{Decimal, DecimalFault, read_decimal};
-use slo_duration::{Duration, DurationFault, read_duration, rolling_minutes};
+use slo_duration::{Duration, DurationFault, read_duration};
 use std::alloc::{AllocError, Global};
 
-#[tactic(auto, unfolding(crate::specs::Scalars::decimal_read))]
-fn decimal_at(text: &[u8]) -> Result<Decimal, DecimalFault>
-    ensures { result ≡ decimal_read text.now }
+/// A value in its range, or the rule that one outside of it breaks.
+pub(crate) fn in_range<T>(value: Option<T>) -> Result<T, Rule>
+    ensures { result ≡ found_or rules.OutOfRange value }
 {
-    read_decimal(text)
+    match value {
+        Some(value) => Ok(value),
+        None => Err(Rule::OutOfRange),
+    }
 }
 
-#[tactic(auto, unfolding(crate::specs::Scalars::number_value))]
-fn read_number(text: &[u8], least: u64, most: u64) -> Result<Decimal, Rule>
-    ensures { result ≡ number_value least most text.now }
+#[tactic(auto, unfolding(crate::specs::Scalars::number_or_rule))]
+fn number_at(text: &[u8]) -> Result<Decimal, Rule>
+    ensures { result ≡ number_or_rule text.now }
 {
-    match decimal_at(text) {
-        Ok(value) => {
-            if least <= value.billionths() && value.billionths() <= most {
-                Ok(value)
-            } else {
-                Err(Rule::OutOfRange)
-            }
-        }
+    match read_decimal(text) {
+        Ok(value) => Ok(value),
         Err(DecimalFault::TooLarge) => Err(Rule::OutOfRange),
         Err(DecimalFault::Empty) => Err(Rule::NotNumber),
         Err(DecimalFault::BadByte(_)) => Err(Rule::NotNumber),
@@ -42,28 +40,127 @@ fn read_number(text: &[u8], least: u64, most: u64) -> Result<Decimal, Rule>
     }
 }
 
-/// A decimal from `least` to `most` billionths.
-#[derive(Clone, Copy)]
-pub(crate) struct NumberForm {
-    pub(crate) least: u64,
-    pub(crate) most: u64,
+#[tactic(auto, unfolding(crate::specs::Scalars::number_value))]
+fn read_number(text: &[u8]) -> Result<Decimal, Rule>
+    ensures { result ≡ number_value every_number text.now }
+{
+    match number_at(text) {
+        Ok(value) => Ok(value),
+        Err(rule) => Err(rule),
+    }
 }
+
+#[tactic(auto, unfolding(crate::specs::Scalars::number_value))]
+fn read_target(text: &[u8]) -> Result<Target, Rule>
+    ensures { result ≡ number_value target_range text.now }
+{
+    match number_at(text) {
+        Ok(ratio) => in_range(Target::of(ratio)),
+        Err(rule) => Err(rule),
+    }
+}
+
+#[tactic(auto, unfolding(crate::specs::Scalars::number_value))]
+fn read_slice_target(text: &[u8]) -> Result<SliceTarget, Rule>
+    ensures { result ≡ number_value slice_target_range text.now }
+{
+    match number_at(text) {
+        Ok(ratio) => in_range(SliceTarget::of(ratio)),
+        Err(rule) => Err(rule),
+    }
+}
+
+#[tactic(auto, unfolding(crate::specs::Scalars::number_value))]
+fn read_threshold(text: &[u8]) -> Result<Threshold, Rule>
+    ensures { result ≡ number_value threshold_range text.now }
+{
+    match number_at(text) {
+        Ok(rate) => in_range(Threshold::of(rate)),
+        Err(rule) => Err(rule),
+    }
+}
+
+/// A decimal.
+pub(crate) struct NumberForm;
 
 impl ReadText for NumberForm {
     type Value = Decimal;
 
     ghost other = { λ _. rules.NotNumber };
 
-    ghost value = { λ n. number_value n.least n.most };
+    ghost value = { λ _. number_value every_number };
 
-    ghost spelled = { λ _ n. word (decimal_text n) };
+    ghost spelled = { λ _. number_written every_number };
 
     fn rule(&self) -> Rule {
         Rule::NotNumber
     }
 
     fn parse(&self, _alloc: Global, text: &[u8]) -> Result<Result<Decimal, Rule>, AllocError> {
-        Ok(read_number(text, self.least, self.most))
+        Ok(read_number(text))
+    }
+}
+
+/// A target.
+pub(crate) struct TargetForm;
+
+impl ReadText for TargetForm {
+    type Value = Target;
+
+    ghost other = { λ _. rules.NotNumber };
+
+    ghost value = { λ _. number_value target_range };
+
+    ghost spelled = { λ _. number_written target_range };
+
+    fn rule(&self) -> Rule {
+        Rule::NotNumber
+    }
+
+    fn parse(&self, _alloc: Global, text: &[u8]) -> Result<Result<Target, Rule>, AllocError> {
+        Ok(read_target(text))
+    }
+}
+
+/// The ratio from which on a slice is good.
+pub(crate) struct SliceTargetForm;
+
+impl ReadText for SliceTargetForm {
+    type Value = SliceTarget;
+
+    ghost other = { λ _. rules.NotNumber };
+
+    ghost value = { λ _. number_value slice_target_range };
+
+    ghost spelled = { λ _. number_written slice_target_range };
+
+    fn rule(&self) -> Rule {
+        Rule::NotNumber
+    }
+
+    fn parse(&self, _alloc: Global, text: &[u8]) -> Result<Result<SliceTarget, Rule>, AllocError> {
+        Ok(read_slice_target(text))
+    }
+}
+
+/// A threshold.
+pub(crate) struct ThresholdForm;
+
+impl ReadText for ThresholdForm {
+    type Value = Threshold;
+
+    ghost other = { λ _. rules.NotNumber };
+
+    ghost value = { λ _. number_value threshold_range };
+
+    ghost spelled = { λ _. number_written threshold_range };
+
+    fn rule(&self) -> Rule {
+        Rule::NotNumber
+    }
+
+    fn parse(&self, _alloc: Global, text: &[u8]) -> Result<Result<Threshold, Rule>, AllocError> {
+        Ok(read_threshold(text))
     }
 }
 
@@ -82,57 +179,46 @@ fn has_few_decimals(text: &[u8]) -> bool
 }
 
 #[tactic(auto, unfolding(crate::specs::Scalars::percent_value))]
-fn read_percent(text: &[u8]) -> Result<Decimal, Rule>
+fn read_percent(text: &[u8]) -> Result<Target, Rule>
     ensures { result ≡ percent_value text.now }
 {
     if !has_few_decimals(text) {
         return Err(Rule::NotNumber);
     }
-    match read_number(text, 0, 99_999_999_999) {
-        Ok(value) => Ok(Decimal::of_billionths(value.billionths() / 100)),
+    match number_at(text) {
+        Ok(value) => in_range(Target::of(Decimal::of_billionths(value.billionths() / 100))),
         Err(rule) => Err(rule),
     }
 }
 
-/// The hundredth of a percentage.
+/// A percentage, whose hundredth is a target.
 pub(crate) struct PercentForm;
 
 impl ReadText for PercentForm {
-    type Value = Decimal;
+    type Value = Target;
 
     ghost other = { λ _. rules.NotNumber };
 
     ghost value = { λ _. percent_value };
 
-    ghost spelled = { λ _ n. word (decimal_text n) };
+    ghost spelled = { λ _. number_written target_range };
 
     fn rule(&self) -> Rule {
         Rule::NotNumber
     }
 
-    fn parse(&self, _alloc: Global, text: &[u8]) -> Result<Result<Decimal, Rule>, AllocError> {
+    fn parse(&self, _alloc: Global, text: &[u8]) -> Result<Result<Target, Rule>, AllocError> {
         Ok(read_percent(text))
     }
 }
 
-pub(crate) fn duration_at(text: &[u8]) -> Result<Duration, DurationFault>
-    ensures { result ≡ duration_read text.now }
+/// The duration of a text, or the rule that it breaks.
+#[tactic(auto, unfolding(crate::specs::Durations::duration_or_rule))]
+pub(crate) fn duration_at(text: &[u8]) -> Result<Duration, Rule>
+    ensures { result ≡ duration_or_rule text.now }
 {
-    read_duration(text)
-}
-
-#[tactic(auto, unfolding(crate::specs::Durations::duration_value))]
-fn read_length(text: &[u8], least: u32, most: u32) -> Result<Duration, Rule>
-    ensures { result ≡ duration_value least most text.now }
-{
-    match duration_at(text) {
-        Ok(value) => {
-            if least <= rolling_minutes(value) && rolling_minutes(value) <= most {
-                Ok(value)
-            } else {
-                Err(Rule::OutOfRange)
-            }
-        }
+    match read_duration(text) {
+        Ok(value) => Ok(value),
         Err(DurationFault::TooLong) => Err(Rule::OutOfRange),
         Err(DurationFault::Empty) => Err(Rule::NotDuration),
         Err(DurationFault::BadNumber) => Err(Rule::NotDuration),
@@ -140,27 +226,95 @@ fn read_length(text: &[u8], least: u32, most: u32) -> Result<Duration, Rule>
     }
 }
 
-/// A duration of `least` to `most` minutes.
-#[derive(Clone, Copy)]
-pub(crate) struct DurationForm {
-    pub(crate) least: u32,
-    pub(crate) most: u32,
+#[tactic(auto, unfolding(crate::specs::Durations::duration_value))]
+fn read_lookback(text: &[u8]) -> Result<Lookback, Rule>
+    ensures { result ≡ duration_value lookback_range text.now }
+{
+    match duration_at(text) {
+        Ok(span) => in_range(Lookback::of(span)),
+        Err(rule) => Err(rule),
+    }
 }
 
-impl ReadText for DurationForm {
-    type Value = Duration;
+#[tactic(auto, unfolding(crate::specs::Durations::duration_value))]
+fn read_wait(text: &[u8]) -> Result<AlertAfter, Rule>
+    ensures { result ≡ duration_value wait_range text.now }
+{
+    match duration_at(text) {
+        Ok(span) => in_range(AlertAfter::of(span)),
+        Err(rule) => Err(rule),
+    }
+}
+
+#[tactic(auto, unfolding(crate::specs::Durations::duration_value))]
+fn read_window_length(text: &[u8]) -> Result<WindowLength, Rule>
+    ensures { result ≡ duration_value window_range text.now }
+{
+    match duration_at(text) {
+        Ok(span) => in_range(WindowLength::of(span)),
+        Err(rule) => Err(rule),
+    }
+}
+
+/// A lookback.
+pub(crate) struct LookbackForm;
+
+impl ReadText for LookbackForm {
+    type Value = Lookback;
 
     ghost other = { λ _. rules.NotDuration };
 
-    ghost value = { λ d. duration_value d.least d.most };
+    ghost value = { λ _. duration_value lookback_range };
 
-    ghost spelled = { λ _ d. word (duration_text d) };
+    ghost spelled = { λ _. duration_written lookback_range };
 
     fn rule(&self) -> Rule {
         Rule::NotDuration
     }
 
-    fn parse(&self, _alloc: Global, text: &[u8]) -> Result<Result<Duration, Rule>, AllocError> {
-        Ok(read_length(text, self.least, self.most))
+    fn parse(&self, _alloc: Global, text: &[u8]) -> Result<Result<Lookback, Rule>, AllocError> {
+        Ok(read_lookback(text))
+    }
+}
+
+/// A wait.
+pub(crate) struct WaitForm;
+
+impl ReadText for WaitForm {
+    type Value = AlertAfter;
+
+    ghost other = { λ _. rules.NotDuration };
+
+    ghost value = { λ _. duration_value wait_range };
+
+    ghost spelled = { λ _. duration_written wait_range };
+
+    fn rule(&self) -> Rule {
+        Rule::NotDuration
+    }
+
+    fn parse(&self, _alloc: Global, text: &[u8]) -> Result<Result<AlertAfter, Rule>, AllocError> {
+        Ok(read_wait(text))
+    }
+}
+
+/// The length of a window.
+pub(crate) struct WindowLengthForm;
+
+impl ReadText for WindowLengthForm {
+    type Value = WindowLength;
+
+    ghost other = { λ _. rules.NotDuration };
+
+    ghost value = { λ _. duration_value window_range };
+
+    ghost spelled = { λ _. duration_written window_range };
+
+    fn rule(&self) -> Rule {
+        Rule::NotDuration
+    }
+
+    fn parse(&self, _alloc: Global, text: &[u8]) -> Result<Result<WindowLength, Rule>, AllocError> {
+        Ok(read_window_length(text))
     }
 }

@@ -8,23 +8,25 @@ ghost use Rattle.yaml_subset.specs.NodeView.{node_view};
 ghost use Rattle.slo_objects.specs.Form.{map_with};
 ghost use Rattle.slo_objects.specs.Reading.{Reads};
 ghost use Rattle.slo_objects.specs.Slo.{objective, is_target, width_value};
-ghost use Rattle.slo_objects.specs.Slo.{width_in as width_in_lem};
 ghost use Rattle.slo_objects.specs.Slo.{has_slice_target as has_slice_target_lem};
 ghost use Rattle.slo_objects.specs.Slo.{has_slices as has_slices_lem};
 ghost use Rattle.slo_objects.specs.declared.fault.Rule.TheVariants as rules;
 
-use crate::durations::{NumberForm, PercentForm, duration_at};
+use crate::durations::{
+    NumberForm, PercentForm, SliceTargetForm, TargetForm, duration_at, in_range,
+};
 use crate::fault::{ReadError, Rule};
 use crate::fields::{close_with, fail_at};
 use crate::forms::{ReadForm, ReadText};
 use crate::keys::{DISPLAY_NAME, OP, TARGET};
 use crate::object::Objects;
+use crate::ranges::SliceWidth;
 use crate::rows::{one_of, optional, required_where};
 use crate::scalars::{OpForm, TextForm};
 use crate::shape::map_entries;
 use crate::slo::{BudgetingMethod, Objective};
 use exact_fraction::read_number;
-use slo_duration::{DurationFault, rolling_minutes};
+use slo_duration::rolling_minutes;
 use std::alloc::{AllocError, Global};
 use yaml_subset::Node;
 
@@ -36,12 +38,6 @@ pub(crate) const TARGET_PERCENT: &str = "targetPercent";
 pub(crate) const TIME_SLICE_TARGET: &str = "timeSliceTarget";
 
 pub(crate) const TIME_SLICE_WINDOW: &str = "timeSliceWindow";
-
-/// One, in billionths.
-const ONE: u64 = 1_000_000_000;
-
-/// The greatest decimal, in billionths.
-const GREATEST: u64 = 1_000_000_000_000_000_000;
 
 fn all_digits(text: &[u8]) -> bool
     ensures { result ≡ list_all is_ascii_digit text.now }
@@ -55,33 +51,19 @@ fn is_digits(text: &[u8]) -> bool
     text.len() != 0 && all_digits(text)
 }
 
-/// A width in minutes, which divides an hour.
-fn width_in(minutes: u32) -> Result<u32, Rule>
-    ensures { result ≡ width_in_lem minutes }
-{
-    if 1 <= minutes && minutes <= 60 && 60 % minutes == 0 {
-        Ok(minutes)
-    } else {
-        Err(Rule::OutOfRange)
-    }
-}
-
 #[tactic(auto, unfolding(crate::specs::Slo::width_value))]
-fn read_width(text: &[u8]) -> Result<u32, Rule>
+fn read_width(text: &[u8]) -> Result<SliceWidth, Rule>
     ensures { result ≡ width_value text.now }
 {
     if is_digits(text) {
         return match read_number(text, 60) {
-            Some(minutes) => width_in(minutes as u32),
+            Some(minutes) => in_range(SliceWidth::of(minutes as u32)),
             None => Err(Rule::OutOfRange),
         };
     }
     match duration_at(text) {
-        Ok(width) => width_in(rolling_minutes(width)),
-        Err(DurationFault::TooLong) => Err(Rule::OutOfRange),
-        Err(DurationFault::Empty) => Err(Rule::NotDuration),
-        Err(DurationFault::BadNumber) => Err(Rule::NotDuration),
-        Err(DurationFault::BadUnit) => Err(Rule::NotDuration),
+        Ok(span) => in_range(SliceWidth::of(rolling_minutes(span))),
+        Err(rule) => Err(rule),
     }
 }
 
@@ -89,19 +71,19 @@ fn read_width(text: &[u8]) -> Result<u32, Rule>
 pub(crate) struct WidthForm;
 
 impl ReadText for WidthForm {
-    type Value = u32;
+    type Value = SliceWidth;
 
     ghost other = { λ _. rules.NotDuration };
 
     ghost value = { λ _. width_value };
 
-    ghost spelled = { λ _ n. word (decimal n) };
+    ghost spelled = { λ _ w. word (decimal w.minutes) };
 
     fn rule(&self) -> Rule {
         Rule::NotDuration
     }
 
-    fn parse(&self, _alloc: Global, text: &[u8]) -> Result<Result<u32, Rule>, AllocError> {
+    fn parse(&self, _alloc: Global, text: &[u8]) -> Result<Result<SliceWidth, Rule>, AllocError> {
         Ok(read_width(text))
     }
 }
@@ -144,26 +126,14 @@ impl ReadForm for ObjectiveForm {
         };
         let wants_target = has_slice_target(self.method);
         let wants_width = has_slices(self.method);
-        let value_form = NumberForm {
-            least: 0,
-            most: GREATEST,
-        };
-        let target_form = NumberForm {
-            least: 0,
-            most: ONE - 1,
-        };
-        let slice_form = NumberForm {
-            least: 1,
-            most: ONE,
-        };
         let display_name = optional(found, fields, DISPLAY_NAME, &TextForm)?;
         let op = optional(found, fields, OP, &OpForm)?;
-        let value = optional(found, fields, VALUE, &value_form)?;
+        let value = optional(found, fields, VALUE, &NumberForm)?;
         let target = one_of(
             found,
             fields,
             TARGET,
-            &target_form,
+            &TargetForm,
             TARGET_PERCENT,
             &PercentForm,
         )?;
@@ -172,7 +142,7 @@ impl ReadForm for ObjectiveForm {
             fields,
             wants_target,
             TIME_SLICE_TARGET,
-            &slice_form,
+            &SliceTargetForm,
         )?;
         let time_slice_window = required_where(
             found,

@@ -19,13 +19,13 @@ use crate::lists::{ReadItem, names_of};
 use crate::names::{Names, copy_optional_names};
 use crate::object::{Body, Objects};
 use crate::objective::ObjectiveForm;
+use crate::ranges::{SliceTarget, SliceWidth, Target, WindowLength};
 use crate::rows::{one_of, optional, required};
 use crate::scalars::{DescriptionForm, NameForm};
 use crate::shape::{is_null, item_count, list_items, map_entries, scalar_text};
 use crate::sli::SliBody;
 use crate::window::{MethodForm, WindowsForm};
 use exact_fraction::{Decimal, Label, Op, Text, ZoneName};
-use slo_duration::Duration;
 use std::alloc::{AllocError, Global};
 use std::marker::Model;
 use yaml_subset::Node;
@@ -66,7 +66,7 @@ pub struct Slo {
 /// The span over which a budget is counted.
 #[derive(Debug, Drop)]
 pub struct TimeWindow {
-    pub duration: Duration,
+    pub duration: WindowLength,
     /// Omitted is false.
     pub is_rolling: Option<bool>,
     /// Where a calendar window begins; none for a rolling one.
@@ -95,11 +95,11 @@ pub struct Objective {
     pub op: Option<Op>,
     pub value: Option<Decimal>,
     /// Of `target`, or a hundredth of `targetPercent`.
-    pub target: Decimal,
+    pub target: Target,
     /// The ratio from which on a slice is good.
-    pub time_slice_target: Option<Decimal>,
-    /// The width of a slice in minutes, a divisor of 60.
-    pub time_slice_window: Option<u32>,
+    pub time_slice_target: Option<SliceTarget>,
+    /// The width of a slice.
+    pub time_slice_window: Option<SliceWidth>,
 }
 
 /// The objectives of an SLO, in their order: at most five.

@@ -9,7 +9,7 @@ ghost use Rattle.slo_objects.specs.Slo.{is_calendar_unit as is_calendar_unit_lem
 ghost use Rattle.slo_objects.specs.Slo.{method_value};
 ghost use Rattle.slo_objects.specs.declared.fault.Rule.TheVariants as rules;
 
-use crate::durations::DurationForm;
+use crate::durations::WindowLengthForm;
 use crate::fault::{ReadError, Rule};
 use crate::fields::{close_with, fail_at};
 use crate::forms::{ReadForm, ReadText};
@@ -33,9 +33,6 @@ pub(crate) const CALENDAR: &str = "calendar";
 pub(crate) const START_TIME: &str = "startTime";
 
 pub(crate) const TIME_ZONE: &str = "timeZone";
-
-/// 366 days, in minutes: the longest window.
-const MOST_WINDOW: u32 = 527_040;
 
 fn is_rolling(rolling: Option<bool>) -> bool
     ensures { result ≡ is_rolling_lem rolling }
@@ -155,14 +152,10 @@ impl ReadForm for WindowForm {
         let Some(fields) = map_entries(node) else {
             return fail_at(found, key, Rule::NotMap);
         };
-        let duration_form = DurationForm {
-            least: 1,
-            most: MOST_WINDOW,
-        };
-        let duration = required(found, fields, DURATION, &duration_form)?;
+        let duration = required(found, fields, DURATION, &WindowLengthForm)?;
         let is_rolling_field = optional(found, fields, IS_ROLLING, &BooleanForm)?;
         let rolling = is_rolling(is_rolling_field);
-        let fits = may_have_unit(rolling, duration.unit);
+        let fits = may_have_unit(rolling, duration.span.unit);
         check_unit(found, fits, DURATION)?;
         let calendar = required_unless(found, fields, rolling, CALENDAR, &CalendarForm)?;
         let window = TimeWindow {

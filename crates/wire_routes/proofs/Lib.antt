@@ -5,6 +5,5 @@ pub mod RouteLemmas
 pub mod ItemLemmas
 pub mod RowLemmas
 pub mod MemberLemmas
-pub mod LookbackLemmas
 pub mod JsonLemmas
 pub mod RangeLemmas

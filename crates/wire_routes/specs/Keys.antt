@@ -2,13 +2,13 @@
 use Rattle.std.specs.Prelude.{ℕ, List, Option, Some, None, option_map, option_and_then, codes}
 use Rattle.std.specs.Result.{result_ok}
 use Rattle.slo_duration.specs.declared.duration.Duration.{Duration}
-use Rattle.slo_objects.specs.Durations.{duration_read}
+use Rattle.slo_duration.specs.Reading.{duration_of}
 use Rattle.wire_routes.specs.Cuts.{number32}
 use Rattle.wire_routes.specs.Queries.{asked}
 
 -- a duration in OpenSLO's shorthand
 abbrev pub lookback_of : List ℕ → Option Duration
-lookback_of text = result_ok (duration_read text)
+lookback_of text = result_ok (duration_of text)
 
 -- a minute that may be left out
 abbrev pub minute_or_none : Option (List ℕ) → Option (Option ℕ)

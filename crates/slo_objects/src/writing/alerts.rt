@@ -7,7 +7,8 @@ ghost use Rattle.slo_objects.specs.Inline.{reference_written};
 ghost use Rattle.slo_objects.specs.AlertCondition.{condition, alert_condition, condition_body};
 ghost use Rattle.slo_objects.specs.AlertCondition.{condition_kind};
 ghost use Rattle.slo_objects.specs.AlertPolicy.{alert_policy, policy_body, conditions, targets};
-ghost use Rattle.slo_objects.specs.Durations.{duration, month};
+ghost use Rattle.slo_objects.specs.Durations.{duration};
+ghost use Rattle.slo_objects.specs.Ranges.{wait_range};
 ghost use Rattle.slo_objects.specs.Adding.{Adds};
 
 use crate::alert_condition::{
@@ -21,6 +22,7 @@ use crate::alert_policy::{
 use crate::keys::{DESCRIPTION, KIND, OP};
 use crate::names::Names;
 use crate::object::Body;
+use crate::ranges::AlertAfter;
 use crate::writing::fields::{list_of, map_of, put, put_item};
 use crate::writing::rows::{
     optional_boolean, optional_description, optional_op, required_duration, required_name,
@@ -28,7 +30,6 @@ use crate::writing::rows::{
 };
 use crate::writing::words::condition_word;
 use exact_fraction::Label;
-use slo_duration::Duration;
 use std::alloc::{AllocError, Global};
 use yaml_subset::{FieldKey, Spelling};
 
@@ -46,16 +47,16 @@ fn optional_condition_kind(
     }
 }
 
-fn optional_duration(
+fn optional_wait(
     fields: &mut Vec<(FieldKey, Spelling)>,
     key: &str,
-    value: Option<Duration>,
+    value: Option<AlertAfter>,
 ) -> Result<(), AllocError>
     ensures { OnOk result (Adds fields.old.items fields.new.items
-        ((optional key.now (duration 0 month)).write value)) }
+        ((optional key.now (duration wait_range)).write value)) }
 {
     match value {
-        Some(value) => required_duration(fields, key, value),
+        Some(value) => required_duration(fields, key, value.span),
         None => Ok(()),
     }
 }
@@ -67,9 +68,9 @@ fn inner_condition(alloc: Global, value: &Condition) -> Result<Spelling, AllocEr
     let mut fields = Vec::new(alloc);
     optional_condition_kind(&mut fields, KIND, value.kind)?;
     optional_op(&mut fields, OP, value.op)?;
-    required_number(&mut fields, THRESHOLD, value.threshold)?;
-    required_duration(&mut fields, LOOKBACK_WINDOW, value.lookback_window)?;
-    optional_duration(&mut fields, ALERT_AFTER, value.alert_after)?;
+    required_number(&mut fields, THRESHOLD, value.threshold.rate)?;
+    required_duration(&mut fields, LOOKBACK_WINDOW, value.lookback_window.span)?;
+    optional_wait(&mut fields, ALERT_AFTER, value.alert_after)?;
     Ok(map_of(fields))
 }
 

@@ -4,7 +4,8 @@ ghost use Rattle.yaml_subset.specs.Spelling.{items as items_lem};
 ghost use Rattle.yaml_subset.specs.SpellingView.{spelling_view};
 ghost use Rattle.slo_objects.specs.Form.{map_with, optional, required, own_where, spelled_where};
 ghost use Rattle.slo_objects.specs.Form.{single, written_items};
-ghost use Rattle.slo_objects.specs.Scalars.{number, one, greatest};
+ghost use Rattle.slo_objects.specs.Ranges.{every_number, slice_target_range};
+ghost use Rattle.slo_objects.specs.Scalars.{number};
 ghost use Rattle.slo_objects.specs.Slo.{calendar, time_window, method, objective, objectives};
 ghost use Rattle.slo_objects.specs.Slo.{slice_width, policies, slo, slo_body};
 ghost use Rattle.slo_objects.specs.Adding.{Adds};
@@ -13,6 +14,7 @@ use crate::keys::{DESCRIPTION, DISPLAY_NAME, OP, TARGET};
 use crate::names::Names;
 use crate::object::Body;
 use crate::objective::{TIME_SLICE_TARGET, TIME_SLICE_WINDOW, VALUE};
+use crate::ranges::{SliceTarget, SliceWidth};
 use crate::slo::{
     ALERT_POLICIES, ALERT_POLICY_REF, BUDGETING_METHOD, BudgetingMethod, Calendar, INDICATOR_REF,
     OBJECTIVES, Objective, Objectives, SERVICE, Slo, TIME_WINDOW, TimeWindow,
@@ -62,7 +64,7 @@ fn time_window_map(alloc: Global, value: &TimeWindow) -> Result<Spelling, AllocE
     ensures { IfOk result (λ s. spelling_view s ≡ (map_with time_window).write value.now) }
 {
     let mut fields = Vec::new(alloc);
-    required_duration(&mut fields, DURATION, value.duration)?;
+    required_duration(&mut fields, DURATION, value.duration.span)?;
     optional_boolean(&mut fields, IS_ROLLING, value.is_rolling)?;
     optional_calendar(&mut fields, CALENDAR, &value.calendar)?;
     Ok(map_of(fields))
@@ -102,7 +104,7 @@ fn optional_value(
     value: Option<Decimal>,
 ) -> Result<(), AllocError>
     ensures { OnOk result (Adds fields.old.items fields.new.items
-        ((optional key.now (number 0 greatest)).write value)) }
+        ((optional key.now (number every_number)).write value)) }
 {
     match value {
         Some(value) => required_number(fields, key, value),
@@ -114,13 +116,13 @@ fn optional_value(
 fn optional_slice_target(
     fields: &mut Vec<(FieldKey, Spelling)>,
     key: &str,
-    value: Option<Decimal>,
+    value: Option<SliceTarget>,
 ) -> Result<(), AllocError>
     ensures { OnOk result (Adds fields.old.items fields.new.items
-        (own_where key.now (spelled_where (number 1 one) value))) }
+        (own_where key.now (spelled_where (number slice_target_range) value))) }
 {
     match value {
-        Some(value) => required_number(fields, key, value),
+        Some(value) => required_number(fields, key, value.ratio),
         None => Ok(()),
     }
 }
@@ -129,7 +131,7 @@ fn optional_slice_target(
 fn optional_slice_width(
     fields: &mut Vec<(FieldKey, Spelling)>,
     key: &str,
-    value: Option<u32>,
+    value: Option<SliceWidth>,
 ) -> Result<(), AllocError>
     ensures { OnOk result (Adds fields.old.items fields.new.items
         (own_where key.now (spelled_where slice_width value))) }
@@ -137,7 +139,7 @@ fn optional_slice_width(
     let Some(value) = value else {
         return Ok(());
     };
-    let width = scalars::minutes(*fields.allocator(), value)?;
+    let width = scalars::minutes(*fields.allocator(), value.minutes)?;
     put(fields, key, width)
 }
 
@@ -154,7 +156,7 @@ fn objective_map(
     optional_text(&mut fields, DISPLAY_NAME, &value.display_name)?;
     optional_op(&mut fields, OP, value.op)?;
     optional_value(&mut fields, VALUE, value.value)?;
-    required_number(&mut fields, TARGET, value.target)?;
+    required_number(&mut fields, TARGET, value.target.ratio)?;
     optional_slice_target(&mut fields, TIME_SLICE_TARGET, value.time_slice_target)?;
     optional_slice_width(&mut fields, TIME_SLICE_WINDOW, value.time_slice_window)?;
     Ok(map_of(fields))

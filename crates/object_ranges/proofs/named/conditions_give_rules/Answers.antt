@@ -1,5 +1,8 @@
 use Rattle.object_ranges.proofs.ByName.{condition_rule}
 use Rattle.object_ranges.proofs.named.conditions_give_rules.Goals as goal
 
-pub returns : goal.returns
-returns c = λ condition h. (condition_rule condition h).rule
+pub returns-clause-rule : goal.returns-clause-rule
+returns-clause-rule c = λ condition. (condition_rule condition).rule
+
+pub returns-clause-lookback : goal.returns-clause-lookback
+returns-clause-lookback c = λ condition. (condition_rule condition).looks_back

@@ -9,7 +9,7 @@ use Rattle.slo_objects.proofs.writing.alerts.inner_condition.Goals as goal
 pub returns : goal.returns
 unfolding condition
 returns c = c.map_of.ensures ∙ ap fields
-    (c.in_ok-optional_duration.ensures no_fields
+    (c.in_ok-optional_wait.ensures no_fields
     ∙ c.in_ok-required_duration.ensures _
     ∙ c.in_ok-required_number.ensures _
     ∙ c.in_ok-optional_op.ensures _
