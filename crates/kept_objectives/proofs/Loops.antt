@@ -1,12 +1,9 @@
--- Loops over objectives with their sums, each of which is changed in its place.
+-- Loops over items under keys, each of which is changed in its place.
 use Rattle.std.proofs.Common.{◌≡◌, ℕ, zero, suc, ◌+◌, ◌≤◌, ◌<◌, add-one, refl, ap, sym, subst}
-use Rattle.std.proofs.Common.{◌∙◌, arith, List, [], ◌∷◌, ◌++◌, take, drop, length}
+use Rattle.std.proofs.Common.{◌∙◌, arith, List, [], ◌∷◌, ◌++◌, take, drop, length, map}
 use Rattle.std.proofs.Common.{slice_index_or, slice_set}
 use Rattle.std.specs.List.{AllByRecursion}
 use Rattle.std.proofs.lemmas.List.{append-nil}
-use Rattle.kept_sums.specs.office_history.declared.Measure.{Measure}
-use Rattle.kept_objectives.specs.Objectives.{measures_of}
-use Rattle.kept_objectives.specs.declared.kept.ObjectiveSums.{ObjectiveSums}
 
 -- the first of them have been done, the others not yet
 abbrev pub HalfDone : {A : Type 0} → (A → Type 0) → (A → Type 0) → ℕ → List A → Type 0
@@ -63,13 +60,13 @@ pub all_units : {A : Type 0} (xs : List A) → AllByRecursion (λ (x : A). Unit 
 all_units [] = tt
 all_units (x ∷ xs) = (tt, all_units xs)
 
--- sums that change leave what the objectives are
-pub measures_set : (n : ℕ) (xs : List ObjectiveSums) (y d : ObjectiveSums) →
-    y.measure ≡ (slice_index_or xs n d).measure → measures_of (slice_set xs n y) ≡ measures_of xs
-measures_set n [] y d e = refl
-measures_set zero (x ∷ xs) y d e = ap (λ (m : Measure). m ∷ measures_of xs) e
-measures_set (suc n) (x ∷ xs) y d e =
-    ap (λ (ms : List Measure). x.measure ∷ ms) (measures_set n xs y d e)
+-- an item that changes under its key leaves the keys
+pub keys_set : {X K : Type 0} (key : X → K) (n : ℕ) (xs : List X) (y d : X) →
+    key y ≡ key (slice_index_or xs n d) → map key (slice_set xs n y) ≡ map key xs
+keys_set key n [] y d e = refl
+keys_set {K = K} key zero (x ∷ xs) y d e = ap (λ (k : K). k ∷ map key xs) e
+keys_set {K = K} key (suc n) (x ∷ xs) y d e =
+    ap (λ (ks : List K). key x ∷ ks) (keys_set key n xs y d e)
 
 take_whole : {A : Type 0} (n : ℕ) (xs : List A) → length xs ≡ n → take n xs ≡ xs
 take_whole zero [] e = refl

@@ -6,7 +6,7 @@ use Rattle.std.specs.Bool.{Decides}
 use Rattle.std.specs.List.{AllByRecursion, Contains, items_where_true}
 use Rattle.std.specs.List.Retain.{IsFiltered, ReturnsInTurn}
 use Rattle.std.proofs.lemmas.List.{map-append}
-use Rattle.std.proofs.lemmas.List.Elements.{All-from_recursion, recursion_from_All}
+use Rattle.std.proofs.lemmas.List.Elements.{All-contains, All-from_recursion, recursion_from_All}
 use Rattle.std.proofs.lemmas.List.Elements.{Contains-append_left, Contains-append_right}
 use Rattle.std.proofs.lemmas.List.Sorted.{All-permutation, Contains-permutation}
 use Rattle.std.proofs.lemmas.List.Sorted.{IsPermutation-map}
@@ -18,11 +18,6 @@ each_left P [] xs all = tt
 each_left P (b ∷ bs) [] all = tt
 each_left P (true ∷ bs) (x ∷ xs) all = (all.0, each_left P bs xs all.1)
 each_left P (false ∷ bs) (x ∷ xs) all = each_left P bs xs all.1
-
-pub all_append : {X : Type 0} (P : X → Type 0) (xs ys : List X) → AllByRecursion P xs →
-    AllByRecursion P ys → AllByRecursion P (xs ++ ys)
-all_append P [] ys a b = b
-all_append P (x ∷ xs) ys a b = (a.0, all_append P xs ys a.1 b)
 
 contains_behind : {X : Type 0} (y : X) (xs : List X) (x : X) → Contains xs x →
     Contains (y ∷ xs) x
@@ -41,7 +36,7 @@ one_of_both key xs ys m (inr at) =
 module _ {X K F : Type 0} (key : X → K) (R : F → X → Bool → F → Type 0) (wanted : List K) (f : F)
     (h : (x : X) (b : Bool) (g : F) → R f x b g →
     Decides b (Contains wanted (key x)) × (g ≡ f)) where
-  wanted_left : (bs : List Bool) (xs : List X) (q : F) → ReturnsInTurn R f bs xs q →
+  pub wanted_left : (bs : List Bool) (xs : List X) (q : F) → ReturnsInTurn R f bs xs q →
       AllByRecursion (λ (x : X). Contains wanted (key x)) (items_where_true bs xs)
   wanted_left [] xs q t = tt
   wanted_left (b ∷ bs) [] q t = absurd t
@@ -92,6 +87,16 @@ module _ {X K F : Type 0} (key : X → K) (R : F → X → Bool → F → Type 0
 pub retained_each : {X F : Type 0} (R : F → X → Bool → F → Type 0) (f : F) (P : X → Type 0)
     (xs ys : List X) → IsFiltered R f xs ys → AllByRecursion P xs → AllByRecursion P ys
 retained_each R f P xs ys k all = subst (AllByRecursion P) (sym k.4) (each_left P k.0 xs all)
+
+-- what holds of all that is wanted holds of the keys that are wanted
+pub wanted_each : {X K : Type 0} (key : X → K) (P : K → Type 0) (wanted : List K) (xs : List X) →
+    AllByRecursion P wanted → AllByRecursion (λ (x : X). Contains wanted (key x)) xs →
+    AllByRecursion (λ (x : X). P (key x)) xs
+wanted_each key P wanted [] all are = tt
+wanted_each key P wanted (x ∷ xs) all are = (
+  All-contains P wanted (key x) (All-from_recursion P wanted all) are.0,
+  wanted_each key P wanted xs all are.1,
+)
 
 -- in another order all and each key are still there
 pub each_in_order : {X : Type 0} (P : X → Type 0) (xs ys : List X) → IsPermutation xs ys →

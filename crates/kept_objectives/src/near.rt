@@ -1,5 +1,5 @@
 //! Sums that are looked for where others stood.
-ghost use Rattle.std.specs.Prelude.{◌≡◌, ◌≢◌, IfSome, None};
+ghost use Rattle.std.specs.Prelude.{◌≡◌, ◌≢◌, ◌<◌, ◌≤◌, IfSome, IsTrue, None, is_some, length};
 ghost use Rattle.std.specs.List.{AllByRecursion, Contains};
 ghost use Rattle.kept_objectives.specs.declared.kept.ObjectiveSums.{ObjectiveSums};
 
@@ -11,7 +11,9 @@ impl KeptSums {
     /// Where the sums of an objective are best looked for: at the place of the objective before, at
     /// the next one, or where the objectives of its SLO begin. Whoever goes over objectives in the
     /// order of their SLOs mostly finds each at one of the first two.
-    pub fn place_near(&self, measure: &Measure, before: usize) -> usize {
+    pub fn place_near(&self, measure: &Measure, before: usize) -> usize
+        ensures { result ≤ length self.now.kept }
+    {
         let next = before.saturating_add(1);
         if sums_at(&self.objectives, before, measure).is_some() {
             return before;
@@ -42,8 +44,9 @@ fn sums_at<'a>(
     place: usize,
     measure: &Measure,
 ) -> Option<&'a WindowSums>
-    ensures { IfSome result (λ sums. Contains objectives.now
+    ensures found { IfSome result (λ sums. Contains objectives.now
         (record { measure = measure.now; sums = sums.now })) }
+    ensures within { IsTrue (is_some result) → place < length objectives.now }
 {
     match objectives.get(place) {
         Some(kept) => {

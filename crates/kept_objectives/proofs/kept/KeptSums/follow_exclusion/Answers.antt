@@ -5,7 +5,7 @@ use Rattle.kept_sums.specs.Walks.{made_on}
 use Rattle.kept_objectives.specs.Objectives.{AreKept, HaveForms, KeptObjectives}
 use Rattle.kept_objectives.specs.declared.kept.ObjectiveSums.{ObjectiveSums}
 use Rattle.kept_objectives.proofs.FollowLemmas.{MayTurn, all_may_turn}
-use Rattle.kept_objectives.proofs.Loops.{half_end, half_get, half_step, measures_set}
+use Rattle.kept_objectives.proofs.Loops.{half_end, half_get, half_step, keys_set}
 use Rattle.kept_objectives.proofs.Loops.{written_back}
 use Rattle.kept_objectives.proofs.kept.KeptSums.follow_exclusion.Goals as goal
 
@@ -56,7 +56,7 @@ loop-kept-preserved c =
       followed = half_step (MayTurn (made (not c.args.taken)) c.args.book.now.rows)
           (λ (k : ObjectiveSums). IsKept k.measure (made c.args.taken) c.args.book.now.rows k.sums)
           at items next less c.loop-kept.invariant.followed c.follow_exclusion.ensures.kept;
-      measures = measures_set at items next c.kept-item.result refl
+      measures = keys_set (λ (k : ObjectiveSums). k.measure) at items next c.kept-item.result refl
           ∙ c.loop-kept.invariant.measures;
     }
 

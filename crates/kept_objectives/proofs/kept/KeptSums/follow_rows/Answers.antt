@@ -4,7 +4,7 @@ use Rattle.kept_sums.specs.Sums.{IsKept}
 use Rattle.kept_objectives.specs.Objectives.{AreKept, HaveDays, HaveForms, KeptObjectives}
 use Rattle.kept_objectives.specs.declared.kept.ObjectiveSums.{ObjectiveSums}
 use Rattle.kept_objectives.proofs.FollowLemmas.{MayFollow, all_may_follow}
-use Rattle.kept_objectives.proofs.Loops.{half_end, half_get, half_step, measures_set}
+use Rattle.kept_objectives.proofs.Loops.{half_end, half_get, half_step, keys_set}
 use Rattle.kept_objectives.proofs.Loops.{written_back}
 use Rattle.kept_objectives.proofs.kept.KeptSums.follow_rows.Goals as goal
 
@@ -65,7 +65,7 @@ loop-kept-preserved c =
           (λ (k : ObjectiveSums). IsKept k.measure made (current_rows (rows ++ c.args.rows.now))
           k.sums)
           at items next less c.loop-kept.invariant.followed c.follow_rows.ensures.kept;
-      measures = measures_set at items next c.kept-item.result refl
+      measures = keys_set (λ (k : ObjectiveSums). k.measure) at items next c.kept-item.result refl
           ∙ c.loop-kept.invariant.measures;
     }
 

@@ -4,7 +4,7 @@ use Rattle.kept_sums.specs.Sums.{HasItsDay, IsKept}
 use Rattle.kept_objectives.specs.Objectives.{AreKept, HaveDays, KeptObjectives, measures_of}
 use Rattle.kept_objectives.specs.declared.kept.ObjectiveSums.{ObjectiveSums}
 use Rattle.kept_objectives.proofs.Loops.{all_get, all_set, all_units, half_end, half_step}
-use Rattle.kept_objectives.proofs.Loops.{measures_set, written_back, written_back_at}
+use Rattle.kept_objectives.proofs.Loops.{keys_set, written_back, written_back_at}
 use Rattle.kept_objectives.proofs.kept.KeptSums.reserve_rows.Goals as goal
 
 pub loop-kept-init : goal.loop-kept-init
@@ -49,7 +49,7 @@ returns-in_err-reserve_rows-clause-measures c =
     ap measures_of (written_back_at items c.self.inside.objectives.items at next
     c.self.inside.objectives.len (c.loop-kept.auto.kept-items ∙ ap length value)
     (ap length (sym value) ∙ c.deref_mut-kept-items.ensures.len))
-    ∙ measures_set at items next c.kept-item.result refl
+    ∙ keys_set (λ (k : ObjectiveSums). k.measure) at items next c.kept-item.result refl
     ∙ c.loop-kept.invariant.measures ∙ ap measures_of (sym same)
 
 pub loop-kept-preserved : goal.loop-kept-preserved
@@ -72,7 +72,7 @@ loop-kept-preserved c =
           (c.reserve_rows.ensures.kept made before
           (all_get (λ (k : ObjectiveSums). IsKept k.measure made before k.sums) at items
           c.kept-item.result less all));
-      measures = measures_set at items next c.kept-item.result refl
+      measures = keys_set (λ (k : ObjectiveSums). k.measure) at items next c.kept-item.result refl
           ∙ c.loop-kept.invariant.measures;
     }
 

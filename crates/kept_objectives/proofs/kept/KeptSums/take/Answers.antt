@@ -5,7 +5,8 @@ use Rattle.kept_sums.specs.Sums.{IsKept}
 use Rattle.kept_sums.specs.office_history.declared.Measure.{Measure}
 use Rattle.kept_objectives.specs.Objectives.{AreKept, KeptObjectives, measures_of}
 use Rattle.kept_objectives.specs.declared.kept.ObjectiveSums.{ObjectiveSums}
-use Rattle.kept_objectives.proofs.TakeLemmas.{all_append, each_in_order, one_of_both}
+use Rattle.kept_objectives.proofs.ListLemmas.{all_append}
+use Rattle.kept_objectives.proofs.TakeLemmas.{each_in_order, one_of_both}
 use Rattle.kept_objectives.proofs.TakeLemmas.{retained_each, retained_there, retained_wanted}
 use Rattle.kept_objectives.proofs.TakeLemmas.{there_in_order}
 use Rattle.kept_objectives.proofs.kept.KeptSums.take.Goals as goal
