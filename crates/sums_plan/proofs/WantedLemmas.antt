@@ -1,12 +1,11 @@
 -- What is known of the objectives of a catalog, one SLO after another.
-use Rattle.std.proofs.Common.{◌≡◌, ℕ, zero, suc, ◌<◌, ◌==◌, ◌&&◌, Bool, true, false, cond, List, []}
-use Rattle.std.proofs.Common.{◌∷◌, ◌++◌, length}
-use Rattle.std.proofs.Common.{map, filter, slice_index_or, bytes_eq, Option, Some, None, refl, sym}
+use Rattle.std.proofs.Common.{◌≡◌, ℕ, ◌==◌, ◌&&◌, Bool, true, false, cond, List, [], ◌∷◌}
+use Rattle.std.proofs.Common.{map, filter, bytes_eq, Option, Some, None, refl, sym}
 use Rattle.std.proofs.Common.{subst, arith}
-use Rattle.std.specs.List.{All, AllByRecursion, Contains, flat_map}
+use Rattle.std.specs.List.{All, AllByRecursion, Contains}
 use Rattle.std.specs.Prelude.{option_and_then, slice_get}
 use Rattle.std.proofs.lemmas.List.Elements.{recursion_from_All, All-from_recursion}
-use Rattle.std.proofs.lemmas.List.Elements.{Contains-append_left, Contains-append_right}
+use Rattle.std.proofs.lemmas.List.Elements.{Contains-append_right}
 use Rattle.std.proofs.lemmas.Slice.Eq.{bytes_eq-Decides}
 use Rattle.sample_book.specs.declared.Row.{Row}
 use Rattle.slo_objects.specs.declared.kind.Kind.{Kind}
@@ -20,35 +19,10 @@ use Rattle.kept_objectives.specs.Objectives.{IsObjective}
 use Rattle.office_history.specs.declared.Measure.{Measure}
 use Rattle.office_history.specs.Objectives.{measures_named, measures_of}
 use Rattle.office_derived.specs.Derived.{IsRead}
+use Rattle.kept_objectives.proofs.ListLemmas.{all_flat, flat_contains}
 use Rattle.kept_objectives.proofs.ObjectiveLemmas.{all_objectives, objective_among}
 use Rattle.office_derived.proofs.FormLemmas.{all_fit}
 use Rattle.sums_plan.specs.Wanted.{objectives_in}
-
--- LISTS
-
-all_joined : {A : Type 0} (P : A → Type 0) (a b : List A) → AllByRecursion P a →
-    AllByRecursion P b → AllByRecursion P (a ++ b)
-all_joined P [] b h k = k
-all_joined P (x ∷ xs) b h k = (h.0, all_joined P xs b h.1 k)
-
-all_flat : {A B : Type 0} (P : B → Type 0) (f : A → List B) →
-    ((x : A) → AllByRecursion P (f x)) → (xs : List A) → AllByRecursion P (flat_map f xs)
-all_flat P f each [] = tt
-all_flat P f each (x ∷ xs) = all_joined P (f x) (flat_map f xs) (each x) (all_flat P f each xs)
-
-flat_at : {A B : Type 0} (f : A → List B) (xs : List A) (k : ℕ) (x : A) (y : B) →
-    k < length xs → slice_index_or xs k x ≡ x → Contains (f x) y → Contains (flat_map f xs) y
-flat_at f [] k x y less e has = absurd (omega arith)
-flat_at f (a ∷ more) zero x y less e has =
-    Contains-append_left (f a) (flat_map f more) y
-    (subst (λ z. Contains (f z) y) (sym e) has)
-flat_at f (a ∷ more) (suc k) x y less e has =
-    Contains-append_right (f a) (flat_map f more) y (flat_at f more k x y (omega arith) e has)
-
--- an item of the list that is made of a member is one of all of them
-flat_contains : {A B : Type 0} (f : A → List B) (xs : List A) (x : A) (y : B) → Contains xs x →
-    Contains (f x) y → Contains (flat_map f xs) y
-flat_contains f xs x y within has = flat_at f xs within.0 x y within.1 within.2 has
 
 -- NAMES
 

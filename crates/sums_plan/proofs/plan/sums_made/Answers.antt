@@ -1,8 +1,7 @@
-use Rattle.std.proofs.Common.{◌≡◌, ◌∙◌, All, List, ap, arith, length, subst, sym, take}
+use Rattle.std.proofs.Common.{arith, subst, sym}
 use Rattle.std.specs.List.{AllByRecursion}
-use Rattle.std.proofs.Math.Seq.{take-length}
-use Rattle.std.proofs.lemmas.List.Elements.{All-more, All-weaker}
 use Rattle.kept_objectives.specs.kept_sums.Sums.{Fits}
+use Rattle.kept_objectives.proofs.MakeLemmas.{so_far_all, so_far_next}
 use Rattle.catalog_measures.specs.object_ranges.Measures.{IsMeasure}
 use Rattle.office_history.specs.declared.Measure.{Measure}
 use Rattle.sums_plan.specs.Wanted.{HasSums}
@@ -25,23 +24,17 @@ add_sums-requires-clause-forms c =
 
 pub loop-measure-preserved : goal.loop-measure-preserved
 loop-measure-preserved c =
-    let item : Measure = c.measure-item.result in
-    let Has : Measure → Type 0 = HasSums c.args.derived.now.catalog c.add_sums.new.made.items in
+    let before = c.args.derived.now.catalog in
     record {
       made = c.in_ok-add_sums.ensures.made;
-      there =
-          All-more Has c.args.wanted.now c.loop-measure.measure-index item c.loop-measure-test.true
-          (All-weaker (HasSums c.args.derived.now.catalog c.loop-measure.made.items) Has
-          c.in_ok-add_sums.ensures.still (take c.loop-measure.measure-index c.args.wanted.now)
-          c.loop-measure.invariant.there)
-          (subst Has c.measure-item.is c.in_ok-add_sums.ensures.there);
+      there = so_far_next (HasSums before c.loop-measure.made.items)
+          (HasSums before c.add_sums.new.made.items) c.args.wanted.now
+          c.loop-measure.measure-index c.measure-item.result c.loop-measure-test.true
+          c.measure-item.is c.in_ok-add_sums.ensures.still c.loop-measure.invariant.there
+          c.in_ok-add_sums.ensures.there;
     }
 
 pub returns-clause-there : goal.returns-clause-there
 returns-clause-there c =
-    let wanted : List Measure = c.args.wanted.now in
-    let end : c.loop-measure.measure-index ≡ length wanted = omega arith in
-    let whole : take c.loop-measure.measure-index wanted ≡ wanted =
-    ap (λ n. take n wanted) end ∙ take-length wanted in
-    subst (All (HasSums c.args.derived.now.catalog c.loop-measure.made.items)) whole
-    c.loop-measure.invariant.there
+    so_far_all (HasSums c.args.derived.now.catalog c.loop-measure.made.items) c.args.wanted.now
+    c.loop-measure.measure-index (omega arith) c.loop-measure.invariant.there
