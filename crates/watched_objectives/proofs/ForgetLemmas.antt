@@ -104,14 +104,6 @@ forget_back touched old old' new new' was is forget =
     subst (λ (ks : List WatchLine). AllForget touched ks new') (sym was)
     (subst (AllForget touched old) (sym is) forget)
 
--- a line that changes leaves what is watched
-pub watch_stays : (n : ℕ) (kept : List WatchLine) (k d : WatchLine) →
-    k.watch ≡ (slice_index_or kept n d).watch → watches_of (slice_set kept n k) ≡ watches_of kept
-watch_stays n [] k d e = refl
-watch_stays zero (x ∷ kept) k d e = ap (λ (w : Watch). w ∷ watches_of kept) e
-watch_stays (suc n) (x ∷ kept) k d e =
-    ap (λ (ws : List Watch). x.watch ∷ ws) (watch_stays n kept k d e)
-
 of_watches : (P : Watch → Type 0) (kept : List WatchLine) →
     AllByRecursion (λ (k : WatchLine). P k.watch) kept → AllByRecursion P (watches_of kept)
 of_watches P [] all = tt

@@ -1,5 +1,5 @@
 -- The sums that are found among those that are kept.
-use Rattle.std.proofs.Common.{◌≡◌, ◌≢◌, ℕ, List, [], ◌∷◌, refl}
+use Rattle.std.proofs.Common.{◌≡◌, ◌≢◌, ℕ}
 use Rattle.std.specs.List.{AllByRecursion, Contains}
 use Rattle.std.proofs.lemmas.List.Elements.{All-contains, All-from_recursion}
 use Rattle.slice_method.specs.Leaves.{leaf}
@@ -8,7 +8,8 @@ use Rattle.office_history.specs.declared.Measure.{Measure}
 use Rattle.office_history.specs.Counts.{Samples, slice_counts}
 use Rattle.kept_lines.specs.kept_sums.Sums.{IsKept}
 use Rattle.office_derived.specs.kept_objectives.declared.ObjectiveSums.{ObjectiveSums}
-use Rattle.office_derived.specs.kept_objectives.Objectives.{IsObjective, measures_of}
+use Rattle.office_derived.specs.kept_objectives.Objectives.{IsObjective}
+use Rattle.office_derived.proofs.kept_objectives_proofs.ListLemmas.{never_there}
 use Rattle.office_derived.specs.declared.Derived.{Derived}
 use Rattle.office_derived.specs.Derived.{IsSound}
 use Rattle.watched_objectives.specs.Sums.{AreSums}
@@ -26,19 +27,11 @@ kept_there d m sums s there =
     (λ (k : ObjectiveSums). IsKept k.measure d.book.exclusions d.book.rows k.sums)
     d.sums.kept s.sums.sums) there
 
-other_measures : (m : Measure) (kept : List ObjectiveSums) →
-    AllByRecursion (λ (k : ObjectiveSums). k.measure ≢ m) kept →
-    AllByRecursion (λ (other : Measure). other ≢ m) (measures_of kept)
-other_measures m [] others = tt
-other_measures m (k ∷ kept) others = (others.0, other_measures m kept others.1)
-
 -- an objective of the catalog has sums that are kept
 pub never_lacking : (d : Derived) (m : Measure) → IsSound d → IsObjective d.catalog m →
     AllByRecursion (λ (k : ObjectiveSums). k.measure ≢ m) d.sums.kept → ⊥
 never_lacking d m s is others =
-    All-contains (λ (other : Measure). other ≢ m) (measures_of d.sums.kept) m
-    (All-from_recursion (λ (other : Measure). other ≢ m) (measures_of d.sums.kept)
-    (other_measures m d.sums.kept others)) (s.sums.all m is) refl
+    never_there (λ (k : ObjectiveSums). k.measure) d.sums.kept m others (s.sums.all m is)
 
 -- and they are its sums, where each slice counts what its minutes do
 pub are_sums : (s : Samples) (m : Measure) (sums : CountedDays) →

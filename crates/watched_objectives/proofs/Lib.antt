@@ -7,5 +7,5 @@ mod NearLemmas
 mod PlanLemmas
 mod StateLemmas
 mod TakeLemmas
-mod WatchLemmas
+pub mod WatchLemmas
 pub use Rattle.kept_lines.proofs as kept_lines_proofs

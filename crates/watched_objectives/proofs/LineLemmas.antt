@@ -6,8 +6,8 @@ use Rattle.std.proofs.Common.{slice_get}
 use Rattle.std.proofs.Common.{slice_index_or, slice_set, arith, ap, refl, subst, sym}
 use Rattle.std.specs.Bool.{Decides}
 use Rattle.std.specs.List.{AllByRecursion, Contains}
-use Rattle.std.proofs.lemmas.List.Elements.{All-contains, All-from_recursion}
 use Rattle.std.proofs.lemmas.Option.{get_or_from_slice_get, slice_get_within}
+use Rattle.slo_limits.specs.declared.TheConstants.{RANGE_MINUTES}
 use Rattle.burn_core.specs.declared.AlertRule.{AlertRule}
 use Rattle.burn_core.specs.Alert.{lookback_of, wait_of}
 use Rattle.burn_core.specs.Condition.{condition}
@@ -23,7 +23,8 @@ use Rattle.office_history.specs.Alerts.{watch_with}
 use Rattle.office_history.specs.Counts.{Samples}
 use Rattle.office_history.specs.Objectives.{measure_at}
 use Rattle.office_derived.specs.kept_objectives.Objectives.{IsObjective}
-use Rattle.office_derived.proofs.kept_objectives_proofs.Loops.{all_set}
+use Rattle.office_derived.proofs.kept_objectives_proofs.ListLemmas.{never_there}
+use Rattle.office_derived.proofs.kept_objectives_proofs.Loops.{all_set, keys_set}
 use Rattle.office_derived.proofs.kept_objectives_proofs.ObjectiveLemmas.{objective_at}
 use Rattle.kept_lines.specs.Right.{IsRight}
 use Rattle.watched_objectives.specs.Sums.{AreSums}
@@ -128,12 +129,8 @@ watch_at w (k ∷ kept) (suc place) d e = watch_at w kept place d e
 pub watches_set : (w : Watch) (kept : List WatchLine) (place : ℕ) (k : WatchLine) →
     slice_get (watches_of kept) place ≡ Some w → k.watch ≡ w →
     watches_of (slice_set kept place k) ≡ watches_of kept
-watches_set w [] place k e is = refl
-watches_set w (x ∷ kept) zero k e is =
-    let same : x.watch ≡ w = cc e in
-    ap (λ (v : Watch). v ∷ watches_of kept) (is ∙ sym same)
-watches_set w (x ∷ kept) (suc place) k e is =
-    ap (λ (vs : List Watch). x.watch ∷ vs) (watches_set w kept place k e is)
+watches_set w kept place k e is =
+    keys_set (λ (k : WatchLine). k.watch) place kept k k (is ∙ sym (watch_at w kept place k e))
 
 -- and the lines are kept as well, where it is right
 pub keeps_on : (begin : ℕ) (members : List Object) (s : Samples) (kept : List WatchLine)
@@ -163,9 +160,9 @@ found begin s w kept items place k same right e at =
     )
 
 pub is_minute : (begin minute : ℕ) (line : Line) → line.origin ≡ begin → begin ≤ minute →
-    minute < begin + 2097152 → IsMinute line minute
+    minute < begin + RANGE_MINUTES → IsMinute line minute
 is_minute begin minute line is a b =
-    subst (λ origin. (origin ≤ minute) × (minute < origin + 2097152)) (sym is) (a, b)
+    subst (λ origin. (origin ≤ minute) × (minute < origin + RANGE_MINUTES)) (sym is) (a, b)
 
 -- the lines are kept once the one that was found there has learnt something
 pub keeps_there : (begin : ℕ) (members : List Object) (s : Samples) (w : Watch)
@@ -195,18 +192,9 @@ place_within w kept items place same e =
     subst (λ (ks : List WatchLine). place < length ks) (sym same) (within w kept place e)
 
 -- an alert that none of the lines is of has no line
-other_watches : (w : Watch) (kept : List WatchLine) →
-    AllByRecursion (λ (k : WatchLine). (k.watch ≡ w → ⊥)) kept →
-    AllByRecursion (λ (v : Watch). (v ≡ w → ⊥)) (watches_of kept)
-other_watches w [] others = tt
-other_watches w (k ∷ kept) others = (others.0, other_watches w kept others.1)
-
 pub never_without : (w : Watch) (kept : List WatchLine) → Contains (watches_of kept) w →
     AllByRecursion (λ (k : WatchLine). (k.watch ≡ w → ⊥)) kept → ⊥
-never_without w kept has others =
-    All-contains (λ (v : Watch). (v ≡ w → ⊥)) (watches_of kept) w
-    (All-from_recursion (λ (v : Watch). (v ≡ w → ⊥)) (watches_of kept)
-    (other_watches w kept others)) has refl
+never_without w kept has others = never_there (λ (k : WatchLine). k.watch) kept w others has
 
 -- what is found of an alert's line tells whether there is one
 pub line_there : (w : Watch) (kept : List WatchLine) (place : Option ℕ) →

@@ -1,56 +1,28 @@
--- What is known of the lines that a plan makes, and of the alerts that it wants.
-use Rattle.std.proofs.Common.{◌≡◌, ◌⊎◌, inl, inr, ℕ, zero, suc, ◌<◌, List, [], ◌∷◌, ◌++◌, Option}
-use Rattle.std.proofs.Common.{Some, None, arith, length, refl, slice_index_or, sym, subst}
+-- What is known of the lines that a plan needs, and of the alerts that it wants.
+use Rattle.std.proofs.Common.{◌≡◌, ◌⊎◌, inl, inr, List, [], ◌∷◌, Option, Some, None, arith, refl}
+use Rattle.std.proofs.Common.{sym, subst}
 use Rattle.std.specs.List.{AllByRecursion, Contains, flat_map}
-use Rattle.std.proofs.lemmas.List.{map-append}
 use Rattle.std.proofs.lemmas.List.Elements.{All-contains, All-contains_itself}
-use Rattle.std.proofs.lemmas.List.Elements.{All-from_recursion, recursion_from_All}
-use Rattle.std.proofs.lemmas.List.Elements.{Contains-append_left, Contains-append_right}
-use Rattle.std.proofs.lemmas.List.Elements.{Contains-push}
+use Rattle.std.proofs.lemmas.List.Elements.{All-from_recursion, All-map, recursion_from_All}
 use Rattle.slo_objects.specs.declared.Object.{Object}
 use Rattle.slo_catalog.specs.declared.Binding.{Binding}
 use Rattle.slo_catalog.specs.Bindings.{bindings}
 use Rattle.office_history.specs.Alerts.{Watch, watch_of}
-use Rattle.office_derived.proofs.kept_objectives_proofs.TakeLemmas.{all_append}
+use Rattle.office_derived.proofs.kept_objectives_proofs.ListLemmas.{all_append, flat_contains}
 use Rattle.watched_objectives.specs.Watches.{IsWatched}
 use Rattle.watched_objectives.specs.Lines.{AreWatched, watches_of}
-use Rattle.watched_objectives.specs.Plans.{HasLine, IsFresh, one_watch, watches_at, watches_in}
+use Rattle.watched_objectives.specs.Plans.{HasLine, one_watch, watches_at, watches_in}
 use Rattle.watched_objectives.specs.declared.kept.WatchLine.{WatchLine}
 
 -- LINES
-
-pub one_more_fresh : (begin : ℕ) (made : List WatchLine) (k : WatchLine) →
-    AllByRecursion (IsFresh begin) made → IsFresh begin k →
-    AllByRecursion (IsFresh begin) (made ++ k ∷ [])
-one_more_fresh begin [] k all fresh = (fresh, tt)
-one_more_fresh begin (x ∷ xs) k all fresh = (all.0, one_more_fresh begin xs k all.1 fresh)
-
-pub one_more_there : (kept made : List WatchLine) (k : WatchLine) →
-    HasLine kept (made ++ k ∷ []) k.watch
-one_more_there kept made k =
-    inl (subst (λ ws. Contains ws k.watch)
-    (sym (map-append (λ (k : WatchLine). k.watch) made (k ∷ [])))
-    (Contains-push (watches_of made) k.watch))
-
-pub one_more_still : (kept made : List WatchLine) (k : WatchLine) (w : Watch) →
-    HasLine kept made w → HasLine kept (made ++ k ∷ []) w
-one_more_still kept made k w (inl has) =
-    inl (subst (λ ws. Contains ws w)
-    (sym (map-append (λ (k : WatchLine). k.watch) made (k ∷ [])))
-    (Contains-append_left (watches_of made) (k.watch ∷ []) w has))
-one_more_still kept made k w (inr has) = inr has
 
 -- what a line is of that was kept was watched
 kept_watched : (before : List Object) (kept : List WatchLine) (w : Watch) →
     AreWatched before kept → Contains (watches_of kept) w → IsWatched before w
 kept_watched before kept w all has =
     All-contains (IsWatched before) (watches_of kept) w
-    (All-from_recursion (IsWatched before) (watches_of kept) (by kept all)) has
-  where
-    by : (kept : List WatchLine) → AreWatched before kept →
-        AllByRecursion (IsWatched before) (watches_of kept)
-    by [] all = tt
-    by (k ∷ kept) all = (all.0, by kept all.1)
+    (All-map (IsWatched before) (λ (k : WatchLine). k.watch) kept
+    (All-from_recursion (λ (k : WatchLine). IsWatched before k.watch) kept all)) has
 
 -- an alert that has a line has one that was made, or was watched before
 pub has_or_watched : (before : List Object) (kept made : List WatchLine) (w : Watch) →
@@ -83,22 +55,11 @@ only_watched members =
     (recursion_from_All (Contains (bindings members)) (bindings members)
     (All-contains_itself (bindings members)))
 
-flat_at : (members : List Object) (w : Watch) (bs : List Binding) (b : Binding) (k : ℕ) →
-    k < length bs → slice_index_or bs k b ≡ b → Contains (watches_at members b) w →
-    Contains (flat_map (watches_at members) bs) w
-flat_at members w [] b k less e has = absurd (omega arith)
-flat_at members w (a ∷ bs) b zero less e has =
-    Contains-append_left (watches_at members a) (flat_map (watches_at members) bs) w
-    (subst (λ (x : Binding). Contains (watches_at members x) w) (sym e) has)
-flat_at members w (a ∷ bs) b (suc k) less e has =
-    Contains-append_right (watches_at members a) (flat_map (watches_at members) bs) w
-    (flat_at members w bs b k (omega arith) e has)
-
 -- and what is watched is among it
 pub each_watched : (members : List Object) (w : Watch) → IsWatched members w →
     Contains (watches_in members) w
 each_watched members w is =
-    flat_at members w (bindings members) is.binding is.among.0 is.among.1 is.among.2
+    flat_contains (watches_at members) (bindings members) is.binding w is.among
     (subst (λ (found : Option Watch). Contains (one_watch found) w) (sym is.watches) here)
   where
     here : Contains (w ∷ []) w

@@ -18,7 +18,7 @@ both true false h = cc h
 both false b h = cc h
 
 -- bindings of one SLO, objective and policy are one
-one_binding : (a b : Binding) → same_binding a b ≡ true → a ≡ b
+pub one_binding : (a b : Binding) → same_binding a b ≡ true → a ≡ b
 one_binding a b h =
     let slo = both (bytes_eq a.slo b.slo)
     (a.objective == b.objective && bytes_eq a.policy b.policy) h in

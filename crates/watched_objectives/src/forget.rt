@@ -1,5 +1,5 @@
 // What lines forget before rows or an exclusion are followed.
-ghost use Rattle.std.specs.Prelude.{◌≡◌, ◌<◌, ◌≤◌, ℕ, Bool, not};
+ghost use Rattle.std.specs.Prelude.{◌≡◌, ◌≤◌, ℕ, Bool, not};
 ghost use Rattle.std.specs.List.{AllByRecursion};
 ghost use Rattle.sample_book.specs.declared.Row.{Row};
 ghost use Rattle.sample_book.specs.Puts.{verdicts as verdicts_lem};
@@ -7,7 +7,6 @@ ghost use Rattle.window_sums.specs.Slices.{width_of as width_of_lem};
 ghost use Rattle.kept_lines.specs.kept_sums.Sums.{Fits, IsKept};
 ghost use Rattle.kept_lines.specs.Right.{IsRight};
 ghost use Rattle.kept_lines.specs.Touched.{Forgets, LAST_MINUTE};
-ghost use Rattle.catalog_measures.specs.object_ranges.Ranges.{IsWidth};
 ghost use Rattle.office_derived.specs.Derived.{IsPlaced, IsSound};
 ghost use Rattle.watched_objectives.specs.Changes.{AllForget, IsChangedBy, IsMovedBy, samples_on};
 ghost use Rattle.watched_objectives.specs.Changes.{samples_with};
@@ -20,21 +19,7 @@ use crate::watch::Watch;
 use alert_line::AlertLine;
 use office_derived::Derived;
 use sample_book::{Exclusion, Row, RowVerdict, SampleBook};
-use slice_method::Method;
-use window_sums::WindowSums;
-
-// How many minutes a slice of an objective has.
-fn width_of(method: &Method) -> u32
-    requires { IsWidth (width_of_lem method.now) }
-    ensures value { result ≡ width_of_lem method.now }
-    ensures some { 0 < result }
-    ensures few { result ≤ 60 }
-{
-    match *method {
-        Method::Occurrences => 1,
-        Method::Timeslices { width, .. } | Method::RatioTimeslices { width } => width,
-    }
-}
+use window_sums::{WindowSums, width_of};
 
 // A line forgets what is near the slices of the rows of a batch that move. So it is right with
 // the batch as it was without it.

@@ -2,6 +2,7 @@
 ghost use Rattle.std.specs.Prelude.{◌≡◌, ◌≢◌, ◌+◌, ◌<◌, ◌≤◌, ℕ, Bool, IfOk, OnOk, Some};
 ghost use Rattle.std.specs.Prelude.{slice_get, take, true};
 ghost use Rattle.std.specs.List.{AllByRecursion, Contains};
+ghost use Rattle.slo_limits.specs.declared.TheConstants.{RANGE_MINUTES};
 ghost use Rattle.burn_core.specs.Timeline.{AreSpansOf, state_of};
 ghost use Rattle.window_sums.specs.Slices.{CountedDays};
 ghost use Rattle.alert_line.specs.Learnt.{IsLearnt, start_of};
@@ -60,7 +61,7 @@ fn spans_of_line<L: Ledger>(
 ) -> Result<Spans, AllocError>
     requires order { from ≤ to }
     requires begin { line.old.origin ≤ from }
-    requires end { to ≤ line.old.origin + 2097152 }
+    requires end { to ≤ line.old.origin + RANGE_MINUTES }
     requires agrees { Agrees line.old sums.now }
     requires blank { (blank.name ≡ L.name) × (blank.parts ≡ L.parts) × (0 < L.parts) }
     ensures value { IfOk result (λ spans. AreSpansOf
@@ -121,7 +122,7 @@ impl KeptLines {
         requires lines { HasLines derived.now self.old.kept }
         requires watched { IsWatched derived.now.catalog watch.now }
         requires begun { derived.now.origin ≤ minute }
-        requires in_range { minute < derived.now.origin + 2097152 }
+        requires in_range { minute < derived.now.origin + RANGE_MINUTES }
         ensures value { result ≡ state_at derived.now.origin (samples_of derived.now.book)
             watch.now minute }
         ensures lines { HasLines derived.now self.new.kept }
@@ -147,7 +148,7 @@ impl KeptLines {
         requires lines { HasLines derived.now self.old.kept }
         requires watched { IsWatched derived.now.catalog watch.now }
         requires begun { derived.now.origin ≤ minute }
-        requires in_range { minute < derived.now.origin + 2097152 }
+        requires in_range { minute < derived.now.origin + RANGE_MINUTES }
         ensures value { result.0 ≡ state_at derived.now.origin (samples_of derived.now.book)
             watch.now minute }
         ensures lines { HasLines derived.now self.new.kept }
@@ -187,7 +188,7 @@ impl KeptLines {
         requires watched { IsWatched derived.now.catalog watch.now }
         requires order { from ≤ to }
         requires begin { derived.now.origin ≤ from }
-        requires end { to ≤ derived.now.origin + 2097152 }
+        requires end { to ≤ derived.now.origin + RANGE_MINUTES }
         ensures value { IfOk result (λ spans. AreSpansOf (λ minute. is_watch_active
             derived.now.origin (samples_of derived.now.book) watch.now minute ≡ true) from to
             spans.items) }

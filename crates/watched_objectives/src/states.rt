@@ -1,6 +1,7 @@
 //! How all bindings of a catalog stand.
 ghost use Rattle.std.specs.Prelude.{◌≡◌, ◌<◌, ◌≤◌, ◌+◌, IfOk, map};
 ghost use Rattle.std.specs.List.{Contains};
+ghost use Rattle.slo_limits.specs.declared.TheConstants.{RANGE_MINUTES};
 ghost use Rattle.office_history.specs.Alerts.{state_if, states_at, watch_of as watch_of_lem};
 ghost use Rattle.office_history.specs.Objectives.{measure_at as measure_at_lem};
 ghost use Rattle.office_derived.specs.Derived.{IsSound};
@@ -32,7 +33,7 @@ fn state_of_binding(
     requires lines { HasLines derived.now lines.old.kept }
     requires among { Contains (bindings_lem derived.now.catalog) binding.now }
     requires begun { derived.now.origin ≤ minute }
-    requires in_range { minute < derived.now.origin + 2097152 }
+    requires in_range { minute < derived.now.origin + RANGE_MINUTES }
     requires seen { IsSeen derived.now.catalog seen.now }
     requires measure { seen.now.measure
         ≡ measure_at_lem derived.now.catalog binding.now.slo binding.now.objective }
@@ -61,7 +62,7 @@ fn states_of(
     requires lines { HasLines derived.now lines.old.kept }
     requires bindings { bindings.now ≡ bindings_lem derived.now.catalog }
     requires begun { derived.now.origin ≤ minute }
-    requires in_range { minute < derived.now.origin + 2097152 }
+    requires in_range { minute < derived.now.origin + RANGE_MINUTES }
     ensures value { IfOk result (λ states. states.items
         ≡ map (with_state derived.now minute) bindings.now) }
     ensures lines { HasLines derived.now lines.new.kept }
@@ -97,7 +98,7 @@ pub fn states_over(
     requires sound { IsSound derived.now }
     requires lines { HasLines derived.now lines.old.kept }
     requires begun { derived.now.origin ≤ minute }
-    requires in_range { minute < derived.now.origin + 2097152 }
+    requires in_range { minute < derived.now.origin + RANGE_MINUTES }
     ensures value { IfOk result (λ states. states.items
         ≡ states_at derived.now.origin derived.now.catalog (samples_of derived.now.book) minute) }
     ensures lines { HasLines derived.now lines.new.kept }

@@ -1,17 +1,17 @@
 use Rattle.std.proofs.Common.{subst, sym}
+use Rattle.std.specs.Int.{◌∣◌}
 use Rattle.window_sums.specs.Slices.{width_of}
 use Rattle.office_history.specs.declared.Measure.{Measure}
 use Rattle.kept_lines.proofs.RightLemmas.{right-over-exclusions}
 use Rattle.kept_lines.specs.kept_sums.Sums.{IsKept}
 use Rattle.kept_lines.specs.kept_sums.Walks.{IsChanged}
-use Rattle.catalog_measures.specs.object_ranges.Ranges.{IsWidth}
 use Rattle.watched_objectives.proofs.ForgetLemmas.{forgets_same}
 use Rattle.watched_objectives.proofs.forget.forget_changed.Goals as goal
 
 pub width_of-width-requires : goal.width_of-width-requires
 width_of-width-requires c =
-    subst (λ (m : Measure). IsWidth (width_of m.method)) (sym c.measure-measure.ensures.value)
-    c.measure-measure.ensures.ranges.width
+    subst (λ (m : Measure). width_of m.method ∣ 60) (sym c.measure-measure.ensures.value)
+    c.measure-measure.ensures.ranges.width.divides
 
 pub forget_exclusion-requires-clause-kept : goal.forget_exclusion-requires-clause-kept
 forget_exclusion-requires-clause-kept c =

@@ -1,15 +1,15 @@
 use Rattle.std.proofs.Common.{subst, sym}
+use Rattle.std.specs.Int.{◌∣◌}
 use Rattle.window_sums.specs.Slices.{width_of}
 use Rattle.office_history.specs.declared.Measure.{Measure}
 use Rattle.kept_lines.specs.kept_sums.Replacing.{HasMoved}
-use Rattle.catalog_measures.specs.object_ranges.Ranges.{IsWidth}
 use Rattle.watched_objectives.proofs.ForgetLemmas.{forgets_same, moved_right}
 use Rattle.watched_objectives.proofs.forget.forget_moved.Goals as goal
 
 pub width_of-width-requires : goal.width_of-width-requires
 width_of-width-requires c =
-    subst (λ (m : Measure). IsWidth (width_of m.method)) (sym c.measure-measure.ensures.value)
-    c.measure-measure.ensures.ranges.width
+    subst (λ (m : Measure). width_of m.method ∣ 60) (sym c.measure-measure.ensures.value)
+    c.measure-measure.ensures.ranges.width.divides
 
 pub returns-clause-forgets : goal.returns-clause-forgets
 returns-clause-forgets c =

@@ -7,7 +7,7 @@ use Rattle.office_history.specs.Counts.{Samples}
 use Rattle.office_history.specs.declared.Measure.{Measure}
 use Rattle.office_derived.specs.kept_objectives.Objectives.{IsObjective}
 use Rattle.office_derived.proofs.kept_objectives_proofs.Loops.{all_get, all_set, half_end, half_get}
-use Rattle.office_derived.proofs.kept_objectives_proofs.Loops.{half_step}
+use Rattle.office_derived.proofs.kept_objectives_proofs.Loops.{half_step, keys_set}
 use Rattle.office_derived.proofs.kept_objectives_proofs.Loops.{written_back}
 use Rattle.office_derived.specs.Derived.{IsPlaced, IsRead}
 use Rattle.office_derived.proofs.FormLemmas.{all_fit}
@@ -16,7 +16,7 @@ use Rattle.watched_objectives.specs.Lines.{AreRight, AreWatched, LinesKept, watc
 use Rattle.watched_objectives.specs.Watches.{IsWatched}
 use Rattle.watched_objectives.specs.declared.kept.WatchLine.{WatchLine}
 use Rattle.watched_objectives.proofs.ForgetLemmas.{all_early, forget_back, forget_end, forget_step}
-use Rattle.watched_objectives.proofs.ForgetLemmas.{keeps_over, watch_stays}
+use Rattle.watched_objectives.proofs.ForgetLemmas.{keeps_over}
 use Rattle.watched_objectives.proofs.KeptLemmas.{kept_there}
 use Rattle.watched_objectives.proofs.LineLemmas.{objective_watched}
 use Rattle.watched_objectives.proofs.kept.KeptLines.forget_exclusion.Goals as goal
@@ -62,7 +62,7 @@ forget_changed-requires-clause-rule c = (here c).rule
 pub forget_changed-requires-clause-early : goal.forget_changed-requires-clause-early
 forget_changed-requires-clause-early c =
     let d = c.args.derived.now in
-    all_early d.origin d.book.rows c.requires.sound.origin
+    all_early d.origin d.book.rows (omega (arith, c.requires.sound.origin))
     (recursion_from_All (IsPlaced d.origin) d.book.rows c.requires.sound.placed)
 
 pub forget_changed-requires-clause-forms : goal.forget_changed-requires-clause-forms
@@ -117,7 +117,7 @@ loop-kept-preserved c =
       forget = forget_step (IsChangedBy c.args.derived.now.book c.args.value.now) at
           c.deref_mut-kept-items.result.now items c.kept-item.result c.forget_changed.new.line less
           c.loop-kept.invariant.forget c.forget_changed.ensures.forgets;
-      watches = watch_stays at items next c.kept-item.result refl
+      watches = keys_set (λ (k : WatchLine). k.watch) at items next c.kept-item.result refl
           ∙ c.loop-kept.invariant.watches;
     }
 

@@ -3,13 +3,13 @@ use Rattle.std.proofs.Common.{slice_index_or}
 use Rattle.kept_lines.specs.Right.{IsRight}
 use Rattle.office_history.specs.Counts.{Samples}
 use Rattle.office_derived.proofs.kept_objectives_proofs.Loops.{half_end, half_get, half_step}
-use Rattle.office_derived.proofs.kept_objectives_proofs.Loops.{written_back}
+use Rattle.office_derived.proofs.kept_objectives_proofs.Loops.{keys_set, written_back}
 use Rattle.watched_objectives.specs.Changes.{IsMovedBy, samples_with}
 use Rattle.watched_objectives.specs.Lines.{AreRight, LinesKept, watches_of}
 use Rattle.watched_objectives.specs.Sums.{samples_of}
 use Rattle.watched_objectives.specs.declared.kept.WatchLine.{WatchLine}
 use Rattle.watched_objectives.proofs.ForgetLemmas.{all_early, forget_back, forget_end, forget_step}
-use Rattle.watched_objectives.proofs.ForgetLemmas.{keeps_over, watch_stays}
+use Rattle.watched_objectives.proofs.ForgetLemmas.{keeps_over}
 use Rattle.watched_objectives.proofs.kept.KeptLines.forget_rows.Goals as goal
 
 abbrev IsRightOver : ℕ → Samples → WatchLine → Type 0
@@ -32,8 +32,8 @@ forget_moved-requires-clause-rule c = (here c).rule
 
 pub forget_moved-requires-clause-early : goal.forget_moved-requires-clause-early
 forget_moved-requires-clause-early c =
-    all_early c.args.derived.now.origin c.args.rows.now c.requires.sound.origin
-    c.requires.placed
+    all_early c.args.derived.now.origin c.args.rows.now
+    (omega (arith, c.requires.sound.origin)) c.requires.placed
 
 pub loop-kept-init : goal.loop-kept-init
 loop-kept-init c =
@@ -69,7 +69,7 @@ loop-kept-preserved c =
       forget = forget_step (IsMovedBy c.args.rows.now c.args.verdicts.now) at
           c.deref_mut-kept-items.result.now items c.kept-item.result c.forget_moved.new.line less
           c.loop-kept.invariant.forget c.forget_moved.ensures.forgets;
-      watches = watch_stays at items next c.kept-item.result refl
+      watches = keys_set (λ (k : WatchLine). k.watch) at items next c.kept-item.result refl
           ∙ c.loop-kept.invariant.watches;
     }
 

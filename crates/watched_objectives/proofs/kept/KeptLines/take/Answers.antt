@@ -2,13 +2,14 @@ use Rattle.std.proofs.Common.{rules, ◌≡◌, ◌++◌, List, if◌then◌else
 use Rattle.std.specs.Prelude.{is_ok}
 use Rattle.std.specs.List.{Contains}
 use Rattle.kept_lines.specs.Right.{IsRight}
-use Rattle.office_derived.proofs.kept_objectives_proofs.TakeLemmas.{all_append}
+use Rattle.office_derived.proofs.kept_objectives_proofs.ListLemmas.{all_append}
+use Rattle.office_derived.proofs.kept_objectives_proofs.TakeLemmas.{one_of_both, retained_each}
+use Rattle.office_derived.proofs.kept_objectives_proofs.TakeLemmas.{retained_there, retained_wanted}
 use Rattle.watched_objectives.specs.Known.{IsLineOf}
 use Rattle.watched_objectives.specs.Lines.{AreRight, LinesKept, watches_of}
 use Rattle.watched_objectives.specs.declared.kept.WatchLine.{WatchLine}
 use Rattle.watched_objectives.proofs.KnownLemmas.{line_among}
-use Rattle.watched_objectives.proofs.TakeLemmas.{one_of_both, retained_each, retained_line}
-use Rattle.watched_objectives.proofs.TakeLemmas.{retained_there, retained_wanted, taken}
+use Rattle.watched_objectives.proofs.TakeLemmas.{retained_line, taken, watch_of_line}
 use Rattle.watched_objectives.proofs.kept.KeptLines.take.Goals as goal
 
 -- both lists stand together before those that aren't wanted go
@@ -31,12 +32,12 @@ returns-clause-lines c = λ begin before after s keeps is.
     c.retain.new.self.items filtered
     (subst (AreRight begin s) (sym (together c))
     (all_append (λ (k : WatchLine). IsRight begin s k.watch k.line) old made there brought)))
-    (retained_wanted _ c.args.plan.wanted.items _ (λ x b g k. search rules) _
+    (retained_wanted watch_of_line _ c.args.plan.wanted.items _ (λ x b g k. search rules) _
     c.retain.new.self.items filtered)
-    (λ w want at. retained_there _ c.args.plan.wanted.items _ (λ x b g k. search rules) _
-    c.retain.new.self.items filtered w want
+    (λ w want at. retained_there watch_of_line _ c.args.plan.wanted.items _
+    (λ x b g k. search rules) _ c.retain.new.self.items filtered w want
     (subst (λ (ks : List WatchLine). Contains (watches_of ks) w) (sym (together c))
-    (one_of_both old made w at)))
+    (one_of_both watch_of_line old made w at)))
 
 pub returns-clause-stay : goal.returns-clause-stay
 returns-clause-stay c = λ w before after was is.
