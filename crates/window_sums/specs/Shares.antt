@@ -1,7 +1,7 @@
 -- Slices whose counts are the sums of what rows count for.
 use Rattle.std.specs.Prelude.{ℕ, ◌≤◌, ◌≡◌, List, length}
 use Rattle.std.specs.List.{AllByRecursion}
-use Rattle.slo_limits.specs.declared.TheConstants.{MAX_ACCEPTED_ROWS}
+use Rattle.slo_limits.specs.declared.TheConstants.{MAX_ACCEPTED_ROWS, MAX_AMOUNT}
 use Rattle.slice_method.specs.declared.amount.Counts.{Counts}
 use Rattle.slice_method.specs.declared.method.Method.{Method}
 use Rattle.slo_terms.specs.Sums.{amount_at}
@@ -25,12 +25,12 @@ slice_counts method shares slice = record {
 abbrev pub IsSumOf : CountedDays → List Share → Type 0
 IsSumOf sums shares = (slice : ℕ) → counts_of sums slice ≡ slice_counts sums.method shares slice
 
--- a part of at most a billion, which is the limit of a row's total
+-- a part of at most as many events as a row may have
 pub record IsSmall (share : Share) : Type 0 where
   pub part : share.counts.good ≤ share.counts.total
-  pub few : share.counts.total ≤ 1000000000
+  pub few : share.counts.total ≤ MAX_AMOUNT
 
--- shares of at most four million rows, which is the limit of the rows that an office accepts
+-- shares of at most as many rows as an office accepts
 pub record AreSmall (shares : List Share) : Type 0 where
   pub each : AllByRecursion IsSmall shares
   pub few : length shares ≤ MAX_ACCEPTED_ROWS
