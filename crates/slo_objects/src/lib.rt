@@ -46,9 +46,7 @@ pub use laws::{each_object_can_be_written, each_object_reads_back, objects_with_
 pub use names::Names;
 pub use object::{Body, Object, Objects};
 pub use part::Part;
-pub use ranges::{
-    AlertAfter, Lookback, SliceTarget, SliceWidth, Target, Threshold, WindowLength,
-};
+pub use ranges::{AlertAfter, Lookback, SliceTarget, SliceWidth, Target, Threshold, WindowLength};
 pub use service::Service;
 pub use sli::{Events, Metric, MetricSource, Ratio, RatioMetric, RawType, Sli};
 pub use slo::{BudgetingMethod, Calendar, Objective, Objectives, Slo, TimeWindow};
