@@ -7,85 +7,21 @@ use exact_fraction::{Bytes, Label, read_label};
 use office_core::{Core, Verdict};
 use record_form::{Command, Listed};
 use sample_book::{Amount, Row};
+use sample_stream::{ALERT_TARGETS, SHOP};
 use std::alloc::{AllocError, Global};
 use std::process::Abort;
-
-// An SLO with one objective, and an alert where more than twice the budget burns in an hour, for
-// five minutes.
-const OBJECTS: &str = "\
-apiVersion: openslo/v1
-kind: Service
-metadata:
-  name: shop
-spec:
-  description: The shop.
----
-apiVersion: openslo/v1
-kind: SLI
-metadata:
-  name: shop-good
-spec:
-  ratioMetric:
-    counter: true
-    good:
-      metricSource:
-        type: Prometheus
-        spec:
-          query: good
-    total:
-      metricSource:
-        type: Prometheus
-        spec:
-          query: total
----
-apiVersion: openslo/v1
-kind: AlertCondition
-metadata:
-  name: fast-burn
-spec:
-  severity: page
-  condition:
-    kind: burnrate
-    op: gt
-    threshold: 2
-    lookbackWindow: 1h
-    alertAfter: 5m
----
-apiVersion: openslo/v1
-kind: AlertPolicy
-metadata:
-  name: shop-alerts
-spec:
-  conditions:
-  - conditionRef: fast-burn
----
-apiVersion: openslo/v1
-kind: SLO
-metadata:
-  name: shop-slo
-spec:
-  service: shop
-  indicatorRef: shop-good
-  timeWindow:
-  - duration: 30d
-    isRolling: true
-  budgetingMethod: Occurrences
-  objectives:
-  - displayName: Availability
-    target: 0.999
-  alertPolicies:
-  - shop-alerts
-";
 
 pub(crate) fn label(rt: &impl Abort, text: &[u8]) -> Label {
     read_label(text).expect(rt, "a label")
 }
 
+// The objects of the sample stream's shop: an SLO with one objective, and an alert where more than
+// twice the budget burns in an hour, for five minutes.
 fn definition(alloc: Global) -> Result<Command, AllocError>
     ensures { IfOk result HasRevisions }
 {
-    let bytes = OBJECTS.as_bytes().to_vec(alloc)?;
-    Ok(Command::Define(Bytes::from_vec(bytes)))
+    let text = format!(in alloc; "{ALERT_TARGETS}---\n{SHOP}")?;
+    Ok(Command::Define(Bytes::from_vec(text.into_bytes())))
 }
 
 fn batch(alloc: Global, row: Row) -> Result<Command, AllocError>
