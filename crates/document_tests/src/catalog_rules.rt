@@ -195,10 +195,9 @@ fn objectives_over_values_need_op_and_value(rt: HostRuntime) {
     expect_ends(&rt, rt.alloc(), objectives());
 }
 
-/// Bindings stand by SLO, objective and policy, and the first of those that refer to an object is
-/// named.
-fn bindings() -> &'static str {
-    "+ Service shop
+/// A service, an indicator of it, and policies with one condition and without. They stand where
+/// `bindings` has the line `@policies`.
+const POLICIES: &str = "+ Service shop
   {}
 + SLI speed
   ratioMetric:
@@ -221,6 +220,12 @@ fn bindings() -> &'static str {
         op: gt
         threshold: 2
         lookbackWindow: 1h
+";
+
+/// Bindings stand by SLO, objective and policy, and the first of those that refer to an object is
+/// named.
+fn bindings() -> &'static str {
+    "@policies
 ~
 + SLO d
 @slo
@@ -261,29 +266,7 @@ b 1 workbook-ticket
 b 1 pages
 c 0 workbook-page
 
-+ Service shop
-  {}
-+ SLI speed
-  ratioMetric:
-    total:
-      metricSource: {}
-    good:
-      metricSource: {}
-+ AlertPolicy empty
-  conditions: []
-+ AlertPolicy bare
-  {}
-+ AlertPolicy pages
-  conditions:
-  - metadata:
-      name: fast
-    spec:
-      severity: page
-      condition:
-        kind: burnrate
-        op: gt
-        threshold: 2
-        lookbackWindow: 1h
+@policies
 ~
 + SLO b
 @slo
@@ -322,7 +305,10 @@ b 0 pages"
 
 #[test]
 fn bindings_and_referrers_stand_in_order(rt: HostRuntime) {
-    expect_ends(&rt, rt.alloc(), bindings());
+    let table = bindings()
+        .replace(rt.alloc(), "@policies\n", POLICIES)
+        .expect(&rt, "memory");
+    expect_ends(&rt, rt.alloc(), &table);
 }
 
 /// The fault of a text in a catalog of its own; empty if it has none.

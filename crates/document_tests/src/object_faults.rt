@@ -4,9 +4,7 @@ use crate::object_tables::{expect_lines, expect_table};
 
 /// Fields that are missing, or of another form.
 fn forms() -> &'static str {
-    "apiVersion: openslo/v1
-metadata:
-  name: shop
+    "@head
 ####
 kind: DataSource
 spec:
@@ -165,9 +163,7 @@ fn a_field_of_another_form_is_named(rt: HostRuntime) {
 
 /// Values that may not stand, and fields and items that are too many or too few.
 fn values() -> &'static str {
-    "apiVersion: openslo/v1
-metadata:
-  name: shop
+    "@head
 ####
 kind: AlertCondition
 spec:
@@ -325,9 +321,7 @@ fn a_value_that_may_not_stand_is_named(rt: HostRuntime) {
 /// Several faults: the first in the order of the fields is named, depth first, and unknown
 /// fields of a map last.
 fn several() -> &'static str {
-    "apiVersion: openslo/v1
-metadata:
-  name: shop
+    "@head
 ####
 kind: DataSource
 spec:

@@ -5,9 +5,7 @@ use crate::object_tables::expect_table;
 
 /// Each optional field of the seven kinds: present, omitted and null.
 fn optional() -> &'static str {
-    r#"apiVersion: openslo/v1
-metadata:
-  name: shop
+    r#"@head
 ####
 kind: DataSource
 spec:
@@ -45,9 +43,7 @@ spec:
   description: null
 ~> Service(Service { description: None })
 
-apiVersion: openslo/v1
-metadata:
-  name: shop
+@head
 kind: SLI
 spec:
   thresholdMetric:
@@ -84,9 +80,7 @@ string: "Prometheus" }), spec: Some(Part { node: Map([]) }) })
       spec: ~
 ~> Threshold(MetricSource { metric_source_ref: None, type_text: None, spec: None })
 
-apiVersion: openslo/v1
-metadata:
-  name: shop
+@head
 kind: SLI
 spec:
   ratioMetric:
@@ -114,9 +108,7 @@ type_text: None, spec: None }) } })
 None, type_text: None, spec: None }, events: Bad(MetricSource { metric_source_ref: None,
 type_text: None, spec: None }) } })
 
-apiVersion: openslo/v1
-metadata:
-  name: shop
+@head
 ####
 kind: AlertPolicy
 spec:
@@ -208,9 +200,7 @@ spec:
 ~> AlertNotificationTarget(AlertNotificationTarget { description: None, target: Text { string:
 "pager" } })
 
-apiVersion: openslo/v1
-metadata:
-  name: shop
+@head
 kind: SLO
 spec:
   service: shop
@@ -263,9 +253,7 @@ Some(true), calendar: None }, budgeting_method: Occurrences, objectives: Objecti
 billionths: 900000000 } }, time_slice_target: None, time_slice_window: None }] },
 alert_policies: None })
 
-apiVersion: openslo/v1
-metadata:
-  name: shop
+@head
 kind: SLO
 spec:
   service: shop
@@ -289,9 +277,7 @@ spec:
     isRolling: ~
 ~> is_rolling: None, calendar: Some(Calendar {
 
-apiVersion: openslo/v1
-metadata:
-  name: shop
+@head
 kind: AlertPolicy
 spec:
   notificationTargets:
@@ -352,9 +338,7 @@ fn null_metadata_are_as_omitted(rt: HostRuntime) {
 /// Each fixed word, each form of a boolean, each unit of a duration, numbers in quotes, and the
 /// ends of ranges.
 fn values() -> &'static str {
-    r#"apiVersion: openslo/v1
-metadata:
-  name: shop
+    r#"@head
 ####
 kind: AlertPolicy
 spec:
@@ -505,9 +489,7 @@ display_name: None, op: None, value: Some(Decimal { billionths: 1000000000000000
 target: Target { ratio: Decimal { billionths: 0 } }, time_slice_target: None,
 time_slice_window: Some(SliceWidth { minutes: 60 }) }] }
 
-apiVersion: openslo/v1
-metadata:
-  name: shop
+@head
 kind: SLO
 spec:
   service: a
@@ -553,9 +535,7 @@ Some(
       timeZone: UTC
 ~> WindowLength { span: Duration { count: 1, unit: Year } }, is_rolling: None, calendar: Some(
 
-apiVersion: openslo/v1
-metadata:
-  name: shop
+@head
 kind: SLO
 spec:
   service: '0'

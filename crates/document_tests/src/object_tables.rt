@@ -2,13 +2,20 @@
 //! test costs by its literals and not by their length. Its parts stand apart by an empty line. In
 //! each, what stands before each case ends at `####`, cases stand apart by `====`, and what is
 //! wanted follows on `=> ` (a line with the kind and name of each object, or with the fault) or on
-//! `~> ` (what the objects show, whose lines may be broken).
+//! `~> ` (what the objects show, whose lines may be broken). The line `@head` stands for what
+//! begins most documents.
 
 use crate::expectations::{expect, expect_text};
 use slo_objects::{Object, ReadError, read_object};
 use std::alloc::Global;
 use std::process::Abort;
 use yaml_subset::{Node, read_documents};
+
+/// The version and the name of a document.
+const HEAD: &str = "apiVersion: openslo/v1
+metadata:
+  name: shop
+";
 
 /// Appends a line with the kind and name of each object.
 fn show_names(rt: &impl Abort, alloc: Global, out: &mut String, objects: &[Object]) {
@@ -69,6 +76,7 @@ fn expect_part(rt: &impl Abort, alloc: Global, part: &str) {
 
 /// Each case of a table is read as it says.
 pub(crate) fn expect_table(rt: &impl Abort, alloc: Global, table: &str) {
+    let table = table.replace(alloc, "@head\n", HEAD).expect(rt, "memory");
     for part in table.split("\n\n") {
         expect_part(rt, alloc, part);
     }

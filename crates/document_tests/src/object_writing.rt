@@ -17,7 +17,8 @@ fn writing_of(rt: &impl Abort, alloc: Global, text: &str) -> Vec<u8> {
     out
 }
 
-/// Documents, and what their objects are written as. The samples stand by their name.
+/// Documents, and what their objects are written as. The samples stand by their name. Documents
+/// that are written alike stand apart by `++++`, behind what begins each of them and `####`.
 fn writings() -> &'static str {
     r#"apiVersion: openslo/v1
 kind: Service
@@ -111,38 +112,11 @@ spec:
     isRolling: true
   budgetingMethod: Timeslices
   objectives:
+####
   - target: 0.999
     timeSliceTarget: 0.95
     timeSliceWindow: 5
-=> ---
-apiVersion: openslo/v1
-kind: SLO
-metadata:
-  name: "shop-slo"
-spec:
-  service: "shop"
-  indicatorRef: "shop-good"
-  timeWindow:
-    - duration: 4w
-      isRolling: true
-  budgetingMethod: Timeslices
-  objectives:
-    - target: 0.999
-      timeSliceTarget: 0.95
-      timeSliceWindow: 5
-====
-apiVersion: openslo/v1
-kind: SLO
-metadata:
-  name: shop-slo
-spec:
-  service: shop
-  indicatorRef: shop-good
-  timeWindow:
-  - duration: 4w
-    isRolling: true
-  budgetingMethod: Timeslices
-  objectives:
+++++
   - timeSliceWindow: "05m"
     timeSliceTarget: "0.95"
     targetPercent: "99.90"
@@ -391,20 +365,27 @@ spec:
     - alertPolicyRef: "workbook-page""#
 }
 
-/// A text is written as its case says, and what is written is written so again.
-fn expect_writing(rt: &impl Abort, alloc: Global, case: &str) {
-    let (text, wanted) = case.split_once("=> ").unwrap_or((case, ""));
-    let text = with_samples(rt, alloc, text);
+/// The objects of a text are written so.
+fn expect_written(rt: &impl Abort, alloc: Global, text: &str, wanted: &str) {
+    let found = writing_of(rt, alloc, text);
+    expect(rt, found.as_slice() == wanted.as_bytes(), text);
+}
+
+/// Texts are written as their case says, and what is written is written so again.
+fn expect_case(rt: &impl Abort, alloc: Global, case: &str) {
+    let (texts, wanted) = case.split_once("=> ").unwrap_or((case, ""));
+    let (head, texts) = texts.split_once("####\n").unwrap_or(("", texts));
     let wanted = format!(in alloc; "{wanted}\n").expect(rt, "memory");
-    let first = writing_of(rt, alloc, &text);
-    expect(rt, first.as_slice() == wanted.as_bytes(), &text);
-    let again = writing_of(rt, alloc, &wanted);
-    expect(rt, again.as_slice() == wanted.as_bytes(), &wanted);
+    for text in texts.split("++++\n") {
+        let text = format!(in alloc; "{head}{text}").expect(rt, "memory");
+        expect_written(rt, alloc, &with_samples(rt, alloc, &text), &wanted);
+    }
+    expect_written(rt, alloc, &wanted, &wanted);
 }
 
 #[test]
 fn objects_are_written_in_one_form(rt: HostRuntime) {
     for case in writings().split("\n====\n") {
-        expect_writing(&rt, rt.alloc(), case);
+        expect_case(&rt, rt.alloc(), case);
     }
 }

@@ -4,9 +4,7 @@ use crate::object_tables::expect_table;
 
 /// What stands in an SLO up to its window, in one of many forms.
 fn heads() -> &'static str {
-    "apiVersion: openslo/v1
-metadata:
-  name: shop
+    "@head
 kind: SLO
 spec:
 ####
@@ -50,9 +48,7 @@ spec:
   timeWindow: [a, b]
 => timeWindow ListLength
 
-apiVersion: openslo/v1
-metadata:
-  name: shop
+@head
 kind: SLO
 spec:
   service: shop
@@ -106,9 +102,7 @@ fn the_first_fault_before_the_method_is_named(rt: HostRuntime) {
 
 /// What stands from the method on.
 fn objectives() -> &'static str {
-    "apiVersion: openslo/v1
-metadata:
-  name: shop
+    "@head
 kind: SLO
 spec:
   service: shop

@@ -1,7 +1,9 @@
 //! Tables of YAML texts: each with what its documents stand for, or with its fault. A table is one
 //! text, since the proof of a test costs by its literals and not by their length: a line for each
-//! case, in which `¶` stands for a line feed, and behind ` => ` what is wanted.
+//! case, in which `¶` stands for a line feed and `@targets` or `@shop` for sample documents, and
+//! behind ` => ` what is wanted.
 
+use crate::documents::with_samples;
 use crate::expectations::expect_text;
 use std::alloc::{AllocError, Global};
 use std::process::Abort;
@@ -84,6 +86,7 @@ pub(crate) fn expect_read(rt: &impl Abort, alloc: Global, table: &str) {
     for case in table.split("\n") {
         let (text, wanted) = case.split_once(" => ").unwrap_or((case, "no case"));
         let text = text.replace(alloc, "¶", "\n").expect(rt, "memory");
+        let text = with_samples(rt, alloc, &text);
         let found = answer(alloc, &text).expect(rt, "memory");
         expect_text(rt, case, &found, wanted);
     }
