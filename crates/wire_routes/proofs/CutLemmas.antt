@@ -159,6 +159,21 @@ digits_part [] n is = absurd (cc is)
 digits_part (b ∷ d) n is = part_of is_ascii_digit (λ c h. (digit_no_slash c h, digit_low c h)) b d
     (all_digits (b ∷ d) n is)
 
+-- a byte from `A` to `z`
+abbrev is_word_byte : ℕ → Bool
+is_word_byte b = nat_le 65 b && nat_le b 122
+
+word_low : (b : ℕ) → is_word_byte b ≡ true → b < 256
+word_low b h = grind (arith)
+
+word_no_slash : (b : ℕ) → is_word_byte b ≡ true → (b == 47) ≡ false
+word_no_slash b h = grind (arith)
+
+pub word_part : (x : List ℕ) → (length x == 0) ≡ false → list_all is_word_byte x ≡ true → IsPart x
+word_part [] some all = absurd (cc some)
+word_part (b ∷ x) some all =
+    part_of is_word_byte (λ c h. (word_no_slash c h, word_low c h)) b x all
+
 zone_low : (b : ℕ) → is_zone_byte b ≡ true → b < 256
 zone_low b h = grind (arith)
 

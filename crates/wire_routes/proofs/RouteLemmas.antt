@@ -17,10 +17,10 @@ use Rattle.wire_routes.specs.Laws.{OneAnswer, SomeAnswer}
 use Rattle.wire_routes.specs.Places.{Finds, IsPath}
 use Rattle.wire_routes.specs.Readers.{place_by, route_of}
 use Rattle.wire_routes.specs.Requests.{answer_of}
-use Rattle.wire_routes.specs.Table.{table, alerts_row, budgets_row, burns_row, exclusion_row}
-use Rattle.wire_routes.specs.Table.{take_row, notices_row, object_row, objects_row, samples_row}
-use Rattle.wire_routes.specs.Table.{tick_row, zone_row}
-use Rattle.wire_routes.proofs.CutLemmas.{IsPart, digits_part, label_part, zone_parts}
+use Rattle.wire_routes.specs.Table.{table, alerts_route, budgets_route, burns_route}
+use Rattle.wire_routes.specs.Table.{exclusion_route, notices_route, object_route, objects_route}
+use Rattle.wire_routes.specs.Table.{samples_route, take_route, tick_route, zone_route}
+use Rattle.wire_routes.proofs.CutLemmas.{IsPart, digits_part, label_part, word_part, zone_parts}
 use Rattle.wire_routes.proofs.ReaderLemmas.{back, there}
 use Rattle.wire_routes.proofs.SeekLemmas.{seek_last, seek_literal, seek_name, seek_rest}
 
@@ -28,218 +28,170 @@ use Rattle.wire_routes.proofs.SeekLemmas.{seek_last, seek_literal, seek_name, se
 
 first_object : (x : ℕ) (k : List ℕ) (y : ℕ) (n : List ℕ) → x < 256 → has_slash (x ∷ k) ≡ false
     → y < 256 → has_slash (y ∷ n) ≡ false
-    → first table (codes "/objects/" ++ ((x ∷ k) ++ 47 ∷ y ∷ n)) ≡ Some object_row.1
+    → first table (codes "/objects/" ++ ((x ∷ k) ++ 47 ∷ y ∷ n)) ≡ Some object_route.1
 first_object x k y n a b c d =
-    seek_literal (codes "/objects/") table ((x ∷ k) ++ 47 ∷ y ∷ n) object_row.1
-    (seek_name x k (256 ∷ []) (y ∷ n) object_row.1 a b ∙ seek_last y n object_row.1 c d)
+    seek_literal (codes "/objects/") table ((x ∷ k) ++ 47 ∷ y ∷ n) object_route.1
+    (seek_name x k (256 ∷ []) (y ∷ n) object_route.1 a b ∙ seek_last y n object_route.1 c d)
 
 first_zone : (y : ℕ) (n : List ℕ) → y < 256
-    → first table (codes "/zones/" ++ (y ∷ n)) ≡ Some zone_row.1
+    → first table (codes "/zones/" ++ (y ∷ n)) ≡ Some zone_route.1
 first_zone y n c =
-    seek_literal (codes "/zones/") table (y ∷ n) zone_row.1 (seek_rest y n zone_row.1 c)
+    seek_literal (codes "/zones/") table (y ∷ n) zone_route.1 (seek_rest y n zone_route.1 c)
 
 first_exclusion : (y : ℕ) (n : List ℕ) → y < 256 → has_slash (y ∷ n) ≡ false
-    → first table (codes "/exclusions/" ++ (y ∷ n)) ≡ Some exclusion_row.1
-first_exclusion y n c d = seek_literal (codes "/exclusions/") table (y ∷ n) exclusion_row.1
-    (seek_last y n exclusion_row.1 c d)
+    → first table (codes "/exclusions/" ++ (y ∷ n)) ≡ Some exclusion_route.1
+first_exclusion y n c d = seek_literal (codes "/exclusions/") table (y ∷ n) exclusion_route.1
+    (seek_last y n exclusion_route.1 c d)
 
 first_take : (y : ℕ) (n : List ℕ) → y < 256 → has_slash (y ∷ n) ≡ false
-    → first table (codes "/notices/" ++ ((y ∷ n) ++ codes "/take")) ≡ Some take_row.1
+    → first table (codes "/notices/" ++ ((y ∷ n) ++ codes "/take")) ≡ Some take_route.1
 unfolding matchit_on_literals
 first_take y n c d =
-    seek_literal (codes "/notices/") table ((y ∷ n) ++ codes "/take") take_row.1
-    (seek_name y n (codes "take") (codes "take") take_row.1 c d)
+    seek_literal (codes "/notices/") table ((y ∷ n) ++ codes "/take") take_route.1
+    (seek_name y n (codes "take") (codes "take") take_route.1 c d)
 
 first_budgets : (y : ℕ) (n : List ℕ) → y < 256 → has_slash (y ∷ n) ≡ false
-    → first table (codes "/budgets/" ++ (y ∷ n)) ≡ Some budgets_row.1
+    → first table (codes "/budgets/" ++ (y ∷ n)) ≡ Some budgets_route.1
 first_budgets y n c d =
-    seek_literal (codes "/budgets/") table (y ∷ n) budgets_row.1 (seek_last y n budgets_row.1 c d)
+    seek_literal (codes "/budgets/") table (y ∷ n) budgets_route.1
+    (seek_last y n budgets_route.1 c d)
 
 first_burns : (x : ℕ) (k : List ℕ) (y : ℕ) (n : List ℕ) → x < 256 → has_slash (x ∷ k) ≡ false
     → y < 256 → has_slash (y ∷ n) ≡ false
-    → first table (codes "/burns/" ++ ((x ∷ k) ++ 47 ∷ y ∷ n)) ≡ Some burns_row.1
+    → first table (codes "/burns/" ++ ((x ∷ k) ++ 47 ∷ y ∷ n)) ≡ Some burns_route.1
 first_burns x k y n a b c d =
-    seek_literal (codes "/burns/") table ((x ∷ k) ++ 47 ∷ y ∷ n) burns_row.1
-    (seek_name x k (256 ∷ []) (y ∷ n) burns_row.1 a b ∙ seek_last y n burns_row.1 c d)
+    seek_literal (codes "/burns/") table ((x ∷ k) ++ 47 ∷ y ∷ n) burns_route.1
+    (seek_name x k (256 ∷ []) (y ∷ n) burns_route.1 a b ∙ seek_last y n burns_route.1 c d)
 
 first_alerts : (x : ℕ) (k : List ℕ) (y : ℕ) (n : List ℕ) (z : ℕ) (l : List ℕ)
     → x < 256 → has_slash (x ∷ k) ≡ false → y < 256 → has_slash (y ∷ n) ≡ false → z < 256
     → has_slash (z ∷ l) ≡ false
     → first table (codes "/alerts/" ++ ((x ∷ k) ++ 47 ∷ ((y ∷ n) ++ 47 ∷ z ∷ l)))
-    ≡ Some alerts_row.1
+    ≡ Some alerts_route.1
 first_alerts x k y n z l a b c d e f =
-    seek_literal (codes "/alerts/") table ((x ∷ k) ++ 47 ∷ ((y ∷ n) ++ 47 ∷ z ∷ l)) alerts_row.1
-    (seek_name x k (256 ∷ 47 ∷ 256 ∷ []) ((y ∷ n) ++ 47 ∷ z ∷ l) alerts_row.1 a b
-    ∙ seek_name y n (256 ∷ []) (z ∷ l) alerts_row.1 c d ∙ seek_last z l alerts_row.1 e f)
+    seek_literal (codes "/alerts/") table ((x ∷ k) ++ 47 ∷ ((y ∷ n) ++ 47 ∷ z ∷ l)) alerts_route.1
+    (seek_name x k (256 ∷ 47 ∷ 256 ∷ []) ((y ∷ n) ++ 47 ∷ z ∷ l) alerts_route.1 a b
+    ∙ seek_name y n (256 ∷ []) (z ∷ l) alerts_route.1 c d ∙ seek_last z l alerts_route.1 e f)
 
-first_objects : first table (codes "/objects") ≡ Some objects_row.1
+first_objects : first table (codes "/objects") ≡ Some objects_route.1
 unfolding matchit_on_literals
 first_objects = refl
 
-first_samples : first table (codes "/samples") ≡ Some samples_row.1
+first_samples : first table (codes "/samples") ≡ Some samples_route.1
 unfolding matchit_on_literals
 first_samples = refl
 
-first_tick : first table (codes "/tick") ≡ Some tick_row.1
+first_tick : first table (codes "/tick") ≡ Some tick_route.1
 unfolding matchit_on_literals
 first_tick = refl
 
-first_notices : first table (codes "/notices") ≡ Some notices_row.1
+first_notices : first table (codes "/notices") ≡ Some notices_route.1
 unfolding matchit_on_literals
 first_notices = refl
 
 kind_part : (k : Kind) → IsPart (kind_word k)
-kind_part kinds.DataSource = record {
-  first = 68;
-  rest = codes "ataSource";
-  is = refl;
-  byte = omega arith;
-  router = refl;
-  plain = refl;
-}
-kind_part kinds.Service = record {
-  first = 83;
-  rest = codes "ervice";
-  is = refl;
-  byte = omega arith;
-  router = refl;
-  plain = refl;
-}
-kind_part kinds.Sli = record {
-  first = 83;
-  rest = codes "LI";
-  is = refl;
-  byte = omega arith;
-  router = refl;
-  plain = refl;
-}
-kind_part kinds.Slo = record {
-  first = 83;
-  rest = codes "LO";
-  is = refl;
-  byte = omega arith;
-  router = refl;
-  plain = refl;
-}
-kind_part kinds.AlertPolicy = record {
-  first = 65;
-  rest = codes "lertPolicy";
-  is = refl;
-  byte = omega arith;
-  router = refl;
-  plain = refl;
-}
-kind_part kinds.AlertCondition = record {
-  first = 65;
-  rest = codes "lertCondition";
-  is = refl;
-  byte = omega arith;
-  router = refl;
-  plain = refl;
-}
-kind_part kinds.AlertNotificationTarget =
-    record {
-      first = 65;
-      rest = codes "lertNotificationTarget";
-      is = refl;
-      byte = omega arith;
-      router = refl;
-      plain = refl;
-    }
+kind_part kinds.DataSource = word_part _ refl refl
+kind_part kinds.Service = word_part _ refl refl
+kind_part kinds.Sli = word_part _ refl refl
+kind_part kinds.Slo = word_part _ refl refl
+kind_part kinds.AlertPolicy = word_part _ refl refl
+kind_part kinds.AlertCondition = word_part _ refl refl
+kind_part kinds.AlertNotificationTarget = word_part _ refl refl
 
 -- the same with the parts by themselves
 
 object_first : (k n : List ℕ) → IsPart k → IsPart n
-    → first table (codes "/objects/" ++ (k ++ 47 ∷ n)) ≡ Some object_row.1
+    → first table (codes "/objects/" ++ (k ++ 47 ∷ n)) ≡ Some object_route.1
 object_first k n a b =
     rw (a.is, b.is) (first_object a.first a.rest b.first b.rest a.byte a.router b.byte b.router)
 
 burns_first : (k n : List ℕ) → IsPart k → IsPart n
-    → first table (codes "/burns/" ++ (k ++ 47 ∷ n)) ≡ Some burns_row.1
+    → first table (codes "/burns/" ++ (k ++ 47 ∷ n)) ≡ Some burns_route.1
 burns_first k n a b =
     rw (a.is, b.is) (first_burns a.first a.rest b.first b.rest a.byte a.router b.byte b.router)
 
 alerts_first : (k n l : List ℕ) → IsPart k → IsPart n → IsPart l
-    → first table (codes "/alerts/" ++ (k ++ 47 ∷ (n ++ 47 ∷ l))) ≡ Some alerts_row.1
+    → first table (codes "/alerts/" ++ (k ++ 47 ∷ (n ++ 47 ∷ l))) ≡ Some alerts_route.1
 alerts_first k n l a b c =
     rw (a.is, b.is, c.is) (first_alerts a.first a.rest b.first b.rest c.first c.rest a.byte a.router
     b.byte b.router c.byte c.router)
 
 take_first : (n : List ℕ) → IsPart n
-    → first table (codes "/notices/" ++ (n ++ codes "/take")) ≡ Some take_row.1
+    → first table (codes "/notices/" ++ (n ++ codes "/take")) ≡ Some take_route.1
 take_first n a = rw a.is (first_take a.first a.rest a.byte a.router)
 
 exclusion_first : (n : List ℕ) → IsPart n
-    → first table (codes "/exclusions/" ++ n) ≡ Some exclusion_row.1
+    → first table (codes "/exclusions/" ++ n) ≡ Some exclusion_route.1
 exclusion_first n a = rw a.is (first_exclusion a.first a.rest a.byte a.router)
 
-budgets_first : (n : List ℕ) → IsPart n → first table (codes "/budgets/" ++ n) ≡ Some budgets_row.1
+budgets_first : (n : List ℕ) → IsPart n
+    → first table (codes "/budgets/" ++ n) ≡ Some budgets_route.1
 budgets_first n a = rw a.is (first_budgets a.first a.rest a.byte a.router)
 
 -- a place's path has the place's route
 located : (path : List ℕ) (p : Place) → IsPath path p
     → (r : RouteOf Route) × (first table path ≡ Some r) × (r.value ≡ route_of p)
-located path Objects at = (objects_row.1, ap (first table) at ∙ first_objects, refl)
+located path Objects at = (objects_route.1, ap (first table) at ∙ first_objects, refl)
 located path (Object k n) (at, legal) = (
-  object_row.1,
+  object_route.1,
   ap (first table) at ∙ object_first (kind_word k) n (kind_part k) (label_part n legal),
   refl,
 )
 located path (Zone n) (at, legal) =
     let (y, ys, is, small) = zone_parts n legal in (
-      zone_row.1,
+      zone_route.1,
       ap (first table) (at ∙ ap (λ x. codes "/zones/" ++ x) is) ∙ first_zone y ys small,
       refl,
     )
-located path Samples at = (samples_row.1, ap (first table) at ∙ first_samples, refl)
+located path Samples at = (samples_route.1, ap (first table) at ∙ first_samples, refl)
 located path (Exclusion id) (at, legal) =
-    (exclusion_row.1, ap (first table) at ∙ exclusion_first id (label_part id legal), refl)
-located path Tick at = (tick_row.1, ap (first table) at ∙ first_tick, refl)
-located path Notices at = (notices_row.1, ap (first table) at ∙ first_notices, refl)
+    (exclusion_route.1, ap (first table) at ∙ exclusion_first id (label_part id legal), refl)
+located path Tick at = (tick_route.1, ap (first table) at ∙ first_tick, refl)
+located path Notices at = (notices_route.1, ap (first table) at ∙ first_notices, refl)
 located path (Take n) (digits, at, number) =
-    (take_row.1, ap (first table) at ∙ take_first digits (digits_part digits n number), refl)
+    (take_route.1, ap (first table) at ∙ take_first digits (digits_part digits n number), refl)
 located path (Budgets s) (at, legal) =
-    (budgets_row.1, ap (first table) at ∙ budgets_first s (label_part s legal), refl)
+    (budgets_route.1, ap (first table) at ∙ budgets_first s (label_part s legal), refl)
 located path (Burns s n) (digits, at, legal, number) = (
-  burns_row.1,
+  burns_route.1,
   ap (first table) at
       ∙ burns_first s digits (label_part s legal) (digits_part digits n number),
   refl,
 )
 located path (Alerts s n l) (digits, at, legal, number, named) = (
-  alerts_row.1,
+  alerts_route.1,
   ap (first table) at ∙ alerts_first s digits l (label_part s legal)
       (digits_part digits n number) (label_part l named),
   refl,
 )
 
-same_row : (s r : RouteOf Route) → Some s ≡ Some r → s ≡ r
-same_row s r e = cc e
+same_route : (s r : RouteOf Route) → Some s ≡ Some r → s ≡ r
+same_route s r e = cc e
 
 -- what the router's answer and the route's reader make together
 pub found_none : (path : List ℕ) → first table path ≡ None → (p : Place) → IsPath path p → ⊥
 found_none path none p at = let (r, is, value) = located path p at in absurd (cc (none, is))
 
 -- a place of the path is what its route's reader gives
-read_of_row : (path : List ℕ) (r : RouteOf Route) (p : Place) → first table path ≡ Some r
+read_of_route : (path : List ℕ) (r : RouteOf Route) (p : Place) → first table path ≡ Some r
     → IsPath path p → place_by r.value path ≡ Some p
-read_of_row path r p is at =
+read_of_route path r p is at =
     let (s, other, value) = located path p at in
     let same : route_of p ≡ r.value = sym value
-    ∙ ap (λ x. x.value) (same_row s r (sym other ∙ is)) in
+    ∙ ap (λ x. x.value) (same_route s r (sym other ∙ is)) in
     rw (← same) (there path p at)
 
 pub found_some : (path : List ℕ) (r : RouteOf Route) (o : Option Place) → first table path ≡ Some r
     → o ≡ place_by r.value path → Finds path o
 found_some path r (Some p) is read = back r.value path p (sym read)
-found_some path r None is read = λ p at. absurd (cc (read, read_of_row path r p is at))
+found_some path r None is read = λ p at. absurd (cc (read, read_of_route path r p is at))
 
 -- a path has one place at most
 one_place : (path : List ℕ) (p q : Place) → IsPath path p → IsPath path q → p ≡ q
 one_place path p q at also =
     let (r, is, value) = located path p at in
-    let a = read_of_row path r p is at in
-    let b = read_of_row path r q is also in
+    let a = read_of_route path r p is at in
+    let b = read_of_route path r q is also in
     same p q (sym a ∙ b)
   where
     same : (p q : Place) → Some p ≡ Some q → p ≡ q

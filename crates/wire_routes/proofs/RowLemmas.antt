@@ -7,34 +7,35 @@ use Rattle.std.specs.List.{cons_option, filter_map}
 use Rattle.std.proofs.lemmas.Bool.Decides.{nat_tests}
 use Rattle.csv_records.specs.Records.{Fields}
 use Rattle.sample_book.specs.declared.row.Row.{Row}
-use Rattle.wire_routes.specs.RowByRow.{Adds, before_row, behind, rows_from, rows_with}
+use Rattle.wire_routes.specs.RowByRow.{Adds, before_row, rows_behind, rows_from, rows_with}
 use Rattle.wire_routes.specs.Samples.{row_of, rows_before, rows_or_number}
 
 behind_row : (rows : List Row) (row : Row) (rest : Result (List Row) ℕ)
-    → behind (rows ++ row ∷ []) rest ≡ behind rows (before_row row rest)
+    → rows_behind (rows ++ row ∷ []) rest ≡ rows_behind rows (before_row row rest)
 behind_row rows row (Ok more) = ap Ok (append_assoc rows (row ∷ []) more)
 behind_row rows row (Err number) = refl
 
 -- one record more, which is a row
 pub one_more : (rows more : List Row) (number : ℕ) (records : List Fields) (fields : Fields)
     (rest : List Fields) (all : Result (List Row) ℕ)
-    → behind rows (rows_from number records) ≡ all → records ≡ fields ∷ rest
+    → rows_behind rows (rows_from number records) ≡ all → records ≡ fields ∷ rest
     → Adds true (row_of fields) rows more
-    → behind more (rows_from (number + 1) rest) ≡ all
+    → rows_behind more (rows_from (number + 1) rest) ≡ all
 one_more rows more number records fields rest all so_far is (row, read, grown) =
-    ap (λ rs. behind rs (rows_from (number + 1) rest)) grown
+    ap (λ rs. rows_behind rs (rows_from (number + 1) rest)) grown
     ∙ behind_row rows row (rows_from (number + 1) rest)
-    ∙ ap (behind rows) (ap (λ o. rows_with o number (rows_from (number + 1) rest)) read)
-    ∙ ap (λ rs. behind rows (rows_from number rs)) (sym is) ∙ so_far
+    ∙ ap (rows_behind rows) (ap (λ o. rows_with o number (rows_from (number + 1) rest)) read)
+    ∙ ap (λ rs. rows_behind rows (rows_from number rs)) (sym is) ∙ so_far
 
 -- and one that is none
 pub no_more : (rows : List Row) (number : ℕ) (records : List Fields) (fields : Fields)
     (rest : List Fields) (all : Result (List Row) ℕ)
-    → behind rows (rows_from number records) ≡ all → records ≡ fields ∷ rest → None ≡ row_of fields
+    → rows_behind rows (rows_from number records) ≡ all → records ≡ fields ∷ rest
+    → None ≡ row_of fields
     → all ≡ Err number
 no_more rows number records fields rest all so_far is read =
-    sym so_far ∙ ap (λ rs. behind rows (rows_from number rs)) is
-    ∙ ap (behind rows) (ap (λ o. rows_with o number (rows_from (number + 1) rest)) (sym read))
+    sym so_far ∙ ap (λ rs. rows_behind rows (rows_from number rs)) is
+    ∙ ap (rows_behind rows) (ap (λ o. rows_with o number (rows_from (number + 1) rest)) (sym read))
 
 -- what records from that number on give, of which `count` are rows before one that is none, and
 -- `rows` are rows
@@ -75,12 +76,12 @@ from_number number (fields ∷ rest) =
 as_a_whole : (records : List Fields) → rows_from 1 records ≡ rows_or_number records
 as_a_whole records = from_number 1 records
 
-nothing_behind : (all : Result (List Row) ℕ) → behind [] all ≡ all
+nothing_behind : (all : Result (List Row) ℕ) → rows_behind [] all ≡ all
 nothing_behind (Ok rows) = refl
 nothing_behind (Err number) = refl
 
 -- no rows so far
 pub none_so_far : (rows : List Row) (records left : List Fields) → rows ≡ [] → left ≡ records
-    → behind rows (rows_from 1 left) ≡ rows_or_number records
+    → rows_behind rows (rows_from 1 left) ≡ rows_or_number records
 none_so_far rows records left none all =
     rw (none, all) (nothing_behind (rows_from 1 records) ∙ as_a_whole records)

@@ -1,14 +1,14 @@
--- How the router goes through its rows: by bytes, by a part of a path, by all that is left.
+-- How the router goes through the routes: by bytes, by a part of a path, by all that is left.
 use Rattle.std.proofs.Common.{◌≡◌, ◌==◌, ◌<◌, ◌-◌, ℕ, zero, suc, Bool, true, false, List, [], ◌∷◌}
 use Rattle.std.proofs.Common.{◌++◌, Option, Some, None, length, refl, ap, arith, cond}
 use Rattle.std.specs.Prelude.{ltb}
 use Rattle.std.proofs.lemmas.List.{length-append}
 use Rattle.std.proofs.Math.Seq.{drop-append_seam}
-use Rattle.matchit.specs.Rows.{RowsOf}
+use Rattle.matchit.specs.Rows.{RowsOf as TableOf}
 use Rattle.matchit.specs.Router.{RouteOf}
 use Rattle.matchit.specs.Seek.{cuts, has_slash, or_else, own, segment, seek, step, param_step}
 use Rattle.wire_routes.specs.declared.place.Route.{Route}
-use Rattle.wire_routes.specs.Table.{Rows}
+use Rattle.wire_routes.specs.Table.{RouteTable}
 
 -- a segment up to its slash
 segment_name : (k rest : List ℕ) → has_slash k ≡ false → segment (k ++ 47 ∷ rest) ≡ k ++ 47 ∷ []
@@ -21,7 +21,7 @@ segment_name (x ∷ k) rest h = by (x == 47) h (segment_name k rest)
     by true q more = cc q
     by false q more = ap (λ (t : List ℕ). x ∷ t) (more q)
 
--- no row has a route
+-- an empty table has no route
 seek_none : (n : ℕ) (path : List ℕ) → seek {K = RouteOf Route} n [] path ≡ None
 unfolding seek param_step
 seek_none zero [] = refl
@@ -31,10 +31,10 @@ seek_none zero (b ∷ path) =
     rw (seek_none zero path) (by (cond (b == 47) true (has_slash path)) (λ n. seek_none n path))
   where
     by : (c : Bool) → ((n : ℕ) → seek {K = RouteOf Route} n [] path ≡ None)
-        → or_else (seek {K = RouteOf Route} ((cond {A = ℕ × RowsOf (RouteOf Route)} c (
+        → or_else (seek {K = RouteOf Route} ((cond {A = ℕ × TableOf (RouteOf Route)} c (
           0,
           [],
-        ) (suc (length path), [])).0 - 1) (cond {A = ℕ × RowsOf (RouteOf Route)} c (
+        ) (suc (length path), [])).0 - 1) (cond {A = ℕ × TableOf (RouteOf Route)} c (
           0,
           [],
         ) (suc (length path), [])).1 path) None ≡ None
@@ -42,17 +42,17 @@ seek_none zero (b ∷ path) =
     by false none = rw (none (suc (length path) - 1)) refl
 
 -- bytes that a parameter took
-seek_skip : (rs : Rows) (xs ys : List ℕ) → seek (length xs) rs (xs ++ ys) ≡ seek 0 rs ys
+seek_skip : (rs : RouteTable) (xs ys : List ℕ) → seek (length xs) rs (xs ++ ys) ≡ seek 0 rs ys
 unfolding seek
 seek_skip rs [] ys = refl
 seek_skip rs (x ∷ xs) ys = seek_skip rs xs ys
 
-seek_end : (rs : Rows) (xs : List ℕ) → seek (length xs) rs xs ≡ own rs
+seek_end : (rs : RouteTable) (xs : List ℕ) → seek (length xs) rs xs ≡ own rs
 unfolding seek
 seek_end rs [] = refl
 seek_end rs (x ∷ xs) = seek_end rs xs
 
--- a parameter that no row has
+-- a parameter that no route has
 param_none : (b : ℕ) (path : List ℕ)
     → seek {K = RouteOf Route} ((param_step {K = RouteOf Route} [] (b ∷ path)).0 - 1)
     (param_step {K = RouteOf Route} [] (b ∷ path)).1 path ≡ None
@@ -60,8 +60,8 @@ unfolding param_step
 param_none b path = by (cond (b == 47) true (has_slash path))
   where
     by : (c : Bool) → seek {K = RouteOf Route}
-        ((cond {A = ℕ × RowsOf (RouteOf Route)} c (0, []) (suc (length path), [])).0 - 1)
-        (cond {A = ℕ × RowsOf (RouteOf Route)} c (0, []) (suc (length path), [])).1 path ≡ None
+        ((cond {A = ℕ × TableOf (RouteOf Route)} c (0, []) (suc (length path), [])).0 - 1)
+        (cond {A = ℕ × TableOf (RouteOf Route)} c (0, []) (suc (length path), [])).1 path ≡ None
     by true = seek_none (0 - 1) path
     by false = seek_none (suc (length path) - 1) path
 
@@ -75,7 +75,7 @@ sub_suc n = omega arith
 no_token : (x : ℕ) → x < 256 → (256 == x) ≡ false
 no_token x h = grind (arith)
 
--- a slash that the row has
+-- a slash that the route has
 seek_slash : (p rest : List ℕ) (r : RouteOf Route)
     → seek 0 ((47 ∷ p, r) ∷ []) (47 ∷ rest) ≡ seek 0 ((p, r) ∷ []) rest
 unfolding seek
@@ -126,18 +126,18 @@ seek_name x k p rest r small none =
     )
     (or_none (seek 0 ((p, r) ∷ []) rest))
 
--- the rows that go on with these tokens
-abbrev pub steps : List ℕ → Rows → Rows
+-- the routes that go on with these tokens
+abbrev pub steps : List ℕ → RouteTable → RouteTable
 steps [] rs = rs
 steps (b ∷ bs) rs = steps bs (step b rs)
 
 -- a byte with a route behind it is met before anything else
-seek_via : (b : ℕ) (rs : Rows) (path : List ℕ) (q : RouteOf Route)
+seek_via : (b : ℕ) (rs : RouteTable) (path : List ℕ) (q : RouteOf Route)
     → seek 0 (step b rs) path ≡ Some q → seek 0 rs (b ∷ path) ≡ Some q
 unfolding seek
 seek_via b rs path q h = rw h refl
 
-pub seek_literal : (bs : List ℕ) (rs : Rows) (path : List ℕ) (q : RouteOf Route)
+pub seek_literal : (bs : List ℕ) (rs : RouteTable) (path : List ℕ) (q : RouteOf Route)
     → seek 0 (steps bs rs) path ≡ Some q → seek 0 rs (bs ++ path) ≡ Some q
 seek_literal [] rs path q h = h
 seek_literal (b ∷ bs) rs path q h =

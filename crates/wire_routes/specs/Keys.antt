@@ -4,7 +4,7 @@ use Rattle.std.specs.Result.{result_ok}
 use Rattle.slo_duration.specs.declared.duration.Duration.{Duration}
 use Rattle.slo_duration.specs.Reading.{duration_of}
 use Rattle.wire_routes.specs.Cuts.{number32}
-use Rattle.wire_routes.specs.Queries.{asked}
+use Rattle.wire_routes.specs.Queries.{key_values}
 
 -- a duration in OpenSLO's shorthand
 abbrev pub lookback_of : List ℕ → Option Duration
@@ -18,7 +18,7 @@ minute_or_none (Some digits) = option_map (λ n. Some n) (number32 digits)
 -- the key `at`, which may be left out
 abbrev pub budgets_keys : Option (List ℕ) → Option (Option ℕ)
 budgets_keys query =
-    option_and_then (λ p. minute_or_none p.0) (asked query (codes "at") (codes "at"))
+    option_and_then (λ p. minute_or_none p.0) (key_values query (codes "at") (codes "at"))
 
 -- the keys `lookback`, which is needed, and `at`, which may be left out
 abbrev pub burn_of : Option (List ℕ) → Option (List ℕ) → Option (Duration × Option ℕ)
@@ -27,7 +27,7 @@ burn_of lookback at = option_and_then (λ d. option_map (λ m. (d, m)) (minute_o
 
 abbrev pub burns_keys : Option (List ℕ) → Option (Duration × Option ℕ)
 burns_keys query =
-    option_and_then (λ p. burn_of p.0 p.1) (asked query (codes "lookback") (codes "at"))
+    option_and_then (λ p. burn_of p.0 p.1) (key_values query (codes "lookback") (codes "at"))
 
 -- the keys `from` and `to`, which are needed
 abbrev pub stretch_of : Option (List ℕ) → Option (List ℕ) → Option (ℕ × ℕ)
@@ -36,4 +36,4 @@ stretch_of from to = option_and_then (λ f. option_map (λ t. (f, t)) (option_an
 
 abbrev pub alerts_keys : Option (List ℕ) → Option (ℕ × ℕ)
 alerts_keys query =
-    option_and_then (λ p. stretch_of p.0 p.1) (asked query (codes "from") (codes "to"))
+    option_and_then (λ p. stretch_of p.0 p.1) (key_values query (codes "from") (codes "to"))

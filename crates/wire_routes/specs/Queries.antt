@@ -41,16 +41,18 @@ only_of (value ∷ []) = Some (Some value)
 only_of _ = None
 
 -- the values of two keys, where no item has another key, and none is there twice
-abbrev pub asked_in : List (List ℕ) → List ℕ → List ℕ → Option (Option (List ℕ) × Option (List ℕ))
-asked_in items first second =
+abbrev pub key_values_in : List (List ℕ) → List ℕ → List ℕ
+    → Option (Option (List ℕ) × Option (List ℕ))
+key_values_in items first second =
     cond (list_all (is_known first second) items)
     (option_and_then (λ a. option_map (λ b. (a, b)) (only_of (values_of second items)))
     (only_of (values_of first items))) None
 
 -- the same of a target, which may have no query
-abbrev pub asked : Option (List ℕ) → List ℕ → List ℕ → Option (Option (List ℕ) × Option (List ℕ))
-asked None first second = Some (None, None)
-asked (Some query) first second = asked_in (items_of query) first second
+abbrev pub key_values : Option (List ℕ) → List ℕ → List ℕ
+    → Option (Option (List ℕ) × Option (List ℕ))
+key_values None first second = Some (None, None)
+key_values (Some query) first second = key_values_in (items_of query) first second
 
 -- the items that a reader has left
 abbrev pub items_left : Option (List ℕ) → List (List ℕ)

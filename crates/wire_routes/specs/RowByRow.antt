@@ -19,9 +19,9 @@ rows_from number [] = Ok []
 rows_from number (fields ∷ rest) = rows_with (row_of fields) number (rows_from (number + 1) rest)
 
 -- rows behind those that were read
-abbrev pub behind : List Row → Result (List Row) ℕ → Result (List Row) ℕ
-behind rows (Ok more) = Ok (rows ++ more)
-behind rows (Err number) = Err number
+abbrev pub rows_behind : List Row → Result (List Row) ℕ → Result (List Row) ℕ
+rows_behind rows (Ok more) = Ok (rows ++ more)
+rows_behind rows (Err number) = Err number
 
 -- a record's row stands behind the others, where the record is one
 abbrev pub Adds : Bool → Option Row → List Row → List Row → Type 0

@@ -1,7 +1,8 @@
 //! The items of a query.
 ghost use Rattle.std.specs.Prelude.{◌≡◌, ◌∷◌, [], option_map, MatchOption};
 ghost use Rattle.std.specs.List.{list_all};
-ghost use Rattle.wire_routes.specs.Queries.{asked, bytes_of, is_known, items_of, only_of, value_of};
+ghost use Rattle.wire_routes.specs.Queries.{bytes_of, is_known, items_of, key_values, only_of};
+ghost use Rattle.wire_routes.specs.Queries.{value_of};
 ghost use Rattle.wire_routes.specs.Queries.{values_of};
 
 use crate::cuts::cut_at;
@@ -102,7 +103,7 @@ pub(crate) fn read_query<'a>(
     second: &[u8],
 ) -> Option<(Option<&'a [u8]>, Option<&'a [u8]>)>
     ensures { option_map (λ p. (option_map (λ v. v.now) p.0, option_map (λ v. v.now) p.1)) result
-        ≡ asked (bytes_of query.entry) first.now second.now }
+        ≡ key_values (bytes_of query.entry) first.now second.now }
 {
     let Some(query) = query else {
         return Some((None, None));
