@@ -47,11 +47,11 @@ abbrev pub no_memory_answer : Answer
 no_memory_answer = json 503 (error_data (codes "no_memory"))
 
 -- the answer that a reply stands for
-abbrev pub shown : Reply → Answer
-shown (Full status form methods body) =
+abbrev pub shown_answer : Reply → Answer
+shown_answer (Full status form methods body) =
     record { status = status; form = form; allow = methods; body = body }
-shown (Small status methods body) = in_json status methods body
-shown NoMemory = no_memory_answer
+shown_answer (Small status methods body) = in_json status methods body
+shown_answer NoMemory = no_memory_answer
 
 -- whether a reply was made without memory
 abbrev pub is_small : Reply → Bool
@@ -61,4 +61,4 @@ is_small NoMemory = false
 
 -- the reply stands for that answer, or there was no memory for it
 abbrev pub IsShownBy : Answer → Reply → Type 0
-IsShownBy answer reply = (shown reply ≡ answer) ⊎ (reply ≡ NoMemory)
+IsShownBy answer reply = (shown_answer reply ≡ answer) ⊎ (reply ≡ NoMemory)

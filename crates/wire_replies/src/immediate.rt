@@ -1,7 +1,7 @@
 //! Replies to messages that are no requests.
 ghost use Rattle.std.specs.Prelude.{◌≡◌, true};
 ghost use Rattle.serde_json.specs.Written.{compact_text};
-ghost use Rattle.wire_replies.specs.Answers.{is_small, shown};
+ghost use Rattle.wire_replies.specs.Answers.{is_small, shown_answer};
 ghost use Rattle.wire_replies.specs.Immediate.{bad_answer, immediate_answer, record_data};
 
 use crate::reply::{Reply, SmallBody};
@@ -11,7 +11,7 @@ use wire_terms::{Allow, Immediate};
 /// The reply to a whole message that is no request. It takes no memory.
 #[tactic(auto, unfolding(serde_json::proofs::OnLiterals::serde_json_on_literals))]
 pub fn immediate_reply(value: Immediate) -> Reply
-    ensures answer { shown result ≡ immediate_answer value }
+    ensures answer { shown_answer result ≡ immediate_answer value }
     ensures small { is_small result ≡ true }
 {
     match value {
@@ -30,7 +30,7 @@ pub fn immediate_reply(value: Immediate) -> Reply
 /// The reply to a bad message of that status. It takes no memory.
 #[tactic(auto, unfolding(serde_json::proofs::OnLiterals::serde_json_on_literals))]
 pub fn bad_message(status: u16) -> Reply
-    ensures answer { shown result ≡ bad_answer status }
+    ensures answer { shown_answer result ≡ bad_answer status }
     ensures small { is_small result ≡ true }
 {
     fixed(status, Allow::None, "{\"error\":\"message\"}")

@@ -5,7 +5,7 @@ ghost use Rattle.serde_json.specs.Written.{compact_text};
 ghost use Rattle.wire_terms.specs.declared.immediate.Allow.TheVariants.{None};
 ghost use Rattle.wire_replies.specs.declared.reply.Form.TheVariants.{Yaml};
 ghost use Rattle.wire_replies.specs.declared.reply.Reply.TheVariants.{NoMemory};
-ghost use Rattle.wire_replies.specs.Answers.{IsShownBy, in_json, is_small, json, shown};
+ghost use Rattle.wire_replies.specs.Answers.{IsShownBy, in_json, is_small, json, shown_answer};
 ghost use Rattle.wire_replies.specs.Outcomes.{answer_of, is_short};
 ghost use Rattle.wire_replies.specs.Values.{IsValue};
 
@@ -21,7 +21,7 @@ use wire_terms::Allow;
 
 // A reply with a short body.
 fn small(status: u16, body: SmallBody) -> Reply
-    ensures answer { shown result ≡ in_json status None body }
+    ensures answer { shown_answer result ≡ in_json status None body }
     ensures small { is_small result ≡ true }
 {
     Reply::Small {
@@ -73,7 +73,7 @@ fn object_text(alloc: Global, text: &[u8]) -> Reply
 /// The reply to a request that came to this. Those to changes that were made, and those to faults
 /// of clock, disk and journal, are short and take no memory; each other one may be `NoMemory`.
 pub fn render(alloc: Global, value: &Outcome) -> Reply
-    ensures answer { (shown result ≡ answer_of value.now)
+    ensures answer { (shown_answer result ≡ answer_of value.now)
         ⊎ ((result ≡ NoMemory) × (is_short value.now ≡ false)) }
     ensures small { is_short value.now ≡ true → is_small result ≡ true }
 {

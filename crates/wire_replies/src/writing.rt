@@ -2,7 +2,7 @@
 ghost use Rattle.std.specs.Prelude.{◌≡◌, ◌+◌, ◌++◌, ◌≤◌, [], OnOk, OnErr, length};
 ghost use Rattle.office_outside.specs.Faults.{HasCause};
 ghost use Rattle.office_outside.specs.Told.{Gained, GainedPrefix};
-ghost use Rattle.wire_replies.specs.Answers.{no_memory_answer, shown};
+ghost use Rattle.wire_replies.specs.Answers.{no_memory_answer, shown_answer};
 ghost use Rattle.wire_replies.specs.Heads.{allow_line, connection_line, head_of, phrase_of};
 ghost use Rattle.wire_replies.specs.Heads.{reply_bytes, type_of};
 
@@ -132,9 +132,10 @@ fn write_parts<K: Sink>(
 /// have at most 4,096 bytes. After `Failed` a prefix of it was written.
 pub fn write_reply<K: Sink>(value: &Reply, last: bool, output: &mut K) -> Result<(), Failed>
     ensures gained { OnOk result
-        (Gained (reply_bytes last (shown value.now)) (K.held output.old) (K.held output.new)) }
+        (Gained (reply_bytes last (shown_answer value.now))
+        (K.held output.old) (K.held output.new)) }
     ensures part { OnErr result
-        (GainedPrefix (reply_bytes last (shown value.now))
+        (GainedPrefix (reply_bytes last (shown_answer value.now))
         (K.held output.old) (K.held output.new)) }
     ensures cause { HasCause (K.faults output.old) (K.faults output.new) result }
 {

@@ -13,7 +13,7 @@ use Rattle.office_counter.specs.Steps.{HasRevision, HasRevisions, HasRevisionsIn
 use Rattle.wire_routes.specs.Ranges.{IsChangeInRange, IsRequestInRange}
 use Rattle.wire_replies.specs.declared.Reply.{Reply}
 use Rattle.wire_replies.specs.declared.Reply.TheVariants.{NoMemory}
-use Rattle.wire_replies.specs.Answers.{shown}
+use Rattle.wire_replies.specs.Answers.{shown_answer}
 use Rattle.wire_replies.specs.Heads.{reply_bytes}
 use Rattle.wire_replies.specs.Outcomes.{answer_of, is_short}
 use Rattle.wire_session.specs.Treats.{Tells, whole, without_memory}
@@ -41,8 +41,8 @@ has_revisions (Change command) range = change_has_revisions command range
 
 -- what was rendered tells the outcome
 pub tells : (outcome : Outcome) (last : Bool) (reply : Reply)
-    → (shown reply ≡ answer_of outcome) ⊎ ((reply ≡ NoMemory) × (is_short outcome ≡ false))
-    → Tells outcome last (reply_bytes last (shown reply))
+    → (shown_answer reply ≡ answer_of outcome) ⊎ ((reply ≡ NoMemory) × (is_short outcome ≡ false))
+    → Tells outcome last (reply_bytes last (shown_answer reply))
 tells outcome last reply (inl is) = whole (ap (λ answer. reply_bytes last answer) is)
 tells outcome last reply (inr (none, short)) =
-    without_memory short (ap (λ r. reply_bytes last (shown r)) none)
+    without_memory short (ap (λ r. reply_bytes last (shown_answer r)) none)

@@ -4,7 +4,7 @@ ghost use Rattle.slo_limits.specs.declared.TheConstants.{MAX_MINUTE};
 ghost use Rattle.message_heads.specs.declared.message.Heard.TheVariants.{Whole};
 ghost use Rattle.message_heads.specs.Hearing.{Hears};
 ghost use Rattle.message_heads.specs.Streams.{said_in};
-ghost use Rattle.wire_replies.specs.Answers.{shown};
+ghost use Rattle.wire_replies.specs.Answers.{shown_answer};
 ghost use Rattle.wire_replies.specs.Heads.{reply_bytes};
 ghost use Rattle.wire_session.specs.Treats.{Treats};
 
@@ -29,7 +29,7 @@ fn reply_to<T: Counter>(
     requires message { (n : ℕ) × Hears bytes.now (Whole message.now n) }
     requires reading { reading ≤ MAX_MINUTE }
     ensures { (last : Bool) → Treats T.asks counter.old (said_in bytes.now message.now) last reading
-        (reply_bytes last (shown result)) counter.new }
+        (reply_bytes last (shown_answer result)) counter.new }
 {
     match routes.request(alloc, message, bytes) {
         Routed::Request(request) => {
