@@ -4,7 +4,7 @@ use Rattle.office_outside.specs.Clocks.{reading_at}
 use Rattle.office_session.specs.Sessions.{EndsSo, scene}
 use Rattle.office_session.specs.declared.SessionEnd.TheVariants.{Done}
 use Rattle.wire_session.specs.Treats.{Asking, Treats, refusal_text}
-use Rattle.generate_command.specs.Playing.{Plays, always}
+use Rattle.generate_command.specs.Playing.{Plays, steady_clock}
 
 -- the session that was played is one of these bytes, at this reading, into an empty sink
 pub played : {T : Type 0} (asks : Asking T) (bytes : List ℕ) (reading : ℕ) (old new : T)
@@ -35,5 +35,5 @@ played asks bytes reading old new answers left readings held left_after to_come 
           subst
           (λ (h : List ℕ).
           EndsSo (Treats asks) refusal_text Done
-          (scene (Some bytes) (always reading) old (Some h)) after) held_is from_readings;
+          (scene (Some bytes) (steady_clock reading) old (Some h)) after) held_is from_readings;
     }

@@ -18,7 +18,7 @@ use Rattle.wire_replies.specs.Outcomes.{answer_of}
 use Rattle.wire_session.specs.Treats.{refusal_text}
 use Rattle.own_counter.specs.Own.{OwnOn}
 use Rattle.sample_stream.specs.Stream.{stream_of}
-use Rattle.generate_command.specs.Playing.{HasNone, always}
+use Rattle.generate_command.specs.Playing.{HasNone, steady_clock}
 use Rattle.generate_command.specs.Summary.{IsSummary}
 use Rattle.generate_command.specs.Tallies.{no_tally, tally_with}
 use Rattle.generate_command.specs.declared.tally.Tally.{Tally}
@@ -54,7 +54,7 @@ empty_office = record { origin = 0; history = [] }
 pub record IsGenerated (number : ℕ) (text : List ℕ) : Type 0 where
   pub after : Scene Seat
   pub session : EndsSo Plainly refusal_text Done
-      (scene (Some (stream_of number)) (always (1000 * number)) (seat empty_office no_tally)
+      (scene (Some (stream_of number)) (steady_clock (1000 * number)) (seat empty_office no_tally)
       (Some [])) after
   pub all : after.handler.tally.requests ≡ number + 5
   pub exact : IsSummary after.handler.tally (length after.handler.office.history)

@@ -6,8 +6,8 @@ use Rattle.office_session.specs.declared.SessionEnd.TheVariants.{Done}
 use Rattle.wire_session.specs.Treats.{Asking, Treats, refusal_text}
 
 -- the readings to come of a clock that always reads this minute
-abbrev pub always : ℕ → ℕ → Option ℕ
-always reading k = Some (reading_at (reading ∷ []) k)
+abbrev pub steady_clock : ℕ → ℕ → Option ℕ
+steady_clock reading k = Some (reading_at (reading ∷ []) k)
 
 -- A session of these bytes ended well, and these are the answers.
 pub record Plays {T : Type 0} (asks : Asking T) (bytes : List ℕ) (reading : ℕ) (old new : T)
@@ -15,7 +15,7 @@ pub record Plays {T : Type 0} (asks : Asking T) (bytes : List ℕ) (reading : �
   pub left : Option (List ℕ)
   pub to_come : ℕ → Option ℕ
   pub ends : EndsSo (Treats asks) refusal_text Done
-      (scene (Some bytes) (always reading) old (Some []))
+      (scene (Some bytes) (steady_clock reading) old (Some []))
       (scene left to_come new (Some answers))
 
 -- the piece stands nowhere among the bytes
