@@ -1,5 +1,4 @@
 pub mod KindLemmas
-pub mod MemberLemmas
 pub mod DefineLemmas
 pub mod ReadingLemmas
 pub mod PlanLemmas

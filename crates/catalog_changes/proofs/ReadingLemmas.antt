@@ -1,6 +1,6 @@
 -- The rows' indicators keep their readings: where objects are defined that read none of them
 -- otherwise, and where another object is removed.
-use Rattle.std.proofs.Common.{◌≡◌, ℕ, zero, suc, ◌<◌, Bool, true, false, not, ◌==◌, cond, List, []}
+use Rattle.std.proofs.Common.{◌≡◌, ℕ, zero, suc, ◌<◌, Bool, true, false, not, cond, List, []}
 use Rattle.std.proofs.Common.{◌∷◌, Option, Some, None, length, slice_index_or, bytes_eq, refl, sym}
 use Rattle.std.proofs.Common.{ap, ◌∙◌, subst, arith}
 use Rattle.std.specs.List.{All, AllByRecursion, find}
@@ -19,7 +19,7 @@ use Rattle.slo_objects.specs.declared.Body.TheVariants as bodies
 use Rattle.slo_objects.specs.declared.Object.{Object}
 use Rattle.slo_objects.specs.declared.Sli.{Sli}
 use Rattle.slo_objects.specs.Sli.{sli_in}
-use Rattle.slo_catalog.specs.Keys.{kind_rank, is_key, find_in}
+use Rattle.slo_catalog.specs.Keys.{is_key, find_in}
 use Rattle.slo_catalog.specs.Catalog.{put, put_all, without}
 use Rattle.slo_catalog.specs.NeedsOp.{sli_named}
 use Rattle.definition_verdict.specs.Readings.{reading_of, same_reading, is_other_reading}
@@ -28,24 +28,14 @@ use Rattle.office_history.specs.Objectives.{reading_named}
 use Rattle.office_derived.specs.Derived.{IsRead}
 use Rattle.sums_plan.specs.object_ranges.Kinds.{kind_of}
 use Rattle.catalog_changes.specs.Kinds.{HasKind}
-use Rattle.catalog_changes.proofs.MemberLemmas.{both, find_put, find_without}
+use Rattle.slo_catalog.proofs.KeyLemmas.{key_parts}
+use Rattle.slo_catalog.proofs.FindLemmas.{find_put}
+use Rattle.slo_catalog.proofs.WholeLemmas.{kept_apart}
 
 -- the reading of an object that was found
 reading_found : Option Object → Option Reading
 reading_found found = option_map (λ (s : Sli). reading_of s.metric)
     (option_and_then (λ (o : Object). sli_in o.body) found)
-
-same_bytes : (xs ys : List ℕ) → bytes_eq xs ys ≡ true → xs ≡ ys
-same_bytes xs ys e = (bytes_eq-Decides xs ys).0 e
-
-kind_of_sli : (k : Kind) → (kind_rank k == kind_rank kinds.Sli) ≡ true → k ≡ kinds.Sli
-kind_of_sli kinds.Sli e = refl
-kind_of_sli kinds.DataSource e = cc e
-kind_of_sli kinds.Service e = cc e
-kind_of_sli kinds.Slo e = cc e
-kind_of_sli kinds.AlertPolicy e = cc e
-kind_of_sli kinds.AlertCondition e = cc e
-kind_of_sli kinds.AlertNotificationTarget e = cc e
 
 -- the body of an indicator is one
 sli_of : (b : Body) → kind_of b ≡ kinds.Sli → (sli : Sli) × (b ≡ bodies.Sli sli)
@@ -83,12 +73,12 @@ new_reading : (known : List Object) (rows : List Row) (sli : List ℕ) (row : Ro
     is_key kinds.Sli sli o ≡ true → reading_found (Some o) ≡ Some r
 unfolding reading_found
 new_reading known rows sli row r o first reading body anew key =
-    let k = both (kind_rank o.kind == kind_rank kinds.Sli) (bytes_eq o.name sli) key in
-    let b = sli_of o.body (body ∙ kind_of_sli o.kind k.0) in
+    let parts = key_parts kinds.Sli sli o key in
+    let b = sli_of o.body (body ∙ parts.0) in
     let s : Sli = b.0 in
     let is : sli_in o.body ≡ Some s = ap sli_in b.1 in
     let here : row_read_anew known rows sli (Some s) ≡ None =
-    sym (λ i. row_read_anew known rows (same_bytes o.name sli k.1 i) (is i)) ∙ anew in
+    sym (λ i. row_read_anew known rows (parts.1 i) (is i)) ∙ anew in
     let there : cond (is_other_reading (reading_of s.metric) (sli_named known sli)) (Some row) None
     ≡ None =
     sym (ap (λ (f : Option Row).
@@ -172,29 +162,16 @@ define_read old rows objects read bodies anew =
     still_read old (put_all objects old) rows read (λ sli r first reading.
     put_readings old rows sli first.row r objects old first.is reading bodies anew reading)
 
-sli_kind : (k : Kind) → (kind_rank kinds.Sli == kind_rank k) ≡ true → k ≡ kinds.Sli
-sli_kind kinds.Sli e = refl
-sli_kind kinds.DataSource e = cc e
-sli_kind kinds.Service e = cc e
-sli_kind kinds.Slo e = cc e
-sli_kind kinds.AlertPolicy e = cc e
-sli_kind kinds.AlertCondition e = cc e
-sli_kind kinds.AlertNotificationTarget e = cc e
-
 apart_keys : (kind : Kind) (name sli : List ℕ) → (kind ≡ kinds.Sli → name ≡ sli → ⊥) → (o : Object)
-    → is_key kinds.Sli sli o ≡ true → is_key kind name o ≡ false
-apart_keys kind name sli other o key = by (is_key kind name o) refl
+    → is_key kind name o ≡ true → is_key kinds.Sli sli o ≡ false
+apart_keys kind name sli other o key = by (is_key kinds.Sli sli o) refl
   where
-    by : (b : Bool) → is_key kind name o ≡ b → b ≡ false
+    by : (b : Bool) → is_key kinds.Sli sli o ≡ b → b ≡ false
     by false e = refl
     by true e =
-        let k = both (kind_rank o.kind == kind_rank kinds.Sli) (bytes_eq o.name sli) key in
-        let l = both (kind_rank o.kind == kind_rank kind) (bytes_eq o.name name) e in
-        let is : o.kind ≡ kinds.Sli = kind_of_sli o.kind k.0 in
-        let rank : (kind_rank kinds.Sli == kind_rank kind) ≡ true =
-        ap (λ (k : Kind). kind_rank k == kind_rank kind) (sym is) ∙ l.0 in
-        absurd (other (sli_kind kind rank)
-        (sym (same_bytes o.name name l.1) ∙ same_bytes o.name sli k.1))
+        let removed = key_parts kind name o key in
+        let read = key_parts kinds.Sli sli o e in
+        absurd (other (sym removed.0 ∙ read.0) (sym removed.1 ∙ read.1))
 
 pub remove_read : (old : List Object) (rows : List Row) (kind : Kind) (name : List ℕ) →
     All (IsRead old) rows →
@@ -202,8 +179,8 @@ pub remove_read : (old : List Object) (rows : List Row) (kind : Kind) (name : Li
 unfolding reading_found
 remove_read old rows kind name read none =
     still_read old (without kind name old) rows read
-    (λ sli r first reading. ap reading_found (find_without kind name kinds.Sli sli (apart_keys kind
-    name sli (λ is same. absurd_first sli first (none is) same)) old) ∙ reading)
+    (λ sli r first reading. ap reading_found (kept_apart old kind name kinds.Sli sli
+    (apart_keys kind name sli (λ is same. absurd_first sli first (none is) same))) ∙ reading)
   where
     absurd_first : (sli : List ℕ) → HasFirst rows sli → first_of rows name ≡ None → name ≡ sli → ⊥
     absurd_first sli first none same = let here : first_of rows sli ≡ None =

@@ -1,21 +1,17 @@
 -- Looking for an object among those that were put in their places.
-use Rattle.std.proofs.Common.{length, ◌≡◌, ℕ, Bool, true, false, ◌&&◌, ◌==◌, cond, List, [], ◌∷◌}
-use Rattle.std.proofs.Common.{Option, Some, None, IfSome, All, refl, sym, ap, ◌∙◌, true≢false}
-use Rattle.std.proofs.Common.{subst, Ordering, Less, Equal, Greater, is_eq, bytes_eq, nat_cmp}
+use Rattle.std.proofs.Common.{length, ◌≡◌, ℕ, Bool, true, false, ◌&&◌, cond, List, [], ◌∷◌, Option}
+use Rattle.std.proofs.Common.{Some, None, IfSome, All, refl, sym, ap, ap₂, ◌∙◌, true≢false, subst}
+use Rattle.std.proofs.Common.{Ordering, Less, Equal, Greater, is_eq, bytes_eq}
 use Rattle.std.specs.Ordering.{match_ordering}
 use Rattle.std.specs.Prelude.{◌+◌, unwrap_or}
-use Rattle.std.specs.Cmp.Lexicographic.{slice_cmp}
 use Rattle.std.proofs.lemmas.List.Elements.{recursion_from_All}
 use Rattle.std.specs.List.{AllByRecursion}
-use Rattle.std.specs.Cmp.{IsEquivalence}
 use Rattle.std.specs.Option.{option_copied}
 use Rattle.std.proofs.Common.{Bor}
-use Rattle.std.proofs.lemmas.Cmp.{nat_eq_equiv, nat_list_eq_equiv}
-use Rattle.slo_catalog.proofs.KeyLemmas.{same_key}
-use Rattle.std.proofs.lemmas.Map.Lookups.{exact_pairs, exact_unsigned, exact_bytes}
+use Rattle.slo_catalog.proofs.KeyLemmas.{key_parts, same_key, equal_same}
 use Rattle.slo_objects.specs.declared.kind.Kind.{Kind}
 use Rattle.slo_objects.specs.declared.object.Object.{Object}
-use Rattle.slo_catalog.specs.Keys.{kind_rank, is_key, object_cmp, find_in}
+use Rattle.slo_catalog.specs.Keys.{is_kind, is_key, object_cmp, find_in}
 use Rattle.slo_catalog.specs.Catalog.{put}
 use Rattle.std.proofs.lemmas.Slice.Eq.{bytes_eq-Decides}
 use Rattle.slo_objects.specs.yaml_subset.Spelling.{writing}
@@ -28,10 +24,8 @@ use Rattle.slo_catalog.specs.Define.{is_same}
 -- objects of one kind and name answer each question about kind and name alike
 alike : (o p : Object) (kind : Kind) (name : List ℕ) → object_cmp o p ≡ Equal
     → is_key kind name o ≡ is_key kind name p
-alike o p kind name e =
-    ap (λ (x : ℕ × List ℕ). (x.0 == kind_rank kind) && bytes_eq x.1 name)
-    (exact_pairs nat_cmp (slice_cmp nat_cmp) exact_unsigned exact_bytes (kind_rank o.kind, o.name)
-    (kind_rank p.kind, p.name) e)
+alike o p kind name e = let parts = key_parts p.kind p.name o (equal_same o p e) in
+    ap₂ (λ k n. is_kind k kind && bytes_eq n name) parts.0 parts.1
 
 swap : {A : Type 0} (a b : Bool) (x y z : A) → (a ≡ true → b ≡ true → x ≡ y)
     → cond b y (cond a x z) ≡ cond a x (cond b y z)
@@ -44,35 +38,13 @@ once : {A : Type 0} (a b : Bool) (x y z : A) → a ≡ b → cond a x z ≡ cond
 once true b x y z h = refl
 once false b x y z h = ap (λ c. cond c y z) h
 
-left : (a b : Bool) → a && b ≡ true → a ≡ true
-left true b h = refl
-left false b h = h
-
-right : (a b : Bool) → a && b ≡ true → b ≡ true
-right true b h = h
-right false b h = absurd (true≢false (sym h))
-
-both : (a b : Bool) → a ≡ true → b ≡ true → a && b ≡ true
-both true b h k = k
-both false b h k = h
-
-tied : {X : Type 0} {E : X → X → Bool} → IsEquivalence E → (x y z : X) → E x z ≡ true → E y z ≡ true
-    → E x y ≡ true
-tied e x y z h k = e.congr x z y h ∙ (e.symm z y ∙ k)
-
 -- objects of one kind and name are of each other's
 pub both_keys : (o p : Object) (kind : Kind) (name : List ℕ) → is_key kind name o ≡ true
     → is_key kind name p ≡ true → is_eq (object_cmp o p) ≡ true
-both_keys o p kind name h k =
-    sym (same_key o p)
-    ∙ both (kind_rank o.kind == kind_rank p.kind) (bytes_eq o.name p.name)
-    (tied nat_eq_equiv (kind_rank o.kind) (kind_rank p.kind) (kind_rank kind)
-    (left (kind_rank o.kind == kind_rank kind) (bytes_eq o.name name) h)
-    (left (kind_rank p.kind == kind_rank kind) (bytes_eq p.name name) k))
-    (tied nat_list_eq_equiv o.name p.name name
-    (right (kind_rank o.kind == kind_rank kind) (bytes_eq o.name name) h)
-    (right (kind_rank p.kind == kind_rank kind) (bytes_eq p.name name) k))
+both_keys o p kind name h k = let parts = key_parts kind name p k in
+    sym (same_key o p) ∙ ap₂ (λ l n. is_key l n o) parts.0 parts.1 ∙ h
 
+-- the object that was put is found under its own kind and name, and the others as before
 pub find_put : (o : Object) (os : List Object) (kind : Kind) (name : List ℕ)
     → find_in (put o os) kind name ≡ cond (is_key kind name o) (Some o) (find_in os kind name)
 find_put o [] kind name = refl

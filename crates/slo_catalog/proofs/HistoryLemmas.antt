@@ -1,11 +1,11 @@
 -- What one more event makes of a catalog.
-use Rattle.std.proofs.Common.{◌≡◌, ℕ, Bool, true, false, not, ◌&&◌, ◌==◌, ◌⊎◌, inl, inr, List, []}
+use Rattle.std.proofs.Common.{◌≡◌, ℕ, Bool, true, false, not, ◌&&◌, ◌⊎◌, inl, inr, List, []}
 use Rattle.std.proofs.Common.{◌∷◌, ◌++◌, map, refl, sym, ap, ◌∙◌, subst, bytes_eq, append_assoc}
 use Rattle.std.proofs.Common.{append-nil, true≢false, ◌↔◌}
 use Rattle.std.specs.List.{AllByRecursion, Contains}
 use Rattle.slo_objects.specs.declared.kind.Kind.{Kind}
 use Rattle.slo_objects.specs.declared.object.Object.{Object}
-use Rattle.slo_catalog.specs.Keys.{kind_rank, is_key, IsSorted}
+use Rattle.slo_catalog.specs.Keys.{is_key, IsSorted}
 use Rattle.slo_catalog.specs.Catalog.{Event, Defined, Removed, is_about, IsMember, IsCatalog, put}
 use Rattle.slo_catalog.specs.Catalog.{put_all, without}
 use Rattle.slo_catalog.proofs.AmongLemmas.{Among, among_of, contains_of}

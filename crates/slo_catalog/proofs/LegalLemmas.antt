@@ -1,50 +1,33 @@
 -- What keeps references resolved.
-use Rattle.std.proofs.Common.{◌≡◌, ℕ, Bool, true, false, not, ◌&&◌, ◌||◌, ◌==◌, cond, is_some, ◌⊎◌}
+use Rattle.std.proofs.Common.{◌≡◌, ℕ, Bool, true, false, not, ◌&&◌, ◌||◌, cond, is_some, ◌⊎◌}
 use Rattle.std.proofs.Common.{inl, inr, List, [], ◌∷◌, Option, Some, None, refl, sym, ap, ap₂, ◌∙◌}
 use Rattle.std.proofs.Common.{subst, true≢false, bytes_eq, find}
-use Rattle.std.proofs.lemmas.Bool.Decides.{Decides-eqb}
 use Rattle.std.specs.List.{AllByRecursion, list_any}
 use Rattle.std.specs.Option.{option_or}
-use Rattle.std.proofs.lemmas.Slice.Eq.{bytes_eq-Decides}
 use Rattle.slo_objects.specs.declared.kind.Kind.{Kind}
 use Rattle.slo_objects.specs.declared.object.Object.{Object}
 use Rattle.slo_catalog.specs.declared.reference.Reference.{Reference}
-use Rattle.slo_catalog.specs.Keys.{kind_rank, is_key, find_in, IsSorted}
+use Rattle.slo_catalog.specs.Keys.{is_kind, is_key, find_in, IsSorted}
 use Rattle.slo_catalog.specs.Catalog.{put, put_all, without}
 use Rattle.slo_catalog.specs.References.{references, is_built_in_policy, is_resolved, first_given}
 use Rattle.slo_catalog.specs.References.{unresolved_of, first_unresolved, is_to, refers_to}
 use Rattle.slo_catalog.specs.References.{first_referrer, IsResolvedIn, IsLegal}
+use Rattle.slo_catalog.proofs.KeyLemmas.{key_parts, key_itself}
 use Rattle.slo_catalog.proofs.AmongLemmas.{Among, all_weaker, all_among}
 use Rattle.slo_catalog.proofs.PutLemmas.{put_sorted, in_put, put_there, put_keeps, in_without}
 use Rattle.slo_catalog.proofs.PutLemmas.{without_keeps}
 
 -- tests
-and_left : (a b : Bool) → (a && b) ≡ true → a ≡ true
-and_left true b h = refl
-and_left false b h = h
-
-and_right : (a b : Bool) → (a && b) ≡ true → b ≡ true
-and_right true b h = h
-and_right false b h = absurd (true≢false (sym h))
-
 either : (b : Bool) → (b ≡ true) ⊎ (b ≡ false)
 either true = inl refl
 either false = inr refl
-
--- the kind and name of an object, where it has a key
-pub key_parts : (kind : Kind) (name : List ℕ) (o : Object) → is_key kind name o ≡ true
-    → (kind_rank o.kind ≡ kind_rank kind) × (o.name ≡ name)
-key_parts kind name o h = (
-  (Decides-eqb (kind_rank o.kind) (kind_rank kind)).0 (and_left _ _ h),
-  (bytes_eq-Decides o.name name).0 (and_right _ _ h),
-)
 
 -- objects of one kind and name have the same keys
 same_keys : (kind : Kind) (name : List ℕ) (o p : Object) → is_key kind name o ≡ true
     → is_key o.kind o.name p ≡ true → is_key kind name p ≡ true
 same_keys kind name o p h k =
     let parts = key_parts kind name o h in
-    ap₂ (λ m n. (kind_rank p.kind == m) && bytes_eq p.name n) (sym parts.0) (sym parts.1) ∙ k
+    ap₂ (λ l n. is_key l n p) (sym parts.0) (sym parts.1) ∙ k
 
 -- an object of that kind and name stands among them
 abbrev IsThere : List Object → Kind → List ℕ → Type 0
@@ -76,10 +59,6 @@ found_there (o ∷ os) kind name q h k =
 -- for each of the old objects there is a new one of its kind and name
 abbrev Covers : List Object → List Object → Type 0
 Covers old new = (o : Object) → Among old o → IsThere new o.kind o.name
-
-key_itself : (o : Object) → is_key o.kind o.name o ≡ true
-key_itself o = ap₂ (λ a b. a && b) ((Decides-eqb (kind_rank o.kind) (kind_rank o.kind)).1 refl)
-    ((bytes_eq-Decides o.name o.name).1 refl)
 
 put_covers : (o : Object) (os : List Object) → Covers os (put o os)
 put_covers o os q h = by (either (is_key q.kind q.name o))
@@ -221,7 +200,7 @@ resolved_without kind name os r h apart = by (or_parts _ _ h)
         → is_some (find_in (without kind name os) r.kind r.name) ≡ true
     other o (inl e) =
         let parts = key_parts r.kind r.name o.0 o.1.1 in
-        absurd (true≢false (sym (ap₂ (λ m n. (m == kind_rank kind) && bytes_eq n name) (sym parts.0)
+        absurd (true≢false (sym (ap₂ (λ l n. is_kind l kind && bytes_eq n name) (sym parts.0)
         (sym parts.1) ∙ e) ∙ apart))
     other o (inr e) = found_there (without kind name os) r.kind r.name o.0
         (without_keeps kind name o.0 os o.1.0 (ap not e)) o.1.1

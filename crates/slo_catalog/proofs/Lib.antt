@@ -1,12 +1,12 @@
-mod KeyLemmas
+pub mod KeyLemmas
 mod AmongLemmas
 mod OneCatalog
 mod PutLemmas
 mod HistoryLemmas
 mod PlaceLemmas
-mod FindLemmas
+pub mod FindLemmas
 mod SearchLemmas
-mod WholeLemmas
+pub mod WholeLemmas
 mod WeightLemmas
 mod DefineLemmas
 mod LegalLemmas

@@ -1,5 +1,5 @@
 -- Looking for the place of a kind and name among sorted objects, half by half.
-use Rattle.std.proofs.Common.{slice_set, Result, Ok, Err, ◌++◌, ◌+◌, ◌-◌, ◌≤◌, ◌==◌, ◌/◌, add-one}
+use Rattle.std.proofs.Common.{slice_set, Result, Ok, Err, ◌++◌, ◌+◌, ◌-◌, ◌≤◌, ◌/◌, add-one}
 use Rattle.std.proofs.Common.{length-drop, length-take-le, ◌≡◌, ℕ, zero, suc, ◌<◌, Bool, true}
 use Rattle.std.proofs.Common.{false, cond, List, [], ◌∷◌, length, take, drop, get_or, Option, Some}
 use Rattle.std.proofs.Common.{None, refl, sym, ap, ◌∙◌, subst, arith, Ordering, Less, Equal}
@@ -9,15 +9,15 @@ use Rattle.std.specs.List.{AllByRecursion}
 use Rattle.std.specs.Prelude.{MatchResult}
 use Rattle.std.specs.Ordering.{match_ordering, ordering_reverse}
 use Rattle.std.specs.Cmp.{IsTotalOrder}
-use Rattle.std.proofs.lemmas.Cmp.{on_total, then_total, nat_cmp_total, nat_list_cmp_total}
+use Rattle.std.proofs.lemmas.Cmp.{on_total, then_total, nat_list_cmp_total}
 use Rattle.std.proofs.lemmas.Cmp.{tied_back, alike_right}
 use Rattle.slo_objects.specs.declared.kind.Kind.{Kind}
 use Rattle.slo_objects.specs.declared.object.Object.{Object}
-use Rattle.slo_catalog.specs.Keys.{kind_rank, is_key, key_cmp, object_cmp, find_in, ComesBefore}
+use Rattle.slo_catalog.specs.Keys.{is_key, key_cmp, object_cmp, find_in, ComesBefore}
 use Rattle.slo_catalog.specs.Keys.{IsSorted}
 use Rattle.slo_catalog.specs.Catalog.{put}
 use Rattle.slo_catalog.specs.Places.{to, StandsAt, BelongsAt}
-use Rattle.slo_catalog.proofs.KeyLemmas.{object_order, same_as, after, before}
+use Rattle.slo_catalog.proofs.KeyLemmas.{kind_order, object_order, same_as, after, before}
 
 abbrev Key : Type 0
 Key = Kind × List ℕ
@@ -26,7 +26,7 @@ abbrev pair_cmp : Key → Key → Ordering
 pair_cmp x y = key_cmp x.0 x.1 y.0 y.1
 
 key_order : IsTotalOrder pair_cmp
-key_order = then_total (on_total (λ (x : Key). kind_rank x.0) nat_cmp_total)
+key_order = then_total (on_total (λ (x : Key). x.0) kind_order)
     (on_total (λ (x : Key). x.1) nat_list_cmp_total)
 
 abbrev key : Object → Key

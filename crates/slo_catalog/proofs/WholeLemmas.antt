@@ -1,5 +1,5 @@
 -- What keeps a catalog whole.
-use Rattle.std.proofs.Common.{◌≡◌, ℕ, ◌+◌, ◌<◌, ◌≤◌, Bool, true, false, not, ◌&&◌, ◌||◌, ◌==◌, cond}
+use Rattle.std.proofs.Common.{◌≡◌, ℕ, ◌+◌, ◌<◌, ◌≤◌, Bool, true, false, not, ◌&&◌, ◌||◌, cond}
 use Rattle.std.proofs.Common.{is_some, ◌⊎◌, inl, inr, List, [], ◌∷◌, ◌++◌, Option, Some, None}
 use Rattle.std.proofs.Common.{Result, Ok, Err, length, filter, map, flat_map, option_map, refl, sym}
 use Rattle.std.proofs.Common.{ap, ap₂, ◌∙◌, subst, true≢false, arith, bytes_eq, is_ok}
@@ -22,7 +22,7 @@ use Rattle.slo_objects.specs.AlertPolicy.{policy_in}
 use Rattle.slo_catalog.specs.declared.fault.CatalogLimit.{CatalogLimit}
 use Rattle.slo_catalog.specs.declared.needs_op.NeedsOp.{NeedsOp}
 use Rattle.slo_catalog.specs.declared.bindings.Binding.{Binding}
-use Rattle.slo_catalog.specs.Keys.{kind_rank, is_key, find_in}
+use Rattle.slo_catalog.specs.Keys.{is_kind, is_key, find_in}
 use Rattle.slo_catalog.specs.Catalog.{without}
 use Rattle.slo_catalog.specs.References.{names_in, is_built_in, first_given}
 use Rattle.slo_catalog.specs.NeedsOp.{sli_named, gives_values, lacks_op, lacking_in, needing_op}
@@ -34,7 +34,8 @@ use Rattle.slo_catalog.specs.Limits.{first_limit}
 use Rattle.slo_catalog.specs.Whole.{HaveOps}
 use Rattle.slo_catalog.proofs.AmongLemmas.{Among, all_weaker}
 use Rattle.slo_catalog.proofs.PutLemmas.{in_without}
-use Rattle.slo_catalog.proofs.LegalLemmas.{key_parts, there_found, or_none}
+use Rattle.slo_catalog.proofs.KeyLemmas.{key_parts}
+use Rattle.slo_catalog.proofs.LegalLemmas.{there_found, or_none}
 
 -- A REMOVAL FINDS NO OTHER OBJECT
 
@@ -55,7 +56,8 @@ removed_itself os kind name k n same = none_there (find_in (without kind name os
     let kept = (in_without kind name there.0 os there.1.0).1 in
     true≢false (sym (sym (ap not (same there.0 there.1.1)) ∙ kept)))
 
-kept_apart : (os : List Object) (kind : Kind) (name : List ℕ) (k : Kind) (n : List ℕ)
+-- where no object of the one kind and name is of the other, it is found as before
+pub kept_apart : (os : List Object) (kind : Kind) (name : List ℕ) (k : Kind) (n : List ℕ)
     → ((o : Object) → is_key kind name o ≡ true → is_key k n o ≡ false)
     → find_in (without kind name os) k n ≡ find_in os k n
 kept_apart [] kind name k n apart = refl
@@ -70,20 +72,20 @@ kept_apart (o ∷ os) kind name k n apart =
 
 -- the test whether an object has a key says of all objects of one key the same
 moved : (kind : Kind) (name : List ℕ) (k : Kind) (n : List ℕ) (o : Object) → is_key k n o ≡ true
-    → is_key kind name o ≡ ((kind_rank k == kind_rank kind) && bytes_eq n name)
+    → is_key kind name o ≡ (is_kind k kind && bytes_eq n name)
 moved kind name k n o h = let parts = key_parts k n o h in
-    ap₂ (λ r t. (r == kind_rank kind) && bytes_eq t name) parts.0 parts.1
+    ap₂ (λ l t. is_kind l kind && bytes_eq t name) parts.0 parts.1
 
 found_without : (os : List Object) (kind : Kind) (name : List ℕ) (k : Kind) (n : List ℕ)
     → Found os kind name k n
-found_without os kind name k n = by ((kind_rank k == kind_rank kind) && bytes_eq n name) refl
+found_without os kind name k n = by (is_kind k kind && bytes_eq n name) refl
   where
-    apart : ((kind_rank k == kind_rank kind) && bytes_eq n name) ≡ false → (o : Object)
+    apart : (is_kind k kind && bytes_eq n name) ≡ false → (o : Object)
         → is_key kind name o ≡ true → (b : Bool) → is_key k n o ≡ b → b ≡ false
     apart e o h true f = absurd (true≢false (sym h ∙ moved kind name k n o f ∙ e))
     apart e o h false f = refl
 
-    by : (b : Bool) → ((kind_rank k == kind_rank kind) && bytes_eq n name) ≡ b
+    by : (b : Bool) → (is_kind k kind && bytes_eq n name) ≡ b
         → (find_in (without kind name os) k n ≡ None)
         ⊎ (find_in (without kind name os) k n ≡ find_in os k n)
     by true e = inl (removed_itself os kind name k n (λ o h. moved kind name k n o h ∙ e))
@@ -265,9 +267,9 @@ limits_without os kind name =
     (less (λ o. not (is_key kind name o)) written_bytes os)
     (under _ (count_of_kind kinds.Sli os)
     (count_of_kind kinds.Sli (without kind name os)) _ _ _ (less (λ o. not (is_key kind name o))
-    (λ o. cond (kind_rank o.kind == kind_rank kinds.Sli) 1 0) os)
+    (λ o. cond (is_kind o.kind kinds.Sli) 1 0) os)
     (under _ (count_of_kind kinds.Slo os)
     (count_of_kind kinds.Slo (without kind name os)) _ _ _ (less (λ o. not (is_key kind name o))
-    (λ o. cond (kind_rank o.kind == kind_rank kinds.Slo) 1 0) os)
+    (λ o. cond (is_kind o.kind kinds.Slo) 1 0) os)
     (under _ (length (bindings os)) (length (bindings (without kind name os))) _ _ _
     (bindings_without os kind name) (λ e. e)))))

@@ -1,12 +1,12 @@
 -- The catalog of a history of definitions and removals.
-use Rattle.std.specs.Prelude.{◌≡◌, ℕ, Bool, false, not, ◌&&◌, ◌==◌, ◌↔◌, cond, List, [], ◌∷◌, ◌++◌}
+use Rattle.std.specs.Prelude.{◌≡◌, ℕ, Bool, false, not, ◌&&◌, ◌↔◌, cond, List, [], ◌∷◌, ◌++◌}
 use Rattle.std.specs.Prelude.{filter}
 use Rattle.std.specs.Str.{bytes_eq}
 use Rattle.std.specs.List.{AllByRecursion, Contains}
 use Rattle.std.specs.Ordering.{match_ordering}
 use Rattle.slo_objects.specs.declared.kind.Kind.{Kind}
 use Rattle.slo_objects.specs.declared.object.Object.{Object}
-use Rattle.slo_catalog.specs.Keys.{kind_rank, is_key, object_cmp, IsSorted}
+use Rattle.slo_catalog.specs.Keys.{is_kind, is_key, object_cmp, IsSorted}
 
 -- what changes a catalog: an object is defined, or what has that kind and name is removed
 pub data Event : Type 0 where
@@ -16,7 +16,7 @@ pub data Event : Type 0 where
 -- whether an event is about that kind and name
 abbrev pub is_about : Kind → List ℕ → Event → Bool
 is_about kind name (Defined o) = is_key kind name o
-is_about kind name (Removed k n) = (kind_rank kind == kind_rank k) && bytes_eq name n
+is_about kind name (Removed k n) = is_kind kind k && bytes_eq name n
 
 -- An object is a member after events where one of them defines it, and no later one is about its
 -- kind and name.

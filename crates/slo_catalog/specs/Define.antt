@@ -1,5 +1,5 @@
 -- What a text's objects make of a catalog, or why they are refused.
-use Rattle.std.specs.Prelude.{◌≡◌, ℕ, Bool, false, not, cond, ◌&&◌, ◌==◌, List, [], ◌∷◌, ◌++◌}
+use Rattle.std.specs.Prelude.{◌≡◌, ℕ, Bool, false, not, cond, ◌&&◌, List, [], ◌∷◌, ◌++◌}
 use Rattle.std.specs.Prelude.{Option, Some, None, Result, Ok, Err, find}
 use Rattle.std.specs.List.{list_all, list_any}
 use Rattle.std.specs.Str.{bytes_eq}
@@ -13,7 +13,7 @@ use Rattle.slo_catalog.specs.declared.fault.DefineError.{DefineError}
 use Rattle.slo_catalog.specs.declared.fault.DefineError.TheVariants as errors
 use Rattle.slo_catalog.specs.declared.reference.Reference.{Reference}
 use Rattle.slo_catalog.specs.declared.needs_op.NeedsOp.{NeedsOp}
-use Rattle.slo_catalog.specs.Keys.{kind_rank, is_key, find_in}
+use Rattle.slo_catalog.specs.Keys.{is_kind, is_key, find_in}
 use Rattle.slo_catalog.specs.Catalog.{put_all}
 use Rattle.slo_catalog.specs.References.{is_built_in, first_unresolved}
 use Rattle.slo_catalog.specs.NeedsOp.{first_needing_op}
@@ -48,7 +48,7 @@ first_differing earlier (o ∷ os) =
 
 -- an alert policy with the name of one that is always there
 abbrev pub is_reserved : Object → Bool
-is_reserved o = (kind_rank o.kind == kind_rank kinds.AlertPolicy) && is_built_in o.name
+is_reserved o = is_kind o.kind kinds.AlertPolicy && is_built_in o.name
 
 abbrev pub first_reserved : List Object → Option Object
 first_reserved objects = find is_reserved objects

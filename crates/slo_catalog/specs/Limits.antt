@@ -1,5 +1,5 @@
 -- How much a catalog holds.
-use Rattle.std.specs.Prelude.{ℕ, ◌+◌, nat_lt, unwrap_or, cond, ◌==◌, List, length, Option, Some}
+use Rattle.std.specs.Prelude.{ℕ, ◌+◌, nat_lt, unwrap_or, cond, List, length, Option, Some}
 use Rattle.std.specs.Prelude.{None, sum_by, count_by}
 use Rattle.slo_objects.specs.yaml_subset.Room.{up_to}
 use Rattle.slo_objects.specs.yaml_subset.Spelling.{writing}
@@ -11,7 +11,7 @@ use Rattle.slo_catalog.specs.declared.fault.CatalogLimit.{CatalogLimit}
 use Rattle.slo_catalog.specs.declared.fault.CatalogLimit.TheVariants as limits
 use Rattle.slo_limits.specs.declared.TheConstants.{MAX_OBJECTS, MAX_CATALOG_BYTES, MAX_SLIS}
 use Rattle.slo_limits.specs.declared.TheConstants.{MAX_SLOS, MAX_BINDINGS}
-use Rattle.slo_catalog.specs.Keys.{kind_rank}
+use Rattle.slo_catalog.specs.Keys.{is_kind}
 use Rattle.slo_catalog.specs.Bindings.{bindings}
 
 -- how many bytes an object's canonical writing has
@@ -33,7 +33,7 @@ catalog_bytes members = sum_by written_bytes members
 
 -- how many members are of that kind
 abbrev pub count_of_kind : Kind → List Object → ℕ
-count_of_kind kind members = count_by (λ o. kind_rank o.kind == kind_rank kind) members
+count_of_kind kind members = count_by (λ o. is_kind o.kind kind) members
 
 -- a count above its limit, or what comes of the limits behind it
 abbrev pub else_within : ℕ → ℕ → CatalogLimit → Option CatalogLimit → Option CatalogLimit

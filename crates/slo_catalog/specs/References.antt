@@ -1,6 +1,6 @@
 -- What objects refer to (OpenSLO v1: `metricSourceRef`, `service`, `indicatorRef`,
 -- `alertPolicyRef`, `conditionRef`, `targetRef`).
-use Rattle.std.specs.Prelude.{◌≡◌, ℕ, Bool, true, ◌&&◌, ◌||◌, ◌==◌, not, is_some, codes, List, []}
+use Rattle.std.specs.Prelude.{◌≡◌, ℕ, Bool, true, ◌&&◌, ◌||◌, not, is_some, codes, List, []}
 use Rattle.std.specs.Prelude.{◌∷◌, ◌++◌, Option, None, map, find, flat_map, filter_map, unwrap_or}
 use Rattle.std.specs.Option.{option_or}
 use Rattle.std.specs.List.{list_any, AllByRecursion}
@@ -19,7 +19,7 @@ use Rattle.slo_objects.specs.declared.sli.Ratio.{Ratio}
 use Rattle.slo_objects.specs.declared.sli.Ratio.TheVariants as ratios
 use Rattle.slo_objects.specs.Sli.{source_of}
 use Rattle.slo_catalog.specs.declared.reference.Reference.{Reference}
-use Rattle.slo_catalog.specs.Keys.{kind_rank, find_in}
+use Rattle.slo_catalog.specs.Keys.{is_kind, find_in}
 
 -- the names of an omitted list are none
 abbrev pub names_in : Option (List (List ℕ)) → List (List ℕ)
@@ -81,7 +81,7 @@ is_built_in name = bytes_eq name page || bytes_eq name ticket
 -- A reference names a member. One to an alert policy, which stands in an SLO's `alertPolicies`
 -- alone, may name a built-in policy.
 abbrev pub is_built_in_policy : Reference → Bool
-is_built_in_policy r = (kind_rank r.kind == kind_rank kinds.AlertPolicy) && is_built_in r.name
+is_built_in_policy r = is_kind r.kind kinds.AlertPolicy && is_built_in r.name
 
 abbrev pub is_resolved : List Object → Reference → Bool
 is_resolved members r = is_some (find_in members r.kind r.name) || is_built_in_policy r
@@ -101,7 +101,7 @@ first_unresolved members objects = first_given (unresolved_of members) objects
 
 -- whether a reference is to that kind and name, and whether an object has one
 abbrev pub is_to : Kind → List ℕ → Reference → Bool
-is_to kind name r = (kind_rank r.kind == kind_rank kind) && bytes_eq r.name name
+is_to kind name r = is_kind r.kind kind && bytes_eq r.name name
 
 abbrev pub refers_to : Kind → List ℕ → Object → Bool
 refers_to kind name o = list_any (is_to kind name) (references o)

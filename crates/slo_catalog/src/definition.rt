@@ -11,7 +11,6 @@ ghost use Rattle.slo_catalog.specs.Define.{first_reserved as first_reserved_lem}
 use crate::catalog::Catalog;
 use crate::duplicate::first_duplicate;
 use crate::fault::{CatalogFault, DefineError};
-use crate::key::kind_rank;
 use crate::member::{Member, members_of};
 use crate::members::Members;
 use crate::needs_op::first_needing_op;
@@ -25,7 +24,7 @@ use std::alloc::Global;
 fn is_reserved(object: &Object) -> bool
     ensures { result ≡ is_reserved_lem object.now }
 {
-    kind_rank(object.kind) == kind_rank(Kind::AlertPolicy) && is_built_in(&object.name)
+    object.kind == Kind::AlertPolicy && is_built_in(&object.name)
 }
 
 fn first_reserved(objects: &[Member]) -> Option<&Object>

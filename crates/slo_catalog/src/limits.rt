@@ -5,7 +5,6 @@ ghost use Rattle.slo_catalog.specs.Limits.{first_limit as first_limit_lem};
 
 use crate::bindings::bindings_of;
 use crate::fault::CatalogLimit;
-use crate::key::kind_rank;
 use crate::member::Member;
 use crate::members::Members;
 use slo_limits::{MAX_BINDINGS, MAX_CATALOG_BYTES, MAX_OBJECTS, MAX_SLIS, MAX_SLOS};
@@ -26,7 +25,7 @@ fn count_of_kind(kind: Kind, members: &[Member]) -> usize
 {
     let mut count = 0;
     for member in members {
-        if kind_rank(member.object().kind) == kind_rank(kind) {
+        if member.object().kind == kind {
             count += 1;
         }
     }

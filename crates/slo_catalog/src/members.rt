@@ -6,7 +6,7 @@ ghost use Rattle.slo_catalog.specs.Keys.{IsSorted, find_in, key_cmp};
 ghost use Rattle.slo_catalog.specs.Limits.{total_weight};
 ghost use Rattle.slo_catalog.specs.Places.{StandsAt, BelongsAt};
 
-use crate::key::{is_key, kind_rank};
+use crate::key::is_key;
 use crate::member::Member;
 use crate::member_list::MemberList;
 use exact_fraction::Label;
@@ -41,9 +41,7 @@ impl Model for Members {
 fn compare(object: &Object, kind: Kind, name: Label) -> Ordering
     ensures { result ≡ key_cmp object.now.kind object.now.name kind name }
 {
-    kind_rank(object.kind)
-        .cmp(&kind_rank(kind))
-        .then(object.name.cmp(&name))
+    object.kind.cmp(&kind).then(object.name.cmp(&name))
 }
 
 /// Where among sorted members the one of that kind and name stands, or else where it belongs.

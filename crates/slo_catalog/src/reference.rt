@@ -16,7 +16,6 @@ ghost use Rattle.slo_catalog.specs.References.{first_unresolved as first_unresol
 ghost use Rattle.slo_catalog.specs.References.{is_to as is_to_lem, refers_to as refers_to_lem};
 ghost use Rattle.slo_catalog.specs.References.{first_referrer as first_referrer_lem, IsLegal};
 
-use crate::key::kind_rank;
 use crate::member::Member;
 use crate::members::Members;
 use exact_fraction::Label;
@@ -185,7 +184,7 @@ pub(crate) fn references(alloc: Global, object: &Object) -> Result<Vec<Reference
 fn is_built_in_policy(reference: &Reference) -> bool
     ensures { result ≡ is_built_in_policy_lem reference.now }
 {
-    kind_rank(reference.kind) == kind_rank(Kind::AlertPolicy) && is_built_in(&reference.name)
+    reference.kind == Kind::AlertPolicy && is_built_in(&reference.name)
 }
 
 /// Whether a reference names a member, or a policy that is always there.
@@ -239,7 +238,7 @@ pub(crate) fn first_unresolved(
 fn is_to(kind: Kind, name: &Label, reference: &Reference) -> bool
     ensures { result ≡ is_to_lem kind name.now reference.now }
 {
-    kind_rank(reference.kind) == kind_rank(kind) && reference.name.as_bytes() == name.as_bytes()
+    reference.kind == kind && reference.name.as_bytes() == name.as_bytes()
 }
 
 fn some_is_to(kind: Kind, name: &Label, references: &[Reference]) -> bool

@@ -1,18 +1,17 @@
 -- What is known of the objectives of a catalog, one SLO after another.
-use Rattle.std.proofs.Common.{◌≡◌, ℕ, ◌==◌, ◌&&◌, Bool, true, false, cond, List, [], ◌∷◌}
-use Rattle.std.proofs.Common.{map, filter, bytes_eq, Option, Some, None, refl, sym}
+use Rattle.std.proofs.Common.{◌≡◌, ℕ, Bool, true, false, cond, List, [], ◌∷◌}
+use Rattle.std.proofs.Common.{map, filter, Option, Some, None, refl, sym, ap}
 use Rattle.std.proofs.Common.{subst, arith}
 use Rattle.std.specs.List.{All, AllByRecursion, Contains}
 use Rattle.std.specs.Prelude.{option_and_then, slice_get}
 use Rattle.std.proofs.lemmas.List.Elements.{recursion_from_All, All-from_recursion}
 use Rattle.std.proofs.lemmas.List.Elements.{Contains-append_right}
-use Rattle.std.proofs.lemmas.Slice.Eq.{bytes_eq-Decides}
 use Rattle.sample_book.specs.declared.Row.{Row}
-use Rattle.slo_objects.specs.declared.kind.Kind.{Kind}
 use Rattle.slo_objects.specs.declared.kind.Kind.TheVariants as kinds
 use Rattle.slo_objects.specs.declared.Object.{Object}
 use Rattle.slo_objects.specs.Slo.{slo_in}
-use Rattle.slo_catalog.specs.Keys.{find_in, is_key, kind_rank}
+use Rattle.slo_catalog.specs.Keys.{find_in, is_key}
+use Rattle.slo_catalog.proofs.KeyLemmas.{key_parts}
 use Rattle.catalog_measures.specs.Names.{is_slo, slo_names}
 use Rattle.kept_objectives.specs.kept_sums.Sums.{Fits}
 use Rattle.kept_objectives.specs.Objectives.{IsObjective}
@@ -25,20 +24,6 @@ use Rattle.office_derived.proofs.FormLemmas.{all_fit}
 use Rattle.sums_plan.specs.Wanted.{objectives_in}
 
 -- NAMES
-
-both : (a b : Bool) → a && b ≡ true → (a ≡ true) × (b ≡ true)
-both true true h = (refl, refl)
-both true false h = cc h
-both false b h = cc h
-
-slo_kind : (k : Kind) → (kind_rank k == kind_rank kinds.Slo) ≡ true → is_slo k ≡ true
-slo_kind kinds.Slo e = refl
-slo_kind kinds.Sli e = cc e
-slo_kind kinds.DataSource e = cc e
-slo_kind kinds.Service e = cc e
-slo_kind kinds.AlertPolicy e = cc e
-slo_kind kinds.AlertCondition e = cc e
-slo_kind kinds.AlertNotificationTarget e = cc e
 
 here : (xs : List (List ℕ)) (x : List ℕ) → Contains (x ∷ xs) x
 here xs x = (0, omega arith, refl)
@@ -73,8 +58,8 @@ slo_among (p ∷ ps) name o e =
         (find_in ps kinds.Slo name ≡ Some o → Contains (slo_names ps) name) →
         Contains (slo_names (p ∷ ps)) name
     by true key e more =
-        let k = both (kind_rank p.kind == kind_rank kinds.Slo) (bytes_eq p.name name) key in
-        first (is_slo p.kind) (slo_kind p.kind k.0) ((bytes_eq-Decides p.name name).0 k.1)
+        let parts = key_parts kinds.Slo name p key in
+        first (is_slo p.kind) (ap is_slo parts.0) parts.1
     by false key e more = rest (is_slo p.kind) (more e)
 
 -- OBJECTIVES
