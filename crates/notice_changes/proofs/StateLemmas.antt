@@ -1,35 +1,17 @@
 -- The states of bindings, each of which has but one.
-use Rattle.std.proofs.Common.{◌≡◌, ◌∙◌, ◌==◌, ◌&&◌, ℕ, zero, suc, Bool, true, false, cond, refl, ap}
-use Rattle.std.proofs.Common.{sym, List, [], ◌∷◌, map, Option, Some, None, option_map, slice_get}
-use Rattle.std.proofs.Common.{unwrap_or, ◌+◌, ◌<◌, ◌++◌, drop, filter, length}
+use Rattle.std.proofs.Common.{◌≡◌, ◌∙◌, ℕ, zero, suc, Bool, true, false, cond, refl, ap, sym}
+use Rattle.std.proofs.Common.{List, [], ◌∷◌, map, Option, Some, option_map, slice_get, unwrap_or}
+use Rattle.std.proofs.Common.{◌+◌, ◌<◌, ◌++◌, drop, filter, length}
 use Rattle.std.proofs.Math.ListN.{get_or}
 use Rattle.std.proofs.lemmas.List.{append_assoc, drop_more}
 use Rattle.std.specs.List.{AllByRecursion, find}
-use Rattle.std.specs.Str.{bytes_eq}
-use Rattle.std.proofs.lemmas.Bool.{eqb-true}
-use Rattle.std.proofs.lemmas.Slice.Eq.{bytes_eq-Decides}
 use Rattle.burn_core.specs.declared.State.{State}
 use Rattle.burn_core.specs.declared.State.TheVariants.{Quiet}
 use Rattle.slo_catalog.specs.declared.Binding.{Binding}
 use Rattle.office_history.specs.Alerts.{same_binding}
 use Rattle.office_history.specs.Notices.{state_among}
+use Rattle.watched_objectives.proofs.WatchLemmas.{one_binding}
 use Rattle.notice_changes.specs.States.{AreByBinding}
-
-both : (a b : Bool) → a && b ≡ true → (a ≡ true) × (b ≡ true)
-both true true h = (refl, refl)
-both true false h = cc h
-both false b h = cc h
-
-one_binding : (a b : Binding) → same_binding a b ≡ true → a ≡ b
-one_binding a b h =
-    let slo = both (bytes_eq a.slo b.slo)
-    (a.objective == b.objective && bytes_eq a.policy b.policy) h in
-    let rest = both (a.objective == b.objective) (bytes_eq a.policy b.policy) slo.1 in
-    λ i. record {
-      slo = (bytes_eq-Decides a.slo b.slo).0 slo.0 i;
-      objective = eqb-true a.objective b.objective rest.0 i;
-      policy = (bytes_eq-Decides a.policy b.policy).0 rest.1 i;
-    }
 
 -- the first of them, where the test of it gives this
 first : (s : Binding × State) (rest : List (Binding × State)) (b : Binding) (t : Bool)
