@@ -12,10 +12,10 @@ use Rattle.zone_calendar.specs.Zone.{ZoneText}
 use Rattle.sample_book.specs.History as book
 use Rattle.slo_objects.specs.declared.kind.Kind.{Kind}
 use Rattle.slo_objects.specs.declared.Object.{Object}
-use Rattle.slo_catalog.specs.Catalog.{put_all, without}
-use Rattle.slo_catalog.specs.Keys.{find_in}
+use Rattle.slo_catalog.specs.Catalog.{with_members, without}
+use Rattle.slo_catalog.specs.Keys.{member_of}
 use Rattle.slo_catalog.specs.References.{first_referrer}
-use Rattle.slo_catalog.specs.Remove.{removed, unless_used, where_found}
+use Rattle.slo_catalog.specs.Remove.{remaining_members, unless_used, where_found}
 use Rattle.slo_catalog.specs.declared.RemoveFault.{RemoveFault}
 use Rattle.zone_calendar.specs.ZoneBytes.{zone_of}
 use Rattle.definition_verdict.specs.declared.Definition.{Definition}
@@ -104,7 +104,7 @@ pub text_found : (d : Derived) (o : Office) (moment : ℕ) (text : List ℕ) →
 text_found d o moment text r (works.Define copy catalog applied plan) h = (
   ap Define h.0,
   (
-    h.1 ∙ (λ i. put_all (text_objects (sym h.0 i)) (r.catalog i))
+    h.1 ∙ (λ i. with_members (text_objects (sym h.0 i)) (r.catalog i))
         ∙ sym (events_put (text_objects copy) (catalog_in o.history))
         ∙ sym (catalog_more o.history (entry_of moment (works.Define copy catalog applied plan))),
     h.2 ∙ ap (λ (t : List ℕ). length (text_objects t)) (sym h.0),
@@ -171,7 +171,7 @@ text_judged known entries text made j h e =
 
 pub text_put : {E : Type 0} (known : Known) (text : List ℕ) (r : Result Definition E)
     → IfOk r (λ made. IsDefinition known text made)
-    → IfOk r (λ made. made.catalog ≡ put_all (text_objects text) known.members)
+    → IfOk r (λ made. made.catalog ≡ with_members (text_objects text) known.members)
 text_put known text (Ok made) h = (made_of_text known text made h).put
 text_put known text (Err e) h = tt
 
@@ -231,7 +231,7 @@ pub accepted_removal : (members : List Object) (rows : List Row) (entries : ℕ)
     (name : List ℕ) → Accepted ≡ remove_verdict members rows entries kind name →
     IsAcceptedRemoval rows entries kind name
 accepted_removal members rows entries kind name e =
-    by (removed members kind name) (first_row_of rows kind name) refl e
+    by (remaining_members members kind name) (first_row_of rows kind name) refl e
   where
     by : (r : Result (List Object) RemoveFault) (o : Option Row) → first_row_of rows kind name ≡ o →
         Accepted ≡ unless_removal r (unless_sampled o (accepted entries)) →
@@ -359,10 +359,10 @@ define_sound law d o m text catalog applied plan sums s n keeps =
     let r = n.reflects in
     let a = accepted_text (known_of o) (length o.history) text Accepted n.accepted refl in
     let made = made_of_text (known_of o) text a.made a.is in
-    let is : catalog ≡ put_all (text_objects text) d.catalog =
+    let is : catalog ≡ with_members (text_objects text) d.catalog =
     n.found.0 ∙ catalog_more o.history (entry_of m (works.Define text catalog applied plan))
     ∙ events_put (text_objects text) (catalog_in o.history)
-    ∙ ap (put_all (text_objects text)) (sym r.catalog) in
+    ∙ ap (with_members (text_objects text)) (sym r.catalog) in
     let anew : first_read_anew d.catalog d.book.rows (text_objects text) ≡ None =
     (λ i. first_read_anew (r.catalog i) (r.rows i) (text_objects text)) ∙ made.same_readings in
     let read : All (IsRead catalog) d.book.rows =
@@ -395,9 +395,9 @@ removal_read d kind name s none =
     (λ sli. sym (ap (λ (k : Kind). first_row_of d.book.rows k name) sli) ∙ none)
 
 what_is_left : (old catalog : List Object) (kind : Kind) (name : List ℕ) →
-    removed old kind name ≡ Ok catalog → without kind name old ≡ catalog
+    remaining_members old kind name ≡ Ok catalog → without kind name old ≡ catalog
 what_is_left old catalog kind name e =
-    by (find_in old kind name) (first_referrer old kind name) e
+    by (member_of old kind name) (first_referrer old kind name) e
   where
     by : (found user : Option Object) →
         where_found found (unless_used user (without kind name old)) ≡ Ok catalog →
@@ -414,7 +414,7 @@ no_first_row (Some row) otherwise e = cc e
 -- each row is read as before by the catalog of a removal that is accepted
 pub left_read : (d : Derived) (kind : Kind) (name : List ℕ) (catalog : List Object)
     (j : Judgement) →
-    IsSound d → removed d.catalog kind name ≡ Ok catalog →
+    IsSound d → remaining_members d.catalog kind name ≡ Ok catalog →
     j ≡ unless_sampled (first_row_of d.book.rows kind name) (accepted d.entries) → j ≡ Accepted →
     All (IsRead catalog) d.book.rows
 left_read d kind name catalog j s left verdict is =

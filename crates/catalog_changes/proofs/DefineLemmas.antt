@@ -10,7 +10,7 @@ use Rattle.slo_objects.specs.declared.Object.{Object}
 use Rattle.slo_objects.specs.declared.ObjectFault.{ObjectFault}
 use Rattle.slo_objects.specs.Document.{objects_of}
 use Rattle.slo_catalog.specs.declared.CatalogFault.{CatalogFault}
-use Rattle.slo_catalog.specs.Catalog.{Defined, put, put_all}
+use Rattle.slo_catalog.specs.Catalog.{Defined, with_member, with_members}
 use Rattle.slo_catalog.specs.References.{first_unresolved}
 use Rattle.slo_catalog.specs.NeedsOp.{first_needing_op}
 use Rattle.slo_catalog.specs.Limits.{first_limit}
@@ -67,9 +67,9 @@ few_starts true rest members e = cc e
 few_starts false rest members e = e
 
 proposed_members : (old objects members : List Object) → catalog.proposed old objects ≡ Ok members
-    → members ≡ put_all objects old
+    → members ≡ with_members objects old
 proposed_members old objects members e =
-    let all : List Object = put_all objects old in
+    let all : List Object = with_members objects old in
     let a =
     no_fault catalog.reserved (catalog.first_reserved objects) (catalog.unless catalog.duplicate
     (catalog.first_duplicate objects) (catalog.judged all objects)) members e in
@@ -83,7 +83,7 @@ proposed_members old objects members e =
 
 -- what is known of objects that are defined
 pub record AreDefined (known : Known) (objects members : List Object) : Type 0 where
-  pub put : members ≡ put_all objects known.members
+  pub put : members ≡ with_members objects known.members
   pub same_readings : first_read_anew known.members known.rows objects ≡ None
 
 pub defined_objects : (known : Known) (objects members : List Object)
@@ -106,13 +106,13 @@ defined_objects known objects members e = by (catalog.proposed known.members obj
         let whole = few_starts (one_begins_too_often known.horizon new) (Ok new) members limits.1 in
         let same : new ≡ members = cc whole in
         record {
-          put = sym same ∙ proposed_members known.members objects new f;
+          with_member = sym same ∙ proposed_members known.members objects new f;
           same_readings = samples.0;
         }
 
 -- what is known of a text that is defined
 pub record IsMade (known : Known) (text : List ℕ) (made : Definition) : Type 0 where
-  pub put : made.catalog ≡ put_all (text_objects text) known.members
+  pub put : made.catalog ≡ with_members (text_objects text) known.members
   pub counted : made.objects ≡ length (text_objects text)
   pub same_readings : first_read_anew known.members known.rows (text_objects text) ≡ None
 
@@ -133,7 +133,7 @@ made_of_text known text made is =
     let all = all_of_text text is.nodes is.all is.stands is.read in
     let d = defined_objects known is.all made.catalog is.defined in
     record {
-      put = d.put ∙ ap (λ objects. put_all objects known.members) all;
+      with_member = d.put ∙ ap (λ objects. with_members objects known.members) all;
       counted = is.of_objects ∙ ap length all;
       same_readings = ap (first_read_anew known.members known.rows) (sym all) ∙ d.same_readings;
     }
@@ -147,6 +147,6 @@ kinds_of_text law known text made is =
 
 -- the events of a definition put its objects in their places
 pub events_put : (objects members : List Object)
-    → fold members_after members (map Defined objects) ≡ put_all objects members
+    → fold members_after members (map Defined objects) ≡ with_members objects members
 events_put [] members = refl
-events_put (o ∷ os) members = events_put os (put o members)
+events_put (o ∷ os) members = events_put os (with_member o members)

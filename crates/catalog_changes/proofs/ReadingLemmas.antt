@@ -19,8 +19,8 @@ use Rattle.slo_objects.specs.declared.Body.TheVariants as bodies
 use Rattle.slo_objects.specs.declared.Object.{Object}
 use Rattle.slo_objects.specs.declared.Sli.{Sli}
 use Rattle.slo_objects.specs.Sli.{sli_in}
-use Rattle.slo_catalog.specs.Keys.{is_key, find_in}
-use Rattle.slo_catalog.specs.Catalog.{put, put_all, without}
+use Rattle.slo_catalog.specs.Keys.{is_key, member_of}
+use Rattle.slo_catalog.specs.Catalog.{with_member, with_members, without}
 use Rattle.slo_catalog.specs.NeedsOp.{sli_named}
 use Rattle.definition_verdict.specs.Readings.{reading_of, same_reading, is_other_reading}
 use Rattle.definition_verdict.specs.Readings.{row_read_anew, first_read_anew}
@@ -91,13 +91,13 @@ put_reading : (known : List Object) (rows : List Row) (sli : List ℕ) (row : Ro
     (r : Reading) (o : Object) (os : List Object) → first_of rows sli ≡ Some row →
     reading_named known sli ≡ Some r →
     HasKind o → row_read_anew known rows o.name (sli_in o.body) ≡ None →
-    reading_named os sli ≡ Some r → reading_named (put o os) sli ≡ Some r
+    reading_named os sli ≡ Some r → reading_named (with_member o os) sli ≡ Some r
 unfolding reading_found
 put_reading known rows sli row r o os first reading body anew before =
     ap reading_found (find_put o os kinds.Sli sli) ∙ by (is_key kinds.Sli sli o) refl
   where
     by : (b : Bool) → is_key kinds.Sli sli o ≡ b
-        → reading_found (cond b (Some o) (find_in os kinds.Sli sli)) ≡ Some r
+        → reading_found (cond b (Some o) (member_of os kinds.Sli sli)) ≡ Some r
     by true e = new_reading known rows sli row r o first reading body anew e
     by false e = before
 
@@ -109,12 +109,12 @@ neither (Some x) b h = cc h
 put_readings : (known : List Object) (rows : List Row) (sli : List ℕ) (row : Row) (r : Reading)
     (objects os : List Object) → first_of rows sli ≡ Some row → reading_named known sli ≡ Some r →
     AllByRecursion HasKind objects → first_read_anew known rows objects ≡ None →
-    reading_named os sli ≡ Some r → reading_named (put_all objects os) sli ≡ Some r
+    reading_named os sli ≡ Some r → reading_named (with_members objects os) sli ≡ Some r
 put_readings known rows sli row r [] os first reading bodies anew before = before
 put_readings known rows sli row r (o ∷ rest) os first reading bodies anew before =
     let n = neither (row_read_anew known rows o.name (sli_in o.body))
     (first_read_anew known rows rest) anew in
-    put_readings known rows sli row r rest (put o os) first reading bodies.1 n.1
+    put_readings known rows sli row r rest (with_member o os) first reading bodies.1 n.1
     (put_reading known rows sli row r o os first reading bodies.0 n.0 before)
 
 -- an indicator that has a row has a first one
@@ -157,9 +157,9 @@ still_read old new rows read keeps k d below =
 pub define_read : (old : List Object) (rows : List Row) (objects : List Object) →
     All (IsRead old) rows →
     AllByRecursion HasKind objects → first_read_anew old rows objects ≡ None →
-    All (IsRead (put_all objects old)) rows
+    All (IsRead (with_members objects old)) rows
 define_read old rows objects read bodies anew =
-    still_read old (put_all objects old) rows read (λ sli r first reading.
+    still_read old (with_members objects old) rows read (λ sli r first reading.
     put_readings old rows sli first.row r objects old first.is reading bodies anew reading)
 
 apart_keys : (kind : Kind) (name sli : List ℕ) → (kind ≡ kinds.Sli → name ≡ sli → ⊥) → (o : Object)

@@ -3,7 +3,7 @@ use Rattle.std.specs.Prelude.{◌≡◌, ℕ, List, length, map, Some}
 use Rattle.definition_verdict.specs.Verdict.{Known, known}
 use Rattle.slo_objects.specs.declared.kind.Kind.{Kind}
 use Rattle.slo_objects.specs.declared.Object.{Object}
-use Rattle.slo_catalog.specs.Catalog.{put_all, without}
+use Rattle.slo_catalog.specs.Catalog.{with_members, without}
 use Rattle.zone_calendar.specs.ZoneBytes.{zone_of}
 use Rattle.kept_objectives.specs.declared.SumsPlan.{SumsPlan}
 use Rattle.kept_objectives.specs.Plans.{IsPlan}
@@ -35,7 +35,7 @@ IsPlanOver d catalog plan = IsPlan d.catalog catalog d.book.exclusions d.book.ro
 -- the work of a text: its objects, each put in its place among the members, with a plan of the sums
 abbrev pub IsTextWork : Derived → List ℕ → Work → Type 0
 IsTextWork d text (works.Define copy catalog applied plan) =
-    (copy ≡ text) × (catalog ≡ put_all (text_objects text) d.catalog)
+    (copy ≡ text) × (catalog ≡ with_members (text_objects text) d.catalog)
     × (applied ≡ length (text_objects text)) × IsPlanOver d catalog plan
 IsTextWork d text _ = ⊥
 

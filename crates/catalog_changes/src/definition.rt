@@ -4,7 +4,7 @@ ghost use Rattle.std.specs.List.{All};
 ghost use Rattle.record_form.specs.declared.Command.TheVariants.{Define};
 ghost use Rattle.record_form.specs.declared.Refusal.{Refusal};
 ghost use Rattle.definition_verdict.specs.Verdict.{IsDefinition, IsRefused};
-ghost use Rattle.slo_catalog.specs.Catalog.{put_all};
+ghost use Rattle.slo_catalog.specs.Catalog.{with_members};
 ghost use Rattle.office_history.specs.Catalog.{text_objects};
 ghost use Rattle.office_history.specs.History.{Office, with_entry};
 ghost use Rattle.office_history.specs.Judges.{JudgesText, defined_verdict};
@@ -37,7 +37,7 @@ fn definition_over(
     requires { IsSound derived.now }
     ensures defined { IfOk result (λ made. IsDefinition (known_by derived.now) text.now made) }
     ensures catalog { IfOk result
-        (λ made. made.catalog ≡ put_all (text_objects text.now) derived.now.catalog) }
+        (λ made. made.catalog ≡ with_members (text_objects text.now) derived.now.catalog) }
     ensures objects { IfOk result (λ made. made.objects ≡ length (text_objects text.now)) }
     ensures few { IfOk result (λ made. made.objects < 2 ^ 32) }
     ensures read { IfOk result (λ made. All (IsRead made.catalog) derived.now.book.rows) }

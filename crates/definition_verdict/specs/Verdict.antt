@@ -5,7 +5,7 @@ use Rattle.yaml_subset.specs.Tree.{Tree}
 use Rattle.yaml_subset.specs.Text.{StandsFor}
 use Rattle.record_form.specs.sample_book.declared.Row.{Row}
 use Rattle.slo_objects.specs.declared.Object.{Object}
-use Rattle.slo_catalog.specs.Define.{is_unchanged, proposed}
+use Rattle.slo_catalog.specs.Define.{is_unchanged, proposed_members}
 use Rattle.slo_catalog.specs.Limits.{first_limit}
 use Rattle.slo_catalog.specs.declared.CatalogFault.{CatalogFault}
 use Rattle.slo_catalog.specs.declared.CatalogFault.TheVariants as faults
@@ -88,7 +88,7 @@ judged_by known objects (Ok members) =
 -- zone, an indicator with samples that would be read otherwise, and the limits of objects, bytes,
 -- SLIs, SLOs, bindings and starts.
 abbrev pub defined_over : Known → List Object → Result (List Object) Refusal
-defined_over known objects = judged_by known objects (proposed known.members objects)
+defined_over known objects = judged_by known objects (proposed_members known.members objects)
 
 abbrev pub then_defined : Known → Result (List Object) Refusal → Result (List Object) Refusal
 then_defined known (Ok objects) = defined_over known objects

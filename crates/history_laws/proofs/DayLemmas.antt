@@ -14,7 +14,7 @@ use Rattle.sample_book.specs.Rows.{current_rows}
 use Rattle.slo_objects.specs.declared.kind.Kind.{Kind}
 use Rattle.slo_objects.specs.declared.Object.{Object}
 use Rattle.slo_objects.specs.Slo.{slo_in}
-use Rattle.slo_catalog.specs.Catalog.{put_all, without}
+use Rattle.slo_catalog.specs.Catalog.{with_members, without}
 use Rattle.slo_catalog.specs.Keys.{is_key}
 use Rattle.record_form.specs.declared.Command.{Command}
 use Rattle.record_form.specs.declared.Command.TheVariants.{Define, Remove, PutZone, Samples}
@@ -72,7 +72,7 @@ last_within None None None None days rest e = by (nat_lt most.MAX_DAYS days) ref
 
 text_days : (known : Known) (entries : ℕ) (text : List ℕ) (j : Judgement) →
     JudgesText known entries text j → j ≡ Accepted →
-    objective_days (put_all (text_objects text) known.members) known.rows ≤ most.MAX_DAYS
+    objective_days (with_members (text_objects text) known.members) known.rows ≤ most.MAX_DAYS
 text_days known entries text _ (refused h) e = cc e
 text_days known entries text _ (defined {made = made} h) e =
     subst (λ (members : List Object). objective_days members known.rows ≤ most.MAX_DAYS)
@@ -126,7 +126,7 @@ days_after : (origin : ℕ) (h : List Entry) (m : ℕ) (c : Command) →
 days_after origin h m (Define text) few v =
     subst (λ (members : List Object). objective_days members (current_rows (rows_in h ++ []))
     ≤ most.MAX_DAYS) (sym (events_put (text_objects text) (catalog_in h)))
-    (same_days (put_all (text_objects text) (catalog_in h)) (rows_in h)
+    (same_days (with_members (text_objects text) (catalog_in h)) (rows_in h)
     (text_days (known_of (office origin h)) (length h) text Accepted v refl))
 days_after origin h m (Remove kind name) few v =
     same_days (without kind name (catalog_in h)) (rows_in h)

@@ -15,7 +15,7 @@ use Rattle.slo_objects.specs.declared.kind.Kind.{Kind}
 use Rattle.slo_objects.specs.declared.Object.{Object}
 use Rattle.slo_objects.specs.declared.Sli.{Sli}
 use Rattle.slo_objects.specs.Sli.{sli_in}
-use Rattle.slo_catalog.specs.Catalog.{put_all, without}
+use Rattle.slo_catalog.specs.Catalog.{with_members, without}
 use Rattle.slo_catalog.specs.NeedsOp.{sli_named}
 use Rattle.record_form.specs.declared.Command.{Command}
 use Rattle.record_form.specs.declared.Command.TheVariants.{Define, Remove, PutZone, Samples}
@@ -135,8 +135,8 @@ read_after law origin h m (Define text) read v =
     (kinds_of_text law known text a.made a.is) anew in
     subst (λ (members : List Object). AreRead members (rows_in h ++ []))
     (sym (events_put objects (catalog_in h)))
-    (same_read (put_all objects (catalog_in h)) (rows_in h)
-    (recursion_from_All (IsRead (put_all objects (catalog_in h))) (rows_in h) new))
+    (same_read (with_members objects (catalog_in h)) (rows_in h)
+    (recursion_from_All (IsRead (with_members objects (catalog_in h))) (rows_in h) new))
 read_after law origin h m (Remove kind name) read v =
     let a = accepted_removal (catalog_in h) (current_in h) (length h) kind name v in
     let old = All-from_recursion (IsRead (catalog_in h)) (rows_in h) read in

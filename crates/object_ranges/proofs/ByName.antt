@@ -28,7 +28,7 @@ use Rattle.slo_objects.specs.declared.SliceWidth.{SliceWidth}
 use Rattle.slo_objects.specs.Document.{IsOfDocument}
 use Rattle.slo_objects.specs.Slo.{slo_in}
 use Rattle.slo_catalog.specs.Bindings.{policy_named}
-use Rattle.slo_catalog.specs.Keys.{is_key, find_in}
+use Rattle.slo_catalog.specs.Keys.{is_key, member_of}
 use Rattle.slo_catalog.specs.References.{page, ticket}
 use Rattle.window_sums.specs.Slices.{width_of}
 use Rattle.office_history.specs.declared.Measure.{Measure}
@@ -44,22 +44,22 @@ use Rattle.document_ranges.proofs.Documents.{ReadsBack, slos}
 -- OBJECTS BY THEIR NAMES
 
 found_of : (P : Object → Type 0) (os : List Object) (kind : Kind) (name : List ℕ) (p : Object)
-    → find_in os kind name ≡ Some p → AllByRecursion P os → P p
+    → member_of os kind name ≡ Some p → AllByRecursion P os → P p
 found_of P [] kind name p e all = absurd (let f : ⊥ = cc e in f)
 found_of P (o ∷ os) kind name p e all =
     by (is_key kind name o) e (λ f. found_of P os kind name p f all.1)
   where
-    by : (b : Bool) → cond b (Some o) (find_in os kind name) ≡ Some p
-        → (find_in os kind name ≡ Some p → P p) → P p
+    by : (b : Bool) → cond b (Some o) (member_of os kind name) ≡ Some p
+        → (member_of os kind name ≡ Some p → P p) → P p
     by true f rest = subst P (let same : o ≡ p = cc f in same) all.0
     by false f rest = rest f
 
 named_of : {A : Type 0} (Q : A → Type 0) (part : Body → Option A)
     → ((o : Object) (a : A) → IsOfDocument o → part o.body ≡ Some a → Q a)
     → (members : List Object) (kind : Kind) (name : List ℕ) (a : A) → All IsOfDocument members
-    → option_and_then (λ o. part o.body) (find_in members kind name) ≡ Some a → Q a
+    → option_and_then (λ o. part o.body) (member_of members kind name) ≡ Some a → Q a
 named_of Q part law members kind name a all e =
-    option_and_then_some (λ o. part o.body) (find_in members kind name) a e
+    option_and_then_some (λ o. part o.body) (member_of members kind name) a e
     (λ o found told. law o a (found_of IsOfDocument members kind name o found
     (recursion_from_All IsOfDocument members all)) told)
 

@@ -22,7 +22,7 @@ use Rattle.definition_verdict.specs.slo_objects.declared.AlertPolicy.{AlertPolic
 use Rattle.definition_verdict.specs.slo_objects.AlertCondition.{condition_in}
 use Rattle.definition_verdict.specs.slo_catalog.declared.Binding.{Binding}
 use Rattle.definition_verdict.specs.slo_catalog.Bindings.{bindings, policy_named}
-use Rattle.definition_verdict.specs.slo_catalog.Keys.{find_in}
+use Rattle.definition_verdict.specs.slo_catalog.Keys.{member_of}
 use Rattle.definition_verdict.specs.slo_catalog.References.{names_in, page, ticket}
 use Rattle.window_sums.specs.Slices.{width_of}
 use Rattle.office_history.specs.declared.measure.Measure.{Measure}
@@ -37,7 +37,7 @@ rule_of c = Single (unwrap_or c.op Gte) c.threshold.rate (minutes_of c.lookback_
 
 abbrev pub condition_named : List Object → List ℕ → Option AlertCondition
 condition_named members name =
-    option_and_then (λ o. condition_in o.body) (find_in members kinds.AlertCondition name)
+    option_and_then (λ o. condition_in o.body) (member_of members kinds.AlertCondition name)
 
 abbrev pub first_condition : List Object → AlertPolicy → Option AlertCondition
 first_condition members policy =

@@ -9,7 +9,7 @@ use Rattle.definition_verdict.specs.yaml_subset.Spelling.{writing}
 use Rattle.definition_verdict.specs.slo_objects.Document.{written}
 use Rattle.definition_verdict.specs.slo_objects.declared.Object.{Object}
 use Rattle.definition_verdict.specs.slo_objects.declared.Slo.{Slo}
-use Rattle.definition_verdict.specs.slo_catalog.Keys.{find_in}
+use Rattle.definition_verdict.specs.slo_catalog.Keys.{member_of}
 use Rattle.burn_core.specs.Timeline.{AreSpansOf}
 use Rattle.definition_verdict.specs.notice_box.declared.Notice.{Notice}
 use Rattle.definition_verdict.specs.record_form.declared.BudgetRow.{BudgetRow}
@@ -123,7 +123,7 @@ Answers o moment queries.Objects outcome =
     outcome ≡ ObjectList (length o.history)
     (map (λ (object : Object). (object.kind, object.name)) (catalog_in o.history))
 Answers o moment (queries.Object kind name) outcome =
-    outcome ≡ object_answer (find_in (catalog_in o.history) kind name)
+    outcome ≡ object_answer (member_of (catalog_in o.history) kind name)
 Answers o moment (queries.Budgets slo at) outcome =
     AnswersBudgets o moment slo (asked_at moment at) (slo_named (catalog_in o.history) slo) outcome
 Answers o moment (queries.Burn slo objective lookback at) outcome =

@@ -7,7 +7,7 @@ use Rattle.definition_verdict.specs.yaml_subset.Text.{nodes_of, without_mark}
 use Rattle.definition_verdict.specs.slo_objects.Document.{objects_of}
 use Rattle.definition_verdict.specs.slo_objects.declared.Object.{Object}
 use Rattle.definition_verdict.specs.slo_objects.declared.ObjectFault.{ObjectFault}
-use Rattle.definition_verdict.specs.slo_catalog.Catalog.{Event, Defined, Removed, put, without}
+use Rattle.definition_verdict.specs.slo_catalog.Catalog.{Change, Defined, Removed, with_member, without}
 use Rattle.definition_verdict.specs.record_form.declared.Command.{Command}
 use Rattle.definition_verdict.specs.record_form.declared.Command.TheVariants.{Define, Remove}
 use Rattle.definition_verdict.specs.record_form.declared.Entry.{Entry}
@@ -24,18 +24,18 @@ objects_in (Some documents) = flat_map (λ document. or_none (objects_of documen
 unfoldable pub text_objects : List ℕ → List Object
 text_objects text = objects_in (nodes_of (lines (without_mark text)))
 
-abbrev pub definitions_of : Command → List Event
+abbrev pub definitions_of : Command → List Change
 definitions_of (Define text) = map Defined (text_objects text)
 definitions_of (Remove kind name) = Removed kind name ∷ []
 definitions_of _ = []
 
 -- the definitions and removals of objects, in order
-abbrev pub definitions_in : List Entry → List Event
+abbrev pub definitions_in : List Entry → List Change
 definitions_in history = flat_map (λ (e : Entry). definitions_of e.command) history
 
 -- a definition puts its object in the place of its kind and name, a removal takes it away
-abbrev pub members_after : List Object → Event → List Object
-members_after members (Defined o) = put o members
+abbrev pub members_after : List Object → Change → List Object
+members_after members (Defined o) = with_member o members
 members_after members (Removed kind name) = without kind name members
 
 -- the objects of the catalog, sorted by kind and name

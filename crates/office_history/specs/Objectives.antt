@@ -15,7 +15,7 @@ use Rattle.definition_verdict.specs.slo_objects.declared.slo.BudgetingMethod.{Bu
 use Rattle.definition_verdict.specs.slo_objects.declared.slo.BudgetingMethod.TheVariants as ways
 use Rattle.definition_verdict.specs.slo_objects.declared.slo.Objective.{Objective}
 use Rattle.definition_verdict.specs.slo_objects.Slo.{slo_in}
-use Rattle.definition_verdict.specs.slo_catalog.Keys.{find_in}
+use Rattle.definition_verdict.specs.slo_catalog.Keys.{member_of}
 use Rattle.definition_verdict.specs.slo_catalog.NeedsOp.{sli_named}
 use Rattle.definition_verdict.specs.Readings.{reading_of}
 use Rattle.office_history.specs.declared.measure.Measure.{Measure}
@@ -55,7 +55,7 @@ measure_of name slo reading objective = record {
 
 -- the SLO of a name, where it is there
 abbrev pub slo_named : List Object → List ℕ → Option Slo
-slo_named members name = option_and_then (λ o. slo_in o.body) (find_in members kinds.Slo name)
+slo_named members name = option_and_then (λ o. slo_in o.body) (member_of members kinds.Slo name)
 
 abbrev pub measures_with : List ℕ → Slo → Option Reading → List Measure
 measures_with name slo None = []

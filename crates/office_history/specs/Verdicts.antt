@@ -18,7 +18,7 @@ use Rattle.definition_verdict.specs.slo_objects.declared.kind.Kind.TheVariants a
 use Rattle.definition_verdict.specs.slo_objects.declared.Object.{Object}
 use Rattle.definition_verdict.specs.slo_catalog.declared.RemoveFault.{RemoveFault}
 use Rattle.definition_verdict.specs.slo_catalog.declared.RemoveFault.TheVariants as removal
-use Rattle.definition_verdict.specs.slo_catalog.Remove.{removed}
+use Rattle.definition_verdict.specs.slo_catalog.Remove.{remaining_members}
 use Rattle.definition_verdict.specs.zone_calendar.ZoneBytes.{zone_of}
 use Rattle.definition_verdict.specs.notice_box.declared.Notice.{Notice}
 use Rattle.definition_verdict.specs.record_form.declared.Outcome.TheVariants.{Changed}
@@ -85,7 +85,7 @@ unless_removal (Err fault) otherwise = Refused (removal_fault fault)
 
 abbrev pub remove_verdict : List Object → List Row → ℕ → Kind → List ℕ → Judgement
 remove_verdict members rows entries kind name =
-    unless_removal (removed members kind name)
+    unless_removal (remaining_members members kind name)
     (unless_sampled (first_row_of rows kind name) (accepted entries))
 
 -- PutZone: bytes that are a zone, under a name that has no other bytes

@@ -16,8 +16,8 @@ use Rattle.sample_book.specs.Puts.{verdicts}
 use Rattle.slo_objects.specs.declared.Object.{Object}
 use Rattle.slo_objects.specs.declared.Slo.{Slo}
 use Rattle.slo_catalog.specs.declared.RemoveFault.{RemoveFault}
-use Rattle.slo_catalog.specs.Keys.{find_in}
-use Rattle.slo_catalog.specs.Remove.{removed}
+use Rattle.slo_catalog.specs.Keys.{member_of}
+use Rattle.slo_catalog.specs.Remove.{remaining_members}
 use Rattle.definition_verdict.specs.Verdict.{Known}
 use Rattle.record_form.specs.declared.Command.{Command}
 use Rattle.record_form.specs.declared.Command.TheVariants.{Define, Remove, PutZone, Samples}
@@ -149,7 +149,7 @@ judges_so o moment (Define text) j is = by_text (known_of o) (length o.history) 
 judges_so o moment (Remove kind name) j is =
     let rows = current_in o.history in
     ap judged_so is
-    ∙ by_removal (removed (catalog_in o.history) kind name)
+    ∙ by_removal (remaining_members (catalog_in o.history) kind name)
     (unless_sampled (first_row_of rows kind name) (accepted (length o.history)))
     (by_sample (first_row_of rows kind name) (accepted (length o.history))
     (by_accepted (length o.history)))
@@ -278,7 +278,7 @@ answers_so : (o : Office) (moment : ℕ) (query : Query) (outcome : Outcome) →
     Answers o moment query outcome → blames outcome ≡ false
 answers_so o moment queries.Objects outcome is = ap blames is
 answers_so o moment (queries.Object kind name) outcome is =
-    ap blames is ∙ by_object (find_in (catalog_in o.history) kind name)
+    ap blames is ∙ by_object (member_of (catalog_in o.history) kind name)
 answers_so o moment (queries.Budgets slo at) outcome is =
     by_budgets o moment slo (asked_at moment at) (slo_named (catalog_in o.history) slo) outcome is
 answers_so o moment (queries.Burn slo objective lookback at) outcome is =

@@ -11,8 +11,8 @@ use Rattle.slo_objects.specs.yaml_subset.Spelling.{writing}
 use Rattle.slo_objects.specs.declared.kind.Kind.{Kind}
 use Rattle.slo_objects.specs.declared.object.Object.{Object}
 use Rattle.slo_objects.specs.Document.{written}
-use Rattle.slo_catalog.specs.Keys.{is_key, find_in}
-use Rattle.slo_catalog.specs.Catalog.{put}
+use Rattle.slo_catalog.specs.Keys.{is_key, member_of}
+use Rattle.slo_catalog.specs.Catalog.{with_member}
 use Rattle.slo_catalog.specs.Define.{is_same, is_other_than, first_other, first_duplicate, differs}
 use Rattle.slo_catalog.specs.Define.{first_differing}
 use Rattle.slo_catalog.proofs.AmongLemmas.{Among, all_among}
@@ -40,12 +40,12 @@ Agree os = (kind : Kind) (name : List ℕ) (p q : Object) → Among os p → Amo
 
 -- among members there is none of that kind and name, and none was earlier
 abbrev NoneFound : List Object → List Object → Kind → List ℕ → Type 0
-NoneFound members earlier kind name = (find_in members kind name ≡ None)
+NoneFound members earlier kind name = (member_of members kind name ≡ None)
     × AllByRecursion (λ p. is_key kind name p ≡ false) earlier
 
 -- among members there is an earlier one of that kind and name
 abbrev OneFound : List Object → List Object → Kind → List ℕ → Type 0
-OneFound members earlier kind name = (p : Object) × (find_in members kind name ≡ Some p)
+OneFound members earlier kind name = (p : Object) × (member_of members kind name ≡ Some p)
     × Among earlier p × (is_key kind name p ≡ true)
 
 abbrev Found : List Object → List Object → Kind → List ℕ → Type 0
@@ -58,26 +58,26 @@ found (o ∷ os) kind name = by (is_key kind name o) refl (found os kind name)
   where
     by : (b : Bool) → is_key kind name o ≡ b → Found os os kind name
         → Found (o ∷ os) (o ∷ os) kind name
-    by true e more = inr (o, ap (λ b. cond b (Some o) (find_in os kind name)) e, inl refl, e)
-    by false e (inl n) = inl (ap (λ b. cond b (Some o) (find_in os kind name)) e ∙ n.0, (e, n.1))
+    by true e more = inr (o, ap (λ b. cond b (Some o) (member_of os kind name)) e, inl refl, e)
+    by false e (inl n) = inl (ap (λ b. cond b (Some o) (member_of os kind name)) e ∙ n.0, (e, n.1))
     by false e (inr f) =
-        inr (f.0, ap (λ b. cond b (Some o) (find_in os kind name)) e ∙ f.1, inr f.2, f.3)
+        inr (f.0, ap (λ b. cond b (Some o) (member_of os kind name)) e ∙ f.1, inr f.2, f.3)
 
 find_rest : (kind : Kind) (name : List ℕ) (xs ys : List Object)
     → AllByRecursion (λ p. is_key kind name p ≡ false) xs
-    → find_in (xs ++ ys) kind name ≡ find_in ys kind name
+    → member_of (xs ++ ys) kind name ≡ member_of ys kind name
 find_rest kind name [] ys h = refl
-find_rest kind name (x ∷ xs) ys h = ap (λ b. cond b (Some x) (find_in (xs ++ ys) kind name)) h.0
+find_rest kind name (x ∷ xs) ys h = ap (λ b. cond b (Some x) (member_of (xs ++ ys) kind name)) h.0
     ∙ find_rest kind name xs ys h.1
 
 find_front : (kind : Kind) (name : List ℕ) (xs ys : List Object) (p : Object)
-    → find_in xs kind name ≡ Some p → find_in (xs ++ ys) kind name ≡ Some p
+    → member_of xs kind name ≡ Some p → member_of (xs ++ ys) kind name ≡ Some p
 find_front kind name [] ys p h = absurd (true≢false (sym (ap is_some h)))
 find_front kind name (x ∷ xs) ys p h = by (is_key kind name x) (find_front kind name xs ys p) h
   where
-    by : (b : Bool) → (find_in xs kind name ≡ Some p → find_in (xs ++ ys) kind name ≡ Some p)
-        → cond b (Some x) (find_in xs kind name) ≡ Some p
-        → cond b (Some x) (find_in (xs ++ ys) kind name) ≡ Some p
+    by : (b : Bool) → (member_of xs kind name ≡ Some p → member_of (xs ++ ys) kind name ≡ Some p)
+        → cond b (Some x) (member_of xs kind name) ≡ Some p
+        → cond b (Some x) (member_of (xs ++ ys) kind name) ≡ Some p
     by true again k = k
     by false again k = again k
 
@@ -129,14 +129,14 @@ one_differs earlier o p agree k h = by (not (is_same p o)) refl
 
 -- an object is another than the first of its kind and name where it is another than an earlier one
 other_now : (earlier os : List Object) (o : Object) → Agree earlier
-    → is_other_than (find_in (earlier ++ o ∷ os) o.kind o.name) o ≡ differs earlier o
+    → is_other_than (member_of (earlier ++ o ∷ os) o.kind o.name) o ≡ differs earlier o
 other_now earlier os o agree = by (found earlier o.kind o.name)
   where
     by : Found earlier earlier o.kind o.name
-        → is_other_than (find_in (earlier ++ o ∷ os) o.kind o.name) o ≡ differs earlier o
+        → is_other_than (member_of (earlier ++ o ∷ os) o.kind o.name) o ≡ differs earlier o
     by (inl n) =
         ap (λ f. is_other_than f o) (find_rest o.kind o.name earlier (o ∷ os) n.1
-        ∙ ap (λ b. cond b (Some o) (find_in os o.kind o.name)) (key_itself o))
+        ∙ ap (λ b. cond b (Some o) (member_of os o.kind o.name)) (key_itself o))
         ∙ (ap not (same_itself o) ∙ sym (none_differs o earlier n.1))
     by (inr f) =
         ap (λ g. is_other_than g o) (find_front o.kind o.name earlier (o ∷ os) f.0 f.1)
@@ -200,7 +200,7 @@ found_first earlier (o ∷ os) agree =
     refl (λ h. ap (λ all. first_other all os) (sym (append_assoc earlier (o ∷ []) os))
     ∙ found_first (earlier ++ o ∷ []) os (agree_more earlier o agree h))
   where
-    by : (b : Bool) → is_other_than (find_in (earlier ++ o ∷ os) o.kind o.name) o ≡ b
+    by : (b : Bool) → is_other_than (member_of (earlier ++ o ∷ os) o.kind o.name) o ≡ b
         → differs earlier o ≡ b
         → (differs earlier o ≡ false
         → first_other (earlier ++ o ∷ os) os ≡ first_differing (earlier ++ o ∷ []) os)
@@ -233,16 +233,16 @@ all_more P [] o h k = (k, tt)
 all_more P (x ∷ xs) o h k = (h.0, all_more P xs o h.1 k)
 
 holds_more : (members earlier : List Object) (o : Object) → Holds members earlier
-    → Holds (put o members) (earlier ++ o ∷ [])
+    → Holds (with_member o members) (earlier ++ o ∷ [])
 holds_more members earlier o holds kind name = by (is_key kind name o) refl (holds kind name)
   where
     put_found : (b : Bool) → is_key kind name o ≡ b
-        → find_in (put o members) kind name ≡ cond b (Some o) (find_in members kind name)
+        → member_of (with_member o members) kind name ≡ cond b (Some o) (member_of members kind name)
     put_found b e = find_put o members kind name
-        ∙ ap (λ b. cond b (Some o) (find_in members kind name)) e
+        ∙ ap (λ b. cond b (Some o) (member_of members kind name)) e
 
     by : (b : Bool) → is_key kind name o ≡ b → Found members earlier kind name
-        → Found (put o members) (earlier ++ o ∷ []) kind name
+        → Found (with_member o members) (earlier ++ o ∷ []) kind name
     by true e h = inr (o, put_found true e, last_among earlier o, e)
     by false e (inl n) = inl (
       put_found false e ∙ n.0,
@@ -253,7 +253,7 @@ holds_more members earlier o holds kind name = by (is_key kind name o) refl (hol
 
 other_by : (members earlier : List Object) (o : Object) → Agree earlier
     → Found members earlier o.kind o.name
-    → is_other_than (find_in members o.kind o.name) o ≡ differs earlier o
+    → is_other_than (member_of members o.kind o.name) o ≡ differs earlier o
 other_by members earlier o agree (inl n) =
     ap (λ f. is_other_than f o) n.0 ∙ sym (none_differs o earlier n.1)
 other_by members earlier o agree (inr f) =
@@ -263,25 +263,25 @@ other_by members earlier o agree (inr f) =
 -- is put that isn't
 abbrev pub first_against : List Object → List Object → Option Object
 first_against members [] = None
-first_against members (o ∷ os) = cond (is_other_than (find_in members o.kind o.name) o) (Some o)
-    (first_against (put o members) os)
+first_against members (o ∷ os) = cond (is_other_than (member_of members o.kind o.name) o) (Some o)
+    (first_against (with_member o members) os)
 
 found_against : (members earlier os : List Object) → Agree earlier → Holds members earlier
     → first_against members os ≡ first_differing earlier os
 found_against members earlier [] agree holds = refl
 found_against members earlier (o ∷ os) agree holds =
     by (differs earlier o) (other_by members earlier o agree (holds o.kind o.name))
-    refl (λ h. found_against (put o members) (earlier ++ o ∷ []) os (agree_more earlier o agree h)
+    refl (λ h. found_against (with_member o members) (earlier ++ o ∷ []) os (agree_more earlier o agree h)
     (holds_more members earlier o holds))
   where
-    by : (b : Bool) → is_other_than (find_in members o.kind o.name) o ≡ b
+    by : (b : Bool) → is_other_than (member_of members o.kind o.name) o ≡ b
         → differs earlier o ≡ b
         → (differs earlier o ≡ false
-        → first_against (put o members) os ≡ first_differing (earlier ++ o ∷ []) os)
+        → first_against (with_member o members) os ≡ first_differing (earlier ++ o ∷ []) os)
         → first_against members (o ∷ os)
         ≡ cond b (Some o) (first_differing (earlier ++ o ∷ []) os)
-    by true e f again = ap (λ b. cond b (Some o) (first_against (put o members) os)) e
-    by false e f again = ap (λ b. cond b (Some o) (first_against (put o members) os)) e ∙ again f
+    by true e f again = ap (λ b. cond b (Some o) (first_against (with_member o members) os)) e
+    by false e f again = ap (λ b. cond b (Some o) (first_against (with_member o members) os)) e ∙ again f
 
 first_by_earlier : (objects : List Object) → first_against [] objects ≡ first_duplicate objects
 first_by_earlier objects =
@@ -291,13 +291,13 @@ first_by_earlier objects =
 -- the object at a place is the first duplicate where those ahead of it are none and it is another
 -- than the one of its kind and name among them
 pub stops_at : (members objects : List Object) (i : ℕ) (o : Object) → i < length objects
-    → o ≡ get_or objects i o → is_other_than (find_in members o.kind o.name) o ≡ true
+    → o ≡ get_or objects i o → is_other_than (member_of members o.kind o.name) o ≡ true
     → first_against members (drop i objects) ≡ first_against [] objects
     → Some o ≡ first_duplicate objects
 stops_at members objects i o below is other so_far =
     sym (ap (first_against members)
     (drop_more objects i o below ∙ ap (λ x. x ∷ drop (i + 1) objects) (sym is))
-    ∙ ap (λ b. cond b (Some o) (first_against (put o members) (drop (i + 1) objects))) other)
+    ∙ ap (λ b. cond b (Some o) (first_against (with_member o members) (drop (i + 1) objects))) other)
     ∙ so_far ∙ first_by_earlier objects
 
 -- there is none where none was found up to the end

@@ -11,8 +11,8 @@ use Rattle.std.proofs.Common.{Bor}
 use Rattle.slo_catalog.proofs.KeyLemmas.{key_parts, same_key, equal_same}
 use Rattle.slo_objects.specs.declared.kind.Kind.{Kind}
 use Rattle.slo_objects.specs.declared.object.Object.{Object}
-use Rattle.slo_catalog.specs.Keys.{is_kind, is_key, object_cmp, find_in}
-use Rattle.slo_catalog.specs.Catalog.{put}
+use Rattle.slo_catalog.specs.Keys.{is_kind, is_key, object_cmp, member_of}
+use Rattle.slo_catalog.specs.Catalog.{with_member}
 use Rattle.std.proofs.lemmas.Slice.Eq.{bytes_eq-Decides}
 use Rattle.slo_objects.specs.yaml_subset.Spelling.{writing}
 use Rattle.slo_objects.specs.Document.{written}
@@ -46,35 +46,35 @@ both_keys o p kind name h k = let parts = key_parts kind name p k in
 
 -- the object that was put is found under its own kind and name, and the others as before
 pub find_put : (o : Object) (os : List Object) (kind : Kind) (name : List ℕ)
-    → find_in (put o os) kind name ≡ cond (is_key kind name o) (Some o) (find_in os kind name)
+    → member_of (with_member o os) kind name ≡ cond (is_key kind name o) (Some o) (member_of os kind name)
 find_put o [] kind name = refl
 find_put o (p ∷ ps) kind name = by (object_cmp o p) refl (find_put o ps kind name)
   where
     by : (r : Ordering) → object_cmp o p ≡ r
-        → find_in (put o ps) kind name ≡ cond (is_key kind name o) (Some o) (find_in ps kind name)
-        → find_in (match_ordering r (o ∷ p ∷ ps) (o ∷ ps) (p ∷ put o ps)) kind name
-        ≡ cond (is_key kind name o) (Some o) (find_in (p ∷ ps) kind name)
+        → member_of (with_member o ps) kind name ≡ cond (is_key kind name o) (Some o) (member_of ps kind name)
+        → member_of (match_ordering r (o ∷ p ∷ ps) (o ∷ ps) (p ∷ with_member o ps)) kind name
+        ≡ cond (is_key kind name o) (Some o) (member_of (p ∷ ps) kind name)
     by Less e again = refl
     by Equal e again = once (is_key kind name o) (is_key kind name p) (Some o) (Some p)
-        (find_in ps kind name) (alike o p kind name e)
+        (member_of ps kind name) (alike o p kind name e)
     by Greater e again =
         ap (λ r. cond (is_key kind name p) (Some p) r) again
-        ∙ swap (is_key kind name o) (is_key kind name p) (Some o) (Some p) (find_in ps kind name)
+        ∙ swap (is_key kind name o) (is_key kind name p) (Some o) (Some p) (member_of ps kind name)
         (λ h k. absurd (true≢false (sym (both_keys o p kind name h k) ∙ ap is_eq e)))
 
 find_true_by : (P : Object → Type 0) (os : List Object) (kind : Kind) (name : List ℕ)
-    → AllByRecursion P os → IfSome (find_in os kind name) P
+    → AllByRecursion P os → IfSome (member_of os kind name) P
 find_true_by P [] kind name h = tt
 find_true_by P (o ∷ os) kind name h = by (is_key kind name o) (find_true_by P os kind name h.1)
   where
-    by : (b : Bool) → IfSome (find_in os kind name) P
-        → IfSome (cond b (Some o) (find_in os kind name)) P
+    by : (b : Bool) → IfSome (member_of os kind name) P
+        → IfSome (cond b (Some o) (member_of os kind name)) P
     by true more = h.0
     by false more = more
 
 -- what is true of all of them is true of the one that is found
 pub find_true : (P : Object → Type 0) (os : List Object) (kind : Kind) (name : List ℕ) → All P os
-    → IfSome (find_in os kind name) P
+    → IfSome (member_of os kind name) P
 find_true P os kind name h = find_true_by P os kind name (recursion_from_All P os h)
 
 seen : (P : Object → Type 0) (r : Option (Bor Object)) → IfSome (option_copied r) P
@@ -84,7 +84,7 @@ seen P (Some o) h = h
 
 -- and so of the reference to it
 pub find_seen : (P : Object → Type 0) (os : List Object) (kind : Kind)
-    (name : List ℕ) (r : Option (Bor Object)) → option_copied r ≡ find_in os kind name → All P os
+    (name : List ℕ) (r : Option (Bor Object)) → option_copied r ≡ member_of os kind name → All P os
     → IfSome r (λ o. P o.now)
 find_seen P os kind name r h all =
     seen P r (subst (λ o. IfSome o P) (sym h) (find_true P os kind name all))

@@ -6,29 +6,29 @@ use Rattle.std.specs.List.{AllByRecursion, Contains}
 use Rattle.slo_objects.specs.declared.kind.Kind.{Kind}
 use Rattle.slo_objects.specs.declared.object.Object.{Object}
 use Rattle.slo_catalog.specs.Keys.{is_key, IsSorted}
-use Rattle.slo_catalog.specs.Catalog.{Event, Defined, Removed, is_about, IsMember, IsCatalog, put}
-use Rattle.slo_catalog.specs.Catalog.{put_all, without}
+use Rattle.slo_catalog.specs.Catalog.{Change, Defined, Removed, is_about, IsMember, IsCatalog, with_member}
+use Rattle.slo_catalog.specs.Catalog.{with_members, without}
 use Rattle.slo_catalog.proofs.AmongLemmas.{Among, among_of, contains_of}
 use Rattle.slo_catalog.proofs.PutLemmas.{put_sorted, in_put, put_there, put_keeps, without_sorted}
 use Rattle.slo_catalog.proofs.PutLemmas.{in_without, without_keeps}
 
-abbrev NoneAbout : Object → List Event → Type 0
+abbrev NoneAbout : Object → List Change → Type 0
 NoneAbout o es = AllByRecursion (λ e. is_about o.kind o.name e ≡ false) es
 
 -- some event defines the object, and none behind it is about it
-abbrev Lasts : Object → List Event → Type 0
+abbrev Lasts : Object → List Change → Type 0
 Lasts o [] = ⊥
 Lasts o (e ∷ es) = ((e ≡ Defined o) × NoneAbout o es) ⊎ Lasts o es
 
-lasts_at : (o : Object) (before later : List Event) → NoneAbout o later
+lasts_at : (o : Object) (before later : List Change) → NoneAbout o later
     → Lasts o (before ++ Defined o ∷ later)
 lasts_at o [] later h = inl (refl, h)
 lasts_at o (e ∷ before) later h = inr (lasts_at o before later h)
 
-lasts_of : (o : Object) (es : List Event) → IsMember es o → Lasts o es
+lasts_of : (o : Object) (es : List Change) → IsMember es o → Lasts o es
 lasts_of o es m = subst (λ es. Lasts o es) (sym m.defined) (lasts_at o m.before m.later m.last)
 
-member_of : (o : Object) (es : List Event) → Lasts o es → IsMember es o
+member_of : (o : Object) (es : List Change) → Lasts o es → IsMember es o
 member_of o [] h = absurd h
 member_of o (e ∷ es) (inl h) = record {
   before = [];
@@ -45,20 +45,20 @@ member_of o (e ∷ es) (inr h) =
       last = m.last;
     }
 
-none_push : (o : Object) (es : List Event) (e : Event) → NoneAbout o es
+none_push : (o : Object) (es : List Change) (e : Change) → NoneAbout o es
     → is_about o.kind o.name e ≡ false → NoneAbout o (es ++ e ∷ [])
 none_push o [] e h k = (k, tt)
 none_push o (d ∷ es) e h k = (h.0, none_push o es e h.1 k)
 
-none_pop : (o : Object) (es : List Event) (e : Event) → NoneAbout o (es ++ e ∷ [])
+none_pop : (o : Object) (es : List Change) (e : Change) → NoneAbout o (es ++ e ∷ [])
     → NoneAbout o es × (is_about o.kind o.name e ≡ false)
 none_pop o [] e h = (tt, h.0)
 none_pop o (d ∷ es) e h = let n = none_pop o es e h.1 in ((h.0, n.0), n.1)
 
-abbrev Pushed : Object → List Event → Event → Type 0
+abbrev Pushed : Object → List Change → Change → Type 0
 Pushed o es e = (e ≡ Defined o) ⊎ (Lasts o es × (is_about o.kind o.name e ≡ false))
 
-lasts_pop : (o : Object) (es : List Event) (e : Event) → Lasts o (es ++ e ∷ []) → Pushed o es e
+lasts_pop : (o : Object) (es : List Change) (e : Change) → Lasts o (es ++ e ∷ []) → Pushed o es e
 lasts_pop o [] e (inl h) = inl h.0
 lasts_pop o [] e (inr h) = absurd h
 lasts_pop o (d ∷ es) e (inl h) = let n = none_pop o es e h.1 in inr (inl (h.0, n.0), n.1)
@@ -68,25 +68,25 @@ lasts_pop o (d ∷ es) e (inr h) = by (lasts_pop o es e h)
     by (inl k) = inl k
     by (inr k) = inr (inr k.0, k.1)
 
-lasts_now : (o : Object) (es : List Event) → Lasts o (es ++ Defined o ∷ [])
+lasts_now : (o : Object) (es : List Change) → Lasts o (es ++ Defined o ∷ [])
 lasts_now o es = lasts_at o es [] tt
 
-lasts_still : (o : Object) (es : List Event) (e : Event) → Lasts o es
+lasts_still : (o : Object) (es : List Change) (e : Change) → Lasts o es
     → is_about o.kind o.name e ≡ false → Lasts o (es ++ e ∷ [])
 lasts_still o [] e h k = absurd h
 lasts_still o (d ∷ es) e (inl h) k = inl (h.0, none_push o es e h.1 k)
 lasts_still o (d ∷ es) e (inr h) k = inr (lasts_still o es e h k)
 
-abbrev defined_of : Event → Object → Object
+abbrev defined_of : Change → Object → Object
 defined_of (Defined o) p = o
 defined_of (Removed k n) p = p
 
-pub defined_kept : (es : List Event) (os : List Object) (o : Object) → IsCatalog es os
-    → IsCatalog (es ++ Defined o ∷ []) (put o os)
+pub defined_kept : (es : List Change) (os : List Object) (o : Object) → IsCatalog es os
+    → IsCatalog (es ++ Defined o ∷ []) (with_member o os)
 defined_kept es os o c = record { sorted = put_sorted o os c.sorted; members = λ q. (to q, from q) }
   where
-    to : (q : Object) → Contains (put o os) q → IsMember (es ++ Defined o ∷ []) q
-    to q h = by (in_put o q os c.sorted (among_of (put o os) q h))
+    to : (q : Object) → Contains (with_member o os) q → IsMember (es ++ Defined o ∷ []) q
+    to q h = by (in_put o q os c.sorted (among_of (with_member o os) q h))
       where
         by : (o ≡ q) ⊎ (Among os q × (is_key q.kind q.name o ≡ false))
             → IsMember (es ++ Defined o ∷ []) q
@@ -95,16 +95,16 @@ defined_kept es os o c = record { sorted = put_sorted o os c.sorted; members = �
         by (inr k) = member_of q (es ++ Defined o ∷ []) (lasts_still q es (Defined o)
             (lasts_of q es ((c.members q).0 (contains_of os q k.0))) k.1)
 
-    from : (q : Object) → IsMember (es ++ Defined o ∷ []) q → Contains (put o os) q
-    from q m = contains_of (put o os) q
+    from : (q : Object) → IsMember (es ++ Defined o ∷ []) q → Contains (with_member o os) q
+    from q m = contains_of (with_member o os) q
         (by (lasts_pop q es (Defined o) (lasts_of q (es ++ Defined o ∷ []) m)))
       where
-        by : Pushed q es (Defined o) → Among (put o os) q
+        by : Pushed q es (Defined o) → Among (with_member o os) q
         by (inl same) =
-            subst (λ q. Among (put o os) q) (ap (λ e. defined_of e o) same) (put_there o os)
+            subst (λ q. Among (with_member o os) q) (ap (λ e. defined_of e o) same) (put_there o os)
         by (inr k) = put_keeps o q os (among_of os q ((c.members q).1 (member_of q es k.0))) k.1
 
-abbrev is_removal : Event → Bool
+abbrev is_removal : Change → Bool
 is_removal (Defined o) = false
 is_removal (Removed k n) = true
 
@@ -112,7 +112,7 @@ not_true : (b : Bool) → not b ≡ true → b ≡ false
 not_true true h = sym h
 not_true false h = refl
 
-pub removed_kept : (es : List Event) (os : List Object) (kind : Kind) (name : List ℕ)
+pub removed_kept : (es : List Change) (os : List Object) (kind : Kind) (name : List ℕ)
     → IsCatalog es os → IsCatalog (es ++ Removed kind name ∷ []) (without kind name os)
 removed_kept es os kind name c = record {
   sorted = without_sorted kind name os c.sorted;
@@ -136,13 +136,13 @@ removed_kept es os kind name c = record {
         by (inr k) = without_keeps kind name q os
             (among_of os q ((c.members q).1 (member_of q es k.0))) (ap not k.1)
 
-pub all_defined : (objects os : List Object) (es : List Event) → IsCatalog es os
-    → IsCatalog (es ++ map Defined objects) (put_all objects os)
+pub all_defined : (objects os : List Object) (es : List Change) → IsCatalog es os
+    → IsCatalog (es ++ map Defined objects) (with_members objects os)
 all_defined [] os es c = subst (λ es. IsCatalog es os) (sym (append-nil es)) c
 all_defined (o ∷ rest) os es c =
-    subst (λ es. IsCatalog es (put_all rest (put o os)))
+    subst (λ es. IsCatalog es (with_members rest (with_member o os)))
     (append_assoc es (Defined o ∷ []) (map Defined rest))
-    (all_defined rest (put o os) (es ++ Defined o ∷ []) (defined_kept es os o c))
+    (all_defined rest (with_member o os) (es ++ Defined o ∷ []) (defined_kept es os o c))
 
 pub no_events : IsCatalog [] []
 no_events = record {

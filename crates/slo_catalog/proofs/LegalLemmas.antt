@@ -7,8 +7,8 @@ use Rattle.std.specs.Option.{option_or}
 use Rattle.slo_objects.specs.declared.kind.Kind.{Kind}
 use Rattle.slo_objects.specs.declared.object.Object.{Object}
 use Rattle.slo_catalog.specs.declared.reference.Reference.{Reference}
-use Rattle.slo_catalog.specs.Keys.{is_kind, is_key, find_in, IsSorted}
-use Rattle.slo_catalog.specs.Catalog.{put, put_all, without}
+use Rattle.slo_catalog.specs.Keys.{is_kind, is_key, member_of, IsSorted}
+use Rattle.slo_catalog.specs.Catalog.{with_member, with_members, without}
 use Rattle.slo_catalog.specs.References.{references, is_built_in_policy, is_resolved, first_given}
 use Rattle.slo_catalog.specs.References.{unresolved_of, first_unresolved, is_to, refers_to}
 use Rattle.slo_catalog.specs.References.{first_referrer, IsResolvedIn, IsLegal}
@@ -34,24 +34,24 @@ abbrev IsThere : List Object → Kind → List ℕ → Type 0
 IsThere os kind name = (o : Object) × (Among os o × (is_key kind name o ≡ true))
 
 pub there_found : (os : List Object) (kind : Kind) (name : List ℕ)
-    → is_some (find_in os kind name) ≡ true → IsThere os kind name
+    → is_some (member_of os kind name) ≡ true → IsThere os kind name
 there_found [] kind name h = absurd (true≢false (sym h))
 there_found (o ∷ os) kind name h = by (is_key kind name o) refl (there_found os kind name) h
   where
     by : (b : Bool) → is_key kind name o ≡ b
-        → (is_some (find_in os kind name) ≡ true → IsThere os kind name)
-        → is_some (cond b (Some o) (find_in os kind name)) ≡ true → IsThere (o ∷ os) kind name
+        → (is_some (member_of os kind name) ≡ true → IsThere os kind name)
+        → is_some (cond b (Some o) (member_of os kind name)) ≡ true → IsThere (o ∷ os) kind name
     by true e again h = (o, (inl refl, e))
     by false e again h = let t = again h in (t.0, (inr t.1.0, t.1.1))
 
 found_there : (os : List Object) (kind : Kind) (name : List ℕ) (q : Object) → Among os q
-    → is_key kind name q ≡ true → is_some (find_in os kind name) ≡ true
+    → is_key kind name q ≡ true → is_some (member_of os kind name) ≡ true
 found_there [] kind name q h k = absurd h
 found_there (o ∷ os) kind name q h k =
     by (is_key kind name o) refl (λ h. found_there os kind name q h k) h
   where
-    by : (b : Bool) → is_key kind name o ≡ b → (Among os q → is_some (find_in os kind name) ≡ true)
-        → Among (o ∷ os) q → is_some (cond b (Some o) (find_in os kind name)) ≡ true
+    by : (b : Bool) → is_key kind name o ≡ b → (Among os q → is_some (member_of os kind name) ≡ true)
+        → Among (o ∷ os) q → is_some (cond b (Some o) (member_of os kind name)) ≡ true
     by true e again h = refl
     by false e again (inl same) = absurd (true≢false (sym (ap (is_key kind name) same ∙ k) ∙ e))
     by false e again (inr h) = again h
@@ -60,11 +60,11 @@ found_there (o ∷ os) kind name q h k =
 abbrev Covers : List Object → List Object → Type 0
 Covers old new = (o : Object) → Among old o → IsThere new o.kind o.name
 
-put_covers : (o : Object) (os : List Object) → Covers os (put o os)
+put_covers : (o : Object) (os : List Object) → Covers os (with_member o os)
 put_covers o os q h = by (either (is_key q.kind q.name o))
   where
     by : (is_key q.kind q.name o ≡ true) ⊎ (is_key q.kind q.name o ≡ false)
-        → IsThere (put o os) q.kind q.name
+        → IsThere (with_member o os) q.kind q.name
     by (inl e) = (o, (put_there o os, e))
     by (inr e) = (q, (put_keeps o q os h e, key_itself q))
 
@@ -75,22 +75,22 @@ covers_both old between new f g o h =
     let q = g p.0 p.1.0 in
     (q.0, (q.1.0, same_keys o.kind o.name p.0 q.0 p.1.1 q.1.1))
 
-put_all_covers : (objects os : List Object) → Covers os (put_all objects os)
+put_all_covers : (objects os : List Object) → Covers os (with_members objects os)
 put_all_covers [] os q h = (q, (h, key_itself q))
-put_all_covers (o ∷ rest) os q h = covers_both os (put o os) (put_all rest (put o os))
-    (put_covers o os) (put_all_covers rest (put o os)) q h
+put_all_covers (o ∷ rest) os q h = covers_both os (with_member o os) (with_members rest (with_member o os))
+    (put_covers o os) (put_all_covers rest (with_member o os)) q h
 
-in_put_all : (objects os : List Object) (q : Object) → IsSorted os → Among (put_all objects os) q
+in_put_all : (objects os : List Object) (q : Object) → IsSorted os → Among (with_members objects os) q
     → Among objects q ⊎ Among os q
 in_put_all [] os q s h = inr h
-in_put_all (o ∷ rest) os q s h = by (in_put_all rest (put o os) q (put_sorted o os s) h)
+in_put_all (o ∷ rest) os q s h = by (in_put_all rest (with_member o os) q (put_sorted o os s) h)
   where
     earlier : (o ≡ q) ⊎ (Among os q × (is_key q.kind q.name o ≡ false))
         → Among (o ∷ rest) q ⊎ Among os q
     earlier (inl same) = inl (inl same)
     earlier (inr k) = inr k.0
 
-    by : Among rest q ⊎ Among (put o os) q → Among (o ∷ rest) q ⊎ Among os q
+    by : Among rest q ⊎ Among (with_member o os) q → Among (o ∷ rest) q ⊎ Among os q
     by (inl k) = inl (inr k)
     by (inr k) = earlier (in_put o q os s k)
 
@@ -110,7 +110,7 @@ resolved_still : (old new : List Object) → Covers old new → (r : Reference)
     → is_resolved old r ≡ true → is_resolved new r ≡ true
 resolved_still old new covers r h = by (or_parts _ _ h)
   where
-    by : (is_some (find_in old r.kind r.name) ≡ true) ⊎ (is_built_in_policy r ≡ true)
+    by : (is_some (member_of old r.kind r.name) ≡ true) ⊎ (is_built_in_policy r ≡ true)
         → is_resolved new r ≡ true
     by (inr k) = or_right _ _ k
     by (inl k) =
@@ -156,16 +156,16 @@ all_with P Q R f (x ∷ xs) h k = (f x h.0 k.0, all_with P Q R f xs h.1 k.1)
 
 -- Objects whose references are all resolved, put into a legal catalog, give a legal one.
 pub legal_defined : (objects os : List Object) → IsSorted os → IsLegal os
-    → first_unresolved (put_all objects os) objects ≡ None → IsLegal (put_all objects os)
-legal_defined objects os s legal h = all_of (IsResolvedIn (put_all objects os)) (put_all objects os)
+    → first_unresolved (with_members objects os) objects ≡ None → IsLegal (with_members objects os)
+legal_defined objects os s legal h = all_of (IsResolvedIn (with_members objects os)) (with_members objects os)
     (λ q k. by q (in_put_all objects os q s k))
   where
-    by : (q : Object) → Among objects q ⊎ Among os q → IsResolvedIn (put_all objects os) q
-    by q (inl k) = all_among (IsResolvedIn (put_all objects os)) objects q
-        (all_resolved (put_all objects os) objects h) k
+    by : (q : Object) → Among objects q ⊎ Among os q → IsResolvedIn (with_members objects os) q
+    by q (inl k) = all_among (IsResolvedIn (with_members objects os)) objects q
+        (all_resolved (with_members objects os) objects h) k
     by q (inr k) =
-        all_weaker (λ r. is_resolved os r ≡ true) (λ r. is_resolved (put_all objects os) r ≡ true)
-        (resolved_still os (put_all objects os) (put_all_covers objects os)) (references q)
+        all_weaker (λ r. is_resolved os r ≡ true) (λ r. is_resolved (with_members objects os) r ≡ true)
+        (resolved_still os (with_members objects os) (put_all_covers objects os)) (references q)
         (all_among (IsResolvedIn os) os q legal k)
 
 -- where nobody refers to it
@@ -197,7 +197,7 @@ resolved_without kind name os r h apart = by (or_parts _ _ h)
   where
     other : (o : IsThere os r.kind r.name)
         → (is_key kind name o.0 ≡ true) ⊎ (is_key kind name o.0 ≡ false)
-        → is_some (find_in (without kind name os) r.kind r.name) ≡ true
+        → is_some (member_of (without kind name os) r.kind r.name) ≡ true
     other o (inl e) =
         let parts = key_parts r.kind r.name o.0 o.1.1 in
         absurd (true≢false (sym (ap₂ (λ l n. is_kind l kind && bytes_eq n name) (sym parts.0)
@@ -205,7 +205,7 @@ resolved_without kind name os r h apart = by (or_parts _ _ h)
     other o (inr e) = found_there (without kind name os) r.kind r.name o.0
         (without_keeps kind name o.0 os o.1.0 (ap not e)) o.1.1
 
-    by : (is_some (find_in os r.kind r.name) ≡ true) ⊎ (is_built_in_policy r ≡ true)
+    by : (is_some (member_of os r.kind r.name) ≡ true) ⊎ (is_built_in_policy r ≡ true)
         → is_resolved (without kind name os) r ≡ true
     by (inr k) = or_right _ _ k
     by (inl k) = let o = there_found os r.kind r.name k in

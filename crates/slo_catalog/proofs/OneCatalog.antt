@@ -5,7 +5,7 @@ use Rattle.std.specs.List.{AllByRecursion, Contains}
 use Rattle.std.specs.Ordering.{ordering_reverse}
 use Rattle.slo_objects.specs.declared.object.Object.{Object}
 use Rattle.slo_catalog.specs.Keys.{object_cmp, ComesBefore, IsSorted}
-use Rattle.slo_catalog.specs.Catalog.{Event, IsCatalog}
+use Rattle.slo_catalog.specs.Catalog.{Change, IsCatalog}
 use Rattle.slo_catalog.proofs.KeyLemmas.{before}
 use Rattle.slo_catalog.proofs.AmongLemmas.{Among, among_of, contains_of, all_among}
 
@@ -44,7 +44,7 @@ same_lists (o ∷ os) (p ∷ ps) s t f g =
     ap₂ (λ x xs. x ∷ xs) same
     (same_lists os ps s.1 t.1 (tails o p os ps same s f) (tails p o ps os (sym same) t g))
 
-pub one_catalog : (events : List Event) (os ps : List Object) → IsCatalog events os
+pub one_catalog : (events : List Change) (os ps : List Object) → IsCatalog events os
     → IsCatalog events ps → os ≡ ps
 one_catalog events os ps c d = same_lists os ps c.sorted d.sorted (from os ps c d) (from ps os d c)
   where

@@ -13,9 +13,9 @@ use Rattle.std.proofs.lemmas.Cmp.{on_total, then_total, nat_list_cmp_total}
 use Rattle.std.proofs.lemmas.Cmp.{tied_back, alike_right}
 use Rattle.slo_objects.specs.declared.kind.Kind.{Kind}
 use Rattle.slo_objects.specs.declared.object.Object.{Object}
-use Rattle.slo_catalog.specs.Keys.{is_key, key_cmp, object_cmp, find_in, ComesBefore}
+use Rattle.slo_catalog.specs.Keys.{is_key, key_cmp, object_cmp, member_of, ComesBefore}
 use Rattle.slo_catalog.specs.Keys.{IsSorted}
-use Rattle.slo_catalog.specs.Catalog.{put}
+use Rattle.slo_catalog.specs.Catalog.{with_member}
 use Rattle.slo_catalog.specs.Places.{to, StandsAt, BelongsAt}
 use Rattle.slo_catalog.proofs.KeyLemmas.{kind_order, object_order, same_as, after, before}
 
@@ -99,18 +99,18 @@ module _ (kind : Kind) (name : List ℕ) where
   greater_from (o ∷ os) (suc i) d s h k = greater_from os i d s.1 (omega arith) k
 
   step : (o : Object) (os : List Object) (b : Bool) → is_key kind name o ≡ b
-      → find_in (o ∷ os) kind name ≡ cond b (Some o) (find_in os kind name)
-  step o os b h = ap (λ c. cond c (Some o) (find_in os kind name)) h
+      → member_of (o ∷ os) kind name ≡ cond b (Some o) (member_of os kind name)
+  step o os b h = ap (λ c. cond c (Some o) (member_of os kind name)) h
 
   none_behind : (os : List Object) → AllByRecursion (λ o. to kind name o ≡ Greater) os
-      → find_in os kind name ≡ None
+      → member_of os kind name ≡ None
   none_behind [] h = refl
   none_behind (o ∷ os) h = step o os false (greater_other o h.0) ∙ none_behind os h.1
 
   -- none is found where each comes before them or behind them
   pub none_found : (os : List Object) (i : ℕ)
       → AllByRecursion (λ o. to kind name o ≡ Less) (take i os)
-      → AllByRecursion (λ o. to kind name o ≡ Greater) (drop i os) → find_in os kind name ≡ None
+      → AllByRecursion (λ o. to kind name o ≡ Greater) (drop i os) → member_of os kind name ≡ None
   none_found os zero a b = none_behind os b
   none_found [] (suc i) a b = refl
   none_found (o ∷ os) (suc i) a b = step o os false (less_other o a.0) ∙ none_found os i a.1 b
@@ -118,7 +118,7 @@ module _ (kind : Kind) (name : List ℕ) where
   -- the one of them is found
   pub one_found : (os : List Object) (i : ℕ) (d : Object)
       → i < length os → AllByRecursion (λ o. to kind name o ≡ Less) (take i os)
-      → to kind name (get_or os i d) ≡ Equal → find_in os kind name ≡ Some (get_or os i d)
+      → to kind name (get_or os i d) ≡ Equal → member_of os kind name ≡ Some (get_or os i d)
   one_found [] i d h a k = absurd (omega arith)
   one_found (o ∷ os) zero d h a k = step o os true (equal_that o k)
   one_found (o ∷ os) (suc i) d h a k = step o os false (less_other o a.0)
@@ -128,13 +128,13 @@ module _ (kind : Kind) (name : List ℕ) where
 pub put_here : (o : Object) (os : List Object) (i : ℕ)
     → AllByRecursion (λ p. to o.kind o.name p ≡ Less) (take i os)
     → AllByRecursion (λ p. to o.kind o.name p ≡ Greater) (drop i os) → i ≤ length os
-    → put o os ≡ take i os ++ o ∷ drop i os
+    → with_member o os ≡ take i os ++ o ∷ drop i os
 put_here o [] zero a b h = refl
 put_here o [] (suc i) a b h = absurd (omega arith)
 put_here o (p ∷ ps) zero a b h =
-    ap (λ r. match_ordering r (o ∷ p ∷ ps) (o ∷ ps) (p ∷ put o ps)) (after p o b.0)
+    ap (λ r. match_ordering r (o ∷ p ∷ ps) (o ∷ ps) (p ∷ with_member o ps)) (after p o b.0)
 put_here o (p ∷ ps) (suc i) a b h =
-    ap (λ r. match_ordering r (o ∷ p ∷ ps) (o ∷ ps) (p ∷ put o ps)) (before o p a.0)
+    ap (λ r. match_ordering r (o ∷ p ∷ ps) (o ∷ ps) (p ∷ with_member o ps)) (before o p a.0)
     ∙ ap (λ qs. p ∷ qs) (put_here o ps i a.1 b (omega arith))
 
 same_turned : (o p : Object) → object_cmp p o ≡ Equal → object_cmp o p ≡ Equal
@@ -143,12 +143,12 @@ same_turned o p h = object_order.antisymm o p ∙ ap ordering_reverse h
 -- an object that is put in the place of the one of its kind and name
 pub put_there_again : (o : Object) (os : List Object) (i : ℕ) (d : Object)
     → i < length os → AllByRecursion (λ p. to o.kind o.name p ≡ Less) (take i os)
-    → to o.kind o.name (get_or os i d) ≡ Equal → put o os ≡ slice_set os i o
+    → to o.kind o.name (get_or os i d) ≡ Equal → with_member o os ≡ slice_set os i o
 put_there_again o [] i d h a k = absurd (omega arith)
 put_there_again o (p ∷ ps) zero d h a k =
-    ap (λ r. match_ordering r (o ∷ p ∷ ps) (o ∷ ps) (p ∷ put o ps)) (same_turned o p k)
+    ap (λ r. match_ordering r (o ∷ p ∷ ps) (o ∷ ps) (p ∷ with_member o ps)) (same_turned o p k)
 put_there_again o (p ∷ ps) (suc i) d h a k =
-    ap (λ r. match_ordering r (o ∷ p ∷ ps) (o ∷ ps) (p ∷ put o ps)) (before o p a.0)
+    ap (λ r. match_ordering r (o ∷ p ∷ ps) (o ∷ ps) (p ∷ with_member o ps)) (before o p a.0)
     ∙ ap (λ qs. p ∷ qs) (put_there_again o ps i d (omega arith) a.1 k)
 
 at_any : (e d : Object) (xs : List Object) (i : ℕ) → i < length xs → get_or xs i e ≡ get_or xs i d
@@ -198,33 +198,33 @@ place_free kind name os r i h e =
     subst (λ x. MatchResult x (StandsAt kind name os) (BelongsAt kind name os)) e h
 
 pub found_at : (kind : Kind) (name : List ℕ) (os : List Object) (i : ℕ) (o d : Object)
-    → StandsAt kind name os i → o ≡ get_or os i d → Some o ≡ find_in os kind name
+    → StandsAt kind name os i → o ≡ get_or os i d → Some o ≡ member_of os kind name
 found_at kind name os i o d at same = ap Some same
     ∙ sym (one_found kind name os i d at.within at.ahead (at.here d))
 
 pub none_at : (kind : Kind) (name : List ℕ) (os : List Object) (i : ℕ) → BelongsAt kind name os i
-    → None ≡ find_in os kind name
+    → None ≡ member_of os kind name
 none_at kind name os i at = sym (none_found kind name os i at.ahead at.behind)
 
 pub put_over : (o : Object) (os : List Object) (i : ℕ) → StandsAt o.kind o.name os i
-    → put o os ≡ slice_set os i o
+    → with_member o os ≡ slice_set os i o
 put_over o os i at = put_there_again o os i o at.within at.ahead (at.here o)
 
 pub put_between : (o : Object) (os : List Object) (i : ℕ) → BelongsAt o.kind o.name os i
-    → put o os ≡ take i os ++ o ∷ drop i os
+    → with_member o os ≡ take i os ++ o ∷ drop i os
 put_between o os i at = put_here o os i at.ahead at.behind at.within
 
 -- the same where the object was looked for by a reference to it, in a slice of them
 pub put_over_as : (o p : Object) (os xs : List Object) (r : Result ℕ ℕ) (i : ℕ) → p ≡ o
     → xs ≡ os → MatchResult r (StandsAt p.kind p.name xs) (BelongsAt p.kind p.name xs) → r ≡ Ok i
-    → put o os ≡ slice_set os i o
+    → with_member o os ≡ slice_set os i o
 put_over_as o p os xs r i e f h g =
     put_over o os i (subst (λ x. StandsAt x.kind x.name os i) e
     (subst (λ ys. StandsAt p.kind p.name ys i) f (place_there p.kind p.name xs r i h g)))
 
 pub put_between_as : (o p : Object) (os xs : List Object) (r : Result ℕ ℕ) (i : ℕ) → p ≡ o
     → xs ≡ os → MatchResult r (StandsAt p.kind p.name xs) (BelongsAt p.kind p.name xs) → r ≡ Err i
-    → put o os ≡ take i os ++ o ∷ drop i os
+    → with_member o os ≡ take i os ++ o ∷ drop i os
 put_between_as o p os xs r i e f h g =
     put_between o os i (subst (λ x. BelongsAt x.kind x.name os i) e
     (subst (λ ys. BelongsAt p.kind p.name ys i) f (place_free p.kind p.name xs r i h g)))

@@ -7,28 +7,28 @@ use Rattle.std.specs.Ordering.{match_ordering}
 use Rattle.slo_objects.specs.declared.kind.Kind.{Kind}
 use Rattle.slo_objects.specs.declared.object.Object.{Object}
 use Rattle.slo_catalog.specs.Keys.{is_key, object_cmp, ComesBefore, IsSorted}
-use Rattle.slo_catalog.specs.Catalog.{put, without}
+use Rattle.slo_catalog.specs.Catalog.{with_member, without}
 use Rattle.slo_catalog.proofs.KeyLemmas.{object_order, same_key, less_apart, greater_apart}
 use Rattle.slo_catalog.proofs.KeyLemmas.{equal_same, after}
 use Rattle.slo_catalog.proofs.AmongLemmas.{Among, all_weaker, all_among}
 
 put_before : (p o : Object) (os : List Object) → ComesBefore p o → AllByRecursion (ComesBefore p) os
-    → AllByRecursion (ComesBefore p) (put o os)
+    → AllByRecursion (ComesBefore p) (with_member o os)
 put_before p o [] h all = (h, tt)
 put_before p o (q ∷ qs) h all = by (object_cmp o q) (put_before p o qs h all.1)
   where
-    by : (r : Ordering) → AllByRecursion (ComesBefore p) (put o qs)
-        → AllByRecursion (ComesBefore p) (match_ordering r (o ∷ q ∷ qs) (o ∷ qs) (q ∷ put o qs))
+    by : (r : Ordering) → AllByRecursion (ComesBefore p) (with_member o qs)
+        → AllByRecursion (ComesBefore p) (match_ordering r (o ∷ q ∷ qs) (o ∷ qs) (q ∷ with_member o qs))
     by Less more = (h, all)
     by Equal more = (h, all.1)
     by Greater more = (all.0, more)
 
-pub put_sorted : (o : Object) (os : List Object) → IsSorted os → IsSorted (put o os)
+pub put_sorted : (o : Object) (os : List Object) → IsSorted os → IsSorted (with_member o os)
 put_sorted o [] s = (tt, tt)
 put_sorted o (p ∷ ps) s = by (object_cmp o p) refl (put_sorted o ps s.1)
   where
-    by : (r : Ordering) → object_cmp o p ≡ r → IsSorted (put o ps)
-        → IsSorted (match_ordering r (o ∷ p ∷ ps) (o ∷ ps) (p ∷ put o ps))
+    by : (r : Ordering) → object_cmp o p ≡ r → IsSorted (with_member o ps)
+        → IsSorted (match_ordering r (o ∷ p ∷ ps) (o ∷ ps) (p ∷ with_member o ps))
     by Less e more = (
       (
         e,
@@ -44,7 +44,7 @@ put_sorted o (p ∷ ps) s = by (object_cmp o p) refl (put_sorted o ps s.1)
     by Greater e more = (put_before p o ps (after o p e) s.0, more)
 
 -- what is put, and what was there of another kind or name
-pub in_put : (o q : Object) (os : List Object) → IsSorted os → Among (put o os) q
+pub in_put : (o q : Object) (os : List Object) → IsSorted os → Among (with_member o os) q
     → (o ≡ q) ⊎ (Among os q × (is_key q.kind q.name o ≡ false))
 in_put o q [] s (inl h) = inl h
 in_put o q [] s (inr h) = absurd h
@@ -62,8 +62,8 @@ in_put o q (p ∷ ps) s h = by (object_cmp o p) refl (in_put o q ps s.1) h
     more (inr k) = inr (inr k.0, k.1)
 
     by : (r : Ordering) → object_cmp o p ≡ r
-        → (Among (put o ps) q → (o ≡ q) ⊎ (Among ps q × (is_key q.kind q.name o ≡ false)))
-        → Among (match_ordering r (o ∷ p ∷ ps) (o ∷ ps) (p ∷ put o ps)) q → Goal
+        → (Among (with_member o ps) q → (o ≡ q) ⊎ (Among ps q × (is_key q.kind q.name o ≡ false)))
+        → Among (match_ordering r (o ∷ p ∷ ps) (o ∷ ps) (p ∷ with_member o ps)) q → Goal
     by Less e again (inl same) = inl same
     by Less e again (inr k) = inr (k, less_apart o q (later e k))
     by Equal e again (inl same) = inl same
@@ -75,23 +75,23 @@ in_put o q (p ∷ ps) s h = by (object_cmp o p) refl (in_put o q ps s.1) h
         inr (inl same, greater_apart o q (subst (λ x. object_cmp o x ≡ Greater) same e))
     by Greater e again (inr k) = more (again k)
 
-pub put_there : (o : Object) (os : List Object) → Among (put o os) o
+pub put_there : (o : Object) (os : List Object) → Among (with_member o os) o
 put_there o [] = inl refl
 put_there o (p ∷ ps) = by (object_cmp o p) (put_there o ps)
   where
-    by : (r : Ordering) → Among (put o ps) o
-        → Among (match_ordering r (o ∷ p ∷ ps) (o ∷ ps) (p ∷ put o ps)) o
+    by : (r : Ordering) → Among (with_member o ps) o
+        → Among (match_ordering r (o ∷ p ∷ ps) (o ∷ ps) (p ∷ with_member o ps)) o
     by Less more = inl refl
     by Equal more = inl refl
     by Greater more = inr more
 
 pub put_keeps : (o q : Object) (os : List Object) → Among os q → is_key q.kind q.name o ≡ false
-    → Among (put o os) q
+    → Among (with_member o os) q
 put_keeps o q [] h apart = absurd h
 put_keeps o q (p ∷ ps) h apart = by (object_cmp o p) refl (λ k. put_keeps o q ps k apart) h
   where
-    by : (r : Ordering) → object_cmp o p ≡ r → (Among ps q → Among (put o ps) q) → Among (p ∷ ps) q
-        → Among (match_ordering r (o ∷ p ∷ ps) (o ∷ ps) (p ∷ put o ps)) q
+    by : (r : Ordering) → object_cmp o p ≡ r → (Among ps q → Among (with_member o ps) q) → Among (p ∷ ps) q
+        → Among (match_ordering r (o ∷ p ∷ ps) (o ∷ ps) (p ∷ with_member o ps)) q
     by Less e again k = inr k
     by Equal e again (inl same) = absurd
         (true≢false (sym (equal_same o q (subst (λ x. object_cmp o x ≡ Equal) same e)) ∙ apart))

@@ -5,11 +5,11 @@ use Rattle.slo_objects.specs.declared.kind.Kind.{Kind}
 use Rattle.slo_objects.specs.declared.object.Object.{Object}
 use Rattle.slo_catalog.specs.declared.fault.RemoveFault.{RemoveFault}
 use Rattle.slo_catalog.specs.declared.fault.RemoveError.{RemoveError}
-use Rattle.slo_catalog.specs.Keys.{find_in}
-use Rattle.slo_catalog.specs.Catalog.{Event, Removed, IsCatalog, without}
+use Rattle.slo_catalog.specs.Keys.{member_of}
+use Rattle.slo_catalog.specs.Catalog.{Change, Removed, IsCatalog, without}
 use Rattle.slo_catalog.specs.References.{first_referrer}
 use Rattle.slo_catalog.specs.Whole.{IsWhole}
-use Rattle.slo_catalog.specs.Remove.{unless_used, where_found, removed, Removes}
+use Rattle.slo_catalog.specs.Remove.{unless_used, where_found, remaining_members, Removes}
 use Rattle.slo_catalog.proofs.LegalLemmas.{legal_removed}
 use Rattle.slo_catalog.proofs.WholeLemmas.{ops_without, limits_without}
 use Rattle.slo_catalog.proofs.HistoryLemmas.{removed_kept}
@@ -29,16 +29,16 @@ not_used None left members h = (refl, sym (ap (ok_of members) h))
 not_used (Some o) left members h = absurd (true≢false (sym (ap is_ok h)))
 
 left_by : (old members : List Object) (kind : Kind) (name : List ℕ)
-    → removed old kind name ≡ Ok members → (first_referrer old kind name ≡ None)
+    → remaining_members old kind name ≡ Ok members → (first_referrer old kind name ≡ None)
     × (members ≡ without kind name old)
 left_by old members kind name h =
     not_used (first_referrer old kind name) (without kind name old) members
-    (found_one (find_in old kind name)
+    (found_one (member_of old kind name)
     (unless_used (first_referrer old kind name) (without kind name old)) members h)
 
 pub history_of : (old : List Object)
     (kind : Kind) (name : List ℕ) (r : Result (List Object) RemoveError)
-    → Removes r (removed old kind name) → (events : List Event) → IsCatalog events old
+    → Removes r (remaining_members old kind name) → (events : List Change) → IsCatalog events old
     → IfOk r (λ members. IsCatalog (events ++ Removed kind name ∷ []) members)
 history_of old kind name (Err e) h events c = tt
 history_of old kind name (Ok members) h events c =
@@ -46,7 +46,7 @@ history_of old kind name (Ok members) h events c =
     (sym (left_by old members kind name h).1) (removed_kept events old kind name c)
 
 pub whole_of : (old members : List Object) (kind : Kind) (name : List ℕ)
-    → removed old kind name ≡ Ok members → IsWhole old → IsWhole members
+    → remaining_members old kind name ≡ Ok members → IsWhole old → IsWhole members
 whole_of old members kind name h whole =
     let l = left_by old members kind name h in
     subst IsWhole (sym l.1) (record {
@@ -59,7 +59,7 @@ whole_of old members kind name h whole =
 
 -- the same of what a call gave
 pub whole_by : (old members : List Object) (kind : Kind) (name : List ℕ)
-    (r : Result (List Object) RemoveError) → Removes r (removed old kind name) → r ≡ Ok members
+    (r : Result (List Object) RemoveError) → Removes r (remaining_members old kind name) → r ≡ Ok members
     → IsWhole old → IsWhole members
 whole_by old members kind name r h e whole =
-    whole_of old members kind name (subst (λ x. Removes x (removed old kind name)) e h) whole
+    whole_of old members kind name (subst (λ x. Removes x (remaining_members old kind name)) e h) whole

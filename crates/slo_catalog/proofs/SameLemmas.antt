@@ -13,8 +13,8 @@ use Rattle.slo_objects.specs.yaml_subset.Fits.{IsWritable}
 use Rattle.slo_objects.specs.declared.kind.Kind.{Kind}
 use Rattle.slo_objects.specs.declared.object.Object.{Object}
 use Rattle.slo_objects.specs.Document.{IsOfDocument, objects_of, written}
-use Rattle.slo_catalog.specs.Keys.{is_key, object_cmp, find_in, ComesBefore, IsSorted}
-use Rattle.slo_catalog.specs.Catalog.{put, put_all}
+use Rattle.slo_catalog.specs.Keys.{is_key, object_cmp, member_of, ComesBefore, IsSorted}
+use Rattle.slo_catalog.specs.Catalog.{with_member, with_members}
 use Rattle.slo_catalog.specs.Define.{is_same, is_alike, is_unchanged}
 use Rattle.slo_catalog.proofs.KeyLemmas.{object_order, before}
 use Rattle.slo_catalog.proofs.AmongLemmas.{Among, among_of, all_among}
@@ -37,24 +37,24 @@ one_text law o p a b h =
     ((bytes_eq-Decides (writing 0 (written o)) (writing 0 (written p))).0 h)
 
 -- what stands there is put where it stands
-put_member : (p : Object) (os : List Object) → IsSorted os → Among os p → put p os ≡ os
+put_member : (p : Object) (os : List Object) → IsSorted os → Among os p → with_member p os ≡ os
 put_member p [] s h = absurd h
 put_member p (q ∷ qs) s (inl same) =
-    ap (λ r. match_ordering r (p ∷ q ∷ qs) (p ∷ qs) (q ∷ put p qs))
+    ap (λ r. match_ordering r (p ∷ q ∷ qs) (p ∷ qs) (q ∷ with_member p qs))
     (subst (λ x. object_cmp p x ≡ Equal) (sym same) (tied_itself object_order p))
     ∙ ap (λ x. x ∷ qs) (sym same)
 put_member p (q ∷ qs) s (inr h) =
-    ap (λ r. match_ordering r (p ∷ q ∷ qs) (p ∷ qs) (q ∷ put p qs))
+    ap (λ r. match_ordering r (p ∷ q ∷ qs) (p ∷ qs) (q ∷ with_member p qs))
     (before p q (all_among (ComesBefore q) qs p s.0 h))
     ∙ ap (λ xs. q ∷ xs) (put_member p qs s.1 h)
 
 found_among : (os : List Object) (kind : Kind) (name : List ℕ) (p : Object)
-    → find_in os kind name ≡ Some p → Among os p
+    → member_of os kind name ≡ Some p → Among os p
 found_among [] kind name p h = absurd (cc)
 found_among (o ∷ os) kind name p h = by (is_key kind name o) (found_among os kind name p) h
   where
-    by : (b : Bool) → (find_in os kind name ≡ Some p → Among os p)
-        → cond b (Some o) (find_in os kind name) ≡ Some p → Among (o ∷ os) p
+    by : (b : Bool) → (member_of os kind name ≡ Some p → Among os p)
+        → cond b (Some o) (member_of os kind name) ≡ Some p → Among (o ∷ os) p
     by true again h = inl (cc)
     by false again h = inr (again h)
 
@@ -67,8 +67,8 @@ right true b h = h
 right false b h = absurd (true≢false (sym h))
 
 put_alike : OneText → (o : Object) (os : List Object) → IsSorted os → AllByRecursion IsOfDocument os
-    → IsOfDocument o → (found : Option Object) → find_in os o.kind o.name ≡ found
-    → is_alike found o ≡ true → put o os ≡ os
+    → IsOfDocument o → (found : Option Object) → member_of os o.kind o.name ≡ found
+    → is_alike found o ≡ true → with_member o os ≡ os
 put_alike law o os s all a None e h = absurd (true≢false (sym h))
 put_alike law o os s all a (Some p) e h =
     let there : Among os p = found_among os o.kind o.name p e in
@@ -76,15 +76,15 @@ put_alike law o os s all a (Some p) e h =
     put_member o os s (subst (Among os) same there)
 
 each_alike : OneText → (objects os : List Object) → IsSorted os → AllByRecursion IsOfDocument os
-    → AllByRecursion IsOfDocument objects → is_unchanged os objects ≡ true → put_all objects os ≡ os
+    → AllByRecursion IsOfDocument objects → is_unchanged os objects ≡ true → with_members objects os ≡ os
 each_alike law [] os s all h e = refl
 each_alike law (o ∷ rest) os s all h e =
-    ap (put_all rest) (put_alike law o os s all h.0 (find_in os o.kind o.name) refl
-    (left (is_alike (find_in os o.kind o.name) o) (is_unchanged os rest) e))
+    ap (with_members rest) (put_alike law o os s all h.0 (member_of os o.kind o.name) refl
+    (left (is_alike (member_of os o.kind o.name) o) (is_unchanged os rest) e))
     ∙ each_alike law rest os s all h.1
-    (right (is_alike (find_in os o.kind o.name) o) (is_unchanged os rest) e)
+    (right (is_alike (member_of os o.kind o.name) o) (is_unchanged os rest) e)
 
 pub unchanged : OneText → (os objects : List Object) → IsSorted os → All IsOfDocument os
-    → All IsOfDocument objects → is_unchanged os objects ≡ true → put_all objects os ≡ os
+    → All IsOfDocument objects → is_unchanged os objects ≡ true → with_members objects os ≡ os
 unchanged law os objects s all h e = each_alike law objects os s
     (recursion_from_All IsOfDocument os all) (recursion_from_All IsOfDocument objects h) e

@@ -22,7 +22,7 @@ use Rattle.slo_objects.specs.AlertPolicy.{policy_in}
 use Rattle.slo_catalog.specs.declared.fault.CatalogLimit.{CatalogLimit}
 use Rattle.slo_catalog.specs.declared.needs_op.NeedsOp.{NeedsOp}
 use Rattle.slo_catalog.specs.declared.bindings.Binding.{Binding}
-use Rattle.slo_catalog.specs.Keys.{is_kind, is_key, find_in}
+use Rattle.slo_catalog.specs.Keys.{is_kind, is_key, member_of}
 use Rattle.slo_catalog.specs.Catalog.{without}
 use Rattle.slo_catalog.specs.References.{names_in, is_built_in, first_given}
 use Rattle.slo_catalog.specs.NeedsOp.{sli_named, gives_values, lacks_op, lacking_in, needing_op}
@@ -41,8 +41,8 @@ use Rattle.slo_catalog.proofs.LegalLemmas.{there_found, or_none}
 
 -- what is found of a kind and name once another one is removed, or it itself
 abbrev Found : List Object → Kind → List ℕ → Kind → List ℕ → Type 0
-Found os kind name k n = (find_in (without kind name os) k n ≡ None)
-    ⊎ (find_in (without kind name os) k n ≡ find_in os k n)
+Found os kind name k n = (member_of (without kind name os) k n ≡ None)
+    ⊎ (member_of (without kind name os) k n ≡ member_of os k n)
 
 none_there : (o : Option Object) → (is_some o ≡ true → ⊥) → o ≡ None
 none_there None h = refl
@@ -50,8 +50,8 @@ none_there (Some o) h = absurd (h refl)
 
 removed_itself : (os : List Object) (kind : Kind) (name : List ℕ) (k : Kind) (n : List ℕ)
     → ((o : Object) → is_key k n o ≡ true → is_key kind name o ≡ true)
-    → find_in (without kind name os) k n ≡ None
-removed_itself os kind name k n same = none_there (find_in (without kind name os) k n) (λ h.
+    → member_of (without kind name os) k n ≡ None
+removed_itself os kind name k n same = none_there (member_of (without kind name os) k n) (λ h.
     let there = there_found (without kind name os) k n h in
     let kept = (in_without kind name there.0 os there.1.0).1 in
     true≢false (sym (sym (ap not (same there.0 there.1.1)) ∙ kept)))
@@ -59,15 +59,15 @@ removed_itself os kind name k n same = none_there (find_in (without kind name os
 -- where no object of the one kind and name is of the other, it is found as before
 pub kept_apart : (os : List Object) (kind : Kind) (name : List ℕ) (k : Kind) (n : List ℕ)
     → ((o : Object) → is_key kind name o ≡ true → is_key k n o ≡ false)
-    → find_in (without kind name os) k n ≡ find_in os k n
+    → member_of (without kind name os) k n ≡ member_of os k n
 kept_apart [] kind name k n apart = refl
 kept_apart (o ∷ os) kind name k n apart =
     by (is_key kind name o) refl (kept_apart os kind name k n apart)
   where
-    by : (b : Bool) → is_key kind name o ≡ b → find_in (without kind name os) k n ≡ find_in os k n
-        → find_in (cond (not b) (o ∷ without kind name os) (without kind name os)) k n
-        ≡ cond (is_key k n o) (Some o) (find_in os k n)
-    by true e rest = rest ∙ sym (ap (λ c. cond c (Some o) (find_in os k n)) (apart o e))
+    by : (b : Bool) → is_key kind name o ≡ b → member_of (without kind name os) k n ≡ member_of os k n
+        → member_of (cond (not b) (o ∷ without kind name os) (without kind name os)) k n
+        ≡ cond (is_key k n o) (Some o) (member_of os k n)
+    by true e rest = rest ∙ sym (ap (λ c. cond c (Some o) (member_of os k n)) (apart o e))
     by false e rest = ap (cond (is_key k n o) (Some o)) rest
 
 -- the test whether an object has a key says of all objects of one key the same
@@ -86,8 +86,8 @@ found_without os kind name k n = by (is_kind k kind && bytes_eq n name) refl
     apart e o h false f = refl
 
     by : (b : Bool) → (is_kind k kind && bytes_eq n name) ≡ b
-        → (find_in (without kind name os) k n ≡ None)
-        ⊎ (find_in (without kind name os) k n ≡ find_in os k n)
+        → (member_of (without kind name os) k n ≡ None)
+        ⊎ (member_of (without kind name os) k n ≡ member_of os k n)
     by true e = inl (removed_itself os kind name k n (λ o h. moved kind name k n o h ∙ e))
     by false e = inr (kept_apart os kind name k n (λ o h. apart e o h (is_key k n o) refl))
 

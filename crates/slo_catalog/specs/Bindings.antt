@@ -10,7 +10,7 @@ use Rattle.slo_objects.specs.declared.slo.Objective.{Objective}
 use Rattle.slo_objects.specs.AlertPolicy.{policy_in}
 use Rattle.slo_objects.specs.Slo.{slo_in}
 use Rattle.slo_catalog.specs.declared.bindings.Binding.{Binding}
-use Rattle.slo_catalog.specs.Keys.{find_in}
+use Rattle.slo_catalog.specs.Keys.{member_of}
 use Rattle.slo_catalog.specs.References.{names_in, is_built_in}
 
 -- an ordinary policy has a condition where its `conditions` has an item
@@ -20,7 +20,7 @@ is_empty (n ∷ ns) = false
 
 abbrev pub policy_named : List Object → List ℕ → Option AlertPolicy
 policy_named members name =
-    option_and_then (λ o. policy_in o.body) (find_in members kinds.AlertPolicy name)
+    option_and_then (λ o. policy_in o.body) (member_of members kinds.AlertPolicy name)
 
 abbrev pub lists_condition : Option AlertPolicy → Bool
 lists_condition None = false

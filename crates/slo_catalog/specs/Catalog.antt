@@ -9,37 +9,37 @@ use Rattle.slo_objects.specs.declared.object.Object.{Object}
 use Rattle.slo_catalog.specs.Keys.{is_kind, is_key, object_cmp, IsSorted}
 
 -- what changes a catalog: an object is defined, or what has that kind and name is removed
-pub data Event : Type 0 where
-  Defined : Object → Event
-  Removed : Kind → List ℕ → Event
+pub data Change : Type 0 where
+  Defined : Object → Change
+  Removed : Kind → List ℕ → Change
 
 -- whether an event is about that kind and name
-abbrev pub is_about : Kind → List ℕ → Event → Bool
+abbrev pub is_about : Kind → List ℕ → Change → Bool
 is_about kind name (Defined o) = is_key kind name o
 is_about kind name (Removed k n) = is_kind kind k && bytes_eq name n
 
 -- An object is a member after events where one of them defines it, and no later one is about its
 -- kind and name.
-pub record IsMember (events : List Event) (o : Object) : Type 0 where
-  pub before : List Event
-  pub later : List Event
+pub record IsMember (events : List Change) (o : Object) : Type 0 where
+  pub before : List Change
+  pub later : List Change
   pub defined : events ≡ before ++ Defined o ∷ later
   pub last : AllByRecursion (λ e. is_about o.kind o.name e ≡ false) later
 
 -- the catalog of a history: its members, sorted by kind and name
-pub record IsCatalog (events : List Event) (objects : List Object) : Type 0 where
+pub record IsCatalog (events : List Change) (objects : List Object) : Type 0 where
   pub sorted : IsSorted objects
   pub members : (o : Object) → Contains objects o ↔ IsMember events o
 
 -- an object at its place among sorted ones, where it replaces the one of its kind and name
-abbrev pub put : Object → List Object → List Object
-put o [] = o ∷ []
-put o (p ∷ ps) = match_ordering (object_cmp o p) (o ∷ p ∷ ps) (o ∷ ps) (p ∷ put o ps)
+abbrev pub with_member : Object → List Object → List Object
+with_member o [] = o ∷ []
+with_member o (p ∷ ps) = match_ordering (object_cmp o p) (o ∷ p ∷ ps) (o ∷ ps) (p ∷ with_member o ps)
 
 -- one object after another
-abbrev pub put_all : List Object → List Object → List Object
-put_all [] os = os
-put_all (o ∷ rest) os = put_all rest (put o os)
+abbrev pub with_members : List Object → List Object → List Object
+with_members [] os = os
+with_members (o ∷ rest) os = with_members rest (with_member o os)
 
 -- the objects but for the one of that kind and name
 abbrev pub without : Kind → List ℕ → List Object → List Object

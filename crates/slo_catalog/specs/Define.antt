@@ -13,8 +13,8 @@ use Rattle.slo_catalog.specs.declared.fault.DefineError.{DefineError}
 use Rattle.slo_catalog.specs.declared.fault.DefineError.TheVariants as errors
 use Rattle.slo_catalog.specs.declared.reference.Reference.{Reference}
 use Rattle.slo_catalog.specs.declared.needs_op.NeedsOp.{NeedsOp}
-use Rattle.slo_catalog.specs.Keys.{is_kind, is_key, find_in}
-use Rattle.slo_catalog.specs.Catalog.{put_all}
+use Rattle.slo_catalog.specs.Keys.{is_kind, is_key, member_of}
+use Rattle.slo_catalog.specs.Catalog.{with_members}
 use Rattle.slo_catalog.specs.References.{is_built_in, first_unresolved}
 use Rattle.slo_catalog.specs.NeedsOp.{first_needing_op}
 use Rattle.slo_catalog.specs.Limits.{first_limit}
@@ -30,7 +30,7 @@ is_other_than (Some first) o = not (is_same first o)
 
 -- the first of the objects that is another than the member of its kind and name
 abbrev pub first_other : List Object → List Object → Option Object
-first_other members objects = find (λ o. is_other_than (find_in members o.kind o.name) o) objects
+first_other members objects = find (λ o. is_other_than (member_of members o.kind o.name) o) objects
 
 -- The first of the objects that is another than the first one of its kind and name.
 abbrev pub first_duplicate : List Object → Option Object
@@ -54,17 +54,17 @@ abbrev pub first_reserved : List Object → Option Object
 first_reserved objects = find is_reserved objects
 
 -- the faults that are named by what was found first
-abbrev pub reserved : Object → CatalogFault
-reserved o = faults.Reserved o.name
+abbrev pub reserved_fault : Object → CatalogFault
+reserved_fault o = faults.Reserved o.name
 
-abbrev pub duplicate : Object → CatalogFault
-duplicate o = faults.DuplicateInText o.kind o.name
+abbrev pub duplicate_fault : Object → CatalogFault
+duplicate_fault o = faults.DuplicateInText o.kind o.name
 
-abbrev pub unresolved : Reference → CatalogFault
-unresolved r = faults.Unresolved r.from_kind r.from_name r.kind r.name
+abbrev pub unresolved_fault : Reference → CatalogFault
+unresolved_fault r = faults.Unresolved r.from_kind r.from_name r.kind r.name
 
-abbrev pub needs_op : NeedsOp → CatalogFault
-needs_op n = faults.NeedsOp n.slo n.objective
+abbrev pub needs_op_fault : NeedsOp → CatalogFault
+needs_op_fault n = faults.NeedsOp n.slo n.objective
 
 -- a fault where something was found, or what comes of the tests behind it
 abbrev pub unless : {A : Type 0} → (A → CatalogFault) → Option A → Result (List Object) CatalogFault
@@ -74,19 +74,19 @@ unless fault (Some found) rest = Err (fault found)
 
 -- the members that would be there, unless a reference of the objects names none of them, or an
 -- objective lacks `op` or `value`
-abbrev pub judged : List Object → List Object → Result (List Object) CatalogFault
-judged members objects =
-    unless unresolved (first_unresolved members objects)
-    (unless needs_op (first_needing_op members objects) (Ok members))
+abbrev pub joined_members : List Object → List Object → Result (List Object) CatalogFault
+joined_members members objects =
+    unless unresolved_fault (first_unresolved members objects)
+    (unless needs_op_fault (first_needing_op members objects) (Ok members))
 
 -- The members that are there with the objects of a text, each of which replaces the one of its kind
 -- and name; or the first fault, in the order of these lines, where each names the first place that
 -- breaks its rule.
-abbrev pub proposed : List Object → List Object → Result (List Object) CatalogFault
-proposed old objects =
-    unless reserved (first_reserved objects)
-    (unless duplicate (first_duplicate objects)
-    (judged (put_all objects old) objects))
+abbrev pub proposed_members : List Object → List Object → Result (List Object) CatalogFault
+proposed_members old objects =
+    unless reserved_fault (first_reserved objects)
+    (unless duplicate_fault (first_duplicate objects)
+    (joined_members (with_members objects old) objects))
 
 -- members within the limits, or the first limit that they pass
 abbrev pub within_limits : List Object → Result (List Object) CatalogFault
@@ -97,8 +97,8 @@ then_within (Ok members) = within_limits members
 then_within (Err fault) = Err fault
 
 -- The catalog with the objects of a text: what is proposed, where it is within the limits.
-abbrev pub defined : List Object → List Object → Result (List Object) CatalogFault
-defined old objects = then_within (proposed old objects)
+abbrev pub defined_members : List Object → List Object → Result (List Object) CatalogFault
+defined_members old objects = then_within (proposed_members old objects)
 
 -- whether an object is written as the member that was found of its kind and name
 abbrev pub is_alike : Option Object → Object → Bool
@@ -108,7 +108,7 @@ is_alike (Some p) o = is_same p o
 -- A definition leaves a catalog as it is where each of its objects is written as the member of its
 -- kind and name.
 abbrev pub is_unchanged : List Object → List Object → Bool
-is_unchanged old objects = list_all (λ o. is_alike (find_in old o.kind o.name) o) objects
+is_unchanged old objects = list_all (λ o. is_alike (member_of old o.kind o.name) o) objects
 
 -- what a call gives: what the definition gives, unless memory ran out
 abbrev pub Defines : Result (List Object) DefineError → Result (List Object) CatalogFault → Type 0

@@ -11,12 +11,12 @@ use Rattle.slo_objects.specs.declared.slo.Objective.{Objective}
 use Rattle.slo_objects.specs.Sli.{is_threshold, sli_in}
 use Rattle.slo_objects.specs.Slo.{slo_in}
 use Rattle.slo_catalog.specs.declared.needs_op.NeedsOp.{NeedsOp}
-use Rattle.slo_catalog.specs.Keys.{find_in}
+use Rattle.slo_catalog.specs.Keys.{member_of}
 use Rattle.slo_catalog.specs.References.{first_given}
 
 -- the indicator of that name, and whether one that is there gives values
 abbrev pub sli_named : List Object → List ℕ → Option Sli
-sli_named members name = option_and_then (λ o. sli_in o.body) (find_in members kinds.Sli name)
+sli_named members name = option_and_then (λ o. sli_in o.body) (member_of members kinds.Sli name)
 
 abbrev pub gives_values : Option Sli → Bool
 gives_values None = false

@@ -19,7 +19,7 @@ use Rattle.slo_objects.specs.declared.sli.Ratio.{Ratio}
 use Rattle.slo_objects.specs.declared.sli.Ratio.TheVariants as ratios
 use Rattle.slo_objects.specs.Sli.{source_of}
 use Rattle.slo_catalog.specs.declared.reference.Reference.{Reference}
-use Rattle.slo_catalog.specs.Keys.{is_kind, find_in}
+use Rattle.slo_catalog.specs.Keys.{is_kind, member_of}
 
 -- the names of an omitted list are none
 abbrev pub names_in : Option (List (List ℕ)) → List (List ℕ)
@@ -39,8 +39,8 @@ abbrev pub data_sources : List MetricSource → List (List ℕ)
 data_sources sources = filter_map (λ s. s.metric_source_ref) sources
 
 -- references of an object to the objects of a kind that it names
-abbrev pub referring : Object → Kind → List (List ℕ) → List Reference
-referring o kind names =
+abbrev pub references_to : Object → Kind → List (List ℕ) → List Reference
+references_to o kind names =
     map (λ n. record { from_kind = o.kind; from_name = o.name; kind = kind; name = n }) names
 
 -- an SLO's are to its service, its indicator and its alert policies; a policy's to its conditions
@@ -65,7 +65,7 @@ references_in to (bodies.AlertNotificationTarget target) = []
 
 -- The references of an object, in the order of its fields.
 abbrev pub references : Object → List Reference
-references o = references_in (referring o) o.body
+references o = references_in (references_to o) o.body
 
 -- The policies of the Site Reliability Workbook ('Alerting on SLOs') are always there, and no
 -- object defines them.
@@ -84,7 +84,7 @@ abbrev pub is_built_in_policy : Reference → Bool
 is_built_in_policy r = is_kind r.kind kinds.AlertPolicy && is_built_in r.name
 
 abbrev pub is_resolved : List Object → Reference → Bool
-is_resolved members r = is_some (find_in members r.kind r.name) || is_built_in_policy r
+is_resolved members r = is_some (member_of members r.kind r.name) || is_built_in_policy r
 
 -- what the first of the items gives that gives something
 abbrev pub first_given : {A B : Type 0} → (A → Option B) → List A → Option B

@@ -6,7 +6,7 @@ use Rattle.slo_catalog.specs.declared.fault.RemoveFault.{RemoveFault}
 use Rattle.slo_catalog.specs.declared.fault.RemoveFault.TheVariants as faults
 use Rattle.slo_catalog.specs.declared.fault.RemoveError.{RemoveError}
 use Rattle.slo_catalog.specs.declared.fault.RemoveError.TheVariants as errors
-use Rattle.slo_catalog.specs.Keys.{find_in}
+use Rattle.slo_catalog.specs.Keys.{member_of}
 use Rattle.slo_catalog.specs.Catalog.{without}
 use Rattle.slo_catalog.specs.References.{first_referrer}
 
@@ -22,8 +22,8 @@ where_found (Some o) rest = rest
 
 -- The catalog without the object of that kind and name; or that there is none; or the first member
 -- that refers to it.
-abbrev pub removed : List Object → Kind → List ℕ → Result (List Object) RemoveFault
-removed old kind name = where_found (find_in old kind name)
+abbrev pub remaining_members : List Object → Kind → List ℕ → Result (List Object) RemoveFault
+remaining_members old kind name = where_found (member_of old kind name)
     (unless_used (first_referrer old kind name) (without kind name old))
 
 -- what a call gives: what the definition gives, unless memory ran out

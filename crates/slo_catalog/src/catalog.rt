@@ -3,7 +3,7 @@ ghost use Rattle.std.specs.Prelude.{◌≡◌, [], IfSome};
 ghost use Rattle.std.specs.List.{slice_get};
 ghost use Rattle.std.specs.Option.{option_copied};
 ghost use Rattle.slo_objects.specs.Document.{IsOfDocument};
-ghost use Rattle.slo_catalog.specs.Keys.{IsSorted, find_in};
+ghost use Rattle.slo_catalog.specs.Keys.{IsSorted, member_of};
 ghost use Rattle.slo_catalog.specs.References.{IsLegal};
 ghost use Rattle.slo_catalog.specs.Whole.{IsWhole};
 
@@ -100,7 +100,7 @@ impl Catalog {
 
     /// The object of that kind and name: none exactly where there is no such member.
     pub fn find(&self, kind: Kind, name: Label) -> Option<&Object>
-        ensures there { option_copied result ≡ find_in self.now kind name }
+        ensures there { option_copied result ≡ member_of self.now kind name }
         ensures written { IfSome result (λ object. IsOfDocument object.now) }
     {
         match self.sorted().find(kind, name) {

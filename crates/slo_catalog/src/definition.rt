@@ -3,9 +3,9 @@ ghost use Rattle.std.specs.Prelude.{◌≡◌, ◌++◌, List, map, IfOk};
 ghost use Rattle.std.specs.List.{All};
 ghost use Rattle.std.specs.Option.{option_copied};
 ghost use Rattle.slo_objects.specs.Document.{IsOfDocument};
-ghost use Rattle.slo_catalog.specs.Catalog.{Event, Defined, IsCatalog};
-ghost use Rattle.slo_catalog.specs.Define.{Defines, Proposes, judged as judged_lem, proposed};
-ghost use Rattle.slo_catalog.specs.Define.{defined, is_unchanged, is_reserved as is_reserved_lem};
+ghost use Rattle.slo_catalog.specs.Catalog.{Change, Defined, IsCatalog};
+ghost use Rattle.slo_catalog.specs.Define.{Defines, Proposes, joined_members as judged_lem, proposed_members};
+ghost use Rattle.slo_catalog.specs.Define.{defined_members, is_unchanged, is_reserved as is_reserved_lem};
 ghost use Rattle.slo_catalog.specs.Define.{first_reserved as first_reserved_lem};
 
 use crate::catalog::Catalog;
@@ -61,7 +61,7 @@ fn judged(alloc: Global, members: Members, objects: &[Member]) -> Result<Members
 
 /// The old members and others at their places, unless one of these has a fault.
 fn joined(alloc: Global, old: &Members, objects: &[Member]) -> Result<Members, DefineError>
-    ensures { Defines result (proposed old.now objects.now) }
+    ensures { Defines result (proposed_members old.now objects.now) }
 {
     if let Some(object) = first_reserved(objects) {
         return Err(DefineError::Fault(CatalogFault::Reserved { name: object.name }));
@@ -86,7 +86,7 @@ fn joined(alloc: Global, old: &Members, objects: &[Member]) -> Result<Members, D
 /// place that breaks its rule. Or memory ran out.
 pub fn propose(alloc: Global, old: &Catalog, objects: &[Object]) -> Result<Proposal, DefineError>
     requires { All IsOfDocument objects.now }
-    ensures exact { Proposes result (proposed old.now objects.now) }
+    ensures exact { Proposes result (proposed_members old.now objects.now) }
     ensures same { IfOk result (λ proposal. proposal.1 ≡ is_unchanged old.now objects.now) }
 {
     let objects = members_of(alloc, objects)?;
@@ -103,7 +103,7 @@ pub fn propose(alloc: Global, old: &Catalog, objects: &[Object]) -> Result<Propo
 /// What is proposed, where it is within the limits.
 fn defined_by(alloc: Global, old: &Catalog, objects: &[Object]) -> Result<Catalog, DefineError>
     requires { All IsOfDocument objects.now }
-    ensures { Defines result (defined old.now objects.now) }
+    ensures { Defines result (defined_members old.now objects.now) }
 {
     match propose(alloc, old, objects) {
         Ok(proposal) => proposal.admitted(alloc),
@@ -119,8 +119,8 @@ fn defined_by(alloc: Global, old: &Catalog, objects: &[Object]) -> Result<Catalo
 /// rule. Or memory ran out.
 pub fn define(alloc: Global, old: &Catalog, objects: &[Object]) -> Result<Catalog, DefineError>
     requires { All IsOfDocument objects.now }
-    ensures exact { Defines result (defined old.now objects.now) }
-    ensures history { (events : List Event) → IsCatalog events old.now
+    ensures exact { Defines result (defined_members old.now objects.now) }
+    ensures history { (events : List Change) → IsCatalog events old.now
         → IfOk result (λ catalog. IsCatalog (events ++ map Defined objects.now) catalog) }
 {
     defined_by(alloc, old, objects)

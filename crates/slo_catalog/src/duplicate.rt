@@ -3,7 +3,7 @@ ghost use Rattle.std.specs.Prelude.{◌≡◌, IfOk};
 ghost use Rattle.std.specs.Option.{option_copied};
 ghost use Rattle.slo_objects.specs.Document.{written};
 ghost use Rattle.slo_objects.specs.yaml_subset.Spelling.{writing};
-ghost use Rattle.slo_catalog.specs.Keys.{find_in};
+ghost use Rattle.slo_catalog.specs.Keys.{member_of};
 ghost use Rattle.slo_catalog.specs.Define.{is_same as is_same_lem};
 ghost use Rattle.slo_catalog.specs.Define.{is_other_than as is_other_than_lem};
 ghost use Rattle.slo_catalog.specs.Define.{first_duplicate as first_duplicate_lem};
@@ -39,7 +39,7 @@ pub(crate) fn is_same(alloc: Global, one: &Member, other: &Member) -> Result<boo
 /// is of its kind and name it is compared with nothing.
 fn is_other(alloc: Global, earlier: &Members, member: &Member) -> Result<bool, AllocError>
     ensures { IfOk result (λ other. other
-        ≡ is_other_than_lem (find_in earlier.now member.now.kind member.now.name) member.now) }
+        ≡ is_other_than_lem (member_of earlier.now member.now.kind member.now.name) member.now) }
 {
     let object = member.object();
     match earlier.find(object.kind, object.name) {

@@ -2,12 +2,12 @@
 ghost use Rattle.std.specs.Prelude.{◌≡◌, ℕ, List, [], ◌∷◌, ◌++◌, map};
 ghost use Rattle.slo_objects.specs.declared.kind.Kind.{Kind};
 ghost use Rattle.slo_objects.specs.declared.object.Object.{Object};
-ghost use Rattle.slo_catalog.specs.Catalog.{Event, Defined, Removed, IsCatalog, put_all, without};
+ghost use Rattle.slo_catalog.specs.Catalog.{Change, Defined, Removed, IsCatalog, with_members, without};
 ghost use Rattle.slo_catalog.specs.Define.{first_duplicate, first_differing};
 
 /// A history has one catalog.
 pub fn a_history_has_one_catalog()
-    ensures { (events : List Event) (os ps : List Object) → IsCatalog events os
+    ensures { (events : List Change) (os ps : List Object) → IsCatalog events os
         → IsCatalog events ps → os ≡ ps }
 {}
 
@@ -15,9 +15,9 @@ pub fn a_history_has_one_catalog()
 /// replaces the one of its kind and name, and a removal takes the object of its kind and name out.
 pub fn a_catalog_follows_its_history()
     ensures empty { IsCatalog [] [] }
-    ensures defined { (events : List Event) (os objects : List Object) → IsCatalog events os
-        → IsCatalog (events ++ map Defined objects) (put_all objects os) }
-    ensures removed { (events : List Event) (os : List Object) (kind : Kind) (name : List ℕ)
+    ensures defined { (events : List Change) (os objects : List Object) → IsCatalog events os
+        → IsCatalog (events ++ map Defined objects) (with_members objects os) }
+    ensures removed { (events : List Change) (os : List Object) (kind : Kind) (name : List ℕ)
         → IsCatalog events os → IsCatalog (events ++ Removed kind name ∷ [])
         (without kind name os) }
 {}

@@ -1,8 +1,8 @@
 //! Sorted members.
 ghost use Rattle.std.specs.Prelude.{◌≡◌, [], IfOk, MatchResult};
 ghost use Rattle.std.specs.Option.{option_copied};
-ghost use Rattle.slo_catalog.specs.Catalog.{put, put_all, without};
-ghost use Rattle.slo_catalog.specs.Keys.{IsSorted, find_in, key_cmp};
+ghost use Rattle.slo_catalog.specs.Catalog.{with_member, with_members, without};
+ghost use Rattle.slo_catalog.specs.Keys.{IsSorted, member_of, key_cmp};
 ghost use Rattle.slo_catalog.specs.Limits.{total_weight};
 ghost use Rattle.slo_catalog.specs.Places.{StandsAt, BelongsAt};
 
@@ -66,7 +66,7 @@ fn place_of(members: &[Member], kind: Kind, name: Label) -> Result<usize, usize>
 /// Puts a member at its place among sorted ones, where it replaces the one of its kind and name.
 fn put_in(members: MemberList, member: Member) -> Result<MemberList, AllocError>
     requires { IsSorted members }
-    ensures { IfOk result (λ new. new ≡ put member members) }
+    ensures { IfOk result (λ new. new ≡ with_member member members) }
 {
     let object = member.object();
     match place_of(members.as_slice(), object.kind, object.name) {
@@ -102,7 +102,7 @@ impl Members {
 
     /// The member of that kind and name: none exactly where there is none.
     pub(crate) fn find(&self, kind: Kind, name: Label) -> Option<&Member>
-        ensures { option_copied result ≡ find_in self.now kind name }
+        ensures { option_copied result ≡ member_of self.now kind name }
     {
         let members = self.as_slice();
         match place_of(members, kind, name) {
@@ -113,7 +113,7 @@ impl Members {
 
     /// The members with another at its place, where it replaces the one of its kind and name.
     pub(crate) fn put(self, member: Member) -> Result<Members, AllocError>
-        ensures { IfOk result (λ members. members ≡ put member self) }
+        ensures { IfOk result (λ members. members ≡ with_member member self) }
     {
         Ok(Members {
             list: put_in(self.list, member)?,
@@ -122,7 +122,7 @@ impl Members {
 
     /// The members with others at their places, put there one after another.
     pub(crate) fn put_all(self, others: &[Member]) -> Result<Members, AllocError>
-        ensures { IfOk result (λ members. members ≡ put_all others.now self) }
+        ensures { IfOk result (λ members. members ≡ with_members others.now self) }
     {
         let mut members = self;
         for member in others {

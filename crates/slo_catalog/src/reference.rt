@@ -6,7 +6,7 @@ ghost use Rattle.std.specs.List.{list_any};
 ghost use Rattle.slo_objects.specs.declared.kind.Kind.TheVariants as kinds;
 ghost use Rattle.slo_objects.specs.declared.object.Object.{Object};
 ghost use Rattle.slo_catalog.specs.References.{names_in as names_in_lem, data_sources, sources_of};
-ghost use Rattle.slo_catalog.specs.References.{sources_of_ratio, referring, references_of_slo};
+ghost use Rattle.slo_catalog.specs.References.{sources_of_ratio, references_to, references_of_slo};
 ghost use Rattle.slo_catalog.specs.References.{references_of_policy, references as references_lem};
 ghost use Rattle.slo_catalog.specs.References.{is_built_in as is_built_in_lem};
 ghost use Rattle.slo_catalog.specs.References.{is_built_in_policy as is_built_in_policy_lem};
@@ -58,7 +58,7 @@ fn refer(
     names: &[Label],
 ) -> Result<(), AllocError>
     ensures { OnOk result (references.new.items
-        ≡ references.old.items ++ referring object.now kind names.now) }
+        ≡ references.old.items ++ references_to object.now kind names.now) }
 {
     for name in names {
         references.push(Reference {
@@ -78,7 +78,7 @@ fn refer_to_source(
     source: &MetricSource,
 ) -> Result<(), AllocError>
     ensures { OnOk result (references.new.items
-        ≡ references.old.items ++ referring object.now kinds.DataSource
+        ≡ references.old.items ++ references_to object.now kinds.DataSource
         (data_sources (source.now ∷ []))) }
 {
     match &source.metric_source_ref {
@@ -93,7 +93,7 @@ fn refer_to_ratio(
     ratio: &Ratio,
 ) -> Result<(), AllocError>
     ensures { OnOk result (references.new.items
-        ≡ references.old.items ++ referring object.now kinds.DataSource
+        ≡ references.old.items ++ references_to object.now kinds.DataSource
         (data_sources (sources_of_ratio ratio.now))) }
 {
     match ratio {
@@ -114,7 +114,7 @@ fn refer_of_sli(
     sli: &Sli,
 ) -> Result<(), AllocError>
     ensures { OnOk result (references.new.items
-        ≡ references.old.items ++ referring object.now kinds.DataSource
+        ≡ references.old.items ++ references_to object.now kinds.DataSource
         (data_sources (sources_of sli.now.metric))) }
 {
     match &sli.metric {
@@ -129,7 +129,7 @@ fn refer_of_slo(
     slo: &Slo,
 ) -> Result<(), AllocError>
     ensures { OnOk result (references.new.items
-        ≡ references.old.items ++ references_of_slo (referring object.now) slo.now) }
+        ≡ references.old.items ++ references_of_slo (references_to object.now) slo.now) }
 {
     refer(references, object, Kind::Service, &[slo.service])?;
     refer(references, object, Kind::Sli, &[slo.indicator])?;
@@ -147,7 +147,7 @@ fn refer_of_policy(
     policy: &AlertPolicy,
 ) -> Result<(), AllocError>
     ensures { OnOk result (references.new.items
-        ≡ references.old.items ++ references_of_policy (referring object.now) policy.now) }
+        ≡ references.old.items ++ references_of_policy (references_to object.now) policy.now) }
 {
     refer(
         references,

@@ -1,7 +1,7 @@
 //! Removals.
 ghost use Rattle.std.specs.Prelude.{◌≡◌, ◌++◌, [], ◌∷◌, List, IfOk};
-ghost use Rattle.slo_catalog.specs.Catalog.{Event, Removed, IsCatalog};
-ghost use Rattle.slo_catalog.specs.Remove.{Removes, removed};
+ghost use Rattle.slo_catalog.specs.Catalog.{Change, Removed, IsCatalog};
+ghost use Rattle.slo_catalog.specs.Remove.{Removes, remaining_members};
 
 use crate::catalog::Catalog;
 use crate::fault::{RemoveError, RemoveFault};
@@ -12,7 +12,7 @@ use slo_objects::Kind;
 use std::alloc::Global;
 
 fn remove_one(alloc: Global, old: &Members, kind: Kind, name: Label) -> Result<Members, RemoveError>
-    ensures { Removes result (removed old.now kind name) }
+    ensures { Removes result (remaining_members old.now kind name) }
 {
     if old.find(kind, name).is_none() {
         return Err(RemoveError::Fault(RemoveFault::NotFound));
@@ -28,7 +28,7 @@ fn remove_one(alloc: Global, old: &Members, kind: Kind, name: Label) -> Result<M
 
 /// The catalog of what is left.
 fn removed_by(alloc: Global, old: &Catalog, kind: Kind, name: Label) -> Result<Catalog, RemoveError>
-    ensures { Removes result (removed old.now kind name) }
+    ensures { Removes result (remaining_members old.now kind name) }
 {
     match remove_one(alloc, old.sorted(), kind, name) {
         Ok(members) => Ok(Catalog::of(members)),
@@ -43,8 +43,8 @@ fn removed_by(alloc: Global, old: &Catalog, kind: Kind, name: Label) -> Result<C
 /// There is no such member; or the first member, in the catalog's order, that refers to it. Or
 /// memory ran out.
 pub fn remove(alloc: Global, old: &Catalog, kind: Kind, name: Label) -> Result<Catalog, RemoveError>
-    ensures exact { Removes result (removed old.now kind name) }
-    ensures history { (events : List Event) → IsCatalog events old.now
+    ensures exact { Removes result (remaining_members old.now kind name) }
+    ensures history { (events : List Change) → IsCatalog events old.now
         → IfOk result (λ catalog. IsCatalog (events ++ Removed kind name ∷ []) catalog) }
 {
     removed_by(alloc, old, kind, name)

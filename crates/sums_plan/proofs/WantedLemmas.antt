@@ -10,7 +10,7 @@ use Rattle.sample_book.specs.declared.Row.{Row}
 use Rattle.slo_objects.specs.declared.kind.Kind.TheVariants as kinds
 use Rattle.slo_objects.specs.declared.Object.{Object}
 use Rattle.slo_objects.specs.Slo.{slo_in}
-use Rattle.slo_catalog.specs.Keys.{find_in, is_key}
+use Rattle.slo_catalog.specs.Keys.{member_of, is_key}
 use Rattle.slo_catalog.proofs.KeyLemmas.{key_parts}
 use Rattle.catalog_measures.specs.Names.{is_slo, slo_names}
 use Rattle.kept_objectives.specs.kept_sums.Sums.{Fits}
@@ -39,7 +39,7 @@ with_name b o others =
 
 -- the name of an SLO that is found is one of the catalog's
 slo_among : (members : List Object) (name : List ℕ) (o : Object) →
-    find_in members kinds.Slo name ≡ Some o → Contains (slo_names members) name
+    member_of members kinds.Slo name ≡ Some o → Contains (slo_names members) name
 slo_among [] name o e = cc e
 slo_among (p ∷ ps) name o e =
     by (is_key kinds.Slo name p) refl e (slo_among ps name o)
@@ -54,8 +54,8 @@ slo_among (p ∷ ps) name o e =
     first false h same = cc h
 
     by : (b : Bool) → is_key kinds.Slo name p ≡ b →
-        cond b (Some p) (find_in ps kinds.Slo name) ≡ Some o →
-        (find_in ps kinds.Slo name ≡ Some o → Contains (slo_names ps) name) →
+        cond b (Some p) (member_of ps kinds.Slo name) ≡ Some o →
+        (member_of ps kinds.Slo name ≡ Some o → Contains (slo_names ps) name) →
         Contains (slo_names (p ∷ ps)) name
     by true key e more =
         let parts = key_parts kinds.Slo name p key in
@@ -75,9 +75,9 @@ only_objectives members =
 -- an SLO that has an objective is there
 named_there : (members : List Object) (name : List ℕ) (m : Measure) (number : ℕ) →
     slice_get (measures_named members name) number ≡ Some m → Contains (slo_names members) name
-named_there members name m number e = by (find_in members kinds.Slo name) refl e
+named_there members name m number e = by (member_of members kinds.Slo name) refl e
   where
-    by : (found : Option Object) → find_in members kinds.Slo name ≡ found →
+    by : (found : Option Object) → member_of members kinds.Slo name ≡ found →
         slice_get (measures_of members name (option_and_then (λ o. slo_in o.body) found)) number
         ≡ Some m → Contains (slo_names members) name
     by None is e = cc e

@@ -1,7 +1,7 @@
 use Rattle.std.proofs.Common.{◌≡◌, ◌∙◌, ℕ, List, Err, length, sym, ap, subst}
 use Rattle.definition_verdict.specs.declared.Definition.{Definition}
 use Rattle.definition_verdict.specs.Verdict.{IsDefinition, IsRefused}
-use Rattle.slo_catalog.specs.Catalog.{put_all}
+use Rattle.slo_catalog.specs.Catalog.{with_members}
 use Rattle.office_history.specs.Catalog.{text_objects}
 use Rattle.office_history.specs.declared.Judgement.{Judgement}
 use Rattle.office_history.specs.declared.Judgement.TheVariants.{Refused}
@@ -38,7 +38,7 @@ returns-in-Ok-text_and_plan c = (
   (
     c.in-Ok-text_and_plan.ensures.text,
     c.in-Ok.ensures.catalog ∙ ap
-        (λ (t : List ℕ). put_all (text_objects t) c.args.derived.now.catalog) c.as_bytes.ensures,
+        (λ (t : List ℕ). with_members (text_objects t) c.args.derived.now.catalog) c.as_bytes.ensures,
     c.in-Ok.ensures.objects ∙ ap (λ (t : List ℕ). length (text_objects t)) c.as_bytes.ensures,
     c.in-Ok-text_and_plan.ensures.plan,
   ),

@@ -1,5 +1,5 @@
 use Rattle.std.proofs.Common.{rules, ◌≡◌, true}
-use Rattle.slo_catalog.specs.Keys.{find_in}
+use Rattle.slo_catalog.specs.Keys.{member_of}
 use Rattle.slo_catalog.specs.Define.{is_other_than}
 use Rattle.slo_catalog.proofs.DuplicateLemmas.{ends_at, stops_at}
 use Rattle.slo_catalog.proofs.duplicate.first_duplicate.Goals as goal
@@ -7,7 +7,7 @@ use Rattle.slo_catalog.proofs.duplicate.first_duplicate.Goals as goal
 pub returns-then-branch : goal.returns-then-branch
 returns-then-branch c =
     let item = c.member-item.result in
-    let other : is_other_than (find_in c.loop-member.earlier item.kind item.name) item ≡ true =
+    let other : is_other_than (member_of c.loop-member.earlier item.kind item.name) item ≡ true =
     search rules in
     stops_at c.loop-member.earlier c.args.objects.now c.loop-member.member-index item
     c.loop-member-test.true c.member-item.is other c.loop-member.invariant

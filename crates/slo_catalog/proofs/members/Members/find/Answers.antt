@@ -1,5 +1,5 @@
 use Rattle.std.proofs.Common.{ap, ◌∙◌}
-use Rattle.slo_catalog.specs.Keys.{find_in}
+use Rattle.slo_catalog.specs.Keys.{member_of}
 use Rattle.slo_catalog.proofs.PlaceLemmas.{place_there, place_free, found_at, none_at}
 use Rattle.slo_catalog.proofs.members.Members.find.Goals as goal
 
@@ -9,11 +9,11 @@ returns-in-Ok c =
     c.index-members-place.result _
     (place_there c.args.kind c.args.name c.as_slice-members.result.now c.place_of.result
     c.in-Ok.place c.place_of.ensures c.in-Ok.is) c.index-members-place.is
-    ∙ ap (λ os. find_in os c.args.kind c.args.name) c.as_slice-members.ensures.all
+    ∙ ap (λ os. member_of os c.args.kind c.args.name) c.as_slice-members.ensures.all
 
 pub returns-in-Err : goal.returns-in-Err
 returns-in-Err c =
     none_at c.args.kind c.args.name c.as_slice-members.result.now c.in-Err.field-0
     (place_free c.args.kind c.args.name c.as_slice-members.result.now c.place_of.result
     c.in-Err.field-0 c.place_of.ensures c.in-Err.is)
-    ∙ ap (λ os. find_in os c.args.kind c.args.name) c.as_slice-members.ensures.all
+    ∙ ap (λ os. member_of os c.args.kind c.args.name) c.as_slice-members.ensures.all
