@@ -57,7 +57,7 @@ use Rattle.office_derived.proofs.Still.{IsStill, reflects_still}
 use Rattle.catalog_changes.specs.Judging.{known_by, IsJudgedBy, IsPlanOver, IsTextWork, IsRemoval}
 use Rattle.catalog_changes.specs.Judging.{IsZoneWork}
 use Rattle.catalog_changes.specs.Kinds.{TextsHaveKinds}
-use Rattle.catalog_changes.proofs.DefineLemmas.{made_of_text, kinds_of_text, events_put}
+use Rattle.catalog_changes.proofs.DefineLemmas.{made_of_text, kinds_of_text, changes_put}
 use Rattle.catalog_changes.proofs.ReadingLemmas.{define_read, remove_read}
 
 -- JUDGING
@@ -105,7 +105,7 @@ text_found d o moment text r (works.Define copy catalog applied plan) h = (
   ap Define h.0,
   (
     h.1 ∙ (λ i. with_members (text_objects (sym h.0 i)) (r.catalog i))
-        ∙ sym (events_put (text_objects copy) (catalog_in o.history))
+        ∙ sym (changes_put (text_objects copy) (catalog_in o.history))
         ∙ sym (catalog_more o.history (entry_of moment (works.Define copy catalog applied plan))),
     h.2 ∙ ap (λ (t : List ℕ). length (text_objects t)) (sym h.0),
     plan_over d o r catalog plan h.3,
@@ -172,7 +172,7 @@ text_judged known entries text made j h e =
 pub text_put : {E : Type 0} (known : Known) (text : List ℕ) (r : Result Definition E)
     → IfOk r (λ made. IsDefinition known text made)
     → IfOk r (λ made. made.catalog ≡ with_members (text_objects text) known.members)
-text_put known text (Ok made) h = (made_of_text known text made h).put
+text_put known text (Ok made) h = (made_of_text known text made h).catalog_is
 text_put known text (Err e) h = tt
 
 pub text_counted : {E : Type 0} (known : Known) (text : List ℕ) (r : Result Definition E)
@@ -340,7 +340,7 @@ pub text_read : TextsHaveKinds → (d : Derived) (text : List ℕ) (made : Defin
     IsDefinition (known_by d) text made → All (IsRead made.catalog) d.book.rows
 text_read law d text made s is =
     let m = made_of_text (known_by d) text made is in
-    subst (λ (members : List Object). All (IsRead members) d.book.rows) (sym m.put)
+    subst (λ (members : List Object). All (IsRead members) d.book.rows) (sym m.catalog_is)
     (define_read d.catalog d.book.rows (text_objects text) s.read
     (kinds_of_text law (known_by d) text made is) m.same_readings)
 
@@ -361,7 +361,7 @@ define_sound law d o m text catalog applied plan sums s n keeps =
     let made = made_of_text (known_of o) text a.made a.is in
     let is : catalog ≡ with_members (text_objects text) d.catalog =
     n.found.0 ∙ catalog_more o.history (entry_of m (works.Define text catalog applied plan))
-    ∙ events_put (text_objects text) (catalog_in o.history)
+    ∙ changes_put (text_objects text) (catalog_in o.history)
     ∙ ap (with_members (text_objects text)) (sym r.catalog) in
     let anew : first_read_anew d.catalog d.book.rows (text_objects text) ≡ None =
     (λ i. first_read_anew (r.catalog i) (r.rows i) (text_objects text)) ∙ made.same_readings in

@@ -83,7 +83,7 @@ proposed_members old objects members e =
 
 -- what is known of objects that are defined
 pub record AreDefined (known : Known) (objects members : List Object) : Type 0 where
-  pub put : members ≡ with_members objects known.members
+  pub members_are : members ≡ with_members objects known.members
   pub same_readings : first_read_anew known.members known.rows objects ≡ None
 
 pub defined_objects : (known : Known) (objects members : List Object)
@@ -106,13 +106,13 @@ defined_objects known objects members e = by (catalog.proposed known.members obj
         let whole = few_starts (one_begins_too_often known.horizon new) (Ok new) members limits.1 in
         let same : new ≡ members = cc whole in
         record {
-          with_member = sym same ∙ proposed_members known.members objects new f;
+          members_are = sym same ∙ proposed_members known.members objects new f;
           same_readings = samples.0;
         }
 
 -- what is known of a text that is defined
 pub record IsMade (known : Known) (text : List ℕ) (made : Definition) : Type 0 where
-  pub put : made.catalog ≡ with_members (text_objects text) known.members
+  pub catalog_is : made.catalog ≡ with_members (text_objects text) known.members
   pub counted : made.objects ≡ length (text_objects text)
   pub same_readings : first_read_anew known.members known.rows (text_objects text) ≡ None
 
@@ -133,7 +133,7 @@ made_of_text known text made is =
     let all = all_of_text text is.nodes is.all is.stands is.read in
     let d = defined_objects known is.all made.catalog is.defined in
     record {
-      with_member = d.put ∙ ap (λ objects. with_members objects known.members) all;
+      catalog_is = d.members_are ∙ ap (λ objects. with_members objects known.members) all;
       counted = is.of_objects ∙ ap length all;
       same_readings = ap (first_read_anew known.members known.rows) (sym all) ∙ d.same_readings;
     }
@@ -145,8 +145,8 @@ kinds_of_text law known text made is =
     subst (AllByRecursion HasKind) (all_of_text text is.nodes is.all is.stands is.read)
     (law text is.nodes is.all is.stands is.read)
 
--- the events of a definition put its objects in their places
-pub events_put : (objects members : List Object)
+-- the changes by a definition put its objects in their places
+pub changes_put : (objects members : List Object)
     → fold members_after members (map Defined objects) ≡ with_members objects members
-events_put [] members = refl
-events_put (o ∷ os) members = events_put os (with_member o members)
+changes_put [] members = refl
+changes_put (o ∷ os) members = changes_put os (with_member o members)

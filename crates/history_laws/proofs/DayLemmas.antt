@@ -36,7 +36,7 @@ use Rattle.office_history.specs.Legal.{empty, followed, office}
 use Rattle.office_history.specs.Lists.{first_some}
 use Rattle.office_history.specs.Verdicts.{accepted, samples_verdict, unless_refused}
 use Rattle.office_derived.proofs.More.{catalog_more, rows_more}
-use Rattle.catalog_changes.proofs.DefineLemmas.{events_put, made_of_text}
+use Rattle.catalog_changes.proofs.DefineLemmas.{changes_put, made_of_text}
 use Rattle.history_laws.specs.Kept.{DaysAreFew}
 
 -- LIMITS
@@ -76,7 +76,7 @@ text_days : (known : Known) (entries : ℕ) (text : List ℕ) (j : Judgement) �
 text_days known entries text _ (refused h) e = cc e
 text_days known entries text _ (defined {made = made} h) e =
     subst (λ (members : List Object). objective_days members known.rows ≤ most.MAX_DAYS)
-    (made_of_text known text made h).put
+    (made_of_text known text made h).catalog_is
     (within (objective_days made.catalog known.rows)
     (cond made.same (Same (Defined made.objects None)) (accepted entries)) e)
 
@@ -125,7 +125,7 @@ days_after : (origin : ℕ) (h : List Entry) (m : ℕ) (c : Command) →
     (current_rows (rows_in h ++ rows_of c)) ≤ most.MAX_DAYS
 days_after origin h m (Define text) few v =
     subst (λ (members : List Object). objective_days members (current_rows (rows_in h ++ []))
-    ≤ most.MAX_DAYS) (sym (events_put (text_objects text) (catalog_in h)))
+    ≤ most.MAX_DAYS) (sym (changes_put (text_objects text) (catalog_in h)))
     (same_days (with_members (text_objects text) (catalog_in h)) (rows_in h)
     (text_days (known_of (office origin h)) (length h) text Accepted v refl))
 days_after origin h m (Remove kind name) few v =

@@ -38,7 +38,7 @@ use Rattle.sample_changes.proofs.Kept.{all_current}
 use Rattle.sample_changes.proofs.Tallies.{verdicts_each}
 use Rattle.catalog_changes.specs.Kinds.{TextsHaveKinds}
 use Rattle.catalog_changes.proofs.ChangeLemmas.{accepted_removal, accepted_text}
-use Rattle.catalog_changes.proofs.DefineLemmas.{events_put, kinds_of_text, made_of_text}
+use Rattle.catalog_changes.proofs.DefineLemmas.{changes_put, kinds_of_text, made_of_text}
 use Rattle.catalog_changes.proofs.ReadingLemmas.{define_read, remove_read}
 use Rattle.history_laws.specs.Kept.{CurrentRowsAreRead, RowsAreRead}
 
@@ -134,7 +134,7 @@ read_after law origin h m (Define text) read v =
     let new = define_read (catalog_in h) (rows_in h) objects old
     (kinds_of_text law known text a.made a.is) anew in
     subst (λ (members : List Object). AreRead members (rows_in h ++ []))
-    (sym (events_put objects (catalog_in h)))
+    (sym (changes_put objects (catalog_in h)))
     (same_read (with_members objects (catalog_in h)) (rows_in h)
     (recursion_from_All (IsRead (with_members objects (catalog_in h))) (rows_in h) new))
 read_after law origin h m (Remove kind name) read v =

@@ -7,7 +7,8 @@ use Rattle.definition_verdict.specs.yaml_subset.Text.{nodes_of, without_mark}
 use Rattle.definition_verdict.specs.slo_objects.Document.{objects_of}
 use Rattle.definition_verdict.specs.slo_objects.declared.Object.{Object}
 use Rattle.definition_verdict.specs.slo_objects.declared.ObjectFault.{ObjectFault}
-use Rattle.definition_verdict.specs.slo_catalog.Catalog.{Change, Defined, Removed, with_member, without}
+use Rattle.definition_verdict.specs.slo_catalog.Catalog.{Change, Defined, Removed, with_member}
+use Rattle.definition_verdict.specs.slo_catalog.Catalog.{without}
 use Rattle.definition_verdict.specs.record_form.declared.Command.{Command}
 use Rattle.definition_verdict.specs.record_form.declared.Command.TheVariants.{Define, Remove}
 use Rattle.definition_verdict.specs.record_form.declared.Entry.{Entry}

@@ -13,8 +13,10 @@ use Rattle.slo_catalog.specs.References.{first_unresolved, IsLegal}
 use Rattle.slo_catalog.specs.Whole.{IsJoined, IsWhole}
 use Rattle.slo_catalog.specs.NeedsOp.{first_needing_op}
 use Rattle.slo_catalog.specs.Limits.{first_limit}
-use Rattle.slo_catalog.specs.Define.{unless, reserved_fault, duplicate_fault, unresolved_fault, needs_op_fault}
-use Rattle.slo_catalog.specs.Define.{first_reserved, first_duplicate, joined_members, proposed_members}
+use Rattle.slo_catalog.specs.Define.{unless, reserved_fault, duplicate_fault, unresolved_fault}
+use Rattle.slo_catalog.specs.Define.{needs_op_fault}
+use Rattle.slo_catalog.specs.Define.{first_reserved, first_duplicate, joined_members}
+use Rattle.slo_catalog.specs.Define.{proposed_members}
 use Rattle.slo_catalog.specs.Define.{within_limits, then_within, defined_members, Defines}
 use Rattle.slo_catalog.proofs.LegalLemmas.{legal_defined}
 use Rattle.slo_catalog.proofs.WholeLemmas.{ops_of_none}
@@ -34,17 +36,18 @@ ok_of other (Err fault) = other
 pub record IsProposed (old objects members : List Object) : Type 0 where
   pub resolved : first_unresolved (with_members objects old) objects ≡ None
   pub ops : first_needing_op (with_members objects old) objects ≡ None
-  pub put : members ≡ with_members objects old
+  pub members_are : members ≡ with_members objects old
 
 pub proposed_of : (old objects members : List Object) → proposed_members old objects ≡ Ok members
     → IsProposed old objects members
 proposed_of old objects members h =
     let all : List Object = with_members objects old in
     let a = not_refused reserved_fault (first_reserved objects) _ members h in
-    let b = not_refused duplicate_fault (first_duplicate objects) (joined_members all objects) members a.1 in
+    let b = not_refused duplicate_fault (first_duplicate objects)
+    (joined_members all objects) members a.1 in
     let c = not_refused unresolved_fault (first_unresolved all objects) _ members b.1 in
     let d = not_refused needs_op_fault (first_needing_op all objects) (Ok all) members c.1 in
-    record { resolved = c.0; ops = d.0; with_member = sym (ap (ok_of members) d.1) }
+    record { resolved = c.0; ops = d.0; members_are = sym (ap (ok_of members) d.1) }
 
 -- what is within the limits was proposed
 proposed_by : (r : Result (List Object) CatalogFault) (members : List Object)
@@ -53,19 +56,20 @@ proposed_by (Err fault) members h = absurd (true≢false (sym (ap is_ok h)))
 proposed_by (Ok all) members h = (not_refused faults.Limit (first_limit all) (Ok all) members h).1
 
 pub history_of : (old objects : List Object) (r : Result (List Object) DefineError)
-    → Defines r (defined_members old objects) → (events : List Change) → IsCatalog events old
-    → IfOk r (λ members. IsCatalog (events ++ map Defined objects) members)
-history_of old objects (Ok members) h events c =
-    subst (λ ms. IsCatalog (events ++ map Defined objects) ms)
-    (sym (proposed_of old objects members (proposed_by (proposed_members old objects) members h)).put)
-    (all_defined objects old events c)
-history_of old objects (Err e) h events c = tt
+    → Defines r (defined_members old objects) → (changes : List Change) → IsCatalog changes old
+    → IfOk r (λ members. IsCatalog (changes ++ map Defined objects) members)
+history_of old objects (Ok members) h changes c =
+    subst (λ ms. IsCatalog (changes ++ map Defined objects) ms)
+    (sym (proposed_of old objects members
+    (proposed_by (proposed_members old objects) members h)).members_are)
+    (all_defined objects old changes c)
+history_of old objects (Err e) h changes c = tt
 
 pub joined_of : (old objects members : List Object) → proposed_members old objects ≡ Ok members
     → IsSorted old → IsLegal old → IsJoined members
 joined_of old objects members h s legal =
     let a = proposed_of old objects members h in
-    subst IsJoined (sym a.put) (record {
+    subst IsJoined (sym a.members_are) (record {
       legal = legal_defined objects old s legal a.resolved;
       ops = ops_of_none (with_members objects old) objects a.ops;
     })
@@ -75,7 +79,8 @@ pub joined_by : (old objects members : List Object) (r : Result (List Object) De
     → Defines r (proposed_members old objects) → r ≡ Ok members → IsSorted old → IsLegal old
     → IsJoined members
 joined_by old objects members r h e s legal =
-    joined_of old objects members (subst (λ x. Defines x (proposed_members old objects)) e h) s legal
+    joined_of old objects members
+    (subst (λ x. Defines x (proposed_members old objects)) e h) s legal
 
 -- what a call gave that looked for limits
 pub within_by : (members after : List Object) (r : Result (List Object) DefineError)

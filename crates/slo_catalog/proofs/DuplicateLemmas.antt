@@ -237,7 +237,8 @@ holds_more : (members earlier : List Object) (o : Object) → Holds members earl
 holds_more members earlier o holds kind name = by (is_key kind name o) refl (holds kind name)
   where
     put_found : (b : Bool) → is_key kind name o ≡ b
-        → member_of (with_member o members) kind name ≡ cond b (Some o) (member_of members kind name)
+        → member_of (with_member o members) kind name
+        ≡ cond b (Some o) (member_of members kind name)
     put_found b e = find_put o members kind name
         ∙ ap (λ b. cond b (Some o) (member_of members kind name)) e
 
@@ -271,7 +272,8 @@ found_against : (members earlier os : List Object) → Agree earlier → Holds m
 found_against members earlier [] agree holds = refl
 found_against members earlier (o ∷ os) agree holds =
     by (differs earlier o) (other_by members earlier o agree (holds o.kind o.name))
-    refl (λ h. found_against (with_member o members) (earlier ++ o ∷ []) os (agree_more earlier o agree h)
+    refl (λ h. found_against (with_member o members) (earlier ++ o ∷ []) os
+    (agree_more earlier o agree h)
     (holds_more members earlier o holds))
   where
     by : (b : Bool) → is_other_than (member_of members o.kind o.name) o ≡ b
@@ -281,7 +283,8 @@ found_against members earlier (o ∷ os) agree holds =
         → first_against members (o ∷ os)
         ≡ cond b (Some o) (first_differing (earlier ++ o ∷ []) os)
     by true e f again = ap (λ b. cond b (Some o) (first_against (with_member o members) os)) e
-    by false e f again = ap (λ b. cond b (Some o) (first_against (with_member o members) os)) e ∙ again f
+    by false e f again = ap (λ b. cond b (Some o) (first_against (with_member o members) os)) e
+        ∙ again f
 
 first_by_earlier : (objects : List Object) → first_against [] objects ≡ first_duplicate objects
 first_by_earlier objects =
@@ -297,7 +300,8 @@ pub stops_at : (members objects : List Object) (i : ℕ) (o : Object) → i < le
 stops_at members objects i o below is other so_far =
     sym (ap (first_against members)
     (drop_more objects i o below ∙ ap (λ x. x ∷ drop (i + 1) objects) (sym is))
-    ∙ ap (λ b. cond b (Some o) (first_against (with_member o members) (drop (i + 1) objects))) other)
+    ∙ ap (λ b. cond b (Some o) (first_against (with_member o members) (drop (i + 1) objects)))
+    other)
     ∙ so_far ∙ first_by_earlier objects
 
 -- there is none where none was found up to the end

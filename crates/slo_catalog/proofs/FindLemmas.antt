@@ -46,12 +46,14 @@ both_keys o p kind name h k = let parts = key_parts kind name p k in
 
 -- the object that was put is found under its own kind and name, and the others as before
 pub find_put : (o : Object) (os : List Object) (kind : Kind) (name : List ℕ)
-    → member_of (with_member o os) kind name ≡ cond (is_key kind name o) (Some o) (member_of os kind name)
+    → member_of (with_member o os) kind name
+    ≡ cond (is_key kind name o) (Some o) (member_of os kind name)
 find_put o [] kind name = refl
 find_put o (p ∷ ps) kind name = by (object_cmp o p) refl (find_put o ps kind name)
   where
     by : (r : Ordering) → object_cmp o p ≡ r
-        → member_of (with_member o ps) kind name ≡ cond (is_key kind name o) (Some o) (member_of ps kind name)
+        → member_of (with_member o ps) kind name
+        ≡ cond (is_key kind name o) (Some o) (member_of ps kind name)
         → member_of (match_ordering r (o ∷ p ∷ ps) (o ∷ ps) (p ∷ with_member o ps)) kind name
         ≡ cond (is_key kind name o) (Some o) (member_of (p ∷ ps) kind name)
     by Less e again = refl

@@ -1,4 +1,4 @@
--- What one more event makes of a catalog.
+-- What one more change makes of a catalog.
 use Rattle.std.proofs.Common.{◌≡◌, ℕ, Bool, true, false, not, ◌&&◌, ◌⊎◌, inl, inr, List, []}
 use Rattle.std.proofs.Common.{◌∷◌, ◌++◌, map, refl, sym, ap, ◌∙◌, subst, bytes_eq, append_assoc}
 use Rattle.std.proofs.Common.{append-nil, true≢false, ◌↔◌}
@@ -6,7 +6,8 @@ use Rattle.std.specs.List.{AllByRecursion, Contains}
 use Rattle.slo_objects.specs.declared.kind.Kind.{Kind}
 use Rattle.slo_objects.specs.declared.object.Object.{Object}
 use Rattle.slo_catalog.specs.Keys.{is_key, IsSorted}
-use Rattle.slo_catalog.specs.Catalog.{Change, Defined, Removed, is_about, IsMember, IsCatalog, with_member}
+use Rattle.slo_catalog.specs.Catalog.{Change, Defined, Removed, is_about, IsMember, IsCatalog}
+use Rattle.slo_catalog.specs.Catalog.{with_member}
 use Rattle.slo_catalog.specs.Catalog.{with_members, without}
 use Rattle.slo_catalog.proofs.AmongLemmas.{Among, among_of, contains_of}
 use Rattle.slo_catalog.proofs.PutLemmas.{put_sorted, in_put, put_there, put_keeps, without_sorted}
@@ -15,7 +16,7 @@ use Rattle.slo_catalog.proofs.PutLemmas.{in_without, without_keeps}
 abbrev NoneAbout : Object → List Change → Type 0
 NoneAbout o es = AllByRecursion (λ e. is_about o.kind o.name e ≡ false) es
 
--- some event defines the object, and none behind it is about it
+-- some change defines the object, and none behind it is about it
 abbrev Lasts : Object → List Change → Type 0
 Lasts o [] = ⊥
 Lasts o (e ∷ es) = ((e ≡ Defined o) × NoneAbout o es) ⊎ Lasts o es
@@ -28,16 +29,16 @@ lasts_at o (e ∷ before) later h = inr (lasts_at o before later h)
 lasts_of : (o : Object) (es : List Change) → IsMember es o → Lasts o es
 lasts_of o es m = subst (λ es. Lasts o es) (sym m.defined) (lasts_at o m.before m.later m.last)
 
-member_of : (o : Object) (es : List Change) → Lasts o es → IsMember es o
-member_of o [] h = absurd h
-member_of o (e ∷ es) (inl h) = record {
+lasting_member : (o : Object) (es : List Change) → Lasts o es → IsMember es o
+lasting_member o [] h = absurd h
+lasting_member o (e ∷ es) (inl h) = record {
   before = [];
   later = es;
   defined = ap (λ d. d ∷ es) h.0;
   last = h.1;
 }
-member_of o (e ∷ es) (inr h) =
-    let m = member_of o es h in
+lasting_member o (e ∷ es) (inr h) =
+    let m = lasting_member o es h in
     record {
       before = e ∷ m.before;
       later = m.later;
@@ -91,8 +92,8 @@ defined_kept es os o c = record { sorted = put_sorted o os c.sorted; members = �
         by : (o ≡ q) ⊎ (Among os q × (is_key q.kind q.name o ≡ false))
             → IsMember (es ++ Defined o ∷ []) q
         by (inl same) = subst (λ q. IsMember (es ++ Defined o ∷ []) q) same
-            (member_of o (es ++ Defined o ∷ []) (lasts_now o es))
-        by (inr k) = member_of q (es ++ Defined o ∷ []) (lasts_still q es (Defined o)
+            (lasting_member o (es ++ Defined o ∷ []) (lasts_now o es))
+        by (inr k) = lasting_member q (es ++ Defined o ∷ []) (lasts_still q es (Defined o)
             (lasts_of q es ((c.members q).0 (contains_of os q k.0))) k.1)
 
     from : (q : Object) → IsMember (es ++ Defined o ∷ []) q → Contains (with_member o os) q
@@ -102,7 +103,8 @@ defined_kept es os o c = record { sorted = put_sorted o os c.sorted; members = �
         by : Pushed q es (Defined o) → Among (with_member o os) q
         by (inl same) =
             subst (λ q. Among (with_member o os) q) (ap (λ e. defined_of e o) same) (put_there o os)
-        by (inr k) = put_keeps o q os (among_of os q ((c.members q).1 (member_of q es k.0))) k.1
+        by (inr k) = put_keeps o q os
+            (among_of os q ((c.members q).1 (lasting_member q es k.0))) k.1
 
 abbrev is_removal : Change → Bool
 is_removal (Defined o) = false
@@ -123,7 +125,7 @@ removed_kept es os kind name c = record {
         → IsMember (es ++ Removed kind name ∷ []) q
     to q h =
         let k = in_without kind name q os (among_of (without kind name os) q h) in
-        member_of q (es ++ Removed kind name ∷ []) (lasts_still q es (Removed kind name)
+        lasting_member q (es ++ Removed kind name ∷ []) (lasts_still q es (Removed kind name)
         (lasts_of q es ((c.members q).0 (contains_of os q k.0))) (not_true _ k.1))
 
     from : (q : Object) → IsMember (es ++ Removed kind name ∷ []) q
@@ -134,7 +136,7 @@ removed_kept es os kind name c = record {
         by : Pushed q es (Removed kind name) → Among (without kind name os) q
         by (inl same) = absurd (true≢false (ap is_removal same))
         by (inr k) = without_keeps kind name q os
-            (among_of os q ((c.members q).1 (member_of q es k.0))) (ap not k.1)
+            (among_of os q ((c.members q).1 (lasting_member q es k.0))) (ap not k.1)
 
 pub all_defined : (objects os : List Object) (es : List Change) → IsCatalog es os
     → IsCatalog (es ++ map Defined objects) (with_members objects os)
@@ -144,8 +146,8 @@ all_defined (o ∷ rest) os es c =
     (append_assoc es (Defined o ∷ []) (map Defined rest))
     (all_defined rest (with_member o os) (es ++ Defined o ∷ []) (defined_kept es os o c))
 
-pub no_events : IsCatalog [] []
-no_events = record {
+pub no_changes : IsCatalog [] []
+no_changes = record {
   sorted = tt;
   members = λ o. (λ h. absurd (among_of [] o h), λ m. absurd (lasts_of o [] m));
 }

@@ -50,7 +50,8 @@ found_there [] kind name q h k = absurd h
 found_there (o ∷ os) kind name q h k =
     by (is_key kind name o) refl (λ h. found_there os kind name q h k) h
   where
-    by : (b : Bool) → is_key kind name o ≡ b → (Among os q → is_some (member_of os kind name) ≡ true)
+    by : (b : Bool) → is_key kind name o ≡ b
+        → (Among os q → is_some (member_of os kind name) ≡ true)
         → Among (o ∷ os) q → is_some (cond b (Some o) (member_of os kind name)) ≡ true
     by true e again h = refl
     by false e again (inl same) = absurd (true≢false (sym (ap (is_key kind name) same ∙ k) ∙ e))
@@ -77,10 +78,12 @@ covers_both old between new f g o h =
 
 put_all_covers : (objects os : List Object) → Covers os (with_members objects os)
 put_all_covers [] os q h = (q, (h, key_itself q))
-put_all_covers (o ∷ rest) os q h = covers_both os (with_member o os) (with_members rest (with_member o os))
+put_all_covers (o ∷ rest) os q h = covers_both os (with_member o os)
+    (with_members rest (with_member o os))
     (put_covers o os) (put_all_covers rest (with_member o os)) q h
 
-in_put_all : (objects os : List Object) (q : Object) → IsSorted os → Among (with_members objects os) q
+in_put_all : (objects os : List Object) (q : Object) → IsSorted os
+    → Among (with_members objects os) q
     → Among objects q ⊎ Among os q
 in_put_all [] os q s h = inr h
 in_put_all (o ∷ rest) os q s h = by (in_put_all rest (with_member o os) q (put_sorted o os s) h)
@@ -157,14 +160,16 @@ all_with P Q R f (x ∷ xs) h k = (f x h.0 k.0, all_with P Q R f xs h.1 k.1)
 -- Objects whose references are all resolved, put into a legal catalog, give a legal one.
 pub legal_defined : (objects os : List Object) → IsSorted os → IsLegal os
     → first_unresolved (with_members objects os) objects ≡ None → IsLegal (with_members objects os)
-legal_defined objects os s legal h = all_of (IsResolvedIn (with_members objects os)) (with_members objects os)
+legal_defined objects os s legal h = all_of (IsResolvedIn (with_members objects os))
+    (with_members objects os)
     (λ q k. by q (in_put_all objects os q s k))
   where
     by : (q : Object) → Among objects q ⊎ Among os q → IsResolvedIn (with_members objects os) q
     by q (inl k) = all_among (IsResolvedIn (with_members objects os)) objects q
         (all_resolved (with_members objects os) objects h) k
     by q (inr k) =
-        all_weaker (λ r. is_resolved os r ≡ true) (λ r. is_resolved (with_members objects os) r ≡ true)
+        all_weaker (λ r. is_resolved os r ≡ true)
+        (λ r. is_resolved (with_members objects os) r ≡ true)
         (resolved_still os (with_members objects os) (put_all_covers objects os)) (references q)
         (all_among (IsResolvedIn os) os q legal k)
 

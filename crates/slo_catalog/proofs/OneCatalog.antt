@@ -44,9 +44,9 @@ same_lists (o ∷ os) (p ∷ ps) s t f g =
     ap₂ (λ x xs. x ∷ xs) same
     (same_lists os ps s.1 t.1 (tails o p os ps same s f) (tails p o ps os (sym same) t g))
 
-pub one_catalog : (events : List Change) (os ps : List Object) → IsCatalog events os
-    → IsCatalog events ps → os ≡ ps
-one_catalog events os ps c d = same_lists os ps c.sorted d.sorted (from os ps c d) (from ps os d c)
+pub one_catalog : (changes : List Change) (os ps : List Object) → IsCatalog changes os
+    → IsCatalog changes ps → os ≡ ps
+one_catalog changes os ps c d = same_lists os ps c.sorted d.sorted (from os ps c d) (from ps os d c)
   where
-    from : (os ps : List Object) → IsCatalog events os → IsCatalog events ps → Within os ps
+    from : (os ps : List Object) → IsCatalog changes os → IsCatalog changes ps → Within os ps
     from os ps c d q h = among_of ps q ((d.members q).1 ((c.members q).0 (contains_of os q h)))

@@ -18,7 +18,8 @@ put_before p o [] h all = (h, tt)
 put_before p o (q ∷ qs) h all = by (object_cmp o q) (put_before p o qs h all.1)
   where
     by : (r : Ordering) → AllByRecursion (ComesBefore p) (with_member o qs)
-        → AllByRecursion (ComesBefore p) (match_ordering r (o ∷ q ∷ qs) (o ∷ qs) (q ∷ with_member o qs))
+        → AllByRecursion (ComesBefore p)
+        (match_ordering r (o ∷ q ∷ qs) (o ∷ qs) (q ∷ with_member o qs))
     by Less more = (h, all)
     by Equal more = (h, all.1)
     by Greater more = (all.0, more)
@@ -90,7 +91,8 @@ pub put_keeps : (o q : Object) (os : List Object) → Among os q → is_key q.ki
 put_keeps o q [] h apart = absurd h
 put_keeps o q (p ∷ ps) h apart = by (object_cmp o p) refl (λ k. put_keeps o q ps k apart) h
   where
-    by : (r : Ordering) → object_cmp o p ≡ r → (Among ps q → Among (with_member o ps) q) → Among (p ∷ ps) q
+    by : (r : Ordering) → object_cmp o p ≡ r → (Among ps q → Among (with_member o ps) q)
+        → Among (p ∷ ps) q
         → Among (match_ordering r (o ∷ p ∷ ps) (o ∷ ps) (p ∷ with_member o ps)) q
     by Less e again k = inr k
     by Equal e again (inl same) = absurd

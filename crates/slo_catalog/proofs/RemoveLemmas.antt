@@ -38,12 +38,12 @@ left_by old members kind name h =
 
 pub history_of : (old : List Object)
     (kind : Kind) (name : List ℕ) (r : Result (List Object) RemoveError)
-    → Removes r (remaining_members old kind name) → (events : List Change) → IsCatalog events old
-    → IfOk r (λ members. IsCatalog (events ++ Removed kind name ∷ []) members)
-history_of old kind name (Err e) h events c = tt
-history_of old kind name (Ok members) h events c =
-    subst (λ ms. IsCatalog (events ++ Removed kind name ∷ []) ms)
-    (sym (left_by old members kind name h).1) (removed_kept events old kind name c)
+    → Removes r (remaining_members old kind name) → (changes : List Change) → IsCatalog changes old
+    → IfOk r (λ members. IsCatalog (changes ++ Removed kind name ∷ []) members)
+history_of old kind name (Err e) h changes c = tt
+history_of old kind name (Ok members) h changes c =
+    subst (λ ms. IsCatalog (changes ++ Removed kind name ∷ []) ms)
+    (sym (left_by old members kind name h).1) (removed_kept changes old kind name c)
 
 pub whole_of : (old members : List Object) (kind : Kind) (name : List ℕ)
     → remaining_members old kind name ≡ Ok members → IsWhole old → IsWhole members
@@ -59,7 +59,9 @@ whole_of old members kind name h whole =
 
 -- the same of what a call gave
 pub whole_by : (old members : List Object) (kind : Kind) (name : List ℕ)
-    (r : Result (List Object) RemoveError) → Removes r (remaining_members old kind name) → r ≡ Ok members
+    (r : Result (List Object) RemoveError) → Removes r (remaining_members old kind name)
+    → r ≡ Ok members
     → IsWhole old → IsWhole members
 whole_by old members kind name r h e whole =
-    whole_of old members kind name (subst (λ x. Removes x (remaining_members old kind name)) e h) whole
+    whole_of old members kind name
+    (subst (λ x. Removes x (remaining_members old kind name)) e h) whole

@@ -76,7 +76,8 @@ put_alike law o os s all a (Some p) e h =
     put_member o os s (subst (Among os) same there)
 
 each_alike : OneText → (objects os : List Object) → IsSorted os → AllByRecursion IsOfDocument os
-    → AllByRecursion IsOfDocument objects → is_unchanged os objects ≡ true → with_members objects os ≡ os
+    → AllByRecursion IsOfDocument objects → is_unchanged os objects ≡ true
+    → with_members objects os ≡ os
 each_alike law [] os s all h e = refl
 each_alike law (o ∷ rest) os s all h e =
     ap (with_members rest) (put_alike law o os s all h.0 (member_of os o.kind o.name) refl

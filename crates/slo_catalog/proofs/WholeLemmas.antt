@@ -64,7 +64,8 @@ kept_apart [] kind name k n apart = refl
 kept_apart (o ∷ os) kind name k n apart =
     by (is_key kind name o) refl (kept_apart os kind name k n apart)
   where
-    by : (b : Bool) → is_key kind name o ≡ b → member_of (without kind name os) k n ≡ member_of os k n
+    by : (b : Bool) → is_key kind name o ≡ b
+        → member_of (without kind name os) k n ≡ member_of os k n
         → member_of (cond (not b) (o ∷ without kind name os) (without kind name os)) k n
         ≡ cond (is_key k n o) (Some o) (member_of os k n)
     by true e rest = rest ∙ sym (ap (λ c. cond c (Some o) (member_of os k n)) (apart o e))

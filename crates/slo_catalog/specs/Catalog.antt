@@ -13,28 +13,29 @@ pub data Change : Type 0 where
   Defined : Object → Change
   Removed : Kind → List ℕ → Change
 
--- whether an event is about that kind and name
+-- whether a change is about that kind and name
 abbrev pub is_about : Kind → List ℕ → Change → Bool
 is_about kind name (Defined o) = is_key kind name o
 is_about kind name (Removed k n) = is_kind kind k && bytes_eq name n
 
--- An object is a member after events where one of them defines it, and no later one is about its
+-- An object is a member after changes where one of them defines it, and no later one is about its
 -- kind and name.
-pub record IsMember (events : List Change) (o : Object) : Type 0 where
+pub record IsMember (changes : List Change) (o : Object) : Type 0 where
   pub before : List Change
   pub later : List Change
-  pub defined : events ≡ before ++ Defined o ∷ later
+  pub defined : changes ≡ before ++ Defined o ∷ later
   pub last : AllByRecursion (λ e. is_about o.kind o.name e ≡ false) later
 
 -- the catalog of a history: its members, sorted by kind and name
-pub record IsCatalog (events : List Change) (objects : List Object) : Type 0 where
+pub record IsCatalog (changes : List Change) (objects : List Object) : Type 0 where
   pub sorted : IsSorted objects
-  pub members : (o : Object) → Contains objects o ↔ IsMember events o
+  pub members : (o : Object) → Contains objects o ↔ IsMember changes o
 
 -- an object at its place among sorted ones, where it replaces the one of its kind and name
 abbrev pub with_member : Object → List Object → List Object
 with_member o [] = o ∷ []
-with_member o (p ∷ ps) = match_ordering (object_cmp o p) (o ∷ p ∷ ps) (o ∷ ps) (p ∷ with_member o ps)
+with_member o (p ∷ ps) =
+    match_ordering (object_cmp o p) (o ∷ p ∷ ps) (o ∷ ps) (p ∷ with_member o ps)
 
 -- one object after another
 abbrev pub with_members : List Object → List Object → List Object

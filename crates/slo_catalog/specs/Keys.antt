@@ -24,9 +24,9 @@ abbrev pub is_key : Kind → List ℕ → Object → Bool
 is_key kind name o = is_kind o.kind kind && bytes_eq o.name name
 
 -- the first of the objects that is of that kind and name
-abbrev pub find_in : List Object → Kind → List ℕ → Option Object
-find_in [] kind name = None
-find_in (o ∷ os) kind name = cond (is_key kind name o) (Some o) (find_in os kind name)
+abbrev pub member_of : List Object → Kind → List ℕ → Option Object
+member_of [] kind name = None
+member_of (o ∷ os) kind name = cond (is_key kind name o) (Some o) (member_of os kind name)
 
 -- kinds come in their order, and objects of one kind by the bytes of their names
 abbrev pub key_cmp : Kind → List ℕ → Kind → List ℕ → Ordering

@@ -4,8 +4,10 @@ ghost use Rattle.std.specs.List.{All};
 ghost use Rattle.std.specs.Option.{option_copied};
 ghost use Rattle.slo_objects.specs.Document.{IsOfDocument};
 ghost use Rattle.slo_catalog.specs.Catalog.{Change, Defined, IsCatalog};
-ghost use Rattle.slo_catalog.specs.Define.{Defines, Proposes, joined_members as judged_lem, proposed_members};
-ghost use Rattle.slo_catalog.specs.Define.{defined_members, is_unchanged, is_reserved as is_reserved_lem};
+ghost use Rattle.slo_catalog.specs.Define.{Defines, Proposes, joined_members as judged_lem};
+ghost use Rattle.slo_catalog.specs.Define.{proposed_members};
+ghost use Rattle.slo_catalog.specs.Define.{defined_members, is_unchanged};
+ghost use Rattle.slo_catalog.specs.Define.{is_reserved as is_reserved_lem};
 ghost use Rattle.slo_catalog.specs.Define.{first_reserved as first_reserved_lem};
 
 use crate::catalog::Catalog;
@@ -120,8 +122,8 @@ fn defined_by(alloc: Global, old: &Catalog, objects: &[Object]) -> Result<Catalo
 pub fn define(alloc: Global, old: &Catalog, objects: &[Object]) -> Result<Catalog, DefineError>
     requires { All IsOfDocument objects.now }
     ensures exact { Defines result (defined_members old.now objects.now) }
-    ensures history { (events : List Change) → IsCatalog events old.now
-        → IfOk result (λ catalog. IsCatalog (events ++ map Defined objects.now) catalog) }
+    ensures history { (changes : List Change) → IsCatalog changes old.now
+        → IfOk result (λ catalog. IsCatalog (changes ++ map Defined objects.now) catalog) }
 {
     defined_by(alloc, old, objects)
 }

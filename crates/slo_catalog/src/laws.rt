@@ -2,23 +2,24 @@
 ghost use Rattle.std.specs.Prelude.{◌≡◌, ℕ, List, [], ◌∷◌, ◌++◌, map};
 ghost use Rattle.slo_objects.specs.declared.kind.Kind.{Kind};
 ghost use Rattle.slo_objects.specs.declared.object.Object.{Object};
-ghost use Rattle.slo_catalog.specs.Catalog.{Change, Defined, Removed, IsCatalog, with_members, without};
+ghost use Rattle.slo_catalog.specs.Catalog.{Change, Defined, Removed, IsCatalog, with_members};
+ghost use Rattle.slo_catalog.specs.Catalog.{without};
 ghost use Rattle.slo_catalog.specs.Define.{first_duplicate, first_differing};
 
 /// A history has one catalog.
 pub fn a_history_has_one_catalog()
-    ensures { (events : List Change) (os ps : List Object) → IsCatalog events os
-        → IsCatalog events ps → os ≡ ps }
+    ensures { (changes : List Change) (os ps : List Object) → IsCatalog changes os
+        → IsCatalog changes ps → os ≡ ps }
 {}
 
-/// The catalog of no events is empty. Definitions put their objects in their places, where each
+/// The catalog of no changes is empty. Definitions put their objects in their places, where each
 /// replaces the one of its kind and name, and a removal takes the object of its kind and name out.
 pub fn a_catalog_follows_its_history()
     ensures empty { IsCatalog [] [] }
-    ensures defined { (events : List Change) (os objects : List Object) → IsCatalog events os
-        → IsCatalog (events ++ map Defined objects) (with_members objects os) }
-    ensures removed { (events : List Change) (os : List Object) (kind : Kind) (name : List ℕ)
-        → IsCatalog events os → IsCatalog (events ++ Removed kind name ∷ [])
+    ensures defined { (changes : List Change) (os objects : List Object) → IsCatalog changes os
+        → IsCatalog (changes ++ map Defined objects) (with_members objects os) }
+    ensures removed { (changes : List Change) (os : List Object) (kind : Kind) (name : List ℕ)
+        → IsCatalog changes os → IsCatalog (changes ++ Removed kind name ∷ [])
         (without kind name os) }
 {}
 

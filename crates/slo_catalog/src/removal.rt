@@ -44,8 +44,8 @@ fn removed_by(alloc: Global, old: &Catalog, kind: Kind, name: Label) -> Result<C
 /// memory ran out.
 pub fn remove(alloc: Global, old: &Catalog, kind: Kind, name: Label) -> Result<Catalog, RemoveError>
     ensures exact { Removes result (remaining_members old.now kind name) }
-    ensures history { (events : List Change) → IsCatalog events old.now
-        → IfOk result (λ catalog. IsCatalog (events ++ Removed kind name ∷ []) catalog) }
+    ensures history { (changes : List Change) → IsCatalog changes old.now
+        → IfOk result (λ catalog. IsCatalog (changes ++ Removed kind name ∷ []) catalog) }
 {
     removed_by(alloc, old, kind, name)
 }

@@ -45,7 +45,8 @@ pub(crate) fn are_alike(
 /// members as they are.
 pub fn an_unchanged_definition_leaves_the_members()
     ensures { (old objects : List Object) → IsSorted old → All IsOfDocument old
-        → All IsOfDocument objects → is_unchanged old objects ≡ true → with_members objects old ≡ old }
+        → All IsOfDocument objects → is_unchanged old objects ≡ true
+        → with_members objects old ≡ old }
 {
     objects_with_one_text_are_one();
 }

@@ -38,7 +38,8 @@ returns-in-Ok-text_and_plan c = (
   (
     c.in-Ok-text_and_plan.ensures.text,
     c.in-Ok.ensures.catalog ∙ ap
-        (λ (t : List ℕ). with_members (text_objects t) c.args.derived.now.catalog) c.as_bytes.ensures,
+        (λ (t : List ℕ). with_members (text_objects t) c.args.derived.now.catalog)
+        c.as_bytes.ensures,
     c.in-Ok.ensures.objects ∙ ap (λ (t : List ℕ). length (text_objects t)) c.as_bytes.ensures,
     c.in-Ok-text_and_plan.ensures.plan,
   ),
