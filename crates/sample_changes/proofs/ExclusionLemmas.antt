@@ -21,7 +21,7 @@ use Rattle.sample_changes.proofs.Kept.{accepted_still, sound_still}
 -- what is kept with one entry more that changes the book and the sums
 abbrev pub changed : Derived → Book → KeptObjectives → ℕ → Derived
 changed d book sums moment =
-    record d { book = book; sums = sums; entries = d.entries + 1; present = moment; }
+    record d { book = book; sums = sums; entries = d.entries + 1; present = moment }
 
 -- a command that changes no more than exclusions
 pub record IsOfExclusions (c : Command) : Type 0 where

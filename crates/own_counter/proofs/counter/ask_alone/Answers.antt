@@ -15,7 +15,7 @@ returns g c = record {
   ended = performed c.act-outcome.ensures.ended;
   places =
       c.note.ensures
-          ∙ ap (λ (l : List ℕ). places_with c.act-outcome.result.1 l) c.reserve.ensures.items;
+      ∙ ap (λ (l : List ℕ). places_with c.act-outcome.result.1 l) c.reserve.ensures.items;
   any_moment = c.act-outcome.ensures.any_moment;
   stands = c.act-outcome.ensures.stands;
   whole = c.act-outcome.ensures.whole;
