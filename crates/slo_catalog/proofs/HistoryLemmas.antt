@@ -1,14 +1,12 @@
 -- What one more change makes of a catalog.
-use Rattle.std.proofs.Common.{◌≡◌, ℕ, Bool, true, false, not, ◌&&◌, ◌⊎◌, inl, inr, List, []}
-use Rattle.std.proofs.Common.{◌∷◌, ◌++◌, map, refl, sym, ap, ◌∙◌, subst, bytes_eq, append_assoc}
-use Rattle.std.proofs.Common.{append-nil, true≢false, ◌↔◌}
+use Rattle.std.proofs.Common.{◌≡◌, ℕ, Bool, true, false, not, ◌⊎◌, inl, inr, List, [], ◌∷◌, ◌++◌}
+use Rattle.std.proofs.Common.{map, refl, sym, ap, subst, append_assoc, append-nil, true≢false}
 use Rattle.std.specs.List.{AllByRecursion, Contains}
 use Rattle.slo_objects.specs.declared.kind.Kind.{Kind}
 use Rattle.slo_objects.specs.declared.object.Object.{Object}
-use Rattle.slo_catalog.specs.Keys.{is_key, IsSorted}
+use Rattle.slo_catalog.specs.Keys.{is_key}
 use Rattle.slo_catalog.specs.Catalog.{Change, Defined, Removed, is_about, IsMember, IsCatalog}
-use Rattle.slo_catalog.specs.Catalog.{with_member}
-use Rattle.slo_catalog.specs.Catalog.{with_members, without}
+use Rattle.slo_catalog.specs.Catalog.{with_member, with_members, without}
 use Rattle.slo_catalog.proofs.AmongLemmas.{Among, among_of, contains_of}
 use Rattle.slo_catalog.proofs.PutLemmas.{put_sorted, in_put, put_there, put_keeps, without_sorted}
 use Rattle.slo_catalog.proofs.PutLemmas.{in_without, without_keeps}

@@ -1,7 +1,7 @@
 -- What keeps references resolved.
-use Rattle.std.proofs.Common.{◌≡◌, ℕ, Bool, true, false, not, ◌&&◌, ◌||◌, cond, is_some, ◌⊎◌}
-use Rattle.std.proofs.Common.{inl, inr, List, [], ◌∷◌, Option, Some, None, refl, sym, ap, ap₂, ◌∙◌}
-use Rattle.std.proofs.Common.{subst, true≢false, bytes_eq, find}
+use Rattle.std.proofs.Common.{◌≡◌, ℕ, Bool, true, false, not, ◌&&◌, ◌||◌, cond, is_some, ◌⊎◌, inl}
+use Rattle.std.proofs.Common.{inr, List, [], ◌∷◌, Option, Some, None, refl, sym, ap, ap₂, ◌∙◌}
+use Rattle.std.proofs.Common.{true≢false, bytes_eq, find}
 use Rattle.std.specs.List.{AllByRecursion, list_any}
 use Rattle.std.specs.Option.{option_or}
 use Rattle.slo_objects.specs.declared.kind.Kind.{Kind}
@@ -9,9 +9,9 @@ use Rattle.slo_objects.specs.declared.object.Object.{Object}
 use Rattle.slo_catalog.specs.declared.reference.Reference.{Reference}
 use Rattle.slo_catalog.specs.Keys.{is_kind, is_key, member_of, IsSorted}
 use Rattle.slo_catalog.specs.Catalog.{with_member, with_members, without}
-use Rattle.slo_catalog.specs.References.{references, is_built_in_policy, is_resolved, first_given}
-use Rattle.slo_catalog.specs.References.{unresolved_of, first_unresolved, is_to, refers_to}
-use Rattle.slo_catalog.specs.References.{first_referrer, IsResolvedIn, IsLegal}
+use Rattle.slo_catalog.specs.References.{references, is_built_in_policy, is_resolved, unresolved_of}
+use Rattle.slo_catalog.specs.References.{first_unresolved, is_to, refers_to, first_referrer}
+use Rattle.slo_catalog.specs.References.{IsResolvedIn, IsLegal}
 use Rattle.slo_catalog.proofs.KeyLemmas.{key_parts, key_itself}
 use Rattle.slo_catalog.proofs.AmongLemmas.{Among, all_weaker, all_among}
 use Rattle.slo_catalog.proofs.PutLemmas.{put_sorted, in_put, put_there, put_keeps, in_without}

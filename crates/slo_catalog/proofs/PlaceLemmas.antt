@@ -1,20 +1,16 @@
 -- Looking for the place of a kind and name among sorted objects, half by half.
-use Rattle.std.proofs.Common.{slice_set, Result, Ok, Err, ◌++◌, ◌+◌, ◌-◌, ◌≤◌, ◌/◌, add-one}
-use Rattle.std.proofs.Common.{length-drop, length-take-le, ◌≡◌, ℕ, zero, suc, ◌<◌, Bool, true}
-use Rattle.std.proofs.Common.{false, cond, List, [], ◌∷◌, length, take, drop, get_or, Option, Some}
-use Rattle.std.proofs.Common.{None, refl, sym, ap, ◌∙◌, subst, arith, Ordering, Less, Equal}
-use Rattle.std.proofs.Common.{Greater, is_eq, nat_cmp}
-use Rattle.std.proofs.lemmas.Bool.Decides.{nat_tests}
+use Rattle.std.proofs.Common.{slice_set, Result, Ok, Err, ◌++◌, ◌+◌, ◌-◌, ◌≤◌, ◌/◌, add-one, ◌≡◌, ℕ}
+use Rattle.std.proofs.Common.{zero, suc, ◌<◌, Bool, true, false, cond, List, [], ◌∷◌, length, take}
+use Rattle.std.proofs.Common.{drop, get_or, Some, None, refl, sym, ap, ◌∙◌, subst, arith, Ordering}
+use Rattle.std.proofs.Common.{Less, Equal, Greater, is_eq}
 use Rattle.std.specs.List.{AllByRecursion}
 use Rattle.std.specs.Prelude.{MatchResult}
 use Rattle.std.specs.Ordering.{match_ordering, ordering_reverse}
 use Rattle.std.specs.Cmp.{IsTotalOrder}
-use Rattle.std.proofs.lemmas.Cmp.{on_total, then_total, nat_list_cmp_total}
-use Rattle.std.proofs.lemmas.Cmp.{tied_back, alike_right}
+use Rattle.std.proofs.lemmas.Cmp.{on_total, then_total, nat_list_cmp_total, alike_right}
 use Rattle.slo_objects.specs.declared.kind.Kind.{Kind}
 use Rattle.slo_objects.specs.declared.object.Object.{Object}
-use Rattle.slo_catalog.specs.Keys.{is_key, key_cmp, object_cmp, member_of, ComesBefore}
-use Rattle.slo_catalog.specs.Keys.{IsSorted}
+use Rattle.slo_catalog.specs.Keys.{is_key, key_cmp, object_cmp, member_of, ComesBefore, IsSorted}
 use Rattle.slo_catalog.specs.Catalog.{with_member}
 use Rattle.slo_catalog.specs.Places.{to, StandsAt, BelongsAt}
 use Rattle.slo_catalog.proofs.KeyLemmas.{kind_order, object_order, same_as, after, before}

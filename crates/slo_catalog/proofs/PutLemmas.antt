@@ -8,8 +8,7 @@ use Rattle.slo_objects.specs.declared.kind.Kind.{Kind}
 use Rattle.slo_objects.specs.declared.object.Object.{Object}
 use Rattle.slo_catalog.specs.Keys.{is_key, object_cmp, ComesBefore, IsSorted}
 use Rattle.slo_catalog.specs.Catalog.{with_member, without}
-use Rattle.slo_catalog.proofs.KeyLemmas.{object_order, same_key, less_apart, greater_apart}
-use Rattle.slo_catalog.proofs.KeyLemmas.{equal_same, after}
+use Rattle.slo_catalog.proofs.KeyLemmas.{object_order, less_apart, greater_apart, equal_same, after}
 use Rattle.slo_catalog.proofs.AmongLemmas.{Among, all_weaker, all_among}
 
 put_before : (p o : Object) (os : List Object) → ComesBefore p o → AllByRecursion (ComesBefore p) os

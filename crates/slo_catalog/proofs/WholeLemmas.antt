@@ -1,11 +1,10 @@
 -- What keeps a catalog whole.
-use Rattle.std.proofs.Common.{◌≡◌, ℕ, ◌+◌, ◌<◌, ◌≤◌, Bool, true, false, not, ◌&&◌, ◌||◌, cond}
-use Rattle.std.proofs.Common.{is_some, ◌⊎◌, inl, inr, List, [], ◌∷◌, ◌++◌, Option, Some, None}
-use Rattle.std.proofs.Common.{Result, Ok, Err, length, filter, map, flat_map, option_map, refl, sym}
-use Rattle.std.proofs.Common.{ap, ap₂, ◌∙◌, subst, true≢false, arith, bytes_eq, is_ok}
-use Rattle.std.specs.Prelude.{sum_by, count_by, nat_lt, option_and_then}
+use Rattle.std.proofs.Common.{◌≡◌, ℕ, ◌+◌, ◌≤◌, Bool, true, false, not, ◌&&◌, ◌||◌, cond, is_some}
+use Rattle.std.proofs.Common.{◌⊎◌, inl, inr, List, [], ◌∷◌, ◌++◌, Option, Some, None, length}
+use Rattle.std.proofs.Common.{filter, option_map, refl, sym, ap, ap₂, ◌∙◌, true≢false, arith}
+use Rattle.std.proofs.Common.{bytes_eq}
+use Rattle.std.specs.Prelude.{sum_by, nat_lt, option_and_then}
 use Rattle.std.specs.List.{AllByRecursion, position_from}
-use Rattle.std.specs.Option.{option_or}
 use Rattle.std.proofs.lemmas.Bool.Decides.{nat_tests}
 use Rattle.std.proofs.lemmas.List.{length-append, length-map}
 use Rattle.std.proofs.lemmas.List.Sums.{sum_by-cons}
@@ -32,7 +31,7 @@ use Rattle.slo_catalog.specs.Bindings.{bound_from, bindings_in, bindings}
 use Rattle.slo_catalog.specs.Limits.{written_bytes, catalog_bytes, count_of_kind, else_within}
 use Rattle.slo_catalog.specs.Limits.{first_limit}
 use Rattle.slo_catalog.specs.Whole.{HaveOps}
-use Rattle.slo_catalog.proofs.AmongLemmas.{Among, all_weaker}
+use Rattle.slo_catalog.proofs.AmongLemmas.{all_weaker}
 use Rattle.slo_catalog.proofs.PutLemmas.{in_without}
 use Rattle.slo_catalog.proofs.KeyLemmas.{key_parts}
 use Rattle.slo_catalog.proofs.LegalLemmas.{there_found, or_none}

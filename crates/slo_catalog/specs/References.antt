@@ -1,7 +1,7 @@
 -- What objects refer to (OpenSLO v1: `metricSourceRef`, `service`, `indicatorRef`,
 -- `alertPolicyRef`, `conditionRef`, `targetRef`).
-use Rattle.std.specs.Prelude.{◌≡◌, ℕ, Bool, true, ◌&&◌, ◌||◌, not, is_some, codes, List, []}
-use Rattle.std.specs.Prelude.{◌∷◌, ◌++◌, Option, None, map, find, flat_map, filter_map, unwrap_or}
+use Rattle.std.specs.Prelude.{◌≡◌, ℕ, Bool, true, ◌&&◌, ◌||◌, not, is_some, codes, List, [], ◌∷◌}
+use Rattle.std.specs.Prelude.{◌++◌, Option, None, map, find, filter_map, unwrap_or}
 use Rattle.std.specs.Option.{option_or}
 use Rattle.std.specs.List.{list_any, AllByRecursion}
 use Rattle.std.specs.Str.{bytes_eq}

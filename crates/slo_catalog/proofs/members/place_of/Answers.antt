@@ -1,5 +1,4 @@
-use Rattle.std.proofs.Common.{◌≡◌, ◌+◌, ◌-◌, ◌/◌, ◌<◌, ◌≤◌, length, drop, sym, ◌∙◌, subst, arith}
-use Rattle.std.proofs.Common.{Greater}
+use Rattle.std.proofs.Common.{◌≡◌, drop, sym, ◌∙◌, subst, arith, Greater}
 use Rattle.std.specs.List.{AllByRecursion}
 use Rattle.slo_catalog.specs.Places.{to}
 use Rattle.slo_catalog.proofs.PlaceLemmas.{ahead_of_middle, here_in_middle, behind_middle}
