@@ -50,8 +50,10 @@ not_begun_at o moment at name (Some slo) refusal inside is =
 -- a refusal says that no window had begun: there are no budgets
 pub refused_rows : (o : Office) (moment at : ℕ) (name : List ℕ) (refusal : Refusal) →
     o.origin ≤ at → at ≤ moment →
-    Answers o moment (queries.Budgets name (Some at)) (Refused refusal) → AreRows o at name None
-refused_rows o moment at name refusal begun past is =
+    Answers o moment (queries.Budgets name (Some at)) (Refused refusal)
+    ⊎ (Refused refusal ≡ NoMemory) → AreRows o at name None
+refused_rows o moment at name refusal begun past (inr memory) = cc memory
+refused_rows o moment at name refusal begun past (inl is) =
     let inside : is_outside o moment at ≡ false = grind (arith, nat_tests, begun, past) in
     record {
       start = None;

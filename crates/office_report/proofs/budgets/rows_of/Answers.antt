@@ -10,6 +10,12 @@ answer-requires-clause-in_range c =
     let now : present o < end_of o.origin = present_in_range o.origin c.is_legal.ensures.legal in
     omega (arith, c.moment-moment.ensures)
 
+pub returns-in-Refused-clause-rows : goal.returns-in-Refused-clause-rows
+returns-in-Refused-clause-rows c =
+    refused_rows c.args.core.now.office c.moment-moment.result c.args.at c.args.name
+    c.in-Refused.field-0 c.requires.begun (omega (arith, c.moment-moment.ensures))
+    c.in-Refused.ensures.answer
+
 pub unreachable-requires : goal.unreachable-requires
 unreachable-requires c =
     nothing_else c.args.core.now.office c.moment-moment.result c.args.at c.args.name
