@@ -1,5 +1,5 @@
-use Rattle.std.proofs.Common.{◌≡◌, ◌/◌, ◌%◌, ◌<◌, sym, ap, subst, ◌∙◌, nat_eq, Some, is_some, IsTrue}
-use Rattle.std.proofs.Common.{unwrap_or, [], length}
+use Rattle.std.proofs.Common.{◌≡◌, ◌/◌, ◌%◌, ◌<◌, sym, ap, subst, ◌∙◌, nat_eq, Some, is_some}
+use Rattle.std.proofs.Common.{IsTrue, unwrap_or, [], length}
 use Rattle.std.specs.Map.{lookup}
 use Rattle.std.specs.Option.{option_copied}
 use Rattle.std.proofs.lemmas.Nat.{mod_below}
