@@ -66,18 +66,20 @@ few_starts : (b : Bool) (rest : Result (List Object) Refusal) (members : List Ob
 few_starts true rest members e = cc e
 few_starts false rest members e = e
 
-proposed_members : (old objects members : List Object) → catalog.proposed old objects ≡ Ok members
+members_of_proposal : (old objects members : List Object)
+    → catalog.proposed_members old objects ≡ Ok members
     → members ≡ with_members objects old
-proposed_members old objects members e =
+members_of_proposal old objects members e =
     let all : List Object = with_members objects old in
     let a =
-    no_fault catalog.reserved (catalog.first_reserved objects) (catalog.unless catalog.duplicate
-    (catalog.first_duplicate objects) (catalog.judged all objects)) members e in
-    let b = no_fault catalog.duplicate (catalog.first_duplicate objects)
-    (catalog.judged all objects) members a in
-    let c = no_fault catalog.unresolved (first_unresolved all objects)
-    (catalog.unless catalog.needs_op (first_needing_op all objects) (Ok all)) members b in
-    let d = no_fault catalog.needs_op (first_needing_op all objects) (Ok all) members c in
+    no_fault catalog.reserved_fault (catalog.first_reserved objects)
+    (catalog.unless catalog.duplicate_fault (catalog.first_duplicate objects)
+    (catalog.joined_members all objects)) members e in
+    let b = no_fault catalog.duplicate_fault (catalog.first_duplicate objects)
+    (catalog.joined_members all objects) members a in
+    let c = no_fault catalog.unresolved_fault (first_unresolved all objects)
+    (catalog.unless catalog.needs_op_fault (first_needing_op all objects) (Ok all)) members b in
+    let d = no_fault catalog.needs_op_fault (first_needing_op all objects) (Ok all) members c in
     let same : all ≡ members = cc d in
     sym same
 
@@ -88,9 +90,10 @@ pub record AreDefined (known : Known) (objects members : List Object) : Type 0 w
 
 pub defined_objects : (known : Known) (objects members : List Object)
     → defined_over known objects ≡ Ok members → AreDefined known objects members
-defined_objects known objects members e = by (catalog.proposed known.members objects) refl e
+defined_objects known objects members e = by (catalog.proposed_members known.members objects) refl e
   where
-    by : (r : Result (List Object) CatalogFault) → catalog.proposed known.members objects ≡ r
+    by : (r : Result (List Object) CatalogFault)
+        → catalog.proposed_members known.members objects ≡ r
         → judged_by known objects r ≡ Ok members → AreDefined known objects members
     by (Err fault) f g = cc g
     by (Ok new) f g =
@@ -106,7 +109,7 @@ defined_objects known objects members e = by (catalog.proposed known.members obj
         let whole = few_starts (one_begins_too_often known.horizon new) (Ok new) members limits.1 in
         let same : new ≡ members = cc whole in
         record {
-          members_are = sym same ∙ proposed_members known.members objects new f;
+          members_are = sym same ∙ members_of_proposal known.members objects new f;
           same_readings = samples.0;
         }
 
