@@ -7,7 +7,7 @@ use Rattle.office_core.specs.Forgetting.{ForgetsOnlyNear}
 use Rattle.office_core.proofs.MachineLemmas.{committed, forgotten, kept_next, office_next}
 use Rattle.office_core.proofs.machine.Core.commit.Goals as goal
 
-pub invariant_of-self : goal.invariant_of-self-2
+pub invariant_of-self : goal.invariant_of-self
 invariant_of-self c =
     let d = c.self.inside.derived in
     let bytes = c.self.inside.records.items in
