@@ -74,16 +74,16 @@ nothing_else o moment at name outcome (inl is) budgets refused memory =
     ms : List Measure
     ms = measures_named (catalog_in o.history) name
 
-    from : (start : Option ℕ) → outcome ≡ budgets_from o at ms start → ⊥
-    from None is = refused (refusals.NoWindow at) is
-    from (Some from) is = budgets at _ _ is
+    by_start : (start : Option ℕ) → outcome ≡ budgets_from o at ms start → ⊥
+    by_start None is = refused (refusals.NoWindow at) is
+    by_start (Some begin) is = budgets at _ _ is
 
     within : (slo : Slo) (outside : Bool) → cond outside (outcome ≡ Refused refusals.Range)
         ((start : Option ℕ)
         × WindowBegins (zones_in o.history) slo.time_window (end_of o.origin) at start
         × (outcome ≡ budgets_from o at ms start)) → ⊥
     within slo true is = refused refusals.Range is
-    within slo false is = from is.0 is.2
+    within slo false is = by_start is.0 is.2
 
     by : (slo : Option Slo) → AnswersBudgets o moment name at slo outcome → ⊥
     by None is = refused refusals.NotFound is
