@@ -13,7 +13,6 @@ use Rattle.office_history.specs.Outcomes as outcomes
 use Rattle.office_history.specs.Outcomes.{outcome_of}
 use Rattle.office_counter.specs.Steps.{needed_for, place_of, with_made}
 use Rattle.slo_journal.specs.File as files
-use Rattle.slo_journal.specs.File.{limit}
 use Rattle.slo_journal.specs.Keeping as keeping
 use Rattle.slo_journal.specs.Keeping.{FullExactly, WithOrWithout}
 use Rattle.slo_journal.specs.declared.AppendFault.{AppendFault}
@@ -47,23 +46,24 @@ module _ (o : Office) (e : Entry) (tail : ℕ) (frame : List ℕ)
   needed_is : keeping.needed_for tail frame ≡ needed_for o e
   needed_is = omega (arith, same_tail o.history, place, ap length same)
 
-  has_room : keeping.needed_for tail frame ≤ limit →
+  has_room : keeping.needed_for tail frame ≤ MAX_JOURNAL_BYTES →
       nat_lt MAX_JOURNAL_BYTES (needed_for o e) ≡ false
   has_room few = none (needed_for o e) (omega (arith, few, needed_is))
     where
-      none : (n : ℕ) → n ≤ limit → nat_lt MAX_JOURNAL_BYTES n ≡ false
+      none : (n : ℕ) → n ≤ MAX_JOURNAL_BYTES → nat_lt MAX_JOURNAL_BYTES n ≡ false
       none n less = grind (arith, nat_tests)
 
-  has_no_room : limit < keeping.needed_for tail frame →
+  has_no_room : MAX_JOURNAL_BYTES < keeping.needed_for tail frame →
       nat_lt MAX_JOURNAL_BYTES (needed_for o e) ≡ true
   has_no_room many = some (needed_for o e) (omega (arith, many, needed_is))
     where
-      some : (n : ℕ) → limit < n → nat_lt MAX_JOURNAL_BYTES n ≡ true
+      some : (n : ℕ) → MAX_JOURNAL_BYTES < n → nat_lt MAX_JOURNAL_BYTES n ≡ true
       some n more = grind (arith, nat_tests)
 
   -- where the entry has room it is added
   pub adds : (outcome : Outcome) (at : ℕ) (new : Office) (doubt : Option Entry) →
-      keeping.needed_for tail frame ≤ limit → outcome ≡ outcome_of o e.moment e.command →
+      keeping.needed_for tail frame ≤ MAX_JOURNAL_BYTES → outcome ≡ outcome_of o e.moment e.command
+      →
       at ≡ length o.history → new ≡ with_entry o e → doubt ≡ None →
       Writes o e outcome (Some at) new doubt
   adds outcome at new doubt few told is more none =
@@ -78,7 +78,7 @@ module _ (o : Office) (e : Entry) (tail : ℕ) (frame : List ℕ)
 
   -- where it has none the journal is full
   pub fills : (needed at : ℕ) (new : Office) (doubt : Option Entry) → at ≡ tail →
-      needed ≡ keeping.needed_for tail frame → limit < needed → new ≡ o → doubt ≡ None →
+      needed ≡ keeping.needed_for tail frame → MAX_JOURNAL_BYTES < needed → new ≡ o → doubt ≡ None →
       Writes o e (JournalFull needed at) None new doubt
   fills needed at new doubt at_tail sum many as_before none =
       let full = has_no_room (omega (arith, many, sum)) in

@@ -7,10 +7,11 @@ ghost use Rattle.record_form.specs.declared.Entry.{Entry};
 ghost use Rattle.record_form.specs.Ranges.{IsRecord};
 ghost use Rattle.office_history.specs.History.{with_entry};
 ghost use Rattle.office_history.specs.Legal.{MayFollow};
-ghost use Rattle.slo_journal.specs.File.{tail_of, limit};
+ghost use Rattle.slo_journal.specs.File.{tail_of};
 ghost use Rattle.office_keep.specs.Files.{IsDamagedAt, StandsFor, WalksOver, records};
 ghost use Rattle.office_keep.specs.declared.fault.KeepFault.TheVariants.{AlreadyThere, Damaged};
 ghost use Rattle.office_keep.specs.declared.fault.KeepFault.TheVariants.{DiskFault, NotAJournal};
+ghost use Rattle.slo_limits.specs.declared.TheConstants.{MAX_JOURNAL_BYTES};
 
 use crate::KeepFault;
 use crate::laws::one_judgement;
@@ -72,8 +73,8 @@ fn step<D: Disk + Drop>(
         → WalksOver core.old.office scan.old.at file → IsDamagedAt at file }
     ensures place { IfOk result (λ _. scan.old.at ≡ tail_of (records core.old.office.history)
         → scan.new.at ≡ tail_of (records core.new.office.history)) }
-    ensures within { result ≡ Ok false → scan.new.at < limit }
-    ensures bound { scan.new.at ≤ limit }
+    ensures within { result ≡ Ok false → scan.new.at < MAX_JOURNAL_BYTES }
+    ensures bound { scan.new.at ≤ MAX_JOURNAL_BYTES }
     ensures progress { result ≡ Ok true → scan.old.at < scan.new.at }
     ensures origin { (scan.new.origin ≡ scan.old.origin)
         × (core.new.office.origin ≡ core.old.office.origin) }
@@ -115,7 +116,7 @@ pub(crate) fn load<D: Disk + Drop>(
         → WalksOver core.old.office scan.old.at file → IsDamagedAt at file }
     ensures place { OnOk result (scan.old.at ≡ tail_of (records core.old.office.history)
         → scan.new.at ≡ tail_of (records core.new.office.history)) }
-    ensures within { OnOk result (scan.new.at < limit) }
+    ensures within { OnOk result (scan.new.at < MAX_JOURNAL_BYTES) }
     ensures origin { (scan.new.origin ≡ scan.old.origin)
         × (core.new.office.origin ≡ core.old.office.origin) }
     ensures content { D.content scan.new.disk ≡ D.content scan.old.disk }

@@ -8,7 +8,6 @@ use Rattle.std.proofs.lemmas.List.{take_at, drop_at, drop_more, append-nil}
 use Rattle.office_outside.specs.Disk.{Torn, Follows, OnlyAsRead, IsWritten, file_after_write, All}
 use Rattle.slo_journal.specs.File.{four, IsRecord, frame_of, Records, Parts, Closed, size_of}
 use Rattle.slo_journal.specs.File.{tail_of, Stands, EitherGate, Staged, Opened, StandsInDoubt}
-use Rattle.slo_journal.specs.File.{limit}
 use Rattle.slo_journal.proofs.Files.{Ends, SplitFile, splits_file, joins_file, length-file, by_gate}
 
 -- the file begins with these bytes

@@ -10,7 +10,8 @@ use Rattle.std.proofs.lemmas.List.{take_at, drop_at, append-nil}
 use Rattle.std.proofs.lemmas.Nat.{from_be_bytes-to_be_bytes_4}
 use Rattle.slo_journal.specs.File.{four, IsRecord, frame_of, Records, Parts, Closed, size_of}
 use Rattle.slo_journal.specs.File.{tail_of, Stands, EitherGate, Staged, Opened, StandsInDoubt}
-use Rattle.slo_journal.specs.File.{limit, has_open_gate}
+use Rattle.slo_journal.specs.File.{has_open_gate}
+use Rattle.slo_limits.specs.declared.TheConstants.{MAX_JOURNAL_BYTES}
 
 abbrev pub Ends : List ℕ → Type 0
 Ends bytes = bytes ≡ []
@@ -178,7 +179,7 @@ frame_step r rest = append_assoc (four (length r)) (r ++ 0 ∷ []) rest
     ∙ ap (λ (l : List ℕ). four (length r) ++ l) (append_assoc r (0 ∷ []) rest)
 
 -- with its gate closed, it isn't there
-pub shut_gate : (o : ℕ) (rs : List (List ℕ)) (r bytes : List ℕ) → tail_of rs < limit
+pub shut_gate : (o : ℕ) (rs : List (List ℕ)) (r bytes : List ℕ) → tail_of rs < MAX_JOURNAL_BYTES
     → Parts (Staged r) o rs bytes → Stands o rs bytes
 shut_gate o rs r bytes small p = record {
   small = small;
@@ -193,7 +194,8 @@ is_zero n t = grind (arith, nat_tests)
 
 -- with its gate open, it is
 pub opened_gate : (o : ℕ) (rs : List (List ℕ)) (r bytes : List ℕ)
-    → tail_of rs + 5 + length r < limit → IsRecord r → (s : SplitFile (EitherGate r) o rs bytes)
+    → tail_of rs + 5 + length r < MAX_JOURNAL_BYTES → IsRecord r
+    → (s : SplitFile (EitherGate r) o rs bytes)
     → s.is.0 ≢ 0 → Stands o (rs ++ r ∷ []) bytes
 opened_gate o rs r bytes small size s is_open =
     let more : Records Closed (r ∷ []) s.rest = (
@@ -210,7 +212,8 @@ opened_gate o rs r bytes small size s is_open =
           (sym s.split) (joins_file (Records Closed (r ∷ [])) o rs s.front s.rest s.are more));
     }
 
-closed_gate : (o : ℕ) (rs : List (List ℕ)) (r bytes : List ℕ) → tail_of rs + 5 + length r < limit
+closed_gate : (o : ℕ) (rs : List (List ℕ)) (r bytes : List ℕ)
+    → tail_of rs + 5 + length r < MAX_JOURNAL_BYTES
     → (s : SplitFile (EitherGate r) o rs bytes) → s.is.0 ≡ 0 → Stands o rs bytes
 closed_gate o rs r bytes small s shut = record {
   small = omega (arith, small);
@@ -251,7 +254,7 @@ read_shut o rs r bytes tail is d read =
     closed_gate o rs r bytes d.small s (is_zero s.is.0 t)
 
 pub opened_stands : (o : ℕ) (rs : List (List ℕ)) (r bytes : List ℕ)
-    → tail_of rs + 5 + length r < limit → IsRecord r → Parts (Opened r) o rs bytes
+    → tail_of rs + 5 + length r < MAX_JOURNAL_BYTES → IsRecord r → Parts (Opened r) o rs bytes
     → Stands o (rs ++ r ∷ []) bytes
 opened_stands o rs r bytes small size p =
     let s = splits_file (Opened r) o rs bytes p in

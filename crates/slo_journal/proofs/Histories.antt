@@ -1,7 +1,7 @@
 -- Legal histories grow by legal entries.
 use Rattle.std.proofs.Common.{◌≡◌, inl, inr, ◌⊎◌, ⊎_elim, ℕ, ◌+◌, List, [], ◌∷◌, ◌++◌, length, take}
 use Rattle.std.proofs.Common.{drop, take-append-drop, refl, sym, ap, ◌∙◌, subst, arith}
-use Rattle.slo_journal.specs.File.{tail_of, Stands, Closed, limit}
+use Rattle.slo_journal.specs.File.{tail_of, Stands, Closed}
 use Rattle.slo_journal.specs.Scanning.{seen_from, HasRecord}
 use Rattle.slo_journal.specs.Front.{IsHeader}
 use Rattle.slo_journal.specs.Legal.{Legal, Walks}

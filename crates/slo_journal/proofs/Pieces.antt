@@ -3,8 +3,8 @@ use Rattle.std.proofs.Common.{◌≡◌, ℕ, zero, suc, ◌+◌, ◌-◌, ◌�
 use Rattle.std.proofs.Common.{length, take, drop, refl, sym, ap, ◌∙◌, arith}
 use Rattle.std.proofs.lemmas.List.{take_min, drop-drop, length-take, length-drop}
 use Rattle.office_outside.specs.Disk.{IsRead}
-use Rattle.slo_journal.specs.File.{limit}
 use Rattle.slo_journal.specs.Scanning.{seen_from, StandsAt}
+use Rattle.slo_limits.specs.declared.TheConstants.{MAX_JOURNAL_BYTES}
 
 pub take_take : (m n : ℕ) (l : List ℕ) → take m (take n l) ≡ take (min m n) l
 take_take zero n l = let e : min zero n ≡ zero = omega arith in sym (ap (λ (k : ℕ). take k l) e)
@@ -52,17 +52,18 @@ stands_there start size bytes file is =
 
 module _ (at need : ℕ) (file : List ℕ) where
   -- a piece that begins there shows what a reader sees
-  pub seen_anew : (next size : ℕ) (bytes : List ℕ) → need ≤ next → size ≡ min next (limit - at)
+  pub seen_anew : (next size : ℕ) (bytes : List ℕ) → need ≤ next
+      → size ≡ min next (MAX_JOURNAL_BYTES - at)
       → bytes ≡ take size (drop at file) → take need bytes ≡ take need (seen_from at file)
   seen_anew next size bytes enough is read =
-      let e : min need size ≡ min need (limit - at) = omega (arith, is, enough) in
+      let e : min need size ≡ min need (MAX_JOURNAL_BYTES - at) = omega (arith, is, enough) in
       ap (take need) read ∙ take_take need size (drop at file)
       ∙ ap (λ (k : ℕ). take k (drop at file)) e
-      ∙ sym (take_take need (limit - at) (drop at file))
+      ∙ sym (take_take need (MAX_JOURNAL_BYTES - at) (drop at file))
 
   -- so does one that reaches far enough
   pub seen_before : (start : ℕ) (bytes : List ℕ) → start ≤ at → at + need ≤ start + length bytes
-      → start + length bytes ≤ limit → StandsAt start bytes file
+      → start + length bytes ≤ MAX_JOURNAL_BYTES → StandsAt start bytes file
       → take need (drop (at - start) bytes) ≡ take need (seen_from at file)
   seen_before start bytes before covers within is =
       let k = at - start in
@@ -71,7 +72,8 @@ module _ (at need : ℕ) (file : List ℕ) where
       let back : drop k bytes ≡ take (n - k) (drop at file) = ap (drop k) is
       ∙ drop_take k n (drop start file)
       ∙ ap (take (n - k)) (drop-drop k start file ∙ ap (λ (m : ℕ). drop m file) place) in
-      let e : min need (n - k) ≡ min need (limit - at) = omega (arith, before, covers, within) in
+      let e : min need (n - k) ≡ min need (MAX_JOURNAL_BYTES - at) = omega
+      (arith, before, covers, within) in
       ap (take need) back ∙ take_take need (n - k) (drop at file)
       ∙ ap (λ (m : ℕ). take m (drop at file)) e
-      ∙ sym (take_take need (limit - at) (drop at file))
+      ∙ sym (take_take need (MAX_JOURNAL_BYTES - at) (drop at file))

@@ -3,14 +3,15 @@ use Rattle.std.proofs.Common.{◌≡◌, inl, inr, ◌⊎◌, ℕ, ◌+◌, ◌-
 use Rattle.std.proofs.Common.{length, arith, ap, length-append, Some, None}
 use Rattle.std.specs.declared.option.Option.{Option}
 use Rattle.slo_journal.specs.File.{IsRecord, four, frame_of, Parts, Stands, EitherGate, Staged}
-use Rattle.slo_journal.specs.File.{Opened, StandsInDoubt, tail_of, limit}
+use Rattle.slo_journal.specs.File.{Opened, StandsInDoubt, tail_of}
 use Rattle.slo_journal.specs.Keeping.{WithOrWithout, needed_for}
 use Rattle.office_outside.specs.Disk.{All, Always}
 use Rattle.slo_journal.proofs.Files.{weaker_file, by_gate, opened_stands, size-append}
 use Rattle.office_outside.proofs.Moments.{behind, weaker}
+use Rattle.slo_limits.specs.declared.TheConstants.{MAX_JOURNAL_BYTES}
 
 module _ (o : ℕ) (rs : List (List ℕ)) (r : List ℕ) (tail : ℕ) (is : tail ≡ tail_of rs)
-    (size : IsRecord r) (room : needed_for tail r ≤ limit) where
+    (size : IsRecord r) (room : needed_for tail r ≤ MAX_JOURNAL_BYTES) where
   pub doubtful : (images : List ℕ → Type 0) → All (Parts (EitherGate r) o rs) images
       → All (StandsInDoubt o rs r) images
   doubtful images all c image = record {
@@ -50,8 +51,9 @@ frame_size r frame same = omega (
   length-append r (0 ∷ []),
 )
 
-pub room_of : (r frame : List ℕ) (tail : ℕ) → frame ≡ frame_of r → tail + 1 + length frame ≤ limit
-    → needed_for tail r ≤ limit
+pub room_of : (r frame : List ℕ) (tail : ℕ) → frame ≡ frame_of r
+    → tail + 1 + length frame ≤ MAX_JOURNAL_BYTES
+    → needed_for tail r ≤ MAX_JOURNAL_BYTES
 room_of r frame tail same short = omega (arith, short, frame_size r frame same)
 
 pub next_tail : (rs : List (List ℕ)) (r frame : List ℕ) (tail : ℕ) → tail ≡ tail_of rs

@@ -4,7 +4,7 @@ use Rattle.std.proofs.Common.{[], ◌∷◌, ◌++◌, length, take, drop, get_o
 use Rattle.std.proofs.Common.{arith, append_assoc, length-append, take-append-drop, length-drop}
 use Rattle.std.proofs.Common.{codes, ◌^◌}
 use Rattle.std.proofs.lemmas.List.{take_at, drop_at, take_min, take_rest, drop-drop, length-take}
-use Rattle.slo_journal.specs.File.{four, IsRecord, Closed, limit}
+use Rattle.slo_journal.specs.File.{four, IsRecord, Closed}
 use Rattle.slo_limits.specs.declared.TheConstants.{MAX_MINUTE}
 use Rattle.slo_journal.specs.Front.{IsHeader}
 use Rattle.slo_journal.specs.Scanning.{seen_from, IsHead, IsOpening, HasRecord}

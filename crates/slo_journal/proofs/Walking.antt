@@ -5,11 +5,11 @@ use Rattle.std.proofs.Common.{take-append-drop, zero, suc, inl, inr, ◌⊎◌, 
 use Rattle.std.proofs.Math.Seq.{take-append-add}
 use Rattle.std.proofs.lemmas.List.{take_at, drop_at, append-nil, length-take}
 use Rattle.slo_journal.specs.File.{four, IsRecord, Closed, Records, Parts, Stands, size_of, tail_of}
-use Rattle.slo_journal.specs.File.{limit}
 use Rattle.slo_journal.specs.Scanning.{seen_from, HasRecord}
 use Rattle.slo_journal.specs.Legal.{Anything, Legal, Walks, StopsAt}
 use Rattle.slo_journal.proofs.Files.{SplitFile, splits_file, joins_file, length-file, one_more_file}
 use Rattle.slo_journal.proofs.Files.{weaker_file, four_same, head_same}
+use Rattle.slo_limits.specs.declared.TheConstants.{MAX_JOURNAL_BYTES}
 
 -- what stands behind the records is what is dropped from the file
 at_place : (P : List ℕ → Type 0) (o : ℕ) (rs : List (List ℕ)) (at : ℕ) (file : List ℕ)
@@ -18,15 +18,15 @@ at_place P o rs at file place s = ap (drop at) s.split
     ∙ drop_at s.front s.rest at (length-file o rs s.front s.are ∙ sym place)
 
 whole_of : (at : ℕ) (file : List ℕ)
-    → drop at file ≡ seen_from at file ++ drop (limit - at) (drop at file)
-whole_of at file = sym (take-append-drop (limit - at) (drop at file))
+    → drop at file ≡ seen_from at file ++ drop (MAX_JOURNAL_BYTES - at) (drop at file)
+whole_of at file = sym (take-append-drop (MAX_JOURNAL_BYTES - at) (drop at file))
 
 pub gains : (o : ℕ) (rs : List (List ℕ)) (r : List ℕ) (at : ℕ) (file : List ℕ)
     → Parts Anything o rs file → at ≡ tail_of rs → HasRecord r (seen_from at file)
     → Parts Anything o (rs ++ r ∷ []) file
 gains o rs r at file p place h =
     let s = splits_file Anything o rs file p in
-    let more = drop (limit - at) (drop at file) in
+    let more = drop (MAX_JOURNAL_BYTES - at) (drop at file) in
     let same : s.rest ≡ h.gate ∷ (four (length r) ++ (r ++ (h.rest ++ more))) =
     sym (at_place Anything o rs at file place s) ∙ whole_of at file
     ∙ ap (λ (l : List ℕ). l ++ more) h.same
@@ -38,10 +38,10 @@ gains o rs r at file p place h =
     (joins_file (Records Anything (r ∷ [])) o rs s.front s.rest s.are step))
 
 pub closes : (o : ℕ) (rs : List (List ℕ)) (at : ℕ) (file : List ℕ) → Parts Anything o rs file
-    → at ≡ tail_of rs → at < limit → Closed (seen_from at file) → Stands o rs file
+    → at ≡ tail_of rs → at < MAX_JOURNAL_BYTES → Closed (seen_from at file) → Stands o rs file
 closes o rs at file p place few shut =
     let s = splits_file Anything o rs file p in
-    let more = drop (limit - at) (drop at file) in
+    let more = drop (MAX_JOURNAL_BYTES - at) (drop at file) in
     let same : s.rest ≡ 0 ∷ (shut.0 ++ more) = sym (at_place Anything o rs at file place s)
     ∙ whole_of at file ∙ ap (λ (l : List ℕ). l ++ more) shut.1 in
     record {
@@ -135,13 +135,14 @@ record_seen room gate r bytes rest fits is_open size same =
 
 -- what a longer list needs of the next step
 next_of : (o : ℕ) (rs : List (List ℕ)) (at : ℕ) (file : List ℕ) (more : List (List ℕ))
-    → at ≡ tail_of rs → tail_of (rs ++ more) < limit → Parts (Records Closed more) o rs file
+    → at ≡ tail_of rs → tail_of (rs ++ more) < MAX_JOURNAL_BYTES
+    → Parts (Records Closed more) o rs file
     → (Closed (seen_from at file) × (more ≡ [])) ⊎ ((r : List ℕ) × (after : List (List ℕ))
     × (more ≡ r ∷ after) × HasRecord r (seen_from at file))
 next_of o rs at file [] place small p =
     let s = splits_file Closed o rs file p in
     inl (
-      closed_seen (limit - at) (drop at file) s.is.0 (omega (
+      closed_seen (MAX_JOURNAL_BYTES - at) (drop at file) s.is.0 (omega (
         arith,
         place,
         small,
@@ -155,7 +156,7 @@ next_of o rs at file (r ∷ after) place small p =
       r,
       after,
       refl,
-      record_seen (limit - at) s.is.0 r
+      record_seen (MAX_JOURNAL_BYTES - at) s.is.0 r
           (drop at file) s.is.1 (omega (arith, place, small, size-both rs (r ∷ after))) s.is.2
           s.is.3
           (at_place (Records Closed (r ∷ after)) o rs at file place s ∙ s.is.4),
@@ -181,7 +182,7 @@ module _ (legal : List (List ℕ) → List ℕ → Type 0) (o : ℕ) (rs : List 
         let on = file_goes_on o p rs hs file w.parts s in
         ⊎_elim (λ c. not_closed c.0) (λ n. no_record n.0 n.3)
         (next_of o rs at file on.more w.place
-        (subst (λ (h : List (List ℕ)). tail_of h < limit) on.same s.small) on.parts);
+        (subst (λ (h : List (List ℕ)). tail_of h < MAX_JOURNAL_BYTES) on.same s.small) on.parts);
   }
 
   -- a record stands there that isn't legal
@@ -196,5 +197,5 @@ module _ (legal : List (List ℕ) → List ℕ → Type 0) (o : ℕ) (rs : List 
         (λ n. illegal (subst (legal rs) (same_record n.0 r (seen_from at file) n.3 h)
         (l rs n.0 n.1 (on.same ∙ ap (λ (m : List (List ℕ)). rs ++ m) n.2))))
         (next_of o rs at file on.more w.place
-        (subst (λ (h : List (List ℕ)). tail_of h < limit) on.same s.small) on.parts);
+        (subst (λ (h : List (List ℕ)). tail_of h < MAX_JOURNAL_BYTES) on.same s.small) on.parts);
   }

@@ -4,10 +4,6 @@ use Rattle.std.specs.Prelude.{take, drop, Bool, false, not, ◌==◌}
 use Rattle.std.specs.Int.{to_be_bytes, w32}
 use Rattle.slo_limits.specs.declared.TheConstants.{MAX_JOURNAL_BYTES, MAX_RECORD_BYTES, MAX_MINUTE}
 
--- the file's first bytes, at which alone a reader looks
-abbrev pub limit : ℕ
-limit = MAX_JOURNAL_BYTES
-
 -- a number in four bytes, the highest first
 abbrev pub four : ℕ → List ℕ
 four n = to_be_bytes w32 n
@@ -63,7 +59,7 @@ tail_of records = 13 + size_of records
 -- The bytes stand for the origin and the records: the header, the records, and a closed gate among
 -- the first bytes. Any bytes may follow.
 pub record Stands (origin : ℕ) (records : List (List ℕ)) (bytes : List ℕ) : Type 0 where
-  pub small : tail_of records < limit
+  pub small : tail_of records < MAX_JOURNAL_BYTES
   pub parts : Parts Closed origin records bytes
 
 -- behind a gate of any byte there is this record, and a closed gate
@@ -80,7 +76,7 @@ Opened r bytes = (rest : List ℕ) × (bytes ≡ 1 ∷ (frame_of r ++ rest))
 
 -- The bytes stand for the records, or for them and this one more, by its gate's byte.
 pub record StandsInDoubt (origin : ℕ) (records : List (List ℕ)) (r bytes : List ℕ) : Type 0 where
-  pub small : tail_of records + 5 + length r < limit
+  pub small : tail_of records + 5 + length r < MAX_JOURNAL_BYTES
   pub is_record : IsRecord r
   pub parts : Parts (EitherGate r) origin records bytes
 

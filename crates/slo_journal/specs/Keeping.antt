@@ -4,10 +4,11 @@ use Rattle.std.specs.Prelude.{◌≡◌, ◌⊎◌, ℕ, ◌+◌, ◌<◌, ◌�
 use Rattle.std.specs.Prelude.{None, Bool, true, false, Result, Ok, Err}
 use Rattle.office_outside.specs.Disk.{All}
 use Rattle.office_outside.specs.Faults.{Rose}
-use Rattle.slo_journal.specs.File.{Stands, StandsInDoubt, tail_of, limit}
+use Rattle.slo_journal.specs.File.{Stands, StandsInDoubt, tail_of}
 use Rattle.slo_journal.specs.declared.fault.AppendFault.{AppendFault}
 use Rattle.slo_journal.specs.declared.fault.AppendFault.TheVariants.{JournalFull, NotKept, InDoubt}
 use Rattle.slo_journal.specs.declared.fault.DiskFault.{DiskFault}
+use Rattle.slo_limits.specs.declared.TheConstants.{MAX_JOURNAL_BYTES}
 
 -- a journal: its disk, where its closed gate stands, and, where a record is in doubt, where the
 -- gate behind that record does
@@ -18,8 +19,8 @@ pub record JournalOn (D : Type 0) : Type 0 where
 
 -- each place is one at which a reader looks
 abbrev pub AreWithin : ℕ → Option ℕ → Type 0
-AreWithin tail None = tail < limit
-AreWithin tail (Some end) = (tail < limit) × (end < limit)
+AreWithin tail None = tail < MAX_JOURNAL_BYTES
+AreWithin tail (Some end) = (tail < MAX_JOURNAL_BYTES) × (end < MAX_JOURNAL_BYTES)
 
 -- the file stands for the records, or for them and this one more
 abbrev pub WithOrWithout : ℕ → List (List ℕ) → List ℕ → List ℕ → Type 0
@@ -56,10 +57,10 @@ needed_for tail r = tail + 6 + length r
 -- `JournalFull` comes exactly where the record doesn't fit, with these numbers
 abbrev pub FullExactly : ℕ → List ℕ → Result Prim.Unit AppendFault → Type 0
 FullExactly tail r (Err (JournalFull at needed)) = (at ≡ tail) × (needed ≡ needed_for tail r)
-    × (limit < needed)
-FullExactly tail r (Err NotKept) = needed_for tail r ≤ limit
-FullExactly tail r (Err InDoubt) = needed_for tail r ≤ limit
-FullExactly tail r (Ok x) = needed_for tail r ≤ limit
+    × (MAX_JOURNAL_BYTES < needed)
+FullExactly tail r (Err NotKept) = needed_for tail r ≤ MAX_JOURNAL_BYTES
+FullExactly tail r (Err InDoubt) = needed_for tail r ≤ MAX_JOURNAL_BYTES
+FullExactly tail r (Ok x) = needed_for tail r ≤ MAX_JOURNAL_BYTES
 
 -- where the journal stands after an append
 abbrev pub Moves : {D : Type 0} → List ℕ → Result Prim.Unit AppendFault → JournalOn D

@@ -2,8 +2,8 @@
 use Rattle.std.specs.Prelude.{◌≡◌, ◌≢◌, ℕ, ◌+◌, ◌-◌, ◌≤◌, List, [], ◌∷◌, ◌++◌, length, take, drop}
 use Rattle.std.specs.Prelude.{⊤, Bool, true, false, Option, Some, Result, Ok, Err}
 use Rattle.office_outside.specs.Disk.{OnlyAsRead}
-use Rattle.slo_limits.specs.declared.TheConstants.{MAX_RECORD_BYTES, MAX_MINUTE}
-use Rattle.slo_journal.specs.File.{limit, four, IsRecord, Closed}
+use Rattle.slo_limits.specs.declared.TheConstants.{MAX_JOURNAL_BYTES, MAX_MINUTE, MAX_RECORD_BYTES}
+use Rattle.slo_journal.specs.File.{four, IsRecord, Closed}
 use Rattle.slo_journal.specs.Front.{IsHeader}
 use Rattle.slo_journal.specs.declared.scan.Head.{Head}
 use Rattle.slo_journal.specs.declared.scan.Head.TheVariants.{Shut, Opens, Broken}
@@ -16,9 +16,9 @@ pub record ScanOn (D : Type 0) : Type 0 where
   pub origin : ℕ
   pub at : ℕ
 
--- what a reader sees from a place on: for it the file ends at the limit at the latest
+-- what a reader sees from a place on: it looks at no byte behind the most that a journal has
 abbrev pub seen_from : ℕ → List ℕ → List ℕ
-seen_from at file = take (limit - at) (drop at file)
+seen_from at file = take (MAX_JOURNAL_BYTES - at) (drop at file)
 
 -- an open gate, and a length in range
 pub record IsOpening (n : ℕ) (bytes : List ℕ) : Type 0 where

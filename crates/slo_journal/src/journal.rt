@@ -4,9 +4,10 @@ ghost use Rattle.std.specs.Prelude.{OnOk, IfOk, None, Some, is_some, true, drop}
 ghost use Rattle.office_outside.specs.Faults.{HasCause};
 ghost use Rattle.office_outside.specs.Disk.{LeavesOnly, OnlyAsRead, All, Always, IsQuiet};
 ghost use Rattle.slo_journal.specs.File.{Stands, StandsInDoubt, Parts, Staged, Opened, EitherGate};
-ghost use Rattle.slo_journal.specs.File.{frame_of, tail_of, limit, has_open_gate};
+ghost use Rattle.slo_journal.specs.File.{frame_of, tail_of, has_open_gate};
 ghost use Rattle.slo_journal.specs.Keeping.{Keeps, Doubts, Appended, Moves, Settled, Settles};
 ghost use Rattle.slo_journal.specs.Keeping.{WithOrWithout, FullExactly, HasDiskCause};
+ghost use Rattle.slo_limits.specs.declared.TheConstants.{MAX_JOURNAL_BYTES};
 
 use crate::{AppendFault, DiskFault, Frame};
 use office_outside::{Disk, Failed};
@@ -46,7 +47,7 @@ impl<D: Disk + Drop> Journal<D> {
 
     /// With its closed gate at this place.
     pub(crate) fn at_tail(disk: D, tail: u64) -> Journal<D>
-        requires { tail < limit }
+        requires { tail < MAX_JOURNAL_BYTES }
         ensures { (result.disk ≡ disk) × (result.tail ≡ tail) × (result.doubt ≡ None) }
     {
         Journal {
@@ -128,7 +129,7 @@ impl<D: Disk + Drop> Journal<D> {
     /// The place of the closed gate, behind the records that are acknowledged.
     pub fn tail(&self) -> u64
         ensures place { result ≡ self.now.tail }
-        ensures within { result < limit }
+        ensures within { result < MAX_JOURNAL_BYTES }
     {
         self.tail
     }

@@ -3,8 +3,8 @@ ghost use Rattle.std.specs.Prelude.{◌≡◌, ◌+◌, ◌-◌, ◌<◌, ◌≤
 ghost use Rattle.std.specs.Prelude.{OnErr, IfOk, IsErrOf, None, Some, true, false, Ok, Err};
 ghost use Rattle.office_outside.specs.Disk.{IsQuiet};
 ghost use Rattle.office_outside.specs.Faults.{Rose};
-ghost use Rattle.slo_limits.specs.declared.TheConstants.{MAX_RECORD_BYTES};
-ghost use Rattle.slo_journal.specs.File.{IsRecord, limit};
+ghost use Rattle.slo_limits.specs.declared.TheConstants.{MAX_JOURNAL_BYTES, MAX_RECORD_BYTES};
+ghost use Rattle.slo_journal.specs.File.{IsRecord};
 ghost use Rattle.slo_journal.specs.Scanning.{seen_from, StandsAt, IsHead, IsNext};
 ghost use Rattle.slo_journal.specs.declared.fault.ScanFault.TheVariants.{DiskFault, Damaged};
 ghost use Rattle.slo_journal.specs.declared.scan.Head.TheVariants.{Shut, Opens};
@@ -33,15 +33,16 @@ pub struct Scan<D: Disk + Drop> {
 
 impl<D: Disk + Drop> Model for Scan<D> {
     ghost use Rattle.std.specs.Prelude.{◌≡◌, ◌+◌, ◌≤◌, List, ℕ, Some, length};
-    ghost use Rattle.slo_journal.specs.File.{limit};
     ghost use Rattle.slo_journal.specs.Scanning.{ScanOn, StandsAt};
+    ghost use Rattle.slo_limits.specs.declared.TheConstants.{MAX_JOURNAL_BYTES};
 
     ghost Value = { ScanOn D };
 
     ghost view = { λ s. record { disk = s.disk; origin = s.origin; at = s.at } };
 
     // Where the disk tells, the window's bytes are those of the file.
-    ghost invariant = { λ s. (s.at ≤ limit) × (s.window.start + length s.window.bytes.items ≤ limit)
+    ghost invariant = { λ s. (s.at ≤ MAX_JOURNAL_BYTES)
+        × (s.window.start + length s.window.bytes.items ≤ MAX_JOURNAL_BYTES)
         × ((file : List ℕ) → D.content s.disk ≡ Some file
         → StandsAt s.window.start s.window.bytes.items file) };
 }
@@ -69,7 +70,7 @@ impl<D: Disk + Drop> Scan<D> {
     /// The place of the gate that comes next.
     pub fn at(&self) -> u64
         ensures place { result ≡ self.now.at }
-        ensures within { result ≤ limit }
+        ensures within { result ≤ MAX_JOURNAL_BYTES }
     {
         self.at
     }
@@ -83,8 +84,8 @@ impl<D: Disk + Drop> Scan<D> {
             × IsRecord out.new.items }
         ensures stays { (result ≡ Ok true → ⊥) → (self.new.at ≡ self.old.at)
             × (out.new.items ≡ []) }
-        ensures within { result ≡ Ok false → self.new.at < limit }
-        ensures bound { self.new.at ≤ limit }
+        ensures within { result ≡ Ok false → self.new.at < MAX_JOURNAL_BYTES }
+        ensures bound { self.new.at ≤ MAX_JOURNAL_BYTES }
         ensures origin { self.new.origin ≡ self.old.origin }
         ensures content { D.content self.new.disk ≡ D.content self.old.disk }
         ensures quiet { IsQuiet D.images D.moment D.images_since self.old.disk self.new.disk }
@@ -109,7 +110,7 @@ impl<D: Disk + Drop> Scan<D> {
 
     /// The journal behind the records that were read, once `next` has answered false.
     pub fn ready(self) -> Journal<D>
-        requires { self.at < limit }
+        requires { self.at < MAX_JOURNAL_BYTES }
         ensures { (result.disk ≡ self.disk) × (result.tail ≡ self.at) × (result.doubt ≡ None) }
     {
         Journal::at_tail(self.disk, self.at)
@@ -136,9 +137,9 @@ pub enum Head {
 
 /// What stands at a gate's place.
 fn peek<D: Disk>(disk: &mut D, window: &mut Window, at: u64) -> Result<Head, ScanFault>
-    requires at { at ≤ limit }
-    requires within { window.old.start + length window.old.bytes.items ≤ limit }
-    ensures within { window.new.start + length window.new.bytes.items ≤ limit }
+    requires at { at ≤ MAX_JOURNAL_BYTES }
+    requires within { window.old.start + length window.old.bytes.items ≤ MAX_JOURNAL_BYTES }
+    ensures within { window.new.start + length window.new.bytes.items ≤ MAX_JOURNAL_BYTES }
     ensures holds { (file : List ℕ) → D.content disk.old ≡ Some file
         → StandsAt window.old.start window.old.bytes.items file
         → StandsAt window.new.start window.new.bytes.items file }
@@ -147,7 +148,7 @@ fn peek<D: Disk>(disk: &mut D, window: &mut Window, at: u64) -> Result<Head, Sca
         → IsHead (take 5 (seen_from at file)) head) }
     ensures size { IfOk result (λ head. (count : ℕ) → head ≡ Opens count → (1 ≤ count)
         × (count ≤ MAX_RECORD_BYTES)) }
-    ensures shut { result ≡ Ok Shut → at < limit }
+    ensures shut { result ≡ Ok Shut → at < MAX_JOURNAL_BYTES }
     ensures content { D.content disk.new ≡ D.content disk.old }
     ensures quiet { IsQuiet D.images D.moment D.images_since disk.old disk.new }
     ensures cause { IsErrOf result DiskFault → Rose (D.faults disk.old) (D.faults disk.new) }
@@ -186,15 +187,16 @@ fn fill<D: Disk>(
     count: u32,
     out: &mut Vec<u8>,
 ) -> Result<bool, ScanFault>
-    requires at { at ≤ limit }
+    requires at { at ≤ MAX_JOURNAL_BYTES }
     requires count { count ≤ MAX_RECORD_BYTES }
-    requires within { window.old.start + length window.old.bytes.items ≤ limit }
+    requires within { window.old.start + length window.old.bytes.items ≤ MAX_JOURNAL_BYTES }
     requires empty { out.old.items ≡ [] }
-    ensures within { window.new.start + length window.new.bytes.items ≤ limit }
+    ensures within { window.new.start + length window.new.bytes.items ≤ MAX_JOURNAL_BYTES }
     ensures holds { (file : List ℕ) → D.content disk.old ≡ Some file
         → StandsAt window.old.start window.old.bytes.items file
         → StandsAt window.new.start window.new.bytes.items file }
-    ensures whole { result ≡ Ok true → (length out.new.items ≡ count) × (at + 5 + count ≤ limit)
+    ensures whole { result ≡ Ok true → (length out.new.items ≡ count)
+        × (at + 5 + count ≤ MAX_JOURNAL_BYTES)
         × ((file : List ℕ) → D.content disk.old ≡ Some file
         → StandsAt window.old.start window.old.bytes.items file
         → out.new.items ≡ take count (drop 5 (seen_from at file))) }

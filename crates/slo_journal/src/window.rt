@@ -3,8 +3,7 @@ ghost use Rattle.std.specs.Prelude.{◌≡◌, ◌+◌, ◌-◌, ◌≤◌, ◌<
 ghost use Rattle.std.specs.Prelude.{OnErr, IsErrOf, Some, Err};
 ghost use Rattle.office_outside.specs.Disk.{IsQuiet};
 ghost use Rattle.office_outside.specs.Faults.{Rose};
-ghost use Rattle.slo_limits.specs.declared.TheConstants.{MAX_RECORD_BYTES};
-ghost use Rattle.slo_journal.specs.File.{limit};
+ghost use Rattle.slo_limits.specs.declared.TheConstants.{MAX_JOURNAL_BYTES, MAX_RECORD_BYTES};
 ghost use Rattle.slo_journal.specs.Scanning.{seen_from, StandsAt};
 ghost use Rattle.slo_journal.specs.declared.fault.ScanFault.TheVariants.{DiskFault, Damaged};
 
@@ -54,10 +53,10 @@ pub fn reach<D: Disk>(
     at: u64,
     need: usize,
 ) -> Result<(), ScanFault>
-    requires at { at ≤ limit }
+    requires at { at ≤ MAX_JOURNAL_BYTES }
     requires need { need ≤ MAX_RECORD_BYTES + 5 }
-    requires within { window.old.start + length window.old.bytes.items ≤ limit }
-    ensures within { window.new.start + length window.new.bytes.items ≤ limit }
+    requires within { window.old.start + length window.old.bytes.items ≤ MAX_JOURNAL_BYTES }
+    ensures within { window.new.start + length window.new.bytes.items ≤ MAX_JOURNAL_BYTES }
     ensures holds { (file : List ℕ) → D.content disk.old ≡ Some file
         → StandsAt window.old.start window.old.bytes.items file
         → StandsAt window.new.start window.new.bytes.items file }
@@ -89,7 +88,7 @@ fn next_size(last: usize, need: usize) -> usize
 
 /// Reads so many bytes, or to the file's end.
 fn refill<D: Disk>(disk: &mut D, window: &mut Window, at: u64, size: usize) -> Result<(), ScanFault>
-    requires room { at + size ≤ limit }
+    requires room { at + size ≤ MAX_JOURNAL_BYTES }
     ensures start { window.new.start ≡ at }
     ensures few { length window.new.bytes.items ≤ size }
     ensures empty { OnErr result (window.new.bytes.items ≡ []) }

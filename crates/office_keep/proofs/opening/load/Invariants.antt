@@ -1,8 +1,9 @@
 use Rattle.std.proofs.Common.{◌≡◌, ◌≤◌, ◌-◌, ℕ, List, Some}
-use Rattle.slo_journal.specs.File.{tail_of, limit}
+use Rattle.slo_journal.specs.File.{tail_of}
 use Rattle.office_outside.specs.Disk.{IsQuiet}
 use Rattle.office_keep.specs.Files.{WalksOver, records}
 use Rattle.office_keep.proofs.opening.load.Given as goal
+use Rattle.slo_limits.specs.declared.TheConstants.{MAX_JOURNAL_BYTES}
 
 abbrev pub invariant-reading : goal.invariant-reading
 invariant-reading g l = record {
@@ -18,4 +19,4 @@ invariant-reading g l = record {
 }
 
 abbrev pub decreases-reading : goal.decreases-reading
-decreases-reading g l = limit - l.scan.at
+decreases-reading g l = MAX_JOURNAL_BYTES - l.scan.at

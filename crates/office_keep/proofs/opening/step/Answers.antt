@@ -1,5 +1,4 @@
 use Rattle.std.proofs.Common.{◌≡◌, ◌<◌, ℕ, List, Ok, Err, sym, ap, ◌∙◌, subst, rules}
-use Rattle.slo_journal.specs.File.{limit}
 use Rattle.slo_journal.specs.declared.ScanFault.TheVariants.{Damaged}
 use Rattle.slo_journal.proofs.Walking.{stops, illegal_stops, closes}
 use Rattle.slo_journal.proofs.Histories.{walks_on, place_on}
@@ -8,6 +7,7 @@ use Rattle.office_keep.specs.Files.{IsDamagedAt}
 use Rattle.office_keep.proofs.Histories.{illegal_here, is_damaged, legal_here, record_more, walk_as}
 use Rattle.office_keep.proofs.Openings.{known, same_place, the_fault}
 use Rattle.office_keep.proofs.opening.step.Goals as goal
+use Rattle.slo_limits.specs.declared.TheConstants.{MAX_JOURNAL_BYTES}
 
 pub returns-in-Ok-true-take_in-clause-walks : goal.returns-in-Ok-true-take_in-clause-walks
 returns-in-Ok-true-take_in-clause-walks g c file told w =
@@ -55,7 +55,7 @@ pub returns-in-Ok-false-clause-ended : goal.returns-in-Ok-false-clause-ended
 returns-in-Ok-false-clause-ended g c same file told w =
     let is = c.in-Ok-false.is ∙ ap Ok c.in-Ok-false.field-0-test in
     let here = known _ _ _ _ _ is (c.next.ensures.next file told) in
-    let few : c.args.scan.now.at < limit = search rules in
+    let few : c.args.scan.now.at < MAX_JOURNAL_BYTES = search rules in
     closes _ _ _ file w.parts w.place few here
 
 pub returns-in-Err-Damaged-clause-damaged : goal.returns-in-Err-Damaged-clause-damaged

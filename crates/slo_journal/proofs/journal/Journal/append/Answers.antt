@@ -1,12 +1,13 @@
 use Rattle.std.proofs.Common.{◌≡◌, ◌≤◌, ◌+◌, ◌∷◌, ◌++◌, [], sym, ap, ◌∙◌, subst, arith, rules, inl}
 use Rattle.std.proofs.Common.{length, Some}
-use Rattle.slo_journal.specs.File.{limit, Stands, tail_of}
+use Rattle.slo_journal.specs.File.{Stands, tail_of}
 use Rattle.slo_journal.specs.Keeping.{Keeps, WithOrWithout, needed_for}
 use Rattle.slo_journal.proofs.Files.{size-append}
 use Rattle.office_outside.proofs.Moments.{weaker}
 use Rattle.slo_journal.proofs.Run.{room_of, next_tail, doubtful, either_gate, acknowledged}
 use Rattle.slo_journal.proofs.Run.{any_moment}
 use Rattle.slo_journal.proofs.journal.Journal.append.Goals as goal
+use Rattle.slo_limits.specs.declared.TheConstants.{MAX_JOURNAL_BYTES}
 
 pub returns-in_default-clause-leaves : goal.returns-in_default-clause-leaves
 returns-in_default-clause-leaves g c o rs k =
@@ -24,7 +25,7 @@ pub returns-in_default-open_gate-clause-leaves : goal.returns-in_default-open_ga
 returns-in_default-open_gate-clause-leaves g c o rs k =
     let k = subst (Keeps g.D.Disk.images o rs) (sym c.self.view_is) k in
     let r = c.args.value.now in
-    let room : needed_for c.self.inside.tail r ≤ limit =
+    let room : needed_for c.self.inside.tail r ≤ MAX_JOURNAL_BYTES =
     room_of r _ c.self.inside.tail c.bytes-frame.ensures.bytes c.if-needed.false in
     let size = c.bytes-frame.ensures.is_record in
     let staged = either_gate o rs r c.self.inside.tail k.tail size room _
@@ -41,7 +42,7 @@ pub returns-in_default-open_gate-clause-any_moment :
 returns-in_default-open_gate-clause-any_moment g c o rs k =
     let k = subst (Keeps g.D.Disk.images o rs) (sym c.self.view_is) k in
     let r = c.args.value.now in
-    let room : needed_for c.self.inside.tail r ≤ limit =
+    let room : needed_for c.self.inside.tail r ≤ MAX_JOURNAL_BYTES =
     room_of r _ c.self.inside.tail c.bytes-frame.ensures.bytes c.if-needed.false in
     let size = c.bytes-frame.ensures.is_record in
     let staged = either_gate o rs r c.self.inside.tail k.tail size room _
@@ -54,7 +55,7 @@ pub returns-clause-leaves : goal.returns-clause-leaves
 returns-clause-leaves g c o rs k =
     let k = subst (Keeps g.D.Disk.images o rs) (sym c.self.view_is) k in
     let r = c.args.value.now in
-    let room : needed_for c.self.inside.tail r ≤ limit =
+    let room : needed_for c.self.inside.tail r ≤ MAX_JOURNAL_BYTES =
     room_of r _ c.self.inside.tail c.bytes-frame.ensures.bytes c.if-needed.false in
     let size = c.bytes-frame.ensures.is_record in
     let staged = either_gate o rs r c.self.inside.tail k.tail size room _
@@ -70,7 +71,7 @@ pub returns-clause-any_moment : goal.returns-clause-any_moment
 returns-clause-any_moment g c o rs k =
     let k = subst (Keeps g.D.Disk.images o rs) (sym c.self.view_is) k in
     let r = c.args.value.now in
-    let room : needed_for c.self.inside.tail r ≤ limit =
+    let room : needed_for c.self.inside.tail r ≤ MAX_JOURNAL_BYTES =
     room_of r _ c.self.inside.tail c.bytes-frame.ensures.bytes c.if-needed.false in
     let size = c.bytes-frame.ensures.is_record in
     let staged = either_gate o rs r c.self.inside.tail k.tail size room _
