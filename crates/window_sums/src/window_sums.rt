@@ -5,6 +5,7 @@ ghost use Rattle.std.specs.Prelude.{if◌then◌else◌};
 ghost use Rattle.std.specs.Int.{◌∣◌};
 ghost use Rattle.std.specs.Map.{set_value};
 ghost use Rattle.slice_method.specs.Leaves.{leaf};
+ghost use Rattle.slo_limits.specs.declared.TheConstants.{MAX_LOOKBACK, MINUTES_A_DAY};
 ghost use Rattle.slo_terms.specs.Sums.{AreFew, AreSound, most_events, slice_from, slices_until};
 ghost use Rattle.slo_terms.specs.Sums.{sum_of_slices};
 ghost use Rattle.sum_pages.specs.DayTables.{is_day_of, values_of_day};
@@ -240,7 +241,7 @@ impl WindowSums {
             to }
         ensures part { result.num ≤ result.den }
         ensures few { result.den ≤ most_events }
-        ensures bounded { to - from ≤ 576000 → steps.new ≤ steps.old + 600 }
+        ensures bounded { to - from ≤ 400 * MINUTES_A_DAY → steps.new ≤ steps.old + 600 }
         ensures short { steps.new ≤ steps.old
             + (slices_until (width_of self.now.method) to
             - slice_from (width_of self.now.method) from) }
@@ -255,7 +256,7 @@ impl WindowSums {
     pub fn is_empty<L: Ledger>(&self, from: u32, to: u32, steps: &mut Steps<L>) -> bool
         ensures value { result ≡ ((sum_of_slices (width_of self.now.method) (leaf_at self.now) from
             to).den == 0) }
-        ensures bounded { to - from ≤ 43200 → steps.new ≤ steps.old + 600 }
+        ensures bounded { to - from ≤ MAX_LOOKBACK → steps.new ≤ steps.old + 600 }
     {
         let width = width_of(&self.method);
         emptiness::is_empty(&self.pages, from.div_ceil(width), to / width, steps)
