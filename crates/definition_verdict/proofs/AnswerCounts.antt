@@ -14,7 +14,8 @@ use Rattle.slo_objects.specs.declared.Rule.{Rule}
 use Rattle.slo_objects.specs.declared.Rule.TheVariants as rules
 use Rattle.slo_objects.specs.Form.{Key, Answer, gives, refused, after, and_then, mapped, on_some}
 use Rattle.slo_objects.specs.Form.{told, closed, shown, is_among, is_null, field_of, scalar_in}
-use Rattle.slo_objects.specs.Form.{mapping_in, list_in, only_in, Form, Rows, done, row, run}
+use Rattle.slo_objects.specs.Form.{mapping_in, list_in, only_in, Form, FieldTable, done, next_line}
+use Rattle.slo_objects.specs.Form.{answer_by}
 use Rattle.slo_objects.specs.Form.{scalar_read, map_read, map_with, optional, required}
 use Rattle.slo_objects.specs.Form.{required_where, required_unless, barred_field, optional_alone}
 use Rattle.slo_objects.specs.Form.{has_one_of, one_of, either_field, holding, field_or, single_read}
@@ -71,29 +72,37 @@ few_closed known (entry k t es) = few_cond 0 (is_among known k || is_null t) (cl
 -- TABLES
 
 -- what a table's lines take of so many objects
-abbrev pub Costs : {A : Type 0} → Rows A → Entries → ℕ → Type 0
+abbrev pub Costs : {A : Type 0} → FieldTable A → Entries → ℕ → Type 0
 Costs (done a) es n = Unit {0}
-Costs (row {B = B} r part rest) es n = (k : ℕ) × (m : ℕ) × (k + m ≤ n) × IsFew k (r.read es)
+Costs (next_line {B = B} r part rest) es n = (k : ℕ) × (m : ℕ) × (k + m ≤ n) × IsFew k (r.read es)
     × ((b : B) → Costs (rest b) es m)
 
-pub few_run : {A : Type 0} (rows : Rows A) (es : Entries) (n : ℕ) → Costs rows es n
+pub few_run : {A : Type 0} (table : FieldTable A) (es : Entries) (n : ℕ) → Costs table es n
     → (known : List Key)
-    → IsFew n (run rows known es)
-few_run (done a) es n h known = weaker (0 + 0) n (run (done a) known es) (omega arith)
+    → IsFew n (answer_by table known es)
+few_run (done a) es n h known = weaker (0 + 0) n (answer_by (done a) known es) (omega arith)
     (few_then 0 0 (closed known es) (λ _. gives a) (few_closed known es) (λ _. few_given 0 a))
-few_run (row r part rest) es n h known =
-    weaker (h.0 + h.1) n (run (row r part rest) known es) h.2
-    (few_then h.0 h.1 (r.read es) (λ b. run (rest b) (known ++ r.keys) es) h.3
+few_run (next_line r part rest) es n h known =
+    weaker (h.0 + h.1) n (answer_by (next_line r part rest) known es) h.2
+    (few_then h.0 h.1 (r.read es) (λ b. answer_by (rest b) (known ++ r.keys) es) h.3
     (λ b. few_run (rest b) es h.1 (h.4 b) (known ++ r.keys)))
 
 -- a table none of whose lines holds an object
-abbrev pub AreBare : {A : Type 0} → Rows A → Entries → Type 0
+abbrev pub AreBare : {A : Type 0} → FieldTable A → Entries → Type 0
 AreBare (done a) es = Unit {0}
-AreBare (row {B = B} r part rest) es = IsFew 0 (r.read es) × ((b : B) → AreBare (rest b) es)
+AreBare (next_line {B = B} r part rest) es = IsFew 0 (r.read es) × ((b : B) → AreBare (rest b) es)
 
-pub bare_costs : {A : Type 0} (rows : Rows A) (es : Entries) → AreBare rows es → Costs rows es 0
+pub bare_costs : {A : Type 0} (table : FieldTable A) (es : Entries) → AreBare table es
+    → Costs table es 0
 bare_costs (done a) es h = tt
-bare_costs (row r part rest) es h = (0, 0, omega arith, h.0, λ b. bare_costs (rest b) es (h.1 b))
+bare_costs (next_line r part rest) es h = (
+  0,
+  0,
+  omega arith,
+  h.0,
+  λ b. bare_costs (rest b) es
+      (h.1 b),
+)
 
 -- FORMS
 
@@ -112,10 +121,10 @@ pub bare_scalar : {A : Type 0} (rule : Rule) (parse : List ℕ → Result A Rule
 bare_scalar rule parse key t = few_on_some 0 (refused key rule) (λ bytes. told key (parse bytes))
     (scalar_in t) tt (λ bytes e. few_told 0 key (parse bytes))
 
-pub bare_map : {A : Type 0} (rows : Rows A) → ((es : Entries) → AreBare rows es)
-    → IsBare (map_with rows)
-bare_map rows h key t = few_on_some 0 (refused key rules.NotMap) (λ es. run rows [] es)
-    (mapping_in t) tt (λ es e. few_run rows es 0 (bare_costs rows es (h es)) [])
+pub bare_map : {A : Type 0} (table : FieldTable A) → ((es : Entries) → AreBare table es)
+    → IsBare (map_with table)
+bare_map table h key t = few_on_some 0 (refused key rules.NotMap) (λ es. answer_by table [] es)
+    (mapping_in t) tt (λ es e. few_run table es 0 (bare_costs table es (h es)) [])
 
 pub thrifty_map : {A : Type 0} (inside : Entries → Answer A)
     → ((es : Entries) → IsFew (entry_keys es) (inside es)) → (key : Key) (t : Tree)
@@ -124,10 +133,12 @@ thrifty_map inside h key (mapping es) = h es
 thrifty_map inside h key (sequence ts) = tt
 thrifty_map inside h key (scalar bytes plain) = tt
 
-pub thrifty_rows : {A : Type 0} (rows : Rows A) → ((es : Entries) → Costs rows es (entry_keys es))
-    → IsThrifty (map_with rows)
-thrifty_rows rows h key t =
-    thrifty_map (λ es. run rows [] es) (λ es. few_run rows es (entry_keys es) (h es) []) key t
+pub thrifty_table : {A : Type 0} (table : FieldTable A)
+    → ((es : Entries) → Costs table es (entry_keys es))
+    → IsThrifty (map_with table)
+thrifty_table table h key t =
+    thrifty_map (λ es. answer_by table [] es) (λ es. few_run table es (entry_keys es) (h es) []) key
+    t
 
 pub bare_free_map : (key : Key) (t : Tree) → IsFew 0 (free_map_read key t)
 bare_free_map key t = few_on_some 0 (refused key rules.NotMap) (λ _. gives t) (mapping_in t) tt

@@ -19,7 +19,9 @@ use Rattle.slo_objects.specs.declared.ObjectFault.{ObjectFault}
 use Rattle.slo_objects.specs.declared.Rule.TheVariants as rules
 use Rattle.slo_objects.specs.declared.slo.BudgetingMethod.{BudgetingMethod}
 use Rattle.slo_objects.specs.Form.{Key, Answer, refused, mapped, on_some, is_among, is_null}
-use Rattle.slo_objects.specs.Form.{field_of, scalar_in, Form, Rows, run, map_with, variant, single}
+use Rattle.slo_objects.specs.Form.{field_of, scalar_in, Form, FieldTable, answer_by, map_with}
+use Rattle.slo_objects.specs.Form.{variant}
+use Rattle.slo_objects.specs.Form.{single}
 use Rattle.slo_objects.specs.Form.{free, free_map, optional}
 use Rattle.slo_objects.specs.Scalars.{text, description, zone_name, version, kind, only_kind, op}
 use Rattle.slo_objects.specs.Scalars.{boolean, text_value, description_value, name_value}
@@ -45,15 +47,17 @@ use Rattle.slo_objects.specs.Inline.{inline_object, taken_out, inline_read, refe
 use Rattle.slo_objects.specs.Inline.{reference_item}
 use Rattle.slo_objects.specs.Slo.{calendar, is_rolling, is_calendar_unit, time_window, method}
 use Rattle.slo_objects.specs.Slo.{target, is_target, slice_width, method_value, has_slice_target}
-use Rattle.slo_objects.specs.Slo.{has_slices, width_value, objective, one_to_five, objective_item}
+use Rattle.slo_objects.specs.Slo.{has_slices, width_value, objective, is_objective_count}
+use Rattle.slo_objects.specs.Slo.{objective_item}
 use Rattle.slo_objects.specs.Slo.{objectives, inline_indicator, unrepeated, policy_map, policy_form}
-use Rattle.slo_objects.specs.Slo.{policy_item, at_most_ten, policies, slo}
+use Rattle.slo_objects.specs.Slo.{policy_item, is_policy_count, policies, slo}
 use Rattle.slo_objects.specs.Document.{body, document, with_own, objects_of}
 use Rattle.definition_verdict.specs.Documents.{objects_from, objects_in, objects_next}
 use Rattle.definition_verdict.proofs.AnswerCounts.{IsFew, weaker, few_given, few_mapped}
 use Rattle.definition_verdict.proofs.AnswerCounts.{few_on_some, few_cond, Costs, few_run, AreBare}
 use Rattle.definition_verdict.proofs.AnswerCounts.{bare_costs, IsBare, IsThrifty, bare_thrifty}
-use Rattle.definition_verdict.proofs.AnswerCounts.{bare_scalar, bare_map, thrifty_map, thrifty_rows}
+use Rattle.definition_verdict.proofs.AnswerCounts.{bare_scalar, bare_map, thrifty_map}
+use Rattle.definition_verdict.proofs.AnswerCounts.{thrifty_table}
 use Rattle.definition_verdict.proofs.AnswerCounts.{bare_free_map, bare_single, bare_list}
 use Rattle.definition_verdict.proofs.AnswerCounts.{thrifty_list, few_optional, few_required}
 use Rattle.definition_verdict.proofs.AnswerCounts.{few_either, bare_optional, bare_required}
@@ -270,7 +274,7 @@ objective_bare method es = (
 )
 
 objectives_bare : (method : BudgetingMethod) → IsBare (objectives method)
-objectives_bare method = bare_list one_to_five (objective_item method)
+objectives_bare method = bare_list is_objective_count (objective_item method)
     (λ key before t. bare_map (objective method) (objective_bare method) key t)
 
 reference_bare : (key : Key) (es : Entries) → AreBare (reference key) es
@@ -322,15 +326,15 @@ inline_thrifty kind f h no_entries = tt
 inline_thrifty kind f h (entry k t es) =
     weaker (keys t + entry_keys es + 1) (1 + (keys t + entry_keys es))
     (inline_read kind f (entry k t es)) (omega arith)
-    (few_taken (keys t + entry_keys es) (run (inline_object kind f) [] (entry k t es))
+    (few_taken (keys t + entry_keys es) (answer_by (inline_object kind f) [] (entry k t es))
     (few_run (inline_object kind f) (entry k t es) (keys t + entry_keys es)
     (inline_costs kind f h (entry k t es) (keys t + entry_keys es) (omega arith)) []))
 
 item_thrifty : (key : Key) (kind : Kind) (f : Form Body) → IsThrifty f → (es : Entries)
     → IsFew (entry_keys es) (item_read key kind f es)
 item_thrifty key kind f h es = few_cond (entry_keys es) (is_none (field_of key es))
-    (inline_read kind f es) (run (reference key) [] es) (inline_thrifty kind f h es)
-    (weaker 0 (entry_keys es) (run (reference key) [] es) (omega arith)
+    (inline_read kind f es) (answer_by (reference key) [] es) (inline_thrifty kind f h es)
+    (weaker 0 (entry_keys es) (answer_by (reference key) [] es) (omega arith)
     (few_run (reference key) es 0 (bare_costs (reference key) es (reference_bare key es)) []))
 
 thrifty_item : (key : Key) (kind : Kind) (f : Form Body)
@@ -344,10 +348,11 @@ thrifty_variant : {A B : Type 0} (f : Form A) (made : A → B) → IsThrifty f �
 thrifty_variant f made h key t = few_mapped made (keys t) (f.read key t) (h key t)
 
 -- a body of a table that holds no objects
-thrifty_bare : {A : Type 0} (rows : Rows A) (made : A → Body) → ((es : Entries) → AreBare rows es)
-    → (key : Key) (t : Tree) → IsFew (keys t) (mapped made ((map_with rows).read key t))
-thrifty_bare rows made h =
-    thrifty_variant (map_with rows) made (bare_thrifty (map_with rows) (bare_map rows h))
+thrifty_bare : {A : Type 0} (table : FieldTable A) (made : A → Body)
+    → ((es : Entries) → AreBare table es)
+    → (key : Key) (t : Tree) → IsFew (keys t) (mapped made ((map_with table).read key t))
+thrifty_bare table made h =
+    thrifty_variant (map_with table) made (bare_thrifty (map_with table) (bare_map table h))
 
 conditions_thrifty : IsThrifty conditions
 conditions_thrifty = thrifty_list at_most_one
@@ -415,7 +420,7 @@ policy_costs es =
 
 policy_thrifty : IsThrifty policy_body
 policy_thrifty = thrifty_variant (map_with alert_policy) bodies.AlertPolicy
-    (thrifty_rows alert_policy policy_costs)
+    (thrifty_table alert_policy policy_costs)
 
 few_unrepeated : (n : ℕ) (listed : Key) (before : List Key) (a : Answer Key) → IsFew n a
     → IsFew n (unrepeated listed before a)
@@ -435,7 +440,7 @@ policy_item_thrifty listed before t = few_unrepeated (keys t) listed before (pol
     (bare_scalar rules.BadName name_value listed t))))
 
 policies_thrifty : IsThrifty policies
-policies_thrifty = thrifty_list at_most_ten policy_item policy_item_thrifty
+policies_thrifty = thrifty_list is_policy_count policy_item policy_item_thrifty
 
 indicator_thrifty : IsThrifty inline_indicator
 indicator_thrifty key t = thrifty_map (inline_read kinds.Sli sli_body)
@@ -506,7 +511,7 @@ unfolding body
 body_thrifty kinds.DataSource = thrifty_bare data_source bodies.DataSource data_source_bare
 body_thrifty kinds.Service = thrifty_bare service bodies.Service service_bare
 body_thrifty kinds.Sli = thrifty_bare sli bodies.Sli sli_bare
-body_thrifty kinds.Slo = thrifty_variant (map_with slo) bodies.Slo (thrifty_rows slo slo_costs)
+body_thrifty kinds.Slo = thrifty_variant (map_with slo) bodies.Slo (thrifty_table slo slo_costs)
 body_thrifty kinds.AlertPolicy = policy_thrifty
 body_thrifty kinds.AlertCondition =
     thrifty_bare alert_condition bodies.AlertCondition alert_condition_bare
@@ -547,7 +552,7 @@ document_costs es =
 
 objects_few : (t : Tree) (os : List Object) → objects_of t ≡ Ok os → length os ≤ 1 + keys t
 objects_few t os e = by ((map_with document).read (codes "document") t)
-    (thrifty_rows document document_costs (codes "document") t) e
+    (thrifty_table document document_costs (codes "document") t) e
   where
     by : (a : Answer Object) → IsFew (keys t) a → with_own a ≡ Ok os → length os ≤ 1 + keys t
     by (Ok p) h f = subst (λ (xs : List Object). length xs ≤ 1 + keys t)

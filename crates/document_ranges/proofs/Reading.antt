@@ -6,7 +6,7 @@ use Rattle.slo_objects.specs.declared.Rule.{Rule}
 use Rattle.slo_objects.specs.declared.Rule.TheVariants.{NotMap}
 use Rattle.slo_objects.specs.declared.ObjectFault.{ObjectFault}
 use Rattle.slo_objects.specs.Form.{Key, Answer, gives, refused, after, and_then, mapped, closed}
-use Rattle.slo_objects.specs.Form.{Form, Rows, done, row, run, map_with}
+use Rattle.slo_objects.specs.Form.{Form, FieldTable, done, next_line, answer_by, map_with}
 
 pub ok_same : {X : Type 0} (x y : X) → (let r : Result X ObjectFault = Ok x in r) ≡ Ok y → x ≡ y
 ok_same x y e = cc
@@ -48,26 +48,27 @@ abbrev pub Reads : {A : Type 0} → Form A → (A → Type 0) → Type 0
 Reads {A} f Q = (key : Key) (t : Tree) (y : List Object × A) → f.read key t ≡ Ok y → Q y.1
 
 -- what holds of the value that a table gives, by what each of its lines read
-abbrev pub Makes : {A : Type 0} → Rows A → Entries → (A → Type 0) → Type 0
+abbrev pub Makes : {A : Type 0} → FieldTable A → Entries → (A → Type 0) → Type 0
 Makes (done a) es Q = Q a
-Makes (row {B = B} r part rest) es Q = (p : List Object × B) → r.read es ≡ Ok p
+Makes (next_line {B = B} r part rest) es Q = (p : List Object × B) → r.read es ≡ Ok p
     → Makes (rest p.1) es Q
 
-pub made : {A : Type 0} (rows : Rows A) (es : Entries) (Q : A → Type 0) → Makes rows es Q
-    → (known : List Key) (y : List Object × A) → run rows known es ≡ Ok y → Q y.1
+pub made : {A : Type 0} (table : FieldTable A) (es : Entries) (Q : A → Type 0) → Makes table es Q
+    → (known : List Key) (y : List Object × A) → answer_by table known es ≡ Ok y → Q y.1
 made (done a) es Q h known y e =
     let t = both_gave (closed known es) (λ _. gives a) y e in
     subst Q (ap (λ z. z.1) (ok_same ([], a) t.second t.is_second) ∙ t.value) h
-made (row r part rest) es Q h known y e =
-    let t = both_gave (r.read es) (λ b. run (rest b) (known ++ r.keys) es) y e in
+made (next_line r part rest) es Q h known y e =
+    let t = both_gave (r.read es) (λ b. answer_by (rest b) (known ++ r.keys) es) y e in
     subst Q t.value (made (rest t.first.1) es Q (h t.first t.is_first) (known ++ r.keys)
     t.second t.is_second)
 
-pub map_reads : {A : Type 0} (rows : Rows A) (Q : A → Type 0) → ((es : Entries) → Makes rows es Q)
-    → Reads (map_with rows) Q
-map_reads rows Q h key (mapping es) y e = made rows es Q (h es) [] y e
-map_reads rows Q h key (sequence ts) y e = refused_not_ok key NotMap y e
-map_reads rows Q h key (scalar text plain) y e = refused_not_ok key NotMap y e
+pub map_reads : {A : Type 0} (table : FieldTable A) (Q : A → Type 0)
+    → ((es : Entries) → Makes table es Q)
+    → Reads (map_with table) Q
+map_reads table Q h key (mapping es) y e = made table es Q (h es) [] y e
+map_reads table Q h key (sequence ts) y e = refused_not_ok key NotMap y e
+map_reads table Q h key (scalar text plain) y e = refused_not_ok key NotMap y e
 
 -- a reading whose value was made another
 pub mapped_gave : {A B : Type 0} (Q : A → Type 0) (R : B → Type 0) (f : A → B)

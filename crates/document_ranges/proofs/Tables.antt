@@ -19,8 +19,9 @@ use Rattle.slo_objects.specs.Ranges.{slice_target_range}
 use Rattle.slo_objects.specs.Scalars.{number}
 use Rattle.slo_objects.specs.Slo.{calendar, is_rolling, is_calendar_unit, time_window}
 use Rattle.slo_objects.specs.Slo.{has_slice_target, has_slices, slice_width}
-use Rattle.slo_objects.specs.Slo.{objective, one_to_five, objective_item, objectives, policy_item}
-use Rattle.slo_objects.specs.Slo.{at_most_ten, policies, slo}
+use Rattle.slo_objects.specs.Slo.{objective, is_objective_count, objective_item, objectives}
+use Rattle.slo_objects.specs.Slo.{policy_item}
+use Rattle.slo_objects.specs.Slo.{is_policy_count, policies, slo}
 use Rattle.slo_objects.specs.zone_calendar.Starts.{IsCalendarUnit, IsCalendarStep}
 use Rattle.document_ranges.specs.Ranges.{IsObjective, HasObjectives, IsWindow}
 use Rattle.document_ranges.proofs.Reading.{Reads, Makes, map_reads}
@@ -51,12 +52,13 @@ objective_reads : (method : BudgetingMethod)
 objective_reads method = map_reads (objective method) (IsObjective method) (objective_makes method)
 
 objectives_read : (method : BudgetingMethod)
-    → Reads (objectives method) (HasItems (IsObjective method) one_to_five)
-objectives_read method = list_reads (IsObjective method) one_to_five (objective_item method)
+    → Reads (objectives method) (HasItems (IsObjective method) is_objective_count)
+objectives_read method = list_reads (IsObjective method) is_objective_count (objective_item method)
     (map_with (objective method)).write (λ listed before t y e. objective_reads method listed t y e)
 
-policies_read : Reads policies (HasItems Any at_most_ten)
-policies_read = list_reads Any at_most_ten policy_item (reference_written (codes "alertPolicyRef"))
+policies_read : Reads policies (HasItems Any is_policy_count)
+policies_read = list_reads Any is_policy_count policy_item
+    (reference_written (codes "alertPolicyRef"))
     (λ listed before t y e. tt)
 
 -- WINDOWS
@@ -113,10 +115,10 @@ slo_makes es = λ d _ s _ i _ w ew m _ o eo p ep.
     let window = required_gave IsWindow (codes "timeWindow") (single (map_with time_window))
     (single_reads IsWindow (map_with time_window) (map_reads time_window IsWindow window_makes))
     es w ew in
-    let items = required_gave (HasItems (IsObjective m.1) one_to_five) (codes "objectives")
+    let items = required_gave (HasItems (IsObjective m.1) is_objective_count) (codes "objectives")
     (objectives m.1) (objectives_read m.1) es o eo in
     let counts = and_parts (nat_le 1 (length o.1)) (nat_le (length o.1) 5) items.1 in
-    let named = optional_gave (HasItems Any at_most_ten) (codes "alertPolicies") policies
+    let named = optional_gave (HasItems Any is_policy_count) (codes "alertPolicies") policies
     policies_read es p ep in
     record {
       objectives = record {

@@ -18,7 +18,7 @@ use Rattle.slo_objects.proofs.LawFields.{bytes_same, and_left, and_right, and_bo
 use Rattle.slo_objects.proofs.LawFields.{or_right, or_either, false_if, joined, lacks, lacks_all}
 use Rattle.slo_objects.proofs.LawFields.{lacks_all_from, within, lacks-joined, nothing_found, found}
 use Rattle.slo_objects.proofs.LawFields.{field_shown}
-use Rattle.slo_objects.proofs.LawRows.{ok_same, RowLaw, Back, FormLaw}
+use Rattle.slo_objects.proofs.LawFieldTables.{ok_same, LineLaw, Back, FormLaw}
 use Rattle.slo_objects.proofs.LawLines.{MappedOk, mapped_ok, field_piece, is_field_piece}
 use Rattle.slo_objects.proofs.LawLines.{field_within, none_given, refused_not_ok, self_among}
 
@@ -65,7 +65,7 @@ alone_covers key others (Some a) k e = or_either (bytes_eq key k) false e
 -- a field beside which none of the others may stand
 abbrev pub alone_law : {A : Type 0} (P : Object → Type 0)
     (key : Key) (others : List Key) (f : Form A) → is_among others key ≡ false → FormLaw P f
-    → RowLaw P (Option A) (optional_alone key others f)
+    → LineLaw P (Option A) (optional_alone key others f)
 alone_law {A} P key others f n law = record {
   asks = alone_asks key others;
   piece = field_piece f key;
@@ -163,7 +163,7 @@ either_piece key f other g is_first a = cond (is_first a) (entry key (meant (f.w
 abbrev pub one_of_law : {A : Type 0} (P : Object → Type 0) (key : Key) (f : Form A) (other : Key)
     (g : Form A) (is_first : A → Bool) → bytes_eq key other ≡ false → bytes_eq other key ≡ false
     → EitherLaw P f f g is_first → EitherLaw P g f g is_first
-    → RowLaw P A (one_of key f other g is_first)
+    → LineLaw P A (one_of key f other g is_first)
 one_of_law {A} P key f other g is_first n m flaw glaw = record {
   asks = λ _. key ∷ other ∷ [];
   piece = either_piece key f other g is_first;
@@ -248,7 +248,7 @@ one_of_law {A} P key f other g is_first n m flaw glaw = record {
 -- CONDITIONS
 
 abbrev pub holding_law : (P : Object → Type 0) (holds : Bool) (key : Key) (rule : Rule)
-    → RowLaw P (Unit {0}) (holding holds key rule)
+    → LineLaw P (Unit {0}) (holding holds key rule)
 holding_law P holds key rule = record {
   asks = λ _. [];
   piece = λ _. no_entries;

@@ -12,14 +12,17 @@ use Rattle.slo_objects.specs.declared.kind.Kind.{Kind}
 use Rattle.slo_objects.specs.declared.kind.Kind.TheVariants as kinds
 use Rattle.slo_objects.specs.declared.fault.Rule.TheVariants as rules
 use Rattle.slo_objects.specs.Form.{Key, Answer, gives, refused, after, and_then, on_some, told}
-use Rattle.slo_objects.specs.Form.{is_null, field_of, closed, Rows, done, row, run, required}
+use Rattle.slo_objects.specs.Form.{is_null, field_of, closed, FieldTable, done, next_line}
+use Rattle.slo_objects.specs.Form.{answer_by}
+use Rattle.slo_objects.specs.Form.{required}
 use Rattle.slo_objects.specs.Form.{map_with}
 use Rattle.slo_objects.specs.Metadata.{metadata, object_with}
 use Rattle.slo_objects.specs.Scalars.{version, version_text, version_value, kind, kind_word}
 use Rattle.slo_objects.specs.AlertPolicy.{policy_body}
 use Rattle.slo_objects.specs.Document.{body_form, body, document, with_own, objects_of, written}
-use Rattle.slo_objects.proofs.LawRows.{ok_same, err_not_ok, all_joined, run_again, FormLaw, RowsLaw}
-use Rattle.slo_objects.proofs.LawRows.{map_law}
+use Rattle.slo_objects.proofs.LawFieldTables.{ok_same, err_not_ok, all_joined, run_again, FormLaw}
+use Rattle.slo_objects.proofs.LawFieldTables.{TableLaw}
+use Rattle.slo_objects.proofs.LawFieldTables.{map_law}
 use Rattle.slo_objects.proofs.LawLines.{refused_not_ok, required_law}
 use Rattle.slo_objects.proofs.LawScalars.{version_law, kind_law, kind_stands, kind_shown}
 use Rattle.slo_objects.proofs.LawTables.{loose, metadata_law, service_body_law}
@@ -50,7 +53,7 @@ body_law P own kinds.AlertPolicy = policies_law P own
 body_law P own kinds.AlertCondition = condition_body_law P
 body_law P own kinds.AlertNotificationTarget = target_body_law P
 
-pub document_law : (P : Object → Type 0) → Owns P → RowsLaw P [] document
+pub document_law : (P : Object → Type 0) → Owns P → TableLaw P [] document
 unfolding document
 document_law P own = (
   required_law P API_VERSION.now version (loose P version (version_law P)),
@@ -82,24 +85,27 @@ IsAgain o = objects_of (meant (written o)) ≡ Ok (o ∷ [])
 abbrev Any : Object → Type 0
 Any o = Unit {0}
 
-document_again : (es : Entries) (y : List Object × Object) → run document [] es ≡ Ok y → IsAgain y.1
+document_again : (es : Entries) (y : List Object × Object) → answer_by document [] es ≡ Ok y
+    → IsAgain y.1
 document_again es y e = ap with_own (run_again Any document [] []
     (document_law Any (λ k tm ts m b nm ns em eb. tt)) es y e no_entries refl refl)
 
 -- OBJECTS THAT STOOD INLINE
 
 -- what each line of a table is to read, so that the whole is read
-abbrev ReadsTo : {A : Type 0} → Rows A → List Key → Entries → List Object × A → Type 0
+abbrev ReadsTo : {A : Type 0} → FieldTable A → List Key → Entries → List Object × A → Type 0
 ReadsTo (done a) known es y = (closed known es ≡ gives tt) × (y ≡ ([], a))
-ReadsTo {A} (row {B = B} r part rest) known es y = (p : List Object × B) × ((q : List Object × A)
+ReadsTo {A} (next_line {B = B} r part rest) known es y = (p : List Object × B)
+    × ((q : List Object × A)
     × ((r.read es ≡ Ok p) × ReadsTo (rest p.1) (known ++ r.keys) es q × (y ≡ (p.0 ++ q.0, q.1))))
 
-reads_run : {A : Type 0} (rows : Rows A) (known : List Key) (es : Entries) (y : List Object × A)
-    → ReadsTo rows known es y → run rows known es ≡ Ok y
+reads_run : {A : Type 0} (table : FieldTable A) (known : List Key) (es : Entries)
+    (y : List Object × A)
+    → ReadsTo table known es y → answer_by table known es ≡ Ok y
 reads_run (done a) known es y h = ap (λ c. and_then c (λ _. gives a)) h.0 ∙ ap Ok (sym h.1)
-reads_run (row r part rest) known es y h =
+reads_run (next_line r part rest) known es y h =
     let p = h.0 in
-    ap (λ x. and_then x (λ b. run (rest b) (known ++ r.keys) es)) h.1.1.0
+    ap (λ x. and_then x (λ b. answer_by (rest b) (known ++ r.keys) es)) h.1.1.0
     ∙ ap (after p.0) (reads_run (rest p.1) (known ++ r.keys) es h.1.0 h.1.1.1)
     ∙ ap Ok (sym h.1.1.2)
 
@@ -111,7 +117,7 @@ made k tm ts = entry API_VERSION.now (scalar version_text true) (entry KIND.now
 made_read : (k : Kind) (tm ts : Tree) (m : List Object × Metadata) (b : List Object × Body)
     → is_null tm ≡ false → is_null ts ≡ false
     → (map_with metadata).read METADATA.now tm ≡ Ok m → (body k).read SPEC.now ts ≡ Ok b
-    → run document [] (made k tm ts) ≡ Ok (
+    → answer_by document [] (made k tm ts) ≡ Ok (
       [] ++ ([] ++ (m.0 ++ (b.0 ++ []))),
       object_with k m.1 b.1,
     )

@@ -7,7 +7,7 @@ use Rattle.yaml_subset.specs.Profile.{max_depth}
 use Rattle.yaml_subset.specs.Fits.{Fits, IsWritable}
 use Rattle.slo_objects.specs.declared.object.Object.{Object}
 use Rattle.slo_objects.specs.Document.{objects_of, written}
-use Rattle.slo_objects.proofs.LawRows.{ok_same}
+use Rattle.slo_objects.proofs.LawFieldTables.{ok_same}
 use Rattle.slo_objects.proofs.LawDocument.{IsAgain, each_again}
 use Rattle.slo_objects.proofs.LawFitDocument.{IsFit, each_fits}
 

@@ -14,14 +14,14 @@ use Rattle.slo_objects.specs.declared.object.Body.{Body}
 use Rattle.slo_objects.specs.declared.object.Metadata.{Metadata}
 use Rattle.slo_objects.specs.declared.kind.Kind.{Kind}
 use Rattle.slo_objects.specs.declared.kind.Kind.TheVariants as kinds
-use Rattle.slo_objects.specs.Form.{Answer, put, own, map_with}
+use Rattle.slo_objects.specs.Form.{Answer, fields_by, own, map_with}
 use Rattle.slo_objects.specs.Metadata.{metadata, object_with}
 use Rattle.slo_objects.specs.Scalars.{version, version_text, kind, kind_word}
 use Rattle.slo_objects.specs.AlertPolicy.{policy_body}
 use Rattle.slo_objects.specs.Document.{body_form, body, document, with_own, objects_of, written}
-use Rattle.slo_objects.proofs.LawRows.{ok_same, err_not_ok, all_joined}
+use Rattle.slo_objects.proofs.LawFieldTables.{ok_same, err_not_ok, all_joined}
 use Rattle.slo_objects.proofs.LawDocument.{document_law}
-use Rattle.slo_objects.proofs.LawFits.{deeper, own_fits, FormFit, RowsFit, Within, map_fit}
+use Rattle.slo_objects.proofs.LawFits.{deeper, own_fits, FormFit, TableFit, Within, map_fit}
 use Rattle.slo_objects.proofs.LawFits.{required_fit}
 use Rattle.slo_objects.proofs.LawFitForms.{word_fit}
 use Rattle.slo_objects.proofs.LawTables.{version_fit, kind_fit, kind_fits, metadata_fit}
@@ -43,7 +43,8 @@ abbrev inside : ℕ
 inside = 31
 
 document_fits : (k : Kind) (m : Metadata) (b : Body) → Fits inside ((map_with metadata).write m)
-    → Fits inside ((body_form k).write b) → FitFields inside (put document (object_with k m b))
+    → Fits inside ((body_form k).write b)
+    → FitFields inside (fields_by document (object_with k m b))
 unfolding document body
 document_fits k m b fm fb =
     own_fits inside API_VERSION.now (word version_text)
@@ -83,9 +84,9 @@ body_fit kinds.AlertCondition =
 body_fit kinds.AlertNotificationTarget =
     roomy IsFit 3 (body_form kinds.AlertNotificationTarget) (target_body_fit IsFit)
 
-document_rows : RowsFit IsFit 3 document
+document_table : TableFit IsFit 3 document
 unfolding document
-document_rows = (
+document_table = (
   required_fit IsFit 3 API_VERSION.now version refl (version_fit IsFit 3),
   λ v. (
     required_fit IsFit 3 KIND.now kind refl (kind_fit IsFit 3),
@@ -103,7 +104,7 @@ four_levels d h = omega arith
 
 document_fit : FormFit IsFit 4 (map_with document)
 document_fit = map_fit IsFit 4 3 Any document four_levels
-    (document_law Any (λ k tm ts m b nm ns em eb. tt)) document_rows
+    (document_law Any (λ k tm ts m b nm ns em eb. tt)) document_table
 
 pub each_fits : (t : Tree) (os : List Object) → IsWritable t → objects_of t ≡ Ok os
     → AllByRecursion (λ o. Fits max_depth (written o)) os

@@ -22,7 +22,7 @@ use Rattle.slo_objects.specs.Form.{with_item, each, list_with, written_items, si
 use Rattle.slo_objects.specs.Form.{free_map}
 use Rattle.slo_objects.specs.Scalars.{name_value, is_object_name, is_name_byte}
 use Rattle.slo_objects.proofs.LawFields.{and_both, and_left, and_right, not_false}
-use Rattle.slo_objects.proofs.LawRows.{ok_same, err_not_ok, all_joined}
+use Rattle.slo_objects.proofs.LawFieldTables.{ok_same, err_not_ok, all_joined}
 use Rattle.slo_objects.proofs.LawLines.{mapped_ok, refused_not_ok}
 use Rattle.slo_objects.proofs.LawForms.{told_ok}
 use Rattle.slo_objects.proofs.LawScalars.{rule_not_ok}

@@ -19,16 +19,19 @@ use Rattle.slo_objects.specs.declared.object.Object.{Object}
 use Rattle.slo_objects.specs.declared.fault.Rule.{Rule}
 use Rattle.slo_objects.specs.declared.fault.Rule.TheVariants.{Missing, Both, Neither, NotMap}
 use Rattle.slo_objects.specs.Form.{Key, Answer, gives, refused, mapped, on_some, is_null, field_of}
-use Rattle.slo_objects.specs.Form.{closed, Form, Row, Rows, done, row, run, put, own, field_or}
+use Rattle.slo_objects.specs.Form.{closed, Form, FieldLine, FieldTable, done, next_line, answer_by}
+use Rattle.slo_objects.specs.Form.{fields_by}
+use Rattle.slo_objects.specs.Form.{own, field_or}
 use Rattle.slo_objects.specs.Form.{optional, required, required_where, required_unless}
 use Rattle.slo_objects.specs.Form.{barred_field, has_one_of, alone_field, optional_alone}
 use Rattle.slo_objects.specs.Form.{either_field, one_of, holding, map_with}
 use Rattle.slo_objects.proofs.LawFields.{bytes_same, bytes_self, and_left, and_right, not_false}
 use Rattle.slo_objects.proofs.LawFields.{lacks, lacks_all, lacks_all_from, among-back}
-use Rattle.slo_objects.proofs.LawRows.{ok_same, all_joined, then_ok, RowLaw, always_run, RowsLaw}
-use Rattle.slo_objects.proofs.LawRows.{lacking, closed_alone}
+use Rattle.slo_objects.proofs.LawFieldTables.{ok_same, all_joined, then_ok, LineLaw, always_run}
+use Rattle.slo_objects.proofs.LawFieldTables.{TableLaw}
+use Rattle.slo_objects.proofs.LawFieldTables.{lacking, closed_alone}
 use Rattle.slo_objects.proofs.LawLines.{MappedOk, mapped_ok, none_given, refused_not_ok, OfField}
-use Rattle.slo_objects.proofs.LawLines.{field_written}
+use Rattle.slo_objects.proofs.LawLines.{field_written, required_unless_of, required_where_of}
 
 -- DEPTH
 
@@ -122,29 +125,32 @@ abbrev pub FormFit : (Q : Object → Type 0) → ℕ → {A : Type 0} → Form A
 FormFit Q room {A} f = (key : Key) (t : Tree) (y : List Object × A) → f.read key t ≡ Ok y → (d : ℕ)
     → room ≤ d → d ≤ max_depth → Fits d (spelled t) → Fits d (f.write y.1) × AllByRecursion Q y.0
 
-abbrev pub RowFit : (Q : Object → Type 0) → ℕ → {B : Type 0} → Row B → Type 0
-RowFit Q room {B} r = (es : Entries) (y : List Object × B) → r.read es ≡ Ok y → (d : ℕ) → room ≤ d
+abbrev pub LineFit : (Q : Object → Type 0) → ℕ → {B : Type 0} → FieldLine B → Type 0
+LineFit Q room {B} r = (es : Entries) (y : List Object × B) → r.read es ≡ Ok y → (d : ℕ) → room ≤ d
     → d ≤ max_depth → FitFields d (fields_spelled es)
     → (behind : Fields) → FitFields d behind → lacks_all r.keys (entries_meant behind) ≡ true
     → FitFields d (r.write y.1 behind) × AllByRecursion Q y.0
 
-abbrev pub RowsFit : (Q : Object → Type 0) → ℕ → {A : Type 0} → Rows A → Type 0
-RowsFit Q room (done a) = Unit {0}
-RowsFit Q room (row {B = B} r part rest) = RowFit Q room r × ((b : B) → RowsFit Q room (rest b))
+abbrev pub TableFit : (Q : Object → Type 0) → ℕ → {A : Type 0} → FieldTable A → Type 0
+TableFit Q room (done a) = Unit {0}
+TableFit Q room (next_line {B = B} r part rest) = LineFit Q room r
+    × ((b : B) → TableFit Q room (rest b))
 
 -- what stands behind a line lacks its keys
-behind_lacks : {A B : Type 0} (P : Object → Type 0) (r : Row B) (law : RowLaw P B r)
-    (rows : Rows A) (barred : List Key) (b : B) → RowsLaw P (barred ++ law.asks b) rows → (v : A)
-    → lacks_all r.keys (entries_meant (put rows v)) ≡ true
-behind_lacks P r law rows barred b later v =
-    lacks_all_from r.keys (entries_meant (put rows v)) (λ k e. lacking P rows (barred ++ law.asks b)
+behind_lacks : {A B : Type 0} (P : Object → Type 0) (r : FieldLine B) (law : LineLaw P B r)
+    (table : FieldTable A) (barred : List Key) (b : B) → TableLaw P (barred ++ law.asks b) table
+    → (v : A)
+    → lacks_all r.keys (entries_meant (fields_by table v)) ≡ true
+behind_lacks P r law table barred b later v =
+    lacks_all_from r.keys (entries_meant (fields_by table v))
+    (λ k e. lacking P table (barred ++ law.asks b)
     later v k (among-back barred (law.asks b) k (law.covers b k e)))
 
 pub run_fit : {A : Type 0} (Q : Object → Type 0) (room : ℕ) (P : Object → Type 0)
-    (rows : Rows A) (barred : List Key) → RowsLaw P barred rows → RowsFit Q room rows
-    → (known : List Key) (es : Entries) (y : List Object × A) → run rows known es ≡ Ok y
+    (table : FieldTable A) (barred : List Key) → TableLaw P barred table → TableFit Q room table
+    → (known : List Key) (es : Entries) (y : List Object × A) → answer_by table known es ≡ Ok y
     → (d : ℕ) → room ≤ d → d ≤ max_depth → FitFields d (fields_spelled es)
-    → FitFields d (put rows y.1) × AllByRecursion Q y.0
+    → FitFields d (fields_by table y.1) × AllByRecursion Q y.0
 run_fit Q room P (done a) barred law fit known es y e d h k f =
     let t = then_ok (closed known es) (λ _. gives a) y e in
     let s = ok_same ([], a) t.second t.is_second in (
@@ -152,8 +158,8 @@ run_fit Q room P (done a) barred law fit known es y e d h k f =
       subst (AllByRecursion Q) (sym (t.objects ∙ ap (λ os. os ++ t.second.0)
           (closed_alone known es t.first t.is_first) ∙ sym (ap (λ z. z.0) s))) tt,
     )
-run_fit Q room P (row r part rest) barred law fit known es y e d h k f =
-    let t = then_ok (r.read es) (λ b. run (rest b) (known ++ r.keys) es) y e in
+run_fit Q room P (next_line r part rest) barred law fit known es y e d h k f =
+    let t = then_ok (r.read es) (λ b. answer_by (rest b) (known ++ r.keys) es) y e in
     let b = t.first.1 in
     let q = t.second in
     let s = law.1 b in
@@ -161,10 +167,10 @@ run_fit Q room P (row r part rest) barred law fit known es y e d h k f =
     always_run (rest b) (λ z. part z ≡ b) s.1 (known ++ r.keys) es q t.is_second in
     let later = run_fit Q room P (rest b) (barred ++ law.0.asks b) s.2 (fit.1 b) (known ++ r.keys)
     es q t.is_second d h k f in
-    let first = fit.0 es t.first t.is_first d h k f (put (rest b) q.1) later.0
+    let first = fit.0 es t.first t.is_first d h k f (fields_by (rest b) q.1) later.0
     (behind_lacks P r law.0 (rest b) barred b s.2 q.1) in (
-      subst (λ z. FitFields d (put (row r part rest) z)) (sym t.value)
-          (subst (λ c. FitFields d (r.write c (put (rest c) q.1))) (sym is_part) first.0),
+      subst (λ z. FitFields d (fields_by (next_line r part rest) z)) (sym t.value)
+          (subst (λ c. FitFields d (r.write c (fields_by (rest c) q.1))) (sym is_part) first.0),
       subst (AllByRecursion Q) (sym t.objects) (all_joined Q t.first.0 q.0 first.1 later.1),
     )
 
@@ -173,13 +179,14 @@ abbrev pub Within : ℕ → ℕ → Type 0
 Within outer inner = (d : ℕ) → outer ≤ suc d → inner ≤ d
 
 pub map_fit : {A : Type 0} (Q : Object → Type 0) (outer inner : ℕ) (P : Object → Type 0)
-    (rows : Rows A) → Within outer inner → RowsLaw P [] rows → RowsFit Q inner rows
-    → FormFit Q outer (map_with rows)
-map_fit Q outer inner P rows w law fit key (mapping es) y e zero h k f = absurd f
-map_fit Q outer inner P rows w law fit key (mapping es) y e (suc d) h k f =
-    run_fit Q inner P rows [] law fit [] es y e d (w d h) (let k2 = k in omega arith) f
-map_fit Q outer inner P rows w law fit key (sequence ts) y e d h k f = refused_not_ok key NotMap y e
-map_fit Q outer inner P rows w law fit key (scalar text plain) y e d h k f =
+    (table : FieldTable A) → Within outer inner → TableLaw P [] table → TableFit Q inner table
+    → FormFit Q outer (map_with table)
+map_fit Q outer inner P table w law fit key (mapping es) y e zero h k f = absurd f
+map_fit Q outer inner P table w law fit key (mapping es) y e (suc d) h k f =
+    run_fit Q inner P table [] law fit [] es y e d (w d h) (let k2 = k in omega arith) f
+map_fit Q outer inner P table w law fit key (sequence ts) y e d h k f = refused_not_ok key NotMap y
+    e
+map_fit Q outer inner P table w law fit key (scalar text plain) y e d h k f =
     refused_not_ok key NotMap y e
 
 -- LINES
@@ -187,7 +194,7 @@ map_fit Q outer inner P rows w law fit key (scalar text plain) y e d h k f =
 field_fit : {A : Type 0} (Q : Object → Type 0) (room : ℕ) (key : Key)
     (f : Form A) (value : Option Tree → Answer (Option A)) → own_key key ≡ true → FormFit Q room f
     → OfField A key f value
-    → RowFit Q room (record {
+    → LineFit Q room (record {
       keys = key ∷ [];
       read = λ es. value (field_of key es);
       write = field_written f key;
@@ -212,44 +219,26 @@ field_fit {A} Q room key f value k fit of es y e d h m fe behind fb lk = by (fie
     by (Some t) g v = there t g (mapped_ok Some (f.read key t) y (sym (of.some t y v t) ∙ v))
 
 pub optional_fit : {A : Type 0} (Q : Object → Type 0) (room : ℕ) (key : Key) (f : Form A)
-    → own_key key ≡ true → FormFit Q room f → RowFit Q room (optional key f)
+    → own_key key ≡ true → FormFit Q room f → LineFit Q room (optional key f)
 optional_fit Q room key f k fit = field_fit Q room key f (λ o. field_or (gives None) f key o) k fit
     (record { none = none_given; some = λ t y e u. refl })
 
 pub required_where_fit : {A : Type 0} (Q : Object → Type 0)
     (room : ℕ) (needed : Bool) (key : Key) (f : Form A) → own_key key ≡ true → FormFit Q room f
-    → RowFit Q room (required_where needed key f)
-required_where_fit {A} Q room needed key f k fit =
+    → LineFit Q room (required_where needed key f)
+required_where_fit Q room needed key f k fit =
     field_fit Q room key f (λ o. field_or (cond needed (refused key Missing) (gives None)) f key o)
-    k fit (record { none = by needed; some = λ t y e u. refl })
-  where
-    by : (b : Bool) (y : List Object × Option A) → cond b (refused key Missing) (gives None) ≡ Ok y
-        → y ≡ ([], None)
-    by true y e = refused_not_ok key Missing y e
-    by false y e = none_given y e
+    k fit (required_where_of needed key f)
 
 pub required_unless_fit : {A : Type 0} (Q : Object → Type 0)
     (room : ℕ) (barred : Bool) (key : Key) (f : Form A) → own_key key ≡ true → FormFit Q room f
-    → RowFit Q room (required_unless barred key f)
-required_unless_fit {A} Q room barred key f k fit = field_fit Q room
+    → LineFit Q room (required_unless barred key f)
+required_unless_fit Q room barred key f k fit = field_fit Q room
     key f (λ o. cond barred (barred_field key o) (field_or (refused key Missing) f key o)) k fit
-    (record { none = absent barred; some = λ t y e u. present barred t y e u })
-  where
-    absent : (b : Bool) (y : List Object × Option A)
-        → cond b (barred_field key None) (field_or (refused key Missing) f key None) ≡ Ok y
-        → y ≡ ([], None)
-    absent true y e = none_given y e
-    absent false y e = refused_not_ok key Missing y e
-
-    present : (b : Bool) (t : Tree) (y : List Object × Option A)
-        → cond b (barred_field key (Some t)) (field_or (refused key Missing) f key (Some t)) ≡ Ok y
-        → (u : Tree) → cond b (barred_field key (Some u))
-        (field_or (refused key Missing) f key (Some u)) ≡ mapped Some (f.read key u)
-    present true t y e u = refused_not_ok key Both y e
-    present false t y e u = refl
+    (required_unless_of barred key f)
 
 pub required_fit : {A : Type 0} (Q : Object → Type 0) (room : ℕ) (key : Key) (f : Form A)
-    → own_key key ≡ true → FormFit Q room f → RowFit Q room (required key f)
+    → own_key key ≡ true → FormFit Q room f → LineFit Q room (required key f)
 required_fit {A} Q room key f k fit es y e d h m fe behind fb lk = by (field_of key es) refl e
   where
     by : (o : Option Tree) → field_of key es ≡ o
@@ -264,7 +253,7 @@ required_fit {A} Q room key f k fit es y e d h m fe behind fb lk = by (field_of 
 
 pub alone_fit : {A : Type 0} (Q : Object → Type 0)
     (room : ℕ) (key : Key) (others : List Key) (f : Form A) → own_key key ≡ true → FormFit Q room f
-    → RowFit Q room (optional_alone key others f)
+    → LineFit Q room (optional_alone key others f)
 alone_fit {A} Q room key others f k fit es y e d h m fe behind fb lk =
     by (has_one_of others es) (field_of key es) refl e
   where
@@ -297,7 +286,7 @@ EitherFit Q room {A} h f g is_first = (key : Key) (t : Tree) (y : List Object ×
 pub one_of_fit : {A : Type 0} (Q : Object → Type 0) (room : ℕ) (key : Key) (f : Form A)
     (other : Key) (g : Form A) (is_first : A → Bool) → own_key key ≡ true → own_key other ≡ true
     → EitherFit Q room f f g is_first → EitherFit Q room g f g is_first
-    → RowFit Q room (one_of key f other g is_first)
+    → LineFit Q room (one_of key f other g is_first)
 one_of_fit {A} Q room key f other g is_first k j ff gf es y e d h m fe behind fb lk =
     by (field_of key es) (field_of other es) refl refl e
   where
@@ -329,7 +318,7 @@ one_of_fit {A} Q room key f other g is_first k j ff gf es y e d h m fe behind fb
     by (Some t) (Some u) a b v = refused_not_ok key Both y v
 
 pub holding_fit : (Q : Object → Type 0) (room : ℕ) (holds : Bool) (key : Key) (rule : Rule)
-    → RowFit Q room (holding holds key rule)
+    → LineFit Q room (holding holds key rule)
 holding_fit Q room holds key rule es y e d h m fe behind fb lk = (fb, by holds e)
   where
     by : (b : Bool) → cond b (gives tt) (refused key rule) ≡ Ok y → AllByRecursion Q y.0

@@ -11,12 +11,13 @@ use Rattle.yaml_subset.specs.Spelling.{fields_spelled, items_spelled}
 use Rattle.slo_objects.specs.declared.object.Object.{Object}
 use Rattle.slo_objects.specs.declared.fault.Rule.{Rule}
 use Rattle.slo_objects.specs.declared.fault.Rule.TheVariants.{NotList, NotMap, ListLength}
-use Rattle.slo_objects.specs.Form.{Key, Answer, gives, refused, mapped, is_null, Form, Rows}
+use Rattle.slo_objects.specs.Form.{Key, Answer, gives, refused, mapped, is_null, Form, FieldTable}
 use Rattle.slo_objects.specs.Form.{map_with, told, scalar_read, scalar_form, variant, count}
 use Rattle.slo_objects.specs.Form.{with_item, each, list_read, written_items, list_with, single}
 use Rattle.slo_objects.specs.Form.{free, free_map, free_map_read}
-use Rattle.slo_objects.proofs.LawRows.{ok_same, err_not_ok, all_joined, Back, FormLaw, RowsLaw}
-use Rattle.slo_objects.proofs.LawRows.{map_law}
+use Rattle.slo_objects.proofs.LawFieldTables.{ok_same, err_not_ok, all_joined, Back, FormLaw}
+use Rattle.slo_objects.proofs.LawFieldTables.{TableLaw}
+use Rattle.slo_objects.proofs.LawFieldTables.{map_law}
 use Rattle.slo_objects.proofs.LawChoices.{EitherLaw}
 use Rattle.slo_objects.proofs.LawLines.{MappedOk, mapped_ok, refused_not_ok}
 
@@ -26,11 +27,11 @@ StrongLaw P {A} f = (key : Key) (t : Tree) (y : List Object × A) → f.read key
     → Back P A f t y
 
 -- a map that is told by a table
-pub map_strong : {A : Type 0} (P : Object → Type 0) (rows : Rows A) → RowsLaw P [] rows
-    → StrongLaw P (map_with rows)
-map_strong P rows law key (mapping es) y e = map_law P rows law key (mapping es) y refl e
-map_strong P rows law key (sequence ts) y e = refused_not_ok key NotMap y e
-map_strong P rows law key (scalar text plain) y e = refused_not_ok key NotMap y e
+pub map_strong : {A : Type 0} (P : Object → Type 0) (table : FieldTable A) → TableLaw P [] table
+    → StrongLaw P (map_with table)
+map_strong P table law key (mapping es) y e = map_law P table law key (mapping es) y refl e
+map_strong P table law key (sequence ts) y e = refused_not_ok key NotMap y e
+map_strong P table law key (scalar text plain) y e = refused_not_ok key NotMap y e
 
 -- VARIANTS
 

@@ -12,14 +12,15 @@ use Rattle.slo_objects.specs.declared.object.Metadata.{Metadata}
 use Rattle.slo_objects.specs.declared.kind.Kind.{Kind}
 use Rattle.slo_objects.specs.declared.fault.Rule.TheVariants as rules
 use Rattle.slo_objects.specs.Form.{Key, Answer, gives, refused, on_some, is_null, field_of, shown}
-use Rattle.slo_objects.specs.Form.{told, Form, run, required, optional, map_with}
+use Rattle.slo_objects.specs.Form.{told, Form, answer_by, required, optional, map_with}
 use Rattle.slo_objects.specs.Metadata.{metadata, object_with}
 use Rattle.slo_objects.specs.Scalars.{name, name_value, version, only_kind}
 use Rattle.slo_objects.specs.Inline.{inline_object, taken_out, inline_read, reference}
 use Rattle.slo_objects.specs.Inline.{reference_written, item_read, reference_item}
 use Rattle.slo_objects.proofs.LawFields.{bytes_self, field_shown, or_left}
-use Rattle.slo_objects.proofs.LawRows.{ok_same, err_not_ok, all_joined, then_gives, given, FormLaw}
-use Rattle.slo_objects.proofs.LawRows.{map_law}
+use Rattle.slo_objects.proofs.LawFieldTables.{ok_same, err_not_ok, all_joined, then_gives, given}
+use Rattle.slo_objects.proofs.LawFieldTables.{FormLaw}
+use Rattle.slo_objects.proofs.LawFieldTables.{map_law}
 use Rattle.slo_objects.proofs.LawLines.{refused_not_ok, optional_law}
 use Rattle.slo_objects.proofs.LawForms.{ItemLaw, told_ok}
 use Rattle.slo_objects.proofs.LawScalars.{name_same, version_law, only_kind_law}
@@ -70,7 +71,7 @@ referred key n = ap (λ b. cond (b && true) (Some (scalar n false)) None) (bytes
 
 -- a reference that is written is read
 reference_again : (key : Key) (n : List ℕ) → name_value n ≡ Ok n
-    → run (reference key) [] (entry key (scalar n false) no_entries) ≡ gives n
+    → answer_by (reference key) [] (entry key (scalar n false) no_entries) ≡ gives n
 unfolding reference
 reference_again key n e = then_gives _ n _ n
     (ap (on_some (refused key rules.Missing) (name.read key)) (referred key n) ∙ ap (told key) e)
@@ -120,7 +121,8 @@ pub inline_ok : (P : Object → Type 0) (kind : Kind) (body : Form Body)
     → inline_read kind body es ≡ Ok y → ItemOk P y
 unfolding inline_object
 inline_ok P kind body law own es y e =
-    taken_ok P (run (inline_object kind body) [] es) y (λ p h. given (inline_object kind body) es []
+    taken_ok P (answer_by (inline_object kind body) [] es) y
+    (λ p h. given (inline_object kind body) es []
     (InlineOk P) (λ v ev k ek m em s es. parts v ev k ek m em s es) [] p h) e
   where
     parts : (v : List Object × Option (Unit {0}))
@@ -150,7 +152,7 @@ inline_ok P kind body law own es y e =
 -- ITEMS
 
 pub reference_ok : (P : Object → Type 0) (key : Key) (es : Entries) (y : List Object × List ℕ)
-    → run (reference key) [] es ≡ Ok y → ItemOk P y
+    → answer_by (reference key) [] es ≡ Ok y → ItemOk P y
 unfolding reference
 reference_ok P key es y e = given (reference key) es [] (λ os n. ItemOk P (os, n))
     (λ n h. let f = field_ok key name es n h in let k = name_ok key f.value n f.is_read in
@@ -161,7 +163,7 @@ pub item_ok : (P : Object → Type 0) (key : Key) (kind : Kind) (body : Form Bod
     → item_read key kind body es ≡ Ok y → ItemOk P y
 item_ok P key kind body law own es y e = by (is_none (field_of key es)) e
   where
-    by : (b : Bool) → cond b (inline_read kind body es) (run (reference key) [] es) ≡ Ok y
+    by : (b : Bool) → cond b (inline_read kind body es) (answer_by (reference key) [] es) ≡ Ok y
         → ItemOk P y
     by true f = inline_ok P kind body law own es y f
     by false f = reference_ok P key es y f
@@ -171,7 +173,7 @@ pub item_again : (key : Key) (kind : Kind) (body : Form Body) (n : List ℕ) →
     → item_read key kind body (entry key (scalar n false) no_entries) ≡ gives n
 item_again key kind body n e =
     ap (λ o. cond (is_none o) (inline_read kind body (entry key (scalar n false) no_entries))
-    (run (reference key) [] (entry key (scalar n false) no_entries))) (referred key n)
+    (answer_by (reference key) [] (entry key (scalar n false) no_entries))) (referred key n)
     ∙ reference_again key n e
 
 pub reference_item_law : (P : Object → Type 0) (key : Key) (kind : Kind) (body : Form Body)

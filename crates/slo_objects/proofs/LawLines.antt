@@ -13,7 +13,7 @@ use Rattle.slo_objects.specs.Form.{Form, own_where, spelled_where, field_or, opt
 use Rattle.slo_objects.specs.Form.{required_where, required_unless, barred_field}
 use Rattle.slo_objects.proofs.LawFields.{bytes_self, and_left, and_both, or_left, joined, lacks}
 use Rattle.slo_objects.proofs.LawFields.{within, lacks-joined, nothing_found, found, field_shown}
-use Rattle.slo_objects.proofs.LawRows.{ok_same, err_not_ok, RowLaw, FormLaw}
+use Rattle.slo_objects.proofs.LawFieldTables.{ok_same, err_not_ok, LineLaw, FormLaw}
 
 -- what is known of a mapped reading that gave a value
 pub record MappedOk (A B : Type 0) (f : A → B) (a : Answer A) (y : List Object × B) : Type 0 where
@@ -107,7 +107,7 @@ field_taken {A} P key f value law of es y e = by (field_of key es) refl e
 -- a line that reads one field in this way
 abbrev pub field_law : {A : Type 0} (P : Object → Type 0) (key : Key) (f : Form A)
     (value : Option Tree → Answer (Option A)) → FormLaw P f → OfField A key f value
-    → RowLaw P (Option A) (record {
+    → LineLaw P (Option A) (record {
       keys = key ∷ [];
       read = λ es. value (field_of key es);
       write = field_written f key;
@@ -133,26 +133,31 @@ pub refused_not_ok : {A : Type 0} {Q : Type 0} (key : Key) (rule : Rule) (y : Li
 refused_not_ok key rule y e = absurd (err_not_ok (record { field = key; rule = rule }) y e)
 
 abbrev pub optional_law : {A : Type 0} (P : Object → Type 0) (key : Key) (f : Form A) → FormLaw P f
-    → RowLaw P (Option A) (optional key f)
+    → LineLaw P (Option A) (optional key f)
 optional_law P key f law = field_law P key f (λ o. field_or (gives None) f key o) law
     (record { none = none_given; some = λ t y e u. refl })
 
-abbrev pub required_where_law : {A : Type 0} (P : Object → Type 0) (needed : Bool) (key : Key)
-    (f : Form A) → FormLaw P f → RowLaw P (Option A) (required_where needed key f)
-required_where_law {A} P needed key f law =
-    field_law P key f (λ o. field_or (cond needed (refused key Missing) (gives None)) f key o) law
-    (record { none = by needed; some = λ t y e u. refl })
+-- what a line reads where its field is, or isn't, required
+pub required_where_of : {A : Type 0} (needed : Bool) (key : Key) (f : Form A)
+    → OfField A key f (λ o. field_or (cond needed (refused key Missing) (gives None)) f key o)
+required_where_of {A} needed key f = record { none = by needed; some = λ t y e u. refl }
   where
     by : (b : Bool) (y : List Object × Option A) → cond b (refused key Missing) (gives None) ≡ Ok y
         → y ≡ ([], None)
     by true y e = refused_not_ok key Missing y e
     by false y e = none_given y e
 
-abbrev pub required_unless_law : {A : Type 0} (P : Object → Type 0) (barred : Bool) (key : Key)
-    (f : Form A) → FormLaw P f → RowLaw P (Option A) (required_unless barred key f)
-required_unless_law {A} P barred key f law = field_law P
-    key f (λ o. cond barred (barred_field key o) (field_or (refused key Missing) f key o)) law
-    (record { none = no barred; some = λ t y e u. yes barred t y e u })
+abbrev pub required_where_law : {A : Type 0} (P : Object → Type 0) (needed : Bool) (key : Key)
+    (f : Form A) → FormLaw P f → LineLaw P (Option A) (required_where needed key f)
+required_where_law P needed key f law = field_law P key f
+    (λ o. field_or (cond needed (refused key Missing) (gives None)) f key o) law
+    (required_where_of needed key f)
+
+-- and where its field is required or barred
+pub required_unless_of : {A : Type 0} (barred : Bool) (key : Key) (f : Form A) → OfField A key f
+    (λ o. cond barred (barred_field key o) (field_or (refused key Missing) f key o))
+required_unless_of {A} barred key f =
+    record { none = no barred; some = λ t y e u. yes barred t y e u }
   where
     no : (b : Bool) (y : List Object × Option A)
         → cond b (barred_field key None) (field_or (refused key Missing) f key None) ≡ Ok y
@@ -167,9 +172,15 @@ required_unless_law {A} P barred key f law = field_law P
     yes true t y e u = refused_not_ok key Both y e
     yes false t y e u = refl
 
+abbrev pub required_unless_law : {A : Type 0} (P : Object → Type 0) (barred : Bool) (key : Key)
+    (f : Form A) → FormLaw P f → LineLaw P (Option A) (required_unless barred key f)
+required_unless_law P barred key f law = field_law P key f
+    (λ o. cond barred (barred_field key o) (field_or (refused key Missing) f key o)) law
+    (required_unless_of barred key f)
+
 -- a field that must stand
 abbrev pub required_law : {A : Type 0} (P : Object → Type 0) (key : Key) (f : Form A) → FormLaw P f
-    → RowLaw P A (required key f)
+    → LineLaw P A (required key f)
 required_law {A} P key f law = record {
   asks = λ _. key ∷ [];
   piece = λ a. field_piece f key (Some a);

@@ -8,7 +8,7 @@ use Rattle.yaml_subset.specs.Tree.{Tree, mapping, sequence, scalar, Entries}
 use Rattle.slo_objects.specs.declared.object.Object.{Object}
 use Rattle.slo_objects.specs.declared.slo.BudgetingMethod.{BudgetingMethod}
 use Rattle.slo_objects.specs.Form.{Key, Answer, gives, refused, told, is_among, is_null, map_with}
-use Rattle.slo_objects.specs.Form.{single, written_where, field_of, Form, run, own, required}
+use Rattle.slo_objects.specs.Form.{single, written_where, field_of, Form, answer_by, own, required}
 use Rattle.slo_objects.specs.Form.{optional}
 use Rattle.slo_objects.specs.Scalars.{description, text, name, boolean, op, number, percent}
 use Rattle.slo_objects.specs.Scalars.{zone_name, name_value, number_written, percent_value, version}
@@ -25,12 +25,12 @@ use Rattle.slo_objects.specs.AlertPolicy.{conditions, targets, alert_policy, pol
 use Rattle.slo_objects.specs.Sli.{sli_body}
 use Rattle.slo_objects.specs.Slo.{calendar, is_rolling, is_calendar_unit, time_window, method}
 use Rattle.slo_objects.specs.Slo.{has_slice_target, has_slices, slice_width, target, is_target}
-use Rattle.slo_objects.specs.Slo.{objective, one_to_five, objective_item, objectives}
+use Rattle.slo_objects.specs.Slo.{objective, is_objective_count, objective_item, objectives}
 use Rattle.slo_objects.specs.Slo.{inline_indicator, is_inline, unrepeated, policy_form, policy_item}
-use Rattle.slo_objects.specs.Slo.{at_most_ten, policies, slo, slo_in, slo_body, method_value}
+use Rattle.slo_objects.specs.Slo.{is_policy_count, policies, slo, slo_in, slo_body, method_value}
 use Rattle.slo_objects.specs.Slo.{method_word, width_value}
-use Rattle.slo_objects.proofs.LawRows.{ok_same, err_not_ok, Back, FormLaw, RowsLaw, map_law}
-use Rattle.slo_objects.proofs.LawRows.{all_joined, given}
+use Rattle.slo_objects.proofs.LawFieldTables.{ok_same, err_not_ok, Back, FormLaw, TableLaw, map_law}
+use Rattle.slo_objects.proofs.LawFieldTables.{all_joined, given}
 use Rattle.slo_objects.proofs.LawLines.{refused_not_ok, optional_law, required_law}
 use Rattle.slo_objects.proofs.LawLines.{required_where_law, required_unless_law}
 use Rattle.slo_objects.proofs.LawChoices.{EitherLaw, one_of_law, holding_law}
@@ -76,7 +76,7 @@ use Rattle.slo_objects.specs.declared.slo.BudgetingMethod.TheVariants.{Occurrenc
 use Rattle.slo_objects.specs.declared.slo.BudgetingMethod.TheVariants.{RatioTimeslices}
 use Rattle.slo_objects.specs.Metadata.{metadata, object_with}
 use Rattle.slo_objects.proofs.LawPlain.{decimal_written, width_written}
-use Rattle.slo_objects.proofs.LawFits.{own_key, own_fits, found_fits, FormFit, RowsFit, EitherFit}
+use Rattle.slo_objects.proofs.LawFits.{own_key, own_fits, found_fits, FormFit, TableFit, EitherFit}
 use Rattle.slo_objects.proofs.LawFits.{Within, map_fit, optional_fit, required_fit}
 use Rattle.slo_objects.proofs.LawFits.{required_where_fit, required_unless_fit, one_of_fit}
 use Rattle.slo_objects.proofs.LawFits.{holding_fit}
@@ -104,7 +104,7 @@ targets_law P own = loose P targets
     TARGET_REF.now kinds.AlertNotificationTarget target_body (target_body_law P) own))
 
 pub policy_law : (P : Object → Type 0) → Own P kinds.AlertCondition condition_body
-    → Own P kinds.AlertNotificationTarget target_body → RowsLaw P [] alert_policy
+    → Own P kinds.AlertNotificationTarget target_body → TableLaw P [] alert_policy
 unfolding alert_policy
 policy_law P own_condition own_target = (
   optional_law P DESCRIPTION.now description (description_line P),
@@ -154,7 +154,7 @@ policy_body_law P c t = variant_law P (map_with alert_policy)
 
 -- OBJECTIVES
 
-pub calendar_law : (P : Object → Type 0) → RowsLaw P [] calendar
+pub calendar_law : (P : Object → Type 0) → TableLaw P [] calendar
 unfolding calendar
 calendar_law P = (
   required_law P START_TIME.now moment (loose P moment (moment_law P)),
@@ -168,7 +168,7 @@ calendar_law P = (
   ),
 )
 
-pub window_law : (P : Object → Type 0) → RowsLaw P [] time_window
+pub window_law : (P : Object → Type 0) → TableLaw P [] time_window
 unfolding time_window
 window_law P = (
   required_law P DURATION.now (duration window_range)
@@ -200,7 +200,7 @@ window_law P = (
 )
 
 pub objective_law : (P : Object → Type 0) (method : BudgetingMethod)
-    → RowsLaw P [] (objective method)
+    → TableLaw P [] (objective method)
 unfolding objective
 objective_law P method = (
   optional_law P DISPLAY_NAME.now text (text_line P),
@@ -249,7 +249,7 @@ objective_law P method = (
 
 objectives_law : (P : Object → Type 0) (method : BudgetingMethod) → FormLaw P (objectives method)
 objectives_law P method = loose P (objectives method)
-    (list_law P one_to_five (objective_item method) (map_with (objective method)).write
+    (list_law P is_objective_count (objective_item method) (map_with (objective method)).write
     (λ key before t y e. let back = map_strong P (objective method) (objective_law P method) key t y
     e in record { again = back.again; taken = back.taken }))
 
@@ -321,11 +321,11 @@ policy_item_law P law own key before t y e =
 
 policies_law : (P : Object → Type 0) → FormLaw P policy_body → Own P kinds.AlertPolicy policy_body
     → FormLaw P policies
-policies_law P law own = loose P policies (list_law P at_most_ten policy_item
+policies_law P law own = loose P policies (list_law P is_policy_count policy_item
     (reference_written ALERT_POLICY_REF.now) (policy_item_law P law own))
 
 pub slo_law : (P : Object → Type 0) → FormLaw P policy_body → Own P kinds.AlertPolicy policy_body
-    → Own P kinds.Sli sli_body → RowsLaw P [] slo
+    → Own P kinds.Sli sli_body → TableLaw P [] slo
 unfolding slo
 slo_law P policy_body_law own_policy own_sli = (
   optional_law P DESCRIPTION.now description (description_line P),
@@ -418,7 +418,8 @@ inline_fit : (Q : Object → Type 0) (kind : Kind) (body : Form Body)
     → inline_read kind body es ≡ Ok y
     → (d : ℕ) → suc d ≤ max_depth → FitFields d (fields_spelled es) → AllByRecursion Q y.0
 unfolding inline_object
-inline_fit Q kind body fit own es y e d h fe = taken_fit Q (run (inline_object kind body) [] es)
+inline_fit Q kind body fit own es y e d h fe = taken_fit Q
+    (answer_by (inline_object kind body) [] es)
     y (λ p g. given (inline_object kind body) es [] (λ os o. AllByRecursion Q (os ++ o ∷ []))
     (λ v ev k ek m em s es2. parts v ev k ek m em s es2) [] p g) e
   where
@@ -463,7 +464,7 @@ item_taken : (Q : Object → Type 0) (key : Key) (kind : Kind) (body : Form Body
     → FitFields d (fields_spelled es) → AllByRecursion Q y.0
 item_taken Q key kind body fit own es y e d h fe = by (is_none (field_of key es)) e
   where
-    by : (b : Bool) → cond b (inline_read kind body es) (run (reference key) [] es) ≡ Ok y
+    by : (b : Bool) → cond b (inline_read kind body es) (answer_by (reference key) [] es) ≡ Ok y
         → AllByRecursion Q y.0
     by true f = inline_fit Q kind body fit own es y f d h fe
     by false f = (reference_ok Q key es y f).taken
@@ -484,10 +485,10 @@ reference_item_fit Q key kind body k law fit own listed before (scalar bytes pla
 
 -- POLICIES
 
-policy_rows : (Q : Object → Type 0) → OwnFit Q kinds.AlertCondition condition_body
-    → OwnFit Q kinds.AlertNotificationTarget target_body → RowsFit Q 0 alert_policy
+policy_table : (Q : Object → Type 0) → OwnFit Q kinds.AlertCondition condition_body
+    → OwnFit Q kinds.AlertNotificationTarget target_body → TableFit Q 0 alert_policy
 unfolding alert_policy
-policy_rows Q own_condition own_target = (
+policy_table Q own_condition own_target = (
   optional_fit Q 0 DESCRIPTION.now description refl (description_fit Q 0),
   λ d. (
     optional_fit Q 0 ALERT_WHEN_NO_DATA.now boolean refl (boolean_fit Q 0),
@@ -513,7 +514,7 @@ policy_rows Q own_condition own_target = (
   ),
 )
 
-any_policy_law : RowsLaw Any [] alert_policy
+any_policy_law : TableLaw Any [] alert_policy
 any_policy_law = policy_law Any (any_own kinds.AlertCondition condition_body)
     (any_own kinds.AlertNotificationTarget target_body)
 
@@ -525,7 +526,7 @@ pub policy_body_fit : (Q : Object → Type 0) → OwnFit Q kinds.AlertCondition 
     → OwnFit Q kinds.AlertNotificationTarget target_body → FormFit Q 0 policy_body
 policy_body_fit Q c t = variant_fit Q 0 (map_with alert_policy)
     bodies.AlertPolicy (written_where (map_with alert_policy) policy_in) (λ a. refl)
-    (plain_map_fit Q alert_policy any_policy_law (policy_rows Q c t))
+    (plain_map_fit Q alert_policy any_policy_law (policy_table Q c t))
 
 -- MOMENTS, WIDTHS AND PERCENTAGES
 
@@ -574,16 +575,16 @@ method_fit Q room =
 
 -- OBJECTIVES
 
-calendar_rows : (Q : Object → Type 0) → RowsFit Q 0 calendar
+calendar_table : (Q : Object → Type 0) → TableFit Q 0 calendar
 unfolding calendar
-calendar_rows Q = (
+calendar_table Q = (
   required_fit Q 0 START_TIME.now moment refl (moment_fit Q 0),
   λ s. (required_fit Q 0 TIME_ZONE.now zone_name refl (zone_fit Q 0), λ z. tt),
 )
 
-window_rows : (Q : Object → Type 0) → RowsFit Q 0 time_window
+window_table : (Q : Object → Type 0) → TableFit Q 0 time_window
 unfolding time_window
-window_rows Q = (
+window_table Q = (
   required_fit Q 0 DURATION.now (duration window_range) refl (duration_fit Q 0 window_range),
   λ d. (
     optional_fit Q 0 IS_ROLLING.now boolean refl (boolean_fit Q 0),
@@ -591,16 +592,16 @@ window_rows Q = (
       holding_fit Q 0 (is_rolling r || is_calendar_unit d.span.unit) DURATION.now rules.OutOfRange,
       λ u. (
         required_unless_fit Q 0 (is_rolling r) CALENDAR.now (map_with calendar) refl
-            (plain_map_fit Q calendar (calendar_law Any) (calendar_rows Q)),
+            (plain_map_fit Q calendar (calendar_law Any) (calendar_table Q)),
         λ c. tt,
       ),
     ),
   ),
 )
 
-objective_rows : (Q : Object → Type 0) (method : BudgetingMethod) → RowsFit Q 0 (objective method)
+objective_table : (Q : Object → Type 0) (method : BudgetingMethod) → TableFit Q 0 (objective method)
 unfolding objective
-objective_rows Q method = (
+objective_table Q method = (
   optional_fit Q 0 DISPLAY_NAME.now text refl (text_fit Q 0),
   λ d. (
     optional_fit Q 0 OP.now op refl (op_fit Q 0),
@@ -627,9 +628,10 @@ objective_rows Q method = (
 
 objectives_fit : (Q : Object → Type 0) (method : BudgetingMethod) → FormFit Q 0 (objectives method)
 objectives_fit Q method =
-    list_fit Q 0 0 one_to_five (objective_item method) (map_with (objective method)).write no_room
+    list_fit Q 0 0 is_objective_count (objective_item method) (map_with (objective method)).write
+    no_room
     (λ key before t y e d h m ft. plain_map_fit Q (objective method) (objective_law Any method)
-    (objective_rows Q method) key t y e d h m ft)
+    (objective_table Q method) key t y e d h m ft)
 
 inline_indicator_fit : (Q : Object → Type 0) (room : ℕ) → OwnFit Q kinds.Sli sli_body
     → EitherFit Q room inline_indicator inline_indicator name is_inline
@@ -676,10 +678,10 @@ two_levels d h = omega arith
 three_levels : Within 3 2
 three_levels d h = omega arith
 
-slo_rows : (Q : Object → Type 0) → FormFit Q 0 policy_body → OwnFit Q kinds.AlertPolicy policy_body
-    → OwnFit Q kinds.Sli sli_body → RowsFit Q 2 slo
+slo_table : (Q : Object → Type 0) → FormFit Q 0 policy_body → OwnFit Q kinds.AlertPolicy policy_body
+    → OwnFit Q kinds.Sli sli_body → TableFit Q 2 slo
 unfolding slo
-slo_rows Q policy_fit own_policy own_sli = (
+slo_table Q policy_fit own_policy own_sli = (
   optional_fit Q 2 DESCRIPTION.now description refl (description_fit Q 2),
   λ d. (
     required_fit Q 2 SERVICE.now name refl (name_fit Q 2),
@@ -689,7 +691,7 @@ slo_rows Q policy_fit own_policy own_sli = (
       λ i. (
         required_fit Q 2 TIME_WINDOW.now (single (map_with time_window)) refl
             (roomy Q 2 (single (map_with time_window)) (single_fit Q 0 0 (map_with time_window)
-            no_room (plain_map_fit Q time_window (window_law Any) (window_rows Q)))),
+            no_room (plain_map_fit Q time_window (window_law Any) (window_table Q)))),
         λ t. (
           required_fit Q 2 BUDGETING_METHOD.now method refl (method_fit Q 2),
           λ m. (
@@ -697,7 +699,8 @@ slo_rows Q policy_fit own_policy own_sli = (
                 (roomy Q 2 (objectives m) (objectives_fit Q m)),
             λ o. (
               optional_fit Q 2 ALERT_POLICIES.now policies refl
-                  (list_fit Q 2 1 at_most_ten policy_item (reference_written ALERT_POLICY_REF.now)
+                  (list_fit Q 2 1 is_policy_count policy_item
+                  (reference_written ALERT_POLICY_REF.now)
                   two_levels (policy_item_fit Q policy_fit own_policy)),
               λ p. tt,
             ),
@@ -713,4 +716,4 @@ pub slo_body_fit : (Q : Object → Type 0) → FormFit Q 0 policy_body
 slo_body_fit Q policy_fit own_policy own_sli =
     variant_fit Q 3 (map_with slo) bodies.Slo (written_where (map_with slo) slo_in) (λ a. refl)
     (map_fit Q 3 2 Any slo three_levels (slo_law Any any_policy_body_law (any_own kinds.AlertPolicy
-    policy_body) (any_own kinds.Sli sli_body)) (slo_rows Q policy_fit own_policy own_sli))
+    policy_body) (any_own kinds.Sli sli_body)) (slo_table Q policy_fit own_policy own_sli))

@@ -5,7 +5,8 @@ use Rattle.std.specs.Prelude.{codes}
 use Rattle.slo_objects.specs.declared.object.Object.{Object}
 use Rattle.slo_objects.specs.declared.sli.MetricSource.{MetricSource}
 use Rattle.slo_objects.specs.declared.sli.Events.TheVariants.{Good, Bad}
-use Rattle.slo_objects.specs.Form.{Form, map_with, variant, written_where, free, free_map, Rows}
+use Rattle.slo_objects.specs.Form.{Form, map_with, variant, written_where, free, free_map}
+use Rattle.slo_objects.specs.Form.{FieldTable}
 use Rattle.slo_objects.specs.Scalars.{description, text, name, boolean, op, number}
 use Rattle.slo_objects.specs.Scalars.{description_value, text_value, name_value, boolean_value}
 use Rattle.slo_objects.specs.Scalars.{op_value, op_word, number_value, number_written, version}
@@ -27,7 +28,7 @@ use Rattle.slo_objects.specs.Sli.{events_written, raw_in, rest_of_ratio, raw_rat
 use Rattle.slo_objects.specs.Sli.{ratio_metric, is_threshold, metric_written, sli, sli_in, sli_body}
 use Rattle.slo_objects.specs.Sli.{raw_type_value, raw_type_word}
 use Rattle.slo_objects.proofs.LawFields.{apart}
-use Rattle.slo_objects.proofs.LawRows.{FormLaw, Made, RowsLaw, map_law}
+use Rattle.slo_objects.proofs.LawFieldTables.{FormLaw, Made, TableLaw, map_law}
 use Rattle.slo_objects.proofs.LawLines.{optional_law, required_law}
 use Rattle.slo_objects.proofs.LawChoices.{EitherLaw, alone_asks, alone_law, one_of_law}
 use Rattle.slo_objects.proofs.LawForms.{StrongLaw, variant_law, chosen_first, chosen_second}
@@ -58,7 +59,7 @@ use Rattle.slo_objects.specs.declared.alert_condition.ConditionKind.TheVariants.
 use Rattle.slo_objects.specs.declared.kind.Kind.{Kind}
 use Rattle.slo_objects.specs.declared.sli.RawType.TheVariants.{Success, Failure}
 use Rattle.slo_objects.proofs.LawPlain.{decimal_written, duration_plain}
-use Rattle.slo_objects.proofs.LawFits.{FormFit, RowsFit, Within, map_fit, optional_fit}
+use Rattle.slo_objects.proofs.LawFits.{FormFit, TableFit, Within, map_fit, optional_fit}
 use Rattle.slo_objects.proofs.LawFits.{required_fit, alone_fit, one_of_fit}
 use Rattle.slo_objects.proofs.LawFitForms.{variant_fit, chosen_fit, free_fit, free_map_fit}
 use Rattle.slo_objects.proofs.LawFitForms.{scalar_fit, quoted_fit, word_fit}
@@ -80,7 +81,7 @@ text_line P = loose P text (text_law P)
 abbrev pub name_line : (P : Object → Type 0) → FormLaw P name
 name_line P = loose P name (name_law P)
 
-pub metadata_law : (P : Object → Type 0) → RowsLaw P [] metadata
+pub metadata_law : (P : Object → Type 0) → TableLaw P [] metadata
 unfolding metadata
 metadata_law P = (
   required_law P NAME.now name (name_line P),
@@ -105,14 +106,14 @@ metadata_law P = (
   ),
 )
 
-pub service_law : (P : Object → Type 0) → RowsLaw P [] service
+pub service_law : (P : Object → Type 0) → TableLaw P [] service
 unfolding service
 service_law P = (
   optional_law P DESCRIPTION.now description (description_line P),
   λ d. (refl, refl, tt),
 )
 
-pub data_source_law : (P : Object → Type 0) → RowsLaw P [] data_source
+pub data_source_law : (P : Object → Type 0) → TableLaw P [] data_source
 unfolding data_source
 data_source_law P = (
   optional_law P DESCRIPTION.now description (description_line P),
@@ -130,7 +131,7 @@ data_source_law P = (
   ),
 )
 
-pub notification_target_law : (P : Object → Type 0) → RowsLaw P [] alert_notification_target
+pub notification_target_law : (P : Object → Type 0) → TableLaw P [] alert_notification_target
 unfolding alert_notification_target
 notification_target_law P = (
   optional_law P DESCRIPTION.now description (description_line P),
@@ -141,7 +142,7 @@ notification_target_law P = (
   ),
 )
 
-pub condition_law : (P : Object → Type 0) → RowsLaw P [] condition
+pub condition_law : (P : Object → Type 0) → TableLaw P [] condition
 unfolding condition
 condition_law P = (
   optional_law P KIND.now condition_kind (loose P condition_kind (condition_kind_law P)),
@@ -179,7 +180,7 @@ condition_law P = (
   ),
 )
 
-pub alert_condition_law : (P : Object → Type 0) → RowsLaw P [] alert_condition
+pub alert_condition_law : (P : Object → Type 0) → TableLaw P [] alert_condition
 unfolding alert_condition
 alert_condition_law P = (
   optional_law P DESCRIPTION.now description (description_line P),
@@ -202,7 +203,7 @@ alert_condition_law P = (
 
 -- INDICATORS
 
-pub metric_source_law : (P : Object → Type 0) → RowsLaw P [] metric_source
+pub metric_source_law : (P : Object → Type 0) → TableLaw P [] metric_source
 unfolding metric_source
 metric_source_law P = (
   optional_law P METRIC_SOURCE_REF.now name (name_line P),
@@ -220,7 +221,7 @@ metric_source_law P = (
   ),
 )
 
-pub source_map_law : (P : Object → Type 0) → RowsLaw P [] source_map
+pub source_map_law : (P : Object → Type 0) → TableLaw P [] source_map
 unfolding source_map
 source_map_law P = (
   required_law P METRIC_SOURCE.now (map_with metric_source)
@@ -241,7 +242,7 @@ bad_law : (P : Object → Type 0) → EitherLaw P (variant source Bad events_wri
 bad_law P = chosen_second P source Bad events_written (variant source Good events_written) is_good
     (λ m. refl) (λ m. refl) (source_law P)
 
-raw_ratio_law : (P : Object → Type 0) (counter : Option Bool) (raw : MetricSource) → RowsLaw P
+raw_ratio_law : (P : Object → Type 0) (counter : Option Bool) (raw : MetricSource) → TableLaw P
     (COUNTER.now ∷ RAW.now ∷ TOTAL.now ∷ GOOD.now ∷ BAD.now ∷ []) (raw_ratio counter raw)
 unfolding raw_ratio
 raw_ratio_law P counter raw = (
@@ -250,7 +251,7 @@ raw_ratio_law P counter raw = (
 )
 
 counted_ratio_law : (P : Object → Type 0) (counter : Option Bool)
-    → RowsLaw P (COUNTER.now ∷ RAW.now ∷ []) (counted_ratio counter)
+    → TableLaw P (COUNTER.now ∷ RAW.now ∷ []) (counted_ratio counter)
 unfolding counted_ratio
 counted_ratio_law P counter = (
   required_law P TOTAL.now source (source_law P),
@@ -277,7 +278,7 @@ unfolding raw_ratio counted_ratio
 made_raw counter (Some raw) = λ t. refl
 made_raw counter None = λ t e. refl
 
-pub ratio_metric_law : (P : Object → Type 0) → RowsLaw P [] ratio_metric
+pub ratio_metric_law : (P : Object → Type 0) → TableLaw P [] ratio_metric
 unfolding ratio_metric
 ratio_metric_law P = (
   optional_law P COUNTER.now boolean (loose P boolean (boolean_law P)),
@@ -296,12 +297,12 @@ ratio_metric_law P = (
     is_apart None = refl
     is_apart (Some raw) = refl
 
-    later : (c : Option Bool) (raw : Option MetricSource) → RowsLaw P (COUNTER.now
+    later : (c : Option Bool) (raw : Option MetricSource) → TableLaw P (COUNTER.now
         ∷ alone_asks RAW.now (TOTAL.now ∷ GOOD.now ∷ BAD.now ∷ []) raw) (rest_of_ratio c raw)
     later c None = counted_ratio_law P c
     later c (Some raw) = raw_ratio_law P c raw
 
-pub sli_law : (P : Object → Type 0) → RowsLaw P [] sli
+pub sli_law : (P : Object → Type 0) → TableLaw P [] sli
 unfolding sli
 sli_law P = (
   optional_law P DESCRIPTION.now description (description_line P),
@@ -356,9 +357,10 @@ pub no_room : Within 0 0
 no_room d h = omega arith
 
 -- a map that needs no room of its own
-pub plain_map_fit : {A : Type 0} (Q : Object → Type 0) (rows : Rows A) → RowsLaw Any [] rows
-    → RowsFit Q 0 rows → FormFit Q 0 (map_with rows)
-plain_map_fit Q rows law fit = map_fit Q 0 0 Any rows no_room law fit
+pub plain_map_fit : {A : Type 0} (Q : Object → Type 0) (table : FieldTable A)
+    → TableLaw Any [] table
+    → TableFit Q 0 table → FormFit Q 0 (map_with table)
+plain_map_fit Q table law fit = map_fit Q 0 0 Any table no_room law fit
 
 -- SCALARS
 
@@ -446,9 +448,9 @@ duration_fit Q room range =
 
 -- TABLES
 
-metadata_rows : (Q : Object → Type 0) → RowsFit Q 0 metadata
+metadata_table : (Q : Object → Type 0) → TableFit Q 0 metadata
 unfolding metadata
-metadata_rows Q = (
+metadata_table Q = (
   required_fit Q 0 NAME.now name refl (name_fit Q 0),
   λ n. (
     optional_fit Q 0 DISPLAY_NAME.now text refl (text_fit Q 0),
@@ -461,15 +463,15 @@ metadata_rows Q = (
 )
 
 pub metadata_fit : (Q : Object → Type 0) → FormFit Q 0 (map_with metadata)
-metadata_fit Q = plain_map_fit Q metadata (metadata_law Any) (metadata_rows Q)
+metadata_fit Q = plain_map_fit Q metadata (metadata_law Any) (metadata_table Q)
 
-service_rows : (Q : Object → Type 0) → RowsFit Q 0 service
+service_table : (Q : Object → Type 0) → TableFit Q 0 service
 unfolding service
-service_rows Q = (optional_fit Q 0 DESCRIPTION.now description refl (description_fit Q 0), λ d. tt)
+service_table Q = (optional_fit Q 0 DESCRIPTION.now description refl (description_fit Q 0), λ d. tt)
 
-data_source_rows : (Q : Object → Type 0) → RowsFit Q 0 data_source
+data_source_table : (Q : Object → Type 0) → TableFit Q 0 data_source
 unfolding data_source
-data_source_rows Q = (
+data_source_table Q = (
   optional_fit Q 0 DESCRIPTION.now description refl (description_fit Q 0),
   λ d. (
     required_fit Q 0 TYPE.now text refl (text_fit Q 0),
@@ -478,17 +480,17 @@ data_source_rows Q = (
   ),
 )
 
-target_rows : (Q : Object → Type 0) → RowsFit Q 0 alert_notification_target
+target_table : (Q : Object → Type 0) → TableFit Q 0 alert_notification_target
 unfolding alert_notification_target
-target_rows Q = (
+target_table Q = (
   optional_fit Q 0 DESCRIPTION.now description refl (description_fit Q 0),
   λ d.
       (required_fit Q 0 TARGET.now text refl (text_fit Q 0), λ t. tt),
 )
 
-condition_rows : (Q : Object → Type 0) → RowsFit Q 0 condition
+condition_table : (Q : Object → Type 0) → TableFit Q 0 condition
 unfolding condition
-condition_rows Q = (
+condition_table Q = (
   optional_fit Q 0 KIND.now condition_kind refl (condition_kind_fit Q 0),
   λ k. (
     optional_fit Q 0 OP.now op refl (op_fit Q 0),
@@ -507,23 +509,23 @@ condition_rows Q = (
   ),
 )
 
-alert_condition_rows : (Q : Object → Type 0) → RowsFit Q 0 alert_condition
+alert_condition_table : (Q : Object → Type 0) → TableFit Q 0 alert_condition
 unfolding alert_condition
-alert_condition_rows Q = (
+alert_condition_table Q = (
   optional_fit Q 0 DESCRIPTION.now description refl (description_fit Q 0),
   λ d. (
     required_fit Q 0 SEVERITY.now text refl (text_fit Q 0),
     λ s. (
       required_fit Q 0 CONDITION.now (map_with condition) refl
-          (plain_map_fit Q condition (condition_law Any) (condition_rows Q)),
+          (plain_map_fit Q condition (condition_law Any) (condition_table Q)),
       λ c. tt,
     ),
   ),
 )
 
-metric_source_rows : (Q : Object → Type 0) → RowsFit Q 0 metric_source
+metric_source_table : (Q : Object → Type 0) → TableFit Q 0 metric_source
 unfolding metric_source
-metric_source_rows Q = (
+metric_source_table Q = (
   optional_fit Q 0 METRIC_SOURCE_REF.now name refl (name_fit Q 0),
   λ m. (
     optional_fit Q 0 TYPE.now text refl (text_fit Q 0),
@@ -532,22 +534,25 @@ metric_source_rows Q = (
   ),
 )
 
-source_rows : (Q : Object → Type 0) → RowsFit Q 0 source_map
+source_table : (Q : Object → Type 0) → TableFit Q 0 source_map
 unfolding source_map
-source_rows Q = (
+source_table Q = (
   required_fit Q 0 METRIC_SOURCE.now (map_with metric_source) refl
-      (plain_map_fit Q metric_source (metric_source_law Any) (metric_source_rows Q)),
+      (plain_map_fit Q metric_source (metric_source_law Any) (metric_source_table Q)),
   λ m. tt,
 )
 
 source_fit : (Q : Object → Type 0) → FormFit Q 0 source
-source_fit Q = plain_map_fit Q source_map (source_map_law Any) (source_rows Q)
+source_fit Q = plain_map_fit Q source_map (source_map_law Any) (source_table Q)
 
-rest_rows : (Q : Object → Type 0) (c : Option Bool) (raw : Option MetricSource)
-    → RowsFit Q 0 (rest_of_ratio c raw)
+rest_table : (Q : Object → Type 0) (c : Option Bool) (raw : Option MetricSource)
+    → TableFit Q 0 (rest_of_ratio c raw)
 unfolding raw_ratio counted_ratio
-rest_rows Q c (Some raw) = (required_fit Q 0 RAW_TYPE.now raw_type refl (raw_type_fit Q 0), λ t. tt)
-rest_rows Q c None = (
+rest_table Q c (Some raw) = (
+  required_fit Q 0 RAW_TYPE.now raw_type refl (raw_type_fit Q 0),
+  λ t. tt,
+)
+rest_table Q c None = (
   required_fit Q 0 TOTAL.now source refl (source_fit Q),
   λ t. (
     one_of_fit Q 0 GOOD.now (variant source Good events_written) BAD.now
@@ -560,19 +565,19 @@ rest_rows Q c None = (
   ),
 )
 
-ratio_rows : (Q : Object → Type 0) → RowsFit Q 0 ratio_metric
+ratio_table : (Q : Object → Type 0) → TableFit Q 0 ratio_metric
 unfolding ratio_metric
-ratio_rows Q = (
+ratio_table Q = (
   optional_fit Q 0 COUNTER.now boolean refl (boolean_fit Q 0),
   λ c. (
     alone_fit Q 0 RAW.now (TOTAL.now ∷ GOOD.now ∷ BAD.now ∷ []) source refl (source_fit Q),
-    λ raw. rest_rows Q c raw,
+    λ raw. rest_table Q c raw,
   ),
 )
 
-sli_rows : (Q : Object → Type 0) → RowsFit Q 0 sli
+sli_table : (Q : Object → Type 0) → TableFit Q 0 sli
 unfolding sli
-sli_rows Q = (
+sli_table Q = (
   optional_fit Q 0 DESCRIPTION.now description refl (description_fit Q 0),
   λ d. (
     one_of_fit Q 0 THRESHOLD_METRIC.now (variant source metrics.Threshold metric_written)
@@ -584,7 +589,7 @@ sli_rows Q = (
         (chosen_fit Q 0 (map_with ratio_metric) metrics.Ratio
         (variant source metrics.Threshold metric_written) (variant (map_with ratio_metric)
         metrics.Ratio metric_written) is_threshold (λ m. refl) (λ m. refl)
-        (plain_map_fit Q ratio_metric (ratio_metric_law Any) (ratio_rows Q)) metric_written),
+        (plain_map_fit Q ratio_metric (ratio_metric_law Any) (ratio_table Q)) metric_written),
     λ m. tt,
   ),
 )
@@ -594,24 +599,24 @@ sli_rows Q = (
 pub service_body_fit : (Q : Object → Type 0) → FormFit Q 0 service_body
 service_body_fit Q =
     variant_fit Q 0 (map_with service) bodies.Service (written_where (map_with service) service_in)
-    (λ a. refl) (plain_map_fit Q service (service_law Any) (service_rows Q))
+    (λ a. refl) (plain_map_fit Q service (service_law Any) (service_table Q))
 
 pub data_source_body_fit : (Q : Object → Type 0) → FormFit Q 0 data_source_body
 data_source_body_fit Q = variant_fit Q 0 (map_with data_source)
     bodies.DataSource (written_where (map_with data_source) data_source_in) (λ a. refl)
-    (plain_map_fit Q data_source (data_source_law Any) (data_source_rows Q))
+    (plain_map_fit Q data_source (data_source_law Any) (data_source_table Q))
 
 pub target_body_fit : (Q : Object → Type 0) → FormFit Q 0 target_body
 target_body_fit Q =
     variant_fit Q 0 (map_with alert_notification_target) bodies.AlertNotificationTarget
     (written_where (map_with alert_notification_target) target_in) (λ a. refl)
-    (plain_map_fit Q alert_notification_target (notification_target_law Any) (target_rows Q))
+    (plain_map_fit Q alert_notification_target (notification_target_law Any) (target_table Q))
 
 pub condition_body_fit : (Q : Object → Type 0) → FormFit Q 0 condition_body
 condition_body_fit Q = variant_fit Q 0 (map_with alert_condition) bodies.AlertCondition
     (written_where (map_with alert_condition) condition_in) (λ a. refl)
-    (plain_map_fit Q alert_condition (alert_condition_law Any) (alert_condition_rows Q))
+    (plain_map_fit Q alert_condition (alert_condition_law Any) (alert_condition_table Q))
 
 pub sli_body_fit : (Q : Object → Type 0) → FormFit Q 0 sli_body
 sli_body_fit Q = variant_fit Q 0 (map_with sli) bodies.Sli (written_where (map_with sli) sli_in)
-    (λ a. refl) (plain_map_fit Q sli (sli_law Any) (sli_rows Q))
+    (λ a. refl) (plain_map_fit Q sli (sli_law Any) (sli_table Q))

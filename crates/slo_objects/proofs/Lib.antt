@@ -5,7 +5,7 @@ mod ListLemmas
 mod CountLemmas
 mod AddLemmas
 mod LawFields
-mod LawRows
+mod LawFieldTables
 mod LawLines
 mod LawChoices
 mod LawForms

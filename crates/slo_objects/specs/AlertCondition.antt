@@ -9,7 +9,8 @@ use Rattle.slo_objects.specs.declared.fault.Rule.{Rule}
 use Rattle.slo_objects.specs.declared.fault.Rule.TheVariants as rules
 use Rattle.slo_objects.specs.declared.object.Body.{Body}
 use Rattle.slo_objects.specs.declared.object.Body.TheVariants as bodies
-use Rattle.slo_objects.specs.Form.{Key, Form, Rows, done, ◌of◌, ◌>>=◌, required, optional, map_with}
+use Rattle.slo_objects.specs.Form.{Key, Form, FieldTable, done, ◌of◌, ◌>>=◌, required, optional}
+use Rattle.slo_objects.specs.Form.{map_with}
 use Rattle.slo_objects.specs.Form.{scalar_form, variant, written_where}
 use Rattle.slo_objects.specs.Ranges.{lookback_range, threshold_range, wait_range}
 use Rattle.slo_objects.specs.Scalars.{description, text, op, found_or, of_word, number}
@@ -34,7 +35,7 @@ abbrev pub condition_kind : Form ConditionKind
 condition_kind = scalar_form rules.BadWord condition_kind_value (λ k. word (condition_word k))
 
 -- `condition`
-unfoldable pub condition : Rows Condition
+unfoldable pub condition : FieldTable Condition
 condition = do
   kind ← optional KIND.now condition_kind of λ c. c.kind
   op ← optional OP.now op of λ c. c.op
@@ -50,7 +51,7 @@ condition = do
   })
 
 -- `spec`
-unfoldable pub alert_condition : Rows AlertCondition
+unfoldable pub alert_condition : FieldTable AlertCondition
 alert_condition = do
   description ← optional DESCRIPTION.now description of λ c. c.description
   severity ← required SEVERITY.now text of λ c. c.severity

@@ -3,12 +3,13 @@ use Rattle.std.specs.Prelude.{codes, Option, Some, None}
 use Rattle.slo_objects.specs.declared.alert_notification_target.AlertNotificationTarget as declared
 use Rattle.slo_objects.specs.declared.object.Body.{Body}
 use Rattle.slo_objects.specs.declared.object.Body.TheVariants as bodies
-use Rattle.slo_objects.specs.Form.{Rows, done, ◌of◌, ◌>>=◌, required, optional, Form, map_with}
+use Rattle.slo_objects.specs.Form.{FieldTable, done, ◌of◌, ◌>>=◌, required, optional, Form}
+use Rattle.slo_objects.specs.Form.{map_with}
 use Rattle.slo_objects.specs.Form.{variant, written_where}
 use Rattle.slo_objects.specs.Scalars.{description, text}
 use Rattle.slo_objects.specs.declared.keys.TheConstants.{DESCRIPTION, TARGET}
 
-unfoldable pub alert_notification_target : Rows declared.AlertNotificationTarget
+unfoldable pub alert_notification_target : FieldTable declared.AlertNotificationTarget
 alert_notification_target = do
   description ← optional DESCRIPTION.now description of λ t. t.description
   target ← required TARGET.now text of λ t. t.target

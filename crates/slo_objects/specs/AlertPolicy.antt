@@ -5,7 +5,8 @@ use Rattle.slo_objects.specs.declared.kind.Kind.TheVariants as kinds
 use Rattle.slo_objects.specs.declared.alert_policy.AlertPolicy.{AlertPolicy}
 use Rattle.slo_objects.specs.declared.object.Body.{Body}
 use Rattle.slo_objects.specs.declared.object.Body.TheVariants as bodies
-use Rattle.slo_objects.specs.Form.{Key, Answer, list_with, Form, Rows, done, ◌of◌, ◌>>=◌, optional}
+use Rattle.slo_objects.specs.Form.{Key, Answer, list_with, Form, FieldTable, done, ◌of◌, ◌>>=◌}
+use Rattle.slo_objects.specs.Form.{optional}
 use Rattle.slo_objects.specs.Form.{map_with, variant, written_where}
 use Rattle.slo_objects.specs.Scalars.{description, boolean}
 use Rattle.slo_objects.specs.Inline.{reference_item, reference_written}
@@ -38,7 +39,7 @@ abbrev pub targets : Form (List Key)
 targets = list_with any_number_of target_item (reference_written TARGET_REF.now)
 
 -- `spec`: at most one condition, and any number of targets
-unfoldable pub alert_policy : Rows AlertPolicy
+unfoldable pub alert_policy : FieldTable AlertPolicy
 alert_policy = do
   description ← optional DESCRIPTION.now description of λ p. p.description
   alert_when_no_data ← optional ALERT_WHEN_NO_DATA.now boolean of λ p. p.alert_when_no_data

@@ -3,13 +3,13 @@ use Rattle.std.specs.Prelude.{codes, Option, Some, None}
 use Rattle.slo_objects.specs.declared.data_source.DataSource.{DataSource}
 use Rattle.slo_objects.specs.declared.object.Body.{Body}
 use Rattle.slo_objects.specs.declared.object.Body.TheVariants as bodies
-use Rattle.slo_objects.specs.Form.{Rows, done, ◌of◌, ◌>>=◌, required, optional, free, Form}
+use Rattle.slo_objects.specs.Form.{FieldTable, done, ◌of◌, ◌>>=◌, required, optional, free, Form}
 use Rattle.slo_objects.specs.Form.{map_with, variant, written_where}
 use Rattle.slo_objects.specs.Scalars.{description, text}
 use Rattle.slo_objects.specs.declared.data_source.TheConstants.{CONNECTION_DETAILS}
 use Rattle.slo_objects.specs.declared.keys.TheConstants.{DESCRIPTION, TYPE}
 
-unfoldable pub data_source : Rows DataSource
+unfoldable pub data_source : FieldTable DataSource
 data_source = do
   description ← optional DESCRIPTION.now description of λ s. s.description
   type_text ← required TYPE.now text of λ s. s.type_text

@@ -8,7 +8,7 @@ use Rattle.slo_objects.specs.declared.kind.Kind.TheVariants as kinds
 use Rattle.slo_objects.specs.declared.object.Object.{Object}
 use Rattle.slo_objects.specs.declared.object.Body.{Body}
 use Rattle.slo_objects.specs.declared.fault.ObjectFault.{ObjectFault}
-use Rattle.slo_objects.specs.Form.{Answer, Form, Rows, done, ◌of◌, ◌>>=◌, required, map_with}
+use Rattle.slo_objects.specs.Form.{Answer, Form, FieldTable, done, ◌of◌, ◌>>=◌, required, map_with}
 use Rattle.slo_objects.specs.Metadata.{metadata, object_with, metadata_of}
 use Rattle.slo_objects.specs.Scalars.{version, kind}
 use Rattle.slo_objects.specs.DataSource.{data_source_body}
@@ -35,7 +35,7 @@ unfoldable pub body : Kind → Form Body
 body kind = body_form kind
 
 -- a document
-unfoldable pub document : Rows Object
+unfoldable pub document : FieldTable Object
 document = do
   _ ← required API_VERSION.now version of λ o. tt
   kind ← required KIND.now kind of λ o. o.kind

@@ -51,29 +51,29 @@ pub record Form (A : Type 0) : Type 0 where
 
 -- A line of a table: its keys, how their fields are read, and the fields that a value is written
 -- as, before those behind them.
-pub record Row (B : Type 0) : Type 0 where
+pub record FieldLine (B : Type 0) : Type 0 where
   pub keys : List Key
   pub read : Entries → Answer B
   pub write : B → Fields → Fields
 
 -- A table: lines, each with the part of the whole that it tells, and at the end the whole. Later
 -- lines may depend on what earlier ones told.
-pub data Rows (A : Type 0) : Type 1 where
-  done : A → Rows A
-  row : {B : Type 0} → Row B → (A → B) → (B → Rows A) → Rows A
+pub data FieldTable (A : Type 0) : Type 1 where
+  done : A → FieldTable A
+  next_line : {B : Type 0} → FieldLine B → (A → B) → (B → FieldTable A) → FieldTable A
 
 -- a line as it stands in a table: `name ← line of part`
 pub record Line (A : Type 0) (B : Type 0) : Type 0 where
-  pub line : Row B
+  pub line : FieldLine B
   pub part : A → B
 
 infixl 12 ◌of◌
-abbrev pub ◌of◌ : {A B : Type 0} → Row B → (A → B) → Line A B
+abbrev pub ◌of◌ : {A B : Type 0} → FieldLine B → (A → B) → Line A B
 r of part = record { line = r; part = part }
 
 infixl 10 ◌>>=◌
-abbrev pub ◌>>=◌ : {A B : Type 0} → Line A B → (B → Rows A) → Rows A
-l >>= rest = row l.line l.part rest
+abbrev pub ◌>>=◌ : {A B : Type 0} → Line A B → (B → FieldTable A) → FieldTable A
+l >>= rest = next_line l.line l.part rest
 
 -- a scalar's text, a map's entries, a list's items
 abbrev pub scalar_in : Tree → Option (List ℕ)
@@ -129,14 +129,15 @@ closed known (entry k t es) =
     cond (is_among known k || is_null t) (closed known es) (refused (shown k) rules.UnknownField)
 
 -- A map is read line by line, in the order of its table, and its unknown fields last.
-abbrev pub run : {A : Type 0} → Rows A → List Key → Entries → Answer A
-run (done a) known es = and_then (closed known es) (λ _. gives a)
-run (row r part rest) known es = and_then (r.read es) (λ b. run (rest b) (known ++ r.keys) es)
+abbrev pub answer_by : {A : Type 0} → FieldTable A → List Key → Entries → Answer A
+answer_by (done a) known es = and_then (closed known es) (λ _. gives a)
+answer_by (next_line r part rest) known es = and_then (r.read es)
+    (λ b. answer_by (rest b) (known ++ r.keys) es)
 
 -- A map is written line by line, in the order of its table.
-abbrev pub put : {A : Type 0} → Rows A → A → Fields
-put (done a) v = no_fields
-put (row r part rest) v = r.write (part v) (put (rest (part v)) v)
+abbrev pub fields_by : {A : Type 0} → FieldTable A → A → Fields
+fields_by (done a) v = no_fields
+fields_by (next_line r part rest) v = r.write (part v) (fields_by (rest (part v)) v)
 
 -- a field of an object: its key stands plain
 abbrev pub own : Key → Spelling → Fields → Fields
@@ -156,7 +157,7 @@ abbrev pub field_or : {A : Type 0} → Answer (Option A) → Form A → Key → 
 field_or omitted f key value = on_some omitted (λ t. mapped Some (f.read key t)) value
 
 -- a field that may be omitted
-abbrev pub optional : {A : Type 0} → Key → Form A → Row (Option A)
+abbrev pub optional : {A : Type 0} → Key → Form A → FieldLine (Option A)
 optional key f = record {
   keys = key ∷ [];
   read = λ es. field_or (gives None) f key (field_of key es);
@@ -164,7 +165,7 @@ optional key f = record {
 }
 
 -- a field that must stand
-abbrev pub required : {A : Type 0} → Key → Form A → Row A
+abbrev pub required : {A : Type 0} → Key → Form A → FieldLine A
 required key f = record {
   keys = key ∷ [];
   read = λ es. on_some (refused key rules.Missing) (f.read key) (field_of key es);
@@ -172,7 +173,7 @@ required key f = record {
 }
 
 -- a field that must stand where `needed`, and may stand elsewhere
-abbrev pub required_where : {A : Type 0} → Bool → Key → Form A → Row (Option A)
+abbrev pub required_where : {A : Type 0} → Bool → Key → Form A → FieldLine (Option A)
 required_where needed key f = record {
   keys = key ∷ [];
   read =
@@ -184,7 +185,7 @@ required_where needed key f = record {
 abbrev pub barred_field : {A : Type 0} → Key → Option Tree → Answer (Option A)
 barred_field key value = on_some (gives None) (λ _. refused key rules.Both) value
 
-abbrev pub required_unless : {A : Type 0} → Bool → Key → Form A → Row (Option A)
+abbrev pub required_unless : {A : Type 0} → Bool → Key → Form A → FieldLine (Option A)
 required_unless barred key f = record {
   keys = key ∷ [];
   read = λ es. cond barred (barred_field key (field_of key es))
@@ -201,7 +202,7 @@ abbrev pub alone_field : {A : Type 0} → Bool → Form A → Key → Option Tre
 alone_field others f key value = on_some (gives None)
     (λ t. cond others (refused key rules.Both) (mapped Some (f.read key t))) value
 
-abbrev pub optional_alone : {A : Type 0} → Key → List Key → Form A → Row (Option A)
+abbrev pub optional_alone : {A : Type 0} → Key → List Key → Form A → FieldLine (Option A)
 optional_alone key others f = record {
   keys = key ∷ [];
   read = λ es. alone_field (has_one_of others es) f key (field_of key es);
@@ -217,7 +218,7 @@ either_field f key g other None (Some t) = g.read other t
 either_field f key g other (Some t) (Some u) = refused key rules.Both
 
 -- is_first says of a value whether it is written under the first key
-abbrev pub one_of : {A : Type 0} → Key → Form A → Key → Form A → (A → Bool) → Row A
+abbrev pub one_of : {A : Type 0} → Key → Form A → Key → Form A → (A → Bool) → FieldLine A
 one_of key f other g is_first = record {
   keys = key ∷ other ∷ [];
   read = λ es. either_field f key g other (field_of key es) (field_of other es);
@@ -225,7 +226,7 @@ one_of key f other g is_first = record {
 }
 
 -- what must hold of the fields before, where else the field of that key is at fault
-abbrev pub holding : Bool → Key → Rule → Row (Unit {0})
+abbrev pub holding : Bool → Key → Rule → FieldLine (Unit {0})
 holding holds key rule = record {
   keys = [];
   read = λ es. cond holds (gives tt) (refused key rule);
@@ -249,10 +250,10 @@ scalar_form rule parse write = record { read = scalar_read rule parse; write = w
 abbrev pub map_read : {A : Type 0} → (Entries → Answer A) → Key → Tree → Answer A
 map_read inside key t = on_some (refused key rules.NotMap) inside (mapping_in t)
 
-abbrev pub map_with : {A : Type 0} → Rows A → Form A
-map_with rows = record {
-  read = λ key t. map_read (λ es. run rows [] es) key t;
-  write = λ v. fields (put rows v);
+abbrev pub map_with : {A : Type 0} → FieldTable A → Form A
+map_with table = record {
+  read = λ key t. map_read (λ es. answer_by table [] es) key t;
+  write = λ v. fields (fields_by table v);
 }
 
 -- a variant of a type: how its content is made one, and how each of the type's values is written

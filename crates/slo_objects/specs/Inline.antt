@@ -5,14 +5,15 @@ use Rattle.yaml_subset.specs.Spelling.{Spelling, quoted, fields, no_fields}
 use Rattle.slo_objects.specs.declared.kind.Kind.{Kind}
 use Rattle.slo_objects.specs.declared.object.Object.{Object}
 use Rattle.slo_objects.specs.declared.object.Body.{Body}
-use Rattle.slo_objects.specs.Form.{Key, Answer, Form, Rows, done, run, field_of, ◌of◌, ◌>>=◌}
+use Rattle.slo_objects.specs.Form.{Key, Answer, Form, FieldTable, done, answer_by, field_of, ◌of◌}
+use Rattle.slo_objects.specs.Form.{◌>>=◌}
 use Rattle.slo_objects.specs.Form.{required, optional, map_with, map_read, own}
 use Rattle.slo_objects.specs.Metadata.{metadata, object_with, metadata_of}
 use Rattle.slo_objects.specs.Scalars.{name, version, only_kind}
 use Rattle.slo_objects.specs.declared.keys.TheConstants.{API_VERSION, KIND, METADATA, SPEC}
 
 -- An object that stands inline: its version and its kind may be omitted.
-unfoldable pub inline_object : Kind → Form Body → Rows Object
+unfoldable pub inline_object : Kind → Form Body → FieldTable Object
 inline_object kind body = do
   _ ← optional API_VERSION.now version of λ o. None
   _ ← optional KIND.now (only_kind kind) of λ o. None
@@ -26,10 +27,10 @@ taken_out (Ok p) = Ok (p.0 ++ p.1 ∷ [], p.1.name)
 taken_out (Err f) = Err f
 
 abbrev pub inline_read : Kind → Form Body → Entries → Answer (List ℕ)
-inline_read kind body es = taken_out (run (inline_object kind body) [] es)
+inline_read kind body es = taken_out (answer_by (inline_object kind body) [] es)
 
 -- a reference: a map of that key alone
-unfoldable pub reference : Key → Rows (List ℕ)
+unfoldable pub reference : Key → FieldTable (List ℕ)
 reference key = do
   target ← required key name of λ n. n
   done target
@@ -40,7 +41,7 @@ reference_written key n = fields (own key (quoted n) no_fields)
 -- an item that is a map: a reference where the reference's key stands, else an object
 abbrev pub item_read : Key → Kind → Form Body → Entries → Answer (List ℕ)
 item_read key kind body es =
-    cond (is_none (field_of key es)) (inline_read kind body es) (run (reference key) [] es)
+    cond (is_none (field_of key es)) (inline_read kind body es) (answer_by (reference key) [] es)
 
 -- an item of a list of references: a fault of its form is the list's
 abbrev pub reference_item : Key → Kind → Form Body → Key → List (List ℕ) → Tree → Answer (List ℕ)

@@ -4,13 +4,13 @@ use Rattle.slo_objects.specs.declared.kind.Kind.{Kind}
 use Rattle.slo_objects.specs.declared.object.Object.{Object}
 use Rattle.slo_objects.specs.declared.object.Body.{Body}
 use Rattle.slo_objects.specs.declared.object.Metadata.{Metadata}
-use Rattle.slo_objects.specs.Form.{Rows, done, ◌of◌, ◌>>=◌, required, optional, free_map}
+use Rattle.slo_objects.specs.Form.{FieldTable, done, ◌of◌, ◌>>=◌, required, optional, free_map}
 use Rattle.slo_objects.specs.Scalars.{name, text}
 use Rattle.slo_objects.specs.declared.inline.TheConstants.{ANNOTATIONS, LABELS, NAME}
 use Rattle.slo_objects.specs.declared.keys.TheConstants.{DISPLAY_NAME}
 
 -- `metadata` (OpenSLO v1, general schema)
-unfoldable pub metadata : Rows Metadata
+unfoldable pub metadata : FieldTable Metadata
 metadata = do
   name ← required NAME.now name of λ m. m.name
   display_name ← optional DISPLAY_NAME.now text of λ m. m.display_name

@@ -3,12 +3,12 @@ use Rattle.std.specs.Prelude.{codes, Option, Some, None}
 use Rattle.slo_objects.specs.declared.service.Service.{Service}
 use Rattle.slo_objects.specs.declared.object.Body.{Body}
 use Rattle.slo_objects.specs.declared.object.Body.TheVariants as bodies
-use Rattle.slo_objects.specs.Form.{Rows, done, ◌of◌, ◌>>=◌, optional, Form, map_with, variant}
+use Rattle.slo_objects.specs.Form.{FieldTable, done, ◌of◌, ◌>>=◌, optional, Form, map_with, variant}
 use Rattle.slo_objects.specs.Form.{written_where}
 use Rattle.slo_objects.specs.Scalars.{description}
 use Rattle.slo_objects.specs.declared.keys.TheConstants.{DESCRIPTION}
 
-unfoldable pub service : Rows Service
+unfoldable pub service : FieldTable Service
 service = do
   description ← optional DESCRIPTION.now description of λ s. s.description
   done (record { description = description })

@@ -16,8 +16,8 @@ use Rattle.slo_objects.specs.declared.fault.Rule.{Rule}
 use Rattle.slo_objects.specs.declared.fault.Rule.TheVariants as rules
 use Rattle.slo_objects.specs.declared.object.Body.{Body}
 use Rattle.slo_objects.specs.declared.object.Body.TheVariants as bodies
-use Rattle.slo_objects.specs.Form.{Key, Form, Rows, done, ◌of◌, ◌>>=◌, required, optional}
-use Rattle.slo_objects.specs.Form.{optional_alone, one_of, map_with, variant, put, free}
+use Rattle.slo_objects.specs.Form.{Key, Form, FieldTable, done, ◌of◌, ◌>>=◌, required, optional}
+use Rattle.slo_objects.specs.Form.{optional_alone, one_of, map_with, variant, fields_by, free}
 use Rattle.slo_objects.specs.Form.{scalar_form, written_where}
 use Rattle.slo_objects.specs.Scalars.{description, text, name, boolean, found_or, of_word}
 use Rattle.slo_objects.specs.declared.keys.TheConstants.{DESCRIPTION, SPEC, TYPE}
@@ -26,7 +26,7 @@ use Rattle.slo_objects.specs.declared.sli.TheConstants.{METRIC_SOURCE_REF, RATIO
 use Rattle.slo_objects.specs.declared.sli.TheConstants.{RAW_TYPE, THRESHOLD_METRIC, TOTAL}
 
 -- `metricSource`
-unfoldable pub metric_source : Rows MetricSource
+unfoldable pub metric_source : FieldTable MetricSource
 metric_source = do
   metric_source_ref ← optional METRIC_SOURCE_REF.now name of λ m. m.metric_source_ref
   type_text ← optional TYPE.now text of λ m. m.type_text
@@ -34,7 +34,7 @@ metric_source = do
   done (record { metric_source_ref = metric_source_ref; type_text = type_text; spec = spec })
 
 -- `thresholdMetric`, `raw`, `total`, `good` and `bad`: a map of `metricSource`
-unfoldable pub source_map : Rows MetricSource
+unfoldable pub source_map : FieldTable MetricSource
 source_map = do
   source ← required METRIC_SOURCE.now (map_with metric_source) of λ m. m
   done source
@@ -87,19 +87,19 @@ events_in (ratios.Raw raw _) = Good raw
 events_in (ratios.Counts total events) = events
 
 -- a ratio behind `counter` and `raw`, where `raw` stands and where it doesn't
-unfoldable pub raw_ratio : Option Bool → MetricSource → Rows RatioMetric
+unfoldable pub raw_ratio : Option Bool → MetricSource → FieldTable RatioMetric
 raw_ratio counter raw = do
   raw_type ← required RAW_TYPE.now raw_type of λ r. raw_type_in r.ratio
   done (record { counter = counter; ratio = ratios.Raw raw raw_type })
 
-unfoldable pub counted_ratio : Option Bool → Rows RatioMetric
+unfoldable pub counted_ratio : Option Bool → FieldTable RatioMetric
 counted_ratio counter = do
   total ← required TOTAL.now source of λ r. total_in r.ratio
   events ← one_of GOOD.now (variant source Good events_written) BAD.now
       (variant source Bad events_written) is_good of λ r. events_in r.ratio
   done (record { counter = counter; ratio = ratios.Counts total events })
 
-abbrev pub rest_of_ratio : Option Bool → Option MetricSource → Rows RatioMetric
+abbrev pub rest_of_ratio : Option Bool → Option MetricSource → FieldTable RatioMetric
 rest_of_ratio counter (Some raw) = raw_ratio counter raw
 rest_of_ratio counter None = counted_ratio counter
 
@@ -108,7 +108,7 @@ abbrev pub known_with_raw : List Key
 known_with_raw = COUNTER.now ∷ RAW.now ∷ []
 
 -- `ratioMetric`
-unfoldable pub ratio_metric : Rows RatioMetric
+unfoldable pub ratio_metric : FieldTable RatioMetric
 ratio_metric = do
   counter ← optional COUNTER.now boolean of λ r. r.counter
   raw ← optional_alone RAW.now (TOTAL.now ∷ GOOD.now ∷ BAD.now ∷ []) source of λ r. raw_in r.ratio
@@ -120,10 +120,10 @@ is_threshold (metrics.Ratio r) = false
 
 abbrev pub metric_written : Metric → Spelling
 metric_written (metrics.Threshold m) = source.write m
-metric_written (metrics.Ratio r) = fields (put ratio_metric r)
+metric_written (metrics.Ratio r) = fields (fields_by ratio_metric r)
 
 -- `spec`
-unfoldable pub sli : Rows Sli
+unfoldable pub sli : FieldTable Sli
 sli = do
   description ← optional DESCRIPTION.now description of λ s. s.description
   metric ← one_of THRESHOLD_METRIC.now (variant source metrics.Threshold metric_written)

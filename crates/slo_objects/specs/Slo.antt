@@ -7,6 +7,7 @@ use Rattle.exact_fraction.specs.Digits.{is_number, number_within}
 use Rattle.slo_duration.specs.declared.unit.Unit.{Unit as TimeUnit}
 use Rattle.slo_duration.specs.declared.unit.Unit.TheVariants as units
 use Rattle.slo_duration.specs.Minutes.{minutes_of}
+use Rattle.slo_limits.specs.declared.TheConstants.{MAX_OBJECTIVES, MAX_POLICIES}
 use Rattle.slo_objects.specs.declared.fault.Rule.{Rule}
 use Rattle.slo_objects.specs.declared.fault.Rule.TheVariants as rules
 use Rattle.slo_objects.specs.declared.kind.Kind.TheVariants as kinds
@@ -21,7 +22,8 @@ use Rattle.slo_objects.specs.declared.slo.BudgetingMethod.{BudgetingMethod}
 use Rattle.slo_objects.specs.declared.slo.BudgetingMethod.TheVariants.{Occurrences, Timeslices}
 use Rattle.slo_objects.specs.declared.slo.BudgetingMethod.TheVariants.{RatioTimeslices}
 use Rattle.slo_objects.specs.declared.slo.Objective.{Objective}
-use Rattle.slo_objects.specs.Form.{Key, Answer, refused, on_some, Form, Rows, done, ◌of◌, ◌>>=◌}
+use Rattle.slo_objects.specs.Form.{Key, Answer, refused, on_some, Form, FieldTable, done, ◌of◌}
+use Rattle.slo_objects.specs.Form.{◌>>=◌}
 use Rattle.slo_objects.specs.Form.{required, optional, required_where, required_unless, holding}
 use Rattle.slo_objects.specs.Form.{one_of, map_with, map_read, single, list_with, variant}
 use Rattle.slo_objects.specs.Form.{written_where, scalar_form, scalar_in, is_null, is_among}
@@ -44,7 +46,7 @@ use Rattle.slo_objects.specs.declared.window.TheConstants.{CALENDAR, DURATION, I
 use Rattle.slo_objects.specs.declared.window.TheConstants.{START_TIME, TIME_ZONE}
 
 -- `calendar`
-unfoldable pub calendar : Rows Calendar
+unfoldable pub calendar : FieldTable Calendar
 calendar = do
   start_time ← required START_TIME.now moment of λ c. c.start_time
   time_zone ← required TIME_ZONE.now zone_name of λ c. c.time_zone
@@ -66,7 +68,7 @@ is_calendar_unit units.Quarter = true
 is_calendar_unit units.Year = true
 
 -- the one item of `timeWindow`
-unfoldable pub time_window : Rows TimeWindow
+unfoldable pub time_window : FieldTable TimeWindow
 time_window = do
   duration ← required DURATION.now (duration window_range) of λ w. w.duration
   rolling ← optional IS_ROLLING.now boolean of λ w. w.is_rolling
@@ -118,7 +120,7 @@ abbrev pub is_target : Target → Bool
 is_target t = true
 
 -- an item of `objectives`
-unfoldable pub objective : BudgetingMethod → Rows Objective
+unfoldable pub objective : BudgetingMethod → FieldTable Objective
 objective method = do
   display_name ← optional DISPLAY_NAME.now text of λ o. o.display_name
   op ← optional OP.now op of λ o. o.op
@@ -137,15 +139,15 @@ objective method = do
     time_slice_window = time_slice_window;
   })
 
-abbrev pub one_to_five : ℕ → Bool
-one_to_five n = nat_le 1 n && nat_le n 5
+abbrev pub is_objective_count : ℕ → Bool
+is_objective_count n = nat_le 1 n && nat_le n MAX_OBJECTIVES
 
 abbrev pub objective_item : BudgetingMethod → Key → List Objective → Tree → Answer Objective
 objective_item method listed before t = (map_with (objective method)).read listed t
 
 abbrev pub objectives : BudgetingMethod → Form (List Objective)
 objectives method =
-    list_with one_to_five (objective_item method) (map_with (objective method)).write
+    list_with is_objective_count (objective_item method) (map_with (objective method)).write
 
 -- an inline indicator, which is taken out, or the name of one; written as a reference
 abbrev pub inline_indicator : Form (List ℕ)
@@ -173,14 +175,14 @@ policy_form listed t = cond (is_null t) (refused listed rules.BadName)
 abbrev pub policy_item : Key → List Key → Tree → Answer Key
 policy_item listed before t = unrepeated listed before (policy_form listed t)
 
-abbrev pub at_most_ten : ℕ → Bool
-at_most_ten n = nat_le n 10
+abbrev pub is_policy_count : ℕ → Bool
+is_policy_count n = nat_le n MAX_POLICIES
 
 abbrev pub policies : Form (List Key)
-policies = list_with at_most_ten policy_item (reference_written ALERT_POLICY_REF.now)
+policies = list_with is_policy_count policy_item (reference_written ALERT_POLICY_REF.now)
 
 -- `spec`
-unfoldable pub slo : Rows Slo
+unfoldable pub slo : FieldTable Slo
 slo = do
   description ← optional DESCRIPTION.now description of λ s. s.description
   service ← required SERVICE.now name of λ s. s.service

@@ -7,11 +7,11 @@ ghost use Rattle.slo_objects.specs.AlertNotificationTarget.{alert_notification_t
 
 use crate::copy::{copy_optional_text, copy_text};
 use crate::fault::{ReadError, Rule};
+use crate::field_lines::{optional, required};
 use crate::fields::{close_with, fail_at};
 use crate::forms::ReadForm;
 use crate::keys::{DESCRIPTION, TARGET};
 use crate::object::{Body, Objects};
-use crate::rows::{optional, required};
 use crate::scalars::{DescriptionForm, TextForm};
 use crate::shape::map_entries;
 use exact_fraction::Text;

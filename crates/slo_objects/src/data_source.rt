@@ -7,12 +7,12 @@ ghost use Rattle.slo_objects.specs.DataSource.{data_source, data_source_body};
 
 use crate::copy::{copy_optional_part, copy_optional_text, copy_text};
 use crate::fault::{ReadError, Rule};
+use crate::field_lines::{optional, required};
 use crate::fields::{close_with, fail_at};
 use crate::forms::{Free, ReadForm};
 use crate::keys::{DESCRIPTION, TYPE};
 use crate::object::{Body, Objects};
 use crate::part::Part;
-use crate::rows::{optional, required};
 use crate::scalars::{DescriptionForm, TextForm};
 use crate::shape::map_entries;
 use exact_fraction::Text;

@@ -1,19 +1,19 @@
 //! Metadata, objects that stand inline, and references.
 ghost use Rattle.std.specs.Prelude.{◌≡◌, []};
 ghost use Rattle.yaml_subset.specs.NodeView.{node_view};
-ghost use Rattle.slo_objects.specs.Form.{map_read, map_with, run};
+ghost use Rattle.slo_objects.specs.Form.{map_read, map_with, answer_by};
 ghost use Rattle.slo_objects.specs.Reading.{Reads, entries_view};
 ghost use Rattle.slo_objects.specs.Metadata.{metadata, object_with as object_with_lem};
 ghost use Rattle.slo_objects.specs.Inline.{reference, inline_object as inline_object_lem};
 ghost use Rattle.slo_objects.specs.Inline.{inline_read, item_read};
 
 use crate::fault::{ReadError, Rule};
+use crate::field_lines::{optional, required};
 use crate::fields::{close_with, fail_at, field};
 use crate::forms::{FreeMap, ReadForm};
 use crate::keys::{API_VERSION, DISPLAY_NAME, KIND, METADATA, SPEC};
 use crate::kind::Kind;
 use crate::object::{Body, Metadata, Object, Objects};
-use crate::rows::{optional, required};
 use crate::scalars::{NameForm, OnlyKindForm, TextForm, VersionForm};
 use crate::shape::map_entries;
 use exact_fraction::Label;
@@ -94,7 +94,7 @@ fn inline_object<B: ReadForm<Value = Body>>(
     body: &B,
 ) -> Result<Object, ReadError>
     ensures { Reads found.old found.new result
-        (run (inline_object_lem kind (B.form body.now)) [] (entries_view fields.now)) }
+        (answer_by (inline_object_lem kind (B.form body.now)) [] (entries_view fields.now)) }
 {
     let kind_form = OnlyKindForm { kind };
     let _version = optional(found, fields, API_VERSION, &VersionForm)?;
@@ -135,7 +135,7 @@ fn reference_name(
     key: &str,
 ) -> Result<Label, ReadError>
     ensures { Reads found.old found.new result
-        (run (reference key.now) [] (entries_view fields.now)) }
+        (answer_by (reference key.now) [] (entries_view fields.now)) }
 {
     let name = required(found, fields, key, &NameForm)?;
     close_with(found, fields, &[key], name)

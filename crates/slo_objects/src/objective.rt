@@ -16,12 +16,12 @@ use crate::durations::{
     NumberForm, PercentForm, SliceTargetForm, TargetForm, duration_at, in_range,
 };
 use crate::fault::{ReadError, Rule};
+use crate::field_lines::{one_of, optional, required_where};
 use crate::fields::{close_with, fail_at};
 use crate::forms::{ReadForm, ReadText};
 use crate::keys::{DISPLAY_NAME, OP, TARGET};
 use crate::object::Objects;
 use crate::ranges::SliceWidth;
-use crate::rows::{one_of, optional, required_where};
 use crate::scalars::{OpForm, TextForm};
 use crate::shape::map_entries;
 use crate::slo::{BudgetingMethod, Objective};

@@ -7,11 +7,11 @@ ghost use Rattle.slo_objects.specs.Service.{service, service_body};
 
 use crate::copy::copy_optional_text;
 use crate::fault::{ReadError, Rule};
+use crate::field_lines::optional;
 use crate::fields::{close_with, fail_at};
 use crate::forms::ReadForm;
 use crate::keys::DESCRIPTION;
 use crate::object::{Body, Objects};
-use crate::rows::optional;
 use crate::scalars::DescriptionForm;
 use crate::shape::map_entries;
 use exact_fraction::Text;

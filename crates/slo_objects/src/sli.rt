@@ -2,7 +2,7 @@
 ghost use Rattle.std.specs.Prelude.{◌≡◌, IfOk};
 ghost use Rattle.yaml_subset.specs.Spelling.{word};
 ghost use Rattle.yaml_subset.specs.NodeView.{node_view};
-ghost use Rattle.slo_objects.specs.Form.{map_with, variant, run};
+ghost use Rattle.slo_objects.specs.Form.{map_with, variant, answer_by};
 ghost use Rattle.slo_objects.specs.Reading.{Reads, entries_view};
 ghost use Rattle.slo_objects.specs.Sli.{metric_source, source_map, source, raw_type_word};
 ghost use Rattle.slo_objects.specs.Sli.{raw_type_value, events_written, ratio_metric};
@@ -14,12 +14,12 @@ ghost use Rattle.slo_objects.specs.declared.fault.Rule.TheVariants as rules;
 
 use crate::copy::{copy_optional_part, copy_optional_text};
 use crate::fault::{ReadError, Rule};
+use crate::field_lines::{one_of, optional, optional_alone, required};
 use crate::fields::{close_with, fail_at};
 use crate::forms::{Free, ReadForm, ReadText};
 use crate::keys::{DESCRIPTION, SPEC, TYPE};
 use crate::object::{Body, Objects};
 use crate::part::Part;
-use crate::rows::{one_of, optional, optional_alone, required};
 use crate::scalars::{BooleanForm, DescriptionForm, NameForm, TextForm, is_word};
 use crate::shape::map_entries;
 use exact_fraction::{Label, Text};
@@ -235,7 +235,7 @@ fn raw_ratio_of(
     raw: MetricSource,
 ) -> Result<RatioMetric, ReadError>
     ensures { Reads found.old found.new result
-        (run (raw_ratio counter raw) known_with_raw (entries_view fields.now)) }
+        (answer_by (raw_ratio counter raw) known_with_raw (entries_view fields.now)) }
 {
     let raw_type = match required(found, fields, RAW_TYPE, &RawTypeForm) {
         Ok(raw_type) => raw_type,
@@ -259,7 +259,7 @@ fn counted_ratio_of(
     counter: Option<bool>,
 ) -> Result<RatioMetric, ReadError>
     ensures { Reads found.old found.new result
-        (run (counted_ratio counter) known_with_raw (entries_view fields.now)) }
+        (answer_by (counted_ratio counter) known_with_raw (entries_view fields.now)) }
 {
     let total = required(found, fields, TOTAL, &SourceForm)?;
     let events = match one_of(found, fields, GOOD, &GoodForm, BAD, &BadForm) {

@@ -5,11 +5,13 @@ ghost use Rattle.slo_objects.specs.Form.{map_with, each};
 ghost use Rattle.slo_objects.specs.Reading.{Gives, Reads, trees_view};
 ghost use Rattle.slo_objects.specs.Slo.{slo, slo_body, objectives, objective_item};
 ghost use Rattle.slo_objects.specs.Slo.{inline_indicator, policies, policy_item, policy_form};
-ghost use Rattle.slo_objects.specs.Slo.{at_most_ten};
+ghost use Rattle.slo_objects.specs.Slo.{is_policy_count};
+ghost use Rattle.slo_limits.specs.declared.TheConstants.{MAX_OBJECTIVES};
 
 use crate::alert_policy::PolicyBody;
 use crate::copy::copy_optional_text;
 use crate::fault::{ReadError, Rule};
+use crate::field_lines::{one_of, optional, required};
 use crate::fields::{close_with, fail_at};
 use crate::forms::ReadForm;
 use crate::inline::{inline_name, referenced};
@@ -20,12 +22,12 @@ use crate::names::{Names, copy_optional_names};
 use crate::object::{Body, Objects};
 use crate::objective::ObjectiveForm;
 use crate::ranges::{SliceTarget, SliceWidth, Target, WindowLength};
-use crate::rows::{one_of, optional, required};
 use crate::scalars::{DescriptionForm, NameForm};
 use crate::shape::{is_null, item_count, list_items, map_entries, scalar_text};
 use crate::sli::SliBody;
 use crate::window::{MethodForm, WindowsForm};
 use exact_fraction::{Decimal, Label, Op, Text, ZoneName};
+use slo_limits::{MAX_OBJECTIVES, MAX_POLICIES};
 use std::alloc::{AllocError, Global};
 use std::marker::Model;
 use yaml_subset::Node;
@@ -113,6 +115,7 @@ impl Model for Objectives {
     ghost use Rattle.std.specs.Coded.{coded_list};
     ghost use Rattle.slo_objects.specs.declared.slo.Objective.{Objective};
     ghost use Rattle.slo_objects.specs.contracts.slo.Objective.{the_row};
+    ghost use Rattle.slo_limits.specs.declared.TheConstants.{MAX_OBJECTIVES};
 
     ghost Value = { List Objective };
 
@@ -120,7 +123,7 @@ impl Model for Objectives {
 
     ghost view = { λ objectives. objectives.items.items };
 
-    ghost invariant = { λ objectives. length objectives.items.items ≤ 5 };
+    ghost invariant = { λ objectives. length objectives.items.items ≤ MAX_OBJECTIVES };
 }
 
 impl Objectives {
@@ -135,7 +138,7 @@ impl Objectives {
 
     /// Adds an objective at the end.
     pub fn push(&mut self, objective: Objective) -> Result<(), AllocError>
-        requires { length self.old < 5 }
+        requires { length self.old < MAX_OBJECTIVES }
         ensures pushed { OnOk result (self.new ≡ self.old ++ objective ∷ []) }
         ensures kept { OnErr result (self.new ≡ self.old) }
     {
@@ -148,7 +151,7 @@ impl Objectives {
     /// How many objectives there are: at most five.
     pub fn count(&self) -> usize
         ensures all { result ≡ length self.now }
-        ensures few { length self.now ≤ 5 }
+        ensures few { length self.now ≤ MAX_OBJECTIVES }
     {
         self.items.len()
     }
@@ -167,7 +170,7 @@ fn each_objective(
     items: &[Node],
     method: BudgetingMethod,
 ) -> Result<Objectives, ReadError>
-    requires { length items.now ≤ 5 }
+    requires { length items.now ≤ MAX_OBJECTIVES }
     ensures { Gives (λ objectives. (found.new, objectives)) result
         (each (objective_item method key.now) found.old [] (trees_view items.now)) }
 {
@@ -196,7 +199,7 @@ impl ReadForm for ObjectivesForm {
         let Some(items) = list_items(node) else {
             return fail_at(found, key, Rule::NotList);
         };
-        if item_count(items) < 1 || item_count(items) > 5 {
+        if item_count(items) < 1 || item_count(items) > MAX_OBJECTIVES {
             return fail_at(found, key, Rule::ListLength);
         }
         each_objective(found, key, items, self.method)
@@ -245,10 +248,10 @@ struct PolicyItem;
 impl ReadItem for PolicyItem {
     ghost item = { λ _. policy_item };
 
-    ghost may_have = { λ _. at_most_ten };
+    ghost may_have = { λ _. is_policy_count };
 
     fn may_have(&self, count: usize) -> bool {
-        count <= 10
+        count <= MAX_POLICIES
     }
 
     fn read_item(

@@ -11,11 +11,11 @@ ghost use Rattle.slo_objects.specs.declared.fault.Rule.TheVariants as rules;
 
 use crate::durations::WindowLengthForm;
 use crate::fault::{ReadError, Rule};
+use crate::field_lines::{optional, required, required_unless};
 use crate::fields::{close_with, fail_at};
 use crate::forms::{ReadForm, ReadText};
 use crate::moments::MomentForm;
 use crate::object::Objects;
-use crate::rows::{optional, required, required_unless};
 use crate::scalars::{BooleanForm, ZoneForm, is_word};
 use crate::shape::{list_items, map_entries, only_item};
 use crate::slo::{BudgetingMethod, Calendar, TimeWindow};

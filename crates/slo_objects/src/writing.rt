@@ -2,8 +2,8 @@
 
 mod alerts;
 mod document;
+mod field_lines;
 mod fields;
-mod rows;
 mod scalars;
 mod service;
 mod sli;

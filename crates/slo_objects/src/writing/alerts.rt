@@ -23,11 +23,11 @@ use crate::keys::{DESCRIPTION, KIND, OP};
 use crate::names::Names;
 use crate::object::Body;
 use crate::ranges::AlertAfter;
-use crate::writing::fields::{list_of, map_of, put, put_item};
-use crate::writing::rows::{
+use crate::writing::field_lines::{
     optional_boolean, optional_description, optional_op, required_duration, required_name,
     required_number, required_text, required_word,
 };
+use crate::writing::fields::{list_of, map_of, put, put_item};
 use crate::writing::words::condition_word;
 use exact_fraction::Label;
 use std::alloc::{AllocError, Global};

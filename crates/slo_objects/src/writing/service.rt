@@ -11,8 +11,8 @@ use crate::data_source::{CONNECTION_DETAILS, DataSource};
 use crate::keys::{DESCRIPTION, TARGET, TYPE};
 use crate::object::Body;
 use crate::service::Service;
+use crate::writing::field_lines::{optional_description, optional_free, required_text};
 use crate::writing::fields::map_of;
-use crate::writing::rows::{optional_description, optional_free, required_text};
 use std::alloc::{AllocError, Global};
 use yaml_subset::Spelling;
 

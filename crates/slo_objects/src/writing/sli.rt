@@ -12,11 +12,11 @@ use crate::sli::{
     BAD, COUNTER, Events, GOOD, METRIC_SOURCE, METRIC_SOURCE_REF, Metric, MetricSource,
     RATIO_METRIC, RAW, RAW_TYPE, Ratio, RatioMetric, Sli, THRESHOLD_METRIC, TOTAL,
 };
-use crate::writing::fields::{map_of, put};
-use crate::writing::rows::{
+use crate::writing::field_lines::{
     optional_boolean, optional_description, optional_free, optional_name, optional_text,
     required_word,
 };
+use crate::writing::fields::{map_of, put};
 use crate::writing::words::raw_type_word;
 use std::alloc::{AllocError, Global};
 use yaml_subset::{FieldKey, Spelling};

@@ -21,11 +21,11 @@ use crate::slo::{
 };
 use crate::window::{CALENDAR, DURATION, IS_ROLLING, START_TIME, TIME_ZONE};
 use crate::writing::alerts::references;
-use crate::writing::fields::{list_of, map_of, put, put_item};
-use crate::writing::rows::{
+use crate::writing::field_lines::{
     optional_boolean, optional_description, optional_op, optional_text, required_duration,
     required_name, required_number, required_word,
 };
+use crate::writing::fields::{list_of, map_of, put, put_item};
 use crate::writing::scalars;
 use crate::writing::words::method_word;
 use exact_fraction::Decimal;

@@ -1,6 +1,6 @@
 use Rattle.std.proofs.Common.{ap, ◌∙◌}
 use Rattle.yaml_subset.specs.Spelling.{fields, no_fields}
-use Rattle.slo_objects.specs.Form.{put}
+use Rattle.slo_objects.specs.Form.{fields_by}
 use Rattle.slo_objects.specs.AlertPolicy.{alert_policy}
 use Rattle.slo_objects.specs.Adding.{before}
 use Rattle.slo_objects.proofs.writing.alerts.policy_map.Goals as goal
@@ -15,4 +15,4 @@ returns c = c.map_of.ensures ∙ ap fields
     ∙ c.in_ok-optional_boolean-2.ensures _
     ∙ c.in_ok-optional_boolean.ensures _
     ∙ c.in_ok-optional_description.ensures _
-    ∙ ap (λ ps. before ps (put alert_policy c.args.value.now)) c.new-fields.ensures.items)
+    ∙ ap (λ ps. before ps (fields_by alert_policy c.args.value.now)) c.new-fields.ensures.items)

@@ -1,6 +1,6 @@
 use Rattle.std.proofs.Common.{ap, ◌∙◌}
 use Rattle.yaml_subset.specs.Spelling.{fields, no_fields}
-use Rattle.slo_objects.specs.Form.{put}
+use Rattle.slo_objects.specs.Form.{fields_by}
 use Rattle.slo_objects.specs.Document.{document}
 use Rattle.slo_objects.specs.Adding.{before}
 use Rattle.slo_objects.proofs.writing.document.document_map.Goals as goal
@@ -13,4 +13,4 @@ returns c = c.map_of.ensures ∙ ap fields
     ∙ (rw c.in_ok-metadata.ensures at c.in_ok-put.ensures) _
     ∙ (rw c.word.ensures at c.in_ok-required_word-2.ensures) _
     ∙ c.in_ok-required_word.ensures _
-    ∙ ap (λ ps. before ps (put document c.args.value.now)) c.new-fields.ensures.items)
+    ∙ ap (λ ps. before ps (fields_by document c.args.value.now)) c.new-fields.ensures.items)

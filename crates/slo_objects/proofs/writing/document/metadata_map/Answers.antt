@@ -1,6 +1,6 @@
 use Rattle.std.proofs.Common.{ap, ◌∙◌}
 use Rattle.yaml_subset.specs.Spelling.{fields, no_fields}
-use Rattle.slo_objects.specs.Form.{put}
+use Rattle.slo_objects.specs.Form.{fields_by}
 use Rattle.slo_objects.specs.Metadata.{metadata, metadata_of}
 use Rattle.slo_objects.specs.Adding.{before}
 use Rattle.slo_objects.proofs.writing.document.metadata_map.Goals as goal
@@ -13,4 +13,5 @@ returns c = c.map_of.ensures ∙ ap fields
     ∙ c.in_ok-optional_free_map.ensures _
     ∙ c.in_ok-optional_text.ensures _
     ∙ c.in_ok-required_name.ensures _
-    ∙ ap (λ ps. before ps (put metadata (metadata_of c.args.value.now))) c.new-fields.ensures.items)
+    ∙ ap (λ ps. before ps (fields_by metadata (metadata_of c.args.value.now)))
+    c.new-fields.ensures.items)

@@ -1,6 +1,6 @@
 use Rattle.std.proofs.Common.{ap, ◌∙◌}
 use Rattle.yaml_subset.specs.Spelling.{fields, no_fields}
-use Rattle.slo_objects.specs.Form.{put}
+use Rattle.slo_objects.specs.Form.{fields_by}
 use Rattle.slo_objects.specs.DataSource.{data_source}
 use Rattle.slo_objects.specs.Adding.{before}
 use Rattle.slo_objects.proofs.writing.service.data_source_map.Goals as goal
@@ -12,4 +12,4 @@ returns c = c.map_of.ensures ∙ ap fields
     (c.in_ok-optional_free.ensures no_fields
     ∙ c.in_ok-required_text.ensures _
     ∙ c.in_ok-optional_description.ensures _
-    ∙ ap (λ ps. before ps (put data_source c.args.value.now)) c.new-fields.ensures.items)
+    ∙ ap (λ ps. before ps (fields_by data_source c.args.value.now)) c.new-fields.ensures.items)

@@ -1,6 +1,6 @@
 use Rattle.std.proofs.Common.{ap, ◌∙◌}
 use Rattle.yaml_subset.specs.Spelling.{fields, no_fields}
-use Rattle.slo_objects.specs.Form.{put}
+use Rattle.slo_objects.specs.Form.{fields_by}
 use Rattle.slo_objects.specs.Sli.{metric_source}
 use Rattle.slo_objects.specs.Adding.{before}
 use Rattle.slo_objects.proofs.writing.sli.metric_source_map.Goals as goal
@@ -12,4 +12,4 @@ returns c = c.map_of.ensures ∙ ap fields
     (c.in_ok-optional_free.ensures no_fields
     ∙ c.in_ok-optional_text.ensures _
     ∙ c.in_ok-optional_name.ensures _
-    ∙ ap (λ ps. before ps (put metric_source c.args.value.now)) c.new-fields.ensures.items)
+    ∙ ap (λ ps. before ps (fields_by metric_source c.args.value.now)) c.new-fields.ensures.items)

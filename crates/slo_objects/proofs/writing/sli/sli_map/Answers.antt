@@ -1,6 +1,6 @@
 use Rattle.std.proofs.Common.{ap, ◌∙◌}
 use Rattle.yaml_subset.specs.Spelling.{fields, no_fields}
-use Rattle.slo_objects.specs.Form.{put}
+use Rattle.slo_objects.specs.Form.{fields_by}
 use Rattle.slo_objects.specs.Sli.{sli}
 use Rattle.slo_objects.specs.Adding.{before}
 use Rattle.slo_objects.proofs.writing.sli.sli_map.Goals as goal
@@ -11,4 +11,4 @@ unfolding sli
 returns c = c.map_of.ensures ∙ ap fields
     (c.in_ok-put_metric.ensures no_fields
     ∙ c.in_ok-optional_description.ensures _
-    ∙ ap (λ ps. before ps (put sli c.args.value.now)) c.new-fields.ensures.items)
+    ∙ ap (λ ps. before ps (fields_by sli c.args.value.now)) c.new-fields.ensures.items)

@@ -1,6 +1,6 @@
 use Rattle.std.proofs.Common.{ap, ◌∙◌}
 use Rattle.yaml_subset.specs.Spelling.{fields, no_fields}
-use Rattle.slo_objects.specs.Form.{put}
+use Rattle.slo_objects.specs.Form.{fields_by}
 use Rattle.slo_objects.specs.Sli.{source_map}
 use Rattle.slo_objects.specs.Adding.{before}
 use Rattle.slo_objects.proofs.writing.sli.source_map.Goals as goal
@@ -10,4 +10,4 @@ pub returns : goal.returns
 unfolding source_map
 returns c = c.map_of.ensures ∙ ap fields
     ((rw c.in_ok-metric_source.ensures at c.in_ok-put.ensures) no_fields
-    ∙ ap (λ ps. before ps (put source_map c.args.value.now)) c.new-fields.ensures.items)
+    ∙ ap (λ ps. before ps (fields_by source_map c.args.value.now)) c.new-fields.ensures.items)

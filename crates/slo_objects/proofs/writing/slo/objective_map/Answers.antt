@@ -1,6 +1,6 @@
 use Rattle.std.proofs.Common.{ap, ◌∙◌}
 use Rattle.yaml_subset.specs.Spelling.{fields, no_fields}
-use Rattle.slo_objects.specs.Form.{put}
+use Rattle.slo_objects.specs.Form.{fields_by}
 use Rattle.slo_objects.specs.Slo.{objective}
 use Rattle.slo_objects.specs.Adding.{before}
 use Rattle.slo_objects.proofs.writing.slo.objective_map.Goals as goal
@@ -15,5 +15,5 @@ returns c = c.map_of.ensures ∙ ap fields
     ∙ c.in_ok-optional_value.ensures _
     ∙ c.in_ok-optional_op.ensures _
     ∙ c.in_ok-optional_text.ensures _
-    ∙ ap (λ ps. before ps (put (objective c.args._method) c.args.value.now))
+    ∙ ap (λ ps. before ps (fields_by (objective c.args._method) c.args.value.now))
     c.new-fields.ensures.items)

@@ -1,6 +1,6 @@
 use Rattle.std.proofs.Common.{ap, ◌∙◌}
 use Rattle.yaml_subset.specs.Spelling.{fields, no_fields}
-use Rattle.slo_objects.specs.Form.{put}
+use Rattle.slo_objects.specs.Form.{fields_by}
 use Rattle.slo_objects.specs.Slo.{time_window}
 use Rattle.slo_objects.specs.Adding.{before}
 use Rattle.slo_objects.proofs.writing.slo.time_window_map.Goals as goal
@@ -12,4 +12,4 @@ returns c = c.map_of.ensures ∙ ap fields
     (c.in_ok-optional_calendar.ensures no_fields
     ∙ c.in_ok-optional_boolean.ensures _
     ∙ c.in_ok-required_duration.ensures _
-    ∙ ap (λ ps. before ps (put time_window c.args.value.now)) c.new-fields.ensures.items)
+    ∙ ap (λ ps. before ps (fields_by time_window c.args.value.now)) c.new-fields.ensures.items)

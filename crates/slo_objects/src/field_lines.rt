@@ -1,10 +1,10 @@
 //! The lines of the tables: each kind of line once, over the forms of its values.
 ghost use Rattle.std.specs.Prelude.{map};
 ghost use Rattle.yaml_subset.specs.NodeView.{node_view};
-ghost use Rattle.slo_objects.specs.Form.{required as required_row, optional as optional_row};
-ghost use Rattle.slo_objects.specs.Form.{required_where as required_where_row};
-ghost use Rattle.slo_objects.specs.Form.{optional_alone as optional_alone_row};
-ghost use Rattle.slo_objects.specs.Form.{required_unless as required_unless_row};
+ghost use Rattle.slo_objects.specs.Form.{required as required_line, optional as optional_line};
+ghost use Rattle.slo_objects.specs.Form.{required_where as required_where_line};
+ghost use Rattle.slo_objects.specs.Form.{optional_alone as optional_alone_line};
+ghost use Rattle.slo_objects.specs.Form.{required_unless as required_unless_line};
 ghost use Rattle.slo_objects.specs.Form.{either_field, field_of, mapped};
 ghost use Rattle.slo_objects.specs.Reading.{Reads, entries_view};
 
@@ -22,7 +22,7 @@ pub(crate) fn required<F: ReadForm>(
     how: &F,
 ) -> Result<F::Value, ReadError>
     ensures { Reads found.old found.new result
-        ((required_row key.now (F.form how.now)).read (entries_view fields.now)) }
+        ((required_line key.now (F.form how.now)).read (entries_view fields.now)) }
 {
     match field(fields, key) {
         Some(node) => how.read(found, key, node),
@@ -54,7 +54,7 @@ pub(crate) fn optional<F: ReadForm>(
     how: &F,
 ) -> Result<Option<F::Value>, ReadError>
     ensures { Reads found.old found.new result
-        ((optional_row key.now (F.form how.now)).read (entries_view fields.now)) }
+        ((optional_line key.now (F.form how.now)).read (entries_view fields.now)) }
 {
     match field(fields, key) {
         Some(node) => read_some(found, key, node, how),
@@ -71,7 +71,7 @@ pub(crate) fn required_where<F: ReadForm>(
     how: &F,
 ) -> Result<Option<F::Value>, ReadError>
     ensures { Reads found.old found.new result
-        ((required_where_row needed key.now (F.form how.now)).read (entries_view fields.now)) }
+        ((required_where_line needed key.now (F.form how.now)).read (entries_view fields.now)) }
 {
     match (field(fields, key), needed) {
         (Some(node), _) => read_some(found, key, node, how),
@@ -89,7 +89,7 @@ pub(crate) fn required_unless<F: ReadForm>(
     how: &F,
 ) -> Result<Option<F::Value>, ReadError>
     ensures { Reads found.old found.new result
-        ((required_unless_row barred key.now (F.form how.now)).read (entries_view fields.now)) }
+        ((required_unless_line barred key.now (F.form how.now)).read (entries_view fields.now)) }
 {
     match (field(fields, key), barred) {
         (None, true) => Ok(None),
@@ -107,7 +107,7 @@ pub(crate) fn optional_alone<F: ReadForm>(
     others: &[&str],
     how: &F,
 ) -> Result<Option<F::Value>, ReadError>
-    ensures { Reads found.old found.new result ((optional_alone_row key.now
+    ensures { Reads found.old found.new result ((optional_alone_line key.now
         (map (λ k. k.now) others.now) (F.form how.now)).read (entries_view fields.now)) }
 {
     let Some(node) = field(fields, key) else {

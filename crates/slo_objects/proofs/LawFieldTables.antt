@@ -11,8 +11,9 @@ use Rattle.slo_objects.specs.declared.object.Object.{Object}
 use Rattle.slo_objects.specs.declared.fault.Rule.TheVariants.{NotMap, UnknownField}
 use Rattle.slo_objects.specs.declared.fault.ObjectFault.{ObjectFault}
 use Rattle.slo_objects.specs.Form.{Key, Answer, gives, refused, after, and_then, on_some}
-use Rattle.slo_objects.specs.Form.{mapping_in, is_among, is_null, closed, shown, Form, Row, Rows}
-use Rattle.slo_objects.specs.Form.{done, row, run, put, map_with}
+use Rattle.slo_objects.specs.Form.{mapping_in, is_among, is_null, closed, shown, Form, FieldLine}
+use Rattle.slo_objects.specs.Form.{FieldTable}
+use Rattle.slo_objects.specs.Form.{done, next_line, answer_by, fields_by, map_with}
 pub use Rattle.slo_objects.proofs.ReadLemmas.{ok_same, err_not_ok}
 use Rattle.slo_objects.proofs.LawFields.{false_if, apart, apart_among, among-front, among-back}
 use Rattle.slo_objects.proofs.LawFields.{joined, joined-none, joined-joined, lacks, lacks_all}
@@ -58,7 +59,7 @@ then_ok (Err x) f y e = absurd (err_not_ok x y e)
 
 -- The law of a line: the keys that it asks for, the entries that it writes, and that what was read
 -- is read again among other entries, alone.
-pub record RowLaw (P : Object → Type 0) (B : Type 0) (r : Row B) : Type 0 where
+pub record LineLaw (P : Object → Type 0) (B : Type 0) (r : FieldLine B) : Type 0 where
   pub asks : B → List Key
   pub piece : B → Entries
   pub is_piece : (b : B) (behind : Fields)
@@ -72,45 +73,48 @@ pub record RowLaw (P : Object → Type 0) (B : Type 0) (r : Row B) : Type 0 wher
   pub taken : (es : Entries) (y : List Object × B) → r.read es ≡ Ok y → AllByRecursion P y.0
 
 -- what holds of each value that the lines make
-abbrev pub Made : {A : Type 0} → Rows A → (A → Type 0) → Type 0
+abbrev pub Made : {A : Type 0} → FieldTable A → (A → Type 0) → Type 0
 Made (done a) Q = Q a
-Made (row {B = B} r part rest) Q = (b : B) → Made (rest b) Q
+Made (next_line {B = B} r part rest) Q = (b : B) → Made (rest b) Q
 
-pub always_run : {A : Type 0} (rows : Rows A) (Q : A → Type 0) → Made rows Q
-    → (known : List Key) (es : Entries) (y : List Object × A) → run rows known es ≡ Ok y → Q y.1
+pub always_run : {A : Type 0} (table : FieldTable A) (Q : A → Type 0) → Made table Q
+    → (known : List Key) (es : Entries) (y : List Object × A) → answer_by table known es ≡ Ok y
+    → Q y.1
 always_run (done a) Q m known es y e = let h = then_ok (closed known es) (λ _. gives a) y e in
     subst Q (sym (h.value ∙ sym (ap (λ z. z.1) (ok_same ([], a) h.second h.is_second)))) m
-always_run (row r part rest) Q m known es y e = let h =
-    then_ok (r.read es) (λ b. run (rest b) (known ++ r.keys) es) y e in
+always_run (next_line r part rest) Q m known es y e = let h =
+    then_ok (r.read es) (λ b. answer_by (rest b) (known ++ r.keys) es) y e in
     subst Q (sym h.value) (always_run (rest h.first.1) Q (m h.first.1) (known ++ r.keys) es
     h.second h.is_second)
 
 -- The law of a table, one line after another: the line's own law, that none of its keys was asked
 -- for before, and that each value which the later lines make has this part.
-abbrev pub RowsLaw : (P : Object → Type 0) → {A : Type 0} → List Key → Rows A → Type 0
-RowsLaw P barred (done a) = Unit {0}
-RowsLaw P barred (row {B = B} r part rest) = (law : RowLaw P B r)
+abbrev pub TableLaw : (P : Object → Type 0) → {A : Type 0} → List Key → FieldTable A → Type 0
+TableLaw P barred (done a) = Unit {0}
+TableLaw P barred (next_line {B = B} r part rest) = (law : LineLaw P B r)
     × ((b : B) → (apart (law.asks b) barred ≡ true) × Made (rest b) (λ v. part v ≡ b)
-    × RowsLaw P (barred ++ law.asks b) (rest b))
+    × TableLaw P (barred ++ law.asks b) (rest b))
 
-pub row_piece : {A B : Type 0} (P : Object → Type 0) (r : Row B) (law : RowLaw P B r) (part : A → B)
-    (rest : B → Rows A) (v : A) (b : B) → part v ≡ b → entries_meant (put (row r part rest) v)
-    ≡ joined (law.piece b) (entries_meant (put (rest b) v))
-row_piece P r law part rest v b e = ap (λ c. entries_meant (r.write c (put (rest c) v))) e
-    ∙ law.is_piece b (put (rest b) v)
+pub line_piece : {A B : Type 0} (P : Object → Type 0) (r : FieldLine B) (law : LineLaw P B r)
+    (part : A → B)
+    (rest : B → FieldTable A) (v : A) (b : B) → part v ≡ b
+    → entries_meant (fields_by (next_line r part rest) v)
+    ≡ joined (law.piece b) (entries_meant (fields_by (rest b) v))
+line_piece P r law part rest v b e = ap (λ c. entries_meant (r.write c (fields_by (rest c) v))) e
+    ∙ law.is_piece b (fields_by (rest b) v)
 
 -- the lines write no key that was asked for before
-pub lacking : {A : Type 0} (P : Object → Type 0) (rows : Rows A) (barred : List Key)
-    → RowsLaw P barred rows → (v : A) (key : Key) → is_among barred key ≡ true
-    → lacks key (entries_meant (put rows v)) ≡ true
+pub lacking : {A : Type 0} (P : Object → Type 0) (table : FieldTable A) (barred : List Key)
+    → TableLaw P barred table → (v : A) (key : Key) → is_among barred key ≡ true
+    → lacks key (entries_meant (fields_by table v)) ≡ true
 lacking P (done a) barred law v key e = refl
-lacking P (row r part rest) barred law v key e =
+lacking P (next_line r part rest) barred law v key e =
     let b = part v in
     let s = law.1 b in
     let not_asked : is_among (law.0.asks b) key ≡ false = false_if (is_among (law.0.asks b) key)
     (λ f. false≢true (sym (apart_among (law.0.asks b) barred key s.0 f) ∙ e)) in
-    subst (λ es. lacks key es ≡ true) (sym (law.0.is_piece b (put (rest b) v)))
-    (lacks-joined key (law.0.piece b) (entries_meant (put (rest b) v))
+    subst (λ es. lacks key es ≡ true) (sym (law.0.is_piece b (fields_by (rest b) v)))
+    (lacks-joined key (law.0.piece b) (entries_meant (fields_by (rest b) v))
     (lacks-within key (law.0.asks b) (law.0.piece b) (law.0.of_asks b) not_asked)
     (lacking P (rest b) (barred ++ law.0.asks b) s.2 v key
     (among-front barred (law.0.asks b) key e)))
@@ -120,26 +124,27 @@ pub then_gives : {A B : Type 0} (a : Answer A) (b : A) (f : A → Answer B) (c :
 then_gives a b f c e g = ap (λ x. and_then x f) e ∙ ap (after []) g
 
 -- What was read is read again from what it is written as, behind fields that stand before it.
-pub run_again : {A : Type 0} (P : Object → Type 0) (rows : Rows A) (barred known : List Key)
-    → RowsLaw P barred rows → (es : Entries) (y : List Object × A) → run rows known es ≡ Ok y
+pub run_again : {A : Type 0} (P : Object → Type 0) (table : FieldTable A) (barred known : List Key)
+    → TableLaw P barred table → (es : Entries) (y : List Object × A)
+    → answer_by table known es ≡ Ok y
     → (front : Entries) → within known front ≡ true → within barred front ≡ true
-    → run rows known (joined front (entries_meant (put rows y.1))) ≡ gives y.1
+    → answer_by table known (joined front (entries_meant (fields_by table y.1))) ≡ gives y.1
 run_again P (done a) barred known law es y e front w v =
     let h = then_ok (closed known es) (λ _. gives a) y e in
     let s : y.1 ≡ a = h.value ∙ sym (ap (λ z. z.1) (ok_same ([], a) h.second h.is_second)) in
     subst (λ z. and_then (closed known (joined front no_entries)) (λ _. gives a) ≡ gives z) (sym s)
     (then_gives (closed known (joined front no_entries)) tt (λ _. gives a) a
     (ap (closed known) (joined-none front) ∙ closed_known known front w) refl)
-run_again P (row r part rest) barred known law es y e front w v =
-    let h = then_ok (r.read es) (λ b. run (rest b) (known ++ r.keys) es) y e in
+run_again P (next_line r part rest) barred known law es y e front w v =
+    let h = then_ok (r.read es) (λ b. answer_by (rest b) (known ++ r.keys) es) y e in
     let l = law.0 in
     let b = h.first.1 in
     let q = h.second in
     let s = law.1 b in
     let is_part : part q.1 ≡ b =
     always_run (rest b) (λ z. part z ≡ b) s.1 (known ++ r.keys) es q h.is_second in
-    let tail = entries_meant (put (rest b) q.1) in
-    let later : run (rest b) (known ++ r.keys) (joined (joined front (l.piece b)) tail)
+    let tail = entries_meant (fields_by (rest b) q.1) in
+    let later : answer_by (rest b) (known ++ r.keys) (joined (joined front (l.piece b)) tail)
     ≡ gives q.1 =
     run_again P (rest b) (barred ++ l.asks b) (known ++ r.keys) s.2 es q h.is_second
     (joined front (l.piece b))
@@ -151,13 +156,15 @@ run_again P (row r part rest) barred known law es y e front w v =
     l.again es h.first h.is_first front tail (lacks_all-within (l.asks b) barred front s.0 v)
     (lacks_all_from (l.asks b) tail (λ k i.
     lacking P (rest b) (barred ++ l.asks b) s.2 q.1 k (among-back barred (l.asks b) k i))) in
-    let whole = row_piece P r l part rest q.1 b is_part in
-    subst (λ z. run (row r part rest) known (joined front (entries_meant (put (row r part rest) z)))
+    let whole = line_piece P r l part rest q.1 b is_part in
+    subst (λ z. answer_by (next_line r part rest) known
+    (joined front (entries_meant (fields_by (next_line r part rest) z)))
     ≡ gives z) (sym h.value)
-    (ap (λ fs. run (row r part rest) known (joined front fs)) whole
+    (ap (λ fs. answer_by (next_line r part rest) known (joined front fs)) whole
     ∙ then_gives (r.read (joined front (joined (l.piece b) tail))) b
-    (λ c. run (rest c) (known ++ r.keys) (joined front (joined (l.piece b) tail))) q.1 first
-    (ap (run (rest b) (known ++ r.keys)) (sym (joined-joined front (l.piece b) tail)) ∙ later))
+    (λ c. answer_by (rest c) (known ++ r.keys) (joined front (joined (l.piece b) tail))) q.1 first
+    (ap (answer_by (rest b) (known ++ r.keys)) (sym (joined-joined front (l.piece b) tail)) ∙
+    later))
 
 -- no objects stand in the unknown fields
 pub closed_alone : (known : List Key) (es : Entries) (u : List Object × Unit {0})
@@ -171,31 +178,33 @@ closed_alone known (entry k t es) u e =
     by true f h = h f
     by false f h = absurd (err_not_ok _ u f)
 
-pub run_taken : {A : Type 0} (P : Object → Type 0) (rows : Rows A) (barred known : List Key)
-    → RowsLaw P barred rows → (es : Entries) (y : List Object × A) → run rows known es ≡ Ok y
+pub run_taken : {A : Type 0} (P : Object → Type 0) (table : FieldTable A) (barred known : List Key)
+    → TableLaw P barred table → (es : Entries) (y : List Object × A)
+    → answer_by table known es ≡ Ok y
     → AllByRecursion P y.0
 run_taken P (done a) barred known law es y e =
     let h = then_ok (closed known es) (λ _. gives a) y e in
     subst (AllByRecursion P)
     (sym (h.objects ∙ ap (λ os. os ++ h.second.0) (closed_alone known es h.first h.is_first)
     ∙ sym (ap (λ z. z.0) (ok_same ([], a) h.second h.is_second)))) tt
-run_taken P (row r part rest) barred known law es y e =
-    let h = then_ok (r.read es) (λ b. run (rest b) (known ++ r.keys) es) y e in
+run_taken P (next_line r part rest) barred known law es y e =
+    let h = then_ok (r.read es) (λ b. answer_by (rest b) (known ++ r.keys) es) y e in
     subst (AllByRecursion P) (sym h.objects)
     (all_joined P h.first.0 h.second.0 (law.0.taken es h.first h.is_first)
     (run_taken P (rest h.first.1) (barred ++ law.0.asks h.first.1) (known ++ r.keys)
     (law.1 h.first.1).2 es h.second h.is_second))
 
 -- What holds of the objects and the value that the lines give, by what each of them read.
-abbrev pub Given : {A : Type 0} → Rows A → Entries → List Object
+abbrev pub Given : {A : Type 0} → FieldTable A → Entries → List Object
     → (List Object → A → Type 0) → Type 0
 Given (done a) es objects Q = Q objects a
-Given (row {B = B} r part rest) es objects Q = (p : List Object × B) → r.read es ≡ Ok p
+Given (next_line {B = B} r part rest) es objects Q = (p : List Object × B) → r.read es ≡ Ok p
     → Given (rest p.1) es (objects ++ p.0) Q
 
-pub given : {A : Type 0} (rows : Rows A)
-    (es : Entries) (objects : List Object) (Q : List Object → A → Type 0) → Given rows es objects Q
-    → (known : List Key) (y : List Object × A) → run rows known es ≡ Ok y → Q (objects ++ y.0) y.1
+pub given : {A : Type 0} (table : FieldTable A)
+    (es : Entries) (objects : List Object) (Q : List Object → A → Type 0) → Given table es objects Q
+    → (known : List Key) (y : List Object × A) → answer_by table known es ≡ Ok y
+    → Q (objects ++ y.0) y.1
 given (done a) es objects Q h known y e =
     let t = then_ok (closed known es) (λ _. gives a) y e in
     let s = ok_same ([], a) t.second t.is_second in
@@ -204,8 +213,8 @@ given (done a) es objects Q h known y e =
     ∙ sym (ap (λ z. z.0) s) in
     subst (λ z. Q (objects ++ y.0) z) (sym (t.value ∙ sym (ap (λ z. z.1) s)))
     (subst (λ z. Q z a) (sym (ap (λ os. objects ++ os) none ∙ append-nil objects)) h)
-given (row r part rest) es objects Q h known y e =
-    let t = then_ok (r.read es) (λ b. run (rest b) (known ++ r.keys) es) y e in
+given (next_line r part rest) es objects Q h known y e =
+    let t = then_ok (r.read es) (λ b. answer_by (rest b) (known ++ r.keys) es) y e in
     let later = given (rest t.first.1) es (objects ++ t.first.0) Q (h t.first t.is_first)
     (known ++ r.keys) t.second t.is_second in
     subst (λ z. Q (objects ++ y.0) z) (sym t.value) (subst (λ z. Q z t.second.1) (append_assoc
@@ -225,15 +234,15 @@ FormLaw P {A} f = (key : Key) (t : Tree) (y : List Object × A) → is_null t �
     → f.read key t ≡ Ok y → Back P A f t y
 
 -- a map that is told by a table
-pub map_law : {A : Type 0} (P : Object → Type 0) (rows : Rows A) → RowsLaw P [] rows
-    → FormLaw P (map_with rows)
-map_law P rows law key t y n e = by (mapping_in t) e
+pub map_law : {A : Type 0} (P : Object → Type 0) (table : FieldTable A) → TableLaw P [] table
+    → FormLaw P (map_with table)
+map_law P table law key t y n e = by (mapping_in t) e
   where
-    by : (m : Option Entries) → on_some (refused key NotMap) (λ es. run rows [] es) m ≡ Ok y
-        → Back P _ (map_with rows) t y
+    by : (m : Option Entries) → on_some (refused key NotMap) (λ es. answer_by table [] es) m ≡ Ok y
+        → Back P _ (map_with table) t y
     by None g = absurd (err_not_ok _ y g)
     by (Some es) g = record {
-      again = λ k. run_again P rows [] [] law es y g no_entries refl refl;
+      again = λ k. run_again P table [] [] law es y g no_entries refl refl;
       shown = refl;
-      taken = run_taken P rows [] [] law es y g;
+      taken = run_taken P table [] [] law es y g;
     }
