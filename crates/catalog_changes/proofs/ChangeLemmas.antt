@@ -36,7 +36,8 @@ use Rattle.office_history.specs.Catalog.{catalog_in, definitions_of, members_aft
 use Rattle.office_history.specs.Judges.{Judges, JudgesText, refused, defined, defined_verdict}
 use Rattle.office_history.specs.Judges.{known_of}
 use Rattle.office_history.specs.Verdicts.{unless_refused, accepted, unless_removal, unless_sampled}
-use Rattle.office_history.specs.Verdicts.{first_row_of, remove_verdict, zone_where, zone_verdict}
+use Rattle.office_history.specs.Verdicts.{first_row_of, remove_verdict, zone_verdict_beside}
+use Rattle.office_history.specs.Verdicts.{zone_verdict}
 use Rattle.office_history.specs.Verdicts.{new_zone_fault}
 use Rattle.office_history.specs.Zones.{zones_of, zones_in, bytes_named, utc}
 use Rattle.office_history.specs.Lists.{first_some}
@@ -259,7 +260,7 @@ accepted_zone zones entries name bytes e =
     new (Some refusal) g = cc g
 
     unrefused : (f : Option Refusal) (o : Option (List ℕ))
-        → Accepted ≡ unless_refused f (zone_where o (length zones) entries name bytes)
+        → Accepted ≡ unless_refused f (zone_verdict_beside o (length zones) entries name bytes)
         → entries < most.MAX_ENTRIES
     unrefused (Some refusal) o g = cc g
     unrefused None (Some old) g = known old (bytes_eq old bytes) g

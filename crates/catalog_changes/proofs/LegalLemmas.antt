@@ -19,7 +19,7 @@ use Rattle.office_history.specs.Batches.{when}
 use Rattle.office_history.specs.Lists.{first_some}
 use Rattle.office_history.specs.Judges.{Judges}
 use Rattle.office_history.specs.Legal.{IsLegal, empty, followed, MayFollow, office}
-use Rattle.office_history.specs.Verdicts.{unless_refused, zone_where, zone_verdict}
+use Rattle.office_history.specs.Verdicts.{unless_refused, zone_verdict_beside, zone_verdict}
 use Rattle.office_history.specs.Zones.{utc, zones_of, zones_in, bytes_named}
 use Rattle.catalog_changes.specs.Laws.{BeginsLegally, EachMayFollow, ZoneActsOnce}
 
@@ -105,7 +105,7 @@ new_zone zones entries name bytes e = by (bytes_eq name utc)
         nat_lt most.MAX_ZONE_BYTES (length bytes) ≡ b → bytes_named zones name ≡ o →
         Accepted ≡ unless_refused (first_some
         (when a (refusals.ReservedZone name) ∷ when b (refusals.Limit limits.ZoneBytes) ∷ []))
-        (zone_where o (length zones) entries name bytes) →
+        (zone_verdict_beside o (length zones) entries name bytes) →
         IsNewZone zones name bytes
     by true b o f g h e = cc e
     by false true o f g h e = cc e
@@ -139,7 +139,7 @@ again : (zones : List (List ℕ × List ℕ)) (entries : ℕ) (name bytes : List
 again zones entries name bytes other small kept =
     sym ((λ i. unless_refused (first_some (when (other i) (refusals.ReservedZone name)
     ∷ when (small i) (refusals.Limit limits.ZoneBytes) ∷ []))
-    (zone_where (kept i) (length zones) entries name bytes))
+    (zone_verdict_beside (kept i) (length zones) entries name bytes))
     ∙ ap (λ b. cond b (Same (Changed None)) (Refused (refusals.ZoneDiffers name)))
     ((bytes_eq-Decides bytes bytes).1 refl))
 

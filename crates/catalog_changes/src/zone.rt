@@ -10,7 +10,7 @@ ghost use Rattle.office_history.specs.Batches.{when};
 ghost use Rattle.office_history.specs.Lists.{first_some};
 ghost use Rattle.office_history.specs.History.{Office, with_entry};
 ghost use Rattle.office_history.specs.Outcomes.{outcome_of};
-ghost use Rattle.office_history.specs.Verdicts.{zone_verdict, zone_where};
+ghost use Rattle.office_history.specs.Verdicts.{zone_verdict, zone_verdict_beside};
 ghost use Rattle.office_history.specs.Zones.{utc};
 ghost use Rattle.office_derived.specs.Derived.{HasRoom, IsJudged, IsNext, IsSound, Reflects, Stays};
 ghost use Rattle.office_derived.specs.Derived.{entry_of};
@@ -45,7 +45,7 @@ fn form_fault(name: ZoneName, bytes: &[u8]) -> Option<Refusal>
 /// What becomes of bytes under a name that has none.
 fn judged_new(alloc: Global, derived: &Derived, name: ZoneName, bytes: &Bytes) -> Judged
     ensures { IsJudgedBy
-        (λ j. j ≡ zone_where None (length derived.now.zones.kept) derived.now.entries name
+        (λ j. j ≡ zone_verdict_beside None (length derived.now.zones.kept) derived.now.entries name
         bytes.now)
         (IsZoneWork name bytes.now) result }
 {

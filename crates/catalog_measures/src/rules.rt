@@ -8,7 +8,7 @@ ghost use Rattle.object_ranges.specs.office_history.Alerts.{flags_named as flags
 ghost use Rattle.object_ranges.specs.office_history.Alerts.{flags_of as flags_of_lem};
 ghost use Rattle.object_ranges.specs.office_history.Alerts.{rule_named as rule_named_lem};
 ghost use Rattle.object_ranges.specs.office_history.Alerts.{rule_of as rule_of_lem};
-ghost use Rattle.object_ranges.specs.office_history.Windows.{minutes_of};
+ghost use Rattle.slo_duration.specs.Minutes.{minutes_of};
 
 use crate::bodies::{condition_named, names_in, policy_named};
 use burn_core::{AlertRule, Flags};

@@ -2,7 +2,7 @@
 ghost use Rattle.std.specs.Prelude.{◌≡◌, ◌||◌, ◌==◌, Some, nat_lt};
 ghost use Rattle.record_form.specs.declared.Query.TheVariants as queries;
 ghost use Rattle.office_history.specs.History.{Office};
-ghost use Rattle.office_history.specs.Windows.{minutes_of};
+ghost use Rattle.slo_duration.specs.Minutes.{minutes_of};
 ghost use Rattle.office_history.specs.Answers.{Answers, burn_answer};
 ghost use Rattle.office_derived.specs.kept_objectives.Objectives.{IsObjective};
 ghost use Rattle.watched_objectives.specs.object_ranges.Measures.{IsMeasure};

@@ -33,7 +33,7 @@ use Rattle.slo_catalog.specs.References.{page, ticket}
 use Rattle.window_sums.specs.Slices.{width_of}
 use Rattle.office_history.specs.declared.Measure.{Measure}
 use Rattle.office_history.specs.Alerts.{rule_of, first_condition, rule_named}
-use Rattle.office_history.specs.Windows.{minutes_of}
+use Rattle.slo_duration.specs.Minutes.{minutes_of}
 use Rattle.office_history.specs.Objectives.{reading_named, method_of, measure_of, slo_named}
 use Rattle.office_history.specs.Objectives.{measures_with, measures_of, measure_at}
 use Rattle.document_ranges.specs.Ranges.{IsObjective, HasObjectives, IsWindow}

@@ -21,7 +21,7 @@ use Rattle.office_history.specs.Catalog.{catalog_in, definitions_of, members_aft
 use Rattle.office_history.specs.Counts.{Samples}
 use Rattle.office_history.specs.History.{Office, changes_in, changes_of, end_of, exclusions_in}
 use Rattle.office_history.specs.History.{rows_in, rows_of, with_entry}
-use Rattle.office_history.specs.Verdicts.{accepted, lift_where}
+use Rattle.office_history.specs.Verdicts.{accepted, lift_verdict_of}
 use Rattle.kept_objectives.specs.declared.SumsPlan.{SumsPlan}
 use Rattle.kept_sums.specs.Walks.{made_on}
 use Rattle.watched_objectives.proofs.kept_lines_proofs.RightLemmas.{right-alike}
@@ -192,7 +192,7 @@ lifting_lines d d' o m id value kept n r' lifts keeps =
     }
 
 live_where : (kept : Option (Exclusion × Bool)) (n : ℕ) (value : Exclusion) (live : Bool) →
-    kept ≡ Some (value, live) → lift_where kept n ≡ Accepted → live ≡ true
+    kept ≡ Some (value, live) → lift_verdict_of kept n ≡ Accepted → live ≡ true
 live_where None n value live is h = cc is
 live_where (Some kept) n value live is h =
     let same : kept ≡ (value, live) = cc is in by live (subst
@@ -223,6 +223,6 @@ lifted_there d o m id n is =
     exclusion_of made id) (sym n.reflects.exclusions) ∙ is) (sym n.accepted)
   where
     none : (kept : Option (Exclusion × Bool)) → kept ≡ None →
-        lift_where kept (length o.history) ≡ Accepted → ⊥
+        lift_verdict_of kept (length o.history) ≡ Accepted → ⊥
     none None is h = cc h
     none (Some kept) is h = cc is

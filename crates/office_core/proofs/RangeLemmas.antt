@@ -32,8 +32,10 @@ use Rattle.office_history.specs.Zones.{utc, bytes_named, zones_in}
 use Rattle.office_history.specs.Batches.{when, form_fault, conflict_fault, row_fault, rows_faults}
 use Rattle.office_history.specs.Batches.{batch_fault}
 use Rattle.office_history.specs.Objectives.{reading_named, slo_named}
-use Rattle.office_history.specs.Verdicts.{accepted, exclude_verdict, exclude_where, is_range}
-use Rattle.office_history.specs.Verdicts.{samples_verdict, unless_refused, zone_verdict, zone_where}
+use Rattle.office_history.specs.Verdicts.{accepted, exclude_verdict, exclude_verdict_beside}
+use Rattle.office_history.specs.Verdicts.{is_range}
+use Rattle.office_history.specs.Verdicts.{samples_verdict, unless_refused, zone_verdict}
+use Rattle.office_history.specs.Verdicts.{zone_verdict_beside}
 use Rattle.office_history.specs.Judges.{JudgesText, Judges, known_of, refused, defined}
 use Rattle.office_core.specs.Machine.{HasRevision, HasRevisions}
 
@@ -140,7 +142,7 @@ batch_fits origin moment members came rows false others j few revised is e = (
 
 excluded_in : (origin : ℕ) (members : List Object)
     (made entries : ℕ) (value : Exclusion) (kept : Option (Exclusion × Bool)) →
-    exclude_where kept origin members made entries value ≡ Accepted →
+    exclude_verdict_beside kept origin members made entries value ≡ Accepted →
     is_range origin value ≡ true
 excluded_in origin members made entries value None e =
     in_office origin value (is_none (slo_named members value.slo)) (not (is_range origin value))
@@ -161,7 +163,7 @@ zone_fits : (zones : List (List ℕ × List ℕ)) (entries : ℕ) (name bytes : 
     → zone_verdict zones entries name bytes ≡ Accepted → length bytes ≤ most.MAX_ZONE_BYTES
 zone_fits zones entries name bytes e =
     small_zone name bytes (bytes_eq name utc) (nat_lt most.MAX_ZONE_BYTES (length bytes))
-    (zone_where (bytes_named zones name) (length zones) entries name bytes) refl e
+    (zone_verdict_beside (bytes_named zones name) (length zones) entries name bytes) refl e
 
 samples_fit : (origin moment : ℕ) (members : List Object) (came : List Row) (entries : ℕ)
     (rows : List Row) → moment ≤ most.MAX_MINUTE → AllByRecursion HasRevision rows →

@@ -28,7 +28,7 @@ use Rattle.window_sums.specs.Slices.{width_of}
 use Rattle.office_history.specs.declared.measure.Measure.{Measure}
 use Rattle.office_history.specs.Counts.{Samples, leaf_at, sum_between}
 use Rattle.office_history.specs.Objectives.{measure_at}
-use Rattle.office_history.specs.Windows.{minutes_of}
+use Rattle.slo_duration.specs.Minutes.{minutes_of}
 
 -- the rule of a condition; an omitted `op` is `gte`, an omitted `alertAfter` is `0m`
 abbrev pub rule_of : Condition → AlertRule

@@ -29,7 +29,8 @@ use Rattle.office_history.specs.Catalog.{catalog_in}
 use Rattle.office_history.specs.Zones.{zones_in}
 use Rattle.office_history.specs.Counts.{Samples, sum_between}
 use Rattle.office_history.specs.Objectives.{slo_named, measures_named, measure_at}
-use Rattle.office_history.specs.Windows.{WindowBegins, minutes_of}
+use Rattle.slo_duration.specs.Minutes.{minutes_of}
+use Rattle.office_history.specs.Windows.{WindowBegins}
 use Rattle.office_history.specs.Alerts.{Watch, watched, state_at, is_watch_active}
 use Rattle.office_history.specs.Notices.{samples_in, notices_in}
 use Rattle.office_history.specs.Batches.{when}

@@ -95,10 +95,10 @@ new_zone_fault kept name bytes = first_some (
     ∷ when (nat_le most.MAX_ZONES kept) (refusals.Limit limits.Zones)
     ∷ [])
 
-abbrev pub zone_where : Option (List ℕ) → ℕ → ℕ → List ℕ → List ℕ → Judgement
-zone_where None kept entries name bytes =
+abbrev pub zone_verdict_beside : Option (List ℕ) → ℕ → ℕ → List ℕ → List ℕ → Judgement
+zone_verdict_beside None kept entries name bytes =
     unless_refused (new_zone_fault kept name bytes) (accepted entries)
-zone_where (Some old) kept entries name bytes =
+zone_verdict_beside (Some old) kept entries name bytes =
     cond (bytes_eq old bytes) (Same (Changed None)) (Refused (refusals.ZoneDiffers name))
 
 abbrev pub zone_verdict : List (List ℕ × List ℕ) → ℕ → List ℕ → List ℕ → Judgement
@@ -107,7 +107,7 @@ zone_verdict zones entries name bytes =
     when (bytes_eq name utc) (refusals.ReservedZone name)
     ∷ when (nat_lt most.MAX_ZONE_BYTES (length bytes)) (refusals.Limit limits.ZoneBytes)
     ∷ []))
-    (zone_where (bytes_named zones name) (length zones) entries name bytes)
+    (zone_verdict_beside (bytes_named zones name) (length zones) entries name bytes)
 
 -- Exclude: a stretch of an SLO's minutes, under an id of its own
 abbrev pub same_content : Exclusion → Exclusion → Bool
@@ -124,11 +124,11 @@ new_exclusion_fault origin members made value = first_some (
     ∷ when (nat_le most.MAX_EXCLUSIONS made) (refusals.Limit limits.Exclusions)
     ∷ [])
 
-abbrev pub exclude_where : Option (Exclusion × Bool) → ℕ → List Object → ℕ → ℕ
+abbrev pub exclude_verdict_beside : Option (Exclusion × Bool) → ℕ → List Object → ℕ → ℕ
     → Exclusion → Judgement
-exclude_where None origin members made entries value =
+exclude_verdict_beside None origin members made entries value =
     unless_refused (new_exclusion_fault origin members made value) (accepted entries)
-exclude_where (Some kept) origin members made entries value =
+exclude_verdict_beside (Some kept) origin members made entries value =
     cond kept.1
     (cond (same_content kept.0 value) (Same (Changed None))
     (Refused (refusals.ExclusionConflict kept.0.from kept.0.slo kept.0.to)))
@@ -136,15 +136,15 @@ exclude_where (Some kept) origin members made entries value =
 
 abbrev pub exclude_verdict : ℕ → List Object → List (Exclusion × Bool) → ℕ → Exclusion → Judgement
 exclude_verdict origin members made entries value =
-    exclude_where (exclusion_of made value.id) origin members (length made) entries value
+    exclude_verdict_beside (exclusion_of made value.id) origin members (length made) entries value
 
 -- Lift: an exclusion that was made
-abbrev pub lift_where : Option (Exclusion × Bool) → ℕ → Judgement
-lift_where None entries = Refused refusals.NotFound
-lift_where (Some kept) entries = cond kept.1 (accepted entries) (Same (Changed None))
+abbrev pub lift_verdict_of : Option (Exclusion × Bool) → ℕ → Judgement
+lift_verdict_of None entries = Refused refusals.NotFound
+lift_verdict_of (Some kept) entries = cond kept.1 (accepted entries) (Same (Changed None))
 
 abbrev pub lift_verdict : List (Exclusion × Bool) → ℕ → List ℕ → Judgement
-lift_verdict made entries id = lift_where (exclusion_of made id) entries
+lift_verdict made entries id = lift_verdict_of (exclusion_of made id) entries
 
 -- Tick, which would tell so many changes
 abbrev pub tick_verdict : List (Notice × Bool) → ℕ → ℕ → Judgement

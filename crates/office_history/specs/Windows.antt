@@ -1,16 +1,12 @@
 -- The window over which an SLO's budget is counted at a minute (OpenSLO v1, `timeWindow`).
-use Rattle.std.specs.Prelude.{◌≡◌, ℕ, ◌-◌, ◌*◌, List, Option, Some, None}
+use Rattle.std.specs.Prelude.{◌≡◌, ℕ, ◌-◌, List, Option, Some, None}
 use Rattle.slo_duration.specs.declared.Duration.{Duration}
-use Rattle.slo_duration.specs.Unit.{unit_minutes}
+use Rattle.slo_duration.specs.Minutes.{minutes_of}
 use Rattle.definition_verdict.specs.zone_calendar.Window.{IsLastStart}
 use Rattle.definition_verdict.specs.zone_calendar.Zone.{ZoneText}
 use Rattle.definition_verdict.specs.slo_objects.declared.slo.Calendar.{Calendar}
 use Rattle.definition_verdict.specs.slo_objects.declared.slo.TimeWindow.{TimeWindow}
 use Rattle.office_history.specs.Zones.{zone_named}
-
--- the minutes of a duration by the rolling count
-abbrev pub minutes_of : Duration → ℕ
-minutes_of duration = duration.count * unit_minutes duration.unit
 
 -- the last start of a calendar at or before a minute, of all that lie below the horizon, by the
 -- clock of its zone; none where the zone isn't there

@@ -46,11 +46,13 @@ use Rattle.office_history.specs.Lists.{first_some}
 use Rattle.office_history.specs.Notices.{notices_in, samples_in, told_at, waiting}
 use Rattle.office_history.specs.Objectives.{measure_at, measures_named, slo_named}
 use Rattle.office_history.specs.Outcomes.{outcome_of}
-use Rattle.office_history.specs.Verdicts.{accepted, exclude_where, first_row_of, is_waiting}
-use Rattle.office_history.specs.Verdicts.{lift_where, new_exclusion_fault, new_zone_fault}
+use Rattle.office_history.specs.Verdicts.{accepted, exclude_verdict_beside, first_row_of}
+use Rattle.office_history.specs.Verdicts.{is_waiting}
+use Rattle.office_history.specs.Verdicts.{lift_verdict_of, new_exclusion_fault, new_zone_fault}
 use Rattle.office_history.specs.Verdicts.{same_content, samples_fault, unless_refused}
-use Rattle.office_history.specs.Verdicts.{unless_removal, unless_sampled, zone_where}
-use Rattle.office_history.specs.Windows.{WindowBegins, minutes_of}
+use Rattle.office_history.specs.Verdicts.{unless_removal, unless_sampled, zone_verdict_beside}
+use Rattle.office_history.specs.Windows.{WindowBegins}
+use Rattle.slo_objects.specs.slo_duration.Minutes.{minutes_of}
 use Rattle.office_history.specs.Zones.{bytes_named, utc, zones_in}
 
 -- the outcome is a fault of the disk
@@ -88,7 +90,7 @@ by_sample None j e = e
 by_sample (Some row) j e = refl
 
 by_zone : (old : Option (List ℕ)) (kept entries : ℕ) (name bytes : List ℕ) →
-    judged_so (zone_where old kept entries name bytes) ≡ false
+    judged_so (zone_verdict_beside old kept entries name bytes) ≡ false
 by_zone None kept entries name bytes =
     by_refusal (new_zone_fault kept name bytes) (accepted entries) (by_accepted entries)
 by_zone (Some old) kept entries name bytes =
@@ -97,7 +99,7 @@ by_zone (Some old) kept entries name bytes =
 
 by_exclusion : (old : Option (Exclusion × Bool)) (origin : ℕ) (members : List Object)
     (made entries : ℕ) (value : Exclusion) →
-    judged_so (exclude_where old origin members made entries value) ≡ false
+    judged_so (exclude_verdict_beside old origin members made entries value) ≡ false
 by_exclusion None origin members made entries value =
     by_refusal (new_exclusion_fault origin members made value) (accepted entries)
     (by_accepted entries)
@@ -108,7 +110,7 @@ by_exclusion (Some kept) origin members made entries value =
     (by_cond (same_content kept.0 value) (Same (Changed None)) conflict refl refl) refl
 
 by_lift : (old : Option (Exclusion × Bool)) (entries : ℕ) →
-    judged_so (lift_where old entries) ≡ false
+    judged_so (lift_verdict_of old entries) ≡ false
 by_lift None entries = refl
 by_lift (Some kept) entries =
     by_cond kept.1 (accepted entries) (Same (Changed None)) (by_accepted entries) refl
@@ -156,7 +158,7 @@ judges_so o moment (Remove kind name) j is =
 judges_so o moment (PutZone name bytes) j is =
     let zones = zones_in o.history in
     let where_it_is =
-    zone_where (bytes_named zones name) (length zones) (length o.history) name bytes in
+    zone_verdict_beside (bytes_named zones name) (length zones) (length o.history) name bytes in
     ap judged_so is
     ∙ by_refusal
     (first_some (when (bytes_eq name utc) (refusals.ReservedZone name)

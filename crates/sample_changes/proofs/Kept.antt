@@ -26,7 +26,8 @@ use Rattle.record_form.specs.declared.Refusal.TheVariants as refusals
 use Rattle.sample_book.specs.declared.Exclusion.{Exclusion}
 use Rattle.sample_book.specs.Exclusions.{exclusion_of}
 use Rattle.office_history.specs.declared.Judgement.TheVariants.{Accepted, Same, Refused}
-use Rattle.office_history.specs.Verdicts.{accepted, exclude_where, lift_where, new_exclusion_fault}
+use Rattle.office_history.specs.Verdicts.{accepted, exclude_verdict_beside, lift_verdict_of}
+use Rattle.office_history.specs.Verdicts.{new_exclusion_fault}
 use Rattle.office_history.specs.Verdicts.{same_content, unless_refused}
 use Rattle.office_history.specs.Catalog.{catalog_in}
 use Rattle.office_history.specs.History.{Office, accepted_rows, exclusions_in, rows_in, with_entry}
@@ -195,7 +196,7 @@ room_for_one n h = by (nat_lt n most.MAX_ENTRIES) refl h
     by false e h = cc h
 
 excluded_room : (kept : Option (Exclusion × Bool)) (origin : ℕ) (members : List Object) (made n : ℕ)
-    (value : Exclusion) → exclude_where kept origin members made n value ≡ Accepted
+    (value : Exclusion) → exclude_verdict_beside kept origin members made n value ≡ Accepted
     → n < most.MAX_ENTRIES
 excluded_room None origin members made n value h =
     by (new_exclusion_fault origin members made value) h
@@ -213,7 +214,7 @@ excluded_room (Some kept) origin members made n value h = by kept.1 (same_conten
     by true false h = cc h
     by false c h = cc h
 
-lifted_room : (kept : Option (Exclusion × Bool)) (n : ℕ) → lift_where kept n ≡ Accepted
+lifted_room : (kept : Option (Exclusion × Bool)) (n : ℕ) → lift_verdict_of kept n ≡ Accepted
     → n < most.MAX_ENTRIES
 lifted_room None n h = cc h
 lifted_room (Some kept) n h = by kept.1 h

@@ -22,7 +22,8 @@ use Rattle.office_history.specs.Catalog.{catalog_in}
 use Rattle.office_history.specs.History.{changes_in, changes_of, exclusions_in}
 use Rattle.office_history.specs.Judges.{Judges}
 use Rattle.office_history.specs.Legal.{IsLegal, empty, followed, office}
-use Rattle.office_history.specs.Verdicts.{accepted, exclude_where, lift_where, same_content}
+use Rattle.office_history.specs.Verdicts.{accepted, exclude_verdict_beside, lift_verdict_of}
+use Rattle.office_history.specs.Verdicts.{same_content}
 use Rattle.office_derived.proofs.More.{changes_more}
 use Rattle.sample_changes.specs.Once.{ExcludeActsOnce, LiftActsOnce, is_lifted}
 
@@ -148,13 +149,15 @@ leave-push cs ds (x ∷ h) e all here = (
 )
 
 was_live : (ids : List (List ℕ)) (n : ℕ) (o : Option Exclusion)
-    → lift_where (option_map (flagged ids) o) n ≡ Accepted → (value : Exclusion) × (o ≡ Some value)
+    → lift_verdict_of (option_map (flagged ids) o) n ≡ Accepted → (value : Exclusion)
+    × (o ≡ Some value)
 was_live ids n None h = cc h
 was_live ids n (Some value) h = (value, refl)
 
 was_unused : (ids : List (List ℕ)) (origin : ℕ) (members : List Object) (made n : ℕ)
     (value : Exclusion) (o : Option Exclusion) →
-    exclude_where (option_map (flagged ids) o) origin members made n value ≡ Accepted → o ≡ None
+    exclude_verdict_beside (option_map (flagged ids) o) origin members made n value ≡ Accepted
+    → o ≡ None
 was_unused ids origin members made n value None h = refl
 was_unused ids origin members made n value (Some kept) h =
     by (not (list_any (bytes_eq kept.id) ids)) (same_content kept value) h
@@ -170,7 +173,7 @@ new-leaves : (origin : ℕ) (h : List Entry) (m : ℕ) (c : Command)
     → Judges (office origin h) m c Accepted → Leaves (changes_in h ++ changes_of c) c
 new-leaves origin h m (Lift id) v =
     let live = was_live (lifted_in (changes_in h)) (length h) (value_of (changes_in h) id)
-    (ap (λ o. lift_where o (length h)) (sym (kept_of h id)) ∙ sym v) in
+    (ap (λ o. lift_verdict_of o (length h)) (sym (kept_of h id)) ∙ sym v) in
     let same : bytes_eq live.0.id id ≡ true = find-passes
     (λ (value : Exclusion). bytes_eq value.id id) (excluded_in (changes_in h)) live.0 live.1 in
     record {
@@ -185,7 +188,8 @@ new-leaves origin h m (Lift id) v =
 new-leaves origin h m (Exclude value) v =
     let unused = was_unused (lifted_in (changes_in h)) origin (catalog_in h)
     (length (exclusions_in h)) (length h) value (value_of (changes_in h) value.id)
-    (ap (λ o. exclude_where o origin (catalog_in h) (length (exclusions_in h)) (length h) value)
+    (ap (λ o. exclude_verdict_beside o origin (catalog_in h) (length (exclusions_in h)) (length h)
+    value)
     (sym (kept_of h value.id)) ∙ sym v) in
     ap (find (λ (other : Exclusion). bytes_eq other.id value.id))
     (excluded-append (changes_in h) (Excluded value ∷ []))
@@ -219,7 +223,7 @@ left_by origin h before after e c legal split is =
 pub lift_once : LiftActsOnce
 lift_once origin h before after e id moment legal split is =
     let left = left_by origin h before after e (Lift id) legal split is in
-    sym (ap (λ o. lift_where o (length h))
+    sym (ap (λ o. lift_verdict_of o (length h))
     (kept_of h id ∙ ap (option_map (flagged (lifted_in (changes_in h)))) left.made)
     ∙ ap (λ b. cond (not b) (accepted (length h)) (Same (Changed None))) left.lifted)
 
@@ -227,7 +231,8 @@ pub exclude_once : ExcludeActsOnce
 exclude_once origin h before after e value moment legal split is =
     let left : value_of (changes_in h) value.id ≡ Some value =
     left_by origin h before after e (Exclude value) legal split is in
-    sym (ap (λ o. exclude_where o origin (catalog_in h) (length (exclusions_in h)) (length h) value)
+    sym (ap (λ o. exclude_verdict_beside o origin (catalog_in h) (length (exclusions_in h))
+    (length h) value)
     (kept_of h value.id ∙ ap (option_map (flagged (lifted_in (changes_in h)))) left)
     ∙ by (is_lifted h value.id))
   where
