@@ -58,6 +58,14 @@ one_made : {A B : Type 0} (Fact : B → Type 0) → ((b : B) → IsProp (Fact b)
 one_made Fact once made x y f g e = let h = to_path_p (λ i. Fact (e i)) (once y _ g) in
     λ i. made (e i) (h i)
 
+-- a number above none, and at most this
+abbrev Between : ℕ → ℕ → Type 0
+Between most n = (0 < n) × (n ≤ most)
+
+between_test : (most n : ℕ) → Between most n → (nat_lt 0 n && nat_le n most) ≡ true
+between_test most n (some, within) =
+    and_from (nat_lt 0 n) (nat_le n most) (lt-ltb 0 n some) (le-leb n most within)
+
 pub every_number_is : IsRange every_number
 every_number_is = record { again = λ n. refl; stands = λ b a e. sym (some_same b a e) }
 
@@ -77,21 +85,17 @@ target_is = record {
   stands = λ n t e. stands_where (λ (a : Target). a.ratio) (nat_lt n WHOLE) _ n (λ h. refl) t e;
 }
 
-abbrev IsSliceRatio : ℕ → Type 0
-IsSliceRatio ratio = (0 < ratio) × (ratio ≤ WHOLE)
-
-abbrev made_slice_target : (ratio : ℕ) → IsSliceRatio ratio → SliceTarget
+abbrev made_slice_target : (ratio : ℕ) → Between WHOLE ratio → SliceTarget
 made_slice_target ratio fact = record { ratio = ratio; some = fact.0; within_one = fact.1 }
 
 slice_target_same : (a b : SliceTarget) → a.ratio ≡ b.ratio → a ≡ b
-slice_target_same a b e = one_made IsSliceRatio (λ n. hlevel props) made_slice_target a.ratio
-    b.ratio (a.some, a.within_one) (b.some, b.within_one) e
+slice_target_same a b e = one_made (λ n. Between WHOLE n) (λ n. hlevel props) made_slice_target
+    a.ratio b.ratio (a.some, a.within_one) (b.some, b.within_one) e
 
 pub slice_target_is : IsRange slice_target_range
 slice_target_is = record {
   again = λ t. again_where (nat_lt 0 t.ratio && nat_le t.ratio WHOLE) _ t
-      (λ e. slice_target_same _ t refl) (and_from (nat_lt 0 t.ratio) (nat_le t.ratio WHOLE)
-      (lt-ltb 0 t.ratio t.some) (le-leb t.ratio WHOLE t.within_one));
+      (λ e. slice_target_same _ t refl) (between_test WHOLE t.ratio (t.some, t.within_one));
   stands = λ n t e. stands_where (λ (a : SliceTarget). a.ratio)
       (nat_lt 0 n && nat_le n WHOLE) _ n (λ h. refl) t e;
 }
@@ -135,22 +139,18 @@ width_is = record {
 
 -- SPANS
 
-abbrev IsLookback : Duration → Type 0
-IsLookback span = (0 < minutes_of span) × (minutes_of span ≤ MAX_LOOKBACK)
-
-abbrev made_lookback : (span : Duration) → IsLookback span → Lookback
+abbrev made_lookback : (span : Duration) → Between MAX_LOOKBACK (minutes_of span) → Lookback
 made_lookback span fact = record { span = span; some = fact.0; short = fact.1 }
 
 lookback_same : (a b : Lookback) → a.span ≡ b.span → a ≡ b
-lookback_same a b e = one_made IsLookback (λ d. hlevel props) made_lookback a.span b.span
-    (a.some, a.short) (b.some, b.short) e
+lookback_same a b e = one_made (λ d. Between MAX_LOOKBACK (minutes_of d))
+    (λ d. hlevel props) made_lookback a.span b.span (a.some, a.short) (b.some, b.short) e
 
 pub lookback_is : IsRange lookback_range
 lookback_is = record {
   again = λ l. again_where (nat_lt 0 (minutes_of l.span) && nat_le (minutes_of l.span) MAX_LOOKBACK)
-      _ l (λ e. lookback_same _ l refl) (and_from (nat_lt 0 (minutes_of l.span))
-      (nat_le (minutes_of l.span) MAX_LOOKBACK) (lt-ltb 0 (minutes_of l.span) l.some)
-      (le-leb (minutes_of l.span) MAX_LOOKBACK l.short));
+      _ l (λ e. lookback_same _ l refl)
+      (between_test MAX_LOOKBACK (minutes_of l.span) (l.some, l.short));
   stands = λ d l e. stands_where (λ (a : Lookback). a.span)
       (nat_lt 0 (minutes_of d) && nat_le (minutes_of d) MAX_LOOKBACK) _ d (λ h. refl) l e;
 }
@@ -170,22 +170,18 @@ wait_is = record {
       (nat_le (minutes_of d) MAX_LOOKBACK) _ d (λ h. refl) a e;
 }
 
-abbrev IsLength : Duration → Type 0
-IsLength span = (0 < minutes_of span) × (minutes_of span ≤ MAX_WINDOW)
-
-abbrev made_length : (span : Duration) → IsLength span → WindowLength
+abbrev made_length : (span : Duration) → Between MAX_WINDOW (minutes_of span) → WindowLength
 made_length span fact = record { span = span; some = fact.0; short = fact.1 }
 
 length_same : (a b : WindowLength) → a.span ≡ b.span → a ≡ b
-length_same a b e = one_made IsLength (λ d. hlevel props) made_length a.span b.span
-    (a.some, a.short) (b.some, b.short) e
+length_same a b e = one_made (λ d. Between MAX_WINDOW (minutes_of d))
+    (λ d. hlevel props) made_length a.span b.span (a.some, a.short) (b.some, b.short) e
 
 pub window_is : IsRange window_range
 window_is = record {
   again = λ w. again_where (nat_lt 0 (minutes_of w.span) && nat_le (minutes_of w.span) MAX_WINDOW)
-      _ w (λ e. length_same _ w refl) (and_from (nat_lt 0 (minutes_of w.span))
-      (nat_le (minutes_of w.span) MAX_WINDOW) (lt-ltb 0 (minutes_of w.span) w.some)
-      (le-leb (minutes_of w.span) MAX_WINDOW w.short));
+      _ w (λ e. length_same _ w refl)
+      (between_test MAX_WINDOW (minutes_of w.span) (w.some, w.short));
   stands = λ d w e. stands_where (λ (a : WindowLength). a.span)
       (nat_lt 0 (minutes_of d) && nat_le (minutes_of d) MAX_WINDOW) _ d (λ h. refl) w e;
 }
