@@ -53,17 +53,20 @@ module _ {A I O C W : Type 0} (site : Site A I O C) (pass_of : W → PassState) 
       (faulty w a worked none, faulty_each ws behind rest more)
 
   -- what was told of each index, over the list that the workers were lent from
-  pub paired : (ws lent behind : List W) → lent ≡ ws → length behind ≡ length lent
+  paired : (ws lent behind : List W) → lent ≡ ws → length behind ≡ length lent
       → ((k : ℕ) (d : W) → k < length lent
       → WorkedBy (slice_index_or lent k d) (slice_index_or behind k d))
       → Pairs WorkedBy ws behind
   paired ws lent behind is same each =
       subst (λ (l : List W). Pairs WorkedBy l behind) is (pairs_of WorkedBy lent behind same each)
 
-  pub all_faulty : (ws behind : List W) (opened : List A) → Pairs WorkedBy ws behind
+  pub all_faulty : (ws lent behind : List W) (opened : List A) → lent ≡ ws
+      → length behind ≡ length lent
+      → ((k : ℕ) (d : W) → k < length lent
+      → WorkedBy (slice_index_or lent k d) (slice_index_or behind k d))
       → map door_of ws ≡ opened → All (λ d. site.faults d ≡ 0) opened → All Faulty behind
-  all_faulty ws behind opened pairs doors quiet =
-      all_of Faulty behind (faulty_each ws behind pairs
+  all_faulty ws lent behind opened is same each doors quiet =
+      all_of Faulty behind (faulty_each ws behind (paired ws lent behind is same each)
       (each_of (λ d. site.faults d ≡ 0) (map door_of ws)
       (subst (All (λ d. site.faults d ≡ 0)) (sym doors) quiet)))
 
@@ -95,14 +98,18 @@ module _ {A I O C W : Type 0} (site : Site A I O C) (pass_of : W → PassState) 
     goes_each ws behind rest more,
   )
 
-  pub ran_workers : (ws behind : List W) (opened : List A) (passes : List PassState)
-      (before after : Option (Entrance A (Visit I O C))) (well : Bool)
-      → Pairs (WorkedBy site pass_of door_of end_of) ws behind → All Begins ws
+  pub ran_workers : (ws lent behind : List W) (opened : List A) (passes : List PassState)
+      (before after : Option (Entrance A (Visit I O C))) (well : Bool) → lent ≡ ws
+      → length behind ≡ length lent
+      → ((k : ℕ) (d : W) → k < length lent → WorkedBy site pass_of door_of end_of
+      (slice_index_or lent k d) (slice_index_or behind k d)) → All Begins ws
       → map door_of ws ≡ opened → passes ≡ map pass_of behind
       → (well ≡ true → All (λ a. end_of a ≡ Done) behind)
       → Moves (AreClosed (map door_of behind)) before after
       → RanWorkers site start opened before after passes well
-  ran_workers ws behind opened passes before after well pairs begins doors is done closed =
+  ran_workers ws lent behind opened passes before after well lends same worked begins doors is done
+      closed =
+      let pairs = paired site pass_of door_of end_of ws lent behind lends same worked in
       let each = each_of Begins ws begins in
       record {
         closed = map door_of behind;

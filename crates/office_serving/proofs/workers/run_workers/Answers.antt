@@ -5,7 +5,7 @@ use Rattle.office_doors.specs.Books.{Moves}
 use Rattle.office_serving.specs.Visits.{looks}
 use Rattle.office_serving.specs.Workers.{AreClosed, site}
 use Rattle.office_serving.specs.declared.visits.WorkEnd.TheVariants.{Done, DoorFault}
-use Rattle.office_serving.proofs.Employing.{all_faulty, paired, ran_workers}
+use Rattle.office_serving.proofs.Employing.{all_faulty, ran_workers}
 use Rattle.office_serving.proofs.Lists.{written}
 use Rattle.office_serving.proofs.workers.run_workers.Goals as goal
 
@@ -20,12 +20,10 @@ returns-clause-ran g c = λ v begins.
     let behind = c.run_all.new.workers in
     let same : c.post.new.workers.len ≡ length behind = search rules in
     let whole = written c.post.new.workers.len behind _ same in
-    let pairs = paired s (λ w. w.counter) (λ w. w.door) (λ w. w.end) ws
-    c.as_mut_slice.result.now behind (search rules) c.run_all.ensures.same
-    c.run_all.ensures.worked in
-    ran_workers s (λ w. w.counter) (λ w. w.door) (λ w. w.end) v ws behind c.args.opened.items
-    c.dismiss.new.passes.items (g.S.Doors.told c.args.doors.now)
-    (g.S.Doors.told c.dismiss.new.doors) c.dismiss.result pairs (c.post.ensures.passes v begins)
+    ran_workers s (λ w. w.counter) (λ w. w.door) (λ w. w.end) v ws c.as_mut_slice.result.now behind
+    c.args.opened.items c.dismiss.new.passes.items (g.S.Doors.told c.args.doors.now)
+    (g.S.Doors.told c.dismiss.new.doors) c.dismiss.result (search rules) c.run_all.ensures.same
+    c.run_all.ensures.worked (c.post.ensures.passes v begins)
     c.post.ensures.doors (c.dismiss.ensures.passes ∙ ap (map (λ w. w.counter)) whole)
     (λ yes. subst (All (λ w. w.end ≡ Done)) whole (c.dismiss.ensures.well yes))
     (subst (λ l. Moves (AreClosed (map (λ w. w.door) l)) (g.S.Doors.told c.args.doors.now)
@@ -42,10 +40,8 @@ returns-clause-cause g c = λ bad.
     let behind = c.run_all.new.workers in
     let same : c.post.new.workers.len ≡ length behind = search rules in
     let whole = written c.post.new.workers.len behind _ same in
-    let pairs = paired s (λ w. w.counter) (λ w. w.door) (λ w. w.end) ws
-    c.as_mut_slice.result.now behind (search rules) c.run_all.ensures.same
-    c.run_all.ensures.worked in
     c.dismiss.ensures.cause bad
     (subst (All (λ w. w.end ≡ DoorFault → 1 ≤ A.Door.faults w.door)) (sym whole)
-    (all_faulty s (λ w. w.counter) (λ w. w.door) (λ w. w.end) ws behind c.args.opened.items pairs
+    (all_faulty s (λ w. w.counter) (λ w. w.door) (λ w. w.end) ws c.as_mut_slice.result.now behind
+    c.args.opened.items (search rules) c.run_all.ensures.same c.run_all.ensures.worked
     c.post.ensures.doors c.requires.quiet))
