@@ -1,0 +1,1 @@
+"""Programs around an error budget office, over its interface."""
