@@ -1,0 +1,1 @@
+"""A folder of OpenSLO files as the truth of an office."""

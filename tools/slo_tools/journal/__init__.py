@@ -1,0 +1,1 @@
+"""What stands in an office's journal."""

@@ -1,0 +1,1 @@
+"""Alerts of an office, passed on."""

@@ -1,0 +1,44 @@
+"""The options of every tool that asks an office."""
+
+from __future__ import annotations
+
+import argparse
+import os
+from pathlib import Path
+from typing import Union
+
+from slo_tools.office import Office, Pauses
+
+DEFAULT_OFFICE = "http://127.0.0.1:8080"
+
+
+def add_office_options(parser: argparse.ArgumentParser) -> None:
+    """Where the office is, and the password of a proxy in front of it."""
+    parser.add_argument(
+        "--office",
+        metavar="URL",
+        default=os.environ.get("SLO_OFFICE_URL", DEFAULT_OFFICE),
+        help="the office's address (default: $SLO_OFFICE_URL, else " + DEFAULT_OFFICE + ")",
+    )
+    parser.add_argument("--user", metavar="NAME", help="the name for a proxy in front of it")
+    parser.add_argument(
+        "--password-file", metavar="FILE", help="a file whose first line is the password"
+    )
+    parser.add_argument(
+        "--ca", metavar="FILE", help="the certificate that the proxy's is signed by"
+    )
+
+
+def office_of(options: argparse.Namespace, pauses: Pauses, timeout: float = 30.0) -> Office:
+    """The office that the options name. Raises OSError where the password's file can't be read."""
+    credentials = None
+    if options.user is not None:
+        password = ""
+        if options.password_file is not None:
+            lines = Path(options.password_file).read_text(encoding="utf-8").splitlines()
+            password = lines[0] if lines else ""
+        credentials = (options.user, password)
+    verify: Union[bool, str] = options.ca if options.ca is not None else True
+    return Office(
+        options.office, timeout=timeout, pauses=pauses, credentials=credentials, verify=verify
+    )

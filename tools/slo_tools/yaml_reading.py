@@ -1,0 +1,178 @@
+"""YAML of any form, read into nodes: what the office's profile leaves out is resolved here."""
+
+from __future__ import annotations
+
+import re
+from dataclasses import dataclass, field
+from typing import Any, Optional
+
+import yaml
+
+from slo_tools.nodes import Fault, Fields, Items, Node, Place, Scalar
+
+MAX_DEPTH = 32
+# Aliases may stand for nodes again and again: no folder of SLOs comes near this number.
+MAX_NODES = 200_000
+
+PREFIX = "tag:yaml.org,2002:"
+STANDARD = frozenset(
+    PREFIX + word
+    for word in "str int float bool null timestamp merge value map seq omap pairs set".split()
+)
+DOCUMENT_START = re.compile(r"^---(?=\s|$)", re.MULTILINE)
+LOADER: Any = getattr(yaml, "CSafeLoader", yaml.SafeLoader)
+
+
+@dataclass
+class Reading:
+    """The documents of a text that could be read, and the faults of the others."""
+
+    documents: list[Node] = field(default_factory=list)
+    faults: list[Fault] = field(default_factory=list)
+
+
+def read_yaml(text: str) -> Reading:
+    """All documents of a text. After a fault the documents behind it are read as well."""
+    reading = Reading()
+    if _read_piece(text, 0, reading):
+        return reading
+    reading = Reading()
+    line = 0
+    for piece in _pieces(text):
+        _read_piece(piece, line, reading)
+        line += piece.count("\n")
+    return reading
+
+
+def _pieces(text: str) -> list[str]:
+    """The text cut before each marker of a document; directives stay with what they belong to."""
+    cuts = [0, *(found.start() for found in DOCUMENT_START.finditer(text)), len(text)]
+    pieces: list[str] = []
+    for begin, end in zip(cuts, cuts[1:]):
+        if pieces and all(line[:1] in ("", "%", "#") for line in pieces[-1].splitlines()):
+            pieces[-1] += text[begin:end]
+        else:
+            pieces.append(text[begin:end])
+    return pieces
+
+
+def _read_piece(text: str, line: int, reading: Reading) -> bool:
+    try:
+        loader = LOADER(text)
+    except yaml.YAMLError as fault:
+        reading.faults.append(Fault(_place_of_error(fault, line), "control", why=str(fault)))
+        return False
+    try:
+        while loader.check_node():
+            composed = loader.get_node()
+            converter = _Converter(loader, line)
+            node = converter.node(composed, 1)
+            reading.faults.extend(converter.faults)
+            if node is not None and not (isinstance(node, Scalar) and node.is_null):
+                reading.documents.append(node)
+    except yaml.YAMLError as fault:
+        reading.faults.append(Fault(_place_of_error(fault, line), "yaml", why=_why(fault)))
+        return False
+    finally:
+        loader.dispose()
+    return True
+
+
+def _place_of_error(fault: yaml.YAMLError, line: int) -> Place:
+    mark = getattr(fault, "problem_mark", None) or getattr(fault, "context_mark", None)
+    if mark is None:
+        return Place(line + 1, 1)
+    return Place(line + mark.line + 1, mark.column + 1)
+
+
+def _why(fault: yaml.YAMLError) -> str:
+    words = [getattr(fault, name, None) for name in ("context", "problem")]
+    return ", ".join(str(word) for word in words if word) or str(fault)
+
+
+class _Converter:
+    """Makes nodes of what PyYAML composed; each fault is kept, and its node left out."""
+
+    def __init__(self, loader: Any, line: int) -> None:
+        self.loader = loader
+        self.line = line
+        self.faults: list[Fault] = []
+        self.left = MAX_NODES
+        self.open: set[int] = set()
+
+    def node(self, composed: Any, depth: int) -> Optional[Node]:
+        place = self._place(composed)
+        self.left -= 1
+        if self.left <= 0 or id(composed) in self.open:
+            why = "an alias stands inside its own anchor" if self.left > 0 else "too many nodes"
+            self._fault(place, "left_out", why)
+            return None
+        if composed.tag not in STANDARD:
+            self._fault(place, "left_out", f"the tag {composed.tag}")
+            return None
+        if isinstance(composed, yaml.ScalarNode):
+            return self._scalar(composed, place)
+        if depth > MAX_DEPTH:
+            self._fault(place, "too_deep", f"maps and lists are nested above {MAX_DEPTH} deep")
+            return None
+        self.open.add(id(composed))
+        try:
+            if isinstance(composed, yaml.SequenceNode):
+                items = [self.node(item, depth + 1) for item in composed.value]
+                return Items(place, tuple(item for item in items if item is not None))
+            return self._fields(composed, place, depth)
+        finally:
+            self.open.discard(id(composed))
+
+    def _scalar(self, composed: Any, place: Place) -> Scalar:
+        # The style is None or empty for a plain scalar; a tag of its own makes it a text.
+        plain = not composed.style and (
+            composed.tag != PREFIX + "str"
+            or self.loader.resolve(yaml.ScalarNode, composed.value, (True, False)) == composed.tag
+        )
+        return Scalar(place, composed.value, plain)
+
+    def _fields(self, composed: Any, place: Place, depth: int) -> Fields:
+        entries: list[tuple[Scalar, Node]] = []
+        merged: list[tuple[Scalar, Node]] = []
+        for key, value in composed.value:
+            if key.tag == PREFIX + "merge":
+                merged.extend(self._merged(value, depth))
+                continue
+            name = self.node(key, depth + 1)
+            if name is None:
+                continue
+            if not isinstance(name, Scalar):
+                self._fault(name.place, "left_out", "a key that is no scalar")
+                continue
+            if any(known.text == name.text for known, _ in entries):
+                self.faults.append(Fault(name.place, "duplicate_key", name.text))
+                continue
+            made = self.node(value, depth + 1)
+            if made is not None:
+                entries.append((name, made))
+        names = {name.text for name, _ in entries}
+        for name, made in merged:
+            if name.text not in names:
+                names.add(name.text)
+                entries.append((name, made))
+        return Fields(place, tuple(entries))
+
+    def _merged(self, value: Any, depth: int) -> list[tuple[Scalar, Node]]:
+        """The entries that a key `<<` takes over from other maps, the first of a name first."""
+        made = self.node(value, depth + 1)
+        sources = made.items if isinstance(made, Items) else (made,)
+        entries: list[tuple[Scalar, Node]] = []
+        for source in sources:
+            if isinstance(source, Fields):
+                entries.extend(source.entries)
+            elif source is not None:
+                self._fault(source.place, "left_out", "`<<` of what is no map")
+        return entries
+
+    def _place(self, composed: Any) -> Place:
+        mark = composed.start_mark
+        return Place(self.line + mark.line + 1, mark.column + 1)
+
+    def _fault(self, place: Place, rule: str, why: str) -> None:
+        self.faults.append(Fault(place, rule, why=why))
