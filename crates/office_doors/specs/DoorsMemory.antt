@@ -1,5 +1,5 @@
 -- What the doors in memory show together.
-use Rattle.std.specs.Prelude.{◌≡◌, List, []}
+use Rattle.std.specs.Prelude.{◌≡◌, ℕ, List, []}
 use Rattle.office_doors.specs.Calls.{Numbered}
 use Rattle.office_doors.specs.DoorMemory.{VisitInMemory, book_of, calls_of}
 use Rattle.office_doors.specs.Books.{IsFresh}
@@ -14,6 +14,10 @@ entrance_of doors = record {
   opened = doors.opened;
   closed = doors.closed.items;
 }
+
+-- the ports that doors were asked for at
+abbrev pub ports_of : {K : Type 0} → MemoryDoors K → List ℕ
+ports_of doors = doors.asked.items
 
 -- their calls of `open`, with the faults of the doors that were closed
 abbrev pub openings_of : {K : Type 0} → MemoryDoors K → Numbered

@@ -2,7 +2,7 @@
 ghost use Rattle.std.specs.Prelude.{◌≡◌, ◌≤◌, ℕ, Option, None, IfOk, IfSome, OnErr};
 ghost use Rattle.office_outside.specs.Faults.{HasCause};
 ghost use Rattle.office_doors.specs.Books.{Book, Moves, Tells, HandsOut, FindsNone, FailsToHand};
-ghost use Rattle.office_doors.specs.Books.{TakesBack, HasOneOut, IsWithin};
+ghost use Rattle.office_doors.specs.Books.{TakesBack, HasAllBack, HasOneOut, IsWithin};
 
 use crate::Visit;
 use office_outside::{Clock, Failed, Sink, Source};
@@ -23,8 +23,10 @@ pub trait Door {
     /// How often it failed.
     ghost faults: { Self → ℕ };
 
-    /// The next visit, for which it may wait; None where there are no more.
+    /// The next visit, for which it may wait; None where there are no more. Who asks for it has
+    /// given each visit back that he took before.
     fn next(&mut self) -> Result<Option<Visit<Self::In, Self::Out, Self::Time>>, Failed>
+        requires back { Tells HasAllBack (told self.old) }
         ensures some { IfOk result (λ next. IfSome next
             (λ visit. Moves (HandsOut visit) (told self.old) (told self.new))) }
         ensures none { IfOk result (λ next. next ≡ None

@@ -1,6 +1,6 @@
 //! Where doors come from, and where they go.
-ghost use Rattle.std.specs.Prelude.{◌≡◌, ◌≤◌, ℕ, Option, Err, length, All, IfOk, OnErr, is_some};
-ghost use Rattle.std.specs.Prelude.{true};
+ghost use Rattle.std.specs.Prelude.{◌≡◌, ◌≤◌, ◌++◌, ◌∷◌, [], ℕ, List, Option, Err, length, All};
+ghost use Rattle.std.specs.Prelude.{IfOk, OnErr, is_some, true};
 ghost use Rattle.office_outside.specs.Faults.{Rose};
 ghost use Rattle.office_doors.specs.Books.{IsFresh, Moves, Tells};
 ghost use Rattle.office_doors.specs.Entrances.{Entrance, Opens, HasOneOpen, Closes, Stays};
@@ -28,6 +28,9 @@ pub trait Doors {
     ghost told: { Self → Option (Entrance Self.One
         (Visit Self.One.In Self.One.Out Self.One.Time)) };
 
+    /// The ports that doors were asked for at, one for each call of `open`, in order.
+    ghost ports: { Self → List ℕ };
+
     /// How often it failed, and how often the doors did that were closed.
     ghost faults: { Self → ℕ };
 
@@ -43,6 +46,7 @@ pub trait Doors {
         ensures shared { IfOk result (λ doors. Moves (Opens (λ d. Self.One.told d) doors.items)
             (told self.old) (told self.new)) }
         ensures kept { OnErr result (Moves Stays (told self.old) (told self.new)) }
+        ensures port { ports self.new ≡ ports self.old ++ port ∷ [] }
         ensures later { faults self.old ≤ faults self.new }
         ensures cause { result ≡ Err Failed → Rose (faults self.old) (faults self.new) };
 
@@ -50,6 +54,7 @@ pub trait Doors {
     fn close(&mut self, door: Self::One)
         requires open { Tells HasOneOpen (told self.old) }
         ensures closed { Moves (Closes door) (told self.old) (told self.new) }
+        ensures ports { ports self.new ≡ ports self.old }
         ensures faults { faults self.new ≡ joined_count (faults self.old) (Self.One.faults door) };
 
     /// Never more doors were closed than were opened.

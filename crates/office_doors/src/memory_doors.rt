@@ -5,7 +5,7 @@ use crate::calls::Calls;
 use crate::dealing::{deal, make_place};
 use crate::memory_door::{MemoryDoor, MemoryVisit};
 use crate::room::make_rooms;
-use crate::{Doors, DoorsFault};
+use crate::{Doors, DoorsFault, Given};
 use office_outside::Sink;
 use std::alloc::Global;
 use std::collections::VecDeque;
@@ -19,15 +19,17 @@ pub struct MemoryDoors<K: Drop> {
     failing: VecDeque<Vec<u64>>,
     opened: usize,
     closed: Vec<MemoryDoor<K>>,
+    asked: Given<u16>,
     calls: Calls,
     ghost room: { opened ≤ vec_capacity closed },
     ghost within: { length closed.items ≤ opened },
 }
 
 impl<K: Drop> MemoryDoors<K> {
-    ghost use Rattle.std.specs.Prelude.{◌≡◌};
+    ghost use Rattle.std.specs.Prelude.{◌≡◌, []};
     ghost use Rattle.office_doors.specs.Calls.{numbered};
-    ghost use Rattle.office_doors.specs.DoorsMemory.{entrance_of, openings_of, fresh_entrance};
+    ghost use Rattle.office_doors.specs.DoorsMemory.{entrance_of, openings_of, ports_of};
+    ghost use Rattle.office_doors.specs.DoorsMemory.{fresh_entrance};
 
     /// Doors over these visits. The calls of `open` whose numbers are in `failing`, counted from 0,
     /// fail. Of the doors that are opened the first one's `next` fails at the calls that the first
@@ -40,6 +42,7 @@ impl<K: Drop> MemoryDoors<K> {
     ) -> MemoryDoors<K>
         ensures entrance { entrance_of result ≡ fresh_entrance visits.items }
         ensures calls { openings_of result ≡ numbered failing.items }
+        ensures ports { ports_of result ≡ [] }
     {
         MemoryDoors {
             alloc,
@@ -47,6 +50,7 @@ impl<K: Drop> MemoryDoors<K> {
             failing: failing_next.into(),
             opened: 0,
             closed: Vec::new(alloc),
+            asked: Given::new(),
             calls: Calls::new(failing),
         }
     }
@@ -67,25 +71,27 @@ impl<K: Drop> MemoryDoors<K> {
 }
 
 impl<K: Sink + Send + Drop> Doors for MemoryDoors<K> {
-    ghost use Rattle.std.specs.Prelude.{◌≡◌, ◌≤◌, ◌↔◌, ◌+◌, Some, Err, All, IfOk, OnErr, OnOk};
-    ghost use Rattle.std.specs.Prelude.{Contains, is_some, length, true};
+    ghost use Rattle.std.specs.Prelude.{◌≡◌, ◌≤◌, ◌↔◌, ◌+◌, ◌++◌, ◌∷◌, [], Some, Err, All, IfOk};
+    ghost use Rattle.std.specs.Prelude.{OnErr, OnOk, Contains, is_some, length, true};
     ghost use Rattle.office_outside.specs.Faults.{Rose};
     ghost use Rattle.office_doors.specs.Books.{IsFresh};
     ghost use Rattle.office_doors.specs.Entrances.{Opens, HasOneOpen, Closes, Stays};
     ghost use Rattle.office_doors.specs.Entrances.{joined_count};
     ghost use Rattle.office_doors.specs.Calls.{after_call, after_failure};
     ghost use Rattle.office_doors.specs.DoorMemory.{book_of, calls_of};
-    ghost use Rattle.office_doors.specs.DoorsMemory.{entrance_of, openings_of};
+    ghost use Rattle.office_doors.specs.DoorsMemory.{entrance_of, openings_of, ports_of};
     ghost use Rattle.office_doors.specs.declared.doors.DoorsFault.TheVariants.{Failed};
 
     type One = MemoryDoor<K>;
 
     ghost told = { λ d. Some (entrance_of d) };
 
+    ghost ports = { λ d. ports_of d };
+
     ghost faults = { λ d. (openings_of d).faults };
 
-    /// Fails exactly at the calls that are to fail. There is no port here.
-    fn open(&mut self, _port: u16, workers: usize) -> Result<Vec<MemoryDoor<K>>, DoorsFault>
+    /// Fails exactly at the calls that are to fail. The port is only noted.
+    fn open(&mut self, port: u16, workers: usize) -> Result<Vec<MemoryDoor<K>>, DoorsFault>
         ensures count { IfOk result (λ doors. length doors.items ≡ workers) }
         ensures quiet { IfOk result (λ doors. All (λ d. (calls_of d).faults ≡ 0) doors.items) }
         ensures fresh { IfOk result (λ doors. All (λ d. IsFresh (book_of d)) doors.items) }
@@ -94,6 +100,7 @@ impl<K: Sink + Send + Drop> Doors for MemoryDoors<K> {
         ensures shared { IfOk result (λ doors. Opens (λ d. Some (book_of d)) doors.items
             (entrance_of self.old) (entrance_of self.new)) }
         ensures kept { OnErr result (Stays (entrance_of self.old) (entrance_of self.new)) }
+        ensures port { ports_of self.new ≡ ports_of self.old ++ port ∷ [] }
         ensures later { (openings_of self.old).faults ≤ (openings_of self.new).faults }
         ensures cause { result ≡ Err Failed
             → Rose (openings_of self.old).faults (openings_of self.new).faults }
@@ -101,6 +108,7 @@ impl<K: Sink + Send + Drop> Doors for MemoryDoors<K> {
         ensures failing { result ≡ Err Failed
             ↔ Contains (openings_of self.old).failing (openings_of self.old).calls }
     {
+        self.asked = self.asked.and(&port);
         if self.calls.note().is_err() {
             return Err(DoorsFault::Failed);
         }
@@ -127,6 +135,7 @@ impl<K: Sink + Send + Drop> Doors for MemoryDoors<K> {
     fn close(&mut self, door: MemoryDoor<K>)
         requires open { HasOneOpen (entrance_of self.old) }
         ensures closed { Closes door (entrance_of self.old) (entrance_of self.new) }
+        ensures ports { ports_of self.new ≡ ports_of self.old }
         ensures faults { (openings_of self.new).faults
             ≡ joined_count (openings_of self.old).faults (calls_of door).faults }
     {

@@ -1,11 +1,11 @@
 //! Doors at a port of this machine. They tell nothing of what comes and goes.
-ghost use Rattle.std.specs.Prelude.{◌≡◌, None, length, All, IfOk};
+ghost use Rattle.std.specs.Prelude.{◌≡◌, ◌++◌, ◌∷◌, [], None, length, All, IfOk};
 
 use crate::tcp_door::TcpDoor;
-use crate::{Doors, DoorsFault};
+use crate::{Doors, DoorsFault, Given};
 use std::alloc::Global;
 use std::net::{Ipv4Addr, Net, SocketAddr, SocketAddrV4, TcpListener, TcpStream};
-use std::time;
+use std::{io, time};
 
 /// Doors at a port of 127.0.0.1: only programs of this machine come in. One listener is shared by
 /// all doors, so that a link goes to whichever worker is free.
@@ -13,20 +13,36 @@ use std::time;
 pub struct TcpDoors<R: Drop> {
     rt: R,
     alloc: Global,
+    asked: Given<u16>,
     faults: u64,
 }
 
 impl<R: Drop> TcpDoors<R> {
     /// Doors that touch nothing before they are opened.
     pub fn new(rt: R, alloc: Global) -> TcpDoors<R>
-        ensures { result.faults ≡ 0 }
+        ensures ports { result.asked.items ≡ [] }
+        ensures faults { result.faults ≡ 0 }
     {
         TcpDoors {
             rt,
             alloc,
+            asked: Given::new(),
             faults: 0,
         }
     }
+}
+
+/// Listens at a port of 127.0.0.1. It notes the port of the very address that it asks for.
+fn listen<R: Net<Listener = TcpListener, Stream = TcpStream>>(
+    rt: &R,
+    port: u16,
+    asked: &mut Given<u16>,
+) -> io::Result<TcpListener>
+    ensures { asked.new.items ≡ asked.old.items ++ port ∷ [] }
+{
+    let here = SocketAddr::V4(SocketAddrV4::new(Ipv4Addr::LOCALHOST, port));
+    *asked = asked.and(&here.port());
+    TcpListener::bind(rt, here)
 }
 
 /// Listens at the port, once for all doors.
@@ -35,16 +51,17 @@ fn open_all<R: Net<Listener = TcpListener, Stream = TcpStream> + Copy + Drop>(
     alloc: Global,
     port: u16,
     workers: usize,
+    asked: &mut Given<u16>,
 ) -> Result<Vec<TcpDoor<R>>, DoorsFault>
+    ensures port { asked.new.items ≡ asked.old.items ++ port ∷ [] }
     ensures count { IfOk result (λ doors. length doors.items ≡ workers) }
     ensures quiet { IfOk result (λ doors. All (λ d. d.faults ≡ 0) doors.items) }
 {
+    let Ok(listener) = listen(&rt, port, asked) else {
+        return Err(DoorsFault::Failed);
+    };
     let Ok(mut doors) = Vec::with_capacity(alloc, workers) else {
         return Err(DoorsFault::NoMemory);
-    };
-    let here = SocketAddr::V4(SocketAddrV4::new(Ipv4Addr::LOCALHOST, port));
-    let Ok(listener) = TcpListener::bind(&rt, here) else {
-        return Err(DoorsFault::Failed);
     };
     for _ in 0..workers {
         let Ok(shared) = listener.try_clone() else {
@@ -64,11 +81,13 @@ where
 
     ghost told = { λ d. None };
 
+    ghost ports = { λ d. d.asked.items };
+
     ghost faults = { λ d. d.faults };
 
     /// Fails where the port can't be had, as one that another program listens at.
     fn open(&mut self, port: u16, workers: usize) -> Result<Vec<TcpDoor<R>>, DoorsFault> {
-        match open_all(self.rt, self.alloc, port, workers) {
+        match open_all(self.rt, self.alloc, port, workers, &mut self.asked) {
             Err(DoorsFault::Failed) => {
                 self.faults = self.faults.saturating_add(1);
                 Err(DoorsFault::Failed)
