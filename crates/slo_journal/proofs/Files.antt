@@ -281,6 +281,18 @@ four_same m n xs ys fm fn e =
 pub head_same : (a b : ℕ) (xs ys : List ℕ) → a ∷ xs ≡ b ∷ ys → (a ≡ b) × (xs ≡ ys)
 head_same a b xs ys e = (ap (λ (l : List ℕ). get_or l 0 0) e, ap (drop 1) e)
 
+-- bytes hold one record behind a gate
+pub same_front : (r s xs ys : List ℕ) → IsRecord r → IsRecord s
+    → four (length r) ++ (r ++ xs) ≡ four (length s) ++ (s ++ ys) → (r ≡ s) × (xs ≡ ys)
+same_front r s xs ys a b e =
+    let both = four_same (length r) (length s) (r ++ xs) (s ++ ys) (omega (arith, a.most))
+    (omega (arith, b.most)) e in (
+      sym (take_at r xs (length r) refl) ∙ ap (take (length r)) both.1
+          ∙ take_at s ys (length r) (sym both.0),
+      sym (drop_at r xs (length r) refl) ∙ ap (drop (length r)) both.1
+          ∙ drop_at s ys (length r) (sym both.0),
+    )
+
 -- bytes hold one list of records, and then a closed gate
 one_list : (rs ss : List (List ℕ)) (bytes : List ℕ) → Records Closed rs bytes
     → Records Closed ss bytes → rs ≡ ss
@@ -290,24 +302,24 @@ one_list [] (s ∷ ss) bytes a (gate, rest, gate_is, size, same, more) =
 one_list (r ∷ rs) [] bytes (gate, rest, gate_is, size, same, more) b =
     absurd (gate_is (sym (head_same _ _ _ _ (sym b.1 ∙ same)).0))
 one_list (r ∷ rs) (s ∷ ss) bytes (g, x, gi, rz, e, more) (h, y, hi, sz, f, moar) =
-    let both = four_same (length r) (length s) (r ++ x) (s ++ y) (omega (arith, rz.most))
-    (omega (arith, sz.most)) (head_same _ _ _ _ (sym e ∙ f)).1 in
-    let t : r ≡ s = sym (take_at r x (length r) refl) ∙ ap (take (length r)) both.1
-    ∙ take_at s y (length r) (sym both.0) in
-    let d : x ≡ y = sym (drop_at r x (length r) refl) ∙ ap (drop (length r)) both.1
-    ∙ drop_at s y (length r) (sym both.0) in
-    ap (λ (l : List ℕ). l ∷ rs) t ∙ ap (λ (l : List (List ℕ)). s ∷ l)
-    (one_list rs ss x more (subst (Records Closed ss) (sym d) moar))
+    let both = same_front r s x y rz sz (head_same _ _ _ _ (sym e ∙ f)).1 in
+    ap (λ (l : List ℕ). l ∷ rs) both.0 ∙ ap (λ (l : List (List ℕ)). s ∷ l)
+    (one_list rs ss x more (subst (Records Closed ss) (sym both.1) moar))
+
+-- a file has one origin, and the same bytes behind it
+pub same_header : (P Q : List ℕ → Type 0) (o p : ℕ) (rs ss : List (List ℕ)) (bytes : List ℕ)
+    → (a : Parts P o rs bytes) → (b : Parts Q p ss bytes) → (o ≡ p) × (a.rest ≡ b.rest)
+same_header P Q o p rs ss bytes a b =
+    let e = (head_same _ _ _ _ (sym a.header ∙ b.header)).1 in
+    let f = sym (drop_at (codes "OSLOJRN1") (four o ++ a.rest) 8 refl) ∙ ap (drop 8) e
+    ∙ drop_at (codes "OSLOJRN1") (four p ++ b.rest) 8 refl in
+    four_same o p a.rest b.rest (omega (arith, a.in_range)) (omega (arith, b.in_range)) f
 
 -- bytes stand for one origin and one list at most
 pub one_file : (o p : ℕ) (rs ss : List (List ℕ)) (bytes : List ℕ) → Stands o rs bytes
     → Stands p ss bytes → (o ≡ p) × (rs ≡ ss)
 one_file o p rs ss bytes a b =
-    let e = (head_same _ _ _ _ (sym a.parts.header ∙ b.parts.header)).1 in
-    let f = sym (drop_at (codes "OSLOJRN1") (four o ++ a.parts.rest) 8 refl) ∙ ap (drop 8) e
-    ∙ drop_at (codes "OSLOJRN1") (four p ++ b.parts.rest) 8 refl in
-    let both = four_same o p a.parts.rest b.parts.rest (omega (arith, a.parts.in_range))
-    (omega (arith, b.parts.in_range)) f in (
+    let both = same_header Closed Closed o p rs ss bytes a.parts b.parts in (
       both.0,
       one_list rs ss a.parts.rest a.parts.records_are
           (subst (Records Closed ss) (sym both.1) b.parts.records_are),

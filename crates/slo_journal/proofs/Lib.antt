@@ -4,5 +4,6 @@ pub mod Run
 pub mod Pieces
 pub mod Scanning
 pub mod Walking
+pub mod Damage
 pub mod Histories
 pub mod Fronts

@@ -8,11 +8,11 @@ use Rattle.slo_journal.specs.File.{four, IsRecord, Closed, Records, Parts, Stand
 use Rattle.slo_journal.specs.Scanning.{seen_from, HasRecord}
 use Rattle.slo_journal.specs.Legal.{Anything, Legal, Walks, StopsAt}
 use Rattle.slo_journal.proofs.Files.{SplitFile, splits_file, joins_file, length-file, one_more_file}
-use Rattle.slo_journal.proofs.Files.{weaker_file, four_same, head_same}
+use Rattle.slo_journal.proofs.Files.{weaker_file, same_front, same_header, head_same}
 use Rattle.slo_limits.specs.declared.TheConstants.{MAX_JOURNAL_BYTES}
 
 -- what stands behind the records is what is dropped from the file
-at_place : (P : List ℕ → Type 0) (o : ℕ) (rs : List (List ℕ)) (at : ℕ) (file : List ℕ)
+pub at_place : (P : List ℕ → Type 0) (o : ℕ) (rs : List (List ℕ)) (at : ℕ) (file : List ℕ)
     → at ≡ tail_of rs → (s : SplitFile P o rs file) → drop at file ≡ s.rest
 at_place P o rs at file place s = ap (drop at) s.split
     ∙ drop_at s.front s.rest at (length-file o rs s.front s.are ∙ sym place)
@@ -62,16 +62,11 @@ goes_on [] hs bytes any all = record { more = hs; same = refl; records_are = all
 goes_on (r ∷ rs) [] bytes (gate, rest, gate_is, size, same, more) all =
     absurd (gate_is (sym (head_same _ _ _ _ (sym all.1 ∙ same)).0))
 goes_on (r ∷ rs) (s ∷ ss) bytes (g, x, gi, rz, e, more) (h, y, hi, sz, f, moar) =
-    let both = four_same (length r) (length s) (r ++ x) (s ++ y) (omega (arith, rz.most))
-    (omega (arith, sz.most)) (head_same _ _ _ _ (sym e ∙ f)).1 in
-    let t : r ≡ s = sym (take_at r x (length r) refl) ∙ ap (take (length r)) both.1
-    ∙ take_at s y (length r) (sym both.0) in
-    let d : x ≡ y = sym (drop_at r x (length r) refl) ∙ ap (drop (length r)) both.1
-    ∙ drop_at s y (length r) (sym both.0) in
-    let on = goes_on rs ss x more (subst (Records Closed ss) (sym d) moar) in
+    let both = same_front r s x y rz sz (head_same _ _ _ _ (sym e ∙ f)).1 in
+    let on = goes_on rs ss x more (subst (Records Closed ss) (sym both.1) moar) in
     record {
       more = on.more;
-      same = ap (λ (l : List ℕ). l ∷ ss) (sym t) ∙ ap (λ (l : List (List ℕ)). r ∷ l) on.same;
+      same = ap (λ (l : List ℕ). l ∷ ss) (sym both.0) ∙ ap (λ (l : List (List ℕ)). r ∷ l) on.same;
       records_are = (g, x, gi, rz, e, on.records_are);
     }
 
@@ -84,13 +79,9 @@ pub record FileGoesOn (o : ℕ) (rs hs : List (List ℕ)) (file : List ℕ) : Ty
 file_goes_on : (o p : ℕ) (rs hs : List (List ℕ)) (file : List ℕ) → Parts Anything o rs file
     → Stands p hs file → FileGoesOn o rs hs file
 file_goes_on o p rs hs file a b =
-    let e = (head_same _ _ _ _ (sym a.header ∙ b.parts.header)).1 in
-    let f = sym (drop_at (codes "OSLOJRN1") (four o ++ a.rest) 8 refl) ∙ ap (drop 8) e
-    ∙ drop_at (codes "OSLOJRN1") (four p ++ b.parts.rest) 8 refl in
-    let both = four_same o p a.rest b.parts.rest (omega (arith, a.in_range))
-    (omega (arith, b.parts.in_range)) f in
+    let rest = (same_header Anything Closed o p rs hs file a b.parts).1 in
     let on = goes_on rs hs a.rest a.records_are
-    (subst (Records Closed hs) (sym both.1) b.parts.records_are) in
+    (subst (Records Closed hs) (sym rest) b.parts.records_are) in
     record {
       more = on.more;
       same = on.same;
@@ -104,7 +95,7 @@ file_goes_on o p rs hs file a b =
       };
     }
 
-size-both : (rs ss : List (List ℕ)) → size_of (rs ++ ss) ≡ size_of rs + size_of ss
+pub size-both : (rs ss : List (List ℕ)) → size_of (rs ++ ss) ≡ size_of rs + size_of ss
 size-both [] ss = omega arith
 size-both (r ∷ rs) ss = omega (arith, size-both rs ss)
 
@@ -114,8 +105,8 @@ closed_seen : (room : ℕ) (bytes rest : List ℕ) → 0 < room → bytes ≡ 0 
 closed_seen zero bytes rest few same = absurd (omega (arith, few))
 closed_seen (suc room) bytes rest few same = (take room rest, ap (take (suc room)) same)
 
-record_seen : (room gate : ℕ) (r bytes rest : List ℕ) → 5 + length r ≤ room → gate ≢ 0 → IsRecord r
-    → bytes ≡ gate ∷ (four (length r) ++ (r ++ rest)) → HasRecord r (take room bytes)
+pub record_seen : (room gate : ℕ) (r bytes rest : List ℕ) → 5 + length r ≤ room → gate ≢ 0
+    → IsRecord r → bytes ≡ gate ∷ (four (length r) ++ (r ++ rest)) → HasRecord r (take room bytes)
 record_seen room gate r bytes rest fits is_open size same =
     let front = gate ∷ (four (length r) ++ r) in
     let long : length front ≡ 5 + length r = omega (arith, length-append (four (length r)) r) in
@@ -164,20 +155,20 @@ next_of o rs at file (r ∷ after) place small p =
 
 same_record : (r s x : List ℕ) → HasRecord r x → HasRecord s x → r ≡ s
 same_record r s x a b =
-    let both = four_same (length r) (length s) (r ++ a.rest)
-    (s ++ b.rest) (omega (arith, a.is_record.most)) (omega (arith, b.is_record.most))
-    (head_same _ _ _ _ (sym a.same ∙ b.same)).1 in
-    sym (take_at r a.rest (length r) refl) ∙ ap (take (length r)) both.1
-    ∙ take_at s b.rest (length r) (sym both.0)
+    (same_front r s a.rest b.rest a.is_record b.is_record
+    (head_same _ _ _ _ (sym a.same ∙ b.same)).1).0
 
 module _ (legal : List (List ℕ) → List ℕ → Type 0) (o : ℕ) (rs : List (List ℕ)) (at : ℕ)
-    (file : List ℕ) (w : Walks legal o rs at file) where
+    (file : List ℕ) (w : Walks legal o rs at file) (within : at ≤ MAX_JOURNAL_BYTES) where
   -- nothing stands there
   pub stops : (Closed (seen_from at file) → ⊥)
       → ((r : List ℕ) → HasRecord r (seen_from at file) → ⊥) → StopsAt legal o at file
   stops not_closed no_record = record {
     history = rs;
     before = w;
+    within = within;
+    no_gate = not_closed;
+    no_record = λ r h is_legal. no_record r h;
     none = λ p hs s l.
         let on = file_goes_on o p rs hs file w.parts s in
         ⊎_elim (λ c. not_closed c.0) (λ n. no_record n.0 n.3)
@@ -191,6 +182,10 @@ module _ (legal : List (List ℕ) → List ℕ → Type 0) (o : ℕ) (rs : List 
   illegal_stops r h illegal = record {
     history = rs;
     before = w;
+    within = within;
+    no_gate = λ c. h.is_open (head_same _ _ _ _ (sym h.same ∙ c.1)).0;
+    no_record = λ s there is_legal.
+        illegal (subst (legal rs) (same_record s r (seen_from at file) there h) is_legal);
     none = λ p hs s l.
         let on = file_goes_on o p rs hs file w.parts s in
         ⊎_elim (λ c. h.is_open (head_same _ _ _ _ (sym h.same ∙ c.0.1)).0)

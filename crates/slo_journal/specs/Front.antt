@@ -1,5 +1,6 @@
 -- The front of a file, and what stands there while a journal is made.
 use Rattle.std.specs.Prelude.{◌≡◌, ◌≢◌, ◌⊎◌, ⊤, ℕ, ◌≤◌, List, [], ◌∷◌, ◌++◌, take, drop, codes}
+use Rattle.std.specs.Prelude.{Option, Some}
 use Rattle.office_outside.specs.Disk.{Always, IsQuiet}
 use Rattle.slo_limits.specs.declared.TheConstants.{MAX_MINUTE}
 use Rattle.slo_journal.specs.File.{four, Closed, Stands}
@@ -51,10 +52,12 @@ header_of origin = codes "OSLOJRN1" ++ (four origin ++ 0 ∷ [])
 abbrev pub NoneOrWhole : ℕ → List ℕ → Type 0
 NoneOrWhole origin file = HasNoHeader file ⊎ Stands origin [] file
 
--- Up to some moment of the call no image came up; from it on each image has no header, or stands
--- for the origin and no records.
-pub record IsMaking {D : Type 0} (images : D → List ℕ → Type 0) (moment : D → ℕ)
-    (since : D → ℕ → List ℕ → Type 0) (origin : ℕ) (old new : D) : Type 0 where
+-- The file had no header, where the disk tells it: no journal is touched. Up to some moment of the
+-- call no image came up; from it on each image has no header, or stands for the origin and no
+-- records.
+pub record IsMaking {D : Type 0} (content : D → Option (List ℕ)) (images : D → List ℕ → Type 0)
+    (moment : D → ℕ) (since : D → ℕ → List ℕ → Type 0) (origin : ℕ) (old new : D) : Type 0 where
+  pub none_before : (file : List ℕ) → content old ≡ Some file → HasNoHeader file
   pub between : D
   pub before : IsQuiet images moment since old between
   pub after : Always images moment since between new (NoneOrWhole origin)

@@ -28,15 +28,15 @@ pub fn create<D: Disk + Drop>(disk: D, origin: u32) -> Result<Journal<D>, Create
     ensures made { IfOk result (λ journal. Keeps D.images origin [] journal) }
     ensures none_before { IfOk result (λ _. (file : List ℕ) → D.content disk ≡ Some file
         → HasNoHeader file) }
-    ensures moments { IfOk result (λ journal. IsMaking D.images D.moment D.images_since origin disk
-        journal.disk) }
+    ensures moments { IfOk result (λ journal.
+        IsMaking D.content D.images D.moment D.images_since origin disk journal.disk) }
     ensures already_there { IfErr result (λ e. e.fault ≡ AlreadyThere → (file : List ℕ)
         → D.content disk ≡ Some file → (o : ℕ) × IsHeader o (take 13 file)) }
     ensures untouched { IfErr result (λ e. e.fault ≡ AlreadyThere
         → IsQuiet D.images D.moment D.images_since disk e.disk) }
     ensures fault { IfErr result (λ e. e.fault ≡ DiskFault
         → IsQuiet D.images D.moment D.images_since disk e.disk
-        ⊎ IsMaking D.images D.moment D.images_since origin disk e.disk) }
+        ⊎ IsMaking D.content D.images D.moment D.images_since origin disk e.disk) }
     ensures cause { IfErr result (λ e. e.fault ≡ DiskFault
         → Rose (D.faults disk) (D.faults e.disk)) }
     ensures later { IfOk result (λ journal. D.faults disk ≤ D.faults journal.disk) }

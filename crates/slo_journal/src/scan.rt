@@ -1,18 +1,19 @@
 //! The records of a file, one after another.
 ghost use Rattle.std.specs.Prelude.{◌≡◌, ◌+◌, ◌-◌, ◌<◌, ◌≤◌, [], List, ℕ, length, take, drop, OnOk};
-ghost use Rattle.std.specs.Prelude.{OnErr, IfOk, IsErrOf, None, Some, true, false, Ok, Err};
-ghost use Rattle.office_outside.specs.Disk.{IsQuiet};
+ghost use Rattle.std.specs.Prelude.{OnErr, IfErr, IfOk, IsErrOf, None, Some, true, false, Ok, Err};
+ghost use Rattle.office_outside.specs.Disk.{IsQuiet, OnlyAsRead};
 ghost use Rattle.office_outside.specs.Faults.{Rose};
 ghost use Rattle.slo_limits.specs.declared.TheConstants.{MAX_JOURNAL_BYTES, MAX_RECORD_BYTES};
 ghost use Rattle.slo_journal.specs.File.{IsRecord};
 ghost use Rattle.slo_journal.specs.Scanning.{seen_from, StandsAt, IsHead, IsNext};
+ghost use Rattle.slo_journal.specs.declared.fault.OpenFault;
 ghost use Rattle.slo_journal.specs.declared.fault.ScanFault.TheVariants.{DiskFault, Damaged};
 ghost use Rattle.slo_journal.specs.declared.scan.Head.TheVariants.{Shut, Opens};
 
 use crate::journal::FIRST;
 use crate::numbers::number;
 use crate::window::{Window, reach};
-use crate::{Journal, ScanFault};
+use crate::{Journal, OpenFailed, OpenFault, ScanFault};
 use office_outside::Disk;
 use slo_limits::MAX_RECORD_BYTES;
 use std::alloc::Global;
@@ -108,12 +109,33 @@ impl<D: Disk + Drop> Scan<D> {
         }
     }
 
-    /// The journal behind the records that were read, once `next` has answered false.
-    pub fn ready(self) -> Journal<D>
+    /// The journal behind the records that were read, once `next` has answered false. It syncs
+    /// first, so that nothing rests on bytes of which a stop leaves others than were read.
+    pub fn ready(self) -> Result<Journal<D>, OpenFailed<D>>
         requires { self.at < MAX_JOURNAL_BYTES }
-        ensures { (result.disk ≡ self.disk) × (result.tail ≡ self.at) × (result.doubt ≡ None) }
+        ensures place { IfOk result (λ journal. (journal.tail ≡ self.at)
+            × (journal.doubt ≡ None)) }
+        ensures content { IfOk result (λ journal.
+            D.content journal.disk ≡ D.content self.disk) }
+        ensures only { IfOk result (λ journal.
+            OnlyAsRead (D.content self.disk) (D.images journal.disk)) }
+        ensures quiet { IfOk result (λ journal.
+            IsQuiet D.images D.moment D.images_since self.disk journal.disk) }
+        ensures later { IfOk result (λ journal. D.faults self.disk ≤ D.faults journal.disk) }
+        ensures fault { IfErr result (λ e. e.fault ≡ OpenFault.DiskFault) }
+        ensures quiet_err { IfErr result (λ e.
+            IsQuiet D.images D.moment D.images_since self.disk e.disk) }
+        ensures cause { IfErr result (λ e. Rose (D.faults self.disk) (D.faults e.disk)) }
     {
-        Journal::at_tail(self.disk, self.at)
+        let at = self.at;
+        let mut disk = self.disk;
+        let Ok(()) = disk.sync() else {
+            return Err(OpenFailed {
+                fault: OpenFault::DiskFault,
+                disk,
+            });
+        };
+        Ok(Journal::at_tail(disk, at))
     }
 
     /// The disk.

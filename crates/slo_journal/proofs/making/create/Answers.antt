@@ -24,6 +24,8 @@ returns-in_default-make g c =
       already_there = λ same. absurd (cc same);
       untouched = λ same. absurd (cc same);
       fault = λ same. inr (record {
+        none_before = λ file told. front_none c.in-Ok.front file c.in_default-front.not-Header
+            (c.in-Ok.ensures.front file told);
         between = c.look_at_front.new.disk;
         before = c.look_at_front.ensures.quiet;
         after = c.make.ensures.any_moment free;
@@ -50,6 +52,8 @@ returns g c =
       none_before = λ file told. front_none c.in-Ok.front file c.in_default-front.not-Header
           (c.in-Ok.ensures.front file told);
       moments = record {
+        none_before = λ file told. front_none c.in-Ok.front file c.in_default-front.not-Header
+            (c.in-Ok.ensures.front file told);
         between = c.look_at_front.new.disk;
         before = c.look_at_front.ensures.quiet;
         after = rw (same) (c.make.ensures.any_moment free);
