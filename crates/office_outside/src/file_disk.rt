@@ -1,42 +1,52 @@
 //! A disk over one file of the working folder. It tells nothing of its content.
-ghost use Rattle.std.specs.Prelude.{◌≡◌, ◌≤◌, None, Ok, Err, length, IfOk, IsErr, true};
+ghost use Rattle.std.specs.Prelude.{◌≡◌, ◌≤◌, None, Ok, Err, length, IfOk, IsErr, true, false};
 ghost use Rattle.office_outside.specs.Faults.{HasCause};
 
+use crate::opened_file::{OpenedFile, is_error_output};
 use crate::{Disk, Failed};
-use std::fs::{File, OpenOptions};
+use std::fs::File;
 use std::io;
-use std::os::unix::fs::FileExt;
 use std::rt::Files;
 
-/// The file's name, and the folder in which it lies.
-const NAME: &str = "office.journal";
-
-const FOLDER: &str = ".";
-
-/// The file `office.journal` of the working folder, opened or made at the first call, and locked
-/// until the disk is let go: a second program that opens it is refused.
+/// The file `office.journal` of the working folder, opened at the first call, and locked until the
+/// disk is let go.
 ///
-/// A sync that failed may have lost what was written before it, and a later one wouldn't tell: so
-/// each sync after it fails too, until the file is opened anew.
+/// For changes it is made where it isn't there, and a second program that opens it is refused. For
+/// reading alone nothing is made or written: where there is no file it reads as an empty one, and
+/// beside a program that opened it for changes it is refused.
+///
+/// A sync that failed may have lost what was written before it, and a later one wouldn't tell; and
+/// what is written to a file that was moved away, put in another's place or cut is written for
+/// nobody. So where a sync fails, or the name no longer stands for the file that was opened, the
+/// disk is lost: each call fails from then on, until the file is opened anew.
 #[derive(Drop)]
 pub struct FileDisk<R: Files<File = File> + Drop> {
     rt: R,
-    file: Option<File>,
+    only_reads: bool,
+    file: Option<OpenedFile>,
     lost: bool,
     faults: u64,
 }
 
 impl<R: Files<File = File> + Drop> FileDisk<R> {
-    /// A disk that touches nothing before its first call.
-    pub fn new(rt: R) -> FileDisk<R>
-        ensures { result.faults ≡ 0 }
+    /// A disk to read alone, or one to read and change. It touches nothing before its first call.
+    pub fn new(rt: R, only_reads: bool) -> FileDisk<R>
+        ensures faults { result.faults ≡ 0 }
+        ensures reads { result.only_reads ≡ only_reads }
     {
         FileDisk {
             rt,
+            only_reads,
             file: None,
             lost: false,
             faults: 0,
         }
+    }
+
+    /// Whether the program's error output is the file: no line can be told then without writing
+    /// it there. It opens nothing.
+    pub fn is_error_output(rt: &R) -> bool {
+        is_error_output(rt)
     }
 }
 
@@ -57,35 +67,68 @@ impl<R: Files<File = File> + Drop> Disk for FileDisk<R> {
 
     ghost as_read = { λ _. tt };
 
-    fn read_at(&mut self, at: u64, piece: &mut [u8]) -> Result<usize, Failed> {
-        let outcome = match read_opened(&self.rt, &mut self.file, at, piece) {
-            Ok(count) => Ok(count),
-            Err(_) => Err(Failed),
+    fn read_at(&mut self, at: u64, piece: &mut [u8]) -> Result<usize, Failed>
+        ensures count { IfOk result (λ n. n ≤ length piece.new) }
+        ensures cause { HasCause self.old.faults self.new.faults result }
+
+        ensures lost { self.old.lost ≡ true → IsErr result }
+        ensures stays { (self.new.lost ≡ self.old.lost)
+            × (self.new.only_reads ≡ self.old.only_reads) }
+    {
+        let outcome = if self.lost {
+            Err(Failed)
+        } else {
+            read_opened(&self.rt, self.only_reads, &mut self.file, at, piece)
         };
         counted(outcome, &mut self.faults)
     }
 
-    fn write_at(&mut self, at: u64, piece: &[u8]) -> Result<(), Failed> {
-        let outcome = match write_opened(&self.rt, &mut self.file, at, piece) {
-            Ok(()) => Ok(()),
-            Err(_) => Err(Failed),
+    /// On a disk to read alone it fails.
+    fn write_at(&mut self, at: u64, piece: &[u8]) -> Result<(), Failed>
+        ensures cause { HasCause self.old.faults self.new.faults result }
+
+        ensures lost { self.old.lost ≡ true → (IsErr result) × (self.new.lost ≡ true) }
+        ensures reads { self.old.only_reads ≡ true → IsErr result }
+        ensures stays { self.new.only_reads ≡ self.old.only_reads }
+    {
+        self.lost = self.lost || !stands(&self.rt, &self.file);
+        let outcome = if self.lost || self.only_reads {
+            Err(Failed)
+        } else {
+            write_opened(&self.rt, &mut self.file, at, piece)
         };
         counted(outcome, &mut self.faults)
     }
 
-    fn sync(&mut self) -> Result<(), Failed> {
-        let outcome = match opened(&self.rt, &mut self.file) {
-            Ok(file) => sync_once(file, &mut self.lost),
-            Err(_) => Err(Failed),
-        };
+    fn sync(&mut self) -> Result<(), Failed>
+        ensures cause { HasCause self.old.faults self.new.faults result }
+
+        ensures lost { self.old.lost ≡ true → IsErr result }
+        ensures failed { (IsErr result → self.new.lost ≡ true)
+            × (self.old.lost ≡ true → self.new.lost ≡ true) }
+        ensures stays { self.new.only_reads ≡ self.old.only_reads }
+    {
+        self.lost = self.lost
+            || !stands(&self.rt, &self.file)
+            || sync_opened(&self.rt, self.only_reads, &mut self.file).is_err();
+        let outcome = if self.lost { Err(Failed) } else { Ok(()) };
         counted(outcome, &mut self.faults)
     }
 }
 
 /// The file, which is opened here if it isn't yet.
-fn opened<'a, R: Files<File = File>>(rt: &R, slot: &'a mut Option<File>) -> io::Result<&'a File> {
+fn opened<'a, R: Files<File = File>>(
+    rt: &R,
+    only_reads: bool,
+    slot: &'a mut Option<OpenedFile>,
+) -> io::Result<&'a mut OpenedFile> {
     if slot.is_none() {
-        *slot = Some(open_locked(rt)?);
+        let file = if only_reads {
+            OpenedFile::for_reading(rt)?
+        } else {
+            OpenedFile::for_changes(rt)?
+        };
+        *slot = Some(file);
     }
     match slot {
         Some(file) => Ok(file),
@@ -93,61 +136,59 @@ fn opened<'a, R: Files<File = File>>(rt: &R, slot: &'a mut Option<File>) -> io::
     }
 }
 
-/// Opens or makes the file and locks it. The folder is synced, so that a file just made keeps its
-/// name through a stop.
-fn open_locked<R: Files<File = File>>(rt: &R) -> io::Result<File> {
-    let file = OpenOptions::new()
-        .read(true)
-        .write(true)
-        .create(true)
-        .open(rt, NAME)?;
-    if file.try_lock().is_err() {
-        return Err(io::ErrorKind::WouldBlock.into());
+/// Whether the name still stands for the file, where it was opened.
+fn stands<R: Files<File = File>>(rt: &R, slot: &Option<OpenedFile>) -> bool {
+    match slot {
+        Some(file) => file.stands(rt),
+        None => true,
     }
-    File::open(rt, FOLDER)?.sync_all()?;
-    Ok(file)
 }
 
 fn read_opened<R: Files<File = File>>(
     rt: &R,
-    slot: &mut Option<File>,
+    only_reads: bool,
+    slot: &mut Option<OpenedFile>,
     at: u64,
     piece: &mut [u8],
-) -> io::Result<usize>
+) -> Result<usize, Failed>
     ensures { IfOk result (λ n. n ≤ length piece.new) }
 {
-    let file = opened(rt, slot)?;
-    let mut done = 0;
-    while done < piece.len() {
-        let count = file.read_at(&mut piece[done..], at.saturating_add(done as u64))?;
-        if count == 0 {
-            break;
-        }
-        done += count;
+    match opened(rt, only_reads, slot) {
+        Ok(file) => match file.read(at, piece) {
+            Ok(count) => Ok(count),
+            Err(_) => Err(Failed),
+        },
+        Err(_) => Err(Failed),
     }
-    Ok(done)
 }
 
 fn write_opened<R: Files<File = File>>(
     rt: &R,
-    slot: &mut Option<File>,
+    slot: &mut Option<OpenedFile>,
     at: u64,
     piece: &[u8],
-) -> io::Result<()> {
-    opened(rt, slot)?.write_all_at(piece, at)
+) -> Result<(), Failed> {
+    match opened(rt, false, slot) {
+        Ok(file) => match file.write(at, piece) {
+            Ok(()) => Ok(()),
+            Err(_) => Err(Failed),
+        },
+        Err(_) => Err(Failed),
+    }
 }
 
-/// Syncs the file's bytes, if no sync failed before.
-fn sync_once(file: &File, lost: &mut bool) -> Result<(), Failed>
-    ensures stays { lost.old ≡ true → lost.new ≡ true }
-    ensures lost { lost.old ≡ true → IsErr result }
-    ensures failed { IsErr result → lost.new ≡ true }
-{
-    if *lost || file.sync_data().is_err() {
-        *lost = true;
-        return Err(Failed);
+fn sync_opened<R: Files<File = File>>(
+    rt: &R,
+    only_reads: bool,
+    slot: &mut Option<OpenedFile>,
+) -> Result<(), Failed> {
+    match opened(rt, only_reads, slot) {
+        Ok(file) => match file.sync() {
+            Ok(()) => Ok(()),
+            Err(_) => Err(Failed),
+        },
+        Err(_) => Err(Failed),
     }
-    Ok(())
 }
 
 /// Counts a failure.

@@ -13,10 +13,12 @@ mod source;
 // their forms
 mod adapters;
 mod file_disk;
+mod identity;
 mod memory_clock;
 mod memory_disk;
 mod memory_sink;
 mod memory_source;
+mod opened_file;
 mod plan;
 mod wall_clock;
 
