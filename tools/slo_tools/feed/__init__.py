@@ -1,0 +1,1 @@
+"""The feed: sample rows from Prometheus and ClickHouse, exactly, with revisions."""

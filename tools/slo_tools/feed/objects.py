@@ -1,0 +1,175 @@
+"""The office's objects as the feed's configuration: SLIs with their queries, and DataSources."""
+
+from __future__ import annotations
+
+from collections.abc import Mapping
+from dataclasses import dataclass, field
+from functools import lru_cache
+from typing import Any, Optional
+
+import yaml
+
+from slo_tools.feed.config import Config, IndicatorConfig
+from slo_tools.feed.engine import Form, Indicator
+from slo_tools.office import Office
+
+ENGINES = ("Prometheus", "ClickHouse")
+
+
+class FrozenDetails(dict[str, str]):
+    """Details that can be a part of a key."""
+
+    def __hash__(self) -> int:  # type: ignore[override]
+        return hash(frozenset(self.items()))
+
+
+@dataclass(frozen=True)
+class DataSource:
+    """Where events are: the words of a DataSource's `type` and `connectionDetails`."""
+
+    name: str
+    type: str
+    details: FrozenDetails
+
+
+@dataclass
+class Catalog:
+    """What is fed from where, and what isn't and why."""
+
+    entries: int = 0
+    sources: dict[str, DataSource] = field(default_factory=dict)
+    indicators: list[Indicator] = field(default_factory=list)
+    left_out: dict[str, str] = field(default_factory=dict)
+    slos: list[str] = field(default_factory=list)
+
+
+class LeftOut(Exception):
+    """Why an SLI isn't fed."""
+
+
+def read_catalog(office: Office, config: Config) -> Catalog:
+    """Ask the office for its DataSources and SLIs."""
+    catalog = Catalog()
+    with office.kept_link():
+        catalog.entries, names = office.objects()
+        for name in names:
+            if name.kind == "DataSource":
+                document = _document(office.object_text(name.kind, name.name))
+                catalog.sources[name.name] = data_source(name.name, document)
+            elif name.kind == "SLO":
+                catalog.slos.append(name.name)
+        for name in names:
+            if name.kind == "SLI" and not config.indicator(name.name).skip:
+                document = _document(office.object_text(name.kind, name.name))
+                try:
+                    made = config.indicator(name.name)
+                    catalog.indicators.append(
+                        indicator_of(name.name, document, made, catalog.sources)
+                    )
+                except LeftOut as why:
+                    catalog.left_out[name.name] = str(why)
+    return catalog
+
+
+# All scalars stay texts: the office's numbers have no binary form.
+_LOADER = getattr(yaml, "CBaseLoader", yaml.BaseLoader)
+
+
+@lru_cache(maxsize=4096)
+def _document(text: str) -> Mapping[str, Any]:
+    document = yaml.load(text, Loader=_LOADER)
+    return document if isinstance(document, dict) else {}
+
+
+def data_source(name: str, document: Mapping[str, Any]) -> DataSource:
+    spec = _map(document.get("spec"))
+    details = _map(spec.get("connectionDetails"))
+    texts = {key: value for key, value in details.items() if isinstance(value, str)}
+    return DataSource(name, str(spec.get("type", "")), FrozenDetails(texts))
+
+
+def indicator_of(
+    sli: str,
+    document: Mapping[str, Any],
+    config: IndicatorConfig,
+    sources: Mapping[str, DataSource],
+) -> Indicator:
+    """An SLI's queries with what the configuration says of its rows. Raises LeftOut."""
+    spec = _map(document.get("spec"))
+    ratio = _map(spec.get("ratioMetric"))
+    if not ratio:
+        metrics, form = [_metric(spec.get("thresholdMetric"))], Form.VALUE
+    elif "raw" in ratio:
+        metrics, form = [_metric(ratio["raw"])], Form.VALUE
+    else:
+        part = ratio["good"] if "good" in ratio else ratio.get("bad")
+        metrics = [_metric(part), _metric(ratio.get("total"))]
+        is_counter = str(ratio.get("counter", "true")).lower() == "true"
+        form = Form.COUNTERS if is_counter else Form.COUNTS
+    source = _source(metrics, config, sources)
+    if any(metric.query is None for metric in metrics):
+        raise LeftOut("a metricSource has no spec.query")
+    label, name = _rows_source(config, source)
+    return Indicator(
+        sli=sli,
+        engine=source.name,
+        form=form,
+        part=metrics[0].query or "",
+        total=metrics[1].query if form is not Form.VALUE else metrics[0].where,
+        label=label,
+        name=name,
+        every=config.every,
+        look_back=config.look_back,
+        gap=config.gap,
+        ratio="raw" in ratio,
+    )
+
+
+@dataclass(frozen=True)
+class _Metric:
+    engine: Optional[str]
+    query: Optional[str]
+    where: Optional[str]
+
+
+def _metric(node: Any) -> _Metric:
+    source = _map(_map(node).get("metricSource"))
+    spec = _map(source.get("spec"))
+    return _Metric(
+        source.get("metricSourceRef") or None, _text(spec.get("query")), _text(spec.get("where"))
+    )
+
+
+def _text(node: Any) -> Optional[str]:
+    return (node.strip() or None) if isinstance(node, str) else None
+
+
+def _source(
+    metrics: list[_Metric], config: IndicatorConfig, sources: Mapping[str, DataSource]
+) -> DataSource:
+    names = {metric.engine or config.engine for metric in metrics}
+    if len(names) > 1:
+        raise LeftOut("its queries are of several DataSources")
+    name = names.pop()
+    if name is None:
+        raise LeftOut("its queries name no metricSourceRef")
+    source = sources.get(name)
+    if source is None:
+        raise LeftOut(f"there is no DataSource {name}")
+    if source.type not in ENGINES:
+        raise LeftOut(f"DataSource {name} is of type {source.type}")
+    return source
+
+
+def _rows_source(config: IndicatorConfig, source: DataSource) -> tuple[Optional[str], str]:
+    """The label whose values name the sources, None for the sum over all, and the sum's name."""
+    if config.name is not None:
+        return None, config.name
+    usual = source.details.get("source")
+    if usual is None and source.type == "Prometheus":
+        usual = "instance"
+    return config.label or usual, "all"
+
+
+def _map(node: Any) -> Mapping[str, Any]:
+    return node if isinstance(node, dict) else {}

@@ -1,0 +1,316 @@
+"""A round of the feed: ask each engine for the minutes that are due, send what differs."""
+
+from __future__ import annotations
+
+import time
+from collections.abc import Callable, Iterator, Mapping
+from dataclasses import dataclass, field
+from enum import IntEnum
+from typing import Optional
+
+from slo_tools.clock import MINUTE, Clock, date_of, minute_of
+from slo_tools.feed.cells import Amounts
+from slo_tools.feed.config import Config
+from slo_tools.feed.engine import Answer, Engine, EngineError, Indicator
+from slo_tools.feed.objects import Catalog, DataSource, read_catalog
+from slo_tools.feed.revisions import pending, without_old
+from slo_tools.feed.sending import Sender, Sent
+from slo_tools.feed.state import State, write_state
+from slo_tools.feed.watch import LOG, Watch
+from slo_tools.office import ACCEPTED, CELLS, Full, NoAnswer, NotFound, Office, OfficeError
+
+CLOCKS_APART = 60.0
+# Minutes that are read and sent before the state is written again.
+SLICE = 720
+
+
+class End(IntEnum):
+    """How a round ended; a greater one is the worse. These are the program's exit statuses."""
+
+    DONE = 0
+    LEFT_OUT = 1
+    OFFICE = 3
+    ENGINE = 4
+    CLOCK = 5
+    FULL = 6
+    STATE = 7
+
+
+@dataclass(frozen=True)
+class Due:
+    """The minutes [begin, end) of an indicator that a round reads."""
+
+    indicator: Indicator
+    begin: int
+    end: int
+
+
+def due(
+    indicator: Indicator, through: Optional[int], closed: int, first: int, origin: Optional[int]
+) -> Optional[Due]:
+    """What is read of an indicator where `closed` is the newest closed minute: what is behind
+    `through`, and the look-back before it, however long ago that was read; `first` minutes where
+    nothing was read yet. None where no stretch has ended since."""
+    newest = indicator.newest(closed)
+    if through is not None and through >= newest:
+        return None
+    if through is None:
+        begin = newest - first + 1
+    else:
+        begin = through - indicator.look_back + 1
+    begin = max(begin, origin or 0, 0)
+    # A stretch is read whole, also where it begins before the first minute asked for.
+    begin -= begin % indicator.every
+    return Due(indicator, begin, newest + 1) if begin <= newest else None
+
+
+def slices(dues: list[Due]) -> Iterator[dict[Indicator, tuple[int, int]]]:
+    """The minutes that are due, cut at the same moments, the oldest first."""
+    place = min((d.begin for d in dues), default=0)
+    last = max((d.end for d in dues), default=0)
+    while place < last:
+        stop = place - place % SLICE + SLICE
+        asked = {
+            d.indicator: (max(d.begin, place), min(d.end, stop))
+            for d in dues
+            if max(d.begin, place) < min(d.end, stop)
+        }
+        if asked:
+            yield asked
+        place = stop
+
+
+@dataclass
+class Feed:
+    """A feed with its office, its engines and what it remembers."""
+
+    config: Config
+    office: Office
+    engine_of: Callable[[DataSource], Engine]
+    state: State
+    clock: Clock
+    watch: Watch
+    save: bool = True
+    _catalog: Optional[Catalog] = field(default=None, init=False)
+    _catalog_at: float = field(default=0.0, init=False)
+    _engines: dict[DataSource, Engine] = field(default_factory=dict, init=False)
+    _end: End = field(default=End.DONE, init=False)
+
+    def round(self, begin: Optional[int] = None) -> End:
+        """Read and send what is due, or all from the minute `begin` on."""
+        self._end = End.DONE
+        started = time.monotonic()
+        try:
+            catalog = self._objects()
+            if self._office_can_be_sent_to(catalog):
+                for source in catalog.sources.values():
+                    indicators = [i for i in catalog.indicators if i.engine == source.name]
+                    if indicators:
+                        self._feed_from(source, indicators, begin)
+        except Full as refusal:
+            self._ended(End.FULL, "full", f"the office is full ({refusal}): make room, or begin "
+                        "another office; nothing more is sent")
+        except NoAnswer as fault:
+            self._ended(End.OFFICE, "office", f"the office gave no answer ({fault}): start it")
+        except OfficeError as fault:
+            self._ended(End.OFFICE, "office", f"the office refused what isn't about a row: {fault}")
+        now = self.clock.now()
+        self._tell_room()
+        self.watch.round(self._end.name.lower(), time.monotonic() - started, now)
+        return self._end
+
+    def behind(self) -> float:
+        """How many seconds behind the end of a minute the next round begins."""
+        waits = []
+        for engine in self._engines.values():
+            try:
+                waits.append(engine.settled())
+            except EngineError:
+                continue
+        return max(waits, default=15.0) % MINUTE
+
+    def _ended(self, end: End, key: str, text: str) -> None:
+        self._end = max(self._end, end)
+        self.watch.notes.tell(key, text)
+
+    # The office
+
+    def _objects(self) -> Catalog:
+        now = self.clock.now()
+        age = now - self._catalog_at
+        if self._catalog is None or not 0 <= age < self.config.reread_objects * MINUTE:
+            self._catalog = read_catalog(self.office, self.config)
+            self._catalog_at = now
+            self._forget_if_restored(self._catalog.entries)
+        for sli, why in self._catalog.left_out.items():
+            LOG.debug("%s isn't fed: %s", sli, why)
+        return self._catalog
+
+    def _forget_if_restored(self, entries: int) -> None:
+        if entries < self.state.entries:
+            self.watch.notes.tell(
+                "restored",
+                f"the office has {entries} entries and had {self.state.entries}: it was taken "
+                "back to an older journal. Run slo-feed --from the day of that journal",
+            )
+            self.state.kept.clear()
+            self.state.through.clear()
+        self.state.entries = entries
+
+    def _office_can_be_sent_to(self, catalog: Catalog) -> bool:
+        """Whether the office's moment is near this clock: a batch keeps it there for good."""
+        if not catalog.slos:
+            return True
+        try:
+            moment = self.office.budgets(catalog.slos[0]).at
+        except NotFound as refusal:
+            if "at" not in refusal.members:
+                return True
+            moment = refusal.number("at")
+        here = minute_of(self.clock.now())
+        if abs(moment - here) <= 1:
+            return True
+        self._ended(
+            End.CLOCK,
+            "moment",
+            f"the office's moment is {date_of(moment)} and this clock reads {date_of(here)}: "
+            "set the clocks; nothing is sent",
+        )
+        return False
+
+    # An engine
+
+    def _feed_from(
+        self, source: DataSource, indicators: list[Indicator], begin: Optional[int]
+    ) -> None:
+        try:
+            engine = self._engine(source)
+            closed = self._closed(source.name, engine)
+            if closed is None:
+                return
+            dues = self._dues(indicators, closed, begin)
+            mark = self.state.marks.get(source.name)
+            for number, asked in enumerate(slices(dues)):
+                answer = engine.read(asked, mark if number == 0 else None)
+                if number > 0:
+                    # What comes late during the later slices is looked for from the first on.
+                    answer.mark = None
+                self._take(source.name, asked, answer)
+        except EngineError as fault:
+            self._ended(End.ENGINE, f"engine {source.name}", f"{source.name} gave no answer "
+                        f"({fault}): start it, or mend its DataSource")
+
+    def _engine(self, source: DataSource) -> Engine:
+        if source not in self._engines:
+            self._engines[source] = self.engine_of(source)
+        return self._engines[source]
+
+    def _closed(self, name: str, engine: Engine) -> Optional[int]:
+        """The newest minute that can be asked for, None where the clocks differ."""
+        here = self.clock.now()
+        there = engine.now()
+        self.watch.clock(name, there - here)
+        if abs(there - here) > CLOCKS_APART:
+            self._ended(
+                End.CLOCK,
+                f"clock {name}",
+                f"the clock of {name} is {there - here:+.0f} s from this one: set the clocks; "
+                "nothing is sent",
+            )
+            return None
+        return minute_of(min(here, there) - engine.settled()) - 1
+
+    def _dues(self, indicators: list[Indicator], closed: int, begin: Optional[int]) -> list[Due]:
+        dues = []
+        for indicator in indicators:
+            through = self.state.through.get(indicator.sli)
+            first = self.config.first
+            if begin is not None:
+                through, first = None, max(indicator.newest(closed) - begin + 1, 0)
+            one = due(indicator, through, closed, first, self.state.origin)
+            if one is not None:
+                dues.append(one)
+        return dues
+
+    def _take(
+        self, name: str, asked: Mapping[Indicator, tuple[int, int]], answer: Answer
+    ) -> None:
+        """Send what an engine said, and remember what became of it, also where that broke off."""
+        amounts: Amounts = {}
+        for sli, reading in answer.readings.items():
+            amounts.update(reading.amounts)
+            for fault in reading.faults:
+                self._ended(End.LEFT_OUT, f"{sli} {fault}", f"{sli}: {fault}")
+        sender = Sender(self.office)
+        try:
+            with self.office.kept_link():
+                sender.send(pending(self.state.kept, amounts))
+        finally:
+            self._remember(name, asked, answer, sender.sent)
+
+    def _remember(
+        self,
+        name: str,
+        asked: Mapping[Indicator, tuple[int, int]],
+        answer: Answer,
+        sent: Sent,
+    ) -> None:
+        state = self.state
+        state.kept.update(sent.kept)
+        state.made += sent.counts["new"]
+        state.accepted += sent.counts["new"] + sent.counts["newer"]
+        if sent.entry is not None:
+            state.entries = max(state.entries, sent.entry + 1)
+        if sent.origin is not None:
+            state.origin = sent.origin
+        if sent.fully_sent:
+            self._move_on(asked, sent)
+            if answer.mark is not None:
+                state.marks[name] = answer.mark
+        self.watch.rows(sent.counts)
+        self._tell_dropped(sent)
+        if self.save:
+            self._write()
+
+    def _move_on(self, asked: Mapping[Indicator, tuple[int, int]], sent: Sent) -> None:
+        now = self.clock.now()
+        first = {}
+        for indicator, (_, end) in asked.items():
+            newest = end - 1 if sent.moment is None else min(end - 1, sent.moment - 1)
+            newest = max(newest, self.state.through.get(indicator.sli, 0))
+            self.state.through[indicator.sli] = newest
+            first[indicator.sli] = newest - indicator.look_back - indicator.every
+            self.watch.newest(indicator.sli, newest, now)
+        self.state.kept = without_old(self.state.kept, first.items())
+
+    def _tell_dropped(self, sent: Sent) -> None:
+        for why, row in sent.dropped:
+            cell = row.cell
+            if why == "early":
+                text = (f"rows before the office's origin {date_of(sent.origin or 0)} were left "
+                        "out: an office with an earlier origin takes them")
+                self._ended(End.LEFT_OUT, "early", text)
+                continue
+            if why == "unknown_sli":
+                self._catalog = None
+            place = f"{cell.sli} {cell.source} {date_of(cell.minute)}"
+            self._ended(End.LEFT_OUT, f"{why} {cell.sli}", f"{place}: refused, {why}")
+
+    def _write(self) -> None:
+        try:
+            write_state(self.config.state, self.state)
+        except OSError as fault:
+            self._ended(End.STATE, "state", f"{self.config.state}: {fault.strerror}: make room; "
+                        "the feed goes on without it")
+
+    def _tell_room(self) -> None:
+        """How many cells are left: as the office says, else by the rows that this feed made."""
+        if self._catalog is None:
+            return
+        left = CELLS - self.state.made
+        left = min(left, ACCEPTED - self.state.accepted)
+        pace = sum(1440 / i.every * self._sources(i) for i in self._catalog.indicators)
+        self.watch.room(left, left / pace if pace else float("inf"))
+
+    def _sources(self, indicator: Indicator) -> int:
+        return len({c.source for c in self.state.kept if c.sli == indicator.sli}) or 1
