@@ -2,6 +2,7 @@
 
 from __future__ import annotations
 
+import logging
 import os
 import shutil
 import signal
@@ -16,7 +17,7 @@ from collections.abc import Callable, Iterable, Iterator, Mapping
 from dataclasses import dataclass, field
 from http.server import BaseHTTPRequestHandler, ThreadingHTTPServer
 from pathlib import Path
-from typing import Optional
+from typing import Any, Optional
 
 TOOLS = Path(__file__).resolve().parent.parent
 REPOSITORY = TOOLS.parent
@@ -190,6 +191,72 @@ class PrometheusServer(Child):
         )
 
 
+CLICKHOUSE_FILE = """<yandex>
+  <logger><level>warning</level><log>{folder}/server.log</log>
+    <errorlog>{folder}/error.log</errorlog></logger>
+  <listen_host>127.0.0.1</listen_host>
+  <http_port>{http}</http_port><tcp_port>{port}</tcp_port>
+  <interserver_http_port>{between}</interserver_http_port>
+  <path>{folder}/data/</path><tmp_path>{folder}/tmp/</tmp_path>
+  <user_files_path>{folder}/files/</user_files_path>
+  <format_schema_path>{folder}/schemas/</format_schema_path>
+  <mark_cache_size>268435456</mark_cache_size>
+  <users_config>{folder}/users.xml</users_config>
+  <default_profile>default</default_profile><default_database>default</default_database>
+  <timezone>UTC</timezone>
+</yandex>
+"""
+CLICKHOUSE_USERS = """<yandex>
+  <profiles><default><max_threads>2</max_threads></default>
+    <readonly><readonly>1</readonly><max_threads>2</max_threads></readonly></profiles>
+  <users>
+    <default><password></password><networks><ip>127.0.0.1</ip></networks>
+      <profile>default</profile><quota>default</quota></default>
+    <feed><password>counts</password><networks><ip>127.0.0.1</ip></networks>
+      <profile>readonly</profile><quota>default</quota></feed>
+  </users>
+  <quotas><default/></quotas>
+</yandex>
+"""
+
+
+@dataclass
+class ClickHouseServer(Child):
+    """A ClickHouse with a user `feed` that may only read."""
+
+    folder: Path
+    port: int = field(default_factory=free_port)
+
+    def start(self) -> ClickHouseServer:
+        for name in ("data", "tmp", "files", "schemas"):
+            (self.folder / name).mkdir(parents=True, exist_ok=True)
+        file = self.folder / "config.xml"
+        ports = {"port": self.port, "http": free_port(), "between": free_port()}
+        file.write_text(CLICKHOUSE_FILE.format(folder=self.folder, **ports))
+        (self.folder / "users.xml").write_text(CLICKHOUSE_USERS)
+        server = installed("clickhouse-server") or "clickhouse-server"
+        self._start([server, f"--config-file={file}"], self.folder, self.folder / "log")
+        until(self._answers, 60, "ClickHouse doesn't answer")
+        return self
+
+    def _answers(self) -> bool:
+        try:
+            return bool(self.run("SELECT 1") == [(1,)])
+        except Exception:
+            return False
+
+    def run(self, query: str, rows: Optional[list[Any]] = None) -> Any:
+        """Run a query as the user who may write."""
+        from clickhouse_driver import Client
+
+        logging.getLogger("clickhouse_driver").setLevel(logging.CRITICAL)
+        client = Client("127.0.0.1", port=self.port, send_receive_timeout=600)
+        try:
+            return client.execute(query, rows) if rows is not None else client.execute(query)
+        finally:
+            client.disconnect()
+
+
 def current_rows(journal: Path) -> dict[tuple[str, str, int], str]:
     """The rows that count in a journal, by a reader of its own: each batch was kept as it was
     sent, and of each cell the greatest revision counts (docs/journal.md, docs/rules.md)."""
@@ -201,10 +268,16 @@ def current_rows(journal: Path) -> dict[tuple[str, str, int], str]:
     return {cell: amount for cell, (_, amount) in best.items()}
 
 
+def differences(held: Mapping[Any, str], expected: Mapping[Any, str]) -> list[str]:
+    """The first cells that aren't as they have to be."""
+    cells = sorted(c for c in {*held, *expected} if held.get(c) != expected.get(c))
+    return [f"{c}: {held.get(c)} held, {expected.get(c)} expected" for c in cells[:10]]
+
+
 def journal_rows(journal: Path) -> list[tuple[str, str, int, int, str]]:
     """All rows of a journal's batches, in the order in which they were accepted."""
     content = journal.read_bytes()
-    rows = []
+    rows: list[tuple[str, str, int, int, str]] = []
     place = 13
     while content[place] != 0:
         length = int.from_bytes(content[place + 1 : place + 5], "big")

@@ -2,6 +2,7 @@
 
 from __future__ import annotations
 
+import logging
 from collections.abc import Iterable, Mapping, Sequence
 from dataclasses import dataclass, field
 from decimal import Decimal
@@ -47,6 +48,8 @@ class ClickHouseClient:
         from clickhouse_driver import Client, errors
 
         if self._client is None:
+            # It writes a traceback for each connection that fails; the fault is told once here.
+            logging.getLogger("clickhouse_driver").setLevel(logging.CRITICAL)
             self._client = Client(
                 self.host,
                 port=self.port,
@@ -116,16 +119,16 @@ class ClickHouse:
         return answer
 
     def _late(self, asked: Mapping[Indicator, Span], mark: Optional[float]) -> list[int]:
-        """The minutes before those asked for of which events came since the mark."""
+        """The minutes of which events came since the mark."""
         if mark is None or self.table.inserted is None:
             return []
-        begin = min((span[0] for span in asked.values()), default=0)
-        since = max(begin - self.table.late_days * DAY, 0)
+        end = max((span[1] for span in asked.values()), default=0)
+        since = max(end - self.table.late_days * DAY, 0)
         query = (
             f"SELECT DISTINCT intDiv(toUnixTimestamp({self.table.time}), {MINUTE}) AS minute "
             f"FROM {self.table.name} "
             f"WHERE {self.table.time} >= toDateTime({since * MINUTE}) "
-            f"AND {self.table.time} < toDateTime({begin * MINUTE}) "
+            f"AND {self.table.time} < toDateTime({end * MINUTE}) "
             f"AND {self.table.inserted} >= toDateTime({max(int(mark), 0)})"
         )
         return sorted(int(row[0]) for row in self.client.rows(query))
@@ -153,8 +156,7 @@ def aggregate_query(table: Table, group: Sequence[Indicator], spans: Sequence[Sp
     columns = []
     for indicator in group:
         if indicator.form is Form.VALUE:
-            where = indicator.total or "1"
-            columns += [f"toString({indicator.part})", f"countIf({where})"]
+            columns += [f"toString({indicator.part})", "count()"]
         else:
             columns += [f"countIf({indicator.part})", f"countIf({indicator.total})"]
     times = " OR ".join(
@@ -163,8 +165,13 @@ def aggregate_query(table: Table, group: Sequence[Indicator], spans: Sequence[Sp
     )
     return (
         f"SELECT {stretch} AS slo_minute, {source} AS slo_source, {', '.join(columns)} "
-        f"FROM {table.name} WHERE {times} GROUP BY slo_minute, slo_source"
+        f"FROM {table.name} WHERE ({times}){_condition(group)} GROUP BY slo_minute, slo_source"
     )
+
+
+def _condition(group: Sequence[Indicator]) -> str:
+    first = group[0]
+    return f" AND ({first.total})" if first.form is Form.VALUE and first.total else ""
 
 
 def merged(spans: Iterable[Span]) -> list[Span]:

@@ -13,13 +13,13 @@ _NAME = r"[A-Za-z_:][A-Za-z0-9_:]*"
 _LABEL = r"[A-Za-z_][A-Za-z0-9_]*"
 _TEXT = r'"(?:[^"\\\n]|\\.)*"|' + r"'(?:[^'\\\n]|\\.)*'|`[^`]*`"
 _TOKEN = re.compile(
-    rf"(?:\s|#[^\n]*)*(?:(?P<name>{_NAME})|(?P<text>{_TEXT})|(?P<sign>!=|=~|!~|[=(){{}},+]))", re.DOTALL
+    rf"(?:\s|#[^\n]*)*(?:(?P<name>{_NAME})|(?P<text>{_TEXT})|(?P<sign>!=|=~|!~|.))", re.DOTALL
 )
 _END = re.compile(r"(?:\s|#[^\n]*)*\Z")
 
 
 class QueryFault(ValueError):
-    """A query that isn't of the form; the text says why."""
+    """A query that isn't a sum of selectors; the text says why."""
 
 
 def selectors(query: str) -> list[str]:
@@ -47,7 +47,7 @@ def _tokens(query: str) -> list[Token]:
     while _END.match(query, place) is None:
         match = _TOKEN.match(query, place)
         if match is None or match.lastgroup is None:
-            raise QueryFault(f"{query[place:].strip()[:20]!r} has no place in a query of counters")
+            raise QueryFault("it can't be read")
         tokens.append((match.lastgroup, match.group(match.lastgroup)))
         place = match.end()
     return tokens
@@ -92,7 +92,7 @@ class _Reader:
         if self._peek() != "{":
             name = self._kind("name", "a metric")
             if self._peek() == "(":
-                raise QueryFault(f"{name}(..) is no counter: name the counter's own series")
+                raise QueryFault(f"{name}(..) is no counter; name the counter's own series")
         if not self.takes("{"):
             return name
         matchers = []

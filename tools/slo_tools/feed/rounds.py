@@ -54,14 +54,22 @@ def due(
     newest = indicator.newest(closed)
     if through is not None and through >= newest:
         return None
-    if through is None:
-        begin = newest - first + 1
-    else:
-        begin = through - indicator.look_back + 1
+    begin = newest - first + 1 if through is None else _first_again(indicator, through)
     begin = max(begin, origin or 0, 0)
     # A stretch is read whole, also where it begins before the first minute asked for.
     begin -= begin % indicator.every
     return Due(indicator, begin, newest + 1) if begin <= newest else None
+
+
+def _first_again(indicator: Indicator, through: int) -> int:
+    """The first minute that is read again where all up to `through` were read."""
+    begin = max(through - indicator.look_back + 1, 0)
+    return begin - begin % indicator.every
+
+
+def _nothing_of(indicator: Indicator, closed: int) -> tuple[int, int]:
+    end = indicator.newest(closed) + 1
+    return end, end
 
 
 def slices(dues: list[Due]) -> Iterator[dict[Indicator, tuple[int, int]]]:
@@ -191,6 +199,9 @@ class Feed:
             dues = self._dues(indicators, closed, begin)
             mark = self.state.marks.get(source.name)
             for number, asked in enumerate(slices(dues)):
+                if number == 0 and mark is not None:
+                    # Late events concern those too whose stretch hasn't ended since the last run.
+                    asked = {**{i: _nothing_of(i, closed) for i in indicators}, **asked}
                 answer = engine.read(asked, mark if number == 0 else None)
                 if number > 0:
                     # What comes late during the later slices is looked for from the first on.
@@ -275,11 +286,13 @@ class Feed:
     def _move_on(self, asked: Mapping[Indicator, tuple[int, int]], sent: Sent) -> None:
         now = self.clock.now()
         first = {}
-        for indicator, (_, end) in asked.items():
+        for indicator, (begin, end) in asked.items():
+            if begin == end:
+                continue
             newest = end - 1 if sent.moment is None else min(end - 1, sent.moment - 1)
             newest = max(newest, self.state.through.get(indicator.sli, 0))
             self.state.through[indicator.sli] = newest
-            first[indicator.sli] = newest - indicator.look_back - indicator.every
+            first[indicator.sli] = _first_again(indicator, newest)
             self.watch.newest(indicator.sli, newest, now)
         self.state.kept = without_old(self.state.kept, first.items())
 

@@ -1,0 +1,241 @@
+"""A real ClickHouse and a real office: events, late ones, stops, and both feeds at once."""
+
+from __future__ import annotations
+
+import random
+import tempfile
+import threading
+import time
+import unittest
+from collections import defaultdict
+from dataclasses import dataclass
+from datetime import datetime, timedelta
+from decimal import Decimal
+from pathlib import Path
+from typing import Any
+
+import support
+from support import ClickHouseServer, OfficeServer, PrometheusServer
+
+LACKS = [
+    name
+    for name, found in (
+        ("the office's program", support.program()),
+        ("clickhouse-server", support.installed("clickhouse-server")),
+    )
+    if found is None
+]
+NEEDED = unittest.skipIf(LACKS, f"not installed: {', '.join(LACKS)}")
+
+TABLE = """
+CREATE TABLE events (at DateTime, came DateTime DEFAULT now(), host String, service String,
+  status UInt16, seconds Float64)
+ENGINE = MergeTree PARTITION BY toDate(at) ORDER BY (service, at)
+"""
+SLOW = """---
+apiVersion: openslo/v1
+kind: SLI
+metadata:
+  name: slow
+spec:
+  thresholdMetric:
+    metricSource:
+      metricSourceRef: events
+      spec:
+        query: max(seconds)
+        where: service = 'shop'
+"""
+Rows = dict[tuple[str, str, int], str]
+
+
+@dataclass(frozen=True)
+class Event:
+    """An event as the table has it."""
+
+    at: int
+    host: str
+    service: str
+    status: int
+    seconds: float
+
+
+def events(begin: int, end: int, count: int, seed: int) -> list[Event]:
+    chance = random.Random(seed)
+    return [
+        Event(
+            chance.randrange(begin * 60, end * 60),
+            chance.choice(["web:1", "web:2", "api"]),
+            chance.choice(["shop", "shop", "desk"]),
+            chance.choice([200] * 20 + [404, 500, 503]),
+            chance.randrange(1, 4000) / 1000,
+        )
+        for _ in range(count)
+    ]
+
+
+def insert(server: ClickHouseServer, added: list[Event]) -> None:
+    epoch = datetime(1970, 1, 1)
+    rows = [
+        (epoch + timedelta(seconds=e.at), e.host, e.service, e.status, e.seconds) for e in added
+    ]
+    server.run("INSERT INTO events (at, host, service, status, seconds) VALUES", rows)
+
+
+def plainly(held: list[Event], closed: int) -> Rows:
+    """The rows of all events of minutes before `closed`, by a count of each event by itself."""
+    counts: dict[Any, list[int]] = defaultdict(lambda: [0, 0])
+    waits: dict[Any, list[float]] = defaultdict(list)
+    for event in held:
+        minute = event.at // 60
+        host = event.host.replace(":", "_")
+        five = minute // 5 * 5 + 4
+        if event.service == "shop":
+            shop = counts["shop", host, minute]
+            shop[0] += event.status < 500
+            shop[1] += 1
+            waits["slow", host, minute].append(event.seconds)
+        fives = counts["fives", "everyone", five]
+        fives[0] += event.status >= 500
+        fives[1] += 1
+    rows = {cell: f"{part},{total}" for cell, (part, total) in counts.items()}
+    for cell, seconds in waits.items():
+        rows[cell] = format(Decimal(str(max(seconds))).normalize(), "f")
+    return {cell: row for cell, row in rows.items() if cell[2] < closed}
+
+
+def objects(port: int) -> bytes:
+    details = {"host": "127.0.0.1", "port": port, "table": "events", "time": "at"}
+    source = support.data_source(
+        "events", "ClickHouse", **details, inserted="came", source="host"
+    )
+    shop = support.sli("shop", "events", "service = ''shop'' AND status < 500",
+                       "service = ''shop''")
+    fives = support.sli("fives", "events", "status >= 500", "1", word="bad")
+    return (source + shop + fives + SLOW).encode()
+
+
+SETTINGS = """first = 300
+[engine.events]
+user = "feed"
+password_file = "password"
+wait = 1
+[indicator.fives]
+sum = "everyone"
+every = 5
+"""
+
+
+@NEEDED
+class ClickHouseTest(unittest.TestCase):
+    def setUp(self) -> None:
+        self.folder = Path(self.enterContext(tempfile.TemporaryDirectory()))
+        self.clickhouse = ClickHouseServer(self.folder / "clickhouse")
+        self.addCleanup(self.clickhouse.kill)
+        self.clickhouse.start().run(TABLE)
+        self.now = int(time.time()) // 60
+        self.start = self.now - 240
+        self.server = OfficeServer(self.folder / "office", self.start - 10)
+        self.addCleanup(self.server.kill)
+        self.server.start().client().define(objects(self.clickhouse.port))
+        self.config = support.config_file(self.folder / "feed", self.server.address, SETTINGS)
+        (self.folder / "feed" / "password").write_text("counts\n")
+        self.held = events(self.start, self.now - 2, 20_000, 1)
+        insert(self.clickhouse, self.held)
+
+    def check_rows(self, office: OfficeServer) -> None:
+        closed = self.now // 5 * 5
+        held = {c: r for c, r in office.rows().items() if c[2] < closed and c[0] in NAMES}
+        expected = plainly(self.held, closed)
+        self.assertEqual(support.differences(held, expected), [])
+        self.assertGreater(len(held), 1000)
+
+    def add(self, added: list[Event]) -> None:
+        insert(self.clickhouse, added)
+        self.held += added
+
+    def test_rows_are_those_of_the_events(self) -> None:
+        told = support.feed(self.config, "--check").stdout
+        self.assertIn("fives: counters of events all as everyone, a row every 5 min", told)
+        support.feed(self.config, "--from", str(self.start))
+        self.check_rows(self.server)
+
+    def test_late_events_are_found_by_when_they_came(self) -> None:
+        support.feed(self.config, "--once")
+        self.add(events(self.start, self.start + 30, 40, 2))
+        self.add(events(self.now - 100, self.now - 90, 10, 3))
+        # The next round is due when another minute has ended.
+        time.sleep(62 - time.time() % 60)
+        support.feed(self.config, "--once")
+        self.check_rows(self.server)
+
+    def test_state_lost_behind_late_events(self) -> None:
+        support.feed(self.config, "--from", str(self.start))
+        self.add(events(self.start, self.now - 5, 300, 4))
+        support.feed(self.config, "--from", str(self.start))
+        (self.folder / "feed" / "state.json").unlink()
+        self.add(events(self.start, self.now - 5, 100, 5))
+        support.feed(self.config, "--from", str(self.start))
+        self.check_rows(self.server)
+
+    def test_stops(self) -> None:
+        support.feed(self.config, "--from", str(self.start))
+        self.clickhouse.kill()
+        ended = support.feed(self.config, "--from", str(self.start), check=4)
+        self.assertIn("events gave no answer", ended.stderr)
+        self.clickhouse.start()
+        self.server.kill()
+        ended = support.feed(self.config, "--from", str(self.start), check=3)
+        self.assertIn("the office gave no answer", ended.stderr)
+        self.server.start()
+        self.add(events(self.start, self.now - 5, 100, 6))
+        support.feed(self.config, "--from", str(self.start))
+        self.check_rows(self.server)
+
+    @unittest.skipIf(support.installed("promtool") is None, "prometheus isn't installed")
+    def test_both_feeds_at_once(self) -> None:
+        """Each with its own state, while the office is killed and started."""
+        import test_prometheus as other
+
+        prometheus = PrometheusServer(self.folder / "prometheus")
+        prometheus.history("\n".join(other.history(self.start, self.now - 2, 9)) + "\n")
+        self.addCleanup(prometheus.kill)
+        prometheus.start()
+        counters = support.data_source("prom", "Prometheus", url=prometheus.url) + support.sli(
+            "counted", "prom", 'requests_total{code="500"}', "requests_total", word="bad"
+        )
+        self.server.client().define(counters.encode())
+        no_events = "[indicator.shop]\nskip = true\n[indicator.slow]\nskip = true\n"
+        second = support.config_file(
+            self.folder / "second",
+            self.server.address,
+            no_events + "[indicator.fives]\nskip = true\n",
+        )
+        first = support.config_file(
+            self.folder / "feed",
+            self.server.address,
+            SETTINGS + "[indicator.counted]\nskip = true\n",
+        )
+        feeds = [
+            threading.Thread(target=support.feed, args=(file, "--from", str(self.start)))
+            for file in (first, second)
+        ]
+        for feed in feeds:
+            feed.start()
+        for _ in range(3):
+            time.sleep(0.6)
+            self.server.kill()
+            self.server.start()
+        for feed in feeds:
+            feed.join()
+        support.feed(first, "--from", str(self.start))
+        support.feed(second, "--from", str(self.start))
+        self.check_rows(self.server)
+        sums = other.plainly(prometheus.url, "requests_total", self.start - 60, self.now)
+        held = {c: r for c, r in self.server.rows().items() if c[0] == "counted"}
+        self.assertEqual(held, other.rows_of(sums, "counted"))
+
+
+NAMES = ("shop", "fives", "slow")
+
+if __name__ == "__main__":
+    unittest.main()

@@ -1,0 +1,303 @@
+"""Rounds over a simulated engine and office: what is sent, held back, dropped, told."""
+
+from __future__ import annotations
+
+import json
+import logging
+import tempfile
+import unittest
+from collections.abc import Sequence
+from pathlib import Path
+from typing import Optional, cast
+
+import support
+from simulated import HeldClock, Sample, SimulatedOffice, SimulatedPrometheus
+from slo_tools.feed.cells import Amount, Cell
+from slo_tools.feed.config import Config, IndicatorConfig, Login
+from slo_tools.feed.engine import Engine
+from slo_tools.feed.prometheus import Prometheus
+from slo_tools.feed.revisions import Kept, Pending, pending
+from slo_tools.feed.rounds import End, Feed, due
+from slo_tools.feed.sending import Sender
+from slo_tools.feed.state import State, read_state, write_state
+from slo_tools.feed.watch import Watch
+from slo_tools.feed_command import seconds_to_next
+from slo_tools.office import Batch, Full, Office, SampleRow
+
+BEGIN = 29_000_000
+LABELS = frozenset({"job": "web", "instance": "web:0", "code": "200", "__name__": "m"}.items())
+
+
+class Rounds(unittest.TestCase):
+    """A feed of one indicator, a counter that rises by 10 a scrape, scraped each 20 s."""
+
+    def setUp(self) -> None:
+        self.logs = self.enterContext(self.assertLogs("slo-feed", logging.INFO))
+        logging.getLogger("slo-feed").info("begun")
+        self.folder = Path(self.enterContext(tempfile.TemporaryDirectory()))
+        self.clock = HeldClock((BEGIN + 30) * 60.0 + 12)
+        samples = [
+            Sample(LABELS, BEGIN * 60 + n * 20.0, n * 10, BEGIN * 60 + n * 20.0)
+            for n in range(300)
+        ]
+        self.prometheus = SimulatedPrometheus(self.clock, samples)
+        texts = {
+            "DataSource/prom": support.data_source("prom", "Prometheus", url="http://x"),
+            "SLI/shop": support.sli("shop", "prom", "m", "m"),
+            "SLO/shop-slo": "",
+        }
+        self.office = SimulatedOffice(self.clock, texts, BEGIN)
+        self.feed = self.made(State())
+
+    def made(self, state: State, every: int = 1, save: bool = False) -> Feed:
+        config = Config(
+            "",
+            Login(),
+            self.folder / "state.json",
+            first=60,
+            usual=IndicatorConfig(every=every, look_back=5),
+        )
+        engine = cast(Engine, Prometheus(self.prometheus))
+        office = cast(Office, self.office)
+        return Feed(config, office, lambda _: engine, state, self.clock, Watch(), save)
+
+    def lines(self) -> str:
+        return "\n".join(self.logs.output)
+
+    def minutes(self) -> list[int]:
+        return sorted(minute - BEGIN for _, _, minute in self.office.kept)
+
+    def test_closed_minutes_alone_are_sent(self) -> None:
+        self.assertEqual(self.feed.round(), End.DONE)
+        self.assertEqual(self.minutes(), list(range(30)))
+        # The first scrape counts nothing; the one at the minute's end counts in it.
+        self.assertEqual(self.office.kept["shop", "web_0", BEGIN], (1, "30,30"))
+
+    def test_a_minute_is_asked_for_behind_the_scrape_timeout(self) -> None:
+        self.clock.seconds = (BEGIN + 30) * 60.0 + 10
+        self.feed.round()
+        self.assertEqual(self.minutes(), list(range(29)))
+
+    def test_nothing_is_sent_where_nothing_changed(self) -> None:
+        self.feed.round()
+        self.clock.seconds += 60
+        batches = self.office.batches
+        self.feed.round()
+        self.assertEqual(self.office.batches, batches + 1)
+        self.assertEqual(self.office.accepted, 31)
+
+    def test_stretches_of_five_minutes(self) -> None:
+        self.feed = self.made(State(), every=5)
+        self.feed.round()
+        self.assertEqual(self.minutes(), [4, 9, 14, 19, 24, 29])
+        self.assertEqual(self.office.kept["shop", "web_0", BEGIN + 4], (1, "150,150"))
+        self.clock.seconds += 240
+        self.feed.round()
+        self.assertEqual(self.minutes()[-1], 29)
+
+    def test_clocks_apart(self) -> None:
+        for difference in (61.0, -61.0):
+            self.prometheus.clock = HeldClock(self.clock.seconds + difference)
+            self.assertEqual(self.feed.round(), End.CLOCK)
+        self.assertEqual(self.office.batches, 0)
+        self.assertIn("the clock of prom is +61 s from this one", self.lines())
+
+    def test_the_offices_moment_is_apart(self) -> None:
+        self.office.clock = HeldClock(self.clock.seconds + 3600)
+        self.assertEqual(self.feed.round(), End.CLOCK)
+        self.assertEqual(self.office.batches, 0)
+
+    def test_an_office_whose_clock_is_behind_gets_the_rest_later(self) -> None:
+        self.office.clock = HeldClock(self.clock.seconds - 60)
+        self.assertEqual(self.feed.round(), End.DONE)
+        self.assertEqual(self.minutes(), list(range(29)))
+        self.office.clock = self.clock
+        self.clock.seconds += 60
+        self.feed.round()
+        self.assertEqual(self.minutes(), list(range(31)))
+
+    def test_early_rows_are_told_and_dropped(self) -> None:
+        self.office.origin = BEGIN + 10
+        self.assertEqual(self.feed.round(), End.LEFT_OUT)
+        self.assertEqual(self.minutes(), list(range(10, 30)))
+        self.assertIn("before the office's origin 2025-02-19T21:30Z", self.lines())
+        self.clock.seconds += 60
+        self.assertEqual(self.feed.round(), End.DONE)
+
+    def test_an_sli_that_was_removed_meanwhile(self) -> None:
+        self.feed.round()
+        del self.office.texts["SLI/shop"]
+        self.clock.seconds += 60
+        self.assertEqual(self.feed.round(), End.LEFT_OUT)
+        self.assertIn("refused, unknown_sli", self.lines())
+        self.clock.seconds += 60
+        self.assertEqual(self.feed.round(), End.DONE)
+
+    def test_a_full_office(self) -> None:
+        def full(rows: Sequence[SampleRow]) -> Batch:
+            raise Full(507, {"error": "limit", "which": "cells"})
+
+        self.office.post_samples = full  # type: ignore[assignment]
+        self.assertEqual(self.feed.round(), End.FULL)
+        self.assertIn("the office is full (507 limit which=cells)", self.lines())
+
+    def test_an_office_that_was_restored(self) -> None:
+        self.feed.round()
+        self.assertEqual(len(self.feed.state.kept), 5)
+        self.office.kept, self.office.entries = {}, 1
+        self.clock.seconds += 360
+        self.feed.round()
+        self.assertIn("taken back to an older journal. Run slo-feed --from", self.lines())
+        self.assertEqual(self.minutes(), list(range(36)))
+
+    def test_a_state_file_that_cant_be_written(self) -> None:
+        self.feed = self.made(State(), save=True)
+        (self.folder / "state.json").mkdir()
+        self.assertEqual(self.feed.round(), End.STATE)
+        self.assertEqual(len(self.minutes()), 30)
+
+    def test_more_events_than_a_row_has(self) -> None:
+        self.prometheus.samples_held.append(
+            Sample(LABELS, (BEGIN + 5) * 60 + 30.0, 10**10, BEGIN * 60.0)
+        )
+        self.assertEqual(self.feed.round(), End.LEFT_OUT)
+        self.assertIn(f"shop: web_0 {BEGIN + 5}: more than 10^9 events", self.lines())
+        self.assertNotIn(5, self.minutes())
+
+    def test_a_line_that_holds_on_is_written_once(self) -> None:
+        self.prometheus.clock = HeldClock(self.clock.seconds + 90)
+        for _ in range(3):
+            self.feed.round()
+        self.prometheus.clock = self.clock
+        self.feed.round()
+        self.assertEqual(self.lines().count("set the clocks"), 2)
+        self.assertIn("over: the clock of prom", self.lines())
+
+
+def pending_rows(count: int, revision: int = 1) -> list[Pending]:
+    return [
+        Pending(Cell("shop", "a", BEGIN + n), Amount("1", n + 1), revision, revision > 1)
+        for n in range(count)
+    ]
+
+
+class SendingTest(unittest.TestCase):
+    def setUp(self) -> None:
+        clock = HeldClock((BEGIN + 5000) * 60.0)
+        self.office = SimulatedOffice(clock, {"SLI/shop": ""}, BEGIN)
+
+    def put(self, minute: int, revision: int, total: int) -> None:
+        self.office.kept["shop", "a", BEGIN + minute] = (revision, f"1,{total}")
+
+    def totals(self) -> list[str]:
+        cells = sorted(self.office.kept)
+        return [self.office.kept[cell][1] for cell in cells]
+
+    def send(self, rows: list[Pending]) -> Sender:
+        sender = Sender(self.office)
+        sender.send(rows)
+        return sender
+
+    def test_batches_have_a_thousand_rows(self) -> None:
+        sender = self.send(pending_rows(2500))
+        self.assertEqual(self.office.batches, 3)
+        self.assertEqual(sender.sent.counts, {"new": 2500, **ZEROS})
+
+    def test_conflicts_and_hidden_rows(self) -> None:
+        for has_query in (False, True):
+            with self.subTest(has_query=has_query):
+                self.setUp()
+                self.office.has_rows_query = has_query
+                for minute in range(0, 1000, 7):
+                    self.put(minute, minute % 5 + 1, minute + 1 + minute % 3)
+                same = [c for c, r in self.office.kept.items()
+                        if r[1] == f"1,{c[2] - BEGIN + 1}"]
+                before = {c: self.office.kept[c] for c in same}
+                sender = self.send(pending_rows(1000))
+                self.assertEqual(self.totals(), [f"1,{n + 1}" for n in range(1000)])
+                self.assertEqual(self.office.again, 0)
+                self.assertEqual(before, {c: self.office.kept[c] for c in same})
+                kept = {(c.sli, c.source, c.minute): k.revision
+                        for c, k in sender.sent.kept.items()}
+                self.assertEqual(kept, {c: r[0] for c, r in self.office.kept.items()})
+                self.assertLess(self.office.batches, 900)
+
+    def test_corrections_go_in_small_batches(self) -> None:
+        for minute in range(120):
+            self.put(minute, 1, 9000)
+        self.send(pending_rows(120, revision=2))
+        self.assertEqual(self.office.batches, 3)
+        self.assertEqual(self.totals(), [f"1,{n + 1}" for n in range(120)])
+
+
+ZEROS = {"newer": 0, "repeated": 0, "superseded": 0}
+
+
+class DueTest(unittest.TestCase):
+    def asked(
+        self, through: Optional[int], closed: int, every: int = 1, origin: Optional[int] = None
+    ) -> Optional[tuple[int, int]]:
+        from slo_tools.feed.engine import Form, Indicator
+
+        indicator = Indicator(
+            "s", "e", Form.COUNTERS, "m", "m", None, "all", every, 10, 60
+        )
+        found = due(indicator, through, closed, 60, origin)
+        return None if found is None else (found.begin, found.end)
+
+    def test_minutes(self) -> None:
+        self.assertEqual(self.asked(None, 1000), (941, 1001))
+        self.assertEqual(self.asked(999, 1000), (990, 1001))
+        self.assertEqual(self.asked(1000, 1000), None)
+        self.assertEqual(self.asked(500, 1000), (491, 1001))
+        self.assertEqual(self.asked(None, 1000, origin=980), (980, 1001))
+        self.assertEqual(self.asked(None, 1000, every=5), (940, 1000))
+        self.assertEqual(self.asked(999, 1003, every=5), None)
+        self.assertEqual(self.asked(999, 1004, every=5), (990, 1005))
+        self.assertEqual(self.asked(None, 10), (0, 11))
+
+    def test_waiting_for_the_next_minute(self) -> None:
+        self.assertEqual(seconds_to_next(120.0, 11), 11)
+        self.assertEqual(seconds_to_next(130.0, 11), 1)
+        self.assertEqual(seconds_to_next(131.0, 11), 60)
+        self.assertEqual(seconds_to_next(132.0, 11), 59)
+
+
+class StateTest(unittest.TestCase):
+    def setUp(self) -> None:
+        self.file = Path(self.enterContext(tempfile.TemporaryDirectory())) / "state.json"
+
+    def test_both_ways(self) -> None:
+        kept = {
+            Cell("shop", "web_0", 5): Kept(3, Amount("1", 2)),
+            Cell("slow", "all", 6): Kept(1, Amount("0.25")),
+        }
+        state = State(kept, {"shop": 5}, {"events": 99.5}, 7, 3, 2, 4)
+        write_state(self.file, state)
+        self.assertEqual(read_state(self.file), (state, None))
+
+    def test_what_cant_be_used_is_as_nothing(self) -> None:
+        for text in ("", "{", "[]", '{"version":2}', '{"version":1}', "null", '"x"'):
+            self.file.write_text(text)
+            state, why = read_state(self.file)
+            self.assertEqual(state, State())
+            self.assertIsNotNone(why)
+
+    def test_a_torn_new_file_is_no_harm(self) -> None:
+        write_state(self.file, State(entries=5))
+        self.file.with_name("state.json.new").write_text('{"vers')
+        self.assertEqual(read_state(self.file)[0].entries, 5)
+        write_state(self.file, State(entries=6))
+        self.assertEqual(json.loads(self.file.read_text())["entries"], 6)
+
+    def test_only_what_differs_is_pending(self) -> None:
+        a, b, c = (Cell("s", "x", m) for m in (3, 2, 1))
+        kept = {a: Kept(4, Amount("1", 2)), b: Kept(2, Amount("1", 1))}
+        found = pending(kept, {a: Amount("1", 2), b: Amount("1", 3), c: Amount("0", 1)})
+        self.assertEqual(
+            found, [Pending(c, Amount("0", 1), 1, False), Pending(b, Amount("1", 3), 3, True)]
+        )
+
+
+if __name__ == "__main__":
+    unittest.main()
