@@ -62,9 +62,10 @@ class SimulatedPrometheus:
 
     def samples(self, selector: str, begin: float, end: float) -> list[Values]:
         wanted = 'code="500"' in selector
+        now = self.clock.now()
         found: dict[Labels, list[tuple[float, str]]] = {}
         for sample in self.samples_held:
-            if begin <= sample.moment <= end and sample.shown <= self.clock.now():
+            if begin <= sample.moment <= end and sample.shown <= now:
                 if not wanted or ("code", "500") in sample.labels:
                     found.setdefault(sample.labels, []).append(
                         (sample.moment, str(sample.value))
@@ -141,7 +142,7 @@ class SimulatedOffice:
 
     def _check(self, row: SampleRow, number: int) -> None:
         moment = int(self.clock.now() // 60)
-        if ("SLI", row.sli) not in {(o.kind, o.name) for o in self.objects()[1]}:
+        if f"SLI/{row.sli}" not in self.texts:
             raise Unprocessable(422, {"error": "unknown_sli", "name": row.sli, "row": number})
         if row.minute < self.origin:
             told: Members = {"error": "early", "minute": row.minute, "origin": self.origin}
