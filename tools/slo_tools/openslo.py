@@ -21,12 +21,18 @@ BUILT_IN_POLICIES = frozenset(["workbook-page", "workbook-ticket"])
 
 
 class Found(NamedTuple):
-    """An object that a document defines: its kind and name, and the map that it stands in."""
+    """An object that a document defines: its kind and name, the map that it stands in, and where
+    in its document that map is."""
 
     kind: str
     name: str
     place: Place
     node: Fields
+    path: str = ""
+
+    def at(self, path: str) -> str:
+        """A path of the object, as one of its document."""
+        return joined_path(self.path, path)
 
 
 class Reference(NamedTuple):
@@ -45,12 +51,16 @@ def objects_in(document: Node) -> Iterator[Found]:
         yield from _objects_of(document, kind)
 
 
-def _objects_of(node: Fields, kind: str) -> Iterator[Found]:
-    for inner, inner_kind, _ in inline_in(node, kind):
-        yield from _objects_of(inner, inner_kind)
+def _objects_of(node: Fields, kind: str, path: str = "") -> Iterator[Found]:
+    for inner, inner_kind, inner_path in inline_in(node, kind):
+        yield from _objects_of(inner, inner_kind, joined_path(path, inner_path))
     name = node_at(node, "metadata", "name")
     if isinstance(name, Scalar):
-        yield Found(kind, name.text, name.place, node)
+        yield Found(kind, name.text, name.place, node, path)
+
+
+def joined_path(path: str, key: str) -> str:
+    return f"{path}.{key}" if path else key
 
 
 def inline_in(node: Fields, kind: str) -> Iterator[tuple[Fields, str, str]]:

@@ -1,0 +1,169 @@
+"""The command `slo-apply`: a folder of OpenSLO files as the truth of an office."""
+
+from __future__ import annotations
+
+import argparse
+import os
+import sys
+from pathlib import Path
+from typing import Optional
+
+from slo_tools.apply.folder import Told, read_folder
+from slo_tools.apply.form import RULES
+from slo_tools.apply.judging import Base, calendar_zones, judge
+from slo_tools.apply.planning import (
+    Plan,
+    carry_out,
+    differences_of,
+    lines_of,
+    plan_of,
+    refused_readings,
+    running_of,
+    sampled_by,
+)
+from slo_tools.apply.scratch import ScratchFault
+from slo_tools.office import OfficeError, Pauses
+from slo_tools.office_options import add_office_options, office_of
+
+DONE, DIFFERENT, FAULTY = 0, 1, 2
+
+
+def parser() -> argparse.ArgumentParser:
+    made = argparse.ArgumentParser(
+        prog="slo-apply",
+        description="Make an office hold what a folder of OpenSLO files says.",
+        epilog="Exit status: 0 done or nothing to do, 1 there are differences (--plan), 2 faults.",
+    )
+    made.add_argument("folder", metavar="FOLDER", type=Path, help="its .yaml, .yml and .json files")
+    what = made.add_mutually_exclusive_group()
+    what.add_argument(
+        "--check", action="store_true", help="judge the folder alone, and ask no office"
+    )
+    what.add_argument("--plan", action="store_true", help="print what would be changed")
+    made.add_argument("--prune", action="store_true", help="remove what the folder lacks")
+    made.add_argument(
+        "--with-office",
+        action="store_true",
+        help="let the folder refer to objects that the running office alone has",
+    )
+    made.add_argument(
+        "--program",
+        metavar="SLO_OFFICE",
+        default=os.environ.get("SLO_OFFICE_PROGRAM", "slo_office"),
+        help="the office's program, which judges the folder (default: slo_office)",
+    )
+    add_office_options(made)
+    return made
+
+
+def main(words: Optional[list[str]] = None) -> int:
+    """Judges, plans or does it, and returns the exit status."""
+    made = parser()
+    options = made.parse_args(words)
+    if options.prune and options.with_office:
+        made.error("--prune removes what --with-office would keep")
+    try:
+        status = _run(options)
+        sys.stdout.flush()
+        return status
+    except (OfficeError, OSError, ScratchFault, ValueError) as fault:
+        print(f"slo-apply: {fault}", file=sys.stderr)
+        return FAULTY
+
+
+def _run(options: argparse.Namespace) -> int:
+    folder = read_folder(options.folder)
+    if not folder.documents and not folder.faults:
+        raise ValueError(f"{options.folder}: no documents")
+    base = Base({}, frozenset())
+    office = office_of(options, Pauses(tries=4, first=0.5, longest=4.0))
+    if options.with_office:
+        with office.kept_link():
+            running = running_of(office)
+        base = Base(running.texts, running.zones)
+    judged = judge(options.program, folder, base)
+    if judged.faults:
+        for line in sorted(map(fault_line, judged.faults), key=_line_order):
+            print(line, file=sys.stderr)
+        print(f"slo-apply: {_count(len(judged.faults), 'fault')}", file=sys.stderr)
+        return FAULTY
+    if options.check:
+        print(f"{_count(len(judged.texts), 'object')}, no fault")
+        return DONE
+    with office.kept_link():
+        running = running_of(office)
+        named = calendar_zones(document.node for document in folder.documents)
+        zones = [zone for zone in folder.zones if zone.name in named]
+
+        def has_samples(sli: str) -> bool:
+            return sampled_by(office, running, sli)
+
+        plan = plan_of(judged.texts, zones, running, options.prune, has_samples)
+        refused = refused_readings(plan, has_samples)
+        if refused:
+            for name in refused:
+                print(
+                    f"slo-apply: SLI {name} has samples, and another reading of them is refused",
+                    file=sys.stderr,
+                )
+            return FAULTY
+        if options.plan:
+            return _tell(plan)
+        done = carry_out(office, plan)
+    for line in done.lines:
+        print(line)
+    _tell_sampled(plan)
+    for fault in done.faults:
+        print(f"slo-apply: {fault}", file=sys.stderr)
+    _sum_up(plan, "done")
+    return FAULTY if done.faults else DONE
+
+
+def fault_line(told: Told) -> str:
+    """`file:line:column: path: rule: what that means`."""
+    fault = told.fault
+    meaning = RULES.get(fault.rule, "")
+    text = ": ".join(part for part in (fault.path, fault.rule, fault.why or meaning) if part)
+    return f"{told.file}:{fault.place.line}:{fault.place.column}: {text}"
+
+
+def _line_order(line: str) -> tuple[str, int, int, str]:
+    file, number, column, text = line.split(":", 3)
+    return file, int(number), int(column), text
+
+
+def _tell(plan: Plan) -> int:
+    details = {line: definition for line, definition in zip(_names(plan), plan.definitions)}
+    for line in lines_of(plan):
+        print(line)
+        if line in details:
+            for difference in differences_of(details[line]):
+                print(difference)
+    for name in plan.beside:
+        print(f"  {' '.join(name)} isn't in the folder (--prune removes it)")
+    _tell_sampled(plan)
+    _sum_up(plan, "plan")
+    return DONE if plan.is_empty else DIFFERENT
+
+
+def _tell_sampled(plan: Plan) -> None:
+    for name in plan.sampled:
+        print(f"  {' '.join(name)} has samples and stays")
+
+
+def _names(plan: Plan) -> list[str]:
+    lines = list(lines_of(plan))
+    return lines[len(plan.zones) : len(plan.zones) + len(plan.definitions)]
+
+
+def _sum_up(plan: Plan, word: str) -> None:
+    new = sum(definition.before is None for definition in plan.definitions)
+    changed = len(plan.definitions) - new
+    print(
+        f"{word}: {new} defined, {changed} changed, {len(plan.removals)} removed,"
+        f" {len(plan.zones)} zones kept, {plan.same} the same"
+    )
+
+
+def _count(number: int, word: str) -> str:
+    return f"{number} {word}" if number == 1 else f"{number} {word}s"
