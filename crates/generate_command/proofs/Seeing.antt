@@ -61,6 +61,7 @@ module _ {H T : Type 0} (answers : Answering H) (treats : Answering T) (part : H
           taken = s.taken;
           lost = s.lost;
           messages = s.messages;
+          few = s.few;
           readings = s.readings;
           trace = traced.1;
           gained = s.gained;

@@ -1,6 +1,8 @@
 -- A session that goes on.
-use Rattle.std.proofs.Common.{◌≡◌, ◌<◌, ℕ, ◌+◌, List, [], ◌∷◌, ◌++◌, length, drop, arith, inl, inr}
+use Rattle.std.proofs.Common.{◌≡◌, ◌<◌, ◌≤◌, ℕ, ◌+◌, List, [], ◌∷◌, ◌++◌, length, drop, arith}
+use Rattle.std.proofs.Common.{inl, inr}
 use Rattle.std.proofs.Common.{refl, sym, ap, subst, ◌∙◌, append_assoc, append-nil, length-append}
+use Rattle.std.proofs.Common.{length-drop}
 use Rattle.std.proofs.Common.{Bool, true, false, ◌||◌, nat_le, IfSome, Some}
 use Rattle.std.specs.declared.option.Option.{Option}
 use Rattle.std.specs.List.{flat_map}
@@ -11,6 +13,7 @@ use Rattle.office_outside.proofs.Gains.{lost_both, lost_nothing, gained_both, ga
 use Rattle.message_heads.specs.Hearing.{Hears}
 use Rattle.message_heads.specs.Streams.{AreMessages, said_in}
 use Rattle.message_heads.specs.declared.message.Message.{Message}
+use Rattle.message_heads.specs.declared.reading.TheConstants.{MAX_MESSAGE_BYTES}
 use Rattle.message_heads.specs.declared.message.Heard.TheVariants.{Whole, Bad, More}
 use Rattle.message_heads.proofs.StreamLemmas.{heard_whole}
 use Rattle.office_session.specs.Fillings.{Fills}
@@ -107,6 +110,7 @@ serves_none answers waiting old none = record {
   taken = [];
   lost = lost_nothing old.left;
   messages = sym none;
+  few = subst (λ (l : List ℕ). length l ≤ MAX_MESSAGE_BYTES) (sym none) (omega arith);
   readings = λ k. refl;
   trace = refl;
   gained = gained_nothing old.held;
@@ -115,13 +119,14 @@ serves_none answers waiting old none = record {
 -- more bytes come
 pub serves_fills : {H : Type 0} (answers : Answering H) (turns : List Turn) (waiting more : List ℕ)
     (left : Option (List ℕ)) (old mid : Scene H) → Serves answers turns waiting old mid →
-    Fills waiting more mid.left left →
+    Fills waiting more mid.left left → length more ≤ MAX_MESSAGE_BYTES →
     Serves answers turns more old (scene left mid.to_come mid.handler mid.held)
-serves_fills answers turns waiting more left old mid s f = record {
+serves_fills answers turns waiting more left old mid s f few = record {
   taken = s.taken ++ f.taken;
   lost = lost_both s.taken f.taken old.left mid.left left s.lost f.lost;
   messages = subst (λ (l : List ℕ). AreMessages (s.taken ++ f.taken) (said_of_turns turns) l)
       (sym f.grown) (messages_grow s.taken f.taken (said_of_turns turns) waiting s.messages);
+  few = few;
   readings = s.readings;
   trace = s.trace;
   gained = s.gained;
@@ -137,6 +142,7 @@ serves_more answers turns waiting size turn old mid new s kept t = record {
   taken = s.taken;
   lost = subst (λ (o : Option (List ℕ)). Lost s.taken old.left o) (sym t.unread) s.lost;
   messages = messages_more s.taken turns waiting turn size s.messages t.message;
+  few = omega (arith, s.few, length-drop size waiting);
   readings = readings_more old.to_come turns mid.to_come new.to_come turn s.readings t.reading;
   trace = trace_more answers 0 (length turns) old.handler turns mid.handler new.handler turn
       (omega arith) kept s.trace t.treated;

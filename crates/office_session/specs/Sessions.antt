@@ -1,9 +1,10 @@
 -- What a session does to its handler, its source, its sink and its clock.
-use Rattle.std.specs.Prelude.{◌≡◌, ◌≢◌, ℕ, ◌+◌, ◌<◌, List, [], ◌∷◌, length, flat_map, map, Bool}
-use Rattle.std.specs.Prelude.{true, false, ◌||◌, nat_le, Option, IfSome, ◌⊎◌}
+use Rattle.std.specs.Prelude.{◌≡◌, ◌≢◌, ℕ, ◌+◌, ◌<◌, ◌≤◌, List, [], ◌∷◌, length, flat_map, map}
+use Rattle.std.specs.Prelude.{Bool, true, false, ◌||◌, nat_le, Option, IfSome, ◌⊎◌}
 use Rattle.office_outside.specs.Told.{Lost, Gained, GainedPrefix, HasNothingLeft}
 use Rattle.slo_limits.specs.declared.TheConstants.{MAX_REQUESTS}
 use Rattle.message_heads.specs.Hearing.{Hears}
+use Rattle.message_heads.specs.declared.reading.TheConstants.{MAX_MESSAGE_BYTES}
 use Rattle.message_heads.specs.Streams.{Said, IsWhole, AreMessages}
 use Rattle.message_heads.specs.declared.message.Heard.TheVariants.{Bad, More}
 use Rattle.office_session.specs.declared.serving.SessionEnd.{SessionEnd}
@@ -82,12 +83,16 @@ Trace {H} answers count old (turn ∷ turns) new = (mid : H) × (is_last count t
     × answers old turn.said false turn.reading turn.answer mid
     × Trace answers (count + 1) mid turns new
 
--- a session so far: these turns, each answered, and these bytes waiting
+-- A session so far: these turns, each answered, and these bytes waiting, which were taken of the
+-- source and aren't answered yet: never more than one message may have. Each end of a session says
+-- so of the moment before its last answer; and as a sink may fail at any answer, which then is the
+-- last one, it holds at each.
 pub record Serves {H : Type 0} (answers : Answering H) (turns : List Turn) (waiting : List ℕ)
     (old new : Scene H) : Type 0 where
   pub taken : List ℕ
   pub lost : Lost taken old.left new.left
   pub messages : AreMessages taken (said_of_turns turns) waiting
+  pub few : length waiting ≤ MAX_MESSAGE_BYTES
   pub readings : Readings old.to_come turns new.to_come
   pub trace : Trace answers 0 old.handler turns new.handler
   pub gained : Gained (flat_map (λ turn. turn.answer) turns) old.held new.held

@@ -118,6 +118,7 @@ impl Buffer {
         ensures grown { IfOk result (λ n. n ≡ length self.new - length self.old) }
         ensures end { IfOk result (λ n. n ≡ 0 → HasNothingLeft (S.left input.new)) }
         ensures kept { OnErr result (self.new ≡ self.old) }
+        ensures few { length self.new ≤ MAX_MESSAGE_BYTES }
         ensures cause { HasCause (S.faults input.old) (S.faults input.new) result }
     {
         self.end = move_to_front(&mut self.bytes, self.start, self.end);

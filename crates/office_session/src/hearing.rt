@@ -19,6 +19,7 @@ fn fill<S: Source>(buffer: &mut Buffer, input: &mut S, needed: usize) -> Result<
     ensures short { result ≡ Ok false → length buffer.new < needed }
     ensures failed { OnErr result (length buffer.new < needed) }
     ensures end { result ≡ Ok false → HasNothingLeft (S.left input.new) }
+    ensures few { length buffer.new ≤ MAX_MESSAGE_BYTES }
     ensures cause { HasCause (S.faults input.old) (S.faults input.new) result }
 {
     'filling: while buffer.len() < needed {
@@ -35,6 +36,7 @@ pub(crate) fn hear_next<S: Source>(buffer: &mut Buffer, input: &mut S) -> Result
     ensures fills { Fills buffer.old buffer.new (S.left input.old) (S.left input.new) }
     ensures heard { IfOk result (λ heard. Concludes buffer.new (S.left input.new) heard) }
     ensures more { OnErr result (Hears buffer.new More) }
+    ensures few { length buffer.new ≤ MAX_MESSAGE_BYTES }
     ensures cause { HasCause (S.faults input.old) (S.faults input.new) result }
 {
     'hearing: loop {

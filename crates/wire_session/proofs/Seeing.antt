@@ -37,6 +37,7 @@ module _ {H T : Type 0} (answers : Answering H) (treats : Answering T) (part : H
     taken = s.taken;
     lost = s.lost;
     messages = s.messages;
+    few = s.few;
     readings = s.readings;
     trace = trace_seen 0 old.handler turns new.handler s.trace;
     gained = s.gained;

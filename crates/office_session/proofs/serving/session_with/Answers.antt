@@ -22,7 +22,7 @@ returns-in_default-clause-ends g c = record {
   turns = c.serving.invariant.turns;
   waiting = c.hear_next.new.buffer;
   serves = serves_fills _ c.serving.invariant.turns c.serving.buffer c.hear_next.new.buffer _ _ _
-      c.serving.invariant.serves c.hear_next.ensures.fills;
+      c.serving.invariant.serves c.hear_next.ensures.fills c.hear_next.ensures.few;
   more = c.in_default.ensures.more;
   rest = tt;
 }
@@ -30,7 +30,7 @@ returns-in_default-clause-ends g c = record {
 pub returns-in-More-clause-ends : goal.returns-in-More-clause-ends
 returns-in-More-clause-ends g c =
     let s = serves_fills _ c.serving.invariant.turns c.serving.buffer c.hear_next.new.buffer _ _ _
-    c.serving.invariant.serves c.hear_next.ensures.fills in
+    c.serving.invariant.serves c.hear_next.ensures.fills c.hear_next.ensures.few in
     let end = subst (λ (h : Heard). Concludes c.hear_next.new.buffer
     (g.S.Source.left c.hear_next.new.input) h) c.in-More.is c.in-Ok.ensures.heard in
     ends_at _ _ c.end_at.result c.serving.invariant.turns c.hear_next.new.buffer _ _ s end.0 end.1
@@ -39,7 +39,7 @@ returns-in-More-clause-ends g c =
 pub returns-in-Bad-clause-ends : goal.returns-in-Bad-clause-ends
 returns-in-Bad-clause-ends g c =
     let s = serves_fills _ c.serving.invariant.turns c.serving.buffer c.hear_next.new.buffer _ _ _
-    c.serving.invariant.serves c.hear_next.ensures.fills in
+    c.serving.invariant.serves c.hear_next.ensures.fills c.hear_next.ensures.few in
     let bad = subst (λ (h : Heard). Concludes c.hear_next.new.buffer
     (g.S.Source.left c.hear_next.new.input) h) c.in-Bad.is c.in-Ok.ensures.heard in
     ends_by_bad _ _ c.refuse.result c.serving.invariant.turns c.hear_next.new.buffer c.in-Bad.status
@@ -48,7 +48,7 @@ returns-in-Bad-clause-ends g c =
 pub returns-in_default-take_turn-clause-ends : goal.returns-in_default-take_turn-clause-ends
 returns-in_default-take_turn-clause-ends g c =
     let s = serves_fills _ c.serving.invariant.turns c.serving.buffer c.hear_next.new.buffer _ _ _
-    c.serving.invariant.serves c.hear_next.ensures.fills in
+    c.serving.invariant.serves c.hear_next.ensures.fills c.hear_next.ensures.few in
     let part = c.in_default-take_turn.ensures.part (g.S.Source.left c.hear_next.new.input) in
     inl (
       part.0,
@@ -60,7 +60,7 @@ returns-in_default-take_turn-clause-ends g c =
 pub returns-then-last-clause-ends : goal.returns-then-last-clause-ends
 returns-then-last-clause-ends g c =
     let s = serves_fills _ c.serving.invariant.turns c.serving.buffer c.hear_next.new.buffer _ _ _
-    c.serving.invariant.serves c.hear_next.ensures.fills in
+    c.serving.invariant.serves c.hear_next.ensures.fills c.hear_next.ensures.few in
     inl (ends_by_turn _ Gained c.in-Ok-take_turn.last true c.serving.invariant.turns c.serving.count
     c.in-Whole.size c.bytes.result.now c.hear_next.new.buffer _ _ _ s
     c.serving.invariant.counted c.bytes.ensures.bytes c.if-last.true
@@ -69,7 +69,7 @@ returns-then-last-clause-ends g c =
 pub serving-preserved : goal.serving-preserved
 serving-preserved g c =
     let s = serves_fills _ c.serving.invariant.turns c.serving.buffer c.hear_next.new.buffer _ _ _
-    c.serving.invariant.serves c.hear_next.ensures.fills in
+    c.serving.invariant.serves c.hear_next.ensures.fills c.hear_next.ensures.few in
     let on = goes_on _ c.in-Ok-take_turn.last c.serving.invariant.turns c.serving.count
     c.in-Whole.size c.bytes.result.now c.hear_next.new.buffer c.skip.new.self _ _ _ s
     c.serving.invariant.counted c.bytes.ensures.bytes c.skip.ensures c.if-last.false
