@@ -153,8 +153,8 @@ impl ChangingFile {
 
     /// Syncs the file's bytes; the first time that some were read, these are written again before.
     ///
-    /// Where a sync fails, the system may keep what was written in its cache and take it for synced:
-    /// a program that is started then reads it, and no sync of its own writes it. So before
+    /// Where a sync fails, the system may keep what was written in its cache and take it for
+    /// synced: a program that is started then reads it, and no sync of its own writes it. So before
     /// anything is rested on what was read, the last of it is put on the disk by writing it again.
     /// The same bytes over the same bytes change nothing, whenever a stop comes.
     fn sync(&mut self) -> io::Result<()> {
