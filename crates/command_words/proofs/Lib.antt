@@ -1,3 +1,4 @@
 mod Walks
 mod Sorts
 mod Dashes
+mod Reports

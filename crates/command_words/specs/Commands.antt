@@ -1,6 +1,6 @@
 -- The words of the program, and what they ask for.
 use Rattle.std.specs.Prelude.{ℕ, ◌<◌, ◌≤◌, ◌==◌, ⊤, option_and_then, option_map, List, [], ◌∷◌}
-use Rattle.std.specs.Prelude.{codes, Bool, false, Option, Some, None, if◌then◌else◌}
+use Rattle.std.specs.Prelude.{codes, Bool, true, false, Option, Some, None, if◌then◌else◌}
 use Rattle.std.specs.Str.{bytes_eq}
 use Rattle.exact_fraction.specs.Digits.{plain_number_within}
 use Rattle.slo_limits.specs.declared.TheConstants.{MAX_MINUTE, WHOLE}
@@ -83,3 +83,8 @@ IsSoundAsked Pipe = ⊤
 IsSoundAsked (Report at) = ⊤
 IsSoundAsked (Serve port) = (1 ≤ port) × (port ≤ max_port)
 IsSoundAsked (Generate number) = (1 ≤ number) × (number ≤ MAX_NUMBER)
+
+-- a command that reads the journal's file and changes nothing in it: a report
+abbrev pub only_reads : Asked → Bool
+only_reads (Report at) = true
+only_reads _ = false

@@ -8,4 +8,4 @@ mod forms;
 mod reading;
 
 pub use asked::{Asked, Command};
-pub use reading::{WordsFault, read_words};
+pub use reading::{WordsFault, only_reads, read_words};

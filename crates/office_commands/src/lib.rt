@@ -16,6 +16,7 @@ mod serve;
 mod telling;
 mod unopened;
 
+pub use ending::DISK_FAULT;
 pub use generate::GenerateEnd;
 pub use laws::{
     statuses_of_generate, statuses_of_init, statuses_of_pipe, statuses_of_report, statuses_of_serve,

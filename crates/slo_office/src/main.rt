@@ -3,9 +3,13 @@
 //! Promises what `run` promises over these.
 #![tactic(auto)]
 
-use office_commands::{run, run_out_of_memory};
+mod standard;
+
+use command_words::only_reads;
+use office_commands::{DISK_FAULT, run, run_out_of_memory};
 use office_doors::TcpDoors;
 use office_outside::{FileDisk, StdSink, StdSource, WallClock};
+use standard::stand_in;
 use std::alloc::AllocError;
 use std::env::{self, Env};
 use std::io::ErrorKind;
@@ -31,14 +35,20 @@ fn words_of(rt: &(impl Env + AllocGlobal)) -> Result<Vec<String>, AllocError> {
 }
 
 fn main(rt: HostRuntime) -> ExitCode {
+    let Ok(standing_in) = stand_in(&rt) else {
+        return ExitCode::from(DISK_FAULT);
+    };
+    if FileDisk::is_error_output(&rt) {
+        return ExitCode::from(DISK_FAULT);
+    }
     let mut input = StdSource::new(rt.stdin());
     let mut output = StdSink::new(rt.stdout());
     let mut faults = StdSink::new(rt.stderr());
-    let disk = FileDisk::new(rt);
     let mut clock = WallClock::new(rt);
     let mut doors = TcpDoors::new(rt, rt.alloc());
     let status = match words_of(&rt) {
         Ok(words) => {
+            let disk = FileDisk::new(rt, only_reads(&words));
             let end = run(
                 &rt,
                 &words,
@@ -53,5 +63,6 @@ fn main(rt: HostRuntime) -> ExitCode {
         }
         Err(AllocError) => run_out_of_memory(&mut faults),
     };
+    drop(standing_in);
     ExitCode::from(status)
 }

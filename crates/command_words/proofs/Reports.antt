@@ -1,0 +1,64 @@
+-- Of the words that ask for a command those that begin with `report` ask for one that only reads.
+use Rattle.std.proofs.Common.{◌≡◌, ◌∙◌, Bool, true, false, List, [], ◌∷◌, Option, Some, None}
+use Rattle.std.proofs.Common.{cond, codes, option_map, refl, sym, subst}
+use Rattle.std.specs.Str.{bytes_eq}
+use Rattle.std.proofs.lemmas.Slice.Eq.{bytes_eq-Decides}
+use Rattle.clap.specs.Walk.{Text}
+use Rattle.budget_command.specs.Order.{budget_order}
+use Rattle.command_words.specs.Commands.{asked_alone, asked_named, asked_of, command_named}
+use Rattle.command_words.specs.Commands.{minute_asked, number_asked, only_reads, port_asked}
+use Rattle.command_words.specs.declared.asked.Asked.{Asked}
+use Rattle.command_words.specs.declared.asked.Asked.TheVariants as asked
+use Rattle.command_words.specs.declared.asked.Command.{Command}
+
+-- what may be asked for, if anything, only reads, or doesn't
+abbrev Reads : Bool → Option Asked → Type 0
+Reads reads found = (a : Asked) → found ≡ Some a → reads ≡ only_reads a
+
+in_both : (b : Bool) (x y : Option Asked) → Reads false x → Reads false y → Reads false (cond b x y)
+in_both true x y first second = first
+in_both false x y first second = second
+
+module _ {A : Type 0} where
+  mapped : (reads : Bool) (f : A → Asked) → ((x : A) → reads ≡ only_reads (f x))
+      → (o : Option A) → Reads reads (option_map f o)
+  mapped reads f is None a e = cc e
+  mapped reads f is (Some x) a e =
+      let same : f x ≡ a = cc e in subst (λ (b : Asked). reads ≡ only_reads b) same (is x)
+
+pipes : (ws : List Text) → Reads false (asked_alone asked.Pipe ws)
+pipes [] a e =
+    let same : asked.Pipe ≡ a = cc e in subst (λ (b : Asked). false ≡ only_reads b) same refl
+pipes (w ∷ ws) a e = cc e
+
+others : (name : Text) (ws : List Text) → bytes_eq name (codes "report") ≡ false
+    → Reads false (asked_named name ws)
+others name ws other =
+    rw other
+    (in_both (bytes_eq name (codes "init")) _ _
+    (mapped false asked.Init (λ x. refl) (minute_asked ws))
+    (in_both (bytes_eq name (codes "pipe")) _ _ (pipes ws)
+    (in_both (bytes_eq name (codes "serve")) _ _
+    (mapped false asked.Serve (λ x. refl) (port_asked ws))
+    (in_both (bytes_eq name (codes "generate")) _ _
+    (mapped false asked.Generate (λ x. refl) (number_asked ws))
+    (mapped false asked.Answer (λ x. refl) (command_named name ws))))))
+
+reports : (ws : List Text) → Reads true (asked_of (codes "report" ∷ ws))
+reports ws = mapped true asked.Report (λ x. refl) (minute_asked ws)
+
+-- whether a first word is the name of the command that only reads
+pub by_first : (name : Text) (ws : List Text)
+    → Reads (bytes_eq name (codes "report")) (asked_named name ws)
+by_first name ws = by (bytes_eq name (codes "report")) refl
+  where
+    by : (b : Bool) → bytes_eq name (codes "report") ≡ b
+        → Reads (bytes_eq name (codes "report")) (asked_named name ws)
+    by true e =
+        let same : name ≡ codes "report" = (bytes_eq-Decides name (codes "report")).0 e in
+        rw e
+        (subst (λ (v : Text). Reads true (asked_of (v ∷ ws))) (sym same) (reports ws))
+    by false e = rw e (others name ws e)
+
+pub no_word : Reads false (asked_of [])
+no_word a e = cc e
