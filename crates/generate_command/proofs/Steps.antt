@@ -50,7 +50,7 @@ module _ {D : Type 0} (old new : keep.OfficeOn D) (reading : ℕ) (outcome : Out
     office = ap (λ (k : keep.OfficeOn D). k.office) same;
     none = ap (λ (k : keep.OfficeOn D). k.doubt) same ∙ none;
   }
-  came (Change command) place (performed (keep.refused_memory lack unmoved no_place)) =
+  came (Change command) place (performed (keep.refused_memory lack timely unmoved no_place)) =
       no_lack outcome NoMemory lack refl fine
   came (Change command) place (performed (keep.not_settled lack timely before no_place)) =
       no_lack outcome DiskFault lack refl fine
@@ -58,7 +58,8 @@ module _ {D : Type 0} (old new : keep.OfficeOn D) (reading : ℕ) (outcome : Out
       no_lack outcome DiskFault lack refl fine
   came (Change command) place (performed (keep.in_doubt lack timely doubt no_place)) =
       no_lack outcome DiskFault lack refl fine
-  came (Change command) place (performed (keep.done settled made is came_to now undoubted at)) =
+  came (Change command) place (performed (keep.done settled made is timely came_to now undoubted
+      at)) =
       let same : settled ≡ old.office = settled_alone old.office old.doubt settled none is in
       record {
         made = made;

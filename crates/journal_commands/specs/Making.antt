@@ -72,12 +72,12 @@ EndsMaking content images moment since origin reading WriteFault old new =
 EndsMaking content images moment since origin reading NoMemory old new =
     (origin ≤ reading) × (new.disk ≡ old.disk) × (new.held ≡ old.held)
 
--- No image came up; or from some moment on each image has no header, or stands for the origin and
--- no records.
-abbrev pub QuietOrMaking : {D : Type 0} → (D → List ℕ → Type 0) → (D → ℕ) →
-    (D → ℕ → List ℕ → Type 0) → ℕ → D → D → Type 0
-QuietOrMaking images moment since origin old new =
-    IsQuiet images moment since old new ⊎ IsMaking images moment since origin old new
+-- No image came up; or the file had no header, and from some moment on each image has none, or
+-- stands for the origin and no records.
+abbrev pub QuietOrMaking : {D : Type 0} → (D → Option (List ℕ)) → (D → List ℕ → Type 0) →
+    (D → ℕ) → (D → ℕ → List ℕ → Type 0) → ℕ → D → D → Type 0
+QuietOrMaking content images moment since origin old new =
+    IsQuiet images moment since old new ⊎ IsMaking content images moment since origin old new
 
 -- A journal is made, or not: the clock gave one reading, and by it and by how it ended this is so.
 pub record Makes {D : Type 0} (content : D → Option (List ℕ)) (images : D → List ℕ → Type 0)
@@ -86,5 +86,6 @@ pub record Makes {D : Type 0} (content : D → Option (List ℕ)) (images : D �
   pub reading : ℕ
   pub reads : Reads reading old.to_come new.to_come
   pub ends : EndsMaking content images moment since (origin_by asked reading) reading end old new
-  -- at each moment, however it ended
-  pub moments : QuietOrMaking images moment since (origin_by asked reading) old.disk new.disk
+  -- at each moment, however it ended; a journal that was there is left as it was
+  pub moments : QuietOrMaking content images moment since (origin_by asked reading) old.disk
+      new.disk

@@ -58,11 +58,11 @@ fn make_on<D: Disk + Drop>(alloc: Global, disk: D, origin: u32) -> Result<D, Kee
     requires origin { origin ≤ MAX_MINUTE }
     ensures made { IfOk result (λ new. IsMade D.content D.images origin disk new) }
     ensures moments { IfOk result (λ new.
-        IsMaking D.images D.moment D.images_since origin disk new) }
+        IsMaking D.content D.images D.moment D.images_since origin disk new) }
     ensures there { IfErr result (λ e. e.fault ≡ AlreadyThere →
         IsThere D.content D.images D.moment D.images_since disk e.disk) }
     ensures fault { IfErr result (λ e. e.fault ≡ DiskFault →
-        QuietOrMaking D.images D.moment D.images_since origin disk e.disk) }
+        QuietOrMaking D.content D.images D.moment D.images_since origin disk e.disk) }
     ensures no_memory { IfErr result (λ e. e.fault ≡ NoMemory → e.disk ≡ disk) }
     ensures others { IfErr result (λ e. (e.fault ≡ DiskFault)
         ⊎ ((e.fault ≡ AlreadyThere) ⊎ (e.fault ≡ NoMemory))) }

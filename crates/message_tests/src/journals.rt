@@ -215,6 +215,28 @@ fn a_file_opens_to_its_records_or_tells_where_it_is_damaged(rt: HostRuntime) -> 
     Ok(())
 }
 
+/// Behind the header's 13 bytes and two records of 5, each with its gate and its length, a gate
+/// stands at 33.
+#[test]
+fn damage_behind_two_records_is_told_at_its_gate(rt: HostRuntime) -> Result<(), Fail> {
+    let alloc = rt.alloc();
+    let mut bytes = Vec::from_slice(alloc, &TICKED[..23])?;
+    bytes.extend_from_slice(&TICKED[13..23])?;
+    for (behind, expected) in [
+        (b"".as_slice(), Some((2, Some(ScanFault::Damaged { at: 33 })))),
+        (b"\x01", Some((2, Some(ScanFault::Damaged { at: 33 })))),
+        (b"\x01\0\0\0\0", Some((2, Some(ScanFault::Damaged { at: 33 })))),
+        (b"\x01\0\0\0\x02\x05", Some((2, Some(ScanFault::Damaged { at: 33 })))),
+        (b"\x01\0\0\0\x02\x05\x06", Some((3, Some(ScanFault::Damaged { at: 40 })))),
+        (b"\0", Some((2, None))),
+    ] {
+        let mut file = bytes.to_vec(alloc)?;
+        file.extend_from_slice(behind)?;
+        assert_eq!(rt; count_in(alloc, &file)?, expected, "{behind:?}");
+    }
+    Ok(())
+}
+
 /// A disk that keeps nothing, so that a journal on it may be of any length: a read finds an empty
 /// file. It fails once it was called so many times.
 #[derive(Drop)]
@@ -550,5 +572,39 @@ fn a_read_that_fails_is_told_and_tried_again(rt: HostRuntime) -> Result<(), Fail
     assert_eq!(rt; two_steps(alloc, 2)?, Some(again));
     let whole = [(Ok(true), 23, 5), (Ok(false), 23, 0)];
     assert_eq!(rt; two_steps(alloc, 99)?, Some(whole));
+    Ok(())
+}
+
+/// Where a journal's closed gate stands once all was read, or why the journal isn't opened then,
+/// while the call of this number fails; and how many calls its disk has had.
+fn ready_of(
+    alloc: Global,
+    failing: u64,
+) -> Result<Option<(Result<u64, OpenFault>, usize)>, AllocError> {
+    let mut record = Vec::new(alloc);
+    let Ok(mut scan) = open(alloc, disk_of(alloc, &TICKED, &[failing])?) else {
+        return Ok(None);
+    };
+    if scan.next(&mut record) != Ok(true) {
+        return Ok(None);
+    }
+    match scan.next(&mut record) {
+        Ok(false) => match scan.ready() {
+            Ok(journal) => {
+                let tail = journal.tail();
+                Ok(Some((Ok(tail), journal.give_back().calls().len())))
+            }
+            Err(failed) => Ok(Some((Err(failed.fault), failed.disk.calls().len()))),
+        },
+        Ok(true) => Ok(None),
+        Err(_) => Ok(None),
+    }
+}
+
+#[test]
+fn a_journal_stands_once_what_was_read_is_synced(rt: HostRuntime) -> Result<(), Fail> {
+    let alloc = rt.alloc();
+    assert_eq!(rt; ready_of(alloc, 99)?, Some((Ok(23), 5)));
+    assert_eq!(rt; ready_of(alloc, 4)?, Some((Err(OpenFault::DiskFault), 5)));
     Ok(())
 }

@@ -51,7 +51,7 @@ module _ {D : Type 0} (old new : OfficeOn D) (reading : ℕ) (command : Command)
       Writes old.office (entry_at old.office reading command) outcome place new.office new.doubt →
       Changes old reading command outcome place new
   ended_as outcome place (lacks told at same nothing) =
-      refused_memory told
+      refused_memory told (timely_as old.office new.office reading same timely)
       (record { settled = settled_none old.office new.office old.doubt none same; none = nothing })
       at
   ended_as outcome place (fails told at same nothing) =
@@ -67,7 +67,7 @@ module _ {D : Type 0} (old new : OfficeOn D) (reading : ℕ) (command : Command)
       }) at
   ended_as outcome place (is_written told at same nothing) =
       done old.office (made_by old.office (entry_at old.office reading command) Accepted)
-      (settled_none old.office old.office old.doubt none refl)
+      (settled_none old.office old.office old.doubt none refl) timely
       (comes timely (Accepted, accepts.accepted, told, refl)) same nothing at
 
   leaves_as : Made old.office new.office → (file : List ℕ) →
@@ -134,7 +134,7 @@ pub unmade_at : {D : Type 0} (old new : OfficeOn D) (reading : ℕ) (command : C
     None ≡ made_by old.office (entry_at old.office reading command) j →
     new.office ≡ old.office → new.doubt ≡ None → Changes old reading command outcome None new
 unmade_at old new reading command outcome j moment none timely at judged told made same nothing =
-    done old.office None (settled_none old.office old.office old.doubt none refl)
+    done old.office None (settled_none old.office old.office old.doubt none refl) timely
     (comes timely (j, subst (λ (m : ℕ). Judges old.office m command j) at judged, told, made))
     same nothing refl
 

@@ -3,7 +3,7 @@ use Rattle.std.proofs.Common.{◌≡◌, inl, inr, ⊎_elim, ℕ, ◌<◌, nat_l
 use Rattle.std.proofs.Common.{Some, None}
 use Rattle.std.proofs.Common.{true, sym, ap, ◌∙◌, subst, arith}
 use Rattle.std.proofs.lemmas.Bool.Decides.{nat_tests}
-use Rattle.office_outside.specs.Disk.{LeavesOnly}
+use Rattle.office_outside.specs.Disk.{All, IsQuiet, LeavesOnly}
 use Rattle.record_form.specs.declared.Command.{Command}
 use Rattle.record_form.specs.declared.Entry.{Entry}
 use Rattle.record_form.specs.declared.Outcome.{Outcome}
@@ -12,11 +12,12 @@ use Rattle.office_history.specs.Legal.{IsLegal}
 use Rattle.office_counter.specs.Steps.{with_made}
 use Rattle.office_keep.specs.Files.{StandsFor}
 use Rattle.office_keep.specs.Office.{Changes, IsSettled, IsTimely, IsUnmoved, Leaves, OfficeOn}
-use Rattle.office_keep.specs.Office.{SettledFrom, WithOrWithout}
+use Rattle.office_keep.specs.Office.{SettledFrom, StandsSettled, WithOrWithout}
 use Rattle.office_keep.specs.Office.{done, in_doubt, not_kept, not_settled, past, refused_memory}
 use Rattle.office_keep.specs.Office.{unsettled, written}
 use Rattle.office_keep.proofs.Adding.{Made}
 use Rattle.office_keep.proofs.Histories.{present_in_range}
+use Rattle.office_keep.proofs.Runs.{leaves_weaker}
 
 is_below : (a b : ℕ) → a < b → nat_lt a b ≡ true
 is_below a b less = grind (arith, nat_tests)
@@ -57,8 +58,8 @@ module _ {D : Type 0} (old mid : OfficeOn D) (reading : ℕ) (command : Command)
         Changes mid reading command outcome place new →
         Changes old reading command outcome place new
     changes_lift outcome place timely (past late told same at) = absurd (cc (late, timely))
-    changes_lift outcome place timely (refused_memory told un at) =
-        refused_memory told
+    changes_lift outcome place timely (refused_memory told in_range un at) =
+        refused_memory told in_range
         (record { settled = settled_too new.office un.settled; none = un.none }) at
     changes_lift outcome place timely (not_settled told in_range kept at) =
         not_kept told in_range
@@ -76,15 +77,15 @@ module _ {D : Type 0} (old mid : OfficeOn D) (reading : ℕ) (command : Command)
           accepts = doubted.accepts;
           doubt = doubted.doubt;
         }) at
-    changes_lift outcome place timely (done settled made is told same none at) =
-        done settled made (settled_too settled is) told same none at
+    changes_lift outcome place timely (done settled made is in_range told same none at) =
+        done settled made (settled_too settled is) in_range told same none at
 
     -- what was made over the settled office, if anything
     made_in : (outcome : Outcome) (place : Option ℕ) →
         Changes mid reading command outcome place new → Made mid.office new.office
     made_in outcome place (past late told same at) =
         record { entry = None; is = ap (λ (o : OfficeOn D). o.office) same }
-    made_in outcome place (refused_memory told un at) =
+    made_in outcome place (refused_memory told in_range un at) =
         record { entry = None; is = still new.office un.settled }
     made_in outcome place (not_settled told in_range kept at) =
         record { entry = None; is = kept.office }
@@ -92,7 +93,7 @@ module _ {D : Type 0} (old mid : OfficeOn D) (reading : ℕ) (command : Command)
         record { entry = None; is = still new.office un.settled }
     made_in outcome place (in_doubt told in_range doubted at) =
         record { entry = None; is = still new.office doubted.settled }
-    made_in outcome place (done settled made is told same none at) = record {
+    made_in outcome place (done settled made is in_range told same none at) = record {
       entry = made;
       is = subst (λ (o : Office). new.office ≡ with_made o made) (still settled is) same;
     }
@@ -112,20 +113,25 @@ module _ {D : Type 0} (old mid : OfficeOn D) (reading : ℕ) (command : Command)
         (inr (accepts, s))
 
     -- from the end of the settling on
-    pub settled_from : (moment : D → ℕ) (since : D → ℕ → List ℕ → Type 0) (P : List ℕ → Type 0)
-        (outcome : Outcome) (place : Option ℕ) → LeavesOnly moment since old.disk mid.disk P →
+    pub settled_from : (images : D → List ℕ → Type 0) (moment : D → ℕ)
+        (since : D → ℕ → List ℕ → Type 0) (outcome : Outcome) (place : Option ℕ) →
+        IsQuiet images moment since old.disk mid.disk →
+        All (StandsSettled mid.office mid.doubt) (images mid.disk) →
         Changes mid reading command outcome place new →
         LeavesOnly moment since mid.disk new.disk (Leaves mid reading command new) →
-        SettledFrom moment since old reading command new
-    settled_from moment since P outcome place first changes second =
+        SettledFrom images moment since old reading command new
+    settled_from images moment since outcome place quiet stood changes run =
         let made = made_in outcome place changes in
         record {
           settled = mid.office;
           made = made.entry;
           is_settled = ended.settled;
           ended = made.is;
-          at = moment mid.disk;
-          not_before = first.later;
-          happened = second.later;
-          each = λ file left. stands_after file (second.each file left);
+          between = mid.disk;
+          before = quiet;
+          stands = λ file image.
+              let s = stood file image in
+              subst (λ (o : Office). StandsFor o file) (still s.0 s.1) s.2;
+          after = leaves_weaker moment since mid.disk new.disk (Leaves mid reading command new)
+              (WithOrWithout mid.office reading command) run stands_after;
         }

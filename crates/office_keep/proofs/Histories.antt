@@ -11,10 +11,11 @@ use Rattle.office_history.specs.History.{Office, present, end_of, with_entry}
 use Rattle.office_history.specs.Legal.{IsLegal, MayFollow, empty, followed, office}
 use Rattle.office_history.specs.Outcomes as outcomes
 use Rattle.slo_journal.specs.File as files
-use Rattle.slo_journal.specs.File.{four, Parts, Stands, size_of}
+use Rattle.slo_journal.specs.File.{Stands, size_of}
 use Rattle.slo_journal.specs.Front.{IsHeader}
 use Rattle.slo_journal.specs.Legal.{Legal, StopsAt, Walks}
-use Rattle.slo_journal.proofs.Files.{four_same, head_same, one_file}
+use Rattle.slo_journal.proofs.Damage.{one_stop}
+use Rattle.slo_journal.proofs.Files.{one_file, same_header}
 use Rattle.slo_journal.proofs.Histories.{legal_more, walks_first}
 use Rattle.office_keep.specs.Files.{records, StandsFor, IsLegalRecord, IsDamagedAt}
 use Rattle.office_keep.specs.Files.{WalksOver}
@@ -111,14 +112,6 @@ legal_records origin h (followed {h = before} e legal follows) fit =
     fit_parts [] e a = (tt, a.0)
     fit_parts (x ∷ h) e a = let more = fit_parts h e a.1 in ((a.0, more.0), more.1)
 
--- a file has one origin
-one_origin : (P Q : List ℕ → Type 0) (o p : ℕ) (rs ss : List (List ℕ)) (file : List ℕ) →
-    Parts P o rs file → Parts Q p ss file → o ≡ p
-one_origin P Q o p rs ss file a b =
-    let e = (head_same _ _ _ _ (sym a.header ∙ b.header)).1 in
-    let f : four o ++ a.rest ≡ four p ++ b.rest = ap (drop 8) e in
-    (four_same o p a.rest b.rest (omega (arith, a.in_range)) (omega (arith, b.in_range)) f).0
-
 -- a file that stops being legal stands for no legal history
 pub is_damaged : (origin at : ℕ) (file : List ℕ) → StopsAt (IsLegalRecord origin) origin at file →
     IsDamagedAt at file
@@ -126,12 +119,21 @@ is_damaged origin at file stops = record {
   origin = origin;
   stops = stops;
   none = λ o stands whole.
-      let same = one_origin _ _ origin o.origin stops.history
-      (records o.history) file stops.before.parts stands.parts in
+      let same = (same_header _ _ origin o.origin stops.history
+      (records o.history) file stops.before.parts stands.parts).0 in
       stops.none o.origin (records o.history) stands
       (subst (λ (n : ℕ). Legal (IsLegalRecord n) (records o.history)) (sym same)
       (legal_records o.origin o.history whole.legal whole.fit));
 }
+
+-- a file is damaged at one place at most
+pub one_damage : (at other : ℕ) (file : List ℕ) → IsDamagedAt at file → IsDamagedAt other file →
+    at ≡ other
+one_damage at other file a b =
+    let same = (same_header _ _ a.origin b.origin a.stops.history b.stops.history file
+    a.stops.before.parts b.stops.before.parts).0 in
+    one_stop (IsLegalRecord a.origin) a.origin b.origin at other file a.stops
+    (subst (λ (n : ℕ). StopsAt (IsLegalRecord n) b.origin other file) (sym same) b.stops)
 
 -- a record that may follow is a legal one
 pub legal_here : (o : Office) (r : List ℕ) (e : Entry) → AllByRecursion FitsRecord o.history →

@@ -1,5 +1,5 @@
 -- A request by its kind.
-use Rattle.std.proofs.Common.{◌≡◌, ◌⊎◌, ℕ, List, Option, ⊎_elim, sym, subst, arith}
+use Rattle.std.proofs.Common.{◌≡◌, ◌⊎◌, inl, ℕ, List, Option, ⊎_elim, refl, sym, subst, arith}
 use Rattle.office_outside.specs.Disk.{LeavesOnly}
 use Rattle.record_form.specs.declared.Command.{Command}
 use Rattle.record_form.specs.declared.Outcome.{Outcome}
@@ -10,8 +10,9 @@ use Rattle.record_form.specs.declared.Request.TheVariants.{Ask, Change}
 use Rattle.office_history.specs.Answers.{Answers}
 use Rattle.office_history.specs.History.{Office}
 use Rattle.office_keep.specs.Office.{Changes, IsBlamed, Leaves, LeavesBy, OfficeOn, Performs}
-use Rattle.office_keep.specs.Office.{StandsSettled, unsettled}
+use Rattle.office_keep.specs.Office.{SettlesBy, StandsSettled, unsettled}
 use Rattle.office_keep.proofs.Blame.{answer_no_fault}
+use Rattle.office_keep.proofs.Runs.{quiet_still}
 
 -- what stood there is among what a stop may leave
 pub stays_by : {D : Type 0} (old new : OfficeOn D) (reading : ℕ) (request : Request)
@@ -19,6 +20,22 @@ pub stays_by : {D : Type 0} (old new : OfficeOn D) (reading : ℕ) (request : Re
     LeavesBy old reading request new file
 stays_by old new reading (Ask query) file stood = stood
 stays_by old new reading (Change command) file stood = unsettled stood
+
+-- where nothing is done nothing is settled
+pub settles_nothing : {D : Type 0} (images : D → List ℕ → Type 0) (moment : D → ℕ)
+    (since : D → ℕ → List ℕ → Type 0) (o : OfficeOn D) (reading : ℕ) (request : Request) →
+    SettlesBy images moment since o reading request o
+settles_nothing images moment since o reading (Ask query) = refl
+settles_nothing images moment since o reading (Change command) =
+    inl (record { office = refl; doubt = refl }, quiet_still moment since images o.disk)
+
+pub settles_change : {D : Type 0} (images : D → List ℕ → Type 0) (moment : D → ℕ)
+    (since : D → ℕ → List ℕ → Type 0) (old new : OfficeOn D) (reading : ℕ) (request : Request)
+    (command : Command) → request ≡ Change command →
+    SettlesBy images moment since old reading (Change command) new →
+    SettlesBy images moment since old reading request new
+settles_change images moment since old new reading request command is settles =
+    subst (λ (r : Request). SettlesBy images moment since old reading r new) (sym is) settles
 
 pub performs_change : {D : Type 0} (old new : OfficeOn D) (reading : ℕ) (request : Request)
     (command : Command) (outcome : Outcome) (place : Option ℕ) → request ≡ Change command →

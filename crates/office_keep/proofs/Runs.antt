@@ -1,6 +1,6 @@
 -- What a stop leaves in a run, from what it leaves in the run's parts.
 use Rattle.std.proofs.Common.{inl, inr, ⊎_elim, ℕ, List, arith}
-use Rattle.office_outside.specs.Disk.{All, LeavesOnly}
+use Rattle.office_outside.specs.Disk.{All, IsQuiet, LeavesOnly}
 
 module _ {D : Type 0} (moment : D → ℕ) (since : D → ℕ → List ℕ → Type 0) where
   -- a weaker meaning of the same images
@@ -35,4 +35,12 @@ module _ {D : Type 0} (moment : D → ℕ) (since : D → ℕ → List ℕ → T
     later = omega arith;
     each = λ c left. all c (only_now disk c left);
     before = λ t c le left. inl left;
+  }
+
+  pub quiet_still : (images : D → List ℕ → Type 0) (disk : D) →
+      IsQuiet images moment since disk disk
+  quiet_still images disk = record {
+    later = omega arith;
+    no_more = λ c image. image;
+    nothing_else = λ t c le left. left;
   }

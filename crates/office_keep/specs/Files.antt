@@ -35,8 +35,8 @@ pub record IsLegalRecord (origin : ℕ) (before : List (List ℕ)) (r : List ℕ
 abbrev pub WalksOver : Office → ℕ → List ℕ → Type 0
 WalksOver o at file = Walks (IsLegalRecord o.origin) o.origin (records o.history) at file
 
--- The file stands for no legal history: up to this place it is one's, and nothing that may follow
--- stands there.
+-- The file stands for no legal history: up to this place it is one's, and there stands neither a
+-- closed gate nor the record of an entry that may follow.
 pub record IsDamagedAt (at : ℕ) (file : List ℕ) : Type 0 where
   pub origin : ℕ
   pub stops : StopsAt (IsLegalRecord origin) origin at file

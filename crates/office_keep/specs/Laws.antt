@@ -6,7 +6,7 @@ use Rattle.record_form.specs.Ranges.{FitsRecord}
 use Rattle.office_history.specs.declared.Judgement.{Judgement}
 use Rattle.office_history.specs.History.{Office}
 use Rattle.office_history.specs.Judges.{Judges}
-use Rattle.office_keep.specs.Files.{StandsFor}
+use Rattle.office_keep.specs.Files.{IsDamagedAt, StandsFor}
 
 -- A command has one judgement at a moment.
 abbrev pub OneJudgement : Type 0
@@ -18,3 +18,8 @@ abbrev pub OneHistory : Type 0
 OneHistory = (o p : Office) (file : List ℕ) →
     StandsFor o file → AllByRecursion FitsRecord o.history →
     StandsFor p file → AllByRecursion FitsRecord p.history → o ≡ p
+
+-- A file is damaged at one place at most.
+abbrev pub OneDamage : Type 0
+OneDamage = (at other : ℕ) (file : List ℕ) →
+    IsDamagedAt at file → IsDamagedAt other file → at ≡ other

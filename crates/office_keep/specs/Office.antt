@@ -1,5 +1,6 @@
 -- What an office that keeps its history is seen as, and what a request leaves of it.
 use Rattle.std.specs.Prelude.{◌≡◌, ◌⊎◌, ℕ, ◌≤◌, true, false, nat_lt, List, Option, Some, None}
+use Rattle.office_outside.specs.Disk.{All, IsQuiet, LeavesOnly}
 use Rattle.office_outside.specs.Faults.{Rose}
 use Rattle.record_form.specs.declared.Command.{Command}
 use Rattle.record_form.specs.declared.Entry.{Entry}
@@ -84,14 +85,15 @@ pub record IsInDoubt {D : Type 0} (old : OfficeOn D) (reading : ℕ) (command : 
   pub doubt : new.doubt ≡ Some (entry_at new.office reading command)
 
 -- How a change ended, and the place of the entry that it added. Past the range nothing is settled
--- or tried. The disk failed in the settling, before the gate of the change's entry was touched, or
--- at this gate. Else the change comes to its outcome over the settled office.
+-- or tried, and each other end is one in the range. The disk failed in the settling, before the
+-- gate of the change's entry was touched, or at this gate. Else the change comes to its outcome
+-- over the settled office.
 pub data Changes {D : Type 0} (old : OfficeOn D) (reading : ℕ) (command : Command)
     (outcome : Outcome) (place : Option ℕ) (new : OfficeOn D) : Type 0 where
   past : nat_lt (moment_of old.office reading) (end_of old.office.origin) ≡ false
       → outcome ≡ ClockRange (end_of old.office.origin) (moment_of old.office reading)
       → new ≡ old → place ≡ None → Changes old reading command outcome place new
-  refused_memory : outcome ≡ NoMemory → IsUnmoved old new
+  refused_memory : outcome ≡ NoMemory → IsTimely new.office reading → IsUnmoved old new
       → place ≡ None → Changes old reading command outcome place new
   not_settled : outcome ≡ DiskFault → IsTimely new.office reading → IsAsBefore old new
       → place ≡ None → Changes old reading command outcome place new
@@ -100,7 +102,8 @@ pub data Changes {D : Type 0} (old : OfficeOn D) (reading : ℕ) (command : Comm
   in_doubt : outcome ≡ DiskFault → IsTimely new.office reading → IsInDoubt old reading command new
       → place ≡ None → Changes old reading command outcome place new
   done : (settled : Office) → (made : Option Entry) → IsSettled old.office old.doubt settled
-      → Comes settled reading (Change command) outcome made → new.office ≡ with_made settled made
+      → IsTimely settled reading → Comes settled reading (Change command) outcome made
+      → new.office ≡ with_made settled made
       → new.doubt ≡ None → place ≡ place_of settled made
       → Changes old reading command outcome place new
 
@@ -118,25 +121,29 @@ Performs old reading (Ask query) outcome place new = Asks old reading query outc
 Performs old reading (Change command) outcome place new =
     Changes old reading command outcome place new
 
--- From some moment on, the end of the settling, a stop leaves the settled office or it with the
+-- Up to some moment of the call, the end of the settling, no image came up. There each image of the
+-- disk stands for the settled office, and from there on a stop leaves this office, or it with the
 -- change's entry.
-pub record SettledFrom {D : Type 0} (moment : D → ℕ) (since : D → ℕ → List ℕ → Type 0)
-    (old : OfficeOn D) (reading : ℕ) (command : Command) (new : OfficeOn D) : Type 0 where
+pub record SettledFrom {D : Type 0} (images : D → List ℕ → Type 0) (moment : D → ℕ)
+    (since : D → ℕ → List ℕ → Type 0) (old : OfficeOn D) (reading : ℕ) (command : Command)
+    (new : OfficeOn D) : Type 0 where
   pub settled : Office
   pub made : Option Entry
   pub is_settled : IsSettled old.office old.doubt settled
   pub ended : new.office ≡ with_made settled made
-  pub at : ℕ
-  pub not_before : moment old.disk ≤ at
-  pub happened : at ≤ moment new.disk
-  pub each : (file : List ℕ) → since new.disk at file → WithOrWithout settled reading command file
+  pub between : D
+  pub before : IsQuiet images moment since old.disk between
+  pub stands : All (StandsFor settled) (images between)
+  pub after : LeavesOnly moment since between new.disk (WithOrWithout settled reading command)
 
--- A query settles nothing; a change settles, or leaves what was in doubt.
-abbrev pub SettlesBy : {D : Type 0} → (D → ℕ) → (D → ℕ → List ℕ → Type 0) → OfficeOn D → ℕ
-    → Request → OfficeOn D → Type 0
-SettlesBy moment since old reading (Ask query) new = new ≡ old
-SettlesBy moment since old reading (Change command) new =
-    IsAsBefore old new ⊎ SettledFrom moment since old reading command new
+-- A query settles nothing; a change settles, or leaves what was in doubt, and then no image came
+-- up.
+abbrev pub SettlesBy : {D : Type 0} → (D → List ℕ → Type 0) → (D → ℕ)
+    → (D → ℕ → List ℕ → Type 0) → OfficeOn D → ℕ → Request → OfficeOn D → Type 0
+SettlesBy images moment since old reading (Ask query) new = new ≡ old
+SettlesBy images moment since old reading (Change command) new =
+    (IsAsBefore old new × IsQuiet images moment since old.disk new.disk)
+    ⊎ SettledFrom images moment since old reading command new
 
 -- the disk is blamed only where its count rose
 pub record IsBlamed (before now : ℕ) (outcome : Outcome) : Type 0 where

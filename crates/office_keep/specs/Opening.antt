@@ -1,6 +1,6 @@
 -- What the opening of a journal's file by a command finds.
 use Rattle.std.specs.Prelude.{◌≡◌, ◌⊎◌, ℕ, List, Option, Some, None}
-use Rattle.office_outside.specs.Disk.{IsQuiet}
+use Rattle.office_outside.specs.Disk.{IsQuiet, OnlyAsRead}
 use Rattle.slo_journal.specs.Front.{HasNoHeader}
 use Rattle.office_keep.specs.Files.{IsDamagedAt, IsWhole, StandsFor}
 use Rattle.office_keep.specs.Office.{OfficeOn}
@@ -24,7 +24,7 @@ abbrev pub IsFoundOn : {D : Type 0} → (D → Option (List ℕ)) → Unopened �
 IsFoundOn content why disk = (file : List ℕ) → content disk ≡ Some file → IsFound why file
 
 -- The file was opened: where the disk tells it, it stands for this office, which is whole, with
--- nothing in doubt, and no image came up till then.
+-- nothing in doubt. No image came up till then, and a stop leaves just what was read.
 pub record IsOpened {D : Type 0} (content : D → Option (List ℕ)) (images : D → List ℕ → Type 0)
     (moment : D → ℕ) (since : D → ℕ → List ℕ → Type 0) (before : D) (office : OfficeOn D) :
     Type 0 where
@@ -32,6 +32,7 @@ pub record IsOpened {D : Type 0} (content : D → Option (List ℕ)) (images : D
   pub whole : IsWhole office.office
   pub read : (file : List ℕ) → content before ≡ Some file → StandsFor office.office file
   pub quiet : IsQuiet images moment since before office.disk
+  pub only : OnlyAsRead (content before) (images office.disk)
 
 -- The file was opened, and of the office over it this is so.
 pub record Opens {D : Type 0} (content : D → Option (List ℕ)) (images : D → List ℕ → Type 0)

@@ -1,5 +1,5 @@
 //! Laws of histories and of the files that stand for them.
-ghost use Rattle.office_keep.specs.Laws.{OneHistory, OneJudgement};
+ghost use Rattle.office_keep.specs.Laws.{OneDamage, OneHistory, OneJudgement};
 
 use record_form::no_record_begins_another;
 
@@ -15,3 +15,8 @@ pub fn one_history()
 {
     no_record_begins_another();
 }
+
+/// A file is damaged at one place at most.
+pub fn one_damage()
+    ensures { OneDamage }
+{}

@@ -11,6 +11,6 @@ mod steps;
 mod unopened;
 
 pub use fault::{KeepFailed, KeepFault};
-pub use laws::{one_history, one_judgement};
+pub use laws::{one_damage, one_history, one_judgement};
 pub use office::{Office, let_go};
 pub use unopened::{OpenFailed, Unopened, open_journal};

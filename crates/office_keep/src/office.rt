@@ -2,7 +2,7 @@
 ghost use Rattle.std.specs.Prelude.{◌≡◌, ◌≤◌, ◌⊎◌, [], List, ℕ, Option, Some, None, IfOk, IfErr};
 ghost use Rattle.std.specs.Prelude.{length, take};
 ghost use Rattle.slo_limits.specs.declared.TheConstants.{MAX_MINUTE};
-ghost use Rattle.office_outside.specs.Disk.{All, IsQuiet, LeavesOnly};
+ghost use Rattle.office_outside.specs.Disk.{All, IsQuiet, LeavesOnly, OnlyAsRead};
 ghost use Rattle.office_outside.specs.Faults.{Rose};
 ghost use Rattle.office_counter.specs.Steps.{HasRevisionsIn};
 ghost use Rattle.slo_journal.specs.Front.{HasNoHeader, IsHeader, IsMaking};
@@ -56,7 +56,7 @@ impl<D: Disk + Drop> Office<D> {
         ensures none_before { IfOk result (λ _. (file : List ℕ) → D.content disk ≡ Some file
             → HasNoHeader file) }
         ensures moments { IfOk result (λ office.
-            IsMaking D.images D.moment D.images_since origin disk office.disk) }
+            IsMaking D.content D.images D.moment D.images_since origin disk office.disk) }
         ensures already_there { IfErr result (λ e. e.fault ≡ AlreadyThere
             → (file : List ℕ) → D.content disk ≡ Some file
             → (o : ℕ) × IsHeader o (take 13 file)) }
@@ -64,7 +64,7 @@ impl<D: Disk + Drop> Office<D> {
             → IsQuiet D.images D.moment D.images_since disk e.disk) }
         ensures fault { IfErr result (λ e. e.fault ≡ DiskFault
             → IsQuiet D.images D.moment D.images_since disk e.disk
-            ⊎ IsMaking D.images D.moment D.images_since origin disk e.disk) }
+            ⊎ IsMaking D.content D.images D.moment D.images_since origin disk e.disk) }
         ensures no_memory { IfErr result (λ e. e.fault ≡ NoMemory → e.disk ≡ disk) }
         ensures others { IfErr result (λ e.
             (e.fault ≡ DiskFault) ⊎ ((e.fault ≡ AlreadyThere) ⊎ (e.fault ≡ NoMemory))) }
@@ -95,7 +95,8 @@ impl<D: Disk + Drop> Office<D> {
         }
     }
 
-    /// Opens a journal's file. It writes nothing.
+    /// Opens a journal's file. It writes nothing. Once all is read it syncs, so that the office
+    /// stands on bytes of which a stop leaves no others.
     pub fn open(alloc: Global, disk: D) -> Result<Office<D>, KeepFailed<D>>
         ensures settled { IfOk result (λ office. office.doubt ≡ None) }
         ensures whole { IfOk result (λ office. IsWhole office.office) }
@@ -108,6 +109,8 @@ impl<D: Disk + Drop> Office<D> {
         ensures others { IfErr result (λ e. e.fault ≡ AlreadyThere → ⊥) }
         ensures quiet { IfOk result (λ office.
             IsQuiet D.images D.moment D.images_since disk office.disk) }
+        ensures only { IfOk result (λ office.
+            OnlyAsRead (D.content disk) (D.images office.disk)) }
         ensures quiet_err { IfErr result (λ e.
             IsQuiet D.images D.moment D.images_since disk e.disk) }
         ensures cause { IfErr result (λ e. e.fault ≡ DiskFault
@@ -133,11 +136,20 @@ impl<D: Disk + Drop> Office<D> {
         match load(alloc, &mut core, &mut scan) {
             Ok(()) => {
                 core.is_legal();
-                Ok(Office {
-                    core,
-                    journal: scan.ready(),
-                    doubt: None,
-                })
+                match scan.ready() {
+                    Ok(journal) => Ok(Office {
+                        core,
+                        journal,
+                        doubt: None,
+                    }),
+                    Err(failed) => {
+                        drop(core);
+                        Err(KeepFailed {
+                            fault: KeepFault::DiskFault,
+                            disk: failed.disk,
+                        })
+                    }
+                }
             }
             Err(fault) => {
                 drop(core);
@@ -203,8 +215,8 @@ impl<D: Disk + Drop> Office<D> {
         ensures stands { All (StandsSettled self.new.office self.new.doubt)
             (D.images self.new.disk) }
         ensures whole { IsWhole self.new.office }
-        ensures after_settling { SettlesBy D.moment D.images_since self.old reading request.now
-            self.new }
+        ensures after_settling { SettlesBy D.images D.moment D.images_since self.old reading
+            request.now self.new }
         ensures cause { IsBlamed (D.faults self.old.disk) (D.faults self.new.disk) result }
     {
         let (outcome, _place) = self.act(alloc, reading, request);
@@ -222,8 +234,8 @@ impl<D: Disk + Drop> Office<D> {
         ensures stands { All (StandsSettled self.new.office self.new.doubt)
             (D.images self.new.disk) }
         ensures whole { IsWhole self.new.office }
-        ensures after_settling { SettlesBy D.moment D.images_since self.old reading request.now
-            self.new }
+        ensures after_settling { SettlesBy D.images D.moment D.images_since self.old reading
+            request.now self.new }
         ensures cause { IsBlamed (D.faults self.old.disk) (D.faults self.new.disk) result.0 }
     {
         let done = self.do_in_range(alloc, reading, request);
@@ -243,8 +255,8 @@ impl<D: Disk + Drop> Office<D> {
         ensures ended { Performs self.old reading request.now result.0 result.1 self.new }
         ensures any_moment { LeavesOnly D.moment D.images_since self.old.disk self.new.disk
             (LeavesBy self.old reading request.now self.new) }
-        ensures after_settling { SettlesBy D.moment D.images_since self.old reading request.now
-            self.new }
+        ensures after_settling { SettlesBy D.images D.moment D.images_since self.old reading
+            request.now self.new }
         ensures cause { IsBlamed (D.faults self.old.disk) (D.faults self.new.disk) result.0 }
     {
         self.core.is_legal();

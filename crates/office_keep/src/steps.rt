@@ -1,7 +1,7 @@
 //! The steps of a change: what is in doubt is settled, and the entry is written.
 ghost use Rattle.std.specs.Prelude.{◌≡◌, ◌≤◌, Option, Some, None, OnOk, OnErr};
 ghost use Rattle.slo_limits.specs.declared.TheConstants.{MAX_MINUTE};
-ghost use Rattle.office_outside.specs.Disk.{LeavesOnly};
+ghost use Rattle.office_outside.specs.Disk.{IsQuiet, LeavesOnly};
 ghost use Rattle.office_outside.specs.Faults.{HasCause};
 ghost use Rattle.record_form.specs.declared.Entry.{Entry};
 ghost use Rattle.record_form.specs.declared.Request.TheVariants.{Change};
@@ -39,7 +39,7 @@ pub(crate) fn change<D: Disk + Drop>(
     ensures any_moment { LeavesOnly D.moment D.images_since journal.old.disk journal.new.disk
         (Leaves (office_on core.old doubt.old journal.old) reading command.now
         (office_on core.new doubt.new journal.new)) }
-    ensures after_settling { SettlesBy D.moment D.images_since
+    ensures after_settling { SettlesBy D.images D.moment D.images_since
         (office_on core.old doubt.old journal.old) reading (Change command.now)
         (office_on core.new doubt.new journal.new) }
     ensures cause { IsBlamed (D.faults journal.old.disk) (D.faults journal.new.disk) result.0 }
@@ -65,6 +65,7 @@ fn settle<D: Disk + Drop>(
         (office_on core.new doubt.new journal.new)) }
     ensures any_moment { LeavesOnly D.moment D.images_since journal.old.disk journal.new.disk
         (StandsSettled core.old.office (entry_in doubt.old core.old.pending)) }
+    ensures quiet { IsQuiet D.images D.moment D.images_since journal.old.disk journal.new.disk }
     ensures cause { HasCause (D.faults journal.old.disk) (D.faults journal.new.disk) result }
 {
     match doubt.take() {

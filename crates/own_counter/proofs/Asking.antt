@@ -1,12 +1,12 @@
 -- One asking of an office of one's own, as its calls tell it.
-use Rattle.std.proofs.Common.{ℕ, List, None, arith, refl, inl}
+use Rattle.std.proofs.Common.{ℕ, List, None, arith, refl}
 use Rattle.office_outside.specs.Disk.{All, LeavesOnly}
 use Rattle.record_form.specs.declared.Request.{Request}
 use Rattle.record_form.specs.declared.Request.TheVariants.{Change, Ask}
 use Rattle.record_form.specs.declared.Outcome.TheVariants.{NoMemory}
 use Rattle.office_keep.specs.Files.{IsWhole}
-use Rattle.office_keep.specs.Office.{IsBlamed, LeavesBy, OfficeOn, SettlesBy, StandsSettled}
-use Rattle.office_keep.specs.Office.{unsettled}
+use Rattle.office_keep.specs.Office.{IsBlamed, LeavesBy, OfficeOn, StandsSettled, unsettled}
+use Rattle.office_keep.proofs.Performing.{settles_nothing}
 use Rattle.own_counter.specs.Own.{no_room, OwnAsks, own_on}
 
 -- a disk that is left alone
@@ -27,13 +27,6 @@ left_by : {D : Type 0} (o : OfficeOn D) (reading : ℕ) (request : Request) (fil
 left_by o reading (Ask query) file stands = stands
 left_by o reading (Change command) file stands = unsettled stands
 
-nothing_settled : {D : Type 0} (moment : D → ℕ) (since : D → ℕ → List ℕ → Type 0) (o : OfficeOn D)
-    (reading : ℕ) (request : Request)
-    → SettlesBy moment since o reading request o
-nothing_settled moment since o reading (Ask query) = refl
-nothing_settled moment since o reading (Change command) =
-    inl (record { office = refl; doubt = refl })
-
 blames_nothing : (count : ℕ) → IsBlamed count count NoMemory
 blames_nothing count = record { later = omega arith; rose = λ told. cc told }
 
@@ -52,6 +45,6 @@ asks_without_room images moment since faults only_now o own reading request stan
       (λ file image. left_by o reading request file (stands file image));
   stands = stands;
   whole = whole;
-  after_settling = nothing_settled moment since o reading request;
+  after_settling = settles_nothing images moment since o reading request;
   cause = blames_nothing (faults o.disk);
 }

@@ -48,5 +48,5 @@ pub record OwnAsks {D : Type 0} (images : D → List ℕ → Type 0) (moment : D
       (LeavesBy old.kept reading request new.kept)
   pub stands : All (StandsSettled new.kept.office new.kept.doubt) (images new.kept.disk)
   pub whole : IsWhole new.kept.office
-  pub after_settling : SettlesBy moment images_since old.kept reading request new.kept
+  pub after_settling : SettlesBy images moment images_since old.kept reading request new.kept
   pub cause : IsBlamed (faults old.kept.disk) (faults new.kept.disk) outcome

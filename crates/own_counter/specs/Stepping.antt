@@ -78,7 +78,8 @@ module _ {D : Type 0} (faults : D → ℕ) (old new : OwnOn D) (reading : ℕ) (
       ([], with_none old.kept.office)
       (steps.acts None (steps.past at_end told refl) (ap (λ (k : keep.OfficeOn D). k.office) same)
       (own_still place places none))
-  does_change command place (keep.refused_memory told unmoved none) places cause =
+  does_change command place (keep.refused_memory told timely unmoved none) places
+      cause =
       at_point old.kept.office new.kept.office reading (Change command) outcome
       (standing_of faults old) (standing_of faults new)
       (settled_others old.kept.office old.kept.doubt new.kept.office unmoved.settled)
@@ -98,7 +99,8 @@ module _ {D : Type 0} (faults : D → ℕ) (old new : OwnOn D) (reading : ℕ) (
       (standing_of faults old) (standing_of faults new)
       (settled_others old.kept.office old.kept.doubt new.kept.office doubt.settled)
       (steps.fails told tt timely (cause.rose told) refl (own_still place places none))
-  does_change command place (keep.done settled made is came now none at) places cause =
+  does_change command place (keep.done settled made is timely came now none at) places
+      cause =
       at_point old.kept.office settled reading (Change command) outcome (standing_of faults old)
       (standing_of faults new)
       (settled_others old.kept.office old.kept.doubt settled is)

@@ -92,7 +92,7 @@ module _ {D : Type 0} (old new : OfficeOn D) (place : Option ℕ) where
   went_on_change reading command outcome (keep.past at_end told same none) =
       went_without none (none_settled old.office old.doubt new.office
       (ap (λ (o : OfficeOn D). o.office) same))
-  went_on_change reading command outcome (keep.refused_memory told unmoved none) =
+  went_on_change reading command outcome (keep.refused_memory told timely unmoved none) =
       went_without none (settling old.office old.doubt new.office unmoved.settled)
   went_on_change reading command outcome (keep.not_settled told timely before none) =
       went_without none (none_settled old.office old.doubt new.office before.office)
@@ -100,7 +100,7 @@ module _ {D : Type 0} (old new : OfficeOn D) (place : Option ℕ) where
       went_without none (settling old.office old.doubt new.office unmoved.settled)
   went_on_change reading command outcome (keep.in_doubt told timely doubt none) =
       went_without none (settling old.office old.doubt new.office doubt.settled)
-  went_on_change reading command outcome (keep.done settled made is came now none at) =
+  went_on_change reading command outcome (keep.done settled made is timely came now none at) =
       went_made settled made at is now
 
   pub went_on : (reading : ℕ) (request : Request) (outcome : Outcome)

@@ -29,7 +29,7 @@ pub record Acts {D : Type 0} (images : D → List ℕ → Type 0) (moment : D �
   pub any_moment : LeavesOnly moment images_since old.disk new.disk
       (LeavesBy old reading request new)
   pub stands : All (StandsSettled new.office new.doubt) (images new.disk)
-  pub after_settling : SettlesBy moment images_since old reading request new
+  pub after_settling : SettlesBy images moment images_since old reading request new
   pub cause : IsBlamed (faults old.disk) (faults new.disk) outcome
   pub origin : old.office.origin ≤ MAX_MINUTE
   pub was_whole : IsWhole old.office

@@ -1,4 +1,4 @@
-use Rattle.std.proofs.Common.{◌≡◌, ◌<◌, ℕ, List, Ok, Err, sym, ap, ◌∙◌, subst, rules}
+use Rattle.std.proofs.Common.{◌≡◌, ◌<◌, ◌≤◌, ℕ, List, Ok, Err, sym, ap, ◌∙◌, subst, rules}
 use Rattle.slo_journal.specs.declared.ScanFault.TheVariants.{Damaged}
 use Rattle.slo_journal.proofs.Walking.{stops, illegal_stops, closes}
 use Rattle.slo_journal.proofs.Histories.{walks_on, place_on}
@@ -48,8 +48,10 @@ returns-in-Ok-false-take_in-clause-damaged g c at same file told w =
     c.is_legal.ensures.fit
     (λ e is_record follows. refused e
     (subst (λ (x : List ℕ). IsRecord x e) (sym c.deref.ensures.value) is_record) follows) in
+    let within : c.args.scan.now.at ≤ MAX_JOURNAL_BYTES =
+    subst (λ p. p ≤ MAX_JOURNAL_BYTES) c.at-at.ensures.place c.at-at.ensures.within in
     subst (λ p. IsDamagedAt p file) (sym c.at-at.ensures.place ∙ same_place _ _ same)
-    (is_damaged _ _ file (illegal_stops _ _ _ _ file w _ here illegal))
+    (is_damaged _ _ file (illegal_stops _ _ _ _ file w within _ here illegal))
 
 pub returns-in-Ok-false-clause-ended : goal.returns-in-Ok-false-clause-ended
 returns-in-Ok-false-clause-ended g c same file told w =
@@ -63,5 +65,7 @@ returns-in-Err-Damaged-clause-damaged g c at same file told w =
     let is : c.next.result ≡ Err (Damaged c.in-Err-Damaged.at) = search rules in
     let here = known _ _ _ _ _ is (c.next.ensures.next file told) in
     let told_at : the_fault c.in-Err-Damaged.at ≡ the_fault at = search rules in
+    let within : c.args.scan.now.at ≤ MAX_JOURNAL_BYTES =
+    subst (λ p. p ≤ MAX_JOURNAL_BYTES) c.at-at.ensures.place c.at-at.ensures.within in
     subst (λ p. IsDamagedAt p file) (sym here.0 ∙ same_place _ _ told_at)
-    (is_damaged _ _ file (stops _ _ _ _ file w here.1 here.2))
+    (is_damaged _ _ file (stops _ _ _ _ file w within here.1 here.2))

@@ -9,6 +9,7 @@ returns-in-Ok-clause-opened g c =
       whole = opened.whole;
       read = opened.stands;
       quiet = opened.quiet;
+      only = opened.only;
     }
 
 pub returns-in-Err-clause-found : goal.returns-in-Err-clause-found

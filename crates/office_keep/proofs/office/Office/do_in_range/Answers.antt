@@ -1,6 +1,6 @@
 use Rattle.office_keep.proofs.Offices.{stands_now}
 use Rattle.office_keep.proofs.Performing.{answers_blame_none, leaves_change, performs_change}
-use Rattle.office_keep.proofs.Performing.{stays_by}
+use Rattle.office_keep.proofs.Performing.{settles_change, settles_nothing, stays_by}
 use Rattle.office_keep.proofs.Runs.{leaves_still, leaves_weaker}
 use Rattle.office_keep.proofs.office.Office.do_in_range.Goals as goal
 
@@ -33,3 +33,15 @@ pub returns-in-Change-clause-any_moment : goal.returns-in-Change-clause-any_mome
 returns-in-Change-clause-any_moment g c =
     rw (← c.self.view_is) (leaves_change g.D.Disk.moment g.D.Disk.images_since _ _ c.args.reading
     c.args.request.now c.in-Change.command c.in-Change.is c.change.ensures.any_moment)
+
+pub returns-then-not-in_range-clause-after_settling :
+    goal.returns-then-not-in_range-clause-after_settling
+returns-then-not-in_range-clause-after_settling g c =
+    rw (← c.self.view_is) (settles_nothing g.D.Disk.images g.D.Disk.moment g.D.Disk.images_since _
+    c.args.reading c.args.request.now)
+
+pub returns-in-Change-clause-after_settling : goal.returns-in-Change-clause-after_settling
+returns-in-Change-clause-after_settling g c =
+    rw (← c.self.view_is) (settles_change g.D.Disk.images g.D.Disk.moment g.D.Disk.images_since _ _
+    c.args.reading c.args.request.now c.in-Change.command c.in-Change.is
+    c.change.ensures.after_settling)

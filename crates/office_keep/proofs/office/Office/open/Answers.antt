@@ -17,22 +17,39 @@ invariant_of-result g c =
     let none : records c.in-Ok-new.core.office.history ≡ [] =
     ap (λ (o : Office). records o.history) c.in-Ok-new.ensures.office in
     record {
-      tail = c.ready.ensures.1 ∙ c.in-Ok-load.ensures.place (b.at ∙ sym (ap tail_of none));
-      none = c.ready.ensures.2;
+      tail = c.in-Ok-ready.ensures.place.0
+          ∙ c.in-Ok-load.ensures.place (b.at ∙ sym (ap tail_of none));
+      none = c.in-Ok-ready.ensures.place.1;
       each = λ file image.
-          let told = b.only file (c.load.ensures.quiet.no_more file
-          (subst (λ d. g.D.Disk.images d file) c.ready.ensures.0 image)) in
-          c.in-Ok-load.ensures.stands file (b.same ∙ told)
+          let told = sym c.load.ensures.content ∙ c.in-Ok-ready.ensures.only file image in
+          c.in-Ok-load.ensures.stands file told
           (walks_first_over _ _ _ file (c.in-Ok-new.ensures.office) c.origin.ensures
-          (b.header file told) b.at);
+          (b.header file (sym b.same ∙ told)) b.at);
     }
 
-pub returns-in-Ok-load-clause-stands : goal.returns-in-Ok-load-clause-stands
-returns-in-Ok-load-clause-stands g c file told =
+pub returns-in-Ok-ready-clause-stands : goal.returns-in-Ok-ready-clause-stands
+returns-in-Ok-ready-clause-stands g c file told =
     let b = c.in-Ok.ensures.begun in
     c.in-Ok-load.ensures.stands file (b.same ∙ told)
     (walks_first_over _ _ _ file (c.in-Ok-new.ensures.office) c.origin.ensures
     (b.header file told) b.at)
+
+pub returns-in-Ok-ready-clause-quiet : goal.returns-in-Ok-ready-clause-quiet
+returns-in-Ok-ready-clause-quiet g c =
+    quiet_then g.D.Disk.images g.D.Disk.moment g.D.Disk.images_since _ _ _
+    (quiet_then g.D.Disk.images g.D.Disk.moment g.D.Disk.images_since _ _ _ c.in-Ok.ensures.quiet
+    c.load.ensures.quiet) c.in-Ok-ready.ensures.quiet
+
+pub returns-in-Ok-ready-clause-only : goal.returns-in-Ok-ready-clause-only
+returns-in-Ok-ready-clause-only g c file image =
+    sym c.in-Ok.ensures.begun.same ∙ sym c.load.ensures.content
+    ∙ c.in-Ok-ready.ensures.only file image
+
+pub returns-in-Err-ready-clause-quiet_err : goal.returns-in-Err-ready-clause-quiet_err
+returns-in-Err-ready-clause-quiet_err g c =
+    quiet_then g.D.Disk.images g.D.Disk.moment g.D.Disk.images_since _ _ _
+    (quiet_then g.D.Disk.images g.D.Disk.moment g.D.Disk.images_since _ _ _ c.in-Ok.ensures.quiet
+    c.load.ensures.quiet) c.in-Err-ready.ensures.quiet_err
 
 pub returns-in-Err-load-clause-damaged : goal.returns-in-Err-load-clause-damaged
 returns-in-Err-load-clause-damaged g c at same file told =
