@@ -11,6 +11,7 @@ use Rattle.office_session.specs.declared.SessionEnd.{SessionEnd}
 use Rattle.office_counter.specs.Laws.{Extends, IsOwned}
 use Rattle.wire_session.specs.Treats.{Treats, refusal_text}
 use Rattle.own_counter.specs.Own.{OwnAsks, OwnOn, own_on, standing_of}
+use Rattle.own_counter.specs.Requests.{AddNoOther, turns_of}
 use Rattle.own_counter.specs.Runs.{IsBetween}
 use Rattle.journal_commands.specs.Serving.{IsServed, Outside, with_counter}
 
@@ -34,8 +35,10 @@ module _ {D : Type 0} (images : D → List ℕ → Type 0) (moment : D → ℕ)
     (since : D → ℕ → List ℕ → Type 0) (faults : D → ℕ) (office : OfficeOn D) (end : SessionEnd)
     (old new : Outside) (disk : D) (last : OwnOn D) (back : OfficeOn D) where
   pub as_served :
-      EndsSo (Treats (OwnAsks images moment since faults)) refusal_text end
-      (with_counter old (own_on office [])) (with_counter new last) →
+      (ends : EndsSo (Treats (OwnAsks images moment since faults)) refusal_text end
+      (with_counter old (own_on office [])) (with_counter new last)) →
+      AddNoOther (turns_of (Treats (OwnAsks images moment since faults)) refusal_text end
+      (with_counter old (own_on office [])) (with_counter new last) ends) office last.kept →
       back ≡ last.kept → disk ≡ back.disk → IsWhole back.office →
       Extends office.office last.kept.office → IsOwned (standing_of faults last) →
       All (StandsFor office.office) (images office.disk) →
@@ -43,7 +46,7 @@ module _ {D : Type 0} (images : D → List ℕ → Type 0) (moment : D → ℕ)
       LeavesOnly moment since office.disk last.kept.disk
       (IsBetween office.office last.kept.office) →
       IsServed images moment since faults office end old new disk
-  as_served ends given handed whole grows owned stood stands moments =
+  as_served ends no_other given handed whole grows owned stood stands moments =
       let P : D → Type 0 = λ d.
       LeavesOnly moment since office.disk d (IsBetween office.office last.kept.office) in
       let Q : D → Type 0 = λ d.
@@ -57,6 +60,7 @@ module _ {D : Type 0} (images : D → List ℕ → Type 0) (moment : D → ℕ)
         handed_back = is_back;
         whole = subst R given whole;
         grows = grows;
+        no_other = no_other;
         owned = owned;
         stood = stood;
         stands = subst Q (sym is_back) (subst S given stands);

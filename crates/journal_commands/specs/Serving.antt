@@ -8,6 +8,7 @@ use Rattle.office_session.specs.declared.SessionEnd.{SessionEnd}
 use Rattle.office_counter.specs.Laws.{Extends, IsOwned}
 use Rattle.wire_session.specs.Treats.{Treats, refusal_text}
 use Rattle.own_counter.specs.Own.{OwnAsks, OwnOn, own_on, standing_of}
+use Rattle.own_counter.specs.Requests.{AddNoOther, turns_of}
 use Rattle.own_counter.specs.Runs.{IsBetween}
 use Rattle.own_counter.specs.office_keep.Opening.{IsFoundOn, Opens}
 use Rattle.journal_commands.specs.declared.serving.PipeEnd.{PipeEnd}
@@ -29,7 +30,8 @@ with_counter sides counter =
     record { left = sides.left; to_come = sides.to_come; handler = counter; held = sides.held }
 
 -- A session over an office in which nothing is in doubt, asked of a counter that owns it: it ended
--- so. The history grew, and holds each change that was acknowledged once. Each image of the disk
+-- so. The history grew by entries that the session's messages ask for, and no other, and holds each
+-- change that was acknowledged once. Each image of the disk
 -- that is handed back stands for the last history, or for it with the one entry in doubt, and at
 -- each moment a stop left a history between the first and the last, or one with one entry more.
 pub record IsServed {D : Type 0} (images : D → List ℕ → Type 0) (moment : D → ℕ)
@@ -41,6 +43,8 @@ pub record IsServed {D : Type 0} (images : D → List ℕ → Type 0) (moment : 
   pub handed_back : disk ≡ last.kept.disk
   pub whole : IsWhole last.kept.office
   pub grows : Extends office.office last.kept.office
+  pub no_other : AddNoOther (turns_of (Treats (OwnAsks images moment since faults)) refusal_text
+      end (with_counter old (own_on office [])) (with_counter new last) ends) office last.kept
   pub owned : IsOwned (standing_of faults last)
   pub stood : All (StandsFor office.office) (images office.disk)
   pub stands : All (StandsSettled last.kept.office last.kept.doubt) (images disk)

@@ -5,7 +5,8 @@ ghost use Rattle.journal_commands.specs.Serving.{EndsServing, IsServed, outside}
 
 use office_outside::{Clock, Disk, Sink, Source};
 use office_session::SessionEnd;
-use own_counter::{Office, OwnCounter, Unopened, a_stop_leaves_what_was_kept, open_journal};
+use own_counter::{Office, OwnCounter, Unopened, open_journal};
+use own_counter::{a_session_adds_what_is_asked, a_stop_leaves_what_was_kept};
 use std::alloc::Global;
 use wire_session::{own_places_stay_in_a_session, session, what_is_seen_grows_in_a_session};
 
@@ -38,6 +39,7 @@ fn serve<D: Disk + Drop, S: Source, K: Sink, C: Clock>(
     office.disk_stands();
     let mut counter = OwnCounter::new(alloc, office);
     a_stop_leaves_what_was_kept::<D>();
+    a_session_adds_what_is_asked::<D>();
     own_places_stay_in_a_session::<OwnCounter<D>>();
     what_is_seen_grows_in_a_session::<OwnCounter<D>>();
     let end = session(alloc, &mut counter, input, output, clock);

@@ -5,6 +5,7 @@ ghost use Rattle.office_outside.specs.Disk.{All, LeavesOnly};
 ghost use Rattle.office_session.specs.declared.SessionEnd.{SessionEnd};
 ghost use Rattle.office_session.specs.Sessions.{EndsSo, Scene, Trace, Turn};
 ghost use Rattle.own_counter.specs.Own.{OwnAsks, OwnOn};
+ghost use Rattle.own_counter.specs.Requests.{AddNoOther, turns_of};
 ghost use Rattle.own_counter.specs.Runs.{IsBetween};
 ghost use Rattle.wire_session.specs.Treats.{Treats};
 
@@ -25,4 +26,18 @@ pub fn a_stop_leaves_what_was_kept<D: Disk + Drop>()
         (D.images old.handler.kept.disk)
         → LeavesOnly D.moment D.images_since old.handler.kept.disk new.handler.kept.disk
         (IsBetween old.handler.kept.office new.handler.kept.office) }
+{}
+
+/// A session adds the entries of its requests, each at most once and in their order, and no other:
+/// but for what was in doubt before it, each entry behind the history that it began with, and the
+/// one in doubt, is that of a change which the message of one of its turns asks for.
+pub fn a_session_adds_what_is_asked<D: Disk + Drop>()
+    ensures turns { (count : ℕ) (old : OwnOn D) (turns : List Turn) (new : OwnOn D)
+        → Trace (Treats (OwnAsks D.images D.moment D.images_since D.faults)) count old turns new
+        → AddNoOther turns old.kept new.kept }
+    ensures end { (refusal : OwnOn D → ℕ → List ℕ) (end : SessionEnd) (old new : Scene (OwnOn D))
+        → (ends : EndsSo (Treats (OwnAsks D.images D.moment D.images_since D.faults)) refusal end
+        old new) → AddNoOther (turns_of
+        (Treats (OwnAsks D.images D.moment D.images_since D.faults)) refusal end old new ends)
+        old.handler.kept new.handler.kept }
 {}

@@ -7,5 +7,5 @@ mod counter;
 mod laws;
 
 pub use counter::OwnCounter;
-pub use laws::a_stop_leaves_what_was_kept;
+pub use laws::{a_session_adds_what_is_asked, a_stop_leaves_what_was_kept};
 pub use office_keep::{KeepFailed, KeepFault, Office, Unopened, let_go, open_journal};

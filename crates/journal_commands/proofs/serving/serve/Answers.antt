@@ -25,7 +25,8 @@ returns-clause-served g c =
     let stands = c.disk_stands.ensures.stands in
     as_served D.images D.moment D.images_since D.faults office end old new
     c.into_disk-disk.result last c.give_back-office.result
-    ends c.give_back-office.ensures c.into_disk-disk.ensures c.disk_stands-2.ensures.whole
+    ends (c.a_session_adds_what_is_asked.ensures.end refusal_text end first (with_counter new last)
+    ends) c.give_back-office.ensures c.into_disk-disk.ensures c.disk_stands-2.ensures.whole
     (c.what_is_seen_grows_in_a_session.ensures.end end first (with_counter new last) ends)
     (c.own_places_stay_in_a_session.ensures.end end first (with_counter new last) ends
     (none_owned office.office (D.faults office.disk)))
