@@ -33,12 +33,13 @@ module _ (status : ℕ) (said said_after : Option (List ℕ)) (tellings tellings
       unopened_not_refused status said said_after tellings tellings_after why s e
 
 module _ {D A I O C : Type 0} (content : D → Option (List ℕ)) (images : D → List ℕ → Type 0)
-    (moment : D → ℕ) (since : D → ℕ → List ℕ → Type 0) (site : Site A I O C) (status : ℕ)
+    (moment : D → ℕ) (since : D → ℕ → List ℕ → Type 0) (site : Site A I O C)
+    (port status : ℕ)
     (said said_after : Option (List ℕ)) (tellings tellings_after : ℕ)
     (old new : Front A (Visit I O C)) (before after : D) where
   pub server_bad : (end : ServerEnd) →
       SettledServer end status said said_after tellings tellings_after →
-      EndsServer content images moment since site end old new before after →
+      EndsServer content images moment since site port end old new before after →
       status ≡ BAD_FILE → (file : List ℕ) → content before ≡ Some file → IsBad file
   server_bad (server.Served end) s ends e file read =
       absurd (serving_bad status said said_after tellings tellings_after end s e)
@@ -48,9 +49,10 @@ module _ {D A I O C : Type 0} (content : D → Option (List ℕ)) (images : D �
 
   pub server_done : (end : ServerEnd) →
       SettledServer end status said said_after tellings tellings_after →
-      EndsServer content images moment since site end old new before after → status ≡ DONE →
+      EndsServer content images moment since site port end old new before after →
+      status ≡ DONE →
       Opens content images moment since
-      (λ office. IsServed images site office serving.Done old new after) before
+      (λ office. IsServed images site port office serving.Done old new after) before
   server_done (server.Served serving.Done) s ends e = ends
   server_done (server.Served serving.WriteFault) s ends e = absurd (omega (arith, s.0, e))
   server_done (server.Served serving.DoorsFault) s ends e = absurd (omega (arith, s.0, e))

@@ -70,16 +70,17 @@ pub fn run<
         (world (S.left input.new) (S.faults input.new) (K.held output.new) (K.faults output.new)
         (E.held faults.new) (E.faults faults.new) (C.to_come clock.new) result.disk) }
 
-    // `serve` serves the journal to the visitors of the doors; want of memory may come before.
+    // `serve` serves the journal to the visitors of doors at its port, which are asked for once;
+    // want of memory may come before.
     ensures serves { (port : ℕ) → asked_of (map string_bytes words.now) ≡ Some (Serve port)
         → ((result.status ≡ NO_MEMORY) × (doors.new ≡ doors.old) × (result.disk ≡ disk))
         ⊎ RunsServe D.content D.images D.moment D.images_since
         (site (TurnAsks D.images D.moment D.images_since D.faults)
         (looks A.One.In.left A.One.In.faults A.One.Out.held A.One.Out.faults A.One.Time.to_come)
-        (λ d. A.One.told d) (λ d. A.One.faults d)) result.status (E.held faults.old)
+        (λ d. A.One.told d) (λ d. A.One.faults d)) port result.status (E.held faults.old)
         (E.held faults.new) (E.faults faults.old) (E.faults faults.new)
-        (front (A.told doors.old) (K.held output.old)) (front (A.told doors.new)
-        (K.held output.new)) disk result.disk }
+        (front (A.told doors.old) (A.ports doors.old) (K.held output.old))
+        (front (A.told doors.new) (A.ports doors.new) (K.held output.new)) disk result.disk }
 
     // USAGE: where the words are no form of a command, and only there; want of memory may come in
     // its place. The input stays as it was.

@@ -55,10 +55,10 @@ pub fn run_serve<R: Wait + Threads + Sync, K: Sink, E: Sink, D: Disk + Send + Dr
     ensures served { RunsServe D.content D.images D.moment D.images_since
         (site (TurnAsks D.images D.moment D.images_since D.faults)
         (looks S.One.In.left S.One.In.faults S.One.Out.held S.One.Out.faults S.One.Time.to_come)
-        (λ d. S.One.told d) (λ d. S.One.faults d)) result.status (E.held faults.old)
+        (λ d. S.One.told d) (λ d. S.One.faults d)) port result.status (E.held faults.old)
         (E.held faults.new) (E.faults faults.old) (E.faults faults.new)
-        (front (S.told doors.old) (K.held output.old)) (front (S.told doors.new)
-        (K.held output.new)) disk result.disk }
+        (front (S.told doors.old) (S.ports doors.old) (K.held output.old))
+        (front (S.told doors.new) (S.ports doors.new) (K.held output.new)) disk result.disk }
     ensures silent { result.status ≡ DONE → E.held faults.new ≡ E.held faults.old }
     ensures write { result.status ≡ WRITE_FAULT →
         Rose (K.faults output.old) (K.faults output.new) }

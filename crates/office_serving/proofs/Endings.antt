@@ -20,8 +20,8 @@ use Rattle.turn_counter.specs.office_keep.Files.{IsWhole}
 use Rattle.turn_counter.specs.office_keep.Office.{OfficeOn, StandsSettled}
 use Rattle.turn_counter.specs.Holding.{NewPassesSeeAll, PassesSeeBeginnings}
 use Rattle.turn_counter.specs.Seen.{ledger_of, office_seen, standing_of}
-use Rattle.office_serving.specs.Serving.{AreOpened, EndsServing, Front, IsServed, Ran, SaidNotReady}
-use Rattle.office_serving.specs.Serving.{WereOpen, front, ready_line}
+use Rattle.office_serving.specs.Serving.{AreOpened, AskedAt, EndsServing, Front, IsServed, Ran}
+use Rattle.office_serving.specs.Serving.{SaidNotReady, WereOpen, front, ready_line}
 use Rattle.office_serving.specs.Workers.{AreClosed, GoesOn, RanWorkers, Site, WorkersServe}
 use Rattle.office_serving.specs.Workers.{WorksEach}
 use Rattle.office_serving.specs.declared.serving.ServeEnd.{ServeEnd}
@@ -31,7 +31,7 @@ use Rattle.office_serving.specs.declared.workers.TheConstants.{WORKERS}
 use Rattle.office_serving.proofs.Chains.{moves_both, moves_still}
 use Rattle.office_serving.proofs.Lists.{all_more}
 
-module _ {A I O C : Type 0} (site : Site A I O C) where
+module _ {A I O C : Type 0} (site : Site A I O C) (port : ℕ) where
   open_book : (opened closed : List A) → length opened ≡ WORKERS
       → (a b c : Entrance A (Visit I O C)) → Opens site.told opened a b → AreClosed closed b c
       → WereOpen site.told opened closed a c
@@ -56,24 +56,30 @@ module _ {A I O C : Type 0} (site : Site A I O C) where
       (open_book opened closed count) a b c opens closes
 
   pub not_ready : (opened : List A) (a b c : Option (Entrance A (Visit I O C)))
-      (held held_after : Option (List ℕ)) → AreOpened site opened a
+      (ports ports_after : List ℕ) (held held_after : Option (List ℕ)) → AreOpened site opened a
+      → AskedAt port ports ports_after
       → GainedPrefix ready_line held held_after → Moves (Opens site.told opened) a b
-      → Moves (AreClosed opened) b c → SaidNotReady site (front a held) (front c held_after)
-  not_ready opened a b c held held_after are part opens closes = record {
+      → Moves (AreClosed opened) b c
+      → SaidNotReady site port (front a ports held) (front c ports_after held_after)
+  not_ready opened a b c ports ports_after held held_after are asked part opens closes = record {
     opened = opened;
+    asked = asked;
     are_opened = are;
     part = part;
     were_open = were_open opened opened are.count a b c opens closes;
   }
 
   abbrev ran : (start : PassState) (opened : List A) (a b c : Option (Entrance A (Visit I O C)))
-      (held held_after : Option (List ℕ)) (ends : List PassState) (well : Bool)
-      → AreOpened site opened a → Gained ready_line held held_after
+      (ports ports_after : List ℕ) (held held_after : Option (List ℕ)) (ends : List PassState)
+      (well : Bool) → AreOpened site opened a → AskedAt port ports ports_after
+      → Gained ready_line held held_after
       → Moves (Opens site.told opened) a b → RanWorkers site start opened b c ends well
-      → Ran site (λ o d. WorksEach site start o d ends) (front a held) (front c held_after)
-  ran start opened a b c held held_after ends well are ready opens r = record {
+      → Ran site port (λ o d. WorksEach site start o d ends) (front a ports held)
+      (front c ports_after held_after)
+  ran start opened a b c ports after held held_after ends well are asked ready opens r = record {
     opened = opened;
     closed = r.closed;
+    asked = asked;
     are_opened = are;
     ready = ready;
     serve = r.works;
@@ -82,31 +88,39 @@ module _ {A I O C : Type 0} (site : Site A I O C) where
   }
 
   pub after_work : (start : PassState) (opened : List A)
-      (a b c : Option (Entrance A (Visit I O C))) (held held_after : Option (List ℕ))
+      (a b c : Option (Entrance A (Visit I O C))) (ports ports_after : List ℕ)
+      (held held_after : Option (List ℕ))
       (ends : List PassState) (well : Bool) (end : ServeEnd)
       → (well ≡ true → end ≡ Done) → (well ≡ false → end ≡ DoorsFault)
-      → AreOpened site opened a → Gained ready_line held held_after
+      → AreOpened site opened a → AskedAt port ports ports_after
+      → Gained ready_line held held_after
       → Moves (Opens site.told opened) a b → RanWorkers site start opened b c ends well
-      → EndsServing site (λ o d. WorksEach site start o d ends) end (front a held)
-      (front c held_after)
-  after_work start opened a b c held held_after ends true end if_well if_not are ready opens r =
-      subst (λ (e : ServeEnd). EndsServing site (λ o d. WorksEach site start o d ends) e
-      (front a held) (front c held_after)) (sym (if_well refl))
+      → EndsServing site port (λ o d. WorksEach site start o d ends) end (front a ports held)
+      (front c ports_after held_after)
+  after_work start opened a b c ports ports_after held held_after ends true end if_well if_not are
+      asked ready opens r =
+      subst (λ (e : ServeEnd). EndsServing site port (λ o d. WorksEach site start o d ends) e
+      (front a ports held) (front c ports_after held_after)) (sym (if_well refl))
       (record {
-        ran = ran start opened a b c held held_after ends true are ready opens r;
+        ran =
+            ran start opened a b c ports ports_after held held_after ends true are asked ready opens
+            r;
         ended = r.ended refl;
       })
-  after_work start opened a b c held held_after ends false end if_well if_not are ready opens r =
-      subst (λ (e : ServeEnd). EndsServing site (λ o d. WorksEach site start o d ends) e
-      (front a held) (front c held_after)) (sym (if_not refl))
-      (inl (ran start opened a b c held held_after ends false are ready opens r))
+  after_work start opened a b c ports ports_after held held_after ends false end if_well if_not are
+      asked ready opens r =
+      subst (λ (e : ServeEnd). EndsServing site port (λ o d. WorksEach site start o d ends) e
+      (front a ports held) (front c ports_after held_after)) (sym (if_not refl))
+      (inl (ran start opened a b c ports ports_after held held_after ends false are asked ready
+      opens r))
 
   module _ (Serve Other : List A → List A → Type 0)
       (more : (o d : List A) → Serve o d → Other o d) (old new : Front A (Visit I O C)) where
-    abbrev ran_more : Ran site Serve old new → Ran site Other old new
+    abbrev ran_more : Ran site port Serve old new → Ran site port Other old new
     ran_more r = record {
       opened = r.opened;
       closed = r.closed;
+      asked = r.asked;
       are_opened = r.are_opened;
       ready = r.ready;
       serve = more r.opened r.closed r.serve;
@@ -114,8 +128,8 @@ module _ {A I O C : Type 0} (site : Site A I O C) where
       back = r.back;
     }
 
-    ends_more : (end : ServeEnd) → EndsServing site Serve end old new
-        → EndsServing site Other end old new
+    ends_more : (end : ServeEnd) → EndsServing site port Serve end old new
+        → EndsServing site port Other end old new
     ends_more Done e = record { ran = ran_more e.ran; ended = e.ended }
     ends_more WriteFault e = e
     ends_more DoorsFault (inl r) = inl (ran_more r)
@@ -130,12 +144,13 @@ at_desk start passes go =
 
 -- an office before its first visit
 pub not_served : {D A I O C : Type 0} (images : D → List ℕ → Type 0) (site : Site A I O C)
-    (office back : OfficeOn D) (entrance : Option (Entrance A (Visit I O C)))
-    (held : Option (List ℕ)) (disk : D) → back ≡ office → disk ≡ back.disk
+    (port : ℕ) (office back : OfficeOn D) (entrance : Option (Entrance A (Visit I O C)))
+    (ports : List ℕ) (held : Option (List ℕ)) (disk : D) → back ≡ office → disk ≡ back.disk
     → IsWhole office.office
     → disks.All (StandsSettled office.office office.doubt) (images office.disk)
-    → IsServed images site office NoMemory (front entrance held) (front entrance held) disk
-not_served {D} images site office back entrance held disk same handed whole stands =
+    → IsServed images site port office NoMemory (front entrance ports held)
+    (front entrance ports held) disk
+not_served {D} images site port office back entrance ports held disk same handed whole stands =
     let is : disk ≡ office.disk = handed ∙ ap (λ (o : OfficeOn D). o.disk) same in
     record {
       last = office;
@@ -144,12 +159,16 @@ not_served {D} images site office back entrance held disk same handed whole stan
       whole = whole;
       stands = subst (λ (d : D). disks.All (StandsSettled office.office office.doubt) (images d))
           (sym is) stands;
-      ends = record { entrance = moves_still Stays (λ e. refl) entrance; held = refl };
+      ends = record {
+        entrance = moves_still Stays (λ e. refl) entrance;
+        asked = inl refl;
+        held = refl;
+      };
     }
 
 -- what the closing of the desk says of the passes, told of the office
 module _ {D A I O C : Type 0} (beginnings : PassesSeeBeginnings) (all : NewPassesSeeAll)
-    (images : D → List ℕ → Type 0) (faults : D → ℕ) (site : Site A I O C)
+    (images : D → List ℕ → Type 0) (faults : D → ℕ) (site : Site A I O C) (port : ℕ)
     (first last : OfficeOn D) (desk : TableId) (passes : List PassState) where
   abbrev pub begin : PassState
   begin = newcomer desk (ledger_of faults first).root (ledger_of faults first).history
@@ -206,8 +225,8 @@ module _ {D A I O C : Type 0} (beginnings : PassesSeeBeginnings) (all : NewPasse
       → All (λ p. p.root ≡ (ledger_of faults last).root) passes
       → All (λ p. Begins p.seen (ledger_of faults last).history) passes
       → Distinct (flat_map (λ p. p.own) passes)
-      → EndsServing site (λ o d. WorksEach site begin o d passes) end old new
-      → IsServed images site first end old new disk
+      → EndsServing site port (λ o d. WorksEach site begin o d passes) end old new
+      → IsServed images site port first end old new disk
   served end old new disk was_whole was_low whole low handed stands count go roots seen apart
       ends =
       let is = sees_first was_whole was_low in
@@ -219,7 +238,7 @@ module _ {D A I O C : Type 0} (beginnings : PassesSeeBeginnings) (all : NewPasse
         whole = whole;
         stands = subst (λ (d : D). disks.All (StandsSettled last.office last.doubt) (images d))
             (sym handed) stands;
-        ends = ends_more site (λ o d. WorksEach site begin o d passes)
+        ends = ends_more site port (λ o d. WorksEach site begin o d passes)
             (WorkersServe site first.office last.office)
             (workers_serve is go extends apart) old new end ends;
       }

@@ -1,5 +1,5 @@
 -- How the serving of an office ends.
-use Rattle.std.specs.Prelude.{◌≡◌, ◌⊎◌, ℕ, ◌+◌, List, [], ◌++◌, length, flat_map, All, codes}
+use Rattle.std.specs.Prelude.{◌≡◌, ◌⊎◌, ℕ, ◌+◌, List, [], ◌∷◌, ◌++◌, length, flat_map, All, codes}
 use Rattle.std.specs.Prelude.{Option, is_some, true}
 use Rattle.office_outside.specs.Disk as disks
 use Rattle.office_outside.specs.Told.{Gained, GainedPrefix}
@@ -25,13 +25,23 @@ pub record WereOpen {A V : Type 0} (told : A → Option (Book V)) (opened closed
   pub count : new.opened ≡ old.opened + length opened
   pub closed_are : new.closed ≡ old.closed ++ closed
 
--- what the serving speaks to beside the office: what its doors tell, and what `ready` holds
+-- what the serving speaks to beside the office: what its doors tell, the ports that they were asked
+-- for at, and what `ready` holds
 pub record Front (A V : Type 0) : Type 0 where
   pub entrance : Option (Entrance A V)
+  pub ports : List ℕ
   pub held : Option (List ℕ)
 
-abbrev pub front : {A V : Type 0} → Option (Entrance A V) → Option (List ℕ) → Front A V
-front entrance held = record { entrance = entrance; held = held }
+abbrev pub front : {A V : Type 0} → Option (Entrance A V) → List ℕ → Option (List ℕ) → Front A V
+front entrance ports held = record { entrance = entrance; ports = ports; held = held }
+
+-- doors were asked for once, at this port
+abbrev pub AskedAt : ℕ → List ℕ → List ℕ → Type 0
+AskedAt port old new = new ≡ old ++ port ∷ []
+
+-- doors were asked for once, at this port, or not at all
+abbrev pub AskedAtMost : ℕ → List ℕ → List ℕ → Type 0
+AskedAtMost port old new = (new ≡ old) ⊎ AskedAt port old new
 
 -- the bytes that say that visitors may come
 abbrev pub ready_line : List ℕ
@@ -44,12 +54,13 @@ pub record AreOpened {A I O C : Type 0} (site : Site A I O C) (opened : List A)
   pub fresh : All (λ d. Tells IsFresh (site.told d)) opened
   pub tell : Tells (λ _. All (λ d. is_some (site.told d) ≡ true) opened) old
 
--- Doors were opened, `ready` was said, and then workers served them as `Serve` says. The doors were
--- closed again, each when all visits that it had handed out had come back.
-pub record Ran {A I O C : Type 0} (site : Site A I O C) (Serve : List A → List A → Type 0)
-    (old new : Front A (Visit I O C)) : Type 0 where
+-- Doors were opened at the port, `ready` was said, and then workers served them as `Serve` says.
+-- The doors were closed again, each when all visits that it had handed out had come back.
+pub record Ran {A I O C : Type 0} (site : Site A I O C) (port : ℕ)
+    (Serve : List A → List A → Type 0) (old new : Front A (Visit I O C)) : Type 0 where
   pub opened : List A
   pub closed : List A
+  pub asked : AskedAt port old.ports new.ports
   pub are_opened : AreOpened site opened old.entrance
   pub ready : Gained ready_line old.held new.held
   pub serve : Serve opened closed
@@ -57,40 +68,45 @@ pub record Ran {A I O C : Type 0} (site : Site A I O C) (Serve : List A → List
   pub back : All (λ d. Tells HasAllBack (site.told d)) closed
 
 -- It ended well: each door has handed out all visits that it had.
-pub record RanToEnd {A I O C : Type 0} (site : Site A I O C) (Serve : List A → List A → Type 0)
-    (old new : Front A (Visit I O C)) : Type 0 where
-  pub ran : Ran site Serve old new
+pub record RanToEnd {A I O C : Type 0} (site : Site A I O C) (port : ℕ)
+    (Serve : List A → List A → Type 0) (old new : Front A (Visit I O C)) : Type 0 where
+  pub ran : Ran site port Serve old new
   pub ended : All (λ d. Tells HasEnded (site.told d)) ran.closed
 
--- No visit was taken: the doors that were opened are closed as they were.
-pub record SaidNotReady {A I O C : Type 0} (site : Site A I O C)
+-- No visit was taken: the doors that were opened at the port are closed as they were.
+pub record SaidNotReady {A I O C : Type 0} (site : Site A I O C) (port : ℕ)
     (old new : Front A (Visit I O C)) : Type 0 where
   pub opened : List A
+  pub asked : AskedAt port old.ports new.ports
   pub are_opened : AreOpened site opened old.entrance
   pub part : GainedPrefix ready_line old.held new.held
   pub were_open : Moves (WereOpen site.told opened opened) old.entrance new.entrance
 
--- no door was opened
-pub record NoneOpened {A V : Type 0} (old new : Front A V) : Type 0 where
+-- no door was opened, and doors were asked for like this
+pub record NoneOpened {A V : Type 0} (Asked : List ℕ → List ℕ → Type 0) (old new : Front A V) :
+    Type 0 where
   pub entrance : Moves Stays old.entrance new.entrance
+  pub asked : Asked old.ports new.ports
   pub held : new.held ≡ old.held
 
 -- what each end says
-abbrev pub EndsServing : {A I O C : Type 0} → Site A I O C → (List A → List A → Type 0)
+abbrev pub EndsServing : {A I O C : Type 0} → Site A I O C → ℕ → (List A → List A → Type 0)
     → ServeEnd → Front A (Visit I O C) → Front A (Visit I O C) → Type 0
-EndsServing site Serve Done old new = RanToEnd site Serve old new
-EndsServing site Serve WriteFault old new = SaidNotReady site old new
-EndsServing site Serve DoorsFault old new = Ran site Serve old new ⊎ NoneOpened old new
-EndsServing site Serve NoMemory old new = NoneOpened old new
+EndsServing site port Serve Done old new = RanToEnd site port Serve old new
+EndsServing site port Serve WriteFault old new = SaidNotReady site port old new
+EndsServing site port Serve DoorsFault old new =
+    Ran site port Serve old new ⊎ NoneOpened (AskedAt port) old new
+EndsServing site port Serve NoMemory old new = NoneOpened (AskedAtMost port) old new
 
--- An office was served, and its disk is handed back: the history extends the one that was handed
--- in, and is legal. Each image of the disk stands for it, or for it with the one entry in doubt.
+-- An office was served at a port, and its disk is handed back: the history extends the one that was
+-- handed in, and is legal. Each image of the disk stands for it, or for it with the one entry in
+-- doubt.
 pub record IsServed {D A I O C : Type 0} (images : D → List ℕ → Type 0) (site : Site A I O C)
-    (office : OfficeOn D) (end : ServeEnd) (old new : Front A (Visit I O C)) (disk : D) :
+    (port : ℕ) (office : OfficeOn D) (end : ServeEnd) (old new : Front A (Visit I O C)) (disk : D) :
     Type 0 where
   pub last : OfficeOn D
   pub handed_back : disk ≡ last.disk
   pub grows : Extends office.office last.office
   pub whole : IsWhole last.office
   pub stands : disks.All (StandsSettled last.office last.doubt) (images disk)
-  pub ends : EndsServing site (WorkersServe site office.office last.office) end old new
+  pub ends : EndsServing site port (WorkersServe site office.office last.office) end old new

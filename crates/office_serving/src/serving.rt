@@ -60,6 +60,7 @@ fn end_of_work(well: bool) -> ServeEnd
 fn shut<S: Doors>(opened: Vec<S::One>, doors: &mut S)
     requires open { Tells (HasRoom (length opened.items)) (S.told doors.old) }
     ensures closed { Moves (AreClosed opened.items) (S.told doors.old) (S.told doors.new) }
+    ensures ports { S.ports doors.new ≡ S.ports doors.old }
 {
     for door in opened {
         doors.close(door);
@@ -84,13 +85,13 @@ fn serve_at<R: Wait + Threads + Sync, D: Disk + Send + Drop, S: Doors, K: Sink>(
     ensures ends { (v : PassState) → All (λ p. p ≡ v) passes.old.items → EndsServing
         (site (TurnAsks D.images D.moment D.images_since D.faults)
         (looks S.One.In.left S.One.In.faults S.One.Out.held S.One.Out.faults S.One.Time.to_come)
-        (λ d. S.One.told d) (λ d. S.One.faults d))
+        (λ d. S.One.told d) (λ d. S.One.faults d)) port
         (λ opened closed. WorksEach
         (site (TurnAsks D.images D.moment D.images_since D.faults)
         (looks S.One.In.left S.One.In.faults S.One.Out.held S.One.Out.faults S.One.Time.to_come)
         (λ d. S.One.told d) (λ d. S.One.faults d)) v opened closed passes.new.items) result
-        (front (S.told doors.old) (K.held ready.old)) (front (S.told doors.new)
-        (K.held ready.new)) }
+        (front (S.told doors.old) (S.ports doors.old) (K.held ready.old))
+        (front (S.told doors.new) (S.ports doors.new) (K.held ready.new)) }
     ensures write { result ≡ ServeEnd.WriteFault →
         Rose (K.faults ready.old) (K.faults ready.new) }
     ensures doors { result ≡ ServeEnd.DoorsFault →
@@ -115,10 +116,10 @@ fn serve_at<R: Wait + Threads + Sync, D: Disk + Send + Drop, S: Doors, K: Sink>(
     end_of_work(well)
 }
 
-/// Serves an office to the visitors of four doors, by four workers that take turns, and hands its
-/// disk back. Each worker has all the memory of its sessions before a door is opened. `ready` is
-/// told when the doors are open, before any visit is taken. The doors are closed one by one after
-/// all workers have ended.
+/// Serves an office to the visitors of four doors at a port, by four workers that take turns, and
+/// hands its disk back. Each worker has all the memory of its sessions before a door is opened.
+/// `ready` is told when the doors are open, before any visit is taken. The doors are closed one by
+/// one after all workers have ended.
 pub fn serve<R: Wait + Threads + Sync, D: Disk + Send + Drop, S: Doors, K: Sink>(
     rt: &R,
     alloc: Global,
@@ -129,9 +130,9 @@ pub fn serve<R: Wait + Threads + Sync, D: Disk + Send + Drop, S: Doors, K: Sink>
 ) -> (ServeEnd, D)
     ensures served { IsServed D.images (site (TurnAsks D.images D.moment D.images_since D.faults)
         (looks S.One.In.left S.One.In.faults S.One.Out.held S.One.Out.faults S.One.Time.to_come)
-        (λ d. S.One.told d) (λ d. S.One.faults d)) office result.0
-        (front (S.told doors.old) (K.held ready.old)) (front (S.told doors.new)
-        (K.held ready.new)) result.1 }
+        (λ d. S.One.told d) (λ d. S.One.faults d)) port office result.0
+        (front (S.told doors.old) (S.ports doors.old) (K.held ready.old))
+        (front (S.told doors.new) (S.ports doors.new) (K.held ready.new)) result.1 }
     ensures write { result.0 ≡ ServeEnd.WriteFault →
         Rose (K.faults ready.old) (K.faults ready.new) }
     ensures doors { result.0 ≡ ServeEnd.DoorsFault →

@@ -158,6 +158,7 @@ fn dismiss<R: Wait, D: Disk + Drop, S: Doors>(
     ensures passes { passes.new.items ≡ map (λ w. w.counter) workers.entry.items }
     ensures closed { Moves (AreClosed (map (λ w. w.door) workers.entry.items))
         (S.told doors.old) (S.told doors.new) }
+    ensures ports { S.ports doors.new ≡ S.ports doors.old }
     ensures well { result ≡ true → All (λ w. w.end ≡ WorkEnd.Done) workers.entry.items }
     ensures cause { result ≡ false
         → All (λ w. w.end ≡ WorkEnd.DoorFault → 1 ≤ S.One.faults w.door) workers.entry.items
@@ -203,6 +204,7 @@ pub(crate) fn run_workers<'a, R: Wait + Threads + Sync, D: Disk + Send + Drop, S
         (looks S.One.In.left S.One.In.faults S.One.Out.held S.One.Out.faults S.One.Time.to_come)
         (λ d. S.One.told d) (λ d. S.One.faults d)) v opened.items (S.told doors.old)
         (S.told doors.new) passes.new.items result }
+    ensures ports { S.ports doors.new ≡ S.ports doors.old }
     ensures count { length passes.new.items ≡ length opened.items }
     ensures cause { result ≡ false → Rose (S.faults doors.old) (S.faults doors.new) }
 {

@@ -8,13 +8,13 @@ use Rattle.office_serving.specs.Workers.{Site}
 use Rattle.serve_command.specs.declared.serving.ServerEnd.{ServerEnd}
 use Rattle.serve_command.specs.declared.serving.ServerEnd.TheVariants.{Served, Unopened}
 
--- What each end says: the office that was opened was served; or no door was opened, `ready` was
--- told nothing, and no image came up.
+-- What each end says: the office that was opened was served at the port; or no door was asked for,
+-- `ready` was told nothing, and no image came up.
 abbrev pub EndsServer : {D A I O C : Type 0} → (D → Option (List ℕ)) → (D → List ℕ → Type 0)
-    → (D → ℕ) → (D → ℕ → List ℕ → Type 0) → Site A I O C → ServerEnd → Front A (Visit I O C)
+    → (D → ℕ) → (D → ℕ → List ℕ → Type 0) → Site A I O C → ℕ → ServerEnd → Front A (Visit I O C)
     → Front A (Visit I O C) → D → D → Type 0
-EndsServer content images moment since site (Served end) old new before after =
+EndsServer content images moment since site port (Served end) old new before after =
     Opens content images moment since
-    (λ office. IsServed images site office end old new after) before
-EndsServer content images moment since site (Unopened why) old new before after =
+    (λ office. IsServed images site port office end old new after) before
+EndsServer content images moment since site port (Unopened why) old new before after =
     IsFoundOn content why before × IsQuiet images moment since before after × (new ≡ old)

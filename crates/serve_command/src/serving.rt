@@ -37,9 +37,9 @@ pub fn serve_journal<R: Wait + Threads + Sync, D: Disk + Send + Drop, S: Doors, 
     ensures ends { EndsServer D.content D.images D.moment D.images_since
         (site (TurnAsks D.images D.moment D.images_since D.faults)
         (looks S.One.In.left S.One.In.faults S.One.Out.held S.One.Out.faults S.One.Time.to_come)
-        (λ d. S.One.told d) (λ d. S.One.faults d)) result.0
-        (front (S.told doors.old) (K.held ready.old)) (front (S.told doors.new)
-        (K.held ready.new)) disk result.1 }
+        (λ d. S.One.told d) (λ d. S.One.faults d)) port result.0
+        (front (S.told doors.old) (S.ports doors.old) (K.held ready.old))
+        (front (S.told doors.new) (S.ports doors.new) (K.held ready.new)) disk result.1 }
     ensures disk { result.0 ≡ ServerEnd.Unopened DiskFault →
         Rose (D.faults disk) (D.faults result.1) }
     ensures write { result.0 ≡ ServerEnd.Served ServeEnd.WriteFault →

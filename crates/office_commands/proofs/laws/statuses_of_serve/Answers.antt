@@ -2,15 +2,15 @@ use Rattle.office_commands.proofs.ServerLemmas.{server_bad, server_done, server_
 use Rattle.office_commands.proofs.laws.statuses_of_serve.Goals as goal
 
 pub returns : goal.returns
-returns g c = λ status said said_after tellings tellings_after old new before after runs.
+returns g c = λ port status said said_after tellings tellings_after old new before after runs.
     let D = g.D.Disk in
     record {
       bad_file =
-          server_bad D.content D.images D.moment D.images_since _ status said said_after tellings
-          tellings_after old new before after runs.end runs.settled runs.serves;
+          server_bad D.content D.images D.moment D.images_since _ port status said said_after
+          tellings tellings_after old new before after runs.end runs.settled runs.serves;
       done =
-          server_done D.content D.images D.moment D.images_since _ status said said_after tellings
-          tellings_after old new before after runs.end runs.settled runs.serves;
+          server_done D.content D.images D.moment D.images_since _ port status said said_after
+          tellings tellings_after old new before after runs.end runs.settled runs.serves;
       unrefused =
           server_unrefused status said said_after tellings tellings_after runs.end runs.settled;
     }

@@ -1,7 +1,12 @@
-use Rattle.std.proofs.Common.{◌∙◌, ap, refl}
+use Rattle.std.proofs.Common.{◌∙◌, ap, inr, refl, subst}
 use Rattle.std.specs.Prelude.{Some}
 use Rattle.command_words.specs.declared.Asked.TheVariants.{Answer}
-use Rattle.office_commands.proofs.WorldLemmas.{done_as}
+use Rattle.serve_command.specs.turn_counter.Turns.{TurnAsks}
+use Rattle.serve_command.specs.office_serving.Serving.{front}
+use Rattle.serve_command.specs.office_serving.Visits.{looks}
+use Rattle.serve_command.specs.office_serving.Workers.{site}
+use Rattle.office_commands.specs.Serve.{RunsServe}
+use Rattle.office_commands.proofs.WorldLemmas.{done_as, port_asked}
 use Rattle.office_commands.proofs.running.run.Goals as goal
 
 pub returns-in-Ok-Answer-clause-runs : goal.returns-in-Ok-Answer-clause-runs
@@ -26,3 +31,23 @@ returns-in-Ok-Answer-clause-runs g c =
       unread = refl;
       untouched = refl;
     })
+
+-- the port of the words is the one that was read
+pub returns-in-Ok-Serve-clause-serves : goal.returns-in-Ok-Serve-clause-serves
+returns-in-Ok-Serve-clause-serves g c = λ port asks.
+    let D = g.D.Disk in
+    let O = g.A.One in
+    let s = site (TurnAsks D.images D.moment D.images_since D.faults)
+    (looks O.In.Source.left O.In.Source.faults O.Out.Sink.held O.Out.Sink.faults
+    O.Time.Clock.to_come) (λ d. O.Door.told d) (λ d. O.Door.faults d) in
+    let same = port_asked _ c.in-Ok-Serve.port port
+    (c.in-Ok-Serve.ensures.asked ∙ ap Some c.in-Ok-Serve.field-0-is) asks in
+    let ran = c.run_serve.result in
+    inr (subst (λ n. RunsServe D.content D.images D.moment D.images_since s n ran.status
+    (g.E.Sink.held c.args.faults.now) (g.E.Sink.held c.run_serve.new.faults)
+    (g.E.Sink.faults c.args.faults.now) (g.E.Sink.faults c.run_serve.new.faults)
+    (front (g.A.Doors.told c.args.doors.now) (g.A.Doors.ports c.args.doors.now)
+    (g.K.Sink.held c.args.output.now))
+    (front (g.A.Doors.told c.run_serve.new.doors) (g.A.Doors.ports c.run_serve.new.doors)
+    (g.K.Sink.held c.run_serve.new.output)) c.args.disk ran.disk) same
+    c.run_serve.ensures.served)

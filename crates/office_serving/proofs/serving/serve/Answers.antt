@@ -28,7 +28,8 @@ returns-in-Ok-clause-served g c =
     let closed = c.close_desk-office.ensures in
     let kept = ledger_of D.faults c.args.office in
     let start = newcomer c.in-Ok.desk kept.root kept.history in
-    served seen.beginnings seen.all D.images D.faults s c.args.office c.close_desk-office.result
+    served seen.beginnings seen.all D.images D.faults s c.args.port c.args.office
+    c.close_desk-office.result
     c.in-Ok.desk c.serve_at-end.new.passes.items c.serve_at-end.result _ _ c.into_disk.result
     c.disk_stands.ensures.whole was_low c.disk_stands-in-Ok.ensures.whole low c.into_disk.ensures
     c.disk_stands-in-Ok.ensures.stands c.serve_at-end.ensures.count
@@ -43,6 +44,6 @@ returns-in-Err-clause-served g c =
     let s = site (TurnAsks D.images D.moment D.images_since D.faults)
     (looks A.In.Source.left A.In.Source.faults A.Out.Sink.held A.Out.Sink.faults
     A.Time.Clock.to_come) (λ d. A.Door.told d) (λ d. A.Door.faults d) in
-    not_served D.images s c.args.office c.in-Err.office _ _ c.into_disk-in-Err.result
+    not_served D.images s c.args.port c.args.office c.in-Err.office _ _ _ c.into_disk-in-Err.result
     c.in-Err.ensures.err c.into_disk-in-Err.ensures c.disk_stands.ensures.whole
     c.disk_stands.ensures.stands

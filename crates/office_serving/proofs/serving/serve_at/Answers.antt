@@ -1,4 +1,4 @@
-use Rattle.std.proofs.Common.{rules}
+use Rattle.std.proofs.Common.{◌∙◌, rules}
 use Rattle.office_outside.specs.Told.{Gained, GainedPrefix}
 use Rattle.turn_counter.specs.Turns.{TurnAsks}
 use Rattle.office_serving.specs.Serving.{ready_line}
@@ -16,14 +16,16 @@ returns-then-is_err-2-clause-ends g c = λ v begins.
     A.Time.Clock.to_come) (λ d. A.Door.told d) (λ d. A.Door.faults d) in
     let part : GainedPrefix ready_line (g.K.Sink.held c.args.ready.now)
     (g.K.Sink.held c.say_ready.new.ready) = search rules in
-    not_ready s c.in-Ok-open.opened.items (g.S.Doors.told c.args.doors.now)
+    not_ready s c.args.port c.in-Ok-open.opened.items (g.S.Doors.told c.args.doors.now)
     (g.S.Doors.told c.open.new.self) (g.S.Doors.told c.shut.new.doors)
+    (g.S.Doors.ports c.args.doors.now) (g.S.Doors.ports c.shut.new.doors)
     (g.K.Sink.held c.args.ready.now) (g.K.Sink.held c.say_ready.new.ready)
     (record {
       count = c.in-Ok-open.ensures.count;
       fresh = c.in-Ok-open.ensures.fresh;
       tell = c.in-Ok-open.ensures.tells;
-    }) part c.in-Ok-open.ensures.shared c.shut.ensures.closed
+    }) (c.shut.ensures.ports ∙ c.open.ensures.port) part c.in-Ok-open.ensures.shared
+    c.shut.ensures.closed
 
 pub returns-clause-goes_on : goal.returns-clause-goes_on
 returns-clause-goes_on g c = λ v begins. (c.run_workers-well.ensures.ran v begins).goes_on
@@ -37,8 +39,9 @@ returns-clause-ends g c = λ v begins.
     A.Time.Clock.to_come) (λ d. A.Door.told d) (λ d. A.Door.faults d) in
     let gained : Gained ready_line (g.K.Sink.held c.args.ready.now)
     (g.K.Sink.held c.say_ready.new.ready) = search rules in
-    after_work s v c.in-Ok-open.opened.items (g.S.Doors.told c.args.doors.now)
+    after_work s c.args.port v c.in-Ok-open.opened.items (g.S.Doors.told c.args.doors.now)
     (g.S.Doors.told c.open.new.self) (g.S.Doors.told c.run_workers-well.new.doors)
+    (g.S.Doors.ports c.args.doors.now) (g.S.Doors.ports c.run_workers-well.new.doors)
     (g.K.Sink.held c.args.ready.now) (g.K.Sink.held c.say_ready.new.ready)
     c.run_workers-well.new.passes.items c.run_workers-well.result c.end_of_work.result
     c.end_of_work.ensures.yes c.end_of_work.ensures.no
@@ -46,4 +49,5 @@ returns-clause-ends g c = λ v begins.
       count = c.in-Ok-open.ensures.count;
       fresh = c.in-Ok-open.ensures.fresh;
       tell = c.in-Ok-open.ensures.tells;
-    }) gained c.in-Ok-open.ensures.shared (c.run_workers-well.ensures.ran v begins)
+    }) (c.run_workers-well.ensures.ports ∙ c.open.ensures.port) gained
+    c.in-Ok-open.ensures.shared (c.run_workers-well.ensures.ran v begins)

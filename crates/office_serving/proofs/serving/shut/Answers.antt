@@ -9,6 +9,7 @@ loop-door-init g c = record {
   open_yet = room_as _ c.args.opened.items (g.S.Doors.told c.args.doors.now)
       c.into_iter-door-iterator.ensures.into_iter_gives.0 c.requires.open;
   closed_so = none_closed (g.S.Doors.told c.args.doors.now);
+  ports = refl;
 }
 
 pub loop-door-preserved : goal.loop-door-preserved
@@ -25,4 +26,5 @@ loop-door-preserved g c =
       closed_so = one_closed at.yielded door (g.S.Doors.told c.args.doors.now)
           (g.S.Doors.told at.doors) (g.S.Doors.told c.close.new.self) i.closed_so
           c.close.ensures.closed;
+      ports = c.close.ensures.ports ∙ i.ports;
     }

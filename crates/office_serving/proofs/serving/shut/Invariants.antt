@@ -12,4 +12,5 @@ invariant-loop-door g l = record {
       (g.S.Doors.told l.doors);
   closed_so : Moves (AreClosed l.yielded) (g.S.Doors.told l.initial.doors)
       (g.S.Doors.told l.doors);
+  ports : g.S.Doors.ports l.doors ≡ g.S.Doors.ports l.initial.doors;
 }

@@ -19,6 +19,7 @@ loop-worker-init g c = record {
   open_yet = room_as _ c.args.workers.items (g.S.Doors.told c.args.doors.now)
       c.into_iter-worker-iterator.ensures.into_iter_gives.0 c.requires.open;
   closed_so = none_closed (g.S.Doors.told c.args.doors.now);
+  ports = refl;
   well = λ yes k d lt. absurd (omega (arith, lt));
   low = omega arith;
   cause = λ bad all. absurd cc;
@@ -47,6 +48,7 @@ loop-worker-preserved g c =
           (sym (map-append (λ w. w.door) at.yielded (worker ∷ [])))
           (one_closed (map (λ w. w.door) at.yielded) worker.door old mid new i.closed_so
           c.close.ensures.closed);
+      ports = c.close.ensures.ports ∙ i.ports;
       well = λ yes. all_push (λ w. w.end ≡ Done) at.yielded (at.yielded ++ worker ∷ []) worker
           refl (i.well (well.yes yes).0) (well.yes yes).1;
       low = low_after (g.S.Doors.faults c.args.doors.now) (g.S.Doors.faults at.doors)

@@ -17,6 +17,7 @@ invariant-loop-worker g l = record {
       (g.S.Doors.told l.doors);
   closed_so : Moves (AreClosed (map (λ w. w.door) l.yielded))
       (g.S.Doors.told l.initial.doors) (g.S.Doors.told l.doors);
+  ports : g.S.Doors.ports l.doors ≡ g.S.Doors.ports l.initial.doors;
   well : l.well ≡ true → All (λ w. w.end ≡ Done) l.yielded;
   low : min (g.S.Doors.faults l.initial.doors) last_count ≤ g.S.Doors.faults l.doors;
   cause : l.well ≡ false
