@@ -1,0 +1,1 @@
+"""The groups of tests, one module each; `run` tries the group's cases."""

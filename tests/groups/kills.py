@@ -1,0 +1,61 @@
+"""Stops and faults of a real run: it is killed at each write and sync of its journal, and lets each of them fail once.
+
+What was answered before has to be in the file, once and in order, with at most one change more; and the session sent
+again over what is left has to end in the very file that a session without a fault leaves, but for the moments.
+"""
+from __future__ import annotations
+
+import errno
+
+import held
+import objects
+from office import Office, answers, define, message, minute_now
+from report import Report, Skipped
+
+CALLS = ("pwrite64", "fdatasync", "fsync")
+
+
+def session(origin: int) -> bytes:
+    batches = [b"".join(b"good,web,%d,1,%d,1000\n" % (origin + 1000 * k + i, i % 1000) for i in range(1000)) for k in range(3)]
+    changes = [define(objects.service(f"service-{n}")) for n in range(4)] + [define(objects.ratio("good"))]
+    changes += [message("POST", "/samples", batch) for batch in batches]
+    changes += [message("POST", "/samples", f"good,web,{origin},2,5,10\n"), message("PUT", "/zones/A/B", "EST5")]
+    return b"".join(changes)
+
+
+def commands(office: Office) -> list[bytes]:
+    """The records without their moments."""
+    return [it[4:] for it in office.records()]
+
+
+def try_fault(report: Report, origin: int, data: bytes, wanted: list[bytes], call: str, number: int, fate: int | str) -> None:
+    office = Office(report.program, report.folder(f"{call}-{number}-{fate}"), origin)
+    ran = held.run(report.program, ["pipe"], office.folder, data, held.Outside(faults={(call, number): fate}))
+    acknowledged = [it for it in answers(ran.output) if it.status == 200 and b'"entry":null' not in it.body]
+    left = commands(office)
+    assert fate != held.KILL or left == wanted[: len(left)], "other records"
+    assert len(acknowledged) <= len(left) <= len(acknowledged) + 1, f"{len(left)} records of {len(acknowledged)} acknowledged changes"
+    again = office.run("pipe", data=data)
+    assert again.returncode == 0, again.stderr
+    assert sorted(commands(office)) == sorted(wanted), "another history after the session was sent again"
+
+
+def run(report: Report) -> None:
+    origin = minute_now() - 100_000
+    data = session(origin)
+    whole = Office(report.program, report.folder("whole"), origin)
+    with report.case("the session without a fault"):
+        try:
+            ran = held.run(report.program, ["pipe"], whole.folder, data)
+        except held.Absent as why:
+            raise Skipped(str(why)) from None
+        assert ran.status == 0 and len(whole.records()) == 10, ran
+    if not report.passed:
+        return
+    wanted = commands(whole)
+    for call in CALLS:
+        fates: tuple[tuple[str, int | str], ...] = (("killed", held.KILL), ("failed", errno.EIO))
+        for name, fate in fates:
+            with report.case(f"{name} at each of {ran.calls[call]} calls of {call}"):
+                for number in range(ran.calls[call]):
+                    try_fault(report, origin, data, wanted, call, number, fate)

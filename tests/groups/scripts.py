@@ -1,0 +1,33 @@
+"""The scripts of tests/ that try one matter each, as they stand: `tests/NAME PROGRAM` ends with 0 where all held.
+
+A script says by a line `..: skipped` that it lacks something.
+"""
+from __future__ import annotations
+
+import re
+import subprocess
+
+from office import TOP
+from report import Report, Skipped
+
+SCRIPTS = {
+    "foreign_pages": "pages of other sites change nothing behind the fence",
+    "wrong_clock": "an office at a wrong clock, and the ways back",
+    "backups": "copies of the journal by what copies files",
+    "edges": "requests and files at the edges",
+    "counter_lists": "lists of running counters",
+}
+MOST_SECONDS = 180
+
+
+def run(report: Report) -> None:
+    for name, what in SCRIPTS.items():
+        path = TOP / "tests" / name
+        if not path.exists():
+            continue
+        with report.case(f"{name}: {what}"):
+            done = subprocess.run([path, report.program], capture_output=True, text=True, timeout=MOST_SECONDS)
+            assert done.returncode == 0, (done.stdout + done.stderr)[-1500:]
+            lacking = re.search(r"(?m)^(.*): skipped$", done.stdout)
+            if lacking:
+                raise Skipped(lacking[1])
