@@ -1,0 +1,102 @@
+"""The file `overview.json`, which the page's overview reads (tools/OVERVIEW.md)."""
+
+from __future__ import annotations
+
+import json
+from fractions import Fraction
+from typing import Any, Optional
+
+from slo_tools.notify.deciding import Binding
+from slo_tools.notify.state import OfficeState
+from slo_tools.notify.watching import ObjectiveView, SloView, Watch
+
+VERSION = 1
+
+
+def spelled_fraction(value: Optional[Fraction]) -> Optional[str]:
+    return None if value is None else f"{value.numerator}/{value.denominator}"
+
+
+def office_entry(
+    name: str, path: str, watch: Watch, fault: Optional[str], state: OfficeState
+) -> dict[str, Any]:
+    """An office with all its SLOs, as they were when it answered last."""
+    return {
+        "at": watch.at,
+        "entries": watch.entries,
+        "fault": fault,
+        "name": name,
+        "path": path,
+        "slos": [_slo_entry(view, state) for view in watch.views],
+        "up": fault is None,
+        "usage": watch.usage,
+    }
+
+
+def overview_text(
+    second: int, every: int, notify: dict[str, Any], offices: list[dict[str, Any]]
+) -> str:
+    told = {
+        "every": every,
+        "notify": notify,
+        "offices": offices,
+        "second": second,
+        "version": VERSION,
+        "written": second // 60,
+    }
+    return json.dumps(told, ensure_ascii=False, separators=(",", ":"), sort_keys=True)
+
+
+def _slo_entry(view: SloView, state: OfficeState) -> dict[str, Any]:
+    slo = view.slo
+    calendar = slo.window.get("calendar") or {}
+    return {
+        "description": str(slo.document.spec.get("description") or ""),
+        "display": slo.document.display,
+        "fault": view.fault,
+        "indicator": slo.indicator,
+        "method": slo.method,
+        "name": slo.name,
+        "objectives": [_objective_entry(slo.name, each, state) for each in view.objectives],
+        "service": slo.service,
+        "service_display": view.service_display,
+        "window": {
+            "duration": slo.window.get("duration"),
+            "rolling": not calendar,
+            "start": calendar.get("startTime"),
+            "zone": slo.zone,
+        },
+    }
+
+
+def _objective_entry(slo: str, view: ObjectiveView, state: OfficeState) -> dict[str, Any]:
+    budget = view.budget
+    return {
+        "age": view.age,
+        "alerts": [
+            {
+                "policy": alert.policy,
+                "severity": alert.severity,
+                "since": _since(state, Binding(slo, view.objective.number, alert.policy)),
+                "state": alert.state,
+            }
+            for alert in view.alerts
+        ],
+        "burn": None if budget is None else spelled_fraction(budget.burn),
+        "burns": {name: spelled_fraction(burn) for name, burn in view.burns.items()},
+        "den": None if budget is None else budget.den,
+        "display": view.objective.display,
+        "error": None if budget is None else spelled_fraction(budget.error),
+        "from": None if budget is None else budget.begin,
+        "num": None if budget is None else budget.num,
+        "number": view.objective.number,
+        "remaining": None if budget is None else spelled_fraction(budget.remaining),
+        "stale": view.is_stale,
+        "state": view.state,
+        "target": view.objective.target,
+    }
+
+
+def _since(state: OfficeState, binding: Binding) -> Optional[int]:
+    opened = state.opened.get(binding)
+    return None if opened is None else opened.since
