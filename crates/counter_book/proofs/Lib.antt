@@ -1,0 +1,10 @@
+pub mod BeforeLemmas
+pub mod MomentLemmas
+pub mod NeighbourLemmas
+pub mod PlaceLemmas
+pub mod MoveLemmas
+pub mod WriteLemmas
+pub mod LawLemmas
+pub mod PickLemmas
+pub mod NameLemmas
+pub mod FrontLemmas

@@ -1,0 +1,23 @@
+//! Readings of counters that only rise and start again at 0, and the differences between them.
+//! Stands on `name_numbers`, for the sources, and on one ordered map of moments.
+//! Promises that what it gives, late and corrected readings too, is the differences from scratch.
+#![tactic(auto)]
+
+mod book;
+mod difference;
+mod judging;
+mod laws;
+mod limits;
+mod neighbours;
+mod reading;
+mod writing;
+
+pub use book::CounterBook;
+pub use laws::{
+    a_front_gives_a_front, a_reading_gives_at_most_two, what_was_given_is_the_differences,
+};
+pub use limits::{MAX_COUNTER, MAX_PUTS, MAX_READINGS};
+pub use reading::{
+    Changes, Count, CounterFault, CounterReading, Difference, Kept, Moment, Moves, NextMove, Rise,
+    Standing,
+};
