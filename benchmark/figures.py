@@ -1,7 +1,6 @@
-#!/usr/bin/env python3
 """The table of what changes, answers, ticks, definitions and openings take, at several sizes of an office.
 
-    tests/figures [PROGRAM] [--runs N] [CELLS:SOURCES ..]
+    ./bench figures [--runs N] [CELLS:SOURCES ..]
 
 Without sizes: 43,200 cells of one source, 432,000 of ten sources (30 days of each) and 2,000,000 of ten. Each office has
 one ratio indicator; its SLO has one objective and one binding, or five objectives and ten bindings, over 30 days. Beside
@@ -10,16 +9,18 @@ these an office of 200 SLOs, of one objective and two bindings each. A figure is
 and a burn rate are a hundred requests in one write, by a hundred; where the kernel's probes can be used (as root, with
 tracefs) the call `Core::answer` alone is timed too, by the clock. Memory is the greatest so far. The journals lie in a
 temporary folder: with `TMPDIR=/dev/shm` a sync is free. Prints a line a figure with the load beside it, and at the end
-the table, in Markdown. Where the program isn't there, or Linux's figures aren't, it says so and ends well.
+the table, in Markdown. Where Linux's figures aren't there it says so and ends well.
 """
 import os
 import shutil
 import subprocess
-import sys
 import tempfile
 import time
 
-HERE = os.path.dirname(os.path.abspath(__file__))
+import core_times
+import latency
+from office import message
+
 TRACE = "/sys/kernel/tracing/uprobe_events"
 SIZES = [(43_200, 1), (432_000, 10), (2_000_000, 10)]
 MINUTES = 44_640
@@ -49,17 +50,6 @@ AIMS = {
 }
 
 
-def script(name, words):
-    """The functions of another script here, whose last line runs it."""
-    with open(os.path.join(HERE, name)) as file:
-        text = file.read().rstrip()
-    found, before = {"__file__": os.path.join(HERE, name), "__name__": name}, sys.argv
-    sys.argv = [name, *words]
-    exec(compile(text[:text.rindex("\n")], name, "exec"), found)
-    sys.argv = before
-    return found
-
-
 ROLLING = "  - duration: 30d\n    isRolling: true\n"
 DAILY = "  - duration: 1d\n    calendar:\n      startTime: 1971-01-01 00:00:00\n      timeZone: UTC\n"
 
@@ -83,22 +73,20 @@ class Office:
 
     def __init__(self, program, cells, sources, runs):
         self.program, self.cells, self.sources, self.runs = program, cells, sources, runs
-        self.kit = script("latency", [])
-        self.kit["PROGRAM"] = program
-        self.message = self.kit["message"]
-        self.origin = self.kit["ORIGIN"]
+        latency.PROGRAM = program
+        self.origin = latency.ORIGIN
         # all windows and timelines lie in the office's range
         self.first = self.origin + 50_000
         self.last = self.first + cells // sources
         self.found = {}
 
     def define(self, documents):
-        return self.message("POST", "/objects", "---\n".join(documents).encode())
+        return message("POST", "/objects", "---\n".join(documents).encode())
 
     def batch(self, place, revision=1):
         """A thousand rows from a place on, source after source and minute after minute."""
         rows = (b"busy,s%d,%d,%d,%d,1000\n" % (n % self.sources, self.first + n // self.sources, revision, 1000 - n % 7) for n in range(place, place + 1000))
-        return self.message("POST", "/samples", b"".join(rows))
+        return message("POST", "/samples", b"".join(rows))
 
     def pipe(self, folder, data):
         done = subprocess.run([self.program, "pipe"], cwd=folder, input=data, capture_output=True, check=True)
@@ -156,10 +144,10 @@ def took_each(session, data, count):
 def openings(office, folder, watched=True):
     """Some openings, each with a timeline that nobody asked for before, and the same again; the last session stays."""
     at = office.last
-    alert = office.message("GET", f"/alerts/o0/0/workbook-page?from={at - MINUTES}&to={at}")
+    alert = message("GET", f"/alerts/o0/0/workbook-page?from={at - MINUTES}&to={at}")
     times, memory, first, again = [], [], [], []
     for n in range(office.runs):
-        session = office.kit["Session"](folder)
+        session = latency.Session(folder)
         times.append(spent(session))
         memory.append(session.memory())
         if watched:
@@ -178,7 +166,7 @@ def openings(office, folder, watched=True):
 def answers(office, session):
     at = office.last
     for what, target in (("a budget over 30 days", f"/budgets/o0?at={at}"), ("a burn rate over an hour", f"/burns/o0/0?lookback=1h&at={at}")):
-        office.note(what, [took_each(session, office.message("GET", target), 100) for _ in range(3)])
+        office.note(what, [took_each(session, message("GET", target), 100) for _ in range(3)])
 
 
 def new_rows(office, session, count):
@@ -194,7 +182,7 @@ def corrections(office, session, count):
 def calendar(office, session):
     """The window has to be found among days from 1971 on."""
     session.ask(office.define([slo(9, 1, [], window=DAILY)]))
-    asked = office.message("GET", f"/budgets/o9?at={office.last}")
+    asked = message("GET", f"/budgets/o9?at={office.last}")
     office.note("a budget of one of 20,000 calendar days", [took_each(session, asked, 20) for _ in range(3)])
 
 
@@ -202,16 +190,16 @@ def exclusions(office, session):
     made, lifted = [], []
     for n in range(5):
         body = b'{"from":%d,"slo":"o0","to":%d}' % (office.last - MONTH, office.last)
-        made.append(took(session, office.message("PUT", f"/exclusions/x{n}", body)))
-        lifted.append(took(session, office.message("DELETE", f"/exclusions/x{n}")))
+        made.append(took(session, message("PUT", f"/exclusions/x{n}", body)))
+        lifted.append(took(session, message("DELETE", f"/exclusions/x{n}")))
     office.note("an exclusion of 30 days", made)
     office.note("its lifting", lifted)
 
 
 def ticks(office, session):
     """What a tick takes once all bindings have their state, in the same minute."""
-    took(session, office.message("POST", "/tick"))
-    office.note("a tick with nothing new", [took(session, office.message("POST", "/tick")) for _ in range(20)])
+    took(session, message("POST", "/tick"))
+    office.note("a tick with nothing new", [took(session, message("POST", "/tick")) for _ in range(20)])
 
 
 def calls(office, folder):
@@ -219,13 +207,13 @@ def calls(office, folder):
     if not os.access(TRACE, os.W_OK):
         print("no kernel's probes here: the calls alone are left out")
         return
-    probes = script("core_times", [shutil.copy2(office.program, os.path.join(folder, "program"))])
-    at = {name: place for name, place in probes["places"]().items() if name.endswith("Core::answer")}
+    core_times.PROGRAM = shutil.copy2(office.program, os.path.join(folder, "program"))
+    at = {name: place for name, place in core_times.places().items() if name.endswith("Core::answer")}
     if not at:
         print("`Core::answer` is part of its caller here: the calls alone are left out")
         return
     for what, target in (("a budget, the call alone", f"/budgets/o0?at={office.last}"), ("a burn rate over an hour, the call alone", f"/burns/o0/0?lookback=1h&at={office.last}")):
-        _, seen = probes["session"](folder, office.message("GET", target) * 50, at)
+        _, seen = core_times.session(folder, message("GET", target) * 50, at)
         office.note(what, [1e3 * it for name in at for it in seen[name]])
 
 
@@ -235,7 +223,7 @@ def single(office, objectives, policies):
     office.head = f"{objectives} objective{'s'[:objectives - 1]}, {bindings} binding{'s'[:bindings - 1]}"
     with tempfile.TemporaryDirectory(prefix="figures-") as folder:
         office.make(folder, service() + [slo(0, objectives, policies)], left=20_000)
-        session = office.kit["Session"](folder)
+        session = latency.Session(folder)
         new_rows(office, session, 20)
         session.end()
         calls(office, folder)
@@ -254,7 +242,7 @@ def rows_alone(office):
     office.head = "no SLO"
     with tempfile.TemporaryDirectory(prefix="figures-") as folder:
         office.make(folder, service(), left=20_000)
-        session = office.kit["Session"](folder)
+        session = latency.Session(folder)
         new_rows(office, session, 20)
         session.end()
         session = openings(office, folder, watched=False)
@@ -267,7 +255,7 @@ def many(office):
     office.head = "200 SLOs, 400 bindings"
     with tempfile.TemporaryDirectory(prefix="figures-") as folder:
         office.make(folder, service() + [slo(0, 1, POLICIES)], left=5000)
-        session = office.kit["Session"](folder)
+        session = latency.Session(folder)
         office.note("a definition of 199 SLOs more", [took(session, office.define([slo(n, 1, POLICIES) for n in range(1, 200)]))])
         ticks(office, session)
         office.note("a definition that changes the target of one SLO", [took(session, office.define([slo(7, 1, POLICIES, 0.98 - 0.01 * n)])) for n in range(5)])
@@ -288,15 +276,9 @@ def table(size, columns):
             print(f"| {what} | {aim} | " + " | ".join("" if it is None else f"{it:,.0f}" if it >= 100 else f"{it:.3g}" for it in cells) + " |")
 
 
-def main(words):
-    program = os.path.join(HERE, "..", "out", "slo_office")
-    if words and not words[0].startswith("--") and ":" not in words[0]:
-        program = words.pop(0)
+def main(program, words):
     runs = int(words[words.index("--runs") + 1]) if "--runs" in words else 3
     sizes = [tuple(map(int, it.split(":"))) for it in words if ":" in it] or SIZES
-    if not os.access(program, os.X_OK):
-        print(f"{program} isn't there: nothing is measured")
-        return
     if not os.path.exists("/proc/self/schedstat"):
         print("this system doesn't tell processor times in nanoseconds: nothing is measured")
         return
@@ -304,12 +286,10 @@ def main(words):
     for cells, sources in sizes:
         columns = []
         for part in (rows_alone, lambda it: single(it, 1, POLICIES[:1]), lambda it: single(it, 5, POLICIES), many):
-            office = Office(os.path.realpath(program), cells, sources, runs)
+            office = Office(program, cells, sources, runs)
             part(office)
             columns.append((office.head, office.found))
         tables.append((f"{cells:,} cells, {sources} source{'s'[:sources - 1]}", columns))
     for it in tables:
         table(*it)
 
-
-main(sys.argv[1:])

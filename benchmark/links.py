@@ -1,7 +1,6 @@
-#!/usr/bin/env python3
 """Measures requests a second over links, beside a bare loop that reads and writes the same bytes.
 
-    tests/speed_links [PROGRAM] [SECONDS]
+    ./bench links [SECONDS]
 
 For 1, 4 and 16 links `wrk` asks for one burn rate again and again, posts one batch of 1,000 rows that stands already,
 and posts batches of 1,000 corrections, each accepted and synced. The bare loop is four threads of a C program (made
@@ -19,9 +18,10 @@ import sys
 import tempfile
 import time
 
-HERE = os.path.dirname(os.path.abspath(__file__))
-PROGRAM = os.path.abspath(sys.argv[1]) if len(sys.argv) > 1 else os.path.join(HERE, "..", "out", "slo_office")
-SECONDS = int(sys.argv[2]) if len(sys.argv) > 2 else 5
+from office import free_port, message
+
+PROGRAM = ""
+SECONDS = 5
 ORIGIN = int(time.time()) // 60 - 5000
 BURN = "/burns/shop-slo/0?lookback=1h"
 
@@ -127,16 +127,6 @@ end
 """
 
 
-def message(method, target, body=b""):
-    return b"%s %s HTTP/1.1\r\nContent-Length: %d\r\n\r\n%s" % (method.encode(), target.encode(), len(body), body)
-
-
-def free_port():
-    with socket.socket() as it:
-        it.bind(("127.0.0.1", 0))
-        return it.getsockname()[1]
-
-
 def start(words, folder):
     child = subprocess.Popen(words, cwd=folder, stdout=subprocess.PIPE)
     assert child.stdout.readline() == b"ready\n"
@@ -215,7 +205,10 @@ def compare(room, name, target, script, data, rows):
               f"{took:.1f} and {plain:.1f} µs of the processor a request, {plain / took:.2f} of it [load {os.getloadavg()[0]:.1f}]", flush=True)
 
 
-def main():
+def main(program, words):
+    global PROGRAM, SECONDS
+    PROGRAM = program
+    SECONDS = int(words[0]) if words else SECONDS
     for need in ("wrk", "cc"):
         if not shutil.which(need):
             sys.exit(f"{need} isn't installed: nothing measured")
@@ -235,5 +228,3 @@ def main():
         compare(room, "a batch that stands", "/samples", scripts["same"], message("POST", "/samples", rows), rows)
         compare(room, "a batch of 1,000 corrections", "/samples", scripts["newer"], message("POST", "/samples", rows.replace(b"thread0", b"once")), rows)
 
-
-main()

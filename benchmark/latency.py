@@ -1,7 +1,6 @@
-#!/usr/bin/env python3
 """Times single requests at 10^5 and at 10^6 cells, with one SLO and with 200, and `report` over these.
 
-    tests/latency [PROGRAM] [CELLS ..]
+    ./bench latency [CELLS ..]
 
 Each request is sent in one session of `pipe` when the one before it is answered, and timed from its first byte to its
 answer's last one, by the clock and by the processor time that the program took (Linux tells it): the first, the least
@@ -13,18 +12,14 @@ import os
 import resource
 import shutil
 import subprocess
-import sys
 import tempfile
 import time
 
-HERE = os.path.dirname(os.path.abspath(__file__))
-PROGRAM = os.path.join(HERE, "..", "out", "slo_office")
+from office import message
+
+PROGRAM = ""
 NOW = int(time.time()) // 60
 ORIGIN = NOW - 600_000
-
-
-def message(method, target, body=b""):
-    return b"%s %s HTTP/1.1\r\nContent-Length: %d\r\n\r\n%s" % (method.encode(), target.encode(), len(body), body)
 
 
 def documents(slos):
@@ -216,12 +211,9 @@ def measure(cells):
                 part(other, cells)
 
 
-def main(words):
+def main(program, words):
     global PROGRAM
-    if words and not words[0].isdigit():
-        PROGRAM = os.path.abspath(words.pop(0))
+    PROGRAM = program
     for cells in [int(it) for it in words] or (1000, 100_000, 1_000_000):
         measure(cells)
 
-
-main(sys.argv[1:])

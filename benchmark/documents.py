@@ -1,7 +1,6 @@
-#!/usr/bin/env python3
 """Measures documents on the built program: the worst texts of 1 MiB, definitions over 2,000 objects, and calendars.
 
-    tests/documents [PROGRAM]
+    ./bench documents
 
 Prints one line a figure. Of each text the time and the greatest memory of `check` and of `POST /objects` over an empty
 office, the least of some runs; of definitions and removals the difference of two sessions over one journal, and the
@@ -14,15 +13,12 @@ import sys
 import tempfile
 import time
 
-HERE = os.path.dirname(os.path.abspath(__file__))
-PROGRAM = os.path.abspath(sys.argv[1]) if len(sys.argv) > 1 else os.path.join(HERE, "..", "out", "slo_office")
+from office import message
+
+PROGRAM = ""
 MOST = 1_048_576
 RUNS = 5
 ORIGIN = int(time.time()) // 60 - 100_000
-
-
-def message(method, target, body=b""):
-    return b"%s %s HTTP/1.1\r\nContent-Length: %d\r\n\r\n%s" % (method.encode(), target.encode(), len(body), body)
 
 
 # A process of its own, since the greatest memory of a child is at least that of the one that began it.
@@ -171,11 +167,11 @@ def calendars(room):
         print(f"200 SLOs with {name}, {len(text)} bytes: check {found[name] * 1e3:.1f} ms, the whole program; a definition of all of them {took / count * 1e3:.2f} ms")
 
 
-def main():
+def main(program, _):
+    global PROGRAM
+    PROGRAM = program
     with tempfile.TemporaryDirectory(prefix="documents-") as room:
         worst(room)
         definitions(room)
         calendars(room)
 
-
-main()

@@ -1,7 +1,6 @@
-#!/usr/bin/env python3
 """Measures the machine through the built program: changes, replay, memory, queries and a tick of 400 bindings.
 
-    tests/measure [PROGRAM]
+    ./bench measure
 
 Prints one line a figure. A figure of one request is the difference of two sessions over the same journal, one with the
 request COUNT times more, so the opening of the file isn't in it. The journals lie in a temporary folder, on whatever
@@ -14,15 +13,12 @@ import sys
 import tempfile
 import time
 
-HERE = os.path.dirname(os.path.abspath(__file__))
-PROGRAM = os.path.abspath(sys.argv[1]) if len(sys.argv) > 1 else os.path.join(HERE, "..", "out", "slo_office")
+from office import message
+
+PROGRAM = ""
 NOW = int(time.time()) // 60
 ORIGIN = NOW - 600_000
 RUNS = 3
-
-
-def message(method, target, body=b""):
-    return b"%s %s HTTP/1.1\r\nContent-Length: %d\r\n\r\n%s" % (method.encode(), target.encode(), len(body), body)
 
 
 def pipe(folder, data):
@@ -92,7 +88,9 @@ def ticks(folder, rows):
         told(f"{rows} cells: a tick of 400 bindings over 200 SLOs of one indicator {one(other, lambda n: message('POST', '/tick'), 2, changes=True) * 1e3:.0f} ms, memory {memory_of(other):.0f} MB")
 
 
-def main():
+def main(program, _):
+    global PROGRAM
+    PROGRAM = program
     with tempfile.TemporaryDirectory(prefix="measure-") as folder:
         subprocess.run([PROGRAM, "init", str(ORIGIN)], cwd=folder, check=True, stdout=subprocess.DEVNULL)
         pipe(folder, documents(0, 1))
@@ -119,5 +117,3 @@ def main():
         size = os.path.getsize(os.path.join(folder, "office.journal"))
         told(f"{rows} cells: opening {opened:.2f} s, journal {size} bytes, memory {memory_of(folder):.0f} MB, with a budget {memory_of(folder, message('GET', '/budgets/o0')):.0f} MB")
 
-
-main()

@@ -1,7 +1,6 @@
-#!/usr/bin/env python3
 """Measures the built program over `pipe`: requests a second, opening, time and memory.
 
-    tests/load [PROGRAM]
+    ./bench load
 
 Prints one line a figure. The journals lie in a temporary folder, on whatever disk that is; `TMPDIR` chooses another.
 """
@@ -12,8 +11,9 @@ import sys
 import tempfile
 import time
 
-HERE = os.path.dirname(os.path.abspath(__file__))
-PROGRAM = os.path.abspath(sys.argv[1]) if len(sys.argv) > 1 else os.path.join(HERE, "..", "out", "slo_office")
+from office import message
+
+PROGRAM = ""
 
 SLI = """apiVersion: openslo/v1
 kind: SLI
@@ -58,10 +58,6 @@ spec:
 """
 
 
-def message(method, target, body=""):
-    return f"{method} {target} HTTP/1.1\r\nContent-Length: {len(body)}\r\n\r\n{body}"
-
-
 def batch(first, revision=1, count=1000):
     """A thousand rows from four sources, minute after minute."""
     return "".join(f"good,s{(first + i) % 4},{(first + i) // 4 + BASE},{revision},{1000 - (first + i) % 7},1000\n" for i in range(count))
@@ -74,14 +70,15 @@ def pipe(folder, data):
     """Runs one session, and gives its time, its memory and its output."""
     begun = time.monotonic()
     child = subprocess.Popen([PROGRAM, "pipe"], cwd=folder, stdin=subprocess.PIPE, stdout=subprocess.PIPE)
-    output, _ = child.communicate(data.encode())
+    output, _ = child.communicate(data)
     spent = time.monotonic() - begun
     assert child.returncode == 0, child.returncode
     return spent, output
 
 
-def main():
-    global BASE
+def main(program, _):
+    global BASE, PROGRAM
+    PROGRAM = program
     now = int(time.time()) // 60
     origin = now - 1_000_000
     BASE = origin
@@ -93,13 +90,13 @@ def main():
             spent = 0.0
             while rows < target:
                 part = min(500, (target - rows) // 1000)
-                data = "".join(message("POST", "/samples", batch(rows + 1000 * k)) for k in range(part))
-                opened, _ = pipe(folder, "")
+                data = b"".join(message("POST", "/samples", batch(rows + 1000 * k)) for k in range(part))
+                opened, _ = pipe(folder, b"")
                 took, output = pipe(folder, data)
                 assert output.count(b"HTTP/1.1 200") == part, output[:300]
                 spent += took - opened
                 rows += 1000 * part
-            opened = min(pipe(folder, "")[0] for _ in range(3))
+            opened = min(pipe(folder, b"")[0] for _ in range(3))
             print(f"{rows} rows: opening {opened:.2f} s, the batches before it {spent:.2f} s, journal {os.path.getsize(os.path.join(folder, 'office.journal'))} bytes")
             query = message("GET", "/budgets/shop-slo")
             took = pipe(folder, query * 900)[0] - opened
@@ -114,5 +111,3 @@ def main():
             print(f"{rows} rows: a tick {took * 1e3:.1f} ms")
     print(f"the greatest memory of a run: {resource.getrusage(resource.RUSAGE_CHILDREN).ru_maxrss // 1024} MB")
 
-
-main()

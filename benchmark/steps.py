@@ -1,12 +1,11 @@
-#!/usr/bin/env python3
 """Counts the steps of answers: reads of a slice's leaf, an hour's total and a day's, in a program that calls them.
 
-    tests/steps PROGRAM [CELLS] [SLOS]
+    ./bench --program PROGRAM steps [CELLS] [SLOS]
 
 Kernel probes (uprobes, by tracefs; as root) count the calls of `SumPages::read_leaf`, `read_hour` and `read_day`, which
 alone hand out leaves; each of them is one step. In the program that is built the compiler puts them into their callers,
 so PROGRAM has to be one in which it doesn't (docs/measured.md says how it was made). The count of a request is that of a
-session with it less that of a session without it. The rows and SLOs are those of `tests/latency`.
+session with it less that of a session without it. The rows and SLOs are those of `latency.py`.
 """
 import os
 import re
@@ -14,18 +13,11 @@ import subprocess
 import sys
 import tempfile
 
-HERE = os.path.dirname(os.path.abspath(__file__))
+import latency
+from office import message
+
 TRACE = "/sys/kernel/tracing"
 READS = ("SumPages::read_leaf", "SumPages::read_hour", "SumPages::read_day", "WindowSums::sum")
-
-
-def latency():
-    """The messages of `tests/latency`, without running it."""
-    with open(os.path.join(HERE, "latency")) as file:
-        text = file.read()
-    found = {"__file__": os.path.join(HERE, "latency"), "__name__": "latency"}
-    exec(compile(text[: text.rindex("main(sys.argv[1:])")], "latency", "exec"), found)
-    return found
 
 
 def write(name, text, more=0):
@@ -76,21 +68,20 @@ def counts(program, folder, data, at, library=None):
     return found
 
 
-def main(words):
-    program = os.path.realpath(words[0])
-    cells, slos = (int(words[1]) if len(words) > 1 else 100_000), (int(words[2]) if len(words) > 2 else 200)
-    kit = latency()
-    kit["PROGRAM"] = program
-    message, origin = kit["message"], kit["ORIGIN"]
+def main(program, words):
+    if not os.access(os.path.join(TRACE, "uprobe_events"), os.W_OK):
+        sys.exit("no kernel's probes here: nothing measured")
+    cells, slos = (int(words[0]) if words else 100_000), (int(words[1]) if len(words) > 1 else 200)
+    latency.PROGRAM, origin = program, latency.ORIGIN
     at = places(program)
     assert all(at.values()), f"not in this program: {[name for name in READS if not at[name]]}"
     with tempfile.TemporaryDirectory(prefix="steps-") as folder:
         subprocess.run([program, "init", str(origin)], cwd=folder, check=True, stdout=subprocess.DEVNULL)
-        subprocess.run([program, "pipe"], cwd=folder, input=kit["documents"]([0]), check=True, stdout=subprocess.DEVNULL)
-        kit["fill"](folder, cells)
+        subprocess.run([program, "pipe"], cwd=folder, input=latency.documents([0]), check=True, stdout=subprocess.DEVNULL)
+        latency.fill(folder, cells)
         moment = origin + cells // 4
         first = max(origin, moment - 43200)
-        library = kit["quick_clock"](folder)
+        library = latency.quick_clock(folder)
         page = message("GET", f"/alerts/o0/0/workbook-page?from={first}&to={moment}")
         ticket = message("GET", f"/alerts/o0/0/workbook-ticket?from={first}&to={moment}")
         tick = message("POST", "/tick")
@@ -102,7 +93,7 @@ def main(words):
             one, two = (counts(program, folder, data * times, at) for times in (1, 2))
             tell(cells, 1, name, less(one, before))
             tell(cells, 1, f"{name}, asked again", less(two, one))
-        subprocess.run([program, "pipe"], cwd=folder, input=kit["documents"](range(1, slos)), check=True, stdout=subprocess.DEVNULL)
+        subprocess.run([program, "pipe"], cwd=folder, input=latency.documents(range(1, slos)), check=True, stdout=subprocess.DEVNULL)
         before = counts(program, folder, b"", at)
         one, two = (counts(program, folder, tick * times, at) for times in (1, 2))
         tell(cells, slos, f"a tick of {2 * slos} bindings", less(one, before))
@@ -120,5 +111,3 @@ def tell(cells, slos, name, found):
     leaves, hours, days, sums = (found[it] for it in READS)
     print(f"{cells} cells, {slos} SLOs: {name}: {leaves + hours + days} steps ({leaves} leaves, {hours} hours, {days} days) in {sums} sums and single reads", flush=True)
 
-
-main(sys.argv[1:])

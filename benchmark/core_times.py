@@ -1,7 +1,6 @@
-#!/usr/bin/env python3
 """Times the machine's own calls in the built program: `prepare`, `commit` and `answer`, and counts reads of sums.
 
-    tests/core_times PROGRAM
+    ./bench core_times
 
 The kernel's probes at user code (uprobes, by tracefs) note each entry of a function and each return from it, so the
 program is the very one that is built. It has to run as root. A probe itself costs some microseconds, which aren't taken
@@ -16,7 +15,9 @@ import sys
 import tempfile
 import time
 
-PROGRAM = os.path.realpath(sys.argv[1])
+from office import message
+
+PROGRAM = ""
 TRACE = "/sys/kernel/tracing"
 NOW = int(time.time()) // 60
 ORIGIN = NOW - 600_000
@@ -26,10 +27,6 @@ DOCUMENTS = ("apiVersion: openslo/v1\nkind: Service\nmetadata:\n  name: shop\nsp
              f"apiVersion: openslo/v1\nkind: SLI\nmetadata:\n  name: busy\nspec:\n  ratioMetric:\n    total:\n{SOURCE}    good:\n{SOURCE}---\n"
              "apiVersion: openslo/v1\nkind: SLO\nmetadata:\n  name: o0\nspec:\n  service: shop\n  indicatorRef: busy\n  timeWindow:\n  - duration: 30d\n    isRolling: true\n"
              "  budgetingMethod: Occurrences\n  objectives:\n  - target: 0.999\n  alertPolicies:\n  - workbook-page\n  - workbook-ticket\n")
-
-
-def message(method, target, body=b""):
-    return b"%s %s HTTP/1.1\r\nContent-Length: %d\r\n\r\n%s" % (method.encode(), target.encode(), len(body), body)
 
 
 def batch(first, revision=1):
@@ -110,8 +107,11 @@ def plain(folder, data):
     return done.stdout
 
 
-def main():
+def main(program, _):
     global PROGRAM
+    PROGRAM = program
+    if not os.access(os.path.join(TRACE, "uprobe_events"), os.W_OK):
+        sys.exit("no kernel's probes here: nothing measured")
     at = places()
     for name in CALLS:
         if not any(it.endswith(name) for it in at):
@@ -147,5 +147,3 @@ def main():
                 if what == "new rows":
                     rows += 50_000
 
-
-main()
