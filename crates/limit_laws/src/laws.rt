@@ -29,7 +29,8 @@ pub fn limits_of_numbers()
 {}
 
 /// The numbers of time, in minutes: those of a day, the greatest of the clock, those of an office's
-/// range, of a window, of a lookback and of a timeline; and the most starts of a calendar's windows.
+/// range, of a window, of a lookback and of a timeline; and the most starts of a calendar's
+/// windows.
 pub fn limits_of_minutes()
     ensures day { MINUTES_A_DAY ≡ 1440 }
     ensures minute { MAX_MINUTE ≡ 67108863 }
