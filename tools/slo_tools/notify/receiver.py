@@ -127,7 +127,7 @@ class Alertmanager(_Client):
 
     def _spelled(self, sending: Sending, now: int) -> dict[str, Any]:
         alert = sending.alert
-        end = now + self.lifetime if sending.ended is None else max(sending.ended, alert.since + 1)
+        end = now + self.lifetime if sending.ended is None else max(sending.ended, alert.since)
         return {
             "annotations": alert.annotations,
             "endsAt": moment_text(end),

@@ -1,0 +1,756 @@
+"""slo-notify between a running office and its receiver, with faults in between."""
+
+from __future__ import annotations
+
+import http.server
+import json
+import os
+import subprocess
+import tempfile
+import threading
+import time
+import unittest
+import urllib.request
+from collections.abc import Callable, Sequence
+from contextlib import redirect_stderr
+from io import StringIO
+from pathlib import Path
+from typing import Any, Optional
+
+from desk_support import (
+    TOP,
+    RunningOffice,
+    accepts,
+    free_port,
+    installed,
+    program,
+    run_tool,
+    wait_for,
+)
+
+from slo_tools.notify.clock_trust import ClockTrust
+from slo_tools.notify.command import pause
+from slo_tools.notify.config import BadConfig, read_config
+from slo_tools.notify.deciding import Binding, Decisions, Present, decide
+from slo_tools.notify.metrics import Metrics
+from slo_tools.notify.receiver import Receiver, Sending, receiver_of
+from slo_tools.notify.rounds import Rounds
+from slo_tools.notify.state import read_state
+from slo_tools.office import Notice
+
+MINUTE = 60
+LIBRARY = "/usr/lib/x86_64-linux-gnu/faketime/libfaketime.so.1"
+# Times of tests that move the clock begin so far back that they never pass the true time.
+BACK = 6 * 3600
+
+DOCUMENTS = """
+apiVersion: openslo/v1
+kind: Service
+metadata:
+  name: shop
+spec: {}
+---
+apiVersion: openslo/v1
+kind: SLI
+metadata:
+  name: good
+spec:
+  ratioMetric:
+    total:
+      metricSource: {}
+    good:
+      metricSource: {}
+---
+apiVersion: openslo/v1
+kind: SLO
+metadata:
+  name: answers
+spec:
+  service: shop
+  indicatorRef: good
+  timeWindow:
+  - duration: 30d
+    isRolling: true
+  budgetingMethod: Occurrences
+  objectives:
+  - displayName: Answers
+    target: 0.99
+  alertPolicies:
+  - workbook-page
+"""
+
+
+class HeldClock:
+    """A clock that goes on by itself, and further where a test says so. An office under the
+    library `faketime` reads it from a file."""
+
+    def __init__(self, file: Path, offset: int) -> None:
+        self.file = file
+        self.offset = offset
+        self._write()
+
+    def now(self) -> float:
+        return time.time() + self.offset
+
+    def sleep(self, seconds: float) -> None:
+        raise AssertionError("nothing sleeps here")
+
+    def minute(self) -> int:
+        return int(self.now()) // MINUTE
+
+    def go_on(self, minutes: int = 1) -> None:
+        self.offset += minutes * MINUTE
+        self._write()
+
+    def _write(self) -> None:
+        beside = self.file.with_suffix(".new")
+        beside.write_text(f"{self.offset:+d}\n")
+        beside.replace(self.file)
+
+
+class TimedOffice(RunningOffice):
+    """An office whose clock is held."""
+
+    def __init__(self, folder: Path, clock: HeldClock) -> None:
+        super().__init__(folder)
+        if not os.path.exists(LIBRARY):
+            raise unittest.SkipTest("libfaketime isn't installed")
+        self.environment = {
+            **os.environ,
+            "LD_PRELOAD": LIBRARY,
+            "FAKETIME_TIMESTAMP_FILE": str(clock.file),
+            "FAKETIME_NO_CACHE": "1",
+            "FAKETIME_DONT_FAKE_MONOTONIC": "1",
+        }
+        subprocess.run(
+            [program(), "init", str(clock.minute() - 5000)],
+            cwd=folder,
+            check=True,
+            capture_output=True,
+            env=self.environment,
+        )
+
+    def start(self) -> None:
+        self.run = subprocess.Popen(
+            [program(), "serve", str(self.port)],
+            cwd=self.folder,
+            stdout=subprocess.DEVNULL,
+            stderr=subprocess.DEVNULL,
+            env=self.environment,
+        )
+        wait_for("the office", 10, lambda: accepts(self.port))
+
+
+class Hook:
+    """A webhook that keeps what it was told, and refuses where a test says so."""
+
+    def __init__(self) -> None:
+        self.alerts: list[dict[str, Any]] = []
+        self.status = 200
+        hook = self
+
+        class Handler(http.server.BaseHTTPRequestHandler):
+            def do_HEAD(self) -> None:
+                self.answer(200)
+
+            def do_POST(self) -> None:
+                told = json.loads(self.rfile.read(int(self.headers["Content-Length"])))
+                if hook.status == 200:
+                    hook.alerts += told["alerts"]
+                self.answer(hook.status)
+
+            def answer(self, status: int) -> None:
+                self.send_response(status)
+                self.send_header("Content-Length", "0")
+                self.end_headers()
+
+            def log_message(self, *words: object) -> None:
+                pass
+
+        self.server = http.server.ThreadingHTTPServer(("127.0.0.1", 0), Handler)
+        threading.Thread(target=self.server.serve_forever, daemon=True).start()
+
+    @property
+    def address(self) -> str:
+        return f"http://127.0.0.1:{self.server.server_port}/hook"
+
+    def told(self) -> list[tuple[str, str]]:
+        """Names and statuses, in the order in which they came."""
+        return [
+            (each["labels"].get("policy", each["labels"]["alertname"]), each["status"])
+            for each in self.alerts
+        ]
+
+    def close(self) -> None:
+        self.server.shutdown()
+        self.server.server_close()
+
+
+class Desk(unittest.TestCase):
+    """What the tests over servers share."""
+
+    def setUp(self) -> None:
+        self.folder = Path(self.enterContext(tempfile.TemporaryDirectory(prefix="slo-tools-")))
+        self.said = StringIO()
+        self.enterContext(redirect_stderr(self.said))
+
+    def rounds(
+        self, clock: Any, office: str, receiver: str, more: str = "", rule: str = "trusted"
+    ) -> Rounds:
+        config = self.folder / "notify.toml"
+        config.write_text(
+            f'state = "{self.folder}/state.json"\noverview = "{self.folder}/overview.json"\n'
+            f'clock = "{rule}"\nlink = "http://desk/#/{{office}}/{{slo}}"\ntimeout = 5\n{more}\n'
+            f'[[office]]\nname = "shop"\naddress = "{office}"\n{receiver}\n'
+        )
+        read = read_config(config)
+        made: Receiver = receiver_of(read.receiver, read.timeout, read.lifetime)
+        trust = ClockTrust(read.clock, now=clock.now)
+        return Rounds(read, clock, trust, made, read_state(read.state), Metrics())
+
+    def overview(self) -> dict[str, Any]:
+        told: dict[str, Any] = json.loads((self.folder / "overview.json").read_text())
+        return told
+
+    def timed(self) -> tuple[HeldClock, TimedOffice, Hook]:
+        """A clock that a test moves, an office under it, and a webhook."""
+        clock = HeldClock(self.folder / "clock", -BACK)
+        place = self.folder / "office"
+        place.mkdir()
+        office = TimedOffice(place, clock)
+        office.start()
+        self.addCleanup(office.kill)
+        office.client().define(DOCUMENTS.encode())
+        hook = Hook()
+        self.addCleanup(hook.close)
+        return clock, office, hook
+
+    def feed(
+        self, office: RunningOffice, minutes: Sequence[int], good: int, revision: int = 1
+    ) -> None:
+        lines = [f"good,web,{minute},{revision},{good},1000\n" for minute in minutes]
+        office.client().ask("POST", ["samples"], body="".join(lines).encode())
+
+    def hooked(self, clock: HeldClock, office: RunningOffice, hook: Hook, more: str = "") -> Rounds:
+        return self.rounds(clock, office.address, f'[webhook]\naddress = "{hook.address}"', more)
+
+
+class Webhooks(Desk):
+    def test_a_fresh_slo_resolves_nothing(self) -> None:
+        clock, office, hook = self.timed()
+        rounds = self.hooked(clock, office, hook)
+        for _ in range(3):
+            self.assertTrue(rounds.round(), self.said.getvalue())
+            clock.go_on()
+        self.feed(office, [clock.minute() - 1], 1000)
+        for _ in range(3):
+            self.assertTrue(rounds.round())
+            clock.go_on()
+        self.assertEqual(hook.alerts, [])
+        self.assertEqual(self.overview()["offices"][0]["slos"][0]["objectives"][0]["age"], 3)
+
+    def test_an_alert_is_told_once_when_it_begins_and_once_when_it_ends(self) -> None:
+        clock, office, hook = self.timed()
+        now = clock.minute()
+        self.feed(office, range(now - 90, now), 1000)
+        rounds = self.hooked(clock, office, hook)
+        for _ in range(6):
+            clock.go_on()
+            self.feed(office, [clock.minute() - 1], 0)
+            rounds.round()
+        self.assertEqual(hook.told(), [("workbook-page", "firing")])
+        told = hook.alerts[0]
+        self.assertEqual(told["labels"]["slo"], "answers")
+        self.assertEqual(told["labels"]["severity"], "page")
+        self.assertEqual(told["annotations"]["target"], "0.99")
+        self.assertRegex(told["annotations"]["burn_1h"], r"^\d+/\d+$")
+        self.assertRegex(told["annotations"]["remaining"], r"^-?\d+/\d+$")
+        self.assertEqual(told["generatorURL"], "http://desk/#/shop/answers")
+        for _ in range(8):
+            clock.go_on()
+            self.feed(office, [clock.minute() - 1], 1000)
+            rounds.round()
+        self.feed(office, range(now - 1, now + 7), 1000, 2)
+        clock.go_on()
+        rounds.round()
+        self.assertEqual(hook.told(), [("workbook-page", "firing"), ("workbook-page", "resolved")])
+        self.assertEqual(office.client().notices(), [])
+
+    def test_a_feed_that_dies_in_an_outage_resolves_nothing(self) -> None:
+        clock, office, hook = self.timed()
+        now = clock.minute()
+        self.feed(office, range(now - 90, now), 1000)
+        rounds = self.hooked(clock, office, hook)
+        for _ in range(6):
+            clock.go_on()
+            self.feed(office, [clock.minute() - 1], 0)
+            rounds.round()
+        self.assertEqual(hook.told(), [("workbook-page", "firing")])
+        # The feed is dead for two hours, in which the alert's state becomes quiet and no_data.
+        for _ in range(24):
+            clock.go_on(5)
+            rounds.round()
+        states = [told for told in hook.told() if told[0] == "workbook-page"]
+        self.assertEqual(states, [("workbook-page", "firing")])
+        self.assertIn(("SloDataStale", "firing"), hook.told())
+        self.assertEqual([notice.state for notice in office.client().notices()], ["quiet"])
+        self.assertEqual(rounds.offices[0].watch.ages["good"], 121)
+        # It comes back, and all is well: now the end is believed.
+        self.feed(office, range(clock.minute() - 119, clock.minute()), 1000)
+        clock.go_on()
+        self.feed(office, [clock.minute() - 1], 1000)
+        rounds.round()
+        self.assertEqual(
+            sorted(hook.told()[-2:]), [("SloDataStale", "resolved"), ("workbook-page", "resolved")]
+        )
+        # Two ends were noticed in these hours: one from quiet to no_data and back.
+        clock.go_on()
+        rounds.round()
+        self.assertEqual(len(hook.told()), 4)
+        self.assertEqual(office.client().notices(), [])
+
+    def test_a_feed_that_comes_back_while_it_burns_resolves_nothing(self) -> None:
+        clock, office, hook = self.timed()
+        now = clock.minute()
+        self.feed(office, range(now - 90, now), 1000)
+        rounds = self.hooked(clock, office, hook)
+        for _ in range(6):
+            clock.go_on()
+            self.feed(office, [clock.minute() - 1], 0)
+            rounds.round()
+        for _ in range(8):
+            clock.go_on(5)
+            rounds.round()
+        self.assertEqual([notice.state for notice in office.client().notices()], ["quiet"])
+        self.feed(office, range(clock.minute() - 15, clock.minute()), 0)
+        for _ in range(3):
+            clock.go_on()
+            self.feed(office, [clock.minute() - 1], 0)
+            rounds.round()
+        self.assertEqual(
+            [told for told in hook.told() if told[0] == "workbook-page"],
+            [("workbook-page", "firing")] * 2,
+        )
+        self.assertEqual(office.client().notices(), [])
+
+    def test_a_receiver_that_refuses_gets_everything_later_in_order(self) -> None:
+        clock, office, hook = self.timed()
+        now = clock.minute()
+        self.feed(office, range(now - 90, now), 1000)
+        rounds = self.hooked(clock, office, hook)
+        hook.status = 503
+        for _ in range(6):
+            clock.go_on()
+            self.feed(office, [clock.minute() - 1], 0)
+            self.assertFalse(rounds.round() and hook.status == 503 and office.client().notices())
+        self.feed(office, range(now, now + 6), 1000, 2)
+        for _ in range(2):
+            clock.go_on()
+            self.feed(office, [clock.minute() - 1], 1000)
+            rounds.round()
+        self.assertEqual([n.state for n in office.client().notices()], ["breaching", "quiet"])
+        self.assertEqual(hook.alerts, [])
+        hook.status = 200
+        for _ in range(2):
+            clock.go_on()
+            self.feed(office, [clock.minute() - 1], 1000)
+            self.assertTrue(rounds.round(), self.said.getvalue())
+        self.assertEqual(hook.told(), [("workbook-page", "firing"), ("workbook-page", "resolved")])
+
+    def test_an_office_that_is_away_is_told_and_ends_nothing(self) -> None:
+        clock, office, hook = self.timed()
+        now = clock.minute()
+        self.feed(office, range(now - 90, now), 1000)
+        rounds = self.hooked(clock, office, hook)
+        for _ in range(6):
+            clock.go_on()
+            self.feed(office, [clock.minute() - 1], 0)
+            rounds.round()
+        office.kill()
+        for _ in range(7):
+            clock.go_on()
+            self.assertFalse(rounds.round())
+        self.assertEqual(hook.told(), [("workbook-page", "firing"), ("SloOfficeAway", "firing")])
+        self.assertEqual(self.overview()["offices"][0]["up"], False)
+        self.assertEqual(self.overview()["offices"][0]["slos"][0]["name"], "answers")
+        office.start()
+        clock.go_on()
+        self.feed(office, range(clock.minute() - 8, clock.minute()), 0)
+        self.assertTrue(rounds.round(), self.said.getvalue())
+        self.assertEqual(hook.told()[2:], [("SloOfficeAway", "resolved")])
+
+    def test_an_office_two_years_ahead_is_not_ticked(self) -> None:
+        clock, office, hook = self.timed()
+        self.feed(office, range(clock.minute() - 30, clock.minute()), 0)
+        entries = office.client().objects()[0]
+        rounds = self.hooked(clock, office, hook)
+        clock.offset += 2 * 365 * 86_400
+        clock._write()
+        clock.offset -= 2 * 365 * 86_400
+        rounds.round()
+        self.assertEqual(office.client().objects()[0], entries)
+        self.assertEqual(hook.alerts, [])
+        self.assertIn("the office's moment differs", self.said.getvalue())
+
+    def test_a_clock_two_years_ahead_sends_nothing(self) -> None:
+        clock, office, hook = self.timed()
+        self.feed(office, range(clock.minute() - 30, clock.minute()), 0)
+        entries = office.client().objects()[0]
+        # The office's clock and this one are wrong together: the receiver's isn't.
+        clock.go_on(2 * 365 * 1440)
+        rounds = self.rounds(
+            clock, office.address, f'[webhook]\naddress = "{hook.address}"', rule="receiver"
+        )
+        self.assertFalse(rounds.round())
+        self.assertEqual(office.client().objects()[0], entries)
+        self.assertEqual(hook.alerts, [])
+        self.assertIn("differs from the receiver's", self.overview()["notify"]["clock"])
+
+    def test_a_stop_of_itself_forgets_nothing(self) -> None:
+        clock, office, hook = self.timed()
+        now = clock.minute()
+        self.feed(office, range(now - 90, now), 1000)
+        for _ in range(6):
+            clock.go_on()
+            self.feed(office, [clock.minute() - 1], 0)
+            self.hooked(clock, office, hook).round()
+        self.assertEqual(hook.told(), [("workbook-page", "firing")])
+        self.feed(office, range(now, now + 6), 1000, 2)
+        clock.go_on()
+        self.feed(office, [clock.minute() - 1], 1000)
+        self.hooked(clock, office, hook).round()
+        self.assertEqual(hook.told()[1:], [("workbook-page", "resolved")])
+
+
+class Killer:
+    """A receiver that kills the office once it has taken what was sent."""
+
+    def __init__(self, inner: Receiver, office: RunningOffice) -> None:
+        self.inner = inner
+        self.office = office
+        self.kind = inner.kind
+        self.kills = 1
+
+    def date(self) -> Optional[str]:
+        return self.inner.date()
+
+    def send(self, sendings: Sequence[Sending], now: int) -> Optional[str]:
+        date = self.inner.send(sendings, now)
+        if self.kills:
+            self.kills -= 1
+            self.office.kill()
+        return date
+
+    def opened(self, office: str) -> list[dict[str, str]]:
+        return self.inner.opened(office)
+
+
+class Manager:
+    """An Alertmanager of one's own."""
+
+    def __init__(self, folder: Path) -> None:
+        self.program = installed("prometheus-alertmanager")
+        self.folder = folder
+        self.port = free_port()
+        self.run: Optional[subprocess.Popen[bytes]] = None
+        (folder / "am.yml").write_text("route: {receiver: none}\nreceivers: [{name: none}]\n")
+
+    @property
+    def address(self) -> str:
+        return f"http://127.0.0.1:{self.port}"
+
+    def start(self) -> None:
+        self.run = subprocess.Popen(
+            [
+                self.program,
+                f"--config.file={self.folder}/am.yml",
+                f"--storage.path={self.folder}/am",
+                f"--web.listen-address=127.0.0.1:{self.port}",
+                "--cluster.listen-address=",
+            ],
+            stdout=subprocess.DEVNULL,
+            stderr=subprocess.DEVNULL,
+        )
+        wait_for("the Alertmanager", 30, self._is_ready)
+
+    def _is_ready(self) -> bool:
+        try:
+            with urllib.request.urlopen(f"{self.address}/-/ready", timeout=1) as answer:
+                return bool(answer.status == 200)
+        except OSError:
+            return False
+
+    def stop(self) -> None:
+        if self.run is not None:
+            self.run.kill()
+            self.run.wait()
+            self.run = None
+
+    def alerts(self) -> dict[str, dict[str, Any]]:
+        """The alerts that are active, by their policies or names."""
+        with urllib.request.urlopen(f"{self.address}/api/v2/alerts", timeout=5) as answer:
+            told = json.load(answer)
+        return {each["labels"].get("policy", each["labels"]["alertname"]): each for each in told}
+
+
+class Alertmanagers(Desk):
+    """Over a real Alertmanager and the true time: corrections make alerts begin and end."""
+
+    def setUp(self) -> None:
+        super().setUp()
+        self.manager = Manager(self.folder)
+        self.manager.start()
+        self.addCleanup(self.manager.stop)
+        place = self.folder / "office"
+        place.mkdir()
+        self.now = int(time.time()) // MINUTE
+        self.office = RunningOffice(place, self.now - 5000)
+        self.office.start()
+        self.addCleanup(self.office.kill)
+        self.office.client().define(DOCUMENTS.encode())
+        self.feed(self.office, range(self.now - 90, self.now), 1000)
+        self.clock = HeldClock(self.folder / "clock", 0)
+
+    def made(self, more: str = "", rule: str = "receiver") -> Rounds:
+        receiver = f'[alertmanager]\naddress = "{self.manager.address}"'
+        return self.rounds(self.clock, self.office.address, receiver, more, rule)
+
+    def burn(self, revision: int, good: int) -> None:
+        self.feed(self.office, range(self.now - 30, self.now), good, revision)
+
+    def test_an_alert_begins_goes_on_and_ends(self) -> None:
+        rounds = self.made()
+        self.assertTrue(rounds.round(), self.said.getvalue())
+        self.assertEqual(self.manager.alerts(), {})
+        self.burn(2, 0)
+        self.assertTrue(rounds.round())
+        alert = self.manager.alerts()["workbook-page"]
+        self.assertEqual(alert["labels"]["slo"], "answers")
+        self.assertEqual(alert["generatorURL"], "http://desk/#/shop/answers")
+        self.assertEqual(self.office.client().notices(), [])
+        before = alert["updatedAt"]
+        time.sleep(1.1)
+        self.assertTrue(rounds.round())
+        self.assertGreater(self.manager.alerts()["workbook-page"]["updatedAt"], before)
+        self.burn(3, 1000)
+        self.assertTrue(rounds.round())
+        self.assertEqual(self.manager.alerts(), {})
+        self.assertEqual(self.office.client().notices(), [])
+
+    def test_an_alertmanager_that_is_away_loses_nothing(self) -> None:
+        rounds = self.made()
+        self.assertTrue(rounds.round())
+        self.manager.stop()
+        self.burn(2, 0)
+        rest = float(os.environ.get("SLO_TOOLS_AWAY_SECONDS", "5"))
+        for _ in range(5):
+            time.sleep(rest / 5)
+            self.assertFalse(rounds.round())
+        waiting = self.office.client().notices()
+        self.assertEqual([notice.state for notice in waiting], ["breaching"])
+        self.assertIn("no connection", self.overview()["notify"]["receiver_fault"])
+        self.manager.start()
+        self.assertTrue(rounds.round(), self.said.getvalue())
+        self.assertEqual(list(self.manager.alerts()), ["workbook-page"])
+        self.assertEqual(self.office.client().notices(), [])
+
+    def test_an_office_killed_between_post_and_take_takes_later(self) -> None:
+        rounds = self.made()
+        self.assertTrue(rounds.round())
+        self.burn(2, 0)
+        rounds.receiver = Killer(rounds.receiver, self.office)
+        self.assertFalse(rounds.round())
+        self.assertEqual(list(self.manager.alerts()), ["workbook-page"])
+        self.office.start()
+        self.assertEqual([n.number for n in self.office.client().notices()], [1])
+        self.assertTrue(rounds.round(), self.said.getvalue())
+        self.assertEqual(list(self.manager.alerts()), ["workbook-page"])
+        self.assertEqual(self.office.client().notices(), [])
+        self.burn(3, 1000)
+        self.assertTrue(rounds.round())
+        self.assertEqual(self.manager.alerts(), {})
+
+    def test_what_it_opened_is_known_again_without_its_file(self) -> None:
+        rounds = self.made()
+        self.burn(2, 0)
+        self.assertTrue(rounds.round())
+        (self.folder / "state.json").unlink()
+        again = self.made()
+        self.assertTrue(again.round())
+        self.assertEqual(
+            list(again.offices[0].state.opened), [Binding("answers", 0, "workbook-page")]
+        )
+        self.burn(3, 1000)
+        self.assertTrue(again.round())
+        self.assertEqual(self.manager.alerts(), {})
+
+    def test_a_clock_two_years_ahead_sends_nothing(self) -> None:
+        self.burn(2, 0)
+        entries = self.office.client().objects()[0]
+        self.clock.offset = 2 * 365 * 86_400
+        self.assertFalse(self.made().round())
+        self.assertEqual(self.office.client().objects()[0], entries)
+        self.assertEqual(self.manager.alerts(), {})
+        self.assertIn("differs from the receiver's", self.overview()["notify"]["clock"])
+
+    def test_the_command_makes_a_round_and_offers_metrics(self) -> None:
+        self.burn(2, 0)
+        port = free_port()
+        self.made(f'metrics = "127.0.0.1:{port}"')
+        config = str(self.folder / "notify.toml")
+        run = run_tool("slo-notify", "--once", config)
+        self.assertEqual((run.returncode, run.stderr), (0, ""))
+        self.assertEqual(list(self.manager.alerts()), ["workbook-page"])
+        self.assertEqual(run_tool("slo-notify", "--check", config).returncode, 0)
+        serving = subprocess.Popen(
+            ["/usr/bin/python3", str(TOP / "tools" / "bin" / "slo-notify"), config],
+            stderr=subprocess.DEVNULL,
+        )
+        try:
+            wait_for("a round", 30, lambda: 'slo_office_up{office="shop"} 1.0' in scraped(port))
+            told = scraped(port)
+        finally:
+            serving.kill()
+            serving.wait()
+        for line in (
+            'slo_office_newest_minute_age_minutes{indicator="good",office="shop"}',
+            'slo_notify_open_alerts{office="shop"} 1.0',
+            "slo_notify_clock_trusted 1.0",
+            'slo_office_answers_total{office="shop",status="200"}',
+        ):
+            self.assertIn(line, told)
+
+
+def scraped(port: int) -> str:
+    try:
+        with urllib.request.urlopen(f"http://127.0.0.1:{port}/metrics", timeout=2) as answer:
+            text: str = answer.read().decode()
+            return text
+    except OSError:
+        return ""
+
+
+class Stub:
+    """A server that answers as docs/api.md says of an office that is full."""
+
+    def __init__(self) -> None:
+        class Handler(http.server.BaseHTTPRequestHandler):
+            def do_GET(self) -> None:
+                told: dict[str, Any] = {"entries": 30, "notices": [], "objects": []}
+                status = 200 if self.path in ("/objects", "/notices") else 404
+                self.answer(status, told if status == 200 else {"error": "not_found"})
+
+            def do_POST(self) -> None:
+                self.answer(507, {"error": "limit", "which": "notices"})
+
+            def answer(self, status: int, told: dict[str, Any]) -> None:
+                body = json.dumps(told).encode()
+                self.send_response(status)
+                self.send_header("Content-Length", str(len(body)))
+                self.end_headers()
+                self.wfile.write(body)
+
+            def log_message(self, *words: object) -> None:
+                pass
+
+        self.server = http.server.ThreadingHTTPServer(("127.0.0.1", 0), Handler)
+        threading.Thread(target=self.server.serve_forever, daemon=True).start()
+        self.address = f"http://127.0.0.1:{self.server.server_port}"
+
+    def close(self) -> None:
+        self.server.shutdown()
+        self.server.server_close()
+
+
+class Full(Desk):
+    def test_an_office_that_is_full_is_an_alert_and_a_metric(self) -> None:
+        stub, hook = Stub(), Hook()
+        self.addCleanup(stub.close)
+        self.addCleanup(hook.close)
+        clock = HeldClock(self.folder / "clock", 0)
+        rounds = self.rounds(clock, stub.address, f'[webhook]\naddress = "{hook.address}"')
+        rounds.round()
+        rounds.round()
+        self.assertEqual(hook.told(), [("SloOfficeFull", "firing")])
+        self.assertIn("507 limit which=notices", hook.alerts[0]["annotations"]["summary"])
+        counted = rounds.metrics.answers.labels("shop", "507")._value.get()
+        self.assertEqual(counted, 2)
+
+
+class Deciding(unittest.TestCase):
+    def test_each_case(self) -> None:
+        one = Binding("a", 0, "p")
+        notice: Callable[[int, str], Notice] = lambda n, state: Notice(n, 5, "a", 0, "p", state)
+        quiet, burning = notice(2, "quiet"), notice(1, "breaching")
+        well, old = Present("quiet", False), Present("quiet", True)
+        again = Present("breaching", False)
+        cases: list[tuple[list[Binding], list[Notice], Present, Decisions]] = [
+            ([], [burning], well, Decisions(fire={one: burning})),
+            ([], [quiet], well, Decisions(unsent=[quiet])),
+            ([], [quiet, burning], well, Decisions(fire={one: burning})),
+            ([one], [quiet], well, Decisions(end={one: quiet})),
+            ([one], [quiet], old, Decisions(again=[one], held=[quiet])),
+            ([one], [quiet], Present(None, True), Decisions(again=[one], held=[quiet])),
+            ([one], [quiet], Present("no_data", False), Decisions(again=[one], held=[quiet])),
+            ([one], [quiet], again, Decisions(again=[one], unsent=[quiet])),
+            ([one], [quiet], Present("gone", False), Decisions(end={one: quiet})),
+            ([one], [], well, Decisions(end={one: None})),
+            ([one], [], old, Decisions(again=[one])),
+            ([one], [], again, Decisions(again=[one])),
+            ([one], [burning], well, Decisions(fire={one: burning})),
+            ([], [notice(1, "no_data")], old, Decisions(fire={one: notice(1, "no_data")})),
+        ]
+        for opened, notices, present, decisions in cases:
+            with self.subTest(opened=opened, notices=notices, present=present):
+                self.assertEqual(decide(opened, notices, {one: present}), decisions)
+
+
+class Clocks(unittest.TestCase):
+    def test_the_receivers_clock_goes_on_while_it_is_away(self) -> None:
+        times = {"now": 1_000_000.0, "steady": 50.0}
+        trust = ClockTrust("receiver", lambda: times["now"], lambda: times["steady"])
+        self.assertEqual(trust.fault(), "the receiver's clock isn't known yet")
+        trust.heard("Mon, 12 Jan 1970 13:46:40 GMT")
+        self.assertIsNone(trust.fault())
+        times["now"] += 300
+        times["steady"] += 300
+        self.assertIsNone(trust.fault())
+        times["now"] += 61
+        self.assertIn("by 61 seconds", trust.fault() or "")
+
+    def test_the_kernel_is_asked(self) -> None:
+        trust = ClockTrust("kernel", is_synchronised=lambda: False)
+        self.assertEqual(trust.fault(), "this machine's clock isn't synchronised")
+        self.assertIsNone(ClockTrust("kernel", is_synchronised=lambda: True).fault())
+
+    def test_rounds_begin_behind_the_minute(self) -> None:
+        self.assertEqual(pause(120.0, 60), 2)
+        self.assertEqual(pause(122.0, 60), 60)
+        self.assertEqual(pause(150.0, 60), 32)
+
+
+class Configs(unittest.TestCase):
+    def test_other_forms_are_told(self) -> None:
+        office = '[[office]]\nname = "a"\naddress = "http://x"\n'
+        with tempfile.TemporaryDirectory() as folder:
+            path = Path(folder) / "c.toml"
+            for text, why in (
+                ("x", "c.toml"),
+                ("", "there is none"),
+                (office, "state"),
+                ('state = "s"\nevry = 5\n' + office, "evry: unknown"),
+                ('state = "s"\nevery = "5"\n' + office, "every: '5' is of another type"),
+                ('state = "s"\nevery = 0\n' + office, "every: above zero"),
+                ('state = "s"\nclock = "sun"\n' + office, "clock: one of"),
+                ('state = "s"\nclock = "receiver"\n' + office, "no receiver"),
+                ('state = "s"\n' + office + office, "stands twice"),
+                ('state = "s"\nmetrics = "x"\n' + office, "no address"),
+                ('state = "s"\n' + office + "[webhook]\n[alertmanager]\n", "one of them"),
+            ):
+                path.write_text(text)
+                with self.subTest(text=text), self.assertRaisesRegex(BadConfig, why):
+                    read_config(path)
+
+
+if __name__ == "__main__":
+    unittest.main()
