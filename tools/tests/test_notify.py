@@ -720,7 +720,7 @@ class Clocks(unittest.TestCase):
 
     def test_the_kernel_is_asked(self) -> None:
         trust = ClockTrust("kernel", is_synchronised=lambda: False)
-        self.assertEqual(trust.fault(), "this machine's clock isn't synchronised")
+        self.assertIn("this machine's clock isn't synchronised", trust.fault() or "")
         self.assertIsNone(ClockTrust("kernel", is_synchronised=lambda: True).fault())
 
     def test_rounds_begin_behind_the_minute(self) -> None:

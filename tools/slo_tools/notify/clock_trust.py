@@ -63,7 +63,7 @@ class ClockTrust:
         if self.rule == "trusted":
             return None
         if self.rule == "kernel" and not self.is_synchronised():
-            return "this machine's clock isn't synchronised"
+            return "this machine's clock isn't synchronised, by the kernel's word"
         if self._ahead is None:
             return "the receiver's clock isn't known yet" if self.rule == "receiver" else None
         skew = self.now() - (self._ahead + self.steady())
