@@ -160,6 +160,11 @@ class SimulatedOffice:
         amount, _, total = before[1].partition(",")
         return KeptRow(before[0], amount, int(total))
 
+    def status(self) -> Optional[Members]:
+        if not self.has_rows_query:
+            return None
+        return {"cells": [len(self.kept), 2_000_000], "accepted": [self.accepted, 4_000_000]}
+
     def objects(self) -> tuple[int, list[ObjectName]]:
         names = [ObjectName(*key.split("/")) for key in self.texts]
         return self.entries, names

@@ -133,6 +133,18 @@ class Rounds(unittest.TestCase):
         self.clock.seconds += 60
         self.assertEqual(self.feed.round(), End.DONE)
 
+    def test_how_long_there_is_room(self) -> None:
+        for has_query in (False, True):
+            self.office.has_rows_query = has_query
+            self.feed.round()
+            self.clock.seconds += 360
+            self.feed.round()
+            registry = self.feed.watch.registry
+            left = registry.get_sample_value("slo_feed_cells_left")
+            days = registry.get_sample_value("slo_feed_days_until_full")
+            self.assertIn(left, (2_000_000 - 36, 2_000_000 - 42))
+            self.assertAlmostEqual(days or 0, (left or 0) / 1440)
+
     def test_a_full_office(self) -> None:
         def full(rows: Sequence[SampleRow]) -> Batch:
             raise Full(507, {"error": "limit", "which": "cells"})

@@ -3,6 +3,7 @@
 from __future__ import annotations
 
 import json
+import time
 from collections.abc import Iterable, Iterator, Mapping, Sequence
 from dataclasses import dataclass, field
 from decimal import Decimal, InvalidOperation
@@ -30,6 +31,8 @@ _NEAR_SECONDS = 120
 # Minutes of raw samples in one answer, so that its size stays bounded.
 _MINUTES_AT_ONCE = 360
 _POINTS_AT_ONCE = 10_000
+# Seconds; a large Prometheus has a long list of targets.
+_TARGETS_ASKED_EACH = 600.0
 
 
 class NotWhole(ValueError):
@@ -170,6 +173,8 @@ class Prometheus:
     wait: Optional[float] = None
     # Used where nothing is configured and the targets don't tell their timeouts.
     usual_wait: float = 15.0
+    _timeout: Optional[float] = field(default=None, init=False)
+    _asked: float = field(default=0.0, init=False)
 
     def now(self) -> float:
         return self.client.now()
@@ -177,8 +182,10 @@ class Prometheus:
     def settled(self) -> float:
         if self.wait is not None:
             return self.wait
-        timeout = self.client.scrape_timeout()
-        return self.usual_wait if timeout is None else timeout + 1.0
+        asked = time.monotonic()
+        if self._timeout is None or asked - self._asked > _TARGETS_ASKED_EACH:
+            self._timeout, self._asked = self.client.scrape_timeout(), asked
+        return self.usual_wait if self._timeout is None else self._timeout + 1.0
 
     def read(
         self, asked: Mapping[Indicator, tuple[int, int]], mark: Optional[float] = None

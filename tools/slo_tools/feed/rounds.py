@@ -17,7 +17,16 @@ from slo_tools.feed.revisions import pending, without_old
 from slo_tools.feed.sending import Sender, Sent
 from slo_tools.feed.state import State, write_state
 from slo_tools.feed.watch import LOG, Watch
-from slo_tools.office import ACCEPTED, CELLS, Full, NoAnswer, NotFound, Office, OfficeError
+from slo_tools.office import (
+    ACCEPTED,
+    CELLS,
+    Full,
+    Members,
+    NoAnswer,
+    NotFound,
+    Office,
+    OfficeError,
+)
 
 CLOCKS_APART = 60.0
 # Minutes that are read and sent before the state is written again.
@@ -101,6 +110,7 @@ class Feed:
     save: bool = True
     _catalog: Optional[Catalog] = field(default=None, init=False)
     _catalog_at: float = field(default=0.0, init=False)
+    _full: Optional[Members] = field(default=None, init=False)
     _engines: dict[DataSource, Engine] = field(default_factory=dict, init=False)
     _end: End = field(default=End.DONE, init=False)
 
@@ -149,6 +159,7 @@ class Feed:
         if self._catalog is None or not 0 <= age < self.config.reread_objects * MINUTE:
             self._catalog = read_catalog(self.office, self.config)
             self._catalog_at = now
+            self._full = self.office.status()
             self._forget_if_restored(self._catalog.entries)
         for sli, why in self._catalog.left_out.items():
             LOG.debug("%s isn't fed: %s", sli, why)
@@ -320,8 +331,11 @@ class Feed:
         """How many cells are left: as the office says, else by the rows that this feed made."""
         if self._catalog is None:
             return
-        left = CELLS - self.state.made
-        left = min(left, ACCEPTED - self.state.accepted)
+        if self._full is not None:
+            told = [self._full["cells"], self._full["accepted"]]
+            left = min(limit - count for count, limit in told)
+        else:
+            left = min(CELLS - self.state.made, ACCEPTED - self.state.accepted)
         pace = sum(1440 / i.every * self._sources(i) for i in self._catalog.indicators)
         self.watch.room(left, left / pace if pace else float("inf"))
 

@@ -1,0 +1,111 @@
+"""The guide's page 'Feeding it': its ten commands from top to bottom, and its table."""
+
+from __future__ import annotations
+
+import json
+import os
+import re
+import signal
+import subprocess
+import tempfile
+import unittest
+from pathlib import Path
+
+import support
+from support import PrometheusServer, free_port
+
+PAGE = support.REPOSITORY / "docs" / "feeding.md"
+EXAMPLES = support.REPOSITORY / "examples" / "feed"
+INSTALLED = "/usr/share/doc/slo-office-tools/examples/feed"
+LACKS = [
+    name
+    for name, found in (
+        ("the office's program", support.program()),
+        ("prometheus", support.installed("prometheus")),
+        ("curl", support.installed("curl")),
+    )
+    if found is None
+]
+
+
+def commands() -> list[str]:
+    """The ten commands of the page's first block."""
+    block = PAGE.read_text().split("```shell\n", 1)[1].split("```", 1)[0]
+    return [line[2:] for line in block.splitlines() if line.startswith("$ ")]
+
+
+class PageTest(unittest.TestCase):
+    def setUp(self) -> None:
+        self.folder = Path(self.enterContext(tempfile.TemporaryDirectory()))
+
+    @unittest.skipIf(LACKS, f"not installed: {', '.join(LACKS)}")
+    def test_ten_commands(self) -> None:
+        """All but the installation, at ports of the test's own; the folder has the programs."""
+        told = commands()
+        self.assertEqual(len(told), 10)
+        self.assertTrue(told[0].startswith("sudo apt install prometheus curl ./slo-office_"))
+        ports = {"9090": str(free_port()), "8080": str(free_port()), "9469": str(free_port())}
+        prometheus = PrometheusServer(self.folder / "prometheus", port=int(ports["9090"]))
+        prometheus.jobs = {"prometheus": [f"localhost:{ports['9090']}"]}
+        self.addCleanup(prometheus.kill)
+        prometheus.start()
+        self.programs()
+        answers = self.run_shell(self.rewritten(told[1:], ports))
+        self.assertEqual(json.loads(answers[3]), {"applied": 4, "entry": 0})
+        self.assertIn("web-good: counters of prometheus by instance", answers[4])
+        budget = json.loads(answers[7])["budgets"][0]
+        self.assertGreater(budget["den"], 0)
+        self.assertEqual(budget["num"], budget["den"])
+        self.assertEqual(budget["remaining"], "1/1")
+        self.assertIn('slo_feed_newest_minute{sli="web-good"}', answers[8])
+
+    def programs(self) -> None:
+        place = self.folder / "bin"
+        place.mkdir()
+        (place / "slo_office").symlink_to(support.program() or "")
+        (place / "slo-feed").symlink_to(support.TOOLS / "bin" / "slo-feed")
+
+    def rewritten(self, told: list[str], ports: dict[str, str]) -> list[str]:
+        """The commands with the test's ports, in the copied files too."""
+        lines = []
+        for line in told:
+            for port, own in ports.items():
+                line = line.replace(port, own)
+            line = line.replace(INSTALLED, str(EXAMPLES))
+            if line.startswith("mkdir"):
+                edits = " ".join(f"-e s/{port}/{own}/" for port, own in ports.items())
+                line += f" && sed -i {edits} web.yaml slo-feed.toml"
+            lines.append(line)
+        return lines
+
+    def run_shell(self, lines: list[str]) -> list[str]:
+        """Run all lines in one shell; the output of each."""
+        mark = "--- next ---"
+        script = "".join(f"{line}\necho; echo '{mark}'\n" for line in lines)
+        path = f"{self.folder}/bin:{os.environ['PATH']}"
+        shell = subprocess.Popen(
+            ["bash", "-c", script],
+            cwd=self.folder,
+            stdout=subprocess.PIPE,
+            text=True,
+            env={**os.environ, "PATH": path},
+            start_new_session=True,
+        )
+        try:
+            output, _ = shell.communicate(timeout=400)
+        finally:
+            os.killpg(shell.pid, signal.SIGKILL)
+        return [text.strip() for text in output.split(mark)]
+
+    def test_table_of_capacity(self) -> None:
+        rows = re.findall(r"^\| (\d+) \| (\d+) \| (\d+) \| ([\d,]+) \| ([\d,]+) \|$",
+                          PAGE.read_text(), re.MULTILINE)
+        self.assertGreater(len(rows), 6)
+        for row in rows:
+            indicators, sources, an_hour, cells, days = (int(n.replace(",", "")) for n in row)
+            self.assertEqual(cells, indicators * sources * an_hour * 24)
+            self.assertEqual(days, 2_000_000 // cells)
+
+
+if __name__ == "__main__":
+    unittest.main()
