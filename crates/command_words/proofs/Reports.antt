@@ -7,6 +7,7 @@ use Rattle.clap.specs.Walk.{Text}
 use Rattle.budget_command.specs.Order.{budget_order}
 use Rattle.command_words.specs.Commands.{asked_alone, asked_named, asked_of, command_named}
 use Rattle.command_words.specs.Commands.{minute_asked, number_asked, only_reads, port_asked}
+use Rattle.command_words.specs.Matches.{begins_with_report}
 use Rattle.command_words.specs.declared.asked.Asked.{Asked}
 use Rattle.command_words.specs.declared.asked.Asked.TheVariants as asked
 use Rattle.command_words.specs.declared.asked.Command.{Command}
@@ -47,8 +48,7 @@ others name ws other =
 reports : (ws : List Text) → Reads true (asked_of (codes "report" ∷ ws))
 reports ws = mapped true asked.Report (λ x. refl) (minute_asked ws)
 
--- whether a first word is the name of the command that only reads
-pub by_first : (name : Text) (ws : List Text)
+by_first : (name : Text) (ws : List Text)
     → Reads (bytes_eq name (codes "report")) (asked_named name ws)
 by_first name ws = by (bytes_eq name (codes "report")) refl
   where
@@ -56,9 +56,10 @@ by_first name ws = by (bytes_eq name (codes "report")) refl
         → Reads (bytes_eq name (codes "report")) (asked_named name ws)
     by true e =
         let same : name ≡ codes "report" = (bytes_eq-Decides name (codes "report")).0 e in
-        rw e
-        (subst (λ (v : Text). Reads true (asked_of (v ∷ ws))) (sym same) (reports ws))
+        rw e (subst (λ (v : Text). Reads true (asked_of (v ∷ ws))) (sym same) (reports ws))
     by false e = rw e (others name ws e)
 
-pub no_word : Reads false (asked_of [])
-no_word a e = cc e
+pub by_words : (ws : List Text) (a : Asked) → asked_of ws ≡ Some a
+    → begins_with_report ws ≡ only_reads a
+by_words [] a e = cc e
+by_words (name ∷ ws) a e = by_first name ws a e

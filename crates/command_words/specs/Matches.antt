@@ -1,6 +1,6 @@
 -- What the command that `clap` found asks for, with the arguments that it holds.
 use Rattle.std.specs.Prelude.{ℕ, List, [], ◌∷◌, Option, Some, None, codes, if◌then◌else◌}
-use Rattle.std.specs.Prelude.{option_map}
+use Rattle.std.specs.Prelude.{Bool, false, option_map}
 use Rattle.std.specs.Str.{bytes_eq}
 use Rattle.clap.specs.Walk.{Row as Argument, Text, first_of}
 use Rattle.budget_command.specs.Order.{order_of}
@@ -56,3 +56,8 @@ asked_in name arguments =
 abbrev pub asked_by : Option (Text × List Argument) → Option Asked
 asked_by None = None
 asked_by (Some found) = asked_in found.0 found.1
+
+-- whether the first word is the name of the command that only reads
+abbrev pub begins_with_report : List Text → Bool
+begins_with_report [] = false
+begins_with_report (name ∷ words) = bytes_eq name (codes "report")

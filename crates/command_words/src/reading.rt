@@ -7,6 +7,7 @@ ghost use Rattle.clap.specs.Simple.{subcommand_rows_of as found_by};
 ghost use Rattle.clap.specs.Walk.{first_of, rows_of as arguments_of};
 ghost use Rattle.command_words.specs.Commands.{IsSound, IsSoundAsked, asked_of};
 ghost use Rattle.command_words.specs.Commands.{is_dashed as dashed, only_reads as reads_alone};
+ghost use Rattle.command_words.specs.Matches.{begins_with_report as report_first};
 ghost use Rattle.command_words.specs.Matches.{asked_by, asked_in, minute_by, number_by};
 ghost use Rattle.command_words.specs.Matches.{order_by, port_by};
 
@@ -172,14 +173,21 @@ pub fn read_words(alloc: Global, words: &[String]) -> Result<Asked, WordsFault>
     }
 }
 
+/// Whether the first word is the name of the command that only reads.
+fn begins_with_report(words: &[String]) -> bool
+    ensures { result ≡ report_first (map string_bytes words.now) }
+{
+    match words.first() {
+        Some(word) => word.as_str() == "report",
+        None => false,
+    }
+}
+
 /// Whether the words ask for a command that reads the journal's file and changes nothing in it.
 /// Words that ask for nothing may be taken for either.
 pub fn only_reads(words: &[String]) -> bool
     ensures { (asked : Asked) → asked_of (map string_bytes words.now) ≡ Some asked
         → result ≡ reads_alone asked }
 {
-    match words.first() {
-        Some(word) => word.as_str() == "report",
-        None => false,
-    }
+    begins_with_report(words)
 }
