@@ -1,0 +1,112 @@
+"""The page 'A team's set-up': its commands from top to bottom, in a folder, at ports of the test's own."""
+
+from __future__ import annotations
+
+import os
+import re
+import shutil
+import signal
+import subprocess
+import tempfile
+import unittest
+from pathlib import Path
+
+from desk_support import TOOLS, TOP, free_port, installed, program
+
+PAGE = TOP / "docs" / "desk.md"
+EXAMPLES = TOP / "examples" / "desk"
+INSTALLED = "/usr/share/doc/slo-office-tools/examples/desk"
+PORTS = ("8080", "9093", "9464")
+MARK = "\001"
+
+
+def commands() -> list[str]:
+    blocks = re.findall(r"^```shell\n(.*?)^```", PAGE.read_text(), re.MULTILINE | re.DOTALL)
+    return [line[2:] for block in blocks for line in block.splitlines() if line.startswith("$ ")]
+
+
+class Page(unittest.TestCase):
+    def setUp(self) -> None:
+        self.folder = Path(self.enterContext(tempfile.TemporaryDirectory(prefix="slo-tools-")))
+
+    def test_the_page_is_what_happens(self) -> None:
+        manager, _ = installed("prometheus-alertmanager"), installed("curl")
+        told = commands()
+        self.assertTrue(told[0].startswith("sudo apt install ./slo-office_*.deb"))
+        place = self.folder / "bin"
+        place.mkdir()
+        (place / "slo_office").symlink_to(program())
+        (place / "prometheus-alertmanager").symlink_to(manager)
+        for tool in (TOOLS / "bin").iterdir():
+            (place / tool.name).symlink_to(tool)
+        examples = self.folder / "examples"
+        shutil.copytree(EXAMPLES, examples / "desk")
+        answers = dict(zip(told[1:], self.run_shell(told[1:], examples)))
+        self.judge(answers)
+
+    def run_shell(self, told: list[str], examples: Path) -> list[str]:
+        ports = {port: str(free_port()) for port in PORTS}
+        text = "\n".join(f"{line}\nprintf '{MARK}'" for line in told)
+        text = text.replace(INSTALLED, str(examples / "desk"))
+        files = [examples / "desk" / "notify.toml"]
+        for port, own in ports.items():
+            text = text.replace(port, own)
+            for file in files:
+                file.write_text(file.read_text().replace(port, own))
+        run = subprocess.Popen(
+            ["bash"],
+            cwd=self.folder,
+            stdin=subprocess.PIPE,
+            stdout=subprocess.PIPE,
+            stderr=subprocess.STDOUT,
+            text=True,
+            start_new_session=True,
+            env={
+                **os.environ,
+                "PATH": f"{self.folder}/bin:{os.environ['PATH']}",
+                # The tools ask at port 8080 where nothing else is said.
+                "SLO_OFFICE_URL": f"http://127.0.0.1:{ports['8080']}",
+            },
+        )
+        # The servers of the page go on until the page is over.
+        script = f"{text}\nkill $(jobs -p)\nexit\n"
+        try:
+            out, _ = run.communicate(script, timeout=180)
+        finally:
+            try:
+                os.killpg(run.pid, signal.SIGKILL)
+            except ProcessLookupError:
+                pass
+        return out.split(MARK)[:-1]
+
+    def judge(self, answers: dict[str, str]) -> None:
+        """What the page says of its commands."""
+
+        def of(front: str, number: int = 0) -> str:
+            found = [text for line, text in answers.items() if line.startswith(front)]
+            return found[number]
+
+        self.assertEqual(of("slo_office serve"), "ready\n")
+        self.assertEqual(of("slo-apply --check"), "4 objects, no fault\n")
+        plan = of("slo-apply --plan slos")
+        self.assertIn("status 1", plan)
+        for line in ("+ zone Europe/Berlin", "+ Service shop", "+ SLO shop-month"):
+            self.assertIn(line, plan)
+        self.assertIn("4 defined", of("slo-apply slos"))
+        self.assertTrue(of("slo-apply --plan --prune").endswith("4 the same\nstatus 0\n"))
+        self.assertIn('"new":120', of("rows 120 1"))
+        self.assertTrue(of("slo-gate --remaining").endswith("release\nstatus 0\n"))
+        self.assertEqual(of("mkdir page"), "status 0\n")
+        self.assertEqual(of("slo-notify --once", 0), "status 0\n")
+        self.assertEqual(of("curl -s http").count("shop-answers, Good answers: workbook-"), 2)
+        self.assertTrue(of("slo-gate shop").endswith("hold\nstatus 1\n"))
+        self.assertEqual(of("slo-notify --once", 1).strip(), "[]")
+        self.assertEqual(of("grep -o"), '"remaining":"1/1"\n' * 2)
+        journal = of("slo-journal")
+        self.assertIn("samples shop-answers: 60 newer", journal)
+        self.assertIn("closed gate at", journal)
+        self.assertNotIn("damaged", journal)
+
+
+if __name__ == "__main__":
+    unittest.main()
