@@ -1,16 +1,14 @@
 -- Of the words that ask for a command those that begin with `report` ask for one that only reads.
-use Rattle.std.proofs.Common.{◌≡◌, ◌∙◌, Bool, true, false, List, [], ◌∷◌, Option, Some, None}
+use Rattle.std.proofs.Common.{◌≡◌, Bool, true, false, List, [], ◌∷◌, Option, Some, None}
 use Rattle.std.proofs.Common.{cond, codes, option_map, refl, sym, subst}
 use Rattle.std.specs.Str.{bytes_eq}
 use Rattle.std.proofs.lemmas.Slice.Eq.{bytes_eq-Decides}
 use Rattle.clap.specs.Walk.{Text}
-use Rattle.budget_command.specs.Order.{budget_order}
 use Rattle.command_words.specs.Commands.{asked_alone, asked_named, asked_of, command_named}
 use Rattle.command_words.specs.Commands.{minute_asked, number_asked, only_reads, port_asked}
 use Rattle.command_words.specs.Matches.{begins_with_report}
 use Rattle.command_words.specs.declared.asked.Asked.{Asked}
 use Rattle.command_words.specs.declared.asked.Asked.TheVariants as asked
-use Rattle.command_words.specs.declared.asked.Command.{Command}
 
 -- what may be asked for, if anything, only reads, or doesn't
 abbrev Reads : Bool → Option Asked → Type 0
@@ -52,12 +50,16 @@ by_first : (name : Text) (ws : List Text)
     → Reads (bytes_eq name (codes "report")) (asked_named name ws)
 by_first name ws = by (bytes_eq name (codes "report")) refl
   where
+    is : Option Asked
+    is = asked_named name ws
+
     by : (b : Bool) → bytes_eq name (codes "report") ≡ b
-        → Reads (bytes_eq name (codes "report")) (asked_named name ws)
+        → Reads (bytes_eq name (codes "report")) is
     by true e =
         let same : name ≡ codes "report" = (bytes_eq-Decides name (codes "report")).0 e in
-        rw e (subst (λ (v : Text). Reads true (asked_of (v ∷ ws))) (sym same) (reports ws))
-    by false e = rw e (others name ws e)
+        subst (λ (b : Bool). Reads b is) (sym e)
+        (subst (λ (v : Text). Reads true (asked_of (v ∷ ws))) (sym same) (reports ws))
+    by false e = subst (λ (b : Bool). Reads b is) (sym e) (others name ws e)
 
 pub by_words : (ws : List Text) (a : Asked) → asked_of ws ≡ Some a
     → begins_with_report ws ≡ only_reads a
