@@ -1,5 +1,6 @@
 //! The number of each limit, in decimal digits.
 ghost use Rattle.std.specs.Prelude.{◌≡◌};
+ghost use Rattle.message_heads.specs.declared.reading.TheConstants.{MAX_MESSAGE_BYTES};
 ghost use Rattle.slo_limits.specs.declared.TheConstants.{MAX_ACCEPTED_ROWS, MAX_AMOUNT};
 ghost use Rattle.slo_limits.specs.declared.TheConstants.{MAX_BATCH_ROWS, MAX_BINDINGS};
 ghost use Rattle.slo_limits.specs.declared.TheConstants.{MAX_BODY_BYTES, MAX_CATALOG_BYTES};
@@ -77,12 +78,13 @@ pub fn limits_of_histories()
     ensures journal { MAX_JOURNAL_BYTES ≡ 268435456 }
 {}
 
-/// The numbers of messages and sessions: the most bytes of a head and a body, header fields,
-/// requests of a session, and passes of a desk.
+/// The numbers of messages and sessions: the most bytes of a head, a body and a whole message,
+/// header fields, requests of a session, and passes of a desk.
 pub fn limits_of_messages()
     ensures head { MAX_HEAD_BYTES ≡ 8192 }
     ensures fields { MAX_HEADER_FIELDS ≡ 64 }
     ensures body { MAX_BODY_BYTES ≡ 1048576 }
+    ensures message { MAX_MESSAGE_BYTES ≡ 1056768 }
     ensures requests { MAX_REQUESTS ≡ 1000 }
     ensures passes { MAX_PASSES ≡ 64 }
 {}
