@@ -15,7 +15,6 @@ use Rattle.office_serving.specs.Workers.{Site, WorkersServe}
 use Rattle.office_serving.specs.declared.serving.ServeEnd.{ServeEnd}
 use Rattle.office_serving.specs.declared.serving.ServeEnd.TheVariants.{Done, DoorsFault}
 use Rattle.office_serving.specs.declared.serving.ServeEnd.TheVariants.{NoMemory, WriteFault}
-use Rattle.office_serving.specs.declared.workers.TheConstants.{WORKERS}
 
 -- These doors were opened, with all visits that were held shared out among them, and closed again.
 pub record WereOpen {A V : Type 0} (told : A → Option (Book V)) (opened closed : List A)
@@ -47,10 +46,11 @@ AskedAtMost port old new = (new ≡ old) ⊎ AskedAt port old new
 abbrev pub ready_line : List ℕ
 ready_line = codes "ready\n"
 
--- A door for each worker was opened just now; each tells where the doors together do.
+-- Each of the four workers has a door, which was opened just now; each tells where the doors
+-- together do.
 pub record AreOpened {A I O C : Type 0} (site : Site A I O C) (opened : List A)
     (old : Option (Entrance A (Visit I O C))) : Type 0 where
-  pub count : length opened ≡ WORKERS
+  pub count : length opened ≡ 4
   pub fresh : All (λ d. Tells IsFresh (site.told d)) opened
   pub tell : Tells (λ _. All (λ d. is_some (site.told d) ≡ true) opened) old
 
