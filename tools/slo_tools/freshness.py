@@ -2,9 +2,10 @@
 
 from __future__ import annotations
 
-from typing import Optional
+from collections.abc import Iterable, Mapping
+from typing import Any, Optional
 
-from slo_tools.office import Office, Refusal
+from slo_tools.office import BadRequest, NotFound, Office, Refusal
 
 # The longest lookback that an office answers: 30 days.
 LONGEST = 43_200
@@ -43,3 +44,23 @@ def age_or_none(office: Office, slo: str, objective: int, at: int, guess: int) -
         return age_of_newest(office, slo, objective, at, guess)
     except Refusal:
         return None
+
+
+def exclusions_of(office: Office) -> list[Mapping[str, Any]]:
+    """All exclusions; none from an office that hasn't this query, where excluded minutes look
+    as if their data were lacking."""
+    try:
+        return list(office.exclusions())
+    except (BadRequest, NotFound):
+        return []
+
+
+def excluded_age(exclusions: Iterable[Mapping[str, Any]], slo: str, at: int) -> Optional[int]:
+    """The age of the newest minute that is excluded for an SLO: it counts for nothing there,
+    whether its data has come or not."""
+    ages = [
+        at - min(int(each["to"]), at) + 1
+        for each in exclusions
+        if each["live"] and each["slo"] == slo and each["from"] < min(int(each["to"]), at)
+    ]
+    return min(ages, default=None)

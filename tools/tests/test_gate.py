@@ -11,6 +11,7 @@ from fractions import Fraction
 
 from desk_support import RunningOffice, free_port, run_tool, running_office
 
+from slo_tools.freshness import excluded_age
 from slo_tools.gate.judging import BadFreeze, Freeze, Verdict, percent, read_freeze, worst
 
 NOW = int(time.time()) // 60
@@ -149,7 +150,7 @@ class Gate(unittest.TestCase):
         office = self.office(slo("a"), slo("fresh").replace("indicatorRef: good", SECOND))
         client = office.client()
         client.ask("POST", ["samples"], body=rows(70, 130, 999))
-        for words, why in (
+        cases: tuple[tuple[list[str], str], ...] = (
             (["nobody"], "there is no such SLO"),
             (["a"], "no data in the last 30 minutes"),
             (["fresh"], "no data in its window"),
@@ -157,7 +158,8 @@ class Gate(unittest.TestCase):
             ([], "name an SLO"),
             (["a", "--remaining", "much"], "is no part"),
             (["a b"], "can't stand in a request"),
-        ):
+        )
+        for words, why in cases:
             with self.subTest(words=words):
                 status, told = self.gate(office, *words)
                 self.assertEqual(status, 2, told)
@@ -224,6 +226,19 @@ SECOND = """indicator:
 
 
 class Judging(unittest.TestCase):
+    def test_excluded_minutes_lack_nothing(self) -> None:
+        told = [
+            {"from": 100, "id": "a", "live": True, "slo": "a", "to": 110},
+            {"from": 50, "id": "b", "live": False, "slo": "a", "to": 200},
+            {"from": 50, "id": "c", "live": True, "slo": "b", "to": 200},
+            {"from": 130, "id": "d", "live": True, "slo": "a", "to": 140},
+        ]
+        self.assertEqual(
+            [excluded_age(told, "a", at) for at in (100, 101, 110, 115)], [None, 1, 1, 6]
+        )
+        self.assertEqual(excluded_age(told, "b", 120), 1)
+        self.assertIsNone(excluded_age(told, "c", 120))
+
     def test_a_sure_hold_counts_before_what_is_unknown(self) -> None:
         self.assertEqual(worst([Verdict.RELEASE, Verdict.UNKNOWN, Verdict.HOLD]), Verdict.HOLD)
         self.assertEqual(worst([Verdict.RELEASE, Verdict.UNKNOWN]), Verdict.UNKNOWN)

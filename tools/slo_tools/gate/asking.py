@@ -2,7 +2,10 @@
 
 from __future__ import annotations
 
-from slo_tools.freshness import has_events
+from collections.abc import Mapping
+from typing import Any, Optional
+
+from slo_tools.freshness import excluded_age, exclusions_of, has_events
 from slo_tools.gate.judging import (
     FREEZE,
     BadFreeze,
@@ -24,6 +27,7 @@ class Asker:
     def __init__(self, office: Office, stale: int) -> None:
         self.office = office
         self.stale = stale
+        self._exclusions: Optional[list[Mapping[str, Any]]] = None
         self._severities: dict[str, list[str]] = {}
         self._services: dict[str, Document] = {}
 
@@ -61,9 +65,17 @@ class Asker:
             budget.begin,
             budget.den,
             budget.remaining,
-            has_events(self.office, slo.name, objective.number, self.stale, at),
+            self._is_fresh(slo.name, objective.number, at),
             [self._page(slo.name, objective.number, policy, at) for policy in pages],
         )
+
+    def _is_fresh(self, slo: str, objective: int, at: int) -> bool:
+        if has_events(self.office, slo, objective, self.stale, at):
+            return True
+        if self._exclusions is None:
+            self._exclusions = exclusions_of(self.office)
+        age = excluded_age(self._exclusions, slo, at)
+        return age is not None and age <= self.stale
 
     def _page(self, slo: str, objective: int, policy: str, at: int) -> Page:
         return Page(policy, self.office.alerts(slo, objective, policy, at, at).state)

@@ -10,7 +10,7 @@ from typing import Any, Optional
 import requests
 
 from slo_tools.apply.form import minutes_of
-from slo_tools.freshness import LONGEST, age_or_none
+from slo_tools.freshness import LONGEST, age_or_none, excluded_age, exclusions_of
 from slo_tools.notify.deciding import NO_DATA, QUIET, Binding, Present
 from slo_tools.objects import (
     BUILT_IN_PAGE,
@@ -175,12 +175,14 @@ class Watch:
         if self.at is None:
             return
         found: dict[str, list[int]] = {}
+        exclusions = exclusions_of(self.office)
         for slo in self.catalogue.slos.values():
             guess = self.ages.get(slo.indicator) or 1
-            age = age_or_none(self.office, slo.name, 0, self.at, guess)
-            found.setdefault(slo.indicator, [])
-            if age is not None:
-                found[slo.indicator].append(age)
+            ages = (
+                age_or_none(self.office, slo.name, 0, self.at, guess),
+                excluded_age(exclusions, slo.name, self.at),
+            )
+            found.setdefault(slo.indicator, []).extend(age for age in ages if age is not None)
         self.ages = {name: min(ages, default=None) for name, ages in found.items()}
 
     def present(self, binding: Binding) -> Present:
