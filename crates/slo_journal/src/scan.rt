@@ -126,6 +126,7 @@ impl<D: Disk + Drop> Scan<D> {
         ensures quiet_err { IfErr result (λ e.
             IsQuiet D.images D.moment D.images_since self.disk e.disk) }
         ensures cause { IfErr result (λ e. Rose (D.faults self.disk) (D.faults e.disk)) }
+        ensures later_err { IfErr result (λ e. D.faults self.disk ≤ D.faults e.disk) }
     {
         let at = self.at;
         let mut disk = self.disk;
