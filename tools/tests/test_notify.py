@@ -599,7 +599,7 @@ class Alertmanagers(Desk):
         self.made(f'metrics = "127.0.0.1:{port}"')
         config = str(self.folder / "notify.toml")
         run = run_tool("slo-notify", "--once", config)
-        self.assertEqual((run.returncode, run.stderr), (0, ""))
+        self.assertEqual(run.returncode, 0, run.stderr)
         self.assertEqual(list(self.manager.alerts()), ["workbook-page"])
         self.assertEqual(run_tool("slo-notify", "--check", config).returncode, 0)
         serving = subprocess.Popen(

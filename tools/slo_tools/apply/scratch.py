@@ -10,10 +10,10 @@ from collections.abc import Sequence
 from dataclasses import dataclass
 from pathlib import Path
 from types import TracebackType
-from typing import Any, Optional
+from typing import IO, Any, Optional
 
 # A session ends after 1,000 answers.
-MOST_MESSAGES = 900
+MOST_ANSWERS = 999
 # In memory where there is such a folder: nothing of a scratch office has to be kept.
 MEMORY = Path("/dev/shm")
 
@@ -59,7 +59,12 @@ class Scratch:
         self.program = os.path.abspath(program) if os.sep in program else program
         parent = MEMORY if os.access(MEMORY, os.W_OK) else None
         self._folder = tempfile.TemporaryDirectory(prefix="slo-apply-", dir=parent)
-        self._run(["init"], b"")
+        self._session: Optional[subprocess.Popen[bytes]] = None
+        self._answers = 0
+        made = self._start(["init"])
+        _, told = made.communicate()
+        if made.returncode != 0:
+            raise self._fault("init", made.returncode, told)
 
     def __enter__(self) -> Scratch:
         return self
@@ -70,49 +75,61 @@ class Scratch:
         fault: Optional[BaseException],
         trace: Optional[TracebackType],
     ) -> None:
+        self._end()
         self._folder.cleanup()
 
     def ask(self, messages: Sequence[Message]) -> list[Answer]:
         """The answers to requests, in their order."""
-        answers: list[Answer] = []
-        for begin in range(0, len(messages), MOST_MESSAGES):
-            part = messages[begin : begin + MOST_MESSAGES]
-            told = _answers(self._run(["pipe"], b"".join(m.spelled() for m in part)))
-            if len(told) != len(part):
-                raise ScratchFault(f"{len(part)} requests had {len(told)} answers")
-            answers += told
-        return answers
+        return [self.one(message) for message in messages]
 
     def one(self, message: Message) -> Answer:
-        return self.ask([message])[0]
-
-    def _run(self, words: list[str], given: bytes) -> bytes:
+        """The answer to a request."""
+        if self._answers == MOST_ANSWERS:
+            self._end()
+        if self._session is None:
+            self._session, self._answers = self._start(["pipe"]), 0
+        self._answers += 1
         try:
-            run = subprocess.run(
+            assert self._session.stdin is not None and self._session.stdout is not None
+            self._session.stdin.write(message.spelled())
+            self._session.stdin.flush()
+            return _answer(self._session.stdout)
+        except (BrokenPipeError, EOFError):
+            _, told = self._session.communicate()
+            raise self._fault("pipe", self._session.returncode, told) from None
+
+    def _start(self, words: list[str]) -> subprocess.Popen[bytes]:
+        try:
+            return subprocess.Popen(
                 [self.program, *words],
                 cwd=self._folder.name,
-                input=given,
-                capture_output=True,
-                check=False,
+                stdin=subprocess.PIPE,
+                stdout=subprocess.PIPE,
+                stderr=subprocess.PIPE,
             )
         except OSError as fault:
             raise ScratchFault(f"{self.program}: {fault.strerror}") from fault
-        if run.returncode != 0:
-            told = run.stderr.decode("utf-8", "replace").strip()
-            raise ScratchFault(f"{self.program} {words[0]}: status {run.returncode}: {told}")
-        return run.stdout
+
+    def _end(self) -> None:
+        if self._session is not None:
+            self._session.communicate()
+            self._session = None
+
+    def _fault(self, word: str, status: int, told: bytes) -> ScratchFault:
+        line = told.decode("utf-8", "replace").strip()
+        return ScratchFault(f"{self.program} {word}: status {status}: {line}")
 
 
-def _answers(data: bytes) -> list[Answer]:
-    answers = []
-    while data:
-        head, _, rest = data.partition(b"\r\n\r\n")
-        lines = head.split(b"\r\n")
-        lengths = [line[15:] for line in lines if line.lower().startswith(b"content-length:")]
-        try:
-            status, length = int(lines[0].split()[1]), int(lengths[0])
-        except (IndexError, ValueError):
-            raise ScratchFault("an answer of another form") from None
-        answers.append(Answer(status, rest[:length]))
-        data = rest[length:]
-    return answers
+def _answer(source: IO[bytes]) -> Answer:
+    """The next answer of a session. Raises EOFError where there is none."""
+    first = source.readline().split()
+    if not first:
+        raise EOFError
+    length: Optional[int] = None
+    while (line := source.readline().strip()) != b"":
+        name, _, value = line.partition(b":")
+        if name.lower() == b"content-length" and value.strip().isdigit():
+            length = int(value)
+    if len(first) < 2 or not first[1].isdigit() or length is None:
+        raise ScratchFault("an answer of another form")
+    return Answer(int(first[1]), source.read(length))

@@ -124,6 +124,8 @@ class Rounds:
         watch.begin()
         fault = clock_fault or office_fault(watch.at, self._now())
         self.told.say(f"office {office.config.name}, clock", fault or "")
+        lacking = "it doesn't say how full it is (GET /status): its limits aren't watched"
+        self.told.say(f"office {office.config.name}, usage", "" if watch.usage else lacking)
         watch.ask_ages()
         office.state.seen.update(name for name, age in watch.ages.items() if age is not None)
         if fault is None:
