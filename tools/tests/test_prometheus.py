@@ -315,9 +315,11 @@ class LiveTest(Real):
     def faults(self) -> Iterator[tuple[float, Any]]:
         """When something goes wrong, in seconds behind the first whole minute."""
         first, second = self.exporters
-        yield 20, first.reset
-        yield 30, lambda: setattr(second, "broken", True)
-        yield 48, lambda: setattr(second, "broken", False)
+        yield 15, lambda: setattr(first, "broken", True)
+        yield 18, lambda: setattr(first, "broken", False)
+        yield 22, first.reset
+        yield 30, second.stop
+        yield 48, second.start
         yield 50, lambda: setattr(first, "delay", 1.6)
         yield 51, lambda: setattr(second, "delay", 1.6)
         yield 65, lambda: setattr(first, "delay", 0)

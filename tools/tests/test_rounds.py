@@ -116,6 +116,16 @@ class Rounds(unittest.TestCase):
         self.feed.round()
         self.assertEqual(self.minutes(), list(range(31)))
 
+    def test_a_long_stop_of_the_office(self) -> None:
+        self.feed.round()
+        for _ in range(12):
+            self.clock.seconds += 60
+            self.office.losses = [False]
+            self.assertEqual(self.feed.round(), End.OFFICE)
+        self.clock.seconds += 60
+        self.assertEqual(self.feed.round(), End.DONE)
+        self.assertEqual(self.minutes(), list(range(43)))
+
     def test_early_rows_are_told_and_dropped(self) -> None:
         self.office.origin = BEGIN + 10
         self.assertEqual(self.feed.round(), End.LEFT_OUT)
@@ -264,6 +274,7 @@ class DueTest(unittest.TestCase):
         self.assertEqual(self.asked(500, 1000), (491, 1001))
         self.assertEqual(self.asked(None, 1000, origin=980), (980, 1001))
         self.assertEqual(self.asked(None, 1000, every=5), (940, 1000))
+        self.assertEqual(self.asked(None, 1000, every=5, origin=982), (980, 1000))
         self.assertEqual(self.asked(999, 1003, every=5), None)
         self.assertEqual(self.asked(999, 1004, every=5), (990, 1005))
         self.assertEqual(self.asked(None, 10), (0, 11))

@@ -172,8 +172,7 @@ class Feed:
                 f"the office has {entries} entries and had {self.state.entries}: it was taken "
                 "back to an older journal. Run slo-feed --from the day of that journal",
             )
-            self.state.kept.clear()
-            self.state.through.clear()
+            self.state = State()
         self.state.entries = entries
 
     def _office_can_be_sent_to(self, catalog: Catalog) -> bool:
