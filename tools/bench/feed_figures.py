@@ -139,12 +139,22 @@ def events(folder: Path) -> None:
         clickhouse.run(FILL.format(begin=now * 60 - span, span=span, count=count))
         print(f"{count} events of a week inserted in {time.monotonic() - begin:.0f} s")
         source = support.data_source(
-            "events", "ClickHouse", host="127.0.0.1", port=clickhouse.port, table="events",
-            time="at", inserted="came", source="host",
+            "events",
+            "ClickHouse",
+            host="127.0.0.1",
+            port=clickhouse.port,
+            table="events",
+            time="at",
+            inserted="came",
+            source="host",
         )
         slis = "".join(
-            support.sli(f"s{n}", "events", f"service = ''shop'' AND status < {500 + n}",
-                        "service = ''shop''")
+            support.sli(
+                f"s{n}",
+                "events",
+                f"service = ''shop'' AND status < {500 + n}",
+                "service = ''shop''",
+            )
             for n in range(10)
         )
         office.client().define((source + slis).encode())
@@ -155,16 +165,20 @@ def events(folder: Path) -> None:
         feed = Feed(config, office_of(config), maker, State(), SystemClock(), Watch())
         begin = time.monotonic()
         feed.round(now - 1440)
-        print(f"a day of 10 indicators by 3 hosts: {feed.state.made} rows in "
-              f"{time.monotonic() - begin:.1f} s")
+        print(
+            f"a day of 10 indicators by 3 hosts: {feed.state.made} rows in "
+            f"{time.monotonic() - begin:.1f} s"
+        )
         took = []
         for _ in range(5):
             feed.state.through = {sli: m - 1 for sli, m in feed.state.through.items()}
             begin = time.monotonic()
             feed.round()
             took.append(time.monotonic() - begin)
-        print(f"a round with late events looked for over the week: least {min(took):.2f} s, "
-              f"greatest {max(took):.2f} s (load {os.getloadavg()[0]:.0f})")
+        print(
+            f"a round with late events looked for over the week: least {min(took):.2f} s, "
+            f"greatest {max(took):.2f} s (load {os.getloadavg()[0]:.0f})"
+        )
     finally:
         clickhouse.kill()
         office.kill()

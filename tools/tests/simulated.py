@@ -67,9 +67,7 @@ class SimulatedPrometheus:
         for sample in self.samples_held:
             if begin <= sample.moment <= end and sample.shown <= now:
                 if not wanted or ("code", "500") in sample.labels:
-                    found.setdefault(sample.labels, []).append(
-                        (sample.moment, str(sample.value))
-                    )
+                    found.setdefault(sample.labels, []).append((sample.moment, str(sample.value)))
         return [Values(labels, sorted(values)) for labels, values in found.items()]
 
     def values(self, query: str, begin: int, end: int, step: int) -> list[Values]:

@@ -105,11 +105,10 @@ def plainly(held: list[Event], closed: int) -> Rows:
 
 def objects(port: int) -> bytes:
     details = {"host": "127.0.0.1", "port": port, "table": "events", "time": "at"}
-    source = support.data_source(
-        "events", "ClickHouse", **details, inserted="came", source="host"
+    source = support.data_source("events", "ClickHouse", **details, inserted="came", source="host")
+    shop = support.sli(
+        "shop", "events", "service = ''shop'' AND status < 500", "service = ''shop''"
     )
-    shop = support.sli("shop", "events", "service = ''shop'' AND status < 500",
-                       "service = ''shop''")
     fives = support.sli("fives", "events", "status >= 500", "1", word="bad")
     return (source + shop + fives + SLOW).encode()
 

@@ -40,9 +40,7 @@ class RuleTest(unittest.TestCase):
         self.assertEqual(len(table()), 13)
         for case, (good, total, later_good, later_total, part, of) in table():
             with self.subTest(case):
-                self.assertEqual(
-                    difference((good, total), (later_good, later_total)), (part, of)
-                )
+                self.assertEqual(difference((good, total), (later_good, later_total)), (part, of))
 
     @unittest.skipUnless(counters_are_built(), "the program has no command `counters`")
     def test_command_has_the_same_table(self) -> None:

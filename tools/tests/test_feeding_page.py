@@ -98,8 +98,11 @@ class PageTest(unittest.TestCase):
         return [text.strip() for text in output.split(mark)]
 
     def test_table_of_capacity(self) -> None:
-        rows = re.findall(r"^\| (\d+) \| (\d+) \| (\d+) \| ([\d,]+) \| ([\d,]+) \|$",
-                          PAGE.read_text(), re.MULTILINE)
+        rows = re.findall(
+            r"^\| (\d+) \| (\d+) \| (\d+) \| ([\d,]+) \| ([\d,]+) \|$",
+            PAGE.read_text(),
+            re.MULTILINE,
+        )
         self.assertGreater(len(rows), 6)
         for row in rows:
             indicators, sources, an_hour, cells, days = (int(n.replace(",", "")) for n in row)

@@ -22,7 +22,7 @@ from slo_tools.feed.config import Config, IndicatorConfig, Login
 from slo_tools.feed.engine import Engine
 from slo_tools.feed.prometheus import Prometheus
 from slo_tools.feed.rounds import Feed
-from slo_tools.feed.state import State, read_state
+from slo_tools.feed.state import State
 from slo_tools.feed.watch import Watch
 from slo_tools.office import Office
 

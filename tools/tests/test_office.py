@@ -152,7 +152,12 @@ class OfficeTest(Scripted):
 
     def test_budgets(self) -> None:
         budget = {
-            "burn": "1/2", "den": 10, "error": "1/20", "from": 5, "num": 9, "objective": 0,
+            "burn": "1/2",
+            "den": 10,
+            "error": "1/20",
+            "from": 5,
+            "num": 9,
+            "objective": 0,
             "remaining": None,
         }
         self.answers = [(200, {"at": 9, "budgets": [budget], "entries": 3})]

@@ -160,9 +160,7 @@ class HistoryTest(Real):
         self.prometheus.start()
         self.server = self.office(self.start - 100)
         self.server.client().define(objects(self.prometheus.url))
-        self.config = support.config_file(
-            self.folder / "feed", self.server.address, INDICATORS
-        )
+        self.config = support.config_file(self.folder / "feed", self.server.address, INDICATORS)
         self.state = self.folder / "feed" / "state.json"
 
     def expected(self, begin: int, end: int) -> Rows:
@@ -224,9 +222,7 @@ class HistoryTest(Real):
         killer.start()
         try:
             for _ in range(10):
-                status = support.feed(
-                    self.config, "--from", str(self.start), check=None
-                ).returncode
+                status = support.feed(self.config, "--from", str(self.start), check=None).returncode
                 self.assertIn(status, (0, 3))
                 if status == 0:
                     break

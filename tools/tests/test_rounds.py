@@ -9,6 +9,7 @@ import unittest
 from collections.abc import Sequence
 from pathlib import Path
 from typing import Optional, cast
+from unittest import mock
 
 import support
 from simulated import HeldClock, Sample, SimulatedOffice, SimulatedPrometheus
@@ -37,8 +38,7 @@ class Rounds(unittest.TestCase):
         self.folder = Path(self.enterContext(tempfile.TemporaryDirectory()))
         self.clock = HeldClock((BEGIN + 30) * 60.0 + 12)
         samples = [
-            Sample(LABELS, BEGIN * 60 + n * 20.0, n * 10, BEGIN * 60 + n * 20.0)
-            for n in range(300)
+            Sample(LABELS, BEGIN * 60 + n * 20.0, n * 10, BEGIN * 60 + n * 20.0) for n in range(300)
         ]
         self.prometheus = SimulatedPrometheus(self.clock, samples)
         texts = {
@@ -232,15 +232,15 @@ class SendingTest(unittest.TestCase):
                 self.office.has_rows_query = has_query
                 for minute in range(0, 1000, 7):
                     self.put(minute, minute % 5 + 1, minute + 1 + minute % 3)
-                same = [c for c, r in self.office.kept.items()
-                        if r[1] == f"1,{c[2] - BEGIN + 1}"]
+                same = [c for c, r in self.office.kept.items() if r[1] == f"1,{c[2] - BEGIN + 1}"]
                 before = {c: self.office.kept[c] for c in same}
                 sender = self.send(pending_rows(1000))
                 self.assertEqual(self.totals(), [f"1,{n + 1}" for n in range(1000)])
                 self.assertEqual(self.office.again, 0)
                 self.assertEqual(before, {c: self.office.kept[c] for c in same})
-                kept = {(c.sli, c.source, c.minute): k.revision
-                        for c, k in sender.sent.kept.items()}
+                kept = {
+                    (c.sli, c.source, c.minute): k.revision for c, k in sender.sent.kept.items()
+                }
                 self.assertEqual(kept, {c: r[0] for c, r in self.office.kept.items()})
                 self.assertLess(self.office.batches, 900)
 
@@ -261,9 +261,7 @@ class DueTest(unittest.TestCase):
     ) -> Optional[tuple[int, int]]:
         from slo_tools.feed.engine import Form, Indicator
 
-        indicator = Indicator(
-            "s", "e", Form.COUNTERS, "m", "m", None, "all", every, 10, 60
-        )
+        indicator = Indicator("s", "e", Form.COUNTERS, "m", "m", None, "all", every, 10, 60)
         found = due(indicator, through, closed, 60, origin)
         return None if found is None else (found.begin, found.end)
 
@@ -312,6 +310,13 @@ class StateTest(unittest.TestCase):
         self.assertEqual(read_state(self.file)[0].entries, 5)
         write_state(self.file, State(entries=6))
         self.assertEqual(json.loads(self.file.read_text())["entries"], 6)
+
+    def test_a_write_that_breaks_off_leaves_the_old_one(self) -> None:
+        write_state(self.file, State(entries=5))
+        with mock.patch("os.fsync", side_effect=OSError(28, "No space left on device")):
+            with self.assertRaises(OSError):
+                write_state(self.file, State(entries=6))
+        self.assertEqual(read_state(self.file)[0].entries, 5)
 
     def test_only_what_differs_is_pending(self) -> None:
         a, b, c = (Cell("s", "x", m) for m in (3, 2, 1))

@@ -47,8 +47,10 @@ def _check_source(
     try:
         engine = engine_of(source)
         apart = engine.now() - clock.now()
-        print(f"{source.name}: {source.type}, clock {apart:+.1f} s, minutes are asked for "
-              f"{engine.settled():g} s behind their end")
+        print(
+            f"{source.name}: {source.type}, clock {apart:+.1f} s, minutes are asked for "
+            f"{engine.settled():g} s behind their end"
+        )
         if abs(apart) > CLOCKS_APART:
             return End.CLOCK
         closed = minute_of(clock.now() - engine.settled()) - 1
@@ -63,8 +65,10 @@ def _check_indicator(indicator: Indicator, engine: Engine, closed: int) -> End:
     span = (newest - indicator.every + 1, newest + 1)
     reading = engine.read({indicator: span}).readings[indicator.sli]
     by = f"by {indicator.label}" if indicator.label else f"all as {indicator.name}"
-    print(f"{indicator.sli}: {indicator.form.value} of {indicator.engine} {by}, a row every "
-          f"{indicator.every} min: {len(reading.amounts)} rows at {date_of(newest)}")
+    print(
+        f"{indicator.sli}: {indicator.form.value} of {indicator.engine} {by}, a row every "
+        f"{indicator.every} min: {len(reading.amounts)} rows at {date_of(newest)}"
+    )
     for fault in reading.faults:
         print(f"{indicator.sli}: {fault}")
     return End.LEFT_OUT if reading.faults else End.DONE

@@ -65,9 +65,9 @@ class ClickHouseClient:
             answer: Sequence[Row] = self._client.execute(query)
         except (errors.Error, EOFError, OSError) as fault:
             self._client.disconnect()
-            first = str(fault).strip().splitlines()
-            raise EngineError(f"{self.host}:{self.port}: {first[0] if first else 'no answer'}") \
-                from fault
+            lines = str(fault).strip().splitlines()
+            why = lines[0] if lines else "no answer"
+            raise EngineError(f"{self.host}:{self.port}: {why}") from fault
         return answer
 
 
@@ -103,17 +103,13 @@ class ClickHouse:
     def settled(self) -> float:
         return self.usual_wait if self.wait is None else self.wait
 
-    def read(
-        self, asked: Mapping[Indicator, Span], mark: Optional[float] = None
-    ) -> Answer:
+    def read(self, asked: Mapping[Indicator, Span], mark: Optional[float] = None) -> Answer:
         answer = Answer({indicator.sli: Reading() for indicator in asked})
         if self.table.inserted is not None:
             answer.mark = self.now() - self.longest_insert
         late = self._late(asked, mark)
         for group in _alike(asked):
-            spans = merged(
-                [asked[i] for i in group] + [_stretch(m, group[0].every) for m in late]
-            )
+            spans = merged([asked[i] for i in group] + [_stretch(m, group[0].every) for m in late])
             newest = max(asked[i][1] for i in group)
             self._count(group, [(b, min(e, newest)) for b, e in spans if b < newest], answer)
         return answer
@@ -139,8 +135,9 @@ class ClickHouse:
         rows = self.client.rows(aggregate_query(self.table, group, spans))
         for place, indicator in enumerate(group):
             reading = answer.readings[indicator.sli]
-            columns = [(int(row[0]), str(row[1]), row[2 + 2 * place], row[3 + 2 * place])
-                       for row in rows]
+            columns = [
+                (int(row[0]), str(row[1]), row[2 + 2 * place], row[3 + 2 * place]) for row in rows
+            ]
             if indicator.form is Form.VALUE:
                 _put_values(indicator, columns, reading)
             else:
@@ -229,9 +226,7 @@ def _put_values(
         reading.amounts[cell] = Amount.value(number)
 
 
-def _names(
-    indicator: Indicator, columns: Iterable[tuple[int, str, Any, Any]]
-) -> Mapping[str, str]:
+def _names(indicator: Indicator, columns: Iterable[tuple[int, str, Any, Any]]) -> Mapping[str, str]:
     if indicator.label is None:
         return {source: indicator.name for _, source, _, _ in columns}
     return {source: source_name(source) for _, source, _, _ in columns}

@@ -120,8 +120,8 @@ class PrometheusClient:
                 raise EngineError(f"{self.url}: {told.get('errorType')}: {told.get('error')}")
             data: dict[str, Any] = told["data"]
         except (ValueError, KeyError, TypeError) as fault:
-            raise EngineError(f"{self.url}: status {answer.status_code}, no answer of "
-                              "Prometheus") from fault
+            why = f"status {answer.status_code}, no answer of Prometheus"
+            raise EngineError(f"{self.url}: {why}") from fault
         return data
 
 

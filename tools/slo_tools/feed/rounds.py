@@ -126,8 +126,8 @@ class Feed:
                     if indicators:
                         self._feed_from(source, indicators, begin)
         except Full as refusal:
-            self._ended(End.FULL, "full", f"the office is full ({refusal}): make room, or begin "
-                        "another office; nothing more is sent")
+            text = f"the office is full ({refusal}): begin another; nothing more is sent"
+            self._ended(End.FULL, "full", text)
         except NoAnswer as fault:
             self._ended(End.OFFICE, "office", f"the office gave no answer ({fault}): start it")
         except OfficeError as fault:
@@ -218,8 +218,8 @@ class Feed:
                     answer.mark = None
                 self._take(source.name, asked, answer)
         except EngineError as fault:
-            self._ended(End.ENGINE, f"engine {source.name}", f"{source.name} gave no answer "
-                        f"({fault}): start it, or mend its DataSource")
+            text = f"{source.name} gave no answer ({fault}): start it, or mend its DataSource"
+            self._ended(End.ENGINE, f"engine {source.name}", text)
 
     def _engine(self, source: DataSource) -> Engine:
         if source not in self._engines:
@@ -253,9 +253,7 @@ class Feed:
                 dues.append(one)
         return dues
 
-    def _take(
-        self, name: str, asked: Mapping[Indicator, tuple[int, int]], answer: Answer
-    ) -> None:
+    def _take(self, name: str, asked: Mapping[Indicator, tuple[int, int]], answer: Answer) -> None:
         """Send what an engine said, and remember what became of it, also where that broke off."""
         amounts: Amounts = {}
         for sli, reading in answer.readings.items():
@@ -310,8 +308,10 @@ class Feed:
         for why, row in sent.dropped:
             cell = row.cell
             if why == "early":
-                text = (f"rows before the office's origin {date_of(sent.origin or 0)} were left "
-                        "out: an office with an earlier origin takes them")
+                text = (
+                    f"rows before the office's origin {date_of(sent.origin or 0)} were left "
+                    "out: an office with an earlier origin takes them"
+                )
                 self._ended(End.LEFT_OUT, "early", text)
                 continue
             if why == "unknown_sli":
@@ -323,8 +323,8 @@ class Feed:
         try:
             write_state(self.config.state, self.state)
         except OSError as fault:
-            self._ended(End.STATE, "state", f"{self.config.state}: {fault.strerror}: make room; "
-                        "the feed goes on without it")
+            text = f"{self.config.state}: {fault.strerror}: make room; the feed goes on without"
+            self._ended(End.STATE, "state", text)
 
     def _tell_room(self) -> None:
         """How many cells are left: as the office says, else by the rows that this feed made."""

@@ -1,4 +1,4 @@
-"""Amounts become rows that the office holds: batches, conflicts, and rows hidden by greater ones."""
+"""Amounts become rows that the office holds: batches, conflicts, and rows that are hidden."""
 
 from __future__ import annotations
 
@@ -98,7 +98,8 @@ class Sender:
             size = min(most, max(size, SMALL_BATCH) * 2)
 
     def _post(self, batch: Sequence[Pending]) -> Batch:
-        answer = self._office.post_samples([row.amount.row(row.cell, row.revision) for row in batch])
+        rows = [row.amount.row(row.cell, row.revision) for row in batch]
+        answer = self._office.post_samples(rows)
         if answer.entry is not None:
             self.sent.entry = answer.entry
         return answer
@@ -125,9 +126,7 @@ class Sender:
             return batch
         half = len(batch) // 2
         first = self._post(batch[:half]).superseded
-        return self._superseded(batch[:half], first) + self._superseded(
-            batch[half:], count - first
-        )
+        return self._superseded(batch[:half], first) + self._superseded(batch[half:], count - first)
 
     def _again(self, row: Pending) -> Optional[Pending]:
         """A hidden row with the revision with which it goes next, None where it stands already or
