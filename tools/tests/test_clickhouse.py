@@ -176,6 +176,13 @@ class ClickHouseTest(unittest.TestCase):
         support.feed(self.config, "--from", str(self.start))
         self.check_rows(self.server)
 
+    def test_a_condition_that_cant_be_run_stops_no_other(self) -> None:
+        broken = support.sli("broken", "events", "nowhere < 500", "1")
+        self.server.client().define(broken.encode())
+        ended = support.feed(self.config, "--from", str(self.start), check=1)
+        self.assertIn("broken: query: Unknown identifier: nowhere", ended.stderr)
+        self.check_rows(self.server)
+
     def test_stops(self) -> None:
         support.feed(self.config, "--from", str(self.start))
         self.clickhouse.kill()

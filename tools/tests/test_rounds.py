@@ -134,6 +134,18 @@ class Rounds(unittest.TestCase):
         self.clock.seconds += 60
         self.assertEqual(self.feed.round(), End.DONE)
 
+    def test_a_query_that_is_mended(self) -> None:
+        self.feed.round()
+        self.office.texts["SLI/shop"] = support.sli("shop", "prom", "rate(m)", "m")
+        for _ in range(20):
+            self.clock.seconds += 60
+            self.feed.round()
+        self.assertIn("shop: query: rate(..) is no counter", self.lines())
+        self.office.texts["SLI/shop"] = support.sli("shop", "prom", "m", "m")
+        self.clock.seconds += 360
+        self.assertEqual(self.feed.round(), End.DONE)
+        self.assertEqual(self.minutes(), list(range(56)))
+
     def test_an_sli_that_was_removed_meanwhile(self) -> None:
         self.feed.round()
         del self.office.texts["SLI/shop"]

@@ -2,17 +2,19 @@
 
 from __future__ import annotations
 
+import subprocess
 import tempfile
 import unittest
 from decimal import Decimal
 from pathlib import Path
 
-import support  # noqa: F401
+import support
 from slo_tools.clock import date_of, minute_of_date
 from slo_tools.feed.cells import Amount, Cell, amounts_of, source_name, stretch_minute
 from slo_tools.feed.config import Config, ConfigFault, read_config
+from slo_tools.feed.engine import QueryFault
 from slo_tools.feed.prometheus import NotWhole, minute_of_sample, whole
-from slo_tools.feed.promql import QueryFault, selectors
+from slo_tools.feed.promql import selectors
 from slo_tools.office import is_label
 
 
@@ -93,6 +95,29 @@ class NamesTest(unittest.TestCase):
         for text in ("7.5", "-1", "NaN", "+Inf", "x"):
             with self.subTest(text), self.assertRaises(NotWhole):
                 whole(text)
+
+
+class CommandTest(unittest.TestCase):
+    def run_with(self, *words: str) -> tuple[int, str, str]:
+        command = ["/usr/bin/python3", str(support.TOOLS / "bin" / "slo-feed"), *words]
+        ended = subprocess.run(command, capture_output=True, text=True)
+        return ended.returncode, ended.stdout, ended.stderr
+
+    def test_words_of_no_form(self) -> None:
+        table = {
+            ("--minute", "yesterday"): "slo-feed: yesterday: no date as 2026-11-29",
+            ("--config", "/nowhere"): "slo-feed: /nowhere: No such file or directory",
+            ("--once", "--check"): "not allowed with argument",
+            ("now",): "unrecognized arguments: now",
+        }
+        for words, line in table.items():
+            with self.subTest(words):
+                status, output, told = self.run_with(*words)
+                self.assertEqual((status, output), (2, ""))
+                self.assertIn(line, told)
+
+    def test_a_minute(self) -> None:
+        self.assertEqual(self.run_with("--minute", "1970-01-02"), (0, "1440\n", ""))
 
 
 class DatesTest(unittest.TestCase):

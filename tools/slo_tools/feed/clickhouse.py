@@ -17,7 +17,7 @@ from slo_tools.feed.cells import (
     source_name,
     summed,
 )
-from slo_tools.feed.engine import Answer, EngineError, Form, Indicator, Reading
+from slo_tools.feed.engine import Answer, EngineError, Form, Indicator, QueryFault, Reading
 
 Row = tuple[Any, ...]
 Span = tuple[int, int]
@@ -27,7 +27,7 @@ class AsksClickHouse(Protocol):
     """What runs a query."""
 
     def rows(self, query: str) -> Sequence[Row]:
-        """The rows of a query. Raises EngineError."""
+        """The rows of a query. Raises EngineError, or QueryFault where the query is to blame."""
 
 
 @dataclass
@@ -65,10 +65,23 @@ class ClickHouseClient:
             answer: Sequence[Row] = self._client.execute(query)
         except (errors.Error, EOFError, OSError) as fault:
             self._client.disconnect()
-            lines = str(fault).strip().splitlines()
-            why = lines[0] if lines else "no answer"
+            why = _first_line(fault)
+            if isinstance(fault, errors.ServerException) and fault.code in _QUERY_CODES:
+                raise QueryFault(why) from fault
             raise EngineError(f"{self.host}:{self.port}: {why}") from fault
         return answer
+
+
+# Of ClickHouse's ErrorCodes: arguments and types, unknown functions, columns and tables, syntax.
+_QUERY_CODES = frozenset({6, 42, 43, 46, 47, 53, 60, 62, 63, 70, 184, 386})
+
+
+def _first_line(fault: Exception) -> str:
+    """What a fault says, without the stack of the server."""
+    for line in str(fault).strip().splitlines():
+        if line not in ("Stack trace:", "") and not line.startswith("Code:"):
+            return line.removeprefix("DB::Exception: ")
+    return str(fault).strip() or "no answer"
 
 
 @dataclass(frozen=True)
@@ -132,7 +145,11 @@ class ClickHouse:
     def _count(self, group: Sequence[Indicator], spans: Sequence[Span], answer: Answer) -> None:
         if not spans:
             return
-        rows = self.client.rows(aggregate_query(self.table, group, spans))
+        try:
+            rows = self.client.rows(aggregate_query(self.table, group, spans))
+        except QueryFault as fault:
+            self._count_apart(group, spans, answer, fault)
+            return
         for place, indicator in enumerate(group):
             reading = answer.readings[indicator.sli]
             columns = [
@@ -142,6 +159,18 @@ class ClickHouse:
                 _put_values(indicator, columns, reading)
             else:
                 _put_counts(indicator, columns, reading)
+
+    def _count_apart(
+        self, group: Sequence[Indicator], spans: Sequence[Span], answer: Answer, fault: QueryFault
+    ) -> None:
+        """Count each indicator by itself, so that one that can't be run stops no other."""
+        if len(group) > 1:
+            for indicator in group:
+                self._count([indicator], spans, answer)
+        else:
+            reading = answer.readings[group[0].sli]
+            reading.faults.append(f"query: {fault}")
+            reading.unread = True
 
 
 def aggregate_query(table: Table, group: Sequence[Indicator], spans: Sequence[Span]) -> str:

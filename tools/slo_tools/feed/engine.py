@@ -14,6 +14,10 @@ class EngineError(Exception):
     """The engine couldn't be asked, or its answer isn't of its form."""
 
 
+class QueryFault(ValueError):
+    """A query that the engine can't run or the feed can't read; the text says why."""
+
+
 class Form(Enum):
     """What the rows of an SLI say."""
 
@@ -53,6 +57,8 @@ class Reading:
 
     amounts: Amounts = field(default_factory=dict)
     faults: list[str] = field(default_factory=list)
+    # The query has to be mended first, and the same minutes are asked for again then.
+    unread: bool = False
 
 
 @dataclass

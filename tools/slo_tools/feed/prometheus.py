@@ -23,8 +23,8 @@ from slo_tools.feed.cells import (
     summed,
 )
 from slo_tools.feed.counters import Series, rises
-from slo_tools.feed.engine import Answer, EngineError, Form, Indicator, Reading
-from slo_tools.feed.promql import QueryFault, selectors
+from slo_tools.feed.engine import Answer, EngineError, Form, Indicator, QueryFault, Reading
+from slo_tools.feed.promql import selectors
 
 # A first look behind a range for the scrape before it; most targets are scraped more often.
 _NEAR_SECONDS = 120
@@ -117,12 +117,22 @@ class PrometheusClient:
         try:
             told = json.loads(answer.content)
             if told["status"] != "success":
-                raise EngineError(f"{self.url}: {told.get('errorType')}: {told.get('error')}")
+                raise _error(self.url, told)
             data: dict[str, Any] = told["data"]
+        except QueryFault:
+            raise
         except (ValueError, KeyError, TypeError) as fault:
             why = f"status {answer.status_code}, no answer of Prometheus"
             raise EngineError(f"{self.url}: {why}") from fault
         return data
+
+
+def _error(url: str, told: Mapping[str, Any]) -> Exception:
+    """What an answer says that is none: the query's fault, or Prometheus's."""
+    text = f"{told.get('errorType')}: {told.get('error')}"
+    if told.get("errorType") in ("bad_data", "execution"):
+        return QueryFault(text)
+    return EngineError(f"{url}: {text}")
 
 
 def _values(series: Mapping[str, Any]) -> Values:
@@ -197,6 +207,7 @@ class Prometheus:
                 self._read_one(indicator, begin, end, reading)
             except QueryFault as fault:
                 reading.faults.append(f"query: {fault}")
+                reading.unread = True
             except NotWhole as fault:
                 reading.amounts.clear()
                 reading.faults.append(f"value {fault} counts no events")

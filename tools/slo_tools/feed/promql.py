@@ -9,6 +9,8 @@ from __future__ import annotations
 
 import re
 
+from slo_tools.feed.engine import QueryFault
+
 _NAME = r"[A-Za-z_:][A-Za-z0-9_:]*"
 _LABEL = r"[A-Za-z_][A-Za-z0-9_]*"
 _TEXT = r'"(?:[^"\\\n]|\\.)*"|' + r"'(?:[^'\\\n]|\\.)*'|`[^`]*`"
@@ -16,10 +18,6 @@ _TOKEN = re.compile(
     rf"(?:\s|#[^\n]*)*(?:(?P<name>{_NAME})|(?P<text>{_TEXT})|(?P<sign>!=|=~|!~|.))", re.DOTALL
 )
 _END = re.compile(r"(?:\s|#[^\n]*)*\Z")
-
-
-class QueryFault(ValueError):
-    """A query that isn't a sum of selectors; the text says why."""
 
 
 def selectors(query: str) -> list[str]:

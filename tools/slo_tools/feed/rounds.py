@@ -207,19 +207,32 @@ class Feed:
             if closed is None:
                 return
             dues = self._dues(indicators, closed, begin)
-            mark = self.state.marks.get(source.name)
-            for number, asked in enumerate(slices(dues)):
-                if number == 0 and mark is not None:
-                    # Late events concern those too whose stretch hasn't ended since the last run.
-                    asked = {**{i: _nothing_of(i, closed) for i in indicators}, **asked}
-                answer = engine.read(asked, mark if number == 0 else None)
-                if number > 0:
-                    # What comes late during the later slices is looked for from the first on.
-                    answer.mark = None
-                self._take(source.name, asked, answer)
+            self._read_slices(source.name, engine, dues, indicators, closed)
         except EngineError as fault:
             text = f"{source.name} gave no answer ({fault}): start it, or mend its DataSource"
             self._ended(End.ENGINE, f"engine {source.name}", text)
+
+    def _read_slices(
+        self,
+        name: str,
+        engine: Engine,
+        dues: list[Due],
+        indicators: list[Indicator],
+        closed: int,
+    ) -> None:
+        mark = self.state.marks.get(name)
+        unread: set[str] = set()
+        for number, asked in enumerate(slices(dues)):
+            asked = {i: span for i, span in asked.items() if i.sli not in unread}
+            if number == 0 and mark is not None:
+                # Late events concern those too whose stretch hasn't ended since the last run.
+                asked = {**{i: _nothing_of(i, closed) for i in indicators}, **asked}
+            answer = engine.read(asked, mark if number == 0 else None)
+            if number > 0:
+                # What comes late during the later slices is looked for from the first on.
+                answer.mark = None
+            unread.update(sli for sli, r in answer.readings.items() if r.unread)
+            self._take(name, asked, answer)
 
     def _engine(self, source: DataSource) -> Engine:
         if source not in self._engines:
@@ -283,7 +296,8 @@ class Feed:
         if sent.origin is not None:
             state.origin = sent.origin
         if sent.fully_sent:
-            self._move_on(asked, sent)
+            read = {i: s for i, s in asked.items() if not answer.readings[i.sli].unread}
+            self._move_on(read, sent)
             if answer.mark is not None:
                 state.marks[name] = answer.mark
         self.watch.rows(sent.counts)
