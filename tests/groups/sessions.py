@@ -23,6 +23,7 @@ PLAYED_BY_THE_GATE = {
     "failing next": "doors in memory",
 }
 LEFT_OUT = {
+    "the gate's write fails, and the batch comes again": "the calls on a file have other numbers: kills lets each fail",
     "the sync after the gate fails, and the batch comes again": "over a file each sync after one that failed fails too",
 }
 
