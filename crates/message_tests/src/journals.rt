@@ -222,12 +222,14 @@ fn damage_behind_two_records_is_told_at_its_gate(rt: HostRuntime) -> Result<(), 
     let alloc = rt.alloc();
     let mut bytes = Vec::from_slice(alloc, &TICKED[..23])?;
     bytes.extend_from_slice(&TICKED[13..23])?;
+    let damaged = Some((2, Some(ScanFault::Damaged { at: 33 })));
+    let longer = Some((3, Some(ScanFault::Damaged { at: 40 })));
     for (behind, expected) in [
-        (b"".as_slice(), Some((2, Some(ScanFault::Damaged { at: 33 })))),
-        (b"\x01", Some((2, Some(ScanFault::Damaged { at: 33 })))),
-        (b"\x01\0\0\0\0", Some((2, Some(ScanFault::Damaged { at: 33 })))),
-        (b"\x01\0\0\0\x02\x05", Some((2, Some(ScanFault::Damaged { at: 33 })))),
-        (b"\x01\0\0\0\x02\x05\x06", Some((3, Some(ScanFault::Damaged { at: 40 })))),
+        (b"".as_slice(), damaged),
+        (b"\x01", damaged),
+        (b"\x01\0\0\0\0", damaged),
+        (b"\x01\0\0\0\x02\x05", damaged),
+        (b"\x01\0\0\0\x02\x05\x06", longer),
         (b"\0", Some((2, None))),
     ] {
         let mut file = bytes.to_vec(alloc)?;
