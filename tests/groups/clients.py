@@ -6,7 +6,6 @@ from __future__ import annotations
 
 import http.client
 import json
-import os
 import re
 import shutil
 import socket
@@ -29,7 +28,7 @@ HOST = "office.example.org"
 
 def need(*names: str) -> None:
     for name in names:
-        if not shutil.which(name, path=os.environ.get("PATH", "") + ":/usr/sbin:/sbin"):
+        if not shutil.which(name):
             raise Skipped(f"{name} isn't installed")
 
 
@@ -193,9 +192,7 @@ def front(server: Server, folder: Path) -> Iterator[int]:
     for it in (folder, *folder.parents[:1]):
         it.chmod(0o755)
     (folder / "nginx.conf").write_text(nginx_text(server, folder, port))
-    path = os.environ.get("PATH", "") + ":/usr/sbin:/sbin"
-    program = shutil.which("nginx", path=path) or "nginx"
-    child = subprocess.Popen([program, "-c", folder / "nginx.conf", "-g", "daemon off;"], stderr=subprocess.PIPE)
+    child = subprocess.Popen(["nginx", "-c", folder / "nginx.conf", "-g", "daemon off;"], stderr=subprocess.PIPE)
     try:
         for _ in range(100):
             with socket.socket() as tried:
