@@ -14,8 +14,6 @@ from desk_support import RunningOffice, free_port, run_tool, running_office
 from slo_tools.freshness import excluded_age
 from slo_tools.gate.judging import BadFreeze, Freeze, Verdict, percent, read_freeze, worst
 
-NOW = int(time.time()) // 60
-
 DOCUMENTS = """
 apiVersion: openslo/v1
 kind: Service
@@ -62,14 +60,16 @@ def slo(name: str, policy: str = "workbook-page", annotation: str = "note: none"
     return text.replace("note: none", annotation)
 
 
-def rows(first: int, last: int, good: int, total: int = 1000, revision: int = 1) -> bytes:
-    lines = [f"good,web,{NOW - n},{revision},{good},{total}\n" for n in range(first, last)]
-    return "".join(lines).encode()
-
-
 class Gate(unittest.TestCase):
+    def setUp(self) -> None:
+        self.now = int(time.time()) // 60
+
+    def rows(self, first: int, last: int, good: int, total: int = 1000) -> bytes:
+        lines = [f"good,web,{self.now - n},1,{good},{total}\n" for n in range(first, last)]
+        return "".join(lines).encode()
+
     def office(self, *texts: str) -> RunningOffice:
-        office = self.enterContext(running_office(NOW - 3000))
+        office = self.enterContext(running_office(self.now - 3000))
         office.client().define((DOCUMENTS + "".join(texts)).encode())
         return office
 
@@ -80,14 +80,14 @@ class Gate(unittest.TestCase):
 
     def test_a_release_is_let_through(self) -> None:
         office = self.office(slo("a"))
-        office.client().ask("POST", ["samples"], body=rows(1, 120, 999))
+        office.client().ask("POST", ["samples"], body=self.rows(1, 120, 999))
         status, told = self.gate(office, "a")
         self.assertEqual((status, told.splitlines()[-1]), (0, "release"))
         self.assertIn("90.00%", told)
 
     def test_a_budget_below_the_asked_remainder_holds(self) -> None:
         office = self.office(slo("a"))
-        office.client().ask("POST", ["samples"], body=rows(1, 120, 999))
+        office.client().ask("POST", ["samples"], body=self.rows(1, 120, 999))
         self.assertEqual(self.gate(office, "--remaining", "90%", "a")[0], 0)
         status, told = self.gate(office, "--remaining", "0.91", "a")
         self.assertEqual(status, 1)
@@ -95,20 +95,20 @@ class Gate(unittest.TestCase):
 
     def test_a_budget_that_is_used_up_holds(self) -> None:
         office = self.office(slo("a", "workbook-ticket"))
-        office.client().ask("POST", ["samples"], body=rows(1, 120, 990))
+        office.client().ask("POST", ["samples"], body=self.rows(1, 120, 990))
         status, told = self.gate(office, "a")
         self.assertEqual(status, 1)
         self.assertIn("the budget is used up", told)
 
     def test_a_page_that_burns_holds_and_a_ticket_does_not(self) -> None:
         office = self.office(slo("page"), slo("ticket", "workbook-ticket"))
-        good = rows(60, 1400, 1000)
+        good = self.rows(60, 1400, 1000)
         office.client().ask("POST", ["samples"], body=b"\n".join(good.split(b"\n")[:1000]))
-        office.client().ask("POST", ["samples"], body=rows(1, 20, 500, 1000))
-        office.client().ask("POST", ["samples"], body=rows(20, 60, 1000, 1000))
+        office.client().ask("POST", ["samples"], body=self.rows(1, 20, 500, 1000))
+        office.client().ask("POST", ["samples"], body=self.rows(20, 60, 1000, 1000))
         # A flood of good events long ago leaves budget while the last hour burns.
         office.client().ask(
-            "POST", ["samples"], body=f"good,old,{NOW - 1300},1,100000000,100000000\n".encode()
+            "POST", ["samples"], body=f"good,old,{self.now - 1300},1,100000000,100000000\n".encode()
         )
         status, told = self.gate(office, "page")
         self.assertEqual(status, 1)
@@ -124,7 +124,7 @@ class Gate(unittest.TestCase):
             slo("always", annotation="slo-office/freeze: always"),
             slo("bad", annotation="slo-office/freeze: tomorrow"),
         )
-        office.client().ask("POST", ["samples"], body=rows(1, 120, 999))
+        office.client().ask("POST", ["samples"], body=self.rows(1, 120, 999))
         self.assertEqual(self.gate(office, "past")[0], 0)
         status, told = self.gate(office, "now")
         self.assertEqual(status, 1)
@@ -137,7 +137,7 @@ class Gate(unittest.TestCase):
     def test_a_freeze_of_the_service_holds_all_its_slos(self) -> None:
         office = self.office(slo("a"), slo("b"))
         client = office.client()
-        client.ask("POST", ["samples"], body=rows(1, 120, 999))
+        client.ask("POST", ["samples"], body=self.rows(1, 120, 999))
         self.assertEqual(self.gate(office, "--service", "shop")[0], 0)
         frozen = DOCUMENTS.split("---")[0].replace(
             "name: shop", "name: shop\n  annotations:\n    slo-office/freeze: always moving"
@@ -149,7 +149,7 @@ class Gate(unittest.TestCase):
     def test_what_could_not_be_told_is_2(self) -> None:
         office = self.office(slo("a"), slo("fresh").replace("indicatorRef: good", SECOND))
         client = office.client()
-        client.ask("POST", ["samples"], body=rows(70, 130, 999))
+        client.ask("POST", ["samples"], body=self.rows(70, 130, 999))
         cases: tuple[tuple[list[str], str], ...] = (
             (["nobody"], "there is no such SLO"),
             (["a"], "no data in the last 30 minutes"),
@@ -165,7 +165,7 @@ class Gate(unittest.TestCase):
                 self.assertEqual(status, 2, told)
                 self.assertIn(why, told)
         self.assertEqual(self.gate(office, "--stale", "90", "a")[0], 2)  # the page has no data
-        client.ask("POST", ["samples"], body=rows(1, 70, 999))
+        client.ask("POST", ["samples"], body=self.rows(1, 70, 999))
         self.assertEqual(self.gate(office, "a")[0], 0)
         self.assertEqual(self.gate(office, "a", "fresh")[0], 2)
 
@@ -194,10 +194,10 @@ class Gate(unittest.TestCase):
         self.assertEqual(run.returncode, 2, run.stdout)
 
     def test_a_clock_that_is_wrong_is_2(self) -> None:
-        with running_office(NOW - 3000, clock="+2y") as office:
+        with running_office(self.now - 3000, clock="+2y") as office:
             client = office.client()
             client.define((DOCUMENTS + slo("a")).encode())
-            later = NOW + 2 * 365 * 1440
+            later = self.now + 2 * 365 * 1440
             lines = [f"good,web,{later - n},1,999,1000\n" for n in range(3, 100)]
             client.ask("POST", ["samples"], body="".join(lines).encode())
             status, told = self.gate(office, "a")
@@ -206,7 +206,7 @@ class Gate(unittest.TestCase):
 
     def test_json_has_exact_fractions(self) -> None:
         office = self.office(slo("a"))
-        office.client().ask("POST", ["samples"], body=rows(1, 120, 999))
+        office.client().ask("POST", ["samples"], body=self.rows(1, 120, 999))
         status, told = self.gate(office, "--json", "a")
         read = json.loads(told)
         self.assertEqual((status, read["status"], read["verdict"]), (0, 0, "release"))

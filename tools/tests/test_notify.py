@@ -40,7 +40,7 @@ from slo_tools.office import Notice
 
 MINUTE = 60
 LIBRARY = "/usr/lib/x86_64-linux-gnu/faketime/libfaketime.so.1"
-# Times of tests that move the clock begin so far back that they never pass the true time.
+# Tests that hold the clock begin so far back that they never pass the true time.
 BACK = 6 * 3600
 
 DOCUMENTS = """
@@ -80,14 +80,11 @@ spec:
 """
 
 
-class HeldClock:
-    """A clock that goes on by itself, and further where a test says so. An office under the
-    library `faketime` reads it from a file."""
+class MovedClock:
+    """The true time, and an offset."""
 
-    def __init__(self, file: Path, offset: int) -> None:
-        self.file = file
+    def __init__(self, offset: int = 0) -> None:
         self.offset = offset
-        self._write()
 
     def now(self) -> float:
         return time.time() + self.offset
@@ -95,16 +92,34 @@ class HeldClock:
     def sleep(self, seconds: float) -> None:
         raise AssertionError("nothing sleeps here")
 
+
+class HeldClock:
+    """A clock that stands still until a test moves it. An office under the library `faketime`
+    reads it from a file."""
+
+    def __init__(self, file: Path) -> None:
+        self.file = file
+        # Some seconds into a minute, some hours ago.
+        self.seconds = (int(time.time()) - BACK) // MINUTE * MINUTE + 20
+        self.show(self.seconds)
+
+    def now(self) -> float:
+        return self.seconds
+
+    def sleep(self, seconds: float) -> None:
+        raise AssertionError("nothing sleeps here")
+
     def minute(self) -> int:
-        return int(self.now()) // MINUTE
+        return self.seconds // MINUTE
 
     def go_on(self, minutes: int = 1) -> None:
-        self.offset += minutes * MINUTE
-        self._write()
+        self.seconds += minutes * MINUTE
+        self.show(self.seconds)
 
-    def _write(self) -> None:
+    def show(self, seconds: int) -> None:
+        """What the office reads."""
         beside = self.file.with_suffix(".new")
-        beside.write_text(f"{self.offset:+d}\n")
+        beside.write_text(time.strftime("%Y-%m-%d %H:%M:%S\n", time.gmtime(seconds)))
         beside.replace(self.file)
 
 
@@ -121,6 +136,7 @@ class TimedOffice(RunningOffice):
             "FAKETIME_TIMESTAMP_FILE": str(clock.file),
             "FAKETIME_NO_CACHE": "1",
             "FAKETIME_DONT_FAKE_MONOTONIC": "1",
+            "TZ": "UTC",
         }
         subprocess.run(
             [program(), "init", str(clock.minute() - 5000)],
@@ -214,7 +230,7 @@ class Desk(unittest.TestCase):
 
     def timed(self) -> tuple[HeldClock, TimedOffice, Hook]:
         """A clock that a test moves, an office under it, and a webhook."""
-        clock = HeldClock(self.folder / "clock", -BACK)
+        clock = HeldClock(self.folder / "clock")
         place = self.folder / "office"
         place.mkdir()
         office = TimedOffice(place, clock)
@@ -384,9 +400,7 @@ class Webhooks(Desk):
         self.feed(office, range(clock.minute() - 30, clock.minute()), 0)
         entries = office.client().objects()[0]
         rounds = self.hooked(clock, office, hook)
-        clock.offset += 2 * 365 * 86_400
-        clock._write()
-        clock.offset -= 2 * 365 * 86_400
+        clock.show(clock.seconds + 2 * 365 * 86_400)
         rounds.round()
         self.assertEqual(office.client().objects()[0], entries)
         self.assertEqual(hook.alerts, [])
@@ -509,7 +523,7 @@ class Alertmanagers(Desk):
         self.addCleanup(self.office.kill)
         self.office.client().define(DOCUMENTS.encode())
         self.feed(self.office, range(self.now - 90, self.now), 1000)
-        self.clock = HeldClock(self.folder / "clock", 0)
+        self.clock = MovedClock()
 
     def made(self, more: str = "", rule: str = "receiver") -> Rounds:
         receiver = f'[alertmanager]\naddress = "{self.manager.address}"'
@@ -667,8 +681,7 @@ class Full(Desk):
         stub, hook = Stub(), Hook()
         self.addCleanup(stub.close)
         self.addCleanup(hook.close)
-        clock = HeldClock(self.folder / "clock", 0)
-        rounds = self.rounds(clock, stub.address, f'[webhook]\naddress = "{hook.address}"')
+        rounds = self.rounds(MovedClock(), stub.address, f'[webhook]\naddress = "{hook.address}"')
         rounds.round()
         rounds.round()
         self.assertEqual(hook.told(), [("SloOfficeFull", "firing")])
