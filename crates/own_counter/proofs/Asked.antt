@@ -41,7 +41,7 @@ with_more o e es =
     ap (λ (h : List Entry). office o.origin h) (append_assoc o.history (e ∷ []) es)
 
 -- what one turn did: nothing, or something over the settled office
-data TurnDid {D : Type 0} (turn : Turn) (old new : OfficeOn D) : Type 0 where
+pub data TurnDid {D : Type 0} (turn : Turn) (old new : OfficeOn D) : Type 0 where
   untouched : new.office ≡ old.office → new.doubt ≡ old.doubt → TurnDid turn old new
   settled_only : IsSettled old.office old.doubt new.office → new.doubt ≡ None
       → TurnDid turn old new
@@ -62,25 +62,26 @@ made_is o e Accepted made is = with_room (nat_lt MAX_JOURNAL_BYTES (needed_for o
     with_room true is = cc is
     with_room false is = cc is
 
+is_asked : (turn : Turn) (command : Command) (stands : StandsFor turn.said (Ok (Change command)))
+    (o : Office) (outcome : Outcome) (made : Entry)
+    → steps.Comes o turn.reading (Change command) outcome (Some made) → IsAsked turn o made
+is_asked turn command stands o outcome made (steps.past late told none) = absurd (cc none)
+is_asked turn command stands o outcome made (steps.comes timely (j, judged, told, is)) = record {
+  command = command;
+  request = stands;
+  entry = made_is o (entry_of (moment_of o turn.reading) command) j made is;
+}
+
 module _ {D : Type 0} (turn : Turn) (command : Command)
     (stands : StandsFor turn.said (Ok (Change command))) where
-  is_asked : (o : Office) (outcome : Outcome) (made : Entry)
-      → steps.Comes o turn.reading (Change command) outcome (Some made) → IsAsked turn o made
-  is_asked o outcome made (steps.past late told none) = absurd (cc none)
-  is_asked o outcome made (steps.comes timely (j, judged, told, is)) = record {
-    command = command;
-    request = stands;
-    entry = made_is o (entry_of (moment_of o turn.reading) command) j made is;
-  }
-
   did_made : (old new : OfficeOn D) (settled : Office) (made : Option Entry) (outcome : Outcome)
       → IsSettled old.office old.doubt settled
       → steps.Comes settled turn.reading (Change command) outcome made
       → new.office ≡ with_made settled made → new.doubt ≡ None → TurnDid turn old new
-  did_made old new settled None outcome is comes grows none =
+  did_made old new settled None outcome is come grows none =
       settled_only (subst (IsSettled old.office old.doubt) (sym grows) is) none
-  did_made old new settled (Some e) outcome is comes grows none =
-      added settled e is (is_asked settled outcome e comes) grows none
+  did_made old new settled (Some e) outcome is come grows none =
+      added settled e is (is_asked turn command stands settled outcome e come) grows none
 
   did_change : (old new : OfficeOn D) (outcome : Outcome) (place : Option ℕ)
       → keep.Changes old turn.reading command outcome place new → TurnDid turn old new
@@ -95,8 +96,8 @@ module _ {D : Type 0} (turn : Turn) (command : Command)
   did_change old new outcome place (keep.in_doubt told timely doubt at) =
       doubting (entry_at new.office turn.reading command) doubt.settled
       (record { command = command; request = stands; entry = refl }) doubt.doubt
-  did_change old new outcome place (keep.done settled made is timely comes grows none at) =
-      did_made old new settled made outcome is comes grows none
+  did_change old new outcome place (keep.done settled made is timely come grows none at) =
+      did_made old new settled made outcome is come grows none
 
 did_nothing : {D : Type 0} (turn : Turn) (old new : OfficeOn D) → new ≡ old → TurnDid turn old new
 did_nothing {D} turn old new same =

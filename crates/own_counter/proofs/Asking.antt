@@ -1,5 +1,5 @@
 -- One asking of an office of one's own, as its calls tell it.
-use Rattle.std.proofs.Common.{ℕ, List, None, arith, refl}
+use Rattle.std.proofs.Common.{ℕ, List, None, arith, inl, refl}
 use Rattle.office_outside.specs.Disk.{All, LeavesOnly}
 use Rattle.record_form.specs.declared.Request.{Request}
 use Rattle.record_form.specs.declared.Request.TheVariants.{Change, Ask}
