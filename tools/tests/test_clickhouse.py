@@ -12,9 +12,11 @@ from dataclasses import dataclass
 from datetime import datetime, timedelta
 from decimal import Decimal
 from pathlib import Path
-from typing import Any
+from typing import Any, Optional
 
 import support
+from slo_tools.feed.clickhouse import ClickHouse, Table, merged
+from slo_tools.feed.engine import Form, Indicator
 from support import ClickHouseServer, OfficeServer, PrometheusServer
 
 LACKS = [
@@ -162,8 +164,6 @@ class ClickHouseTest(unittest.TestCase):
         support.feed(self.config, "--once")
         self.add(events(self.start, self.start + 30, 40, 2))
         self.add(events(self.now - 100, self.now - 90, 10, 3))
-        # The next round is due when another minute has ended.
-        time.sleep(62 - time.time() % 60)
         support.feed(self.config, "--once")
         self.check_rows(self.server)
 
@@ -242,6 +242,52 @@ class ClickHouseTest(unittest.TestCase):
 
 
 NAMES = ("shop", "fives", "slow")
+
+
+class Asked:
+    """A ClickHouse that keeps the queries, and tells of late events at one minute."""
+
+    def __init__(self, late: int) -> None:
+        self.late = late
+        self.queries: list[str] = []
+
+    def rows(self, query: str) -> list[tuple[Any, ...]]:
+        self.queries.append(query)
+        if "DISTINCT" in query:
+            return [(self.late,)]
+        return [(10**6 * 60,)] if "now()" in query else []
+
+
+def indicator(name: str, every: int) -> Indicator:
+    return Indicator(name, "events", Form.COUNTS, "a", "b", None, "all", every, 5, 60)
+
+
+class QueriesTest(unittest.TestCase):
+    def read(self, asked: dict[Indicator, tuple[int, int]], mark: Optional[float]) -> list[str]:
+        client = Asked(late=5003)
+        table = Table("events", "at", "came")
+        self.answer = ClickHouse(client, table).read(asked, mark)
+        return [query for query in client.queries if "now()" not in query]
+
+    def test_one_query_counts_all_indicators_alike(self) -> None:
+        asked = {indicator("a", 1): (10, 20), indicator("b", 1): (12, 20)}
+        queries = self.read(asked, None)
+        self.assertEqual(len(queries), 1)
+        self.assertEqual(queries[0].count("countIf"), 4)
+        self.assertIn("at >= toDateTime(600) AND at < toDateTime(1200)", queries[0])
+        self.assertEqual(self.answer.mark, 10**6 * 60 - 120)
+
+    def test_late_events_of_a_stretch_that_isnt_due(self) -> None:
+        asked = {indicator("a", 1): (5996, 6006), indicator("b", 5): (6005, 6005)}
+        late, minutes, fives = self.read(asked, 77.0)
+        self.assertIn("came >= toDateTime(77)", late)
+        self.assertIn(f"at < toDateTime({6006 * 60})", late)
+        self.assertIn(f"at >= toDateTime({5003 * 60}) AND at < toDateTime({5004 * 60})", minutes)
+        self.assertIn(f"at >= toDateTime({5000 * 60}) AND at < toDateTime({5005 * 60})", fives)
+
+    def test_spans(self) -> None:
+        self.assertEqual(merged([(5, 9), (1, 3), (3, 4), (8, 10), (7, 7)]), [(1, 4), (5, 10)])
+
 
 if __name__ == "__main__":
     unittest.main()

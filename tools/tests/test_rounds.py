@@ -86,6 +86,18 @@ class Rounds(unittest.TestCase):
         self.assertEqual(self.office.batches, batches + 1)
         self.assertEqual(self.office.accepted, 31)
 
+    def test_a_feed_that_begins_reads_the_look_back_at_once(self) -> None:
+        self.feed.round()
+        late = (BEGIN + 29) * 60 + 50.0
+        self.prometheus.samples_held.append(Sample(LABELS, late, 895, late))
+        self.prometheus.samples_held.append(Sample(LABELS, late + 9, 999, late))
+        self.feed.round()
+        self.assertEqual(self.office.kept["shop", "web_0", BEGIN + 29], (1, "30,30"))
+        self.feed = self.made(self.feed.state)
+        self.feed.round()
+        # From 890 to 999, then a fall to 900.
+        self.assertEqual(self.office.kept["shop", "web_0", BEGIN + 29], (2, "1029,1029"))
+
     def test_stretches_of_five_minutes(self) -> None:
         self.feed = self.made(State(), every=5)
         self.feed.round()
@@ -269,18 +281,24 @@ ZEROS = {"newer": 0, "repeated": 0, "superseded": 0}
 
 class DueTest(unittest.TestCase):
     def asked(
-        self, through: Optional[int], closed: int, every: int = 1, origin: Optional[int] = None
+        self,
+        through: Optional[int],
+        closed: int,
+        every: int = 1,
+        origin: Optional[int] = None,
+        again: bool = False,
     ) -> Optional[tuple[int, int]]:
         from slo_tools.feed.engine import Form, Indicator
 
         indicator = Indicator("s", "e", Form.COUNTERS, "m", "m", None, "all", every, 10, 60)
-        found = due(indicator, through, closed, 60, origin)
+        found = due(indicator, through, closed, 60, origin, again)
         return None if found is None else (found.begin, found.end)
 
     def test_minutes(self) -> None:
         self.assertEqual(self.asked(None, 1000), (941, 1001))
         self.assertEqual(self.asked(999, 1000), (990, 1001))
         self.assertEqual(self.asked(1000, 1000), None)
+        self.assertEqual(self.asked(1000, 1000, again=True), (991, 1001))
         self.assertEqual(self.asked(500, 1000), (491, 1001))
         self.assertEqual(self.asked(None, 1000, origin=980), (980, 1001))
         self.assertEqual(self.asked(None, 1000, every=5), (940, 1000))

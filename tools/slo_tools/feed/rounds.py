@@ -55,13 +55,19 @@ class Due:
 
 
 def due(
-    indicator: Indicator, through: Optional[int], closed: int, first: int, origin: Optional[int]
+    indicator: Indicator,
+    through: Optional[int],
+    closed: int,
+    first: int,
+    origin: Optional[int],
+    again: bool = False,
 ) -> Optional[Due]:
     """What is read of an indicator where `closed` is the newest closed minute: what is behind
     `through`, and the look-back before it, however long ago that was read; `first` minutes where
-    nothing was read yet. None where no stretch has ended since."""
+    nothing was read yet. None where no stretch has ended since, unless the look-back is to be read
+    `again`."""
     newest = indicator.newest(closed)
-    if through is not None and through >= newest:
+    if through is not None and through >= newest and not again:
         return None
     begin = newest - first + 1 if through is None else _first_again(indicator, through)
     begin = max(begin, origin or 0, 0)
@@ -113,6 +119,8 @@ class Feed:
     _full: Optional[Members] = field(default=None, init=False)
     _engines: dict[DataSource, Engine] = field(default_factory=dict, init=False)
     _end: End = field(default=End.DONE, init=False)
+    # A feed that begins reads the look-back at once, whatever its state says of it.
+    _were_read: set[str] = field(default_factory=set, init=False)
 
     def round(self, begin: Optional[int] = None) -> End:
         """Read and send what is due, or all from the minute `begin` on."""
@@ -261,7 +269,8 @@ class Feed:
             first = self.config.first
             if begin is not None:
                 through, first = None, max(indicator.newest(closed) - begin + 1, 0)
-            one = due(indicator, through, closed, first, self.state.origin)
+            again = indicator.sli not in self._were_read
+            one = due(indicator, through, closed, first, self.state.origin, again)
             if one is not None:
                 dues.append(one)
         return dues
@@ -314,6 +323,7 @@ class Feed:
             newest = end - 1 if sent.moment is None else min(end - 1, sent.moment - 1)
             newest = max(newest, self.state.through.get(indicator.sli, 0))
             self.state.through[indicator.sli] = newest
+            self._were_read.add(indicator.sli)
             first[indicator.sli] = _first_again(indicator, newest)
             self.watch.newest(indicator.sli, newest, now)
         self.state.kept = without_old(self.state.kept, first.items())
