@@ -74,13 +74,6 @@ class Series:
     labels: Labels
     samples: Sequence[tuple[int, int]]
 
-    def label(self, name: str) -> str:
-        """The label's value, the empty text where there is none."""
-        for key, value in self.labels:
-            if key == name:
-                return value
-        return ""
-
 
 # Labels that tell apart what one counter of a process shows: its metric, and a histogram's bounds.
 _OF_ONE_COUNTER = ("__name__", "le")
