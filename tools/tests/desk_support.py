@@ -127,7 +127,7 @@ def run_tool(name: str, *words: str, **more: str) -> subprocess.CompletedProcess
         text=True,
         check=False,
         timeout=120,
-        env={**os.environ, **more},
+        env={**os.environ, "SLO_OFFICE_PROGRAM": program(), **more},
     )
 
 

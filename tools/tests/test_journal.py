@@ -136,6 +136,21 @@ class Reading(unittest.TestCase):
         self.assertIn("foreign: the letters at 1 are b'OSLOJRN2'", run.stdout)
         self.assertIn("entries 8", run.stdout)
 
+    def test_an_entry_that_cant_follow_is_told_by_the_program(self) -> None:
+        place = self.data.index(b"indicatorRef: g")
+        broken = self.data[:place] + b"indicatorRef: h" + self.data[place + 15 :]
+        file = self.folder / "broken"
+        file.write_bytes(broken)
+        run = run_tool("slo-journal", str(file))
+        self.assertEqual(run.returncode, 1)
+        self.assertIn("the office says: slo_office: file damaged at 13", run.stdout)
+        alone = run_tool("slo-journal", "--alone", str(file))
+        self.assertEqual(alone.returncode, 0)
+        self.assertIn("judged by no program", alone.stdout)
+        mend = run_tool("slo-journal", "--mend", str(self.folder / "out"), str(file))
+        self.assertEqual(mend.returncode, 1)
+        self.assertFalse((self.folder / "out").exists())
+
     def test_a_file_that_cant_be_read_is_2(self) -> None:
         run = run_tool("slo-journal", str(self.folder / "nothing"))
         self.assertEqual(run.returncode, 2)
@@ -233,7 +248,7 @@ class Mending(unittest.TestCase):
         torn = self.folder / "torn"
         torn.write_bytes(self.data[:-40])
         out = self.folder / "out"
-        run = run_tool("slo-journal", "--mend", str(out), "--program", program(), str(torn))
+        run = run_tool("slo-journal", "--mend", str(out), str(torn))
         self.assertEqual((run.returncode, run.stderr), (0, ""))
         self.assertTrue(opens(out.read_bytes()))
         self.assertEqual(torn.read_bytes(), self.data[:-40])

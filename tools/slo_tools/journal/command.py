@@ -5,6 +5,7 @@ from __future__ import annotations
 import argparse
 import json
 import os
+import shutil
 import subprocess
 import sys
 import tempfile
@@ -52,7 +53,12 @@ def parser() -> argparse.ArgumentParser:
     made.add_argument(
         "--program",
         metavar="SLO_OFFICE",
-        help="the office's program, which then judges each entry of the file, or of OUT, itself",
+        default=os.environ.get("SLO_OFFICE_PROGRAM") or shutil.which("slo_office"),
+        help="the office's program, which judges whether each entry may follow (default:"
+        " slo_office, where it is installed)",
+    )
+    made.add_argument(
+        "--alone", action="store_true", help="read the file without the office's program"
     )
     return made
 
@@ -97,6 +103,8 @@ class Report:
 def main(words: Optional[list[str]] = None) -> int:
     """Reads, tells, and returns the exit status."""
     options = parser().parse_args(words)
+    if options.alone:
+        options.program = None
     try:
         data = read_bytes(Path(options.file))
         if options.mend is not None:
@@ -201,8 +209,12 @@ def _fault_lines(report: Report) -> Iterator[str]:
         )
     for line in report.behind:
         yield f"  {_entry_line(line)}"
-    if report.judged:
+    if report.judged is None:
+        yield "note: whether each entry may follow those before it was judged by no program"
+    elif report.judged:
         yield f"the office says: {report.judged}"
+    else:
+        yield "the office's program opens it"
     for number in report.unread:
         yield f"note: the text of entry {number} couldn't be read whole here"
 
@@ -250,8 +262,11 @@ def _mend(data: bytes, options: argparse.Namespace) -> int:
         raise OSError("the file is as long as a journal can be, and isn't mended")
     mending = mending_of(data)
     if mending.repair is None:
-        print(("" if mending.is_sound else "not mended: ") + mending.text)
-        return SOUND if mending.is_sound else DAMAGED
+        judged = judged_by(options.program, data) if mending.is_sound and options.program else ""
+        told = f"the office says: {judged}" if judged else mending.text
+        is_sound = mending.is_sound and not judged
+        print(told if is_sound else f"not mended: {told}")
+        return SOUND if is_sound else DAMAGED
     if options.program is not None:
         judged = judged_by(options.program, mending.repair.content)
         if judged:
