@@ -44,7 +44,7 @@ moments_laws = record {
       ∙ ap (λ n. bytes_eq y.source z.source && n == z.minute) p.1;
 }
 
-places_laws : IsEquivalence same_place
+pub places_laws : IsEquivalence same_place
 places_laws = record {
   refl = λ x. pair_here x.source x.source x.minute x.minute refl refl;
   symm = λ x y. pair_back x.source y.source x.minute y.minute;

@@ -8,3 +8,4 @@ pub mod LawLemmas
 pub mod PickLemmas
 pub mod NameLemmas
 pub mod FrontLemmas
+pub mod NearLemmas

@@ -1,6 +1,7 @@
 pub mod Differences
 pub mod Book
 pub mod Moves
+pub mod Neighbours
 pub mod Standings
 pub mod Puts
 pub mod Judging

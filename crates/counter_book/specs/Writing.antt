@@ -11,9 +11,11 @@ use Rattle.counter_book.specs.declared.reading.Moment.{Moment}
 use Rattle.counter_book.specs.declared.reading.Moves.{Moves}
 use Rattle.counter_book.specs.declared.reading.NextMove.{NextMove}
 use Rattle.counter_book.specs.declared.reading.Rise.{Rise}
+use Rattle.counter_book.specs.declared.reading.Tail.{Tail}
 use Rattle.counter_book.specs.Book.{Book, given_in, given_of, kept_at, slot_at}
 use Rattle.counter_book.specs.Differences.{count_of, is_reading_at}
 use Rattle.counter_book.specs.Moves.{is_next_at}
+use Rattle.counter_book.specs.Neighbours.{AreTails}
 use Rattle.counter_book.specs.Puts.{given_after}
 
 abbrev pub given_slot : List (Moment × Kept) → ℕ → ℕ → ℕ
@@ -25,6 +27,12 @@ pub record IsCounted (names : List (List ℕ)) (entries : List (Moment × Kept))
   pub few : puts ≤ MAX_PUTS
   pub given : (number minute : ℕ) → given_slot entries number minute ≤ puts
   pub named : (number minute : ℕ) → length names ≤ number → slot_at entries number minute ≡ None
+
+-- So, and each tail is the last reading of its source.
+pub record IsSound (names : List (List ℕ)) (entries : List (Moment × Kept)) (lasts : List Tail)
+    (puts : ℕ) : Type 0 where
+  pub counted : IsCounted names entries puts
+  pub tails : AreTails entries lasts
 
 -- what is kept of a reading
 abbrev pub own_kept_of : CounterReading → ℕ → Option Rise → Kept

@@ -4,8 +4,8 @@ ghost use Rattle.counter_book.specs.Book.{no_readings};
 ghost use Rattle.counter_book.specs.Puts.{IsRefused, Puts};
 
 use crate::judging::judge;
-use crate::neighbours::look;
-use crate::reading::{Changes, CounterFault, CounterReading, Kept, Moment};
+use crate::neighbours::{neighbours, note_last};
+use crate::reading::{Changes, CounterFault, CounterReading, Kept, Moment, Tail};
 use crate::writing::{changes, given, keep};
 use name_numbers::NameTable;
 use std::alloc::Global;
@@ -17,18 +17,20 @@ use std::marker::Model;
 pub struct CounterBook {
     names: NameTable,
     kept: BTreeMap<Moment, Kept>,
+    // the last reading of each source, by its number; a source may have none
+    tails: Vec<Tail>,
     puts: u32,
 }
 
 impl Model for CounterBook {
     ghost use Rattle.counter_book.specs.Book.{Book};
-    ghost use Rattle.counter_book.specs.Writing.{IsCounted};
+    ghost use Rattle.counter_book.specs.Writing.{IsSound};
 
     ghost Value = { Book };
 
     ghost view = { λ a. record { names = a.names; entries = a.kept.entries; puts = a.puts } };
 
-    ghost invariant = { λ a. IsCounted a.names a.kept.entries a.puts };
+    ghost invariant = { λ a. IsSound a.names a.kept.entries a.tails.items a.puts };
 }
 
 impl CounterBook {
@@ -39,6 +41,7 @@ impl CounterBook {
         CounterBook {
             names: NameTable::new(alloc),
             kept: BTreeMap::new(alloc),
+            tails: Vec::new(alloc),
             puts: 0,
         }
     }
@@ -58,14 +61,15 @@ impl CounterBook {
         let Some(number) = self.names.number_for(&reading.source) else {
             return Err(CounterFault::NoMemory);
         };
-        match judge(&self.names, &self.kept, self.puts, number, reading) {
+        let near = neighbours(&self.kept, &self.tails, number, reading.minute);
+        match judge(&self.names, &self.kept, self.puts, number, &near, reading) {
             Err(e) => Err(e),
             Ok(None) => Ok(Changes {
                 own: None,
                 next: None,
             }),
             Ok(Some(moves)) => {
-                let given = given(look(&self.kept, number, reading.minute));
+                let given = given(near.here);
                 match keep(
                     &mut self.names,
                     &mut self.kept,
@@ -77,6 +81,7 @@ impl CounterBook {
                     Err(_) => Err(CounterFault::NoMemory),
                     Ok(()) => {
                         self.puts += 1;
+                        note_last(&mut self.tails, number, reading, &near);
                         Ok(changes(reading, given, &moves))
                     }
                 }

@@ -1,16 +1,18 @@
 //! Differences, and which of them a reading moves.
-ghost use Rattle.std.specs.Prelude.{◌≡◌, ℕ, option_map, IfSome};
+ghost use Rattle.std.specs.Prelude.{◌≡◌, ℕ, List, IfSome};
 ghost use Rattle.counter_book.specs.Book.{Book, kept_at, slot_at};
 ghost use Rattle.counter_book.specs.Differences.{capped as capped_of, first_there, rise_between};
 ghost use Rattle.counter_book.specs.Differences.{rise_of};
 ghost use Rattle.counter_book.specs.Moves.{AreCapped, IsCapped, IsMoves, IsNextThere, moved_to};
 ghost use Rattle.counter_book.specs.Moves.{next_move_of};
+ghost use Rattle.counter_book.specs.Neighbours.{AreNear};
+ghost use Rattle.counter_book.specs.declared.reading.Kept.{Kept};
+ghost use Rattle.counter_book.specs.declared.reading.Moment.{Moment};
 
-use crate::neighbours::{before, look, next};
+use crate::neighbours::count_of;
 use crate::reading::{
-    Count, CounterReading, Kept, Moment, Moves, NextMove, Rise, count_of_reading,
+    Count, CounterReading, Kept, Moves, Neighbours, NextMove, Rise, count_of_reading,
 };
-use std::collections::BTreeMap;
 
 // Good events count at most the total.
 fn capped(good: u64, total: u64) -> Rise
@@ -60,16 +62,6 @@ fn first(one: Option<Count>, other: Option<Count>) -> Option<Count>
     }
 }
 
-// The counts of what is kept.
-fn count_of(kept: Option<Kept>) -> Option<Count>
-    ensures { result ≡ option_map (λ kept. kept.count) kept }
-{
-    match kept {
-        None => None,
-        Some(kept) => Some(kept.count),
-    }
-}
-
 // The new rise, where it isn't the old one.
 fn moved(old: Option<Rise>, now: Option<Rise>) -> Option<Rise>
     ensures value { result ≡ moved_to old now }
@@ -107,19 +99,21 @@ fn next_move(behind: Option<(u32, Kept)>, passed: Option<Count>, count: Count) -
     }
 }
 
-// What a reading moves, whose source has this number.
-pub(crate) fn moves(kept: &BTreeMap<Moment, Kept>, number: u32, reading: &CounterReading) -> Moves
-    ensures moves { (book : Book) →
-        ((j : ℕ) → kept_at book reading.now.source j ≡ slot_at kept.now.entries number j) →
-        IsMoves book reading.now result }
-    ensures next { IsNextThere kept.now.entries number reading.now.minute result.next }
+// What a reading moves between its neighbours.
+pub(crate) fn moves(near: &Neighbours, reading: &CounterReading) -> Moves
+    ensures moves { (book : Book) → AreNear (kept_at book reading.now.source) reading.now.minute
+        near.now → IsMoves book reading.now result }
+    ensures next { (entries : List (Moment × Kept)) (number : ℕ) →
+        AreNear (slot_at entries number) reading.now.minute near.now →
+        IsNextThere entries number reading.now.minute result.next }
     ensures capped { AreCapped result }
 {
     let count = count_of_reading(reading);
-    let earlier = count_of(before(kept, number, reading.minute));
-    let here = count_of(look(kept, number, reading.minute));
-    let behind = next(kept, number, reading.minute);
-    let own = moved(between(earlier, here), between(earlier, Some(count)));
-    let next = next_move(behind, first(here, earlier), count);
+    let here = count_of(near.here);
+    let own = moved(
+        between(near.before, here),
+        between(near.before, Some(count)),
+    );
+    let next = next_move(near.next, first(here, near.before), count);
     Moves { own, next }
 }

@@ -1,14 +1,16 @@
 //! Whether a reading is put.
-ghost use Rattle.std.specs.Prelude.{◌≡◌, ℕ, IfOk, IfSome};
+ghost use Rattle.std.specs.Prelude.{◌≡◌, IfOk, IfSome};
 ghost use Rattle.counter_book.specs.Book.{kept_at, slot_at};
 ghost use Rattle.counter_book.specs.Judging.{IsJudged, above as above_of, jump_of};
 ghost use Rattle.counter_book.specs.Moves.{IsNextThere};
+ghost use Rattle.counter_book.specs.Neighbours.{AreNear};
 ghost use Rattle.counter_book.specs.Standings.{is_full_at, standing_of};
 
 use crate::difference::moves;
 use crate::limits::{MAX_PUTS, MAX_READINGS};
-use crate::neighbours::look;
-use crate::reading::{CounterFault, CounterReading, Kept, Moment, Moves, Rise, Standing};
+use crate::reading::{
+    CounterFault, CounterReading, Kept, Moment, Moves, Neighbours, Rise, Standing,
+};
 use name_numbers::NameTable;
 use slo_limits::MAX_AMOUNT;
 use std::collections::BTreeMap;
@@ -85,18 +87,20 @@ pub(crate) fn judge(
     kept: &BTreeMap<Moment, Kept>,
     puts: u32,
     number: u32,
+    near: &Neighbours,
     reading: &CounterReading,
 ) -> Result<Option<Moves>, CounterFault>
-    requires at { (j : ℕ) →
-        kept_at (record { names = names.now; entries = kept.now.entries; puts = puts })
-        reading.now.source j ≡ slot_at kept.now.entries number j }
+    requires near { AreNear
+        (kept_at (record { names = names.now; entries = kept.now.entries; puts = puts })
+        reading.now.source) reading.now.minute near.now }
+    requires there { AreNear (slot_at kept.now.entries number) reading.now.minute near.now }
     ensures judged { IsJudged
         (record { names = names.now; entries = kept.now.entries; puts = puts })
         reading.now result }
     ensures next { IfOk result (λ judged. IfSome judged (λ moves.
         IsNextThere kept.now.entries number reading.now.minute moves.next)) }
 {
-    let standing = standing(look(kept, number, reading.minute), reading);
+    let standing = standing(near.here, reading);
     match standing {
         Standing::Conflict(kept) => return Err(CounterFault::Conflict { kept }),
         Standing::Repeated => return Ok(None),
@@ -107,7 +111,7 @@ pub(crate) fn judge(
     if is_full(&standing, kept.len(), puts) {
         return Err(CounterFault::Limit);
     }
-    let moves = moves(kept, number, reading);
+    let moves = moves(near, reading);
     match jump(reading.minute, &moves) {
         Some((minute, total)) => Err(CounterFault::Jump { minute, total }),
         None => Ok(Some(moves)),

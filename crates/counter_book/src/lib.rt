@@ -18,6 +18,6 @@ pub use laws::{
 };
 pub use limits::{MAX_COUNTER, MAX_PUTS, MAX_READINGS};
 pub use reading::{
-    Changes, Count, CounterFault, CounterReading, Difference, Kept, Moment, Moves, NextMove, Rise,
-    Standing,
+    Changes, Count, CounterFault, CounterReading, Difference, Kept, Moment, Moves, Neighbours,
+    NextMove, Rise, Standing, Tail,
 };

@@ -79,6 +79,22 @@ pub struct Kept {
     pub given: u32,
 }
 
+/// The last reading of a source.
+#[derive(Clone, Copy, Debug, PartialEq, Eq)]
+pub struct Tail {
+    pub minute: u32,
+    pub count: Count,
+}
+
+/// What is kept around a minute of a source: the counts before it, what is kept there, and the next
+/// minute with what is kept there.
+#[derive(Clone, Copy, Debug, PartialEq, Eq)]
+pub struct Neighbours {
+    pub before: Option<Count>,
+    pub here: Option<Kept>,
+    pub next: Option<(u32, Kept)>,
+}
+
 /// What a reading moves: its own difference, and the next one of its source.
 #[derive(Clone, Copy, Debug, PartialEq, Eq)]
 pub struct Moves {

@@ -13,7 +13,6 @@ returns-in-Some-clause-judged c =
       puts = c.args.puts;
     } in
     let st : standing_in book r ≡ c.standing-standing.result =
-    ap (λ x. standing_of x r) (c.requires.at r.minute ∙ sym c.look.ensures) ∙ sym
-    c.standing-standing.ensures in
-    let mv = c.moves-moves.ensures.moves book c.requires.at in
+    ap (λ x. standing_of x r) (sym c.requires.near.here) ∙ sym c.standing-standing.ensures in
+    let mv = c.moves-moves.ensures.moves book c.requires.near in
     grind (arith, common_steps)
