@@ -1,0 +1,160 @@
+/**
+ * The page: reads the overview again and again, and shows the place that its address names.
+ * @module
+ */
+
+import { element, say } from "./dom.js";
+import { readOverview } from "./file.js";
+import { monthView } from "./month.js";
+import { noticesView } from "./notices.js";
+import { overviewView, sayAge } from "./overview.js";
+import { clearPanels } from "./panels.js";
+import { OVERVIEW, readRoute, sloPlace } from "./routes.js";
+import { sloView } from "./slo.js";
+
+/** @typedef {import("./file.js").Overview} Overview */
+/** @typedef {import("./routes.js").Route} Route */
+
+const RETRY = 10;
+
+const main = /** @type {HTMLElement} */ (document.getElementById("main"));
+const noticesLink = /** @type {HTMLElement} */ (document.getElementById("notices"));
+const dark = matchMedia("(prefers-color-scheme: dark)");
+
+/** @type {Overview | null} */
+let overview = null;
+/** @type {Route} */
+let route = { view: "overview" };
+let ends = new AbortController();
+/** The place of the SLO that was open, to which the focus goes back. */
+let opened = "";
+
+/** @param {HTMLElement[]} parts */
+function put(parts) {
+  main.replaceChildren(...parts);
+}
+
+/** @param {unknown} fault */
+function tellFault(fault) {
+  const text = fault instanceof Error ? fault.message : `${fault}`;
+  main.append(element("p", { class: "trouble" }, `This couldn't be shown: ${text}. `, againButton()));
+  say(`Failed: ${text}`, "bad");
+}
+
+function againButton() {
+  const button = element("button", { type: "button" }, "Ask again");
+  button.addEventListener("click", () => void refresh(true));
+  return button;
+}
+
+/**
+ * @param {Overview} file
+ * @param {{office: string, slo: string, objective: number}} names
+ */
+function placeOf(file, names) {
+  const office = file.offices.find((each) => each.name === names.office);
+  const slo = office?.slos.find((each) => each.name === names.slo);
+  const objective = slo?.objectives.find((each) => each.number === names.objective);
+  if (!office || !slo || !objective) throw new Error(`the overview has no ${names.office}/${names.slo}/${names.objective}`);
+  return { office, slo, objective };
+}
+
+/** Shows the present place anew. */
+async function show() {
+  ends.abort();
+  ends = new AbortController();
+  const { signal } = ends;
+  clearPanels();
+  if (!overview) return;
+  const putHere = (/** @type {HTMLElement[]} */ parts) => {
+    if (!signal.aborted) put(parts);
+  };
+  try {
+    if (route.view === "overview") putHere(overviewView(overview));
+    else if (route.view === "notices") await noticesView(overview, signal, putHere);
+    else if (route.view === "slo") await sloView(placeOf(overview, route), signal, putHere);
+    else if (route.view === "month") await monthView(placeOf(overview, route), route.month, signal, putHere);
+    else throw new Error("this address names no place of the page");
+  } catch (fault) {
+    if (!signal.aborted) tellFault(fault);
+  }
+}
+
+/** What has the focus, so that the same stands under it once the table was made anew. */
+function focusedLink() {
+  const active = document.activeElement;
+  return active instanceof HTMLElement && main.contains(active) ? (active.getAttribute("href") ?? active.id) : "";
+}
+
+/** @param {string} mark an address or an id */
+function focusAgain(mark) {
+  if (!mark) return;
+  const found = [...main.querySelectorAll("a, input")].find((each) => each.getAttribute("href") === mark || each.id === mark);
+  if (found instanceof HTMLElement) found.focus({ preventScroll: true });
+}
+
+/**
+ * Reads the overview; where the place is the overview it is shown anew.
+ * @param {boolean} isAsked whether somebody asks, else only what is new is shown
+ */
+async function refresh(isAsked = false) {
+  let next = RETRY;
+  try {
+    const told = await readOverview();
+    const isNew = told.second !== overview?.second;
+    const isFirst = overview === null;
+    overview = told;
+    next = told.every;
+    noticesLink.textContent = `Notices (${told.notify.waiting.toLocaleString("en")})`;
+    if (isFirst || isAsked || (isNew && route.view === "overview")) {
+      const mark = focusedLink();
+      await show();
+      if (route.view === "overview") focusAgain(mark);
+    } else if (route.view === "overview") sayAge(told);
+  } catch (fault) {
+    const text = `The overview can't be read: ${fault instanceof Error ? fault.message : fault}`;
+    say(text, "bad");
+    if (!overview) put([element("h1", { tabindex: -1 }, "Error budgets"), element("p", { class: "trouble" }, `${text}. `, againButton())]);
+  }
+  clearTimeout(timer);
+  timer = setTimeout(refresh, next * 1000);
+}
+
+let timer = 0;
+
+async function routed() {
+  if (route.view === "slo") opened = sloPlace(route.office, route.slo, route.objective);
+  route = readRoute(location.hash);
+  for (const link of document.querySelectorAll("header nav a")) {
+    if (link.getAttribute("href") === location.hash) link.setAttribute("aria-current", "page");
+    else link.removeAttribute("aria-current");
+  }
+  const shown = show();
+  window.scrollTo(0, 0);
+  if (route.view === "overview" && opened) {
+    await shown;
+    const link = [...main.querySelectorAll("a")].find((each) => each.getAttribute("href") === opened);
+    link?.focus();
+  } else {
+    main.querySelector("h1")?.focus();
+    await shown;
+    if (document.activeElement === document.body) main.querySelector("h1")?.focus({ preventScroll: true });
+  }
+}
+
+/** @param {KeyboardEvent} event */
+function escaped(event) {
+  if (event.key !== "Escape" || route.view === "overview") return;
+  location.hash = route.view === "month" ? sloPlace(route.office, route.slo, route.objective) : OVERVIEW;
+}
+
+document.getElementById("skip")?.addEventListener("click", (event) => {
+  event.preventDefault();
+  main.focus();
+});
+document.addEventListener("keydown", escaped);
+window.addEventListener("hashchange", () => void routed());
+dark.addEventListener("change", () => void show());
+route = readRoute(location.hash);
+say("Loading the overview …", "busy");
+await refresh();

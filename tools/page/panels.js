@@ -1,0 +1,147 @@
+/**
+ * The charts of an objective, one below the other over the same time.
+ * @module
+ */
+
+import { burnOf } from "./budget.js";
+import { colour, draw } from "./chart.js";
+import { element } from "./dom.js";
+import { burnText, fraction, percent, readFraction, spell, toNumber } from "./fractions.js";
+
+/** @typedef {import("./series.js").Told} Told */
+/** @typedef {import("./minutes.js").Zone} Zone */
+/** @typedef {import("./chart.js").Series} Series */
+/** @typedef {"remaining" | "burn" | "events" | "alerts"} Subject */
+/** @typedef {{subject: Subject, figure: HTMLElement, canvas: HTMLCanvasElement}} Panel */
+
+const LANE_HEIGHT = 44;
+// A bar is at least this part of the axis.
+const MOST_BARS = 150;
+const CAPTIONS = {
+  remaining: "Budget left, in the window up to each minute",
+  burn: "Burn rate of each step",
+  events: "Good and total of each step",
+  alerts: "When alerts were active",
+};
+
+/** @type {{destroy: () => void}[]} */
+let drawn = [];
+
+/**
+ * The figures, still empty.
+ * @param {Told} told
+ * @returns {Panel[]}
+ */
+export function panels(told) {
+  const subjects = /** @type {Subject[]} */ (["remaining", "burn", "events", ...(told.alerts.length ? ["alerts"] : [])]);
+  return subjects.map((subject) => {
+    const canvas = /** @type {HTMLCanvasElement} */ (element("canvas", { role: "img", "aria-label": `${CAPTIONS[subject]}; its numbers stand in the tables below` }));
+    const place = element("div", { class: `canvas ${subject}` }, canvas);
+    if (subject === "alerts") place.style.height = `${told.alerts.length * LANE_HEIGHT + 48}px`;
+    return { subject, canvas, figure: element("figure", {}, element("figcaption", {}, CAPTIONS[subject]), place) };
+  });
+}
+
+/**
+ * Draws the figures, which have to stand in the page.
+ * @param {Panel[]} figures
+ * @param {Told} told
+ * @param {string} target
+ * @param {Zone} zone
+ */
+export async function drawPanels(figures, told, target, zone) {
+  clearPanels();
+  const shades = (told.exclusions ?? []).map(({ from, to, id }) => ({ from, to, label: id }));
+  const parts = {
+    remaining: { series: [remainingSeries(told)], least: 0, most: 1, unit: percentTick },
+    burn: { series: burnSeries(told, target), least: 0, most: 1, unit: tick },
+    events: { series: eventSeries(told), least: 0, unit: tick },
+    alerts: { series: told.alerts.map((alert, lane) => alertSeries(alert, lane, (told.to - told.from) / MOST_BARS)), lanes: told.alerts.map(({ policy, severity }) => (severity ? `${policy} (${severity})` : policy)) },
+  };
+  const range = { from: told.from, to: told.to, zone, shades };
+  drawn = await Promise.all(figures.map(({ subject, canvas }) => draw({ canvas, ...range, ...parts[subject] })));
+}
+
+/** Takes the charts away, before the page shows something else. */
+export function clearPanels() {
+  for (const chart of drawn) chart.destroy();
+  drawn = [];
+}
+
+/** @param {number} value */
+const tick = (value) => value.toLocaleString("en").replace("-", "−");
+
+/** @param {number} value */
+const percentTick = (value) => `${tick(Math.round(value * 100))} %`;
+
+/**
+ * @param {Told} told
+ * @returns {Series}
+ */
+function remainingSeries(told) {
+  const points = [...told.remaining.entries()]
+    .sort(([a], [b]) => a - b)
+    .map(([x, text]) => {
+      const value = readFraction(text);
+      return { x, y: value && toNumber(value), exact: value ? `${percent(value)} (${text})` : "none" };
+    });
+  return { label: "Budget left", color: colour("accent"), points, fill: true };
+}
+
+/**
+ * Points that hold from the begin of each step to its end.
+ * @param {Told} told
+ * @param {(sum: import("./office.js").Sum) => {y: number | null, exact: string}} value
+ */
+function stepped(told, value) {
+  const points = told.steps.map(({ from, sum }) => ({ x: from, ...(sum ? value(sum) : { y: null, exact: "none" }) }));
+  const last = points.at(-1);
+  return last ? [...points, { ...last, x: told.to }] : points;
+}
+
+/**
+ * @param {Told} told
+ * @param {string} target
+ * @returns {Series[]}
+ */
+function burnSeries(told, target) {
+  const points = stepped(told, (sum) => {
+    const burn = burnOf(sum, target);
+    if (!burn) return { y: null, exact: "none" };
+    return { y: toNumber(burn), exact: `${burnText(burn)} (${spell(burn)})` };
+  });
+  const even = [told.from, told.to].map((x) => ({ x, y: 1, exact: spell(fraction(1, 1)) }));
+  return [
+    { label: "Burn", color: colour("bad"), points, stepped: true },
+    { label: "Spends the budget in one window", color: colour("faint"), points: even },
+  ];
+}
+
+/**
+ * @param {Told} told
+ * @returns {Series[]}
+ */
+function eventSeries(told) {
+  const of = (/** @type {"num" | "den"} */ key) =>
+    stepped(told, (sum) => ({ y: sum[key], exact: sum[key].toLocaleString("en") }));
+  return [
+    { label: "Good", color: colour("good"), points: of("num"), stepped: true, fill: true },
+    { label: "Total", color: colour("faint"), points: of("den"), stepped: true },
+  ];
+}
+
+/**
+ * The bars of an alert; a short one is drawn as long as one sees.
+ * @param {import("./series.js").Alert} alert
+ * @param {number} lane
+ * @param {number} least the minutes of the shortest bar
+ * @returns {Series}
+ */
+function alertSeries({ policy, intervals }, lane, least) {
+  const points = intervals.flatMap(([from, to]) => {
+    const end = Math.max(to, from + least);
+    const exact = `${to - from} min`;
+    return [{ x: from, y: lane, exact }, { x: end, y: lane, exact }, { x: end, y: null, exact: "" }];
+  });
+  return { label: policy, color: colour("bad"), points, bar: true };
+}

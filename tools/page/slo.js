@@ -1,0 +1,255 @@
+/**
+ * One objective of an SLO over its window.
+ * @module
+ */
+
+import { burnOf, daysText, minutesLeft } from "./budget.js";
+import { LOOKBACKS, burnCell, countsText } from "./cells.js";
+import { chartLibrary } from "./chart.js";
+import { details, element, row, say, section, table } from "./dom.js";
+import { exactNumber } from "./exact.js";
+import { burnText, percent, readFraction, spell } from "./fractions.js";
+import { spanText, zoneOf } from "./minutes.js";
+import { Office } from "./office.js";
+import { drawPanels, panels } from "./panels.js";
+import { monthPlace, sloPlace } from "./routes.js";
+import { askSeries } from "./series.js";
+import { badge, breachingPolicies, stateOf } from "./states.js";
+
+/** @typedef {import("./file.js").OfficeEntry} OfficeEntry */
+/** @typedef {import("./file.js").SloEntry} SloEntry */
+/** @typedef {import("./file.js").ObjectiveEntry} ObjectiveEntry */
+/** @typedef {import("./minutes.js").Zone} Zone */
+/** @typedef {import("./series.js").Told} Told */
+/** @typedef {{office: OfficeEntry, slo: SloEntry, objective: ObjectiveEntry}} Place */
+
+const YEAR = 399 * 1440;
+
+/** @param {SloEntry} slo */
+function windowText(slo) {
+  const { duration, rolling, start, zone } = slo.window;
+  return rolling ? `the last ${duration}` : `${duration} on the calendar from ${start}, ${zone}`;
+}
+
+/**
+ * @param {string} name
+ * @param {import("./dom.js").Child} value
+ */
+const fact = (name, value) => element("div", {}, element("dt", {}, name), element("dd", {}, value));
+
+/**
+ * @param {Place} place
+ * @param {Zone} zone
+ */
+function facts({ office, slo, objective }, zone) {
+  const remaining = readFraction(objective.remaining);
+  const state = stateOf(slo, objective);
+  const policies = breachingPolicies(objective).join(", ");
+  const { num, den } = objective;
+  const counted = num === null || den === null ? "none" : countsText({ num, den });
+  return element(
+    "dl",
+    { class: "facts" },
+    fact("State", element("span", {}, badge(state), policies ? ` ${policies}` : null)),
+    fact("Budget left", remaining ? exactNumber(percent(remaining), `budget left: ${objective.remaining}`, true) : "none"),
+    fact("Good of total", objective.error ? exactNumber(counted, `error: ${objective.error}`, true) : counted),
+    fact("Target", objective.target),
+    fact("Window", windowText(slo)),
+    fact("Counted from", objective.from === null ? "no window has begun" : zone.full(objective.from)),
+    fact("Newest data", objective.age === null ? "none in 30 days" : `${spanText(objective.age)} ago`),
+    fact("Service", slo.service_display),
+    fact("Indicator", `${slo.indicator}, ${slo.method}`),
+    fact("Office", office.name),
+  );
+}
+
+/**
+ * Burns with the time that the budget lasts at each.
+ * @param {Place} place
+ */
+function burnsTable({ office, slo, objective }) {
+  const headers = ["Over the last", "Burn", "Budget ends in"];
+  const remaining = readFraction(objective.remaining);
+  const rows = LOOKBACKS.map((lookback) => {
+    const text = objective.burns[lookback] ?? null;
+    const burn = readFraction(text);
+    const lasts =
+      remaining && burn && office.at !== null && objective.from !== null
+        ? daysText(minutesLeft({ remaining, burn, isRolling: slo.window.rolling, elapsed: office.at - objective.from }))
+        : "can't be said";
+    return row(headers, [lookback, burnCell(lookback, text), lasts]);
+  });
+  const caption = slo.window.rolling
+    ? "When nothing would be left, if events came and failed as lately. What leaves the window meanwhile isn't counted."
+    : "When nothing would be left, if events came and failed as lately, should the window last so long.";
+  return table({ caption, classes: "plain", headers, rows });
+}
+
+/** @param {Place} place */
+function objectiveLinks({ office, slo, objective }) {
+  if (slo.objectives.length < 2) return null;
+  const links = slo.objectives.map((each) =>
+    element(
+      "a",
+      {
+        href: sloPlace(office.name, slo.name, each.number),
+        "aria-current": each.number === objective.number ? "page" : null,
+      },
+      `${each.display} (${each.target})`,
+    ),
+  );
+  return element("nav", { class: "objectives", "aria-label": "Objectives" }, ...links);
+}
+
+/**
+ * The numbers that the charts draw.
+ * @param {Told} told
+ * @param {string} target
+ * @param {Zone} zone
+ */
+function numbersTable(told, target, zone) {
+  const headers = ["From", "Good", "Total", "Burn", "Budget left at its end"];
+  const rows = told.steps.map(({ from, to, sum }) => {
+    const burn = sum && burnOf(sum, target);
+    const remaining = readFraction(told.remaining.get(to) ?? null);
+    return row(headers, [
+      zone.full(from),
+      sum ? sum.num.toLocaleString("en") : "not asked",
+      sum ? sum.den.toLocaleString("en") : "not asked",
+      burn ? exactNumber(burnText(burn), `burn: ${spell(burn)}`) : "none",
+      remaining ? exactNumber(percent(remaining), `budget left: ${spell(remaining)}`) : "none",
+    ]);
+  });
+  return details("The charts' numbers", table({ caption: "Numbers of each step", classes: "plain", headers, rows }));
+}
+
+/**
+ * @param {Told} told
+ * @param {Zone} zone
+ */
+function alertsTable(told, zone) {
+  const headers = ["From", "To", "Policy", "Lasted"];
+  const rows = told.alerts
+    .flatMap(({ policy, intervals }) => intervals.map(([from, to]) => ({ policy, from, to })))
+    .sort((a, b) => b.from - a.from)
+    .map(({ policy, from, to }) => {
+      const end = to >= told.to ? "now" : zone.full(to);
+      return row(headers, [zone.full(from), end, policy, spanText(to - from)]);
+    });
+  if (!rows.length) return element("p", {}, "No alert was active in this window.");
+  return table({ caption: "When alerts were active", classes: "plain", headers, rows });
+}
+
+/**
+ * @param {Told} told
+ * @param {Zone} zone
+ */
+function exclusionsList(told, zone) {
+  if (told.exclusions === null) return null;
+  if (!told.exclusions.length) return element("p", {}, "Nothing is excluded in this window.");
+  return element(
+    "ul",
+    {},
+    ...told.exclusions.map(({ id, from, to }) =>
+      element("li", {}, `${id}: ${zone.full(from)} to ${zone.full(to)}, shaded in the charts`),
+    ),
+  );
+}
+
+/**
+ * What can't be asked of this office, in words.
+ * @param {Told} told
+ * @param {Office} office
+ * @param {boolean} isRolling
+ */
+function leftOut(told, office, isRolling) {
+  const missing = [];
+  if (told.exclusions === null) missing.push("Exclusions count in all numbers, but this version of the office doesn't list them: none is shaded.");
+  if (!office.hasStatus && !isRolling) missing.push("Windows that are over aren't shown: this version of the office doesn't tell them.");
+  if (told.steps.some(({ sum }) => sum === null)) missing.push("Where nothing is drawn, the office's history hasn't begun or nothing was counted.");
+  return missing.length ? element("ul", { class: "left-out" }, ...missing.map((text) => element("li", {}, text))) : null;
+}
+
+/**
+ * The windows that are over, where the office tells them.
+ * @param {Office} office
+ * @param {Place} place
+ * @param {Zone} zone
+ */
+async function closedWindows(office, { slo, objective, office: entry }, zone) {
+  const origin = slo.window.rolling ? null : await office.origin();
+  if (origin === null || entry.at === null) return null;
+  const windows = await office.windows(slo.name, Math.max(origin, entry.at - YEAR), entry.at);
+  if (!windows) return null;
+  const headers = ["Window", "Good", "Total", "Budget left"];
+  const rows = windows.reverse().map(({ from, budgets }) => {
+    const { num, den, remaining } = budgets[objective.number];
+    const left = readFraction(remaining);
+    const shown = left ? exactNumber(percent(left), `budget left: ${remaining}`) : "none";
+    return row(headers, [zone.full(from), num.toLocaleString("en"), den.toLocaleString("en"), shown]);
+  });
+  return section("Windows", table({ caption: "By their begin, the present one first", classes: "plain", headers, rows }));
+}
+
+/**
+ * The texts of the objects, as the office writes them.
+ * @param {Office} office
+ * @param {SloEntry} slo
+ * @param {ObjectiveEntry} objective
+ */
+async function objectTexts(office, slo, objective) {
+  const builtIn = ["workbook-page", "workbook-ticket"];
+  const own = objective.alerts.map((alert) => alert.policy).filter((name) => !builtIn.includes(name));
+  const wanted = [["SLO", slo.name], ["SLI", slo.indicator], ["Service", slo.service], ...own.map((name) => ["AlertPolicy", name])];
+  const texts = await Promise.all(wanted.map(([kind, name]) => office.objectText(kind, name)));
+  return section(
+    "Objects",
+    ...wanted.map(([kind, name], index) => details(`${kind} ${name}`, element("pre", { tabindex: 0 }, texts[index]))),
+  );
+}
+
+/**
+ * @param {Place} place
+ * @param {AbortSignal} signal
+ * @param {(parts: HTMLElement[]) => void} put shows the view as far as it is there
+ */
+export async function sloView(place, signal, put) {
+  const { office: entry, slo, objective } = place;
+  const zone = zoneOf(slo.window.zone);
+  const office = new Office(entry.path, entry.usage !== null, signal);
+  const progress = element("p", { class: "progress" });
+  const head = [
+    element("h1", { tabindex: -1 }, slo.display),
+    slo.description ? element("p", {}, slo.description) : null,
+    objectiveLinks(place),
+    element("p", { class: "zone" }, `Times are in ${zone.label}. `, element("a", { href: monthPlace(entry.name, slo.name, objective.number) }, "A calendar month, for printing")),
+    facts(place, zone),
+    section("Burn", burnsTable(place)),
+  ].filter((each) => each !== null);
+  put([...head, progress]);
+  if (entry.at === null || objective.from === null) {
+    say("The office has no numbers for this SLO", "bad");
+    return;
+  }
+  say(`Loading ${slo.display} …`, "busy");
+  const library = chartLibrary();
+  const told = await askSeries(office, slo, objective, entry.at, (done, all) => {
+    progress.textContent = `${done} of ${all} answers`;
+  });
+  const texts = await objectTexts(office, slo, objective);
+  const windows = await closedWindows(office, place, zone);
+  await library;
+  const figures = panels(told);
+  put(
+    [
+      ...head,
+      section("Over its window", ...figures.map(({ figure }) => figure), numbersTable(told, objective.target, zone)),
+      section("Alerts", alertsTable(told, zone)),
+      section("Exclusions", exclusionsList(told, zone), leftOut(told, office, slo.window.rolling)),
+      windows,
+      texts,
+    ].filter((each) => each !== null),
+  );
+  await drawPanels(figures, told, objective.target, zone);
+  say(`${slo.display}, as of ${zone.full(entry.at)}`);
+}
