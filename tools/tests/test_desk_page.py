@@ -16,7 +16,8 @@ from desk_support import TOOLS, TOP, free_port, installed, program
 PAGE = TOP / "docs" / "desk.md"
 EXAMPLES = TOP / "examples" / "desk"
 INSTALLED = "/usr/share/doc/slo-office-tools/examples/desk"
-PORTS = ("8080", "9093", "9464")
+PORTS = ("8080", "8081", "9093", "9464")
+PAGE_INSTALLED = "/usr/share/slo-office-tools/page"
 MARK = "\001"
 
 
@@ -28,15 +29,18 @@ def commands() -> list[str]:
 class Page(unittest.TestCase):
     def setUp(self) -> None:
         self.folder = Path(self.enterContext(tempfile.TemporaryDirectory(prefix="slo-tools-")))
+        # Where root runs the test nginx reads as another user.
+        self.folder.chmod(0o755)
 
     def test_the_page_is_what_happens(self) -> None:
-        manager, _ = installed("prometheus-alertmanager"), installed("curl")
+        servers = [installed(name) for name in ("prometheus-alertmanager", "nginx", "curl")]
         told = commands()
         self.assertTrue(told[0].startswith("sudo apt install ./slo-office_*.deb"))
         place = self.folder / "bin"
         place.mkdir()
         (place / "slo_office").symlink_to(program())
-        (place / "prometheus-alertmanager").symlink_to(manager)
+        for server in servers:
+            (place / Path(server).name).symlink_to(server)
         for tool in (TOOLS / "bin").iterdir():
             (place / tool.name).symlink_to(tool)
         examples = self.folder / "examples"
@@ -48,7 +52,8 @@ class Page(unittest.TestCase):
         ports = {port: str(free_port()) for port in PORTS}
         text = "\n".join(f"{line}\nprintf '{MARK}'" for line in told)
         text = text.replace(INSTALLED, str(examples / "desk"))
-        files = [examples / "desk" / "notify.toml"]
+        files = [examples / "desk" / name for name in ("notify.toml", "nginx.conf")]
+        files[1].write_text(files[1].read_text().replace(PAGE_INSTALLED, str(TOOLS / "page")))
         for port, own in ports.items():
             text = text.replace(port, own)
             for file in files:
@@ -98,7 +103,12 @@ class Page(unittest.TestCase):
         self.assertTrue(of("slo-gate --remaining").endswith("release\nstatus 0\n"))
         self.assertTrue(of("mkdir page").endswith("status 0\n"))
         self.assertTrue(of("slo-notify --once", 0).endswith("status 0\n"))
-        self.assertEqual(of("curl -s http").count("shop-answers, Good answers: workbook-"), 2)
+        alerts = of("curl -s http://127.0.0.1:9093")
+        self.assertEqual(alerts.count("shop-answers, Good answers: workbook-"), 2)
+        self.assertIn("<title>", of("curl -s http://127.0.0.1:8081/page/ "))
+        told = of("curl -s http://127.0.0.1:8081/page/overview.json")
+        self.assertIn('"name":"shop-answers"', told)
+        self.assertIn('"remaining":"1/1"', of("curl -s http://127.0.0.1:8081/office/budgets"))
         self.assertTrue(of("slo-gate shop").endswith("hold\nstatus 1\n"))
         self.assertTrue(of("slo-notify --once", 1).endswith("[]\n\n"))
         self.assertEqual(of("grep -o"), '"remaining":"1/1"\n' * 2)
