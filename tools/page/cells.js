@@ -5,7 +5,7 @@
 
 import { element } from "./dom.js";
 import { exactNumber } from "./exact.js";
-import { ZERO, burnText, compare, percent, readFraction, toNumber } from "./fractions.js";
+import { burnText, percent, readFraction, toNumber } from "./fractions.js";
 
 // The Workbook's windows, as slo-notify names them.
 export const LOOKBACKS = ["5m", "30m", "1h", "6h", "3d"];
@@ -15,7 +15,7 @@ export function remainingCell(text) {
   const value = readFraction(text);
   if (!value) return element("span", { class: "none" }, "none");
   const width = Math.min(100, Math.max(0, toNumber(value) * 100));
-  const fill = element("span", { class: compare(value, ZERO) > 0 ? "fill" : "fill spent" });
+  const fill = element("span", { class: "fill" });
   fill.style.width = `${width}%`;
   const bar = element("span", { class: "bar", "aria-hidden": "true" }, fill);
   return element("span", { class: "remaining" }, exactNumber(percent(value), `budget left: ${text}`), bar);
@@ -32,7 +32,7 @@ export function burnCell(lookback, text) {
 }
 
 /**
- * Good and total, with the part that failed as the exact value.
+ * Good of total.
  * @param {import("./office.js").Sum} sum
  */
 export function countsText({ num, den }) {

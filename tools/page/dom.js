@@ -18,8 +18,18 @@ export function element(name, attributes = {}, ...children) {
   for (const [key, value] of Object.entries(attributes)) {
     if (value !== null && value !== false) made.setAttribute(key, value === true ? "" : `${value}`);
   }
-  made.append(...children.filter((child) => child !== null).map((child) => (typeof child === "number" ? `${child}` : child)));
+  made.append(...present(children).map((child) => (typeof child === "number" ? `${child}` : child)));
   return made;
+}
+
+/**
+ * The list without what isn't there.
+ * @template T
+ * @param {(T | null)[]} list
+ * @returns {T[]}
+ */
+export function present(list) {
+  return /** @type {T[]} */ (list.filter((each) => each !== null));
 }
 
 /**

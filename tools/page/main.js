@@ -55,7 +55,9 @@ function placeOf(file, names) {
   const office = file.offices.find((each) => each.name === names.office);
   const slo = office?.slos.find((each) => each.name === names.slo);
   const objective = slo?.objectives.find((each) => each.number === names.objective);
-  if (!office || !slo || !objective) throw new Error(`the overview has no ${names.office}/${names.slo}/${names.objective}`);
+  if (!office || !slo || !objective) {
+    throw new Error(`the overview has no ${names.office}/${names.slo}/${names.objective}`);
+  }
   return { office, slo, objective };
 }
 
@@ -89,7 +91,8 @@ function focusedLink() {
 /** @param {string} mark an address or an id */
 function focusAgain(mark) {
   if (!mark) return;
-  const found = [...main.querySelectorAll("a, input")].find((each) => each.getAttribute("href") === mark || each.id === mark);
+  const isMarked = (/** @type {Element} */ each) => each.getAttribute("href") === mark || each.id === mark;
+  const found = [...main.querySelectorAll("a, input")].find(isMarked);
   if (found instanceof HTMLElement) found.focus({ preventScroll: true });
 }
 
@@ -114,7 +117,10 @@ async function refresh(isAsked = false) {
   } catch (fault) {
     const text = `The overview can't be read: ${fault instanceof Error ? fault.message : fault}`;
     say(text, "bad");
-    if (!overview) put([element("h1", { tabindex: -1 }, "Error budgets"), element("p", { class: "trouble" }, `${text}. `, againButton())]);
+    if (!overview) {
+      const trouble = element("p", { class: "trouble" }, `${text}. `, againButton());
+      put([element("h1", { tabindex: -1 }, "Error budgets"), trouble]);
+    }
   }
   clearTimeout(timer);
   timer = setTimeout(refresh, next * 1000);

@@ -5,7 +5,7 @@
 
 import { burnOf } from "./budget.js";
 import { countsText } from "./cells.js";
-import { element, row, say, section, table } from "./dom.js";
+import { element, present, row, say, section, table } from "./dom.js";
 import { exactNumber } from "./exact.js";
 import { ONE, burnText, compare, fraction, percent, spell, subtract } from "./fractions.js";
 import { spanText, zoneOf } from "./minutes.js";
@@ -26,9 +26,10 @@ import { monthPlace, sloPlace } from "./routes.js";
 const GOOD_DIGITS = 3;
 const WEEKDAYS = ["Monday", "Tuesday", "Wednesday", "Thursday", "Friday", "Saturday", "Sunday"];
 
+const monthFormat = new Intl.DateTimeFormat("en-GB", { month: "long", year: "numeric", timeZone: "UTC" });
+
 /** @param {Month} month */
-const nameOf = ({ year, month }) =>
-  new Intl.DateTimeFormat("en-GB", { month: "long", year: "numeric", timeZone: "UTC" }).format(Date.UTC(year, month - 1));
+const nameOf = ({ year, month }) => monthFormat.format(Date.UTC(year, month - 1));
 
 /**
  * @param {Month} month
@@ -64,7 +65,8 @@ export function daysOf({ year, month }, zone, now) {
  */
 async function askMonth(office, { slo, objective }, days) {
   const ends = new Map(days.map(({ from, to }) => [to, from]));
-  const sums = await askDownward([...ends.keys()], (to) => office.sum(slo.name, objective.number, ends.get(to) ?? to, to));
+  const sumTo = (/** @type {number} */ to) => office.sum(slo.name, objective.number, ends.get(to) ?? to, to);
+  const sums = await askDownward([...ends.keys()], sumTo);
   const known = days.filter(({ to }) => sums.has(to));
   const byDay = new Map(known.map(({ day, to }) => [day, /** @type {Sum} */ (sums.get(to))]));
   if (!known.length) return { days: byDay, whole: { num: 0, den: 0 }, alerts: [], exclusions: null, begun: false };
@@ -73,9 +75,10 @@ async function askMonth(office, { slo, objective }, days) {
   // The history may have begun within the first day.
   const since = known.length < days.length ? known[0].to : from;
   const alerts = await Promise.all(
-    objective.alerts.map(async ({ policy }) =>
-      (await office.alerts(slo.name, objective.number, policy, since, to)).map(([first, after]) => ({ policy, from: first, to: after })),
-    ),
+    objective.alerts.map(async ({ policy }) => {
+      const intervals = await office.alerts(slo.name, objective.number, policy, since, to);
+      return intervals.map(([first, after]) => ({ policy, from: first, to: after }));
+    }),
   );
   const exclusions = await office.exclusions(slo.name);
   return {
@@ -169,32 +172,32 @@ function happenings(told, zone) {
   const rows = [...alerts, ...exclusions]
     .sort((a, b) => a.from - b.from)
     .map(({ from, to, what }) => row(headers, [zone.full(from), zone.full(to), what, spanText(to - from)]));
-  const parts = [
+  const leftOut = "Exclusions count in all numbers, but this version of the office doesn't list them.";
+  return section(
+    "Alerts and exclusions",
     rows.length
       ? table({ caption: "By their begin", classes: "plain", headers, rows })
       : element("p", {}, "No alert was active in this month."),
-    told.exclusions === null
-      ? element("p", { class: "left-out" }, "Exclusions count in all numbers, but this version of the office doesn't list them.")
-      : null,
-  ];
-  return section("Alerts and exclusions", ...parts);
+    told.exclusions ? null : element("p", { class: "left-out" }, leftOut),
+  );
 }
 
 /**
  * @param {Place} place
  * @param {Month} month
- * @param {Month} present
+ * @param {Month} current
  */
-function turning({ office, slo, objective }, month, present) {
+function turning({ office, slo, objective }, month, current) {
   const link = (/** @type {number} */ by) => {
     const other = moved(month, by);
     return element("a", { href: monthPlace(office.name, slo.name, objective.number, other) }, nameOf(other));
   };
   const print = element("button", { type: "button" }, "Print");
   print.addEventListener("click", () => window.print());
-  const isPresent = month.year === present.year && month.month === present.month;
+  const isCurrent = month.year === current.year && month.month === current.month;
   const back = element("a", { href: sloPlace(office.name, slo.name, objective.number) }, "The SLO");
-  return element("nav", { class: "turning", "aria-label": "Months" }, back, link(-1), isPresent ? null : link(1), print);
+  const next = isCurrent ? null : link(1);
+  return element("nav", { class: "turning", "aria-label": "Months" }, back, link(-1), next, print);
 }
 
 /**
@@ -207,12 +210,13 @@ export async function monthView(place, wanted, signal, put) {
   const { office: entry, slo, objective } = place;
   const zone = zoneOf(slo.window.zone);
   if (entry.at === null) throw new Error("the office's moment isn't known");
-  const present = zone.dateOf(entry.at);
-  const month = wanted ?? present;
+  const current = zone.dateOf(entry.at);
+  const month = wanted ?? current;
+  const what = `${objective.display}, target ${objective.target}, ${slo.service_display}.`;
   const head = [
     element("h1", { tabindex: -1 }, `${slo.display}, ${nameOf(month)}`),
-    turning(place, month, present),
-    element("p", {}, `${objective.display}, target ${objective.target}, ${slo.service_display}. Days begin at midnight in ${zone.label}.`),
+    turning(place, month, current),
+    element("p", {}, `${what} Days begin at midnight in ${zone.label}.`),
   ];
   put(head);
   say(`Loading ${nameOf(month)} …`, "busy");
@@ -221,15 +225,16 @@ export async function monthView(place, wanted, signal, put) {
   const told = await askMonth(office, place, days);
   const end = days.at(-1)?.to ?? entry.at;
   const note = told.begun ? null : element("p", { class: "trouble" }, "The office's history hasn't this month.");
-  const midnights = element("p", { class: "left-out" }, "A slice over midnight counts in the month, and in neither day.");
+  const overMidnight = "A slice over midnight counts in the month, and in neither day.";
+  const midnights = slo.method === "Occurrences" ? null : element("p", { class: "left-out" }, overMidnight);
   put(
-    [
+    present([
       ...head,
       note,
       section("The month", wholeFacts(told.whole, objective.target)),
-      section("Day by day", calendar(month, told, objective.target), slo.method === "Occurrences" ? null : midnights),
+      section("Day by day", calendar(month, told, objective.target), midnights),
       happenings(told, zone),
-    ].filter((each) => each !== null),
+    ]),
   );
   say(`${nameOf(month)}, counted up to ${zone.full(end)}`);
 }

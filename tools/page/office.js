@@ -75,7 +75,7 @@ export class Office {
   async answer(parts, keys = {}) {
     const query = new URLSearchParams(Object.entries(keys).map(([key, value]) => [key, `${value}`]));
     const route = parts.map((part) => encodeURIComponent(part)).join("/");
-    const address = `${this.path}${route}${query.size ? `?${query}` : ""}`;
+    const address = `${this.path}${route}${Object.keys(keys).length ? `?${query}` : ""}`;
     await turnstile.enter();
     const ends = new AbortController();
     const end = () => ends.abort();

@@ -4,7 +4,7 @@
  */
 
 import { LOOKBACKS, burnCell, remainingCell } from "./cells.js";
-import { element, row, say, section, table } from "./dom.js";
+import { element, present, row, say, section, table } from "./dom.js";
 import { ageOf, isOld } from "./file.js";
 import { compare, readFraction } from "./fractions.js";
 import { spanText, zoneOf } from "./minutes.js";
@@ -15,7 +15,8 @@ import { STATES, badge, breachingPolicies, stateOf } from "./states.js";
 /** @typedef {import("./file.js").OfficeEntry} OfficeEntry */
 /** @typedef {import("./file.js").SloEntry} SloEntry */
 /** @typedef {import("./file.js").ObjectiveEntry} ObjectiveEntry */
-/** @typedef {{office: OfficeEntry, slo: SloEntry, objective: ObjectiveEntry, state: import("./states.js").State}} Line */
+/** @typedef {import("./states.js").State} State */
+/** @typedef {{office: OfficeEntry, slo: SloEntry, objective: ObjectiveEntry, state: State}} Line */
 
 const HEADERS = ["SLO", "State", "Budget left", ...LOOKBACKS.map((name) => `Burn ${name}`), "Newest data"];
 
@@ -164,7 +165,7 @@ export function overviewView(overview) {
   const rows = lines.map((line) => lineRow(line, overview.offices.length > 1));
   sayAge(overview);
   const caption = "All objectives, worst first. Arrow keys move to the numbers, which show their exact fraction.";
-  return [
+  return present([
     element("h1", { tabindex: -1 }, "Error budgets"),
     ...troubles(overview).map((text) => element("p", { class: "trouble", role: "alert" }, text)),
     summaryOf(lines),
@@ -173,5 +174,5 @@ export function overviewView(overview) {
       ? table({ caption, classes: "overview", headers: HEADERS, rows })
       : element("p", {}, "No office has an SLO."),
     usageSection(overview),
-  ].filter((each) => each !== null);
+  ]);
 }

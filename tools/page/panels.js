@@ -33,9 +33,11 @@ let drawn = [];
  * @returns {Panel[]}
  */
 export function panels(told) {
-  const subjects = /** @type {Subject[]} */ (["remaining", "burn", "events", ...(told.alerts.length ? ["alerts"] : [])]);
+  /** @type {Subject[]} */
+  const subjects = told.alerts.length ? ["remaining", "burn", "events", "alerts"] : ["remaining", "burn", "events"];
   return subjects.map((subject) => {
-    const canvas = /** @type {HTMLCanvasElement} */ (element("canvas", { role: "img", "aria-label": `${CAPTIONS[subject]}; its numbers stand in the tables below` }));
+    const label = `${CAPTIONS[subject]}; its numbers stand in the tables below`;
+    const canvas = /** @type {HTMLCanvasElement} */ (element("canvas", { role: "img", "aria-label": label }));
     const place = element("div", { class: `canvas ${subject}` }, canvas);
     if (subject === "alerts") place.style.height = `${told.alerts.length * LANE_HEIGHT + 48}px`;
     return { subject, canvas, figure: element("figure", {}, element("figcaption", {}, CAPTIONS[subject]), place) };
@@ -52,11 +54,15 @@ export function panels(told) {
 export async function drawPanels(figures, told, target, zone) {
   clearPanels();
   const shades = (told.exclusions ?? []).map(({ from, to, id }) => ({ from, to, label: id }));
+  const least = (told.to - told.from) / MOST_BARS;
   const parts = {
     remaining: { series: [remainingSeries(told)], least: 0, most: 1, unit: percentTick },
     burn: { series: burnSeries(told, target), least: 0, most: 1, unit: tick },
     events: { series: eventSeries(told), least: 0, unit: tick },
-    alerts: { series: told.alerts.map((alert, lane) => alertSeries(alert, lane, (told.to - told.from) / MOST_BARS)), lanes: told.alerts.map(({ policy, severity }) => (severity ? `${policy} (${severity})` : policy)) },
+    alerts: {
+      series: told.alerts.map((alert, lane) => alertSeries(alert, lane, least)),
+      lanes: told.alerts.map(({ policy, severity }) => (severity ? `${policy} (${severity})` : policy)),
+    },
   };
   const range = { from: told.from, to: told.to, zone, shades };
   drawn = await Promise.all(figures.map(({ subject, canvas }) => draw({ canvas, ...range, ...parts[subject] })));

@@ -3,6 +3,7 @@
  * @module
  */
 
+import { present } from "./dom.js";
 import { OfficeFault, askDownward } from "./office.js";
 
 /** @typedef {import("./office.js").Office} Office */
@@ -56,14 +57,16 @@ export async function askSeries(office, slo, objective, to, told) {
   const steps = await askSteps(office, slo.name, objective.number, edges, step, first, (done) =>
     told(edges.length + done, all),
   );
-  const alerts = await Promise.all(objective.alerts.map((alert) => askAlert(office, slo.name, objective.number, alert, first, to)));
+  const alerts = await Promise.all(
+    objective.alerts.map((alert) => askAlert(office, slo.name, objective.number, alert, first, to)),
+  );
   const exclusions = await office.exclusions(slo.name);
   return {
     from,
     to,
     steps,
     remaining,
-    alerts: alerts.filter((alert) => alert !== null),
+    alerts: present(alerts),
     exclusions: exclusions && exclusions.filter((each) => each.from < to && each.to > from),
   };
 }

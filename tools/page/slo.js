@@ -6,7 +6,7 @@
 import { burnOf, daysText, minutesLeft } from "./budget.js";
 import { LOOKBACKS, burnCell, countsText } from "./cells.js";
 import { chartLibrary } from "./chart.js";
-import { details, element, row, say, section, table } from "./dom.js";
+import { details, element, present, row, say, section, table } from "./dom.js";
 import { exactNumber } from "./exact.js";
 import { burnText, percent, readFraction, spell } from "./fractions.js";
 import { spanText, zoneOf } from "./minutes.js";
@@ -45,13 +45,14 @@ function facts({ office, slo, objective }, zone) {
   const remaining = readFraction(objective.remaining);
   const state = stateOf(slo, objective);
   const policies = breachingPolicies(objective).join(", ");
+  const left = remaining ? exactNumber(percent(remaining), `budget left: ${objective.remaining}`, true) : "none";
   const { num, den } = objective;
   const counted = num === null || den === null ? "none" : countsText({ num, den });
   return element(
     "dl",
     { class: "facts" },
     fact("State", element("span", {}, badge(state), policies ? ` ${policies}` : null)),
-    fact("Budget left", remaining ? exactNumber(percent(remaining), `budget left: ${objective.remaining}`, true) : "none"),
+    fact("Budget left", left),
     fact("Good of total", objective.error ? exactNumber(counted, `error: ${objective.error}`, true) : counted),
     fact("Target", objective.target),
     fact("Window", windowText(slo)),
@@ -69,17 +70,18 @@ function facts({ office, slo, objective }, zone) {
  */
 function burnsTable({ office, slo, objective }) {
   const headers = ["Over the last", "Burn", "Budget ends in"];
+  const isRolling = slo.window.rolling;
   const remaining = readFraction(objective.remaining);
   const rows = LOOKBACKS.map((lookback) => {
     const text = objective.burns[lookback] ?? null;
     const burn = readFraction(text);
     const lasts =
       remaining && burn && office.at !== null && objective.from !== null
-        ? daysText(minutesLeft({ remaining, burn, isRolling: slo.window.rolling, elapsed: office.at - objective.from }))
+        ? daysText(minutesLeft({ remaining, burn, isRolling, elapsed: office.at - objective.from }))
         : "can't be said";
     return row(headers, [lookback, burnCell(lookback, text), lasts]);
   });
-  const caption = slo.window.rolling
+  const caption = isRolling
     ? "When nothing would be left, if events came and failed as lately. What leaves the window meanwhile isn't counted."
     : "When nothing would be left, if events came and failed as lately, should the window last so long.";
   return table({ caption, classes: "plain", headers, rows });
@@ -163,11 +165,14 @@ function exclusionsList(told, zone) {
  * @param {boolean} isRolling
  */
 function leftOut(told, office, isRolling) {
-  const missing = [];
-  if (told.exclusions === null) missing.push("Exclusions count in all numbers, but this version of the office doesn't list them: none is shaded.");
-  if (!office.hasStatus && !isRolling) missing.push("Windows that are over aren't shown: this version of the office doesn't tell them.");
-  if (told.steps.some(({ sum }) => sum === null)) missing.push("Where nothing is drawn, the office's history hasn't begun or nothing was counted.");
-  return missing.length ? element("ul", { class: "left-out" }, ...missing.map((text) => element("li", {}, text))) : null;
+  const version = "this version of the office doesn't";
+  const missing = present([
+    told.exclusions ? null : `Exclusions count in all numbers, but ${version} list them: none is shaded.`,
+    office.hasStatus || isRolling ? null : `Windows that are over aren't shown: ${version} tell them.`,
+    told.steps.every(({ sum }) => sum) ? null : "Where nothing is drawn, the office's history hasn't begun.",
+  ]);
+  if (!missing.length) return null;
+  return element("ul", { class: "left-out" }, ...missing.map((text) => element("li", {}, text)));
 }
 
 /**
@@ -188,7 +193,8 @@ async function closedWindows(office, { slo, objective, office: entry }, zone) {
     const shown = left ? exactNumber(percent(left), `budget left: ${remaining}`) : "none";
     return row(headers, [zone.full(from), num.toLocaleString("en"), den.toLocaleString("en"), shown]);
   });
-  return section("Windows", table({ caption: "By their begin, the present one first", classes: "plain", headers, rows }));
+  const caption = "By their begin, the present one first";
+  return section("Windows", table({ caption, classes: "plain", headers, rows }));
 }
 
 /**
@@ -200,7 +206,12 @@ async function closedWindows(office, { slo, objective, office: entry }, zone) {
 async function objectTexts(office, slo, objective) {
   const builtIn = ["workbook-page", "workbook-ticket"];
   const own = objective.alerts.map((alert) => alert.policy).filter((name) => !builtIn.includes(name));
-  const wanted = [["SLO", slo.name], ["SLI", slo.indicator], ["Service", slo.service], ...own.map((name) => ["AlertPolicy", name])];
+  const wanted = [
+    ["SLO", slo.name],
+    ["SLI", slo.indicator],
+    ["Service", slo.service],
+    ...own.map((name) => ["AlertPolicy", name]),
+  ];
   const texts = await Promise.all(wanted.map(([kind, name]) => office.objectText(kind, name)));
   return section(
     "Objects",
@@ -218,14 +229,16 @@ export async function sloView(place, signal, put) {
   const zone = zoneOf(slo.window.zone);
   const office = new Office(entry.path, entry.usage !== null, signal);
   const progress = element("p", { class: "progress" });
-  const head = [
+  const month = monthPlace(entry.name, slo.name, objective.number);
+  const monthLink = element("a", { href: month }, "A calendar month, for printing");
+  const head = present([
     element("h1", { tabindex: -1 }, slo.display),
     slo.description ? element("p", {}, slo.description) : null,
     objectiveLinks(place),
-    element("p", { class: "zone" }, `Times are in ${zone.label}. `, element("a", { href: monthPlace(entry.name, slo.name, objective.number) }, "A calendar month, for printing")),
+    element("p", { class: "zone" }, `Times are in ${zone.label}. `, monthLink),
     facts(place, zone),
     section("Burn", burnsTable(place)),
-  ].filter((each) => each !== null);
+  ]);
   put([...head, progress]);
   if (entry.at === null || objective.from === null) {
     say("The office has no numbers for this SLO", "bad");
@@ -240,15 +253,16 @@ export async function sloView(place, signal, put) {
   const windows = await closedWindows(office, place, zone);
   await library;
   const figures = panels(told);
+  const numbers = numbersTable(told, objective.target, zone);
   put(
-    [
+    present([
       ...head,
-      section("Over its window", ...figures.map(({ figure }) => figure), numbersTable(told, objective.target, zone)),
+      section("Over its window", ...figures.map(({ figure }) => figure), numbers),
       section("Alerts", alertsTable(told, zone)),
       section("Exclusions", exclusionsList(told, zone), leftOut(told, office, slo.window.rolling)),
       windows,
       texts,
-    ].filter((each) => each !== null),
+    ]),
   );
   await drawPanels(figures, told, objective.target, zone);
   say(`${slo.display}, as of ${zone.full(entry.at)}`);

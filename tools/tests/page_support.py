@@ -1,4 +1,4 @@
-"""What the test of the page stands on: an office with 200 SLOs, nginx by the shipped text, Chromium."""
+"""What the test of the page stands on: an office with 200 SLOs, the shipped nginx, Chromium."""
 
 from __future__ import annotations
 
@@ -47,7 +47,8 @@ def documents() -> str:
     parts += [_indicator(_sli(number)) for number in range(SLOS - 1)]
     shop = _slo("checkout", "Checkout answers", "shop", _sli(0), "0.999", ROLLING)
     shop += "  alertPolicies:\n  - workbook-page\n  - workbook-ticket\n"
-    parts += [shop, _slo("checkout-month", "Checkout, by the month", "shop", _sli(0), "0.995", MONTH)]
+    month = _slo("checkout-month", "Checkout, by the month", "shop", _sli(0), "0.995", MONTH)
+    parts += [shop, month]
     for number in range(2, SLOS):
         name = f"search-{number:03}"
         text = _slo(name, f"Search part {number}", "search", _sli(number - 1), "0.99", ROLLING)
@@ -129,7 +130,7 @@ def write_overview(folder: Path, port: int) -> Path:
         f'state = "{folder}/state.json"\noverview = "{overview}"\nclock = "trusted"\n'
         f'[[office]]\nname = "shop"\naddress = "http://127.0.0.1:{port}"\npath = "/office/"\n'
     )
-    words = ["/usr/bin/python3", TOOLS / "bin" / "slo-notify", "--once", config]
+    words = ["/usr/bin/python3", str(TOOLS / "bin" / "slo-notify"), "--once", str(config)]
     run = subprocess.run(words, capture_output=True, text=True, check=False, timeout=600)
     assert run.returncode == 0, run.stderr
     return overview
@@ -236,8 +237,9 @@ class Front:
         return f"https://{HOST}:{self.port}"
 
     def _make_secrets(self) -> None:
-        words = ["req", "-x509", "-newkey", "rsa:2048", "-nodes", "-days", "2", "-subj", f"/CN={HOST}"]
-        files = ["-keyout", self.folder / "office.key", "-out", self.folder / "office.crt"]
+        words = ["req", "-x509", "-newkey", "rsa:2048", "-nodes", "-days", "2"]
+        words += ["-subj", f"/CN={HOST}"]
+        files = ["-keyout", f"{self.folder}/office.key", "-out", f"{self.folder}/office.crt"]
         subprocess.run(["openssl", *words, *files], check=True, capture_output=True)
         made = subprocess.run(
             ["openssl", "passwd", "-apr1", "secret"], check=True, capture_output=True, text=True
@@ -290,7 +292,7 @@ class Browser:
         from selenium import webdriver
         from selenium.webdriver.chrome.service import Service
 
-        options = webdriver.ChromeOptions()
+        options: Any = webdriver.ChromeOptions()
         options.binary_location = installed("chromium")
         for word in (
             "--headless=new",
@@ -305,7 +307,7 @@ class Browser:
         options.set_capability("acceptInsecureCerts", True)
         options.set_capability("goog:loggingPrefs", {"browser": "ALL", "performance": "ALL"})
         service = Service(executable_path=installed("chromedriver"))
-        self.driver = webdriver.Chrome(service=service, options=options)
+        self.driver: Any = webdriver.Chrome(service=service, options=options)
         self.driver.set_page_load_timeout(60)
         self.driver.set_script_timeout(30)
         self.cdp("Page.addScriptToEvaluateOnNewDocument", source=WATCH % SLOS)
@@ -387,11 +389,12 @@ class Browser:
     def keep(self, path: Path, whole: bool = True) -> None:
         """Keeps a picture of the page, or of what its window shows."""
         time.sleep(0.3)
-        told = self.cdp("Page.captureScreenshot", format="png", captureBeyondViewport=whole)
+        values: dict[str, Any] = {"format": "png"}
         if whole:
             size = self.cdp("Page.getLayoutMetrics")["cssContentSize"]
-            clip = {"x": 0, "y": 0, "width": size["width"], "height": min(size["height"], 6000), "scale": 1}
-            told = self.cdp("Page.captureScreenshot", format="png", captureBeyondViewport=True, clip=clip)
+            values["captureBeyondViewport"] = True
+            values["clip"] = {**size, "scale": 1}
+        told = self.cdp("Page.captureScreenshot", **values)
         path.write_bytes(base64.b64decode(told["data"]))
 
     def key(self, name: str, **more: Any) -> None:

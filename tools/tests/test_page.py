@@ -35,12 +35,19 @@ REACHABLE = """
 return [...document.querySelectorAll('a[href], button, input, summary, [tabindex="0"]')]
   .filter(e => e.checkVisibility()).map((e, i) => { e.dataset.place = i; return `${i}`; });
 """
+FROM_THE_TOP = """
+document.body.tabIndex = -1;
+document.body.focus();
+document.body.removeAttribute('tabindex');
+"""
+EXACT = "const e = document.getElementById('exact'); return e.hidden ? '' : e.textContent"
 ACTIVE = "return document.activeElement.dataset.place"
 
 # Texts that lie over another or leave their box: leaves of the page, by their rectangles.
 LAID_OUT = """
 const leaves = [...document.querySelectorAll('body *')].filter(e =>
-  e.checkVisibility() && !e.closest('#exact, .skip, thead, canvas, .bar') && e.getClientRects().length &&
+  e.checkVisibility() && !e.closest('#exact, .skip, thead, canvas, .bar') &&
+  e.getClientRects().length &&
   [...e.childNodes].some(n => n.nodeType === 3 && n.data.trim()));
 const boxes = leaves.map(e => {
   const range = document.createRange();
@@ -51,11 +58,14 @@ const found = [];
 const width = document.documentElement.clientWidth;
 if (document.documentElement.scrollWidth > width) found.push('the page is wider than its window');
 boxes.forEach(({e, r}, i) => {
-  if (e.tagName !== 'PRE' && r.some(b => b.right > width + 1 || b.left < -1)) found.push(`cut: ${e.textContent}`);
+  if (e.tagName !== 'PRE' && r.some(b => b.right > width + 1 || b.left < -1)) {
+    found.push(`cut: ${e.textContent}`);
+  }
   for (const other of boxes.slice(i + 1, i + 40)) {
     if (e.contains(other.e) || other.e.contains(e)) continue;
     const over = r.some(a => other.r.some(b =>
-      a.left < b.right - 2 && b.left < a.right - 2 && a.top < b.bottom - 3 && b.top < a.bottom - 3));
+      a.left < b.right - 2 && b.left < a.right - 2 &&
+      a.top < b.bottom - 3 && b.top < a.bottom - 3));
     if (over) found.push(`over one another: ${e.textContent} | ${other.e.textContent}`);
   }
 });
@@ -130,9 +140,12 @@ class Page(unittest.TestCase):
     """Cases that look at the page; what they share is made once."""
 
     folder: Path
+    now: int
     office: RunningOffice
+    overview: str
     front: Front
     browser: Browser
+    pictures: Path
 
     @classmethod
     def setUpClass(cls) -> None:
@@ -179,10 +192,11 @@ class Page(unittest.TestCase):
     def later_front(self) -> Iterator[Front]:
         """nginx in front of an office that answers also for status, sums, windows, exclusions."""
         begin, end = (self.now - each for each in EXCLUSION)
-        exclusion = {"from": begin, "id": "data-centre-move", "live": True, "slo": "checkout", "to": end}
+        exclusion = {"from": begin, "id": "data-centre-move", "live": True, "to": end}
+        exclusion["slo"] = "checkout"
         later = LaterOffice(self.office, self.now - 70 * DAY, exclusion)
         folder = self.folder / "later"
-        told = {**json.loads(self.overview), "second": int(time.time())}
+        told: dict[str, Any] = {**json.loads(self.overview), "second": int(time.time())}
         told["offices"][0]["usage"] = {"cells": [9000, 2000000]}
         (folder / "overview.json").write_text(json.dumps(told))
         front = Front(folder, later.port)
@@ -201,7 +215,8 @@ class Page(unittest.TestCase):
             wall, thread = self.browser.drawing()
             walls.append(wall)
             threads.append(thread)
-        told = f"{SLOS} SLOs: drawn {min(walls):.2f} s after the first byte, {min(threads):.2f} s of it work"
+        told = f"{SLOS} SLOs drawn {min(walls):.2f} s after the first byte"
+        told += f", {min(threads):.2f} s of work"
         (self.pictures / "times.txt").write_text(f"{told}; load {os.getloadavg()[0]:.0f}\n")
         # On a machine that others keep busy the page's own work is what can be judged.
         is_busy = os.getloadavg()[0] > (os.cpu_count() or 1)
@@ -279,7 +294,8 @@ class Page(unittest.TestCase):
             self.assertIn("present one first", self.browser.run("return document.body.innerText"))
             self.browser.open(front, "#/")
             self.browser.settled()
-            self.assertIn("cells 9,000 of 2,000,000", self.browser.run("return document.body.innerText"))
+            text = self.browser.run("return document.body.innerText")
+            self.assertIn("cells 9,000 of 2,000,000", text)
             self.assertEqual(self.browser.logs(), ([], []))
 
     def test_dark(self) -> None:
@@ -307,7 +323,7 @@ class Page(unittest.TestCase):
             with self.subTest(place=place):
                 self.see(place, says)
                 wanted = self.browser.run(REACHABLE)
-                self.browser.run("document.body.tabIndex = -1; document.body.focus(); document.body.removeAttribute('tabindex')")
+                self.browser.run(FROM_THE_TOP)
                 reached = []
                 for _ in wanted:
                     self.browser.key("Tab")
@@ -322,9 +338,11 @@ class Page(unittest.TestCase):
         self.browser.run("document.querySelector('.overview a').focus()")
         address = self.browser.run("return document.activeElement.getAttribute('href')")
         self.browser.key("ArrowRight")
-        self.assertRegex(self.browser.run("return document.getElementById('exact').textContent"), r"^budget left: -?\d+/\d+$")
-        self.assertFalse(self.browser.run("return document.getElementById('exact').hidden"))
+        self.assertRegex(self.browser.run(EXACT), r"^budget left: -?\d+/\d+$")
+        self.browser.key("ArrowRight")
+        self.assertRegex(self.browser.run(EXACT), r"^burn over 5m: \d+/\d+$")
         self.browser.key("ArrowDown")
+        self.assertRegex(self.browser.run(EXACT), r"^burn over 5m: \d+/\d+$")
         self.browser.run("document.querySelector('.overview a').focus()")
         self.browser.key("Enter")
         self.browser.wait("document.querySelector('.facts')")
@@ -332,7 +350,8 @@ class Page(unittest.TestCase):
         self.assertEqual(self.browser.run("return document.activeElement.tagName"), "H1")
         self.browser.key("Escape")
         self.browser.wait("document.querySelector('.overview')")
-        self.assertEqual(self.browser.run("return document.activeElement.getAttribute('href')"), address)
+        back = self.browser.run("return document.activeElement.getAttribute('href')")
+        self.assertEqual(back, address)
         self.is_well()
 
     def test_the_skip_link_leads_to_the_content(self) -> None:
@@ -350,7 +369,8 @@ class Page(unittest.TestCase):
 
     def test_an_old_file_a_missing_one_and_an_office_away_are_told(self) -> None:
         told = json.loads(self.overview)
-        self.write({**told, "second": int(time.time()) - 600, "written": int(time.time()) // 60 - 10})
+        now = int(time.time())
+        self.write({**told, "second": now - 600, "written": now // 60 - 10})
         self.see("", r"^Old: the overview was written at .*, 10 min ago$")
         self.assertEqual(self.browser.status()[1], "bad")
         told["offices"][0].update({"up": False, "fault": "no answer"})
@@ -376,8 +396,8 @@ class Page(unittest.TestCase):
 
     def test_headers_are_strict(self) -> None:
         told = self.browser.run(
-            "const f = async (p) => { const a = await fetch(p); return Object.fromEntries(a.headers); };"
-            "return Promise.all(['/page/', '/page/main.js', '/page/chart.min.js', '/page/overview.json'].map(f))"
+            "const f = async (p) => Object.fromEntries((await fetch(`/page/${p}`)).headers);"
+            "return Promise.all(['', 'main.js', 'chart.min.js', 'overview.json'].map(f))"
         )
         for each in told:
             self.assertEqual(each["x-content-type-options"], "nosniff")
@@ -388,7 +408,8 @@ class Page(unittest.TestCase):
 
     def test_the_page_cannot_change_an_office(self) -> None:
         self.see("", "As of")
-        status = self.browser.run("return fetch('/office/tick', {method: 'POST'}).then(a => a.status)")
+        ask = "return fetch('/office/tick', {method: 'POST'}).then(a => a.status)"
+        status = self.browser.run(ask)
         self.assertEqual(status, 403)
 
     def test_arithmetic(self) -> None:
