@@ -14,7 +14,8 @@ SCRIPTS = {
     "foreign_pages": "pages of other sites change nothing behind the fence",
     "wrong_clock": "an office at a wrong clock, and the ways back",
     "backups": "copies of the journal by what copies files",
-    "edges": "requests and files at the edges",
+    "edges": "closed descriptors, replaced journals, failed syncs, a report that reads alone",
+    "lost_gate": "a disk that fails the write of a gate, and loses its power after a restart",
     "counter_lists": "lists of running counters",
 }
 MOST_SECONDS = 180
