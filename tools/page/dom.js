@@ -34,15 +34,15 @@ export function present(list) {
 
 /**
  * A table with a caption and headers. Roles are named, since narrow screens show rows as blocks.
- * @param {{caption: string, classes?: string, headers: string[], rows: HTMLElement[]}} parts
+ * @param {{caption: string, classes?: string, headers: string[], rows: HTMLElement[], hasHint?: boolean}} parts
  * @returns {HTMLElement}
  */
-export function table({ caption, classes = "", headers, rows }) {
+export function table({ caption, classes = "", headers, rows, hasHint = false }) {
   const heads = headers.map((text) => element("th", { scope: "col", role: "columnheader" }, text));
   return element(
     "table",
     { class: classes, role: "table" },
-    element("caption", {}, caption),
+    element("caption", {}, caption, hasHint ? keysHint() : null),
     element("thead", { role: "rowgroup" }, element("tr", { role: "row" }, ...heads)),
     element("tbody", { role: "rowgroup" }, ...rows),
   );
@@ -63,6 +63,10 @@ export function row(headers, cells) {
     ...rest.map((cell, index) => element("td", { role: "cell", "data-head": headers[index + 1] }, cell)),
   );
 }
+
+/** What the arrow keys do in a table of numbers, which paper doesn't tell. */
+export const keysHint = () =>
+  element("span", { class: "keys" }, " Arrow keys move to the numbers, which show their exact fraction.");
 
 /**
  * A part of the page under a heading.

@@ -34,6 +34,9 @@ function put(parts) {
   main.replaceChildren(...parts);
 }
 
+/** The heading of a place that has no other. */
+const heading = () => element("h1", { tabindex: -1 }, "Error budgets");
+
 /** @param {unknown} fault */
 function tellFault(fault) {
   const text = fault instanceof Error ? fault.message : `${fault}`;
@@ -68,14 +71,12 @@ async function show() {
   const { signal } = ends;
   clearPanels();
   if (!overview) return;
-  const putHere = (/** @type {HTMLElement[]} */ parts) => {
-    if (!signal.aborted) put(parts);
-  };
+  put([heading()]);
   try {
-    if (route.view === "overview") putHere(overviewView(overview));
-    else if (route.view === "notices") await noticesView(overview, signal, putHere);
-    else if (route.view === "slo") await sloView(placeOf(overview, route), signal, putHere);
-    else if (route.view === "month") await monthView(placeOf(overview, route), route.month, signal, putHere);
+    if (route.view === "overview") put(overviewView(overview));
+    else if (route.view === "notices") await noticesView(overview, signal, put);
+    else if (route.view === "slo") await sloView(placeOf(overview, route), signal, put);
+    else if (route.view === "month") await monthView(placeOf(overview, route), route.month, signal, put);
     else throw new Error("this address names no place of the page");
   } catch (fault) {
     if (!signal.aborted) tellFault(fault);
@@ -119,7 +120,7 @@ async function refresh(isAsked = false) {
     say(text, "bad");
     if (!overview) {
       const trouble = element("p", { class: "trouble" }, `${text}. `, againButton());
-      put([element("h1", { tabindex: -1 }, "Error budgets"), trouble]);
+      put([heading(), trouble]);
     }
   }
   clearTimeout(timer);
@@ -128,13 +129,18 @@ async function refresh(isAsked = false) {
 
 let timer = 0;
 
-async function routed() {
-  if (route.view === "slo") opened = sloPlace(route.office, route.slo, route.objective);
+/** Takes the place from the address, and marks it where a link of the head leads there. */
+function takeRoute() {
   route = readRoute(location.hash);
   for (const link of document.querySelectorAll("header nav a")) {
-    if (link.getAttribute("href") === location.hash) link.setAttribute("aria-current", "page");
+    if (link.getAttribute("href") === (location.hash || OVERVIEW)) link.setAttribute("aria-current", "page");
     else link.removeAttribute("aria-current");
   }
+}
+
+async function routed() {
+  if (route.view === "slo") opened = sloPlace(route.office, route.slo, route.objective);
+  takeRoute();
   const shown = show();
   window.scrollTo(0, 0);
   if (route.view === "overview" && opened) {
@@ -143,8 +149,6 @@ async function routed() {
     link?.focus();
   } else {
     main.querySelector("h1")?.focus();
-    await shown;
-    if (document.activeElement === document.body) main.querySelector("h1")?.focus({ preventScroll: true });
   }
 }
 
@@ -161,6 +165,6 @@ document.getElementById("skip")?.addEventListener("click", (event) => {
 document.addEventListener("keydown", escaped);
 window.addEventListener("hashchange", () => void routed());
 dark.addEventListener("change", () => void show());
-route = readRoute(location.hash);
+takeRoute();
 say("Loading the overview …", "busy");
 await refresh();

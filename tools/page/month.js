@@ -5,7 +5,7 @@
 
 import { burnOf } from "./budget.js";
 import { countsText } from "./cells.js";
-import { element, present, row, say, section, table } from "./dom.js";
+import { element, keysHint, present, row, say, section, table } from "./dom.js";
 import { exactNumber } from "./exact.js";
 import { ONE, burnText, compare, fraction, percent, spell, subtract } from "./fractions.js";
 import { spanText, zoneOf } from "./minutes.js";
@@ -136,7 +136,7 @@ function calendar({ year, month }, told, target) {
   return element(
     "table",
     { class: "calendar", role: "table" },
-    element("caption", {}, "Each day: the part that was good, and its burn. Arrow keys move between the numbers."),
+    element("caption", {}, "Each day: the part that was good, and its burn.", keysHint()),
     element("thead", { role: "rowgroup" }, element("tr", { role: "row" }, ...heads)),
     element("tbody", { role: "rowgroup" }, ...weeks),
   );
@@ -218,7 +218,8 @@ export async function monthView(place, wanted, signal, put) {
     turning(place, month, current),
     element("p", {}, `${what} Days begin at midnight in ${zone.label}.`),
   ];
-  put(head);
+  const rest = element("div");
+  put([...head, rest]);
   say(`Loading ${nameOf(month)} …`, "busy");
   const days = daysOf(month, zone, entry.at);
   const office = new Office(entry.path, entry.usage !== null, signal);
@@ -227,9 +228,9 @@ export async function monthView(place, wanted, signal, put) {
   const note = told.begun ? null : element("p", { class: "trouble" }, "The office's history hasn't this month.");
   const overMidnight = "A slice over midnight counts in the month, and in neither day.";
   const midnights = slo.method === "Occurrences" ? null : element("p", { class: "left-out" }, overMidnight);
-  put(
-    present([
-      ...head,
+  if (signal.aborted) return;
+  rest.replaceChildren(
+    ...present([
       note,
       section("The month", wholeFacts(told.whole, objective.target)),
       section("Day by day", calendar(month, told, objective.target), midnights),

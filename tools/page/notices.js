@@ -10,7 +10,7 @@ import { sloPlace } from "./routes.js";
 
 /** @typedef {import("./file.js").OfficeEntry} OfficeEntry */
 
-const HEADERS = ["Number", "At", "SLO", "Policy", "State"];
+const HEADERS = ["SLO", "Policy", "State", "At", "Number"];
 const MOST = 1000;
 
 /**
@@ -22,7 +22,8 @@ function noticesTable(office, notices) {
   const rows = notices.map(({ number, at, slo, objective, policy, state }) => {
     const known = office.slos.find((each) => each.name === slo);
     const link = known ? element("a", { href: sloPlace(office.name, slo, objective) }, known.display) : slo;
-    return row(HEADERS, [number, zoneOf(known?.window.zone ?? "UTC").full(at), link, policy, state.replace("_", " ")]);
+    const date = zoneOf(known?.window.zone ?? "UTC").full(at);
+    return row(HEADERS, [link, policy, state.replace("_", " "), date, number]);
   });
   const caption = notices.length === MOST ? `The first ${MOST.toLocaleString("en")} that wait` : "All that wait";
   return table({ caption, classes: "plain", headers: HEADERS, rows });
@@ -35,7 +36,8 @@ function noticesTable(office, notices) {
  */
 export async function noticesView(overview, signal, put) {
   const head = element("h1", { tabindex: -1 }, "Notices that wait");
-  put([head]);
+  const rest = element("div");
+  put([head, rest]);
   say("Loading notices …", "busy");
   let failed = 0;
   const parts = await Promise.all(
@@ -50,6 +52,7 @@ export async function noticesView(overview, signal, put) {
       }
     }),
   );
-  put([head, ...parts]);
+  if (signal.aborted) return;
+  rest.replaceChildren(...parts);
   say(failed ? `${failed} of ${parts.length} offices didn't answer` : "All offices answered", failed ? "bad" : "well");
 }

@@ -164,14 +164,14 @@ export function overviewView(overview) {
   const lines = linesOf(overview);
   const rows = lines.map((line) => lineRow(line, overview.offices.length > 1));
   sayAge(overview);
-  const caption = "All objectives, worst first. Arrow keys move to the numbers, which show their exact fraction.";
+  const caption = "All objectives, worst first.";
   return present([
     element("h1", { tabindex: -1 }, "Error budgets"),
     ...troubles(overview).map((text) => element("p", { class: "trouble", role: "alert" }, text)),
     summaryOf(lines),
     filterOf(rows, filterText, (text) => (filterText = text)),
     lines.length
-      ? table({ caption, classes: "overview", headers: HEADERS, rows })
+      ? table({ caption, classes: "overview", headers: HEADERS, rows, hasHint: true })
       : element("p", {}, "No office has an SLO."),
     usageSection(overview),
   ]);

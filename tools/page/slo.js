@@ -222,7 +222,7 @@ async function objectTexts(office, slo, objective) {
 /**
  * @param {Place} place
  * @param {AbortSignal} signal
- * @param {(parts: HTMLElement[]) => void} put shows the view as far as it is there
+ * @param {(parts: HTMLElement[]) => void} put shows the view, which goes on to fill itself
  */
 export async function sloView(place, signal, put) {
   const { office: entry, slo, objective } = place;
@@ -239,7 +239,8 @@ export async function sloView(place, signal, put) {
     facts(place, zone),
     section("Burn", burnsTable(place)),
   ]);
-  put([...head, progress]);
+  const rest = element("div", {}, progress);
+  put([...head, rest]);
   if (entry.at === null || objective.from === null) {
     say("The office has no numbers for this SLO", "bad");
     return;
@@ -254,9 +255,9 @@ export async function sloView(place, signal, put) {
   await library;
   const figures = panels(told);
   const numbers = numbersTable(told, objective.target, zone);
-  put(
-    present([
-      ...head,
+  if (signal.aborted) return;
+  rest.replaceChildren(
+    ...present([
       section("Over its window", ...figures.map(({ figure }) => figure), numbers),
       section("Alerts", alertsTable(told, zone)),
       section("Exclusions", exclusionsList(told, zone), leftOut(told, office, slo.window.rolling)),

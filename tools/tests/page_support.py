@@ -284,6 +284,11 @@ new MutationObserver(() => {
 }).observe(document, {childList: true, subtree: true});
 """
 
+# Each chart is as wide as its place, and something stands in it.
+CHARTS_ARE_DRAWN = """[...document.querySelectorAll('canvas')].every(c =>
+  Math.abs(c.clientWidth - c.parentElement.clientWidth) < 2 &&
+  c.getContext('2d').getImageData(0, 0, c.width, c.height).data.some(v => v))"""
+
 
 class Browser:
     """A headless Chromium that knows the password."""
@@ -387,14 +392,13 @@ class Browser:
         self.cdp("Emulation.setEmulatedMedia", media=media, features=features)
 
     def keep(self, path: Path, whole: bool = True) -> None:
-        """Keeps a picture of the page, or of what its window shows."""
-        time.sleep(0.3)
-        values: dict[str, Any] = {"format": "png"}
+        """Keeps a picture of the page, in a window that is as high, or of what its window shows."""
         if whole:
-            size = self.cdp("Page.getLayoutMetrics")["cssContentSize"]
-            values["captureBeyondViewport"] = True
-            values["clip"] = {**size, "scale": 1}
-        told = self.cdp("Page.captureScreenshot", **values)
+            height = self.cdp("Page.getLayoutMetrics")["cssContentSize"]["height"]
+            self.size(self.run("return window.innerWidth"), height)
+        time.sleep(0.5)
+        self.wait(CHARTS_ARE_DRAWN)
+        told = self.cdp("Page.captureScreenshot", format="png")
         path.write_bytes(base64.b64decode(told["data"]))
 
     def key(self, name: str, **more: Any) -> None:
