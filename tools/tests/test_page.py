@@ -386,6 +386,30 @@ class Page(unittest.TestCase):
         self.write({**told, "second": int(time.time())})
         self.see("#/shop/nope", "Failed: the overview has no shop/nope/0")
 
+    def test_several_offices_and_an_slo_without_a_window(self) -> None:
+        told = json.loads(self.overview)
+        first = told["offices"][0]
+        waiting = json.loads(json.dumps(first["slos"][0]))
+        waiting.update({"name": "next-year", "display": "Next year", "fault": "no_window"})
+        waiting["objectives"][0].update(
+            dict.fromkeys(("from", "num", "den", "error", "burn", "remaining", "age"))
+        )
+        waiting["objectives"][0].update({"alerts": [], "burns": {}, "state": "no_data"})
+        second = {**first, "name": "second", "slos": [waiting]}
+        self.write({**told, "offices": [first, second], "second": int(time.time())})
+        self.see("", "As of")
+        rows = self.browser.run("return document.querySelectorAll('.overview tbody tr').length")
+        self.assertEqual(rows, SLOS + 1)
+        self.browser.run(
+            "const f = document.getElementById('filter'); f.value = 'SECOND window';"
+            "f.dispatchEvent(new Event('input'))"
+        )
+        shown = self.browser.run("return document.querySelector('main').innerText")
+        self.assertRegex(shown, r"1 of 201[\s\S]*Next year[\s\S]*second[\s\S]*No window")
+        self.is_well()
+        self.see("#/second/next-year", "The office has no numbers for this SLO")
+        self.is_well()
+
     def test_a_failing_office_is_told(self) -> None:
         self.office.kill()
         try:
