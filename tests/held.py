@@ -27,7 +27,7 @@ NUMBERS = {0: "read", 1: "write", 9: "mmap", 12: "brk", 17: "pread64", 18: "pwri
 DISK = ("pread64", "pwrite64", "fsync", "fdatasync")
 KILL = "kill"
 # A run that takes longer is ended.
-MOST_SECONDS = 120
+MOST_SECONDS = 600
 SKIPPED = (1 << 64) - 1
 
 libc = ctypes.CDLL(None, use_errno=True)
