@@ -15,11 +15,11 @@ sys.path.insert(0, str(Path(__file__).resolve().parent.parent / "tests"))
 
 import support  # noqa: E402
 from slo_tools.clock import SystemClock  # noqa: E402
+from slo_tools.feed.command import engine_maker, office_of  # noqa: E402
 from slo_tools.feed.config import read_config  # noqa: E402
 from slo_tools.feed.rounds import Feed  # noqa: E402
 from slo_tools.feed.state import State  # noqa: E402
 from slo_tools.feed.watch import Watch  # noqa: E402
-from slo_tools.feed_command import engine_maker, office_of  # noqa: E402
 
 SCRAPE = 15
 

@@ -14,6 +14,7 @@ from unittest import mock
 import support
 from simulated import HeldClock, Sample, SimulatedOffice, SimulatedPrometheus
 from slo_tools.feed.cells import Amount, Cell
+from slo_tools.feed.command import seconds_to_next
 from slo_tools.feed.config import Config, IndicatorConfig, Login
 from slo_tools.feed.engine import Engine
 from slo_tools.feed.prometheus import Prometheus
@@ -22,7 +23,6 @@ from slo_tools.feed.rounds import End, Feed, due
 from slo_tools.feed.sending import Sender
 from slo_tools.feed.state import State, read_state, write_state
 from slo_tools.feed.watch import Watch
-from slo_tools.feed_command import seconds_to_next
 from slo_tools.office import Batch, Full, Office, SampleRow
 
 BEGIN = 29_000_000

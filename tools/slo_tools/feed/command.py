@@ -1,4 +1,4 @@
-"""The command slo-feed."""
+"""The command `slo-feed`: sample rows from Prometheus and ClickHouse."""
 
 from __future__ import annotations
 
