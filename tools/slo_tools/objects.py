@@ -3,17 +3,16 @@
 from __future__ import annotations
 
 from dataclasses import dataclass
-from functools import cached_property
+from functools import cached_property, lru_cache
 from typing import Any, Optional
 
 import yaml
 
 from slo_tools.office import Foreign, NotFound, Office
+from slo_tools.spelling import minutes_of_duration
 
-BUILT_IN_PAGE = "workbook-page"
-BUILT_IN_TICKET = "workbook-ticket"
-# The severities of the policies that every office has (docs/rules.md).
-BUILT_IN_SEVERITY = {BUILT_IN_PAGE: "page", BUILT_IN_TICKET: "ticket"}
+# Every scalar stays the text that it is: no number is rounded.
+_LOADER: Any = getattr(yaml, "CBaseLoader", yaml.BaseLoader)
 
 
 @dataclass(frozen=True)
@@ -26,14 +25,14 @@ class Document:
 
     @property
     def spec(self) -> dict[str, Any]:
-        return _map(self.members.get("spec"))
+        return map_of(self.members.get("spec"))
 
     @property
     def display(self) -> str:
-        return str(_map(self.members.get("metadata")).get("displayName") or self.name)
+        return str(map_of(self.members.get("metadata")).get("displayName") or self.name)
 
     def annotation(self, key: str) -> Optional[str]:
-        value = _map(_map(self.members.get("metadata")).get("annotations")).get(key)
+        value = map_of(map_of(self.members.get("metadata")).get("annotations")).get(key)
         return None if value is None else str(value)
 
 
@@ -70,7 +69,7 @@ class Slo:
 
     @cached_property
     def objectives(self) -> list[Objective]:
-        return [_objective(n, _map(o)) for n, o in enumerate(self.document.spec["objectives"])]
+        return [_objective(n, map_of(o)) for n, o in enumerate(self.document.spec["objectives"])]
 
     @property
     def policies(self) -> list[str]:
@@ -78,21 +77,41 @@ class Slo:
 
     @property
     def window(self) -> dict[str, Any]:
-        return _map(self.document.spec["timeWindow"][0])
+        return map_of(self.document.spec["timeWindow"][0])
 
     @property
     def zone(self) -> str:
-        return str(_map(self.window.get("calendar")).get("timeZone", "UTC"))
+        return str(map_of(self.window.get("calendar")).get("timeZone", "UTC"))
 
 
+@dataclass(frozen=True)
+class Condition:
+    """What the tools ask of a policy's condition: its severity, and the minutes of its window."""
+
+    severity: str
+    lookback: Optional[int]
+
+
+# The policies that every office has, by the shorter of their windows (docs/rules.md).
+BUILT_IN = {
+    "workbook-page": Condition("page", 5),
+    "workbook-ticket": Condition("ticket", 360),
+}
+
+
+@lru_cache(maxsize=4096)
 def read_document(text: str) -> Document:
     """The object that the office writes as this text. Raises Foreign where it is no object."""
     try:
-        # Every scalar stays the text that it is: no number is rounded.
-        members = yaml.load(text, Loader=getattr(yaml, "CBaseLoader", yaml.BaseLoader))
+        members = yaml.load(text, Loader=_LOADER)
         return Document(members["kind"], members["metadata"]["name"], members)
     except (yaml.YAMLError, KeyError, TypeError) as fault:
         raise Foreign(200, f"the text is no object: {fault}") from fault
+
+
+def map_of(value: Any) -> dict[str, Any]:
+    """A map of a document; an empty one where something else or nothing stands."""
+    return value if isinstance(value, dict) else {}
 
 
 def object_of(office: Office, kind: str, name: str) -> Document:
@@ -104,23 +123,21 @@ def slo_of(office: Office, name: str) -> Slo:
     return Slo(object_of(office, "SLO", name))
 
 
-def severities_of(office: Office, policy: str) -> list[str]:
-    """The severities of a policy's conditions; none for a policy that no longer stands."""
-    if policy in BUILT_IN_SEVERITY:
-        return [BUILT_IN_SEVERITY[policy]]
+def conditions_of(office: Office, policy: str) -> list[Condition]:
+    """The conditions of a policy; none for one that no longer stands."""
+    if policy in BUILT_IN:
+        return [BUILT_IN[policy]]
     try:
-        conditions = object_of(office, "AlertPolicy", policy).spec.get("conditions") or []
-        names = [str(_map(item)["conditionRef"]) for item in conditions]
-        return [
-            str(object_of(office, "AlertCondition", name).spec.get("severity", ""))
-            for name in names
-        ]
+        items = object_of(office, "AlertPolicy", policy).spec.get("conditions") or []
+        names = [str(map_of(item)["conditionRef"]) for item in items]
+        return [_condition(object_of(office, "AlertCondition", name).spec) for name in names]
     except NotFound:
         return []
 
 
-def _map(value: Any) -> dict[str, Any]:
-    return value if isinstance(value, dict) else {}
+def _condition(spec: dict[str, Any]) -> Condition:
+    lookback = str(map_of(spec.get("condition")).get("lookbackWindow", ""))
+    return Condition(str(spec.get("severity", "")), minutes_of_duration(lookback))
 
 
 def _objective(number: int, members: dict[str, Any]) -> Objective:

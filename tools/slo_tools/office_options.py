@@ -8,6 +8,7 @@ from pathlib import Path
 from typing import Union
 
 from slo_tools.office import Office, Pauses
+from slo_tools.settings import first_line
 
 DEFAULT_OFFICE = "http://127.0.0.1:8080"
 
@@ -33,11 +34,8 @@ def office_of(options: argparse.Namespace, pauses: Pauses, timeout: float = 30.0
     """The office that the options name. Raises OSError where the password's file can't be read."""
     credentials = None
     if options.user is not None:
-        password = ""
-        if options.password_file is not None:
-            lines = Path(options.password_file).read_text(encoding="utf-8").splitlines()
-            password = lines[0] if lines else ""
-        credentials = (options.user, password)
+        file = options.password_file
+        credentials = (options.user, "" if file is None else first_line(Path(file)))
     verify: Union[bool, str] = options.ca if options.ca is not None else True
     return Office(
         options.office, timeout=timeout, pauses=pauses, credentials=credentials, verify=verify

@@ -12,7 +12,8 @@ from fractions import Fraction
 from desk_support import RunningOffice, free_port, run_tool, running_office
 
 from slo_tools.freshness import excluded_age
-from slo_tools.gate.judging import BadFreeze, Freeze, Verdict, percent, read_freeze, worst
+from slo_tools.gate.judging import BadFreeze, Freeze, Verdict, read_freeze, worst
+from slo_tools.spelling import percent
 
 DOCUMENTS = """
 apiVersion: openslo/v1

@@ -1,32 +1,35 @@
 """Random histories of counters, scrapes and stops against a plain computation.
 
-SLO_FEED_HISTORIES says how many; 1,000 where it doesn't.
+SLO_FEED_HISTORIES says how many, 1,000 where it doesn't; SLO_FEED_SEED which, else others each time.
 """
 
 from __future__ import annotations
 
 import logging
 import os
+import random
 import tempfile
 import unittest
 from collections import defaultdict
 from pathlib import Path
 from typing import Any, cast
 
-from hypothesis import HealthCheck, Phase, given, settings
+from hypothesis import HealthCheck, Phase, given, seed, settings
 from hypothesis import strategies as st
 
 import support
 from simulated import HeldClock, Sample, SimulatedOffice, SimulatedPrometheus
-from slo_tools.feed.config import Config, IndicatorConfig, Login
+from slo_tools.feed.config import Config, IndicatorConfig
 from slo_tools.feed.engine import Engine
 from slo_tools.feed.prometheus import Prometheus
 from slo_tools.feed.rounds import Feed
 from slo_tools.feed.state import State
 from slo_tools.feed.watch import Watch
 from slo_tools.office import Office
+from slo_tools.settings import Login
 
 HISTORIES = int(os.environ.get("SLO_FEED_HISTORIES", "1000"))
+SEED = int(os.environ.get("SLO_FEED_SEED") or random.randrange(2**32))
 BEGIN = 29_000_000
 MINUTES = 16
 LOOK_BACK = 5
@@ -152,6 +155,7 @@ class HistoriesTest(unittest.TestCase):
         self.addCleanup(logging.disable, logging.NOTSET)
         self.folder = Path(self.enterContext(tempfile.TemporaryDirectory()))
 
+    @seed(SEED)
     @settings(**COMMON)
     @given(histories(), st.lists(FAULTS, min_size=MINUTES, max_size=MINUTES), st.booleans())
     def test_the_office_holds_what_the_engine_says(
@@ -172,8 +176,9 @@ class HistoriesTest(unittest.TestCase):
             world.office.losses = []
         for minute in range(BEGIN + MINUTES + 1, BEGIN + MINUTES + LOOK_BACK + 1):
             world.round(minute)
-        self.assertEqual(world.held(), plainly(samples, BEGIN, BEGIN + MINUTES + LOOK_BACK))
-        self.assertEqual(world.office.again, 0, "an equal amount was accepted a second time")
+        wanted = plainly(samples, BEGIN, BEGIN + MINUTES + LOOK_BACK)
+        self.assertEqual(world.held(), wanted, f"seed {SEED}")
+        self.assertEqual(world.office.again, 0, f"accepted twice: an equal amount, seed {SEED}")
 
 
 if __name__ == "__main__":

@@ -30,13 +30,14 @@ from desk_support import (
 
 from slo_tools.notify.clock_trust import ClockTrust
 from slo_tools.notify.command import pause
-from slo_tools.notify.config import BadConfig, read_config
+from slo_tools.notify.config import read_config
 from slo_tools.notify.deciding import Binding, Decisions, Present, decide
 from slo_tools.notify.metrics import Metrics
 from slo_tools.notify.receiver import Receiver, Sending, receiver_of
 from slo_tools.notify.rounds import Rounds
 from slo_tools.notify.state import read_state
 from slo_tools.office import Notice
+from slo_tools.settings import ConfigFault
 
 MINUTE = 60
 LIBRARY = "/usr/lib/x86_64-linux-gnu/faketime/libfaketime.so.1"
@@ -749,19 +750,20 @@ class Configs(unittest.TestCase):
             path = Path(folder) / "c.toml"
             for text, why in (
                 ("x", "c.toml"),
-                ("", "there is none"),
-                (office, "state"),
-                ('state = "s"\nevry = 5\n' + office, "evry: unknown"),
-                ('state = "s"\nevery = "5"\n' + office, "every: '5' is of another type"),
-                ('state = "s"\nevery = 0\n' + office, "every: above zero"),
-                ('state = "s"\nclock = "sun"\n' + office, "clock: one of"),
-                ('state = "s"\nclock = "receiver"\n' + office, "no receiver"),
-                ('state = "s"\n' + office + office, "stands twice"),
-                ('state = "s"\nmetrics = "x"\n' + office, "no address"),
+                ('state = "s"\n', r"there is no \[\[office]]"),
+                (office, "state is missing"),
+                ('state = "s"\nevry = 5\n' + office, "evry is no key of this file"),
+                ('state = "s"\nevery = "5"\n' + office, "every is no number from 1 to 3600"),
+                ('state = "s"\nevery = 0\n' + office, "every is no number from 1 to 3600"),
+                ('state = "s"\nclock = "sun"\n' + office, "clock is none of kernel, receiver"),
+                ('state = "s"\nclock = "receiver"\n' + office, "of a receiver: there is none"),
+                ('state = "s"\n' + office + office, "office 2.name 'a' stands twice"),
+                ('state = "s"\n' + office + 'adress = "x"', "office 1.adress is no key"),
+                ('state = "s"\nmetrics = "x"\n' + office, "metrics 'x' is no address"),
                 ('state = "s"\n' + office + "[webhook]\n[alertmanager]\n", "one of them"),
             ):
                 path.write_text(text)
-                with self.subTest(text=text), self.assertRaisesRegex(BadConfig, why):
+                with self.subTest(text=text), self.assertRaisesRegex(ConfigFault, why):
                     read_config(path)
 
 

@@ -15,7 +15,7 @@ import support
 from simulated import HeldClock, Sample, SimulatedOffice, SimulatedPrometheus
 from slo_tools.feed.cells import Amount, Cell
 from slo_tools.feed.command import seconds_to_next
-from slo_tools.feed.config import Config, IndicatorConfig, Login
+from slo_tools.feed.config import Config, IndicatorConfig
 from slo_tools.feed.engine import Engine
 from slo_tools.feed.prometheus import Prometheus
 from slo_tools.feed.revisions import Kept, Pending, pending
@@ -24,6 +24,7 @@ from slo_tools.feed.sending import Sender
 from slo_tools.feed.state import State, read_state, write_state
 from slo_tools.feed.watch import Watch
 from slo_tools.office import Batch, Full, Office, SampleRow
+from slo_tools.settings import Login
 
 BEGIN = 29_000_000
 LABELS = frozenset({"job": "web", "instance": "web:0", "code": "200", "__name__": "m"}.items())

@@ -11,11 +11,12 @@ from pathlib import Path
 import support
 from slo_tools.clock import date_of, minute_of_date
 from slo_tools.feed.cells import Amount, Cell, amounts_of, source_name, stretch_minute
-from slo_tools.feed.config import Config, ConfigFault, read_config
+from slo_tools.feed.config import Config, read_config
 from slo_tools.feed.engine import QueryFault
 from slo_tools.feed.prometheus import NotWhole, minute_of_sample, whole
 from slo_tools.feed.promql import selectors
 from slo_tools.office import is_label
+from slo_tools.settings import ConfigFault
 
 
 class QueryTest(unittest.TestCase):
@@ -192,7 +193,7 @@ class ConfigTest(unittest.TestCase):
             WHOLE.replace("first = 1440", 'first = "x"'): "feed.first is no number from 1 to",
             WHOLE.replace('user = "feed"\n', ""): "user and password_file go together",
             WHOLE.replace('sum = "desk"', 'sum = "a b"'): "sum 'a b' is no name of a source",
-            WHOLE.replace('sum = "desk"', 'sum = "a"\nlabel = "b"'): "has a label or a sum",
+            WHOLE.replace('sum = "desk"', 'sum = "a"\nlabel = "b"'): "label and sum: one of them",
             WHOLE.replace("wait = 12.5", "wait = -1"): "engine.prom.wait is no number of seconds",
             WHOLE.replace('"password"', '"nowhere"'): "nowhere can't be read",
             "[office": "Expected",

@@ -14,6 +14,7 @@ from decimal import Decimal
 from typing import NamedTuple, Optional
 
 from slo_tools.nodes import Fault, Fields, Items, Node, Place, Scalar
+from slo_tools.spelling import minutes_of_duration
 
 VERSION = "openslo/v1"
 MAX_DESCRIPTION = 1_050
@@ -23,9 +24,7 @@ MAX_LOOKBACK = 43_200
 NAME = re.compile(r"[a-z0-9]([a-z0-9-]{0,61}[a-z0-9])?")
 ZONE_NAME = re.compile(r"[A-Za-z0-9._/+-]{1,63}")
 DECIMAL = re.compile(r"(\d+)(?:\.(\d{1,9}))?", re.ASCII)
-DURATION = re.compile(r"(\d+)([mhdwMQY])", re.ASCII)
 MOMENT = re.compile(r"\d{4}-\d\d-\d\d \d\d:\d\d:\d\d", re.ASCII)
-UNITS = {"m": 1, "h": 60, "d": 1440, "w": 10_080, "M": 43_200, "Q": 129_600, "Y": 525_600}
 TRUE = ("true", "True", "TRUE")
 FALSE = ("false", "False", "FALSE")
 COMPARISONS = ("lte", "gte", "lt", "gt")
@@ -159,15 +158,9 @@ def _number(is_within: Callable[[Decimal], bool], decimals: int = 9) -> Form:
     return judge
 
 
-def minutes_of(text: str) -> Optional[int]:
-    """The minutes of a duration, None where it is none."""
-    found = DURATION.fullmatch(text)
-    return None if found is None else int(found[1]) * UNITS[found[2]]
-
-
 def _duration(least: int, most: int) -> Form:
     def judge(faults: Faults, node: Node, path: str) -> None:
-        minutes = minutes_of(node.text) if isinstance(node, Scalar) else None
+        minutes = minutes_of_duration(node.text) if isinstance(node, Scalar) else None
         if minutes is None:
             faults.add(node.place, "not_duration", path)
         elif not least <= minutes <= most:
@@ -178,7 +171,7 @@ def _duration(least: int, most: int) -> Form:
 
 def _slice_window(faults: Faults, node: Node, path: str) -> None:
     text = node.text if isinstance(node, Scalar) else ""
-    minutes = int(text) if re.fullmatch(r"\d+", text, re.ASCII) else minutes_of(text)
+    minutes = int(text) if re.fullmatch(r"\d+", text, re.ASCII) else minutes_of_duration(text)
     if minutes is None:
         faults.add(node.place, "not_duration", path)
     elif not 1 <= minutes <= 60 or 60 % minutes:

@@ -11,7 +11,7 @@ from typing import Optional
 
 from slo_tools.clock import MINUTE, Clock, SystemClock, minute_of_date
 from slo_tools.feed.clickhouse import ClickHouse, ClickHouseClient, Table
-from slo_tools.feed.config import Config, ConfigFault, EngineConfig, read_config
+from slo_tools.feed.config import Config, EngineConfig, read_config
 from slo_tools.feed.engine import Engine, EngineError
 from slo_tools.feed.objects import DataSource
 from slo_tools.feed.prometheus import Prometheus, PrometheusClient
@@ -19,6 +19,7 @@ from slo_tools.feed.rounds import Feed
 from slo_tools.feed.state import read_state
 from slo_tools.feed.watch import LOG, Watch
 from slo_tools.office import Office
+from slo_tools.settings import ConfigFault
 
 USAGE = 2
 

@@ -2,28 +2,15 @@
 
 from __future__ import annotations
 
-import tomllib
 from collections.abc import Mapping
 from dataclasses import dataclass, field, replace
 from pathlib import Path
-from typing import Any, Optional, Union
+from typing import Optional
 
 from slo_tools.office import is_label
+from slo_tools.settings import ConfigFault, Login, Table, read_table
 
 EVERY = (1, 5, 10, 15)
-
-
-class ConfigFault(Exception):
-    """A file that can't be used; the text names the key."""
-
-
-@dataclass(frozen=True)
-class Login:
-    """How to reach an address: a password, a token, a certificate to trust."""
-
-    credentials: Optional[tuple[str, str]] = None
-    token: Optional[str] = None
-    verify: Union[bool, str] = True
 
 
 @dataclass(frozen=True)
@@ -74,85 +61,22 @@ class Config:
 def read_config(path: Path) -> Config:
     """The configuration of a file. Raises ConfigFault."""
     try:
-        text = path.read_text(encoding="utf-8")
-        table = tomllib.loads(text)
-    except OSError as fault:
-        raise ConfigFault(f"{path}: {fault.strerror}") from fault
-    except (UnicodeDecodeError, tomllib.TOMLDecodeError) as fault:
-        raise ConfigFault(f"{path}: {fault}") from fault
-    try:
-        return _config(_Table(table, ""), path.parent)
+        return _config(read_table(path), path.parent)
     except ConfigFault as fault:
         raise ConfigFault(f"{path}: {fault}") from fault
 
 
-class _Table:
-    """A table of the file that knows which of its keys were read."""
-
-    def __init__(self, values: Mapping[str, Any], path: str) -> None:
-        self._values = dict(values)
-        self._path = path
-
-    def names(self) -> list[str]:
-        return list(self._values)
-
-    def table(self, key: str) -> _Table:
-        value = self._values.pop(key, {})
-        if not isinstance(value, dict):
-            raise ConfigFault(f"{self._path}{key} is no table")
-        return _Table(value, f"{self._path}{key}.")
-
-    def text(self, key: str) -> Optional[str]:
-        value = self._values.pop(key, None)
-        if value is not None and (not isinstance(value, str) or not value):
-            raise ConfigFault(f"{self._path}{key} is no text")
-        return value
-
-    def wanted(self, key: str) -> str:
-        value = self.text(key)
-        if value is None:
-            raise ConfigFault(f"{self._path}{key} is missing")
-        return value
-
-    def number(self, key: str, usual: int, least: int, most: int) -> int:
-        value = self._values.pop(key, usual)
-        if not isinstance(value, int) or isinstance(value, bool) or not least <= value <= most:
-            raise ConfigFault(f"{self._path}{key} is no number from {least} to {most}")
-        return value
-
-    def seconds(self, key: str) -> Optional[float]:
-        value = self._values.pop(key, None)
-        if value is None:
-            return None
-        if isinstance(value, bool) or not isinstance(value, (int, float)) or not 0 <= value <= 600:
-            raise ConfigFault(f"{self._path}{key} is no number of seconds from 0 to 600")
-        return float(value)
-
-    def truth(self, key: str) -> bool:
-        value = self._values.pop(key, False)
-        if not isinstance(value, bool):
-            raise ConfigFault(f"{self._path}{key} is neither true nor false")
-        return value
-
-    def has(self, key: str) -> bool:
-        return key in self._values
-
-    def end(self) -> None:
-        for key in self._values:
-            raise ConfigFault(f"{self._path}{key} is no key of this file")
-
-
-def _config(table: _Table, folder: Path) -> Config:
+def _config(table: Table, folder: Path) -> Config:
     office = table.table("office")
     address = office.wanted("address")
-    office_login = _login(office, folder)
+    office_login = office.login(folder)
     office.end()
     feed = table.table("feed")
     state = folder / feed.wanted("state")
     first = feed.number("first", 60, 1, 1_000_000)
     reread = feed.number("reread_objects", 5, 1, 1440)
     port = feed.number("metrics_port", 0, 0, 65535)
-    file = feed.text("metrics_file")
+    file = feed.file("metrics_file", folder)
     feed.end()
     usual = _indicator(table.table("indicators"), IndicatorConfig())
     engines = table.table("engine")
@@ -167,55 +91,29 @@ def _config(table: _Table, folder: Path) -> Config:
         first=first,
         reread_objects=reread,
         metrics_port=port or None,
-        metrics_file=folder / file if file else None,
+        metrics_file=file,
         engines=named,
         usual=usual,
         indicators=indicators,
     )
 
 
-def _login(table: _Table, folder: Path) -> Login:
-    user = table.text("user")
-    password = table.text("password_file")
-    token = table.text("token_file")
-    certificate = table.text("certificate")
-    if (user is None) != (password is None):
-        raise ConfigFault("user and password_file go together")
-    credentials = None
-    if user is not None and password is not None:
-        credentials = (user, _secret(folder / password))
-    return Login(
-        credentials,
-        _secret(folder / token) if token else None,
-        str(folder / certificate) if certificate else True,
-    )
-
-
-def _secret(path: Path) -> str:
-    try:
-        return path.read_text(encoding="utf-8").rstrip("\n")
-    except (OSError, UnicodeDecodeError) as fault:
-        raise ConfigFault(f"{path} can't be read") from fault
-
-
-def _engine(table: _Table, folder: Path) -> EngineConfig:
-    login = _login(table, folder)
+def _engine(table: Table, folder: Path) -> EngineConfig:
+    login = table.login(folder)
     wait = table.seconds("wait")
-    details = {}
-    for key in table.names():
-        details[key] = table.wanted(key)
+    details = {key: table.wanted(key) for key in table.names()}
     return EngineConfig(login, wait, details)
 
 
-def _indicator(table: _Table, usual: IndicatorConfig) -> IndicatorConfig:
+def _indicator(table: Table, usual: IndicatorConfig) -> IndicatorConfig:
     label, name = table.text("label"), table.text("sum")
     if label is not None and name is not None:
-        raise ConfigFault("an indicator has a label or a sum")
+        raise table.fault("label", "and sum: one of them")
     if name is not None and not is_label(name):
-        raise ConfigFault(f"sum {name!r} is no name of a source")
+        raise table.fault("sum", f"{name!r} is no name of a source")
     every = table.number("every", usual.every, 1, 15)
     if every not in EVERY:
-        raise ConfigFault("every is 1, 5, 10 or 15 minutes")
+        raise table.fault("every", "is 1, 5, 10 or 15 minutes")
     look_back = table.number("look_back", usual.look_back, 1, 1440)
     gap = table.number("gap", usual.gap, 1, 1440)
     engine = table.text("engine") or usual.engine

@@ -4,13 +4,11 @@ from __future__ import annotations
 
 from collections.abc import Mapping
 from dataclasses import dataclass, field
-from functools import lru_cache
 from typing import Any, Optional
-
-import yaml
 
 from slo_tools.feed.config import Config, IndicatorConfig
 from slo_tools.feed.engine import Form, Indicator
+from slo_tools.objects import Document, map_of, object_of
 from slo_tools.office import Office
 
 ENGINES = ("Prometheus", "ClickHouse")
@@ -54,49 +52,34 @@ def read_catalog(office: Office, config: Config) -> Catalog:
         catalog.entries, names = office.objects()
         for name in names:
             if name.kind == "DataSource":
-                document = _document(office.object_text(name.kind, name.name))
-                catalog.sources[name.name] = data_source(name.name, document)
+                document = object_of(office, name.kind, name.name)
+                catalog.sources[name.name] = data_source(document)
             elif name.kind == "SLO":
                 catalog.slos.append(name.name)
         for name in names:
             if name.kind == "SLI" and not config.indicator(name.name).skip:
-                document = _document(office.object_text(name.kind, name.name))
+                document = object_of(office, name.kind, name.name)
                 try:
                     made = config.indicator(name.name)
-                    catalog.indicators.append(
-                        indicator_of(name.name, document, made, catalog.sources)
-                    )
+                    catalog.indicators.append(indicator_of(document, made, catalog.sources))
                 except LeftOut as why:
                     catalog.left_out[name.name] = str(why)
     return catalog
 
 
-# All scalars stay texts: the office's numbers have no binary form.
-_LOADER = getattr(yaml, "CBaseLoader", yaml.BaseLoader)
-
-
-@lru_cache(maxsize=4096)
-def _document(text: str) -> Mapping[str, Any]:
-    document = yaml.load(text, Loader=_LOADER)
-    return document if isinstance(document, dict) else {}
-
-
-def data_source(name: str, document: Mapping[str, Any]) -> DataSource:
-    spec = _map(document.get("spec"))
-    details = _map(spec.get("connectionDetails"))
+def data_source(document: Document) -> DataSource:
+    details = map_of(document.spec.get("connectionDetails"))
     texts = {key: value for key, value in details.items() if isinstance(value, str)}
-    return DataSource(name, str(spec.get("type", "")), FrozenDetails(texts))
+    kind = str(document.spec.get("type", ""))
+    return DataSource(document.name, kind, FrozenDetails(texts))
 
 
 def indicator_of(
-    sli: str,
-    document: Mapping[str, Any],
-    config: IndicatorConfig,
-    sources: Mapping[str, DataSource],
+    document: Document, config: IndicatorConfig, sources: Mapping[str, DataSource]
 ) -> Indicator:
     """An SLI's queries with what the configuration says of its rows. Raises LeftOut."""
-    spec = _map(document.get("spec"))
-    ratio = _map(spec.get("ratioMetric"))
+    spec = document.spec
+    ratio = map_of(spec.get("ratioMetric"))
     if not ratio:
         metrics, form = [_metric(spec.get("thresholdMetric"))], Form.VALUE
     elif "raw" in ratio:
@@ -111,7 +94,7 @@ def indicator_of(
         raise LeftOut("a metricSource has no spec.query")
     label, name = _rows_source(config, source)
     return Indicator(
-        sli=sli,
+        sli=document.name,
         engine=source.name,
         form=form,
         part=metrics[0].query or "",
@@ -133,8 +116,8 @@ class _Metric:
 
 
 def _metric(node: Any) -> _Metric:
-    source = _map(_map(node).get("metricSource"))
-    spec = _map(source.get("spec"))
+    source = map_of(map_of(node).get("metricSource"))
+    spec = map_of(source.get("spec"))
     return _Metric(
         source.get("metricSourceRef") or None, _text(spec.get("query")), _text(spec.get("where"))
     )
@@ -169,7 +152,3 @@ def _rows_source(config: IndicatorConfig, source: DataSource) -> tuple[Optional[
     if usual is None and source.type == "Prometheus":
         usual = "instance"
     return config.label or usual, "all"
-
-
-def _map(node: Any) -> Mapping[str, Any]:
-    return node if isinstance(node, dict) else {}

@@ -3,7 +3,6 @@
 from __future__ import annotations
 
 import json
-import os
 from collections.abc import Mapping
 from dataclasses import dataclass, field
 from pathlib import Path
@@ -11,6 +10,7 @@ from typing import Any, Optional
 
 from slo_tools.feed.cells import Amount, Cell
 from slo_tools.feed.revisions import Kept
+from slo_tools.whole_file import write_whole
 
 VERSION = 1
 
@@ -45,19 +45,8 @@ def read_state(path: Path) -> tuple[State, Optional[str]]:
 
 
 def write_state(path: Path, state: State) -> None:
-    """Replace the file: a stop at any moment leaves the old one or the new one."""
-    beside = path.with_name(path.name + ".new")
-    descriptor = os.open(beside, os.O_WRONLY | os.O_CREAT | os.O_TRUNC, 0o600)
-    with os.fdopen(descriptor, "w", encoding="utf-8") as file:
-        json.dump(_told(state), file, separators=(",", ":"))
-        file.flush()
-        os.fsync(file.fileno())
-    os.replace(beside, path)
-    folder = os.open(path.parent, os.O_RDONLY | os.O_DIRECTORY)
-    try:
-        os.fsync(folder)
-    finally:
-        os.close(folder)
+    """Keep a state in a file."""
+    write_whole(path, json.dumps(_told(state), separators=(",", ":")))
 
 
 def _told(state: State) -> Mapping[str, Any]:

@@ -15,7 +15,7 @@ from slo_tools.gate.judging import (
     SloFacts,
     read_freeze,
 )
-from slo_tools.objects import Document, Objective, Slo, object_of, severities_of, slo_of
+from slo_tools.objects import Document, Objective, Slo, conditions_of, object_of, slo_of
 from slo_tools.office import Budget, NotFound, Office
 
 PAGE = "page"
@@ -57,7 +57,7 @@ class Asker:
         return SloFacts(name, slo.service, told.at, objectives, freezes, faults)
 
     def _objective(self, slo: Slo, objective: Objective, budget: Budget, at: int) -> ObjectiveFacts:
-        pages = [policy for policy in slo.policies if PAGE in self._severity(policy)]
+        pages = [policy for policy in slo.policies if PAGE in self._severities_of(policy)]
         return ObjectiveFacts(
             objective.number,
             objective.display,
@@ -80,10 +80,10 @@ class Asker:
     def _page(self, slo: str, objective: int, policy: str, at: int) -> Page:
         return Page(policy, self.office.alerts(slo, objective, policy, at, at).state)
 
-    def _severity(self, policy: str) -> list[str]:
+    def _severities_of(self, policy: str) -> list[str]:
         if policy not in self._severities:
-            told = severities_of(self.office, policy)
-            self._severities[policy] = [severity.lower() for severity in told]
+            told = conditions_of(self.office, policy)
+            self._severities[policy] = [condition.severity.lower() for condition in told]
         return self._severities[policy]
 
     def _freezes(self, slo: Slo) -> tuple[list[Freeze], list[str]]:

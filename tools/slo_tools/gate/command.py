@@ -17,11 +17,11 @@ from slo_tools.gate.judging import (
     Terms,
     Verdict,
     judge_slo,
-    percent,
     worst,
 )
 from slo_tools.office import OfficeError, Pauses
 from slo_tools.office_options import add_office_options, office_of
+from slo_tools.spelling import percent, spelled_fraction
 
 WORDS = {
     Verdict.RELEASE: "release",
@@ -171,14 +171,11 @@ def _line(line: Judged) -> dict[str, Any]:
     }
     facts = line.objective
     if facts is not None:
-        remaining = facts.remaining
         told["objective"] = facts.number
         told["name"] = facts.display
         told["target"] = facts.target
         told["from"] = facts.begin
         told["den"] = facts.counted
-        told["remaining"] = (
-            None if remaining is None else f"{remaining.numerator}/{remaining.denominator}"
-        )
+        told["remaining"] = spelled_fraction(facts.remaining)
         told["pages"] = {page.policy: page.state for page in facts.pages}
     return told

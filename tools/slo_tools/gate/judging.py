@@ -9,6 +9,7 @@ from fractions import Fraction
 from typing import Optional
 
 from slo_tools.clock import date_of, minute_of_date
+from slo_tools.spelling import percent
 
 FREEZE = "slo-office/freeze"
 
@@ -173,10 +174,3 @@ def _page_reasons(page: Page) -> list[Reason]:
 def _freeze_text(freeze: Freeze) -> str:
     until = "" if freeze.end is None else f" until {date_of(freeze.end)}"
     return f"a freeze is declared{until}" + (f": {freeze.why}" if freeze.why else "")
-
-
-def percent(part: Fraction) -> str:
-    """A part in percent with two decimals, rounded down."""
-    hundredths = part.numerator * 10_000 // part.denominator
-    sign = "-" if hundredths < 0 else ""
-    return f"{sign}{abs(hundredths) // 100}.{abs(hundredths) % 100:02}%"

@@ -9,11 +9,12 @@ from typing import Optional
 
 from slo_tools.clock import Clock, SystemClock
 from slo_tools.notify.clock_trust import ClockTrust
-from slo_tools.notify.config import BadConfig, Config, read_config
+from slo_tools.notify.config import Config, read_config
 from slo_tools.notify.metrics import Metrics
 from slo_tools.notify.receiver import receiver_of
 from slo_tools.notify.rounds import Rounds
 from slo_tools.notify.state import BadState, read_state
+from slo_tools.settings import ConfigFault
 
 WELL, UNWELL, FAILED = 0, 1, 2
 # A round begins some seconds behind the minute, when the last one is over everywhere.
@@ -39,7 +40,7 @@ def main(words: Optional[list[str]] = None, clock: Clock = SystemClock()) -> int
         if options.check:
             return WELL
         rounds = made_rounds(config, clock)
-    except (BadConfig, BadState, OSError) as fault:
+    except (ConfigFault, BadState, OSError) as fault:
         print(f"slo-notify: {fault}", file=sys.stderr)
         return FAILED
     if options.once:

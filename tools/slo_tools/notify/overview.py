@@ -3,18 +3,14 @@
 from __future__ import annotations
 
 import json
-from fractions import Fraction
 from typing import Any, Optional
 
 from slo_tools.notify.deciding import Binding
 from slo_tools.notify.state import OfficeState
 from slo_tools.notify.watching import ObjectiveView, SloView, Watch
+from slo_tools.spelling import spelled_fraction
 
 VERSION = 1
-
-
-def spelled_fraction(value: Optional[Fraction]) -> Optional[str]:
-    return None if value is None else f"{value.numerator}/{value.denominator}"
 
 
 def office_entry(

@@ -77,18 +77,23 @@ class _Client:
         try:
             with requests.Session() as session:
                 session.trust_env = False
-                session.auth = self.config.credentials
+                session.auth = self.config.login.credentials
                 return session.request(
                     method,
                     url,
                     json=content,
                     timeout=self.timeout,
-                    verify=self.config.verify,
+                    verify=self.config.login.verify,
                     headers={"Connection": "close"},
                 )
         except requests.RequestException as fault:
             why = "no answer in time" if isinstance(fault, requests.Timeout) else "no connection"
             raise NotTaken(f"{url}: {why}") from fault
+
+
+def _date(answer: requests.Response) -> Optional[str]:
+    date: Optional[str] = answer.headers.get("Date")
+    return date
 
 
 class Alertmanager(_Client):
@@ -102,14 +107,14 @@ class Alertmanager(_Client):
 
     def date(self) -> Optional[str]:
         answer = self.request("GET", f"{self.config.address}/api/v2/status")
-        return answer.headers.get("Date")
+        return _date(answer)
 
     def send(self, sendings: Sequence[Sending], now: int) -> Optional[str]:
         told = [self._spelled(sending, now) for sending in sendings]
         answer = self.request("POST", f"{self.config.address}/api/v2/alerts", told)
         if answer.status_code != 200:
             raise NotTaken(f"status {answer.status_code}: {answer.text[:200]}")
-        return answer.headers.get("Date")
+        return _date(answer)
 
     def opened(self, office: str) -> list[dict[str, str]]:
         answer = self.request("GET", f"{self.config.address}/api/v2/alerts?active=true")
@@ -144,7 +149,7 @@ class Webhook(_Client):
     kind = "webhook"
 
     def date(self) -> Optional[str]:
-        return self.request("HEAD", self.config.address).headers.get("Date")
+        return _date(self.request("HEAD", self.config.address))
 
     def send(self, sendings: Sequence[Sending], now: int) -> Optional[str]:
         news = [sending for sending in sendings if sending.is_news]
@@ -158,7 +163,7 @@ class Webhook(_Client):
         answer = self.request("POST", self.config.address, told)
         if not 200 <= answer.status_code < 300:
             raise NotTaken(f"status {answer.status_code}: {answer.text[:200]}")
-        return answer.headers.get("Date")
+        return _date(answer)
 
     def opened(self, office: str) -> list[dict[str, str]]:
         return []

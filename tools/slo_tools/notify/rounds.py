@@ -10,16 +10,17 @@ from fractions import Fraction
 from typing import Any, Optional
 
 from slo_tools.clock import Clock, date_of, minute_of
-from slo_tools.gate.judging import percent
 from slo_tools.notify.clock_trust import ClockTrust, office_fault
 from slo_tools.notify.config import Config, OfficeConfig
 from slo_tools.notify.deciding import QUIET, Binding, Decisions, Present, binding_of, decide
 from slo_tools.notify.metrics import Metrics
-from slo_tools.notify.overview import office_entry, overview_text, spelled_fraction
+from slo_tools.notify.overview import office_entry, overview_text
 from slo_tools.notify.receiver import NOTIFIER, NotTaken, Receiver, Sending
-from slo_tools.notify.state import OfficeState, OpenAlert, write_state, write_whole
+from slo_tools.notify.state import OfficeState, OpenAlert, write_state
 from slo_tools.notify.watching import CountedOffice, Watch
 from slo_tools.office import Budget, Full, Notice, OfficeError, Pauses
+from slo_tools.spelling import percent, spelled_fraction
+from slo_tools.whole_file import write_whole
 
 # Above this part of a limit the office is told to be filling.
 FILLING = Fraction(9, 10)
@@ -77,8 +78,8 @@ class Rounds:
             config.address,
             timeout=self.config.timeout,
             pauses=Pauses(tries=2, first=0.2),
-            credentials=config.credentials,
-            verify=config.verify,
+            credentials=config.login.credentials,
+            verify=config.login.verify,
             counted=lambda status: self.metrics.counted(config.name, status),
         )
         state = states.setdefault(config.name, OfficeState())

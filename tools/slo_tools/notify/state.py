@@ -3,13 +3,12 @@
 from __future__ import annotations
 
 import json
-import os
-import tempfile
 from dataclasses import dataclass, field
 from pathlib import Path
 from typing import Any
 
 from slo_tools.notify.deciding import Binding
+from slo_tools.whole_file import write_whole
 
 VERSION = 1
 
@@ -60,22 +59,6 @@ def write_state(path: Path, states: dict[str, OfficeState]) -> None:
         "version": VERSION,
     }
     write_whole(path, json.dumps(told, indent=1, sort_keys=True))
-
-
-def write_whole(path: Path, text: str, mode: int = 0o600) -> None:
-    """Writes a file beside its place and puts it there, so that a reader has the old or the new."""
-    with tempfile.NamedTemporaryFile(
-        "w", dir=path.parent, prefix=f".{path.name}.", delete=False, encoding="utf-8"
-    ) as file:
-        try:
-            file.write(text)
-            file.flush()
-            os.fsync(file.fileno())
-            os.fchmod(file.fileno(), mode)
-            os.replace(file.name, path)
-        except BaseException:
-            os.unlink(file.name)
-            raise
 
 
 def _read_office(told: dict[str, Any]) -> OfficeState:

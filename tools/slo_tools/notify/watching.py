@@ -9,25 +9,15 @@ from typing import Any, Optional
 
 import requests
 
-from slo_tools.apply.form import minutes_of
 from slo_tools.freshness import LONGEST, age_or_none, excluded_age, exclusions_of
 from slo_tools.notify.deciding import NO_DATA, QUIET, Binding, Present
-from slo_tools.objects import (
-    BUILT_IN_PAGE,
-    BUILT_IN_SEVERITY,
-    BUILT_IN_TICKET,
-    Document,
-    Objective,
-    Slo,
-    object_of,
-)
+from slo_tools.objects import BUILT_IN, Document, Objective, Slo, conditions_of, object_of
 from slo_tools.office import Budget, NotFound, Office, Refusal
 
 # The Workbook's windows.
 LOOKBACKS = ("5m", "30m", "1h", "6h", "3d")
 # The objects are asked for again after so many rounds, or when their list is another.
 ROUNDS_BETWEEN = 5
-BUILT_IN_SHORTEST = {BUILT_IN_PAGE: 5, BUILT_IN_TICKET: 360}
 
 
 @dataclass
@@ -145,17 +135,14 @@ class Watch:
                 made.services[name] = object_of(self.office, kind, name)
             elif kind == "AlertPolicy":
                 made.policies[name] = self._policy(name)
-        for name, severity in BUILT_IN_SEVERITY.items():
-            made.policies[name] = Policy(severity, BUILT_IN_SHORTEST[name])
+        for name in BUILT_IN:
+            made.policies[name] = self._policy(name)
         self.catalogue = made
 
     def _policy(self, name: str) -> Policy:
-        severity, shortest = "", LONGEST
-        for item in object_of(self.office, "AlertPolicy", name).spec.get("conditions") or []:
-            spec = object_of(self.office, "AlertCondition", item["conditionRef"]).spec
-            severity = str(spec.get("severity", ""))
-            lookback = minutes_of(str(spec["condition"]["lookbackWindow"]))
-            shortest = min(shortest, lookback or shortest)
+        conditions = conditions_of(self.office, name)
+        severity = conditions[-1].severity if conditions else ""
+        shortest = min((each.lookback or LONGEST for each in conditions), default=LONGEST)
         return Policy(severity, shortest)
 
     def ask_moment(self) -> None:
@@ -202,15 +189,9 @@ class Watch:
         self, slo: str, objective: int, at: Optional[int]
     ) -> tuple[Optional[Budget], dict[str, Optional[Fraction]]]:
         """Budget and burns of an objective at a minute, as far as the office gives them."""
-        budget = None
-        burns: dict[str, Optional[Fraction]] = {}
-        try:
-            budget = self.office.budgets(slo, at).budgets[objective]
-            for lookback in LOOKBACKS:
-                burns[lookback] = self.office.burn(slo, objective, lookback, at).burn
-        except (Refusal, IndexError):
-            pass
-        return budget, burns
+        budgets = self._budgets(slo, at)[0]
+        budget = budgets[objective] if objective < len(budgets) else None
+        return budget, self._burns(slo, objective, at)
 
     def ask_views(self) -> None:
         """The numbers of all SLOs, for the overview."""
@@ -219,11 +200,7 @@ class Watch:
     def _slo_view(self, slo: Slo) -> SloView:
         service = self.catalogue.services.get(slo.service)
         display = slo.service if service is None else service.display
-        fault, budgets = None, []
-        try:
-            budgets = self.office.budgets(slo.name, self.at).budgets
-        except Refusal as refusal:
-            fault = refusal.word
+        budgets, fault = self._budgets(slo.name, self.at)
         age = self.ages.get(slo.indicator)
         objectives = []
         for objective in slo.objectives:
@@ -232,7 +209,7 @@ class Watch:
                 ObjectiveView(
                     objective,
                     budgets[objective.number] if known else None,
-                    self._burns(slo.name, objective.number),
+                    self._burns(slo.name, objective.number, self.at),
                     age,
                     age is None or age > self.stale,
                     self._alerts(slo, objective.number),
@@ -240,11 +217,18 @@ class Watch:
             )
         return SloView(slo, display, fault, objectives)
 
-    def _burns(self, slo: str, objective: int) -> dict[str, Optional[Fraction]]:
+    def _budgets(self, slo: str, at: Optional[int]) -> tuple[list[Budget], Optional[str]]:
+        """The budgets of an SLO, or the word by which the office refuses them."""
+        try:
+            return self.office.budgets(slo, at).budgets, None
+        except Refusal as refusal:
+            return [], refusal.word
+
+    def _burns(self, slo: str, objective: int, at: Optional[int]) -> dict[str, Optional[Fraction]]:
         burns: dict[str, Optional[Fraction]] = {}
         for lookback in LOOKBACKS:
             try:
-                burns[lookback] = self.office.burn(slo, objective, lookback, self.at).burn
+                burns[lookback] = self.office.burn(slo, objective, lookback, at).burn
             except Refusal:
                 burns[lookback] = None
         return burns

@@ -1,0 +1,28 @@
+"""Fractions and durations, as the tools write and read them."""
+
+from __future__ import annotations
+
+import re
+from fractions import Fraction
+from typing import Optional
+
+_DURATION = re.compile(r"(\d+)([mhdwMQY])", re.ASCII)
+_UNITS = {"m": 1, "h": 60, "d": 1440, "w": 10_080, "M": 43_200, "Q": 129_600, "Y": 525_600}
+
+
+def percent(part: Fraction) -> str:
+    """A part in percent with two decimals, rounded down."""
+    hundredths = part.numerator * 10_000 // part.denominator
+    sign = "-" if hundredths < 0 else ""
+    return f"{sign}{abs(hundredths) // 100}.{abs(hundredths) % 100:02}%"
+
+
+def spelled_fraction(value: Optional[Fraction]) -> Optional[str]:
+    """A fraction as the office writes it, `13/25`; None stays None."""
+    return None if value is None else f"{value.numerator}/{value.denominator}"
+
+
+def minutes_of_duration(text: str) -> Optional[int]:
+    """The minutes of a duration of OpenSLO, as `5m` or `1w`; None where it is none."""
+    found = _DURATION.fullmatch(text)
+    return None if found is None else int(found[1]) * _UNITS[found[2]]
