@@ -14,7 +14,6 @@ from pathlib import Path
 sys.path.insert(0, str(Path(__file__).resolve().parent.parent / "tests"))
 
 from desk_support import RunningOffice, program, run_tool, running_office  # noqa: E402
-
 from slo_tools.apply.profile import written  # noqa: E402
 from slo_tools.clock import SystemClock  # noqa: E402
 from slo_tools.notify.command import made_rounds  # noqa: E402

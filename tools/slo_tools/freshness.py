@@ -5,7 +5,8 @@ from __future__ import annotations
 from collections.abc import Iterable, Mapping
 from typing import Any, Optional
 
-from slo_tools.office import BadRequest, NotFound, Office, Refusal
+from slo_tools.office import Office
+from slo_tools.refusals import BadRequest, NotFound, Refusal
 
 # The longest lookback that an office answers: 30 days.
 LONGEST = 43_200

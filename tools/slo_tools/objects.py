@@ -8,7 +8,8 @@ from typing import Any, Optional
 
 import yaml
 
-from slo_tools.office import Foreign, NotFound, Office
+from slo_tools.office import Office
+from slo_tools.refusals import Foreign, NotFound
 from slo_tools.spelling import minutes_of_duration
 
 # Every scalar stays the text that it is: no number is rounded.

@@ -18,12 +18,26 @@ import time
 from collections.abc import Callable, Iterator, Mapping, Sequence
 from contextlib import contextmanager
 from dataclasses import dataclass, field
-from fractions import Fraction
-from typing import Any, Optional, Union
+from typing import Optional, Union
 
 import requests
 
-Members = dict[str, Any]
+from slo_tools.answers import (
+    Alerts,
+    Batch,
+    Budgets,
+    Burn,
+    Defined,
+    KeptRow,
+    Notice,
+    ObjectName,
+    SampleRow,
+    Ticked,
+    budget_of,
+    fraction,
+)
+from slo_tools.refusals import KINDS, Foreign, Members, NoAnswer, NotFound, OfficeError
+
 Parts = Sequence[Union[str, int]]
 Keys = Mapping[str, Union[str, int]]
 
@@ -40,82 +54,6 @@ _PART = re.compile(r"[A-Za-z0-9._+/-]+")
 def is_label(text: str) -> bool:
     """Whether the office takes this as a source, an SLI's name or an exclusion's id."""
     return _LABEL.fullmatch(text) is not None
-
-
-class OfficeError(Exception):
-    """Whatever kept the office from doing what was asked."""
-
-
-class NoAnswer(OfficeError):
-    """All tries ended without an answer that says what was done.
-
-    A change may have been kept or not. Sent again it acts once.
-    """
-
-
-class Foreign(OfficeError):
-    """An answer that no office gives: a proxy's password page, or another server at that port."""
-
-    def __init__(self, status: int, why: str) -> None:
-        super().__init__(f"status {status}: {why}")
-        self.status = status
-
-
-class Refusal(OfficeError):
-    """The office said no: the status, the word of `error`, and the members beside it."""
-
-    def __init__(self, status: int, members: Members) -> None:
-        self.status = status
-        self.word = str(members.get("error", ""))
-        self.members = {key: value for key, value in members.items() if key != "error"}
-        told = " ".join(f"{key}={value}" for key, value in self.members.items())
-        super().__init__(f"{status} {self.word} {told}".rstrip())
-
-    def number(self, name: str) -> int:
-        """A member that is a whole number, as `row`, `minute`, `revision`, `origin`, `moment`."""
-        return int(self.members[name])
-
-    def text(self, name: str) -> str:
-        """A member that is a text, as `name`, `kind`, `which`, `amount`."""
-        return str(self.members[name])
-
-
-class BadRequest(Refusal):
-    """400, 405, 413, 431, 501: the request has a form that the office doesn't take."""
-
-
-class NotFound(Refusal):
-    """404: no such object, or no such route in this version of the office."""
-
-
-class Conflict(Refusal):
-    """409: something else is kept there already."""
-
-
-class Unprocessable(Refusal):
-    """422: the content breaks a rule."""
-
-
-class ClockRange(Refusal):
-    """500 `clock_range`: the office's clock is behind the end of its range."""
-
-
-class Full(Refusal):
-    """507: a limit is reached, or the journal is full. This is for people to look at."""
-
-
-_KINDS: dict[int, type[Refusal]] = {
-    400: BadRequest,
-    404: NotFound,
-    405: BadRequest,
-    409: Conflict,
-    413: BadRequest,
-    422: Unprocessable,
-    431: BadRequest,
-    500: ClockRange,
-    501: BadRequest,
-    507: Full,
-}
 
 
 @dataclass(frozen=True)
@@ -149,125 +87,6 @@ class Answer:
     def word(self) -> str:
         """The word of `error`, or nothing."""
         return str((self.members or {}).get("error", ""))
-
-
-@dataclass(frozen=True)
-class SampleRow:
-    """A line of a batch. `total` is None for the SLIs whose amount is a decimal."""
-
-    sli: str
-    source: str
-    minute: int
-    revision: int
-    amount: str
-    total: Optional[int] = None
-
-    def line(self) -> str:
-        total = "" if self.total is None else str(self.total)
-        return f"{self.sli},{self.source},{self.minute},{self.revision},{self.amount},{total}"
-
-
-@dataclass(frozen=True)
-class Batch:
-    """What became of a batch; `entry` is None where nothing changed."""
-
-    entry: Optional[int]
-    new: int
-    newer: int
-    repeated: int
-    superseded: int
-
-
-@dataclass(frozen=True)
-class Defined:
-    """How many objects a text defined, and its entry, None where all stood already."""
-
-    applied: int
-    entry: Optional[int]
-
-
-@dataclass(frozen=True)
-class ObjectName:
-    """The kind and name of an object."""
-
-    kind: str
-    name: str
-
-
-@dataclass(frozen=True)
-class KeptRow:
-    """The current row of a cell: amount and total, both None where it was withdrawn."""
-
-    revision: int
-    amount: Optional[str]
-    total: Optional[int]
-
-
-@dataclass(frozen=True)
-class Budget:
-    """The budget of one objective; the fractions are None where nothing was counted."""
-
-    objective: int
-    begin: Optional[int]
-    num: int
-    den: int
-    error: Optional[Fraction]
-    burn: Optional[Fraction]
-    remaining: Optional[Fraction]
-
-
-@dataclass(frozen=True)
-class Budgets:
-    """The budgets of an SLO at a minute."""
-
-    at: int
-    entries: int
-    budgets: list[Budget]
-
-
-@dataclass(frozen=True)
-class Burn:
-    """The burn rate of an objective over a lookback."""
-
-    at: int
-    entries: int
-    num: int
-    den: int
-    burn: Optional[Fraction]
-
-
-@dataclass(frozen=True)
-class Alerts:
-    """The intervals [from, to) in which an alert was active, and its state at the moment."""
-
-    entries: int
-    intervals: list[tuple[int, int]]
-    state: str
-
-
-@dataclass(frozen=True)
-class Notice:
-    """A change of an alert's state that waits until it is taken."""
-
-    number: int
-    at: int
-    slo: str
-    objective: int
-    policy: str
-    state: str
-
-
-@dataclass(frozen=True)
-class Ticked:
-    """A tick's entry and how many notices it made."""
-
-    entry: Optional[int]
-    notices: int
-
-
-def fraction(text: Optional[str]) -> Optional[Fraction]:
-    """`13/25` as a number; null stays None."""
-    return None if text is None else Fraction(text)
 
 
 @dataclass
@@ -451,7 +270,7 @@ class Office:
     def budgets(self, slo: str, at: Optional[int] = None) -> Budgets:
         """The budget of each objective, at the moment or at a minute."""
         told = self.ask("GET", ["budgets", slo], _key("at", at))
-        return Budgets(told["at"], told["entries"], [_budget(b) for b in told["budgets"]])
+        return Budgets(told["at"], told["entries"], [budget_of(b) for b in told["budgets"]])
 
     def burn(self, slo: str, objective: int, lookback: str, at: Optional[int] = None) -> Burn:
         """The burn rate over a lookback as `1h`."""
@@ -516,7 +335,7 @@ def _passes(answer: Answer) -> bool:
 
 
 def _refusal(answer: Answer) -> OfficeError:
-    kind = _KINDS.get(answer.status)
+    kind = KINDS.get(answer.status)
     if kind is None or answer.members is None or not answer.word:
         return Foreign(answer.status, "no answer of an office")
     return kind(answer.status, answer.members)
@@ -533,15 +352,3 @@ def _why(fault: requests.RequestException) -> str:
 def _entry(told: Members) -> Optional[int]:
     entry: Optional[int] = told["entry"]
     return entry
-
-
-def _budget(told: Members) -> Budget:
-    return Budget(
-        told["objective"],
-        told["from"],
-        told["num"],
-        told["den"],
-        fraction(told["error"]),
-        fraction(told["burn"]),
-        fraction(told["remaining"]),
-    )

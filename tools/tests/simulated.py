@@ -6,19 +6,9 @@ from collections.abc import Sequence
 from dataclasses import dataclass, field
 from typing import Optional
 
+from slo_tools.answers import Batch, Budgets, KeptRow, ObjectName, SampleRow
 from slo_tools.feed.prometheus import Values
-from slo_tools.office import (
-    Batch,
-    Budgets,
-    Conflict,
-    KeptRow,
-    Members,
-    NoAnswer,
-    NotFound,
-    ObjectName,
-    SampleRow,
-    Unprocessable,
-)
+from slo_tools.refusals import Conflict, Members, NoAnswer, NotFound, Unprocessable
 
 
 @dataclass

@@ -10,7 +10,6 @@ from pathlib import Path
 
 from apply_documents import changed_at_random, documents
 from desk_support import TOOLS, RunningOffice, program, run_tool, running_office
-
 from slo_tools.apply.folder import read_folder
 from slo_tools.apply.form import faults_of, key_of
 from slo_tools.apply.profile import written

@@ -10,7 +10,6 @@ import unittest
 from fractions import Fraction
 
 from desk_support import RunningOffice, free_port, run_tool, running_office
-
 from slo_tools.freshness import excluded_age
 from slo_tools.gate.judging import BadFreeze, Freeze, Verdict, read_freeze, worst
 from slo_tools.spelling import percent

@@ -27,7 +27,7 @@ from desk_support import (
     run_tool,
     wait_for,
 )
-
+from slo_tools.answers import Notice
 from slo_tools.notify.clock_trust import ClockTrust
 from slo_tools.notify.command import pause
 from slo_tools.notify.config import read_config
@@ -36,7 +36,6 @@ from slo_tools.notify.metrics import Metrics
 from slo_tools.notify.receiver import Receiver, Sending, receiver_of
 from slo_tools.notify.rounds import Rounds
 from slo_tools.notify.state import read_state
-from slo_tools.office import Notice
 from slo_tools.settings import ConfigFault
 
 MINUTE = 60

@@ -11,19 +11,17 @@ from http.server import BaseHTTPRequestHandler, ThreadingHTTPServer
 from typing import Any
 
 import support
-from slo_tools.office import (
+from slo_tools.answers import Batch, SampleRow
+from slo_tools.office import Office, Pauses
+from slo_tools.refusals import (
     BadRequest,
-    Batch,
     ClockRange,
     Conflict,
     Foreign,
     Full,
     NoAnswer,
     NotFound,
-    Office,
-    Pauses,
     Refusal,
-    SampleRow,
     Unprocessable,
 )
 

@@ -18,7 +18,7 @@ from pathlib import Path
 from typing import Any
 
 import support
-from slo_tools.office import SampleRow
+from slo_tools.answers import SampleRow
 from support import Exporter, OfficeServer, PrometheusServer
 
 LACKS = [

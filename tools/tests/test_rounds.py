@@ -13,17 +13,20 @@ from unittest import mock
 
 import support
 from simulated import HeldClock, Sample, SimulatedOffice, SimulatedPrometheus
+from slo_tools.answers import Batch, SampleRow
 from slo_tools.feed.cells import Amount, Cell
 from slo_tools.feed.command import seconds_to_next
 from slo_tools.feed.config import Config, IndicatorConfig
+from slo_tools.feed.dues import due
 from slo_tools.feed.engine import Engine
 from slo_tools.feed.prometheus import Prometheus
 from slo_tools.feed.revisions import Kept, Pending, pending
-from slo_tools.feed.rounds import End, Feed, due
+from slo_tools.feed.rounds import End, Feed
 from slo_tools.feed.sending import Sender
 from slo_tools.feed.state import State, read_state, write_state
 from slo_tools.feed.watch import Watch
-from slo_tools.office import Batch, Full, Office, SampleRow
+from slo_tools.office import Office
+from slo_tools.refusals import Full
 from slo_tools.settings import Login
 
 BEGIN = 29_000_000

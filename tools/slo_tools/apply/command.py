@@ -22,8 +22,9 @@ from slo_tools.apply.planning import (
     sampled_by,
 )
 from slo_tools.apply.scratch import ScratchFault
-from slo_tools.office import OfficeError, Pauses
+from slo_tools.office import Pauses
 from slo_tools.office_options import add_office_options, office_of
+from slo_tools.refusals import OfficeError
 
 DONE, DIFFERENT, FAULTY = 0, 1, 2
 

@@ -11,8 +11,9 @@ from slo_tools.apply.folder import Zone
 from slo_tools.apply.judging import Name, calendar_zones, joined, rank_of
 from slo_tools.freshness import LONGEST
 from slo_tools.nodes import node_at, text_at
-from slo_tools.office import NotFound, Office, Refusal
+from slo_tools.office import Office
 from slo_tools.openslo import METRIC_PATHS
+from slo_tools.refusals import NotFound, Refusal
 from slo_tools.yaml_reading import read_yaml
 
 

@@ -9,7 +9,7 @@ from dataclasses import dataclass
 from decimal import ROUND_HALF_EVEN, Decimal
 from typing import Optional
 
-from slo_tools.office import SampleRow
+from slo_tools.answers import SampleRow
 
 # What the office takes as a row's total, and as a decimal.
 MOST_EVENTS = 1_000_000_000

@@ -9,7 +9,8 @@ from slo_tools.feed.config import Config
 from slo_tools.feed.engine import Engine, EngineError, Indicator
 from slo_tools.feed.objects import DataSource, read_catalog
 from slo_tools.feed.rounds import CLOCKS_APART, End
-from slo_tools.office import Office, OfficeError
+from slo_tools.office import Office
+from slo_tools.refusals import OfficeError
 
 
 def check(

@@ -9,14 +9,7 @@ from decimal import Decimal
 from typing import Any, Optional, Protocol
 
 from slo_tools.clock import DAY, MINUTE
-from slo_tools.feed.cells import (
-    MOST_VALUE,
-    Amount,
-    Cell,
-    amounts_of,
-    source_name,
-    summed,
-)
+from slo_tools.feed.cells import MOST_VALUE, Amount, Cell, amounts_of, source_name, summed
 from slo_tools.feed.engine import Answer, EngineError, Form, Indicator, QueryFault, Reading
 
 Row = tuple[Any, ...]

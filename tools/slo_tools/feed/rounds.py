@@ -3,7 +3,7 @@
 from __future__ import annotations
 
 import time
-from collections.abc import Callable, Iterator, Mapping
+from collections.abc import Callable, Mapping
 from dataclasses import dataclass, field
 from enum import IntEnum
 from typing import Optional
@@ -11,26 +11,17 @@ from typing import Optional
 from slo_tools.clock import MINUTE, Clock, date_of, minute_of
 from slo_tools.feed.cells import Amounts
 from slo_tools.feed.config import Config
+from slo_tools.feed.dues import Due, due, first_again, nothing_of, slices
 from slo_tools.feed.engine import Answer, Engine, EngineError, Indicator
 from slo_tools.feed.objects import Catalog, DataSource, read_catalog
 from slo_tools.feed.revisions import pending, without_old
 from slo_tools.feed.sending import Sender, Sent
 from slo_tools.feed.state import State, write_state
 from slo_tools.feed.watch import LOG, Watch
-from slo_tools.office import (
-    ACCEPTED,
-    CELLS,
-    Full,
-    Members,
-    NoAnswer,
-    NotFound,
-    Office,
-    OfficeError,
-)
+from slo_tools.office import ACCEPTED, CELLS, Office
+from slo_tools.refusals import Full, Members, NoAnswer, NotFound, OfficeError
 
 CLOCKS_APART = 60.0
-# Minutes that are read and sent before the state is written again.
-SLICE = 720
 
 
 class End(IntEnum):
@@ -43,64 +34,6 @@ class End(IntEnum):
     CLOCK = 5
     FULL = 6
     STATE = 7
-
-
-@dataclass(frozen=True)
-class Due:
-    """The minutes [begin, end) of an indicator that a round reads."""
-
-    indicator: Indicator
-    begin: int
-    end: int
-
-
-def due(
-    indicator: Indicator,
-    through: Optional[int],
-    closed: int,
-    first: int,
-    origin: Optional[int],
-    again: bool = False,
-) -> Optional[Due]:
-    """What is read of an indicator where `closed` is the newest closed minute: what is behind
-    `through`, and the look-back before it, however long ago that was read; `first` minutes where
-    nothing was read yet. None where no stretch has ended since, unless the look-back is to be read
-    `again`."""
-    newest = indicator.newest(closed)
-    if through is not None and through >= newest and not again:
-        return None
-    begin = newest - first + 1 if through is None else _first_again(indicator, through)
-    begin = max(begin, origin or 0, 0)
-    # A stretch is read whole, also where it begins before the first minute asked for.
-    begin -= begin % indicator.every
-    return Due(indicator, begin, newest + 1) if begin <= newest else None
-
-
-def _first_again(indicator: Indicator, through: int) -> int:
-    """The first minute that is read again where all up to `through` were read."""
-    begin = max(through - indicator.look_back + 1, 0)
-    return begin - begin % indicator.every
-
-
-def _nothing_of(indicator: Indicator, closed: int) -> tuple[int, int]:
-    end = indicator.newest(closed) + 1
-    return end, end
-
-
-def slices(dues: list[Due]) -> Iterator[dict[Indicator, tuple[int, int]]]:
-    """The minutes that are due, cut at the same moments, the oldest first."""
-    place = min((d.begin for d in dues), default=0)
-    last = max((d.end for d in dues), default=0)
-    while place < last:
-        stop = place - place % SLICE + SLICE
-        asked = {
-            d.indicator: (max(d.begin, place), min(d.end, stop))
-            for d in dues
-            if max(d.begin, place) < min(d.end, stop)
-        }
-        if asked:
-            yield asked
-        place = stop
 
 
 @dataclass
@@ -234,7 +167,7 @@ class Feed:
             asked = {i: span for i, span in asked.items() if i.sli not in unread}
             if number == 0 and mark is not None:
                 # Late events concern those too whose stretch hasn't ended since the last run.
-                asked = {**{i: _nothing_of(i, closed) for i in indicators}, **asked}
+                asked = {**{i: nothing_of(i, closed) for i in indicators}, **asked}
             answer = engine.read(asked, mark if number == 0 else None)
             if number > 0:
                 # What comes late during the later slices is looked for from the first on.
@@ -324,7 +257,7 @@ class Feed:
             newest = max(newest, self.state.through.get(indicator.sli, 0))
             self.state.through[indicator.sli] = newest
             self._were_read.add(indicator.sli)
-            first[indicator.sli] = _first_again(indicator, newest)
+            first[indicator.sli] = first_again(indicator, newest)
             self.watch.newest(indicator.sli, newest, now)
         self.state.kept = without_old(self.state.kept, first.items())
 

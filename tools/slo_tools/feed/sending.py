@@ -7,6 +7,7 @@ from collections.abc import Sequence
 from dataclasses import dataclass, field
 from typing import Optional, Protocol
 
+from slo_tools.answers import Batch, KeptRow, SampleRow
 from slo_tools.feed.cells import Amount, Cell
 from slo_tools.feed.revisions import (
     MOST_REVISION,
@@ -15,15 +16,8 @@ from slo_tools.feed.revisions import (
     behind_conflict,
     behind_superseded,
 )
-from slo_tools.office import (
-    ROWS_OF_A_BATCH,
-    Batch,
-    Conflict,
-    KeptRow,
-    Refusal,
-    SampleRow,
-    Unprocessable,
-)
+from slo_tools.office import ROWS_OF_A_BATCH
+from slo_tools.refusals import Conflict, Refusal, Unprocessable
 
 # A refused batch is sent again, so batches stay small where refusals are to be expected.
 SMALL_BATCH = 50

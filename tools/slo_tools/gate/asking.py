@@ -5,6 +5,7 @@ from __future__ import annotations
 from collections.abc import Mapping
 from typing import Any, Optional
 
+from slo_tools.answers import Budget
 from slo_tools.freshness import excluded_age, exclusions_of, has_events
 from slo_tools.gate.judging import (
     FREEZE,
@@ -16,7 +17,8 @@ from slo_tools.gate.judging import (
     read_freeze,
 )
 from slo_tools.objects import Document, Objective, Slo, conditions_of, object_of, slo_of
-from slo_tools.office import Budget, NotFound, Office
+from slo_tools.office import Office
+from slo_tools.refusals import NotFound
 
 PAGE = "page"
 

@@ -10,17 +10,10 @@ from typing import Any, Optional
 
 from slo_tools.clock import Clock, SystemClock, date_of, minute_of
 from slo_tools.gate.asking import Asker
-from slo_tools.gate.judging import (
-    Judged,
-    Reason,
-    SloFacts,
-    Terms,
-    Verdict,
-    judge_slo,
-    worst,
-)
-from slo_tools.office import OfficeError, Pauses
+from slo_tools.gate.judging import Judged, Reason, SloFacts, Terms, Verdict, judge_slo, worst
+from slo_tools.office import Pauses
 from slo_tools.office_options import add_office_options, office_of
+from slo_tools.refusals import OfficeError
 from slo_tools.spelling import percent, spelled_fraction
 
 WORDS = {

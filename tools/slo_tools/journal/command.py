@@ -27,8 +27,8 @@ from slo_tools.journal.file import (
     read_journal,
 )
 from slo_tools.journal.history import LIMITS, Change, History
-from slo_tools.journal.records import Entry
 from slo_tools.journal.mending import mending_of
+from slo_tools.journal.records import Entry
 
 SOUND, DAMAGED, FAILED = 0, 1, 2
 

@@ -6,7 +6,7 @@ from collections.abc import Mapping, Sequence
 from dataclasses import dataclass, field
 from typing import NamedTuple, Optional
 
-from slo_tools.office import Notice
+from slo_tools.answers import Notice
 
 BREACHING, NO_DATA, QUIET = "breaching", "no_data", "quiet"
 

@@ -9,6 +9,7 @@ from dataclasses import dataclass, field
 from fractions import Fraction
 from typing import Any, Optional
 
+from slo_tools.answers import Budget, Notice
 from slo_tools.clock import Clock, date_of, minute_of
 from slo_tools.notify.clock_trust import ClockTrust, office_fault
 from slo_tools.notify.config import Config, OfficeConfig
@@ -18,7 +19,8 @@ from slo_tools.notify.overview import office_entry, overview_text
 from slo_tools.notify.receiver import NOTIFIER, NotTaken, Receiver, Sending
 from slo_tools.notify.state import OfficeState, OpenAlert, write_state
 from slo_tools.notify.watching import CountedOffice, Watch
-from slo_tools.office import Budget, Full, Notice, OfficeError, Pauses
+from slo_tools.office import Pauses
+from slo_tools.refusals import Full, OfficeError
 from slo_tools.spelling import percent, spelled_fraction
 from slo_tools.whole_file import write_whole
 

@@ -9,10 +9,12 @@ from typing import Any, Optional
 
 import requests
 
+from slo_tools.answers import Budget
 from slo_tools.freshness import LONGEST, age_or_none, excluded_age, exclusions_of
 from slo_tools.notify.deciding import NO_DATA, QUIET, Binding, Present
 from slo_tools.objects import BUILT_IN, Document, Objective, Slo, conditions_of, object_of
-from slo_tools.office import Budget, NotFound, Office, Refusal
+from slo_tools.office import Office
+from slo_tools.refusals import NotFound, Refusal
 
 # The Workbook's windows.
 LOOKBACKS = ("5m", "30m", "1h", "6h", "3d")
