@@ -20,8 +20,8 @@
  */
 /**
  * @typedef {{
- *   name: string, path: string, up: boolean, fault: string?, at: number?, entries: number?,
- *   usage: Record<string, [number, number]>?, slos: SloEntry[],
+ *   name: string, path: string, up: boolean, fault: string?, at: number?, origin: number?,
+ *   entries: number?, usage: Record<string, [number, number]>?, slos: SloEntry[],
  * }} OfficeEntry
  */
 /** @typedef {{clock: string?, receiver: string, receiver_fault: string?, waiting: number}} NotifyEntry */

@@ -9,7 +9,7 @@ import { element, keysHint, present, row, say, section, table } from "./dom.js";
 import { exactNumber } from "./exact.js";
 import { ONE, burnText, compare, fraction, percent, spell, subtract } from "./fractions.js";
 import { spanText, zoneOf } from "./minutes.js";
-import { Office, askDownward } from "./office.js";
+import { Office, askEach } from "./office.js";
 import { monthPlace, sloPlace } from "./routes.js";
 
 /** @typedef {import("./minutes.js").Zone} Zone */
@@ -64,19 +64,17 @@ export function daysOf({ year, month }, zone, now) {
  * @returns {Promise<Told>}
  */
 async function askMonth(office, { slo, objective }, days) {
-  const ends = new Map(days.map(({ from, to }) => [to, from]));
-  const sumTo = (/** @type {number} */ to) => office.sum(slo.name, objective.number, ends.get(to) ?? to, to);
-  const sums = await askDownward([...ends.keys()], sumTo);
-  const known = days.filter(({ to }) => sums.has(to));
+  const known = days.filter(({ to }) => to > office.origin);
+  if (!known.length) return { days: new Map(), whole: { num: 0, den: 0 }, alerts: [], exclusions: null, begun: false };
+  const begins = new Map(known.map(({ from, to }) => [to, from]));
+  const sumTo = (/** @type {number} */ to) => office.sum(slo.name, objective.number, begins.get(to) ?? to, to);
+  const sums = await askEach([...begins.keys()], sumTo);
   const byDay = new Map(known.map(({ day, to }) => [day, /** @type {Sum} */ (sums.get(to))]));
-  if (!known.length) return { days: byDay, whole: { num: 0, den: 0 }, alerts: [], exclusions: null, begun: false };
   const [from, to] = [known[0].from, known[known.length - 1].to];
   const whole = await office.sum(slo.name, objective.number, from, to);
-  // The history may have begun within the first day.
-  const since = known.length < days.length ? known[0].to : from;
   const alerts = await Promise.all(
     objective.alerts.map(async ({ policy }) => {
-      const intervals = await office.alerts(slo.name, objective.number, policy, since, to);
+      const intervals = await office.alerts(slo.name, objective.number, policy, from, to);
       return intervals.map(([first, after]) => ({ policy, from: first, to: after }));
     }),
   );
@@ -222,7 +220,7 @@ export async function monthView(place, wanted, signal, put) {
   put([...head, rest]);
   say(`Loading ${nameOf(month)} …`, "busy");
   const days = daysOf(month, zone, entry.at);
-  const office = new Office(entry.path, entry.usage !== null, signal);
+  const office = new Office(entry, signal);
   const told = await askMonth(office, place, days);
   const end = days.at(-1)?.to ?? entry.at;
   const note = told.begun ? null : element("p", { class: "trouble" }, "The office's history hasn't this month.");

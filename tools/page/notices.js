@@ -43,7 +43,7 @@ export async function noticesView(overview, signal, put) {
   const parts = await Promise.all(
     overview.offices.map(async (entry) => {
       try {
-        const office = new Office(entry.path, entry.usage !== null, signal);
+        const office = new Office(entry, signal);
         return section(entry.name, noticesTable(entry, await office.notices()));
       } catch (fault) {
         if (!(fault instanceof OfficeFault)) throw fault;

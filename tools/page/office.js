@@ -55,14 +55,16 @@ const turnstile = new Turnstile();
 
 export class Office {
   /**
-   * @param {string} path where the web server passes the office on, with a slash at its end
-   * @param {boolean} hasStatus whether this version answers `GET /status`, and with it the
-   *   questions for sums, windows and exclusions; others aren't asked for these in vain
+   * @param {import("./file.js").OfficeEntry} entry
    * @param {AbortSignal} signal ends what is still under way
    */
-  constructor(path, hasStatus, signal) {
+  constructor({ path, usage, origin }, signal) {
     this.path = path;
-    this.hasStatus = hasStatus;
+    // Whether this version answers `GET /status`, and with it the questions for sums, windows and
+    // exclusions; others aren't asked for these in vain.
+    this.hasStatus = usage !== null;
+    // The first minute of the history: nothing can be asked for one before it.
+    this.origin = origin ?? Infinity;
     this.signal = signal;
     this.asked = 0;
   }
@@ -116,7 +118,7 @@ export class Office {
   }
 
   /**
-   * The budgets of an SLO's objectives at a minute.
+   * The budgets of an SLO's objectives at a minute of the history.
    * @param {string} slo
    * @param {number} at
    * @returns {Promise<Budget[]>}
@@ -126,7 +128,8 @@ export class Office {
   }
 
   /**
-   * Good and total of the minutes from `from` up to `to`: a lookback from there, or several.
+   * Good and total of the minutes from `from` up to `to`: a lookback from there, or several. Before
+   * the history there is nothing to ask for.
    * @param {string} slo
    * @param {number} objective
    * @param {number} from
@@ -135,7 +138,7 @@ export class Office {
    */
   async sum(slo, objective, from, to) {
     const sum = { num: 0, den: 0 };
-    for (let end = to; end > from; ) {
+    for (let end = to; end > from && end > this.origin; ) {
       const begin = end - from <= LONGEST_LOOKBACK ? from : cutBelow(end);
       const { num, den } = await this.ask(["burns", slo, objective], { at: end, lookback: `${end - begin}m` });
       sum.num += num;
@@ -146,7 +149,7 @@ export class Office {
   }
 
   /**
-   * The sums over equal steps from `from` on, the last one cut at `to`.
+   * The sums over equal steps from `from`, a minute of the history, on, the last one cut at `to`.
    * @param {string} slo
    * @param {number} objective
    * @param {number} from
@@ -181,12 +184,6 @@ export class Office {
     return told && told.exclusions.filter((/** @type {Exclusion} */ each) => each.slo === slo && each.live);
   }
 
-  /** The first minute of the history, null where this version hasn't the question. */
-  async origin() {
-    const told = await this.newer(["status"]);
-    return told && /** @type {number} */ (told.origin);
-  }
-
   /**
    * The intervals in which an alert was active.
    * @param {string} slo
@@ -199,7 +196,7 @@ export class Office {
   async alerts(slo, objective, policy, from, to) {
     /** @type {[number, number][]} */
     const found = [];
-    for (let begin = from; begin < to; begin += LONGEST_TIMELINE) {
+    for (let begin = Math.max(from, this.origin); begin < to; begin += LONGEST_TIMELINE) {
       const end = Math.min(to, begin + LONGEST_TIMELINE);
       const told = await this.ask(["alerts", slo, objective, policy], { from: begin, to: end });
       for (const [first, after] of told.intervals) {
@@ -256,31 +253,21 @@ async function faultOf(answer) {
 }
 
 /**
- * Asks for each of the minutes, the latest first, and stops below the first minute of the history,
- * where the office refuses `range`.
+ * Asks for each of some minutes.
  * @template T
- * @param {number[]} minutes in their order
+ * @param {number[]} minutes
  * @param {(minute: number) => Promise<T>} ask
  * @param {(done: number) => void} [told]
  * @returns {Promise<Map<number, T>>}
  */
-export async function askDownward(minutes, ask, told = () => {}) {
+export async function askEach(minutes, ask, told = () => {}) {
   /** @type {Map<number, T>} */
   const found = new Map();
-  let next = minutes.length - 1;
-  const work = async () => {
-    while (next >= 0) {
-      const minute = minutes[next];
-      next -= 1;
-      try {
-        found.set(minute, await ask(minute));
-        told(found.size);
-      } catch (fault) {
-        if (!(fault instanceof OfficeFault) || fault.word !== "range") throw fault;
-        next = -1;
-      }
-    }
-  };
-  await Promise.all(Array.from({ length: AT_ONCE }, work));
+  await Promise.all(
+    minutes.map(async (minute) => {
+      found.set(minute, await ask(minute));
+      told(found.size);
+    }),
+  );
   return found;
 }

@@ -4,11 +4,11 @@
  */
 
 import { present } from "./dom.js";
-import { OfficeFault, askDownward } from "./office.js";
+import { OfficeFault, askEach } from "./office.js";
 
 /** @typedef {import("./office.js").Office} Office */
 /** @typedef {import("./office.js").Sum} Sum */
-/** @typedef {{from: number, to: number, sum: Sum?}} Step sum null where the office wasn't there yet */
+/** @typedef {{from: number, to: number, sum: Sum?}} Step sum null before the office's history */
 /** @typedef {{policy: string, severity: string, intervals: [number, number][]}} Alert */
 /**
  * @typedef {{
@@ -47,18 +47,18 @@ export async function askSeries(office, slo, objective, to, told) {
   const from = objective.from ?? to;
   // A slice is an hour at most, so no step of an hour or more is without one.
   const { edges, step } = edgesOf(from, to, slo.method === "Occurrences" ? 1 : 60);
-  const all = 2 * edges.length;
-  const remaining = await askDownward(
-    edges,
+  const known = edges.filter((edge) => edge >= office.origin);
+  const all = 2 * known.length;
+  const remaining = await askEach(
+    known,
     async (at) => (await office.budgets(slo.name, at))[objective.number].remaining,
     (done) => told(done, all),
   );
-  const first = Math.min(...remaining.keys());
-  const steps = await askSteps(office, slo.name, objective.number, edges, step, first, (done) =>
-    told(edges.length + done, all),
+  const steps = await askSteps(office, slo.name, objective.number, edges, step, (done) =>
+    told(known.length + done, all),
   );
   const alerts = await Promise.all(
-    objective.alerts.map((alert) => askAlert(office, slo.name, objective.number, alert, first, to)),
+    objective.alerts.map((alert) => askAlert(office, slo.name, objective.number, alert, from, to)),
   );
   const exclusions = await office.exclusions(slo.name);
   return {
@@ -78,20 +78,19 @@ export async function askSeries(office, slo, objective, to, told) {
  * @param {number} objective
  * @param {number[]} edges
  * @param {number} step
- * @param {number} first the first minute known to be the history's
  * @param {(done: number) => void} told
  * @returns {Promise<Step[]>}
  */
-async function askSteps(office, slo, objective, edges, step, first, told) {
+async function askSteps(office, slo, objective, edges, step, told) {
   const ranges = edges.slice(1).map((to, index) => ({ from: edges[index], to }));
-  const asked = ranges.filter(({ to }) => to > first);
+  const asked = ranges.filter(({ to }) => to > office.origin);
   // The first step is shorter than the others: the sums are asked from its end on.
-  const even = asked.filter(({ from }) => from >= first && from % step === 0);
+  const even = asked.filter(({ from }) => from >= office.origin && from % step === 0);
   const sums = even.length ? await office.sums(slo, objective, even[0].from, even[even.length - 1].to, step) : null;
   const known = new Map(sums ? even.map(({ to }, index) => [to, sums[index]]) : []);
   const rest = asked.map(({ to }) => to).filter((to) => !known.has(to));
   const begins = new Map(ranges.map(({ from, to }) => [to, from]));
-  const others = await askDownward(rest, (to) => office.sum(slo, objective, begins.get(to) ?? to, to), told);
+  const others = await askEach(rest, (to) => office.sum(slo, objective, begins.get(to) ?? to, to), told);
   return ranges.map(({ from, to }) => ({ from, to, sum: known.get(to) ?? others.get(to) ?? null }));
 }
 

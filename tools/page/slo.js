@@ -182,9 +182,8 @@ function leftOut(told, office, isRolling) {
  * @param {Zone} zone
  */
 async function closedWindows(office, { slo, objective, office: entry }, zone) {
-  const origin = slo.window.rolling ? null : await office.origin();
-  if (origin === null || entry.at === null) return null;
-  const windows = await office.windows(slo.name, Math.max(origin, entry.at - YEAR), entry.at);
+  if (slo.window.rolling || entry.at === null || entry.at < office.origin) return null;
+  const windows = await office.windows(slo.name, Math.max(office.origin, entry.at - YEAR), entry.at);
   if (!windows) return null;
   const headers = ["Window", "Good", "Total", "Budget left"];
   const rows = windows.reverse().map(({ from, budgets }) => {
@@ -227,7 +226,7 @@ async function objectTexts(office, slo, objective) {
 export async function sloView(place, signal, put) {
   const { office: entry, slo, objective } = place;
   const zone = zoneOf(slo.window.zone);
-  const office = new Office(entry.path, entry.usage !== null, signal);
+  const office = new Office(entry, signal);
   const progress = element("p", { class: "progress" });
   const month = monthPlace(entry.name, slo.name, objective.number);
   const monthLink = element("a", { href: month }, "A calendar month, for printing");

@@ -10,6 +10,8 @@ MINUTE = 60
 DAY = 1440
 # The office takes no minute at or above this one (docs/guide.md).
 MINUTES_END = 67_108_864
+# From its origin on an office has so many.
+RANGE_MINUTES = 2_097_152
 
 
 class Clock(Protocol):

@@ -110,8 +110,7 @@ def rows(now: int) -> list[str]:
 
 def fill(office: RunningOffice, now: int) -> None:
     client = office.client()
-    zone = (Path("/usr/share/zoneinfo") / ZONE).read_bytes()
-    client.ask("PUT", ["zones", *ZONE.split("/")], body=zone)
+    client.ask("PUT", ["zones", *ZONE.split("/")], body=zone_file())
     client.define(documents().encode())
     lines = rows(now)
     for begin in range(0, len(lines), ROWS):
@@ -120,6 +119,37 @@ def fill(office: RunningOffice, now: int) -> None:
     body = json.dumps({"from": begin, "slo": "checkout", "to": end}, sort_keys=True)
     client.ask("PUT", ["exclusions", "data-centre-move"], body=body.encode())
     client.ask("POST", ["tick"])
+
+
+def young_office(folder: Path, minutes: int, rows: int) -> RunningOffice:
+    """An office whose history has begun some minutes ago, with rows of its newest minutes."""
+    now = int(time.time()) // 60
+    office = RunningOffice(folder, now - minutes)
+    office.start()
+    client = office.client()
+    client.ask("PUT", ["zones", *ZONE.split("/")], body=zone_file())
+    client.define(few_documents().encode())
+    if rows:
+        lines = [f"{_sli(0)},web,{now - ago},1,{ago % 2 * 9},9\n" for ago in range(1, rows + 1)]
+        client.ask("POST", ["samples"], body="".join(lines).encode())
+    return office
+
+
+def few_documents() -> str:
+    """An SLO of each kind: over a rolling window, over the calendar's month, in slices."""
+    policies = "  alertPolicies:\n  - workbook-page\n  - workbook-ticket\n"
+    rolling = _slo("rolling", "Rolling", "shop", _sli(0), "0.999", ROLLING) + policies
+    month = _slo("monthly", "By the month", "shop", _sli(0), "0.99", MONTH) + policies
+    slices = _slo("slices", "In slices", "shop", _sli(0), "0.99", MONTH) + policies
+    slices = slices.replace("Occurrences", "Timeslices").replace(
+        "    target: 0.99\n",
+        "    target: 0.99\n    timeSliceTarget: 0.9\n    timeSliceWindow: 1h\n",
+    )
+    return "---\n".join([_service("shop", "Shop"), _indicator(_sli(0)), rolling, month, slices])
+
+
+def zone_file() -> bytes:
+    return (Path("/usr/share/zoneinfo") / ZONE).read_bytes()
 
 
 def write_overview(folder: Path, port: int) -> Path:

@@ -124,9 +124,9 @@ class HeldClock:
 
 
 class TimedOffice(RunningOffice):
-    """An office whose clock is held."""
+    """An office whose clock is held, and whose history begins before it."""
 
-    def __init__(self, folder: Path, clock: HeldClock) -> None:
+    def __init__(self, folder: Path, clock: HeldClock, minutes: int = 5000) -> None:
         super().__init__(folder)
         if not os.path.exists(LIBRARY):
             raise unittest.SkipTest("libfaketime isn't installed")
@@ -139,7 +139,7 @@ class TimedOffice(RunningOffice):
             "TZ": "UTC",
         }
         subprocess.run(
-            [program(), "init", str(clock.minute() - 5000)],
+            [program(), "init", str(clock.minute() - minutes)],
             cwd=folder,
             check=True,
             capture_output=True,
@@ -291,6 +291,25 @@ class Webhooks(Desk):
         rounds.round()
         self.assertEqual(hook.told(), [("workbook-page", "firing"), ("workbook-page", "resolved")])
         self.assertEqual(office.client().notices(), [])
+
+    def test_the_overview_tells_where_the_history_begins(self) -> None:
+        clock, office, hook = self.timed()
+        rounds = self.hooked(clock, office, hook)
+        for _ in range(2):
+            self.assertTrue(rounds.round(), self.said.getvalue())
+            clock.go_on()
+        begun = clock.minute() - 2 - 5000
+        self.assertEqual(self.overview()["offices"][0]["origin"], begun)
+        # Another office stands in its place.
+        office.kill()
+        (office.folder / "office.journal").unlink()
+        other = TimedOffice(office.folder, clock, 7)
+        other.port = office.port
+        other.start()
+        self.addCleanup(other.kill)
+        other.client().define(DOCUMENTS.encode())
+        self.assertTrue(rounds.round(), self.said.getvalue())
+        self.assertEqual(self.overview()["offices"][0]["origin"], clock.minute() - 7)
 
     def test_a_feed_that_dies_in_an_outage_resolves_nothing(self) -> None:
         clock, office, hook = self.timed()

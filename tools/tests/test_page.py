@@ -24,6 +24,7 @@ from page_support import (
     needed,
     pictures,
     write_overview,
+    young_office,
 )
 
 WIDTHS = (400, 700, 1280, 2500)
@@ -206,6 +207,40 @@ class Page(unittest.TestCase):
         finally:
             front.stop()
             later.close()
+
+    @contextmanager
+    def young_front(self, name: str, minutes: int, rows: int) -> Iterator[Front]:
+        """nginx in front of an office of its own that is some minutes old."""
+        folder = self.folder / name
+        (folder / "office").mkdir(parents=True)
+        office = young_office(folder / "office", minutes, rows)
+        try:
+            write_overview(folder, office.port)
+            front = Front(folder, office.port)
+            try:
+                self.browser.log_in(front)
+                yield front
+            finally:
+                front.stop()
+        finally:
+            office.kill()
+
+    def test_a_young_office_is_asked_for_nothing_before_its_history(self) -> None:
+        places = [("", "As of"), ("#/notices", "All offices answered")]
+        for name in ("rolling", "monthly", "slices"):
+            places += [(f"#/shop/{name}", "as of"), (f"#/shop/{name}/0/month", "counted up to")]
+            places += [(f"#/shop/{name}/0/month/2026-01", "counted up to")]
+        for minutes, rows in ((0, 0), (1, 1), (9, 0), (9, 5), (200, 150), (2 * DAY, 900)):
+            with self.young_front(f"young-{minutes}-{rows}", minutes, rows) as front:
+                for place, says in places:
+                    with self.subTest(minutes=minutes, rows=rows, place=place):
+                        self.browser.open(front, place)
+                        self.assertRegex(self.browser.settled(), says)
+                        self.assertEqual(self.browser.logs(), ([], []))
+                        self.assertEqual(self.browser.run(LAID_OUT), [])
+                self.browser.open(front, "#/shop/rolling")
+                self.browser.settled()
+                self.browser.keep(self.pictures / f"slo-young-{minutes}.png")
 
     def test_overview_of_200_is_drawn_within_a_second_of_the_first_byte(self) -> None:
         walls, threads = [], []

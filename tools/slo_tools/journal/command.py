@@ -14,11 +14,10 @@ from dataclasses import dataclass
 from pathlib import Path
 from typing import Any, Optional
 
-from slo_tools.clock import date_of, minute_of_date
+from slo_tools.clock import RANGE_MINUTES, date_of, minute_of_date
 from slo_tools.journal.access_log import Log, read_log
 from slo_tools.journal.file import (
     MAX_JOURNAL_BYTES,
-    RANGE_MINUTES,
     Beyond,
     Journal,
     Record,

@@ -11,6 +11,7 @@ from dataclasses import dataclass, field
 from pathlib import Path
 from typing import Optional
 
+from slo_tools.clock import RANGE_MINUTES
 from slo_tools.journal.records import MAX_MINUTE, Entry, NotAnEntry, read_entry
 
 LETTERS = b"OSLOJRN1"
@@ -18,7 +19,6 @@ HEADER_BYTES = 13
 FIRST_GATE = 13
 MAX_RECORD_BYTES = 1_100_000
 MAX_JOURNAL_BYTES = 268_435_456
-RANGE_MINUTES = 2_097_152
 
 
 @dataclass(frozen=True)

@@ -22,6 +22,7 @@ def office_entry(
         "entries": watch.entries,
         "fault": fault,
         "name": name,
+        "origin": watch.origin,
         "path": path,
         "slos": [_slo_entry(view, state) for view in watch.views],
         "up": fault is None,

@@ -14,6 +14,7 @@ from slo_tools.freshness import LONGEST, age_or_none, excluded_age, exclusions_o
 from slo_tools.notify.deciding import NO_DATA, QUIET, Binding, Present
 from slo_tools.objects import BUILT_IN, Document, Objective, Slo, conditions_of, object_of
 from slo_tools.office import Office
+from slo_tools.origin import origin_of
 from slo_tools.refusals import NotFound, Refusal
 
 # The Workbook's windows.
@@ -113,19 +114,25 @@ class Watch:
         self.catalogue = Catalogue()
         self.ages: dict[str, Optional[int]] = {}
         self.at: Optional[int] = None
+        self.origin: Optional[int] = None
         self.entries: Optional[int] = None
         self.usage: Optional[dict[str, list[int]]] = None
         self.views: list[SloView] = []
         self._rounds = 0
 
     def begin(self) -> None:
-        """Asks for what the round rests on: the objects and the moment."""
+        """Asks for what the round rests on: the objects, the moment, where the history begins."""
         self._objects()
         self.ask_moment()
+        self._origin()
         self._rounds += 1
 
     def _objects(self) -> None:
+        before = self.entries or 0
         self.entries, told = self.office.objects()
+        if self.entries < before:
+            # It is another office.
+            self.origin = None
         names = [(each.kind, each.name) for each in told]
         if names == self.catalogue.names and self._rounds % ROUNDS_BETWEEN:
             return
@@ -147,10 +154,19 @@ class Watch:
         shortest = min((each.lookback or LONGEST for each in conditions), default=LONGEST)
         return Policy(severity, shortest)
 
+    def _origin(self) -> None:
+        """It stays as it is, so it is looked for once."""
+        if self.origin is None and self.at is not None:
+            for name in self.catalogue.slos:
+                self.origin = origin_of(self.office, name, self.at)
+                return
+
     def ask_moment(self) -> None:
         status = self.office.status()
         self.at = None if status is None else int(status["at"])
         self.usage = None if status is None else _usage(status)
+        if status is not None:
+            self.origin = status.get("origin", self.origin)
         for name in self.catalogue.slos:
             if self.at is not None:
                 return
