@@ -37,6 +37,11 @@ class Decisions:
     unsent: list[Notice] = field(default_factory=list)
     held: list[Notice] = field(default_factory=list)
 
+    def settled(self) -> list[Notice]:
+        """The notices that need no more telling once the receiver has heard of these."""
+        ends = [notice for notice in self.end.values() if notice is not None]
+        return [*self.fire.values(), *ends, *self.unsent]
+
 
 def binding_of(notice: Notice) -> Binding:
     return Binding(notice.slo, notice.objective, notice.policy)

@@ -17,7 +17,7 @@ from slo_tools.notify.deciding import QUIET, Binding, Decisions, Present, bindin
 from slo_tools.notify.metrics import Metrics
 from slo_tools.notify.overview import office_entry, overview_text
 from slo_tools.notify.receiver import NOTIFIER, NotTaken, Receiver, Sending
-from slo_tools.notify.state import OfficeState, OpenAlert, write_state
+from slo_tools.notify.state import Mark, OfficeState, OpenAlert, write_state
 from slo_tools.notify.watching import CountedOffice, Watch
 from slo_tools.office import Pauses
 from slo_tools.refusals import Full, OfficeError
@@ -141,15 +141,9 @@ class Rounds:
             watch.ask_views()
 
     def _tick(self, office: Watched) -> None:
-        if not self.config.tick:
-            return
-        try:
-            office.watch.office.tick()
-            office.full = None
-        except Full as refusal:
-            office.full = str(refusal)
-        self.told.say(f"office {office.config.name}, tick", office.full or "")
-        office.watch.ask_moment()
+        if self.config.tick:
+            self._has_room(office, "tick", office.watch.office.tick)
+            office.watch.ask_moment()
 
     def _adopt(self, office: Watched) -> bool:
         """Where nothing is remembered, what the receiver has open was opened here before."""
@@ -168,21 +162,42 @@ class Rounds:
         return True
 
     def _tell(self, office: Watched, notices: list[Notice]) -> None:
-        asked = {*office.state.opened, *(binding_of(n) for n in notices if n.state == QUIET)}
+        told = [notice for notice in notices if _mark_of(notice) in office.state.told]
+        office.state.told = {_mark_of(notice) for notice in told}
+        self._take(office, told)
+        news = [notice for notice in notices if notice not in told]
+        asked = {*office.state.opened, *(binding_of(n) for n in news if n.state == QUIET)}
         present: dict[Binding, Present] = {b: office.watch.present(b) for b in asked}
-        decisions = decide(list(office.state.opened), notices, present)
+        decisions = decide(list(office.state.opened), news, present)
         fires = {b: self._alert(office, b, n) for b, n in decisions.fire.items()}
         own = self._own_alerts(office)
         sendings = self._sendings(office, decisions, fires, own)
         if not self._send(sendings):
             return
+        settled = decisions.settled()
+        office.state.told.update(map(_mark_of, settled))
         self._remember(office, decisions, fires, own)
-        for notice in [*decisions.fire.values(), *decisions.end.values(), *decisions.unsent]:
-            if notice is not None:
-                office.watch.office.take(notice.number)
-                office.waiting -= 1
-                self.metrics.taken.labels(office.config.name).inc()
+        self._take(office, settled)
         self.metrics.held.labels(office.config.name).set(len(decisions.held))
+
+    def _take(self, office: Watched, notices: list[Notice]) -> None:
+        """Takes notices that need no more telling. A full office keeps them until it has room."""
+        for notice in notices:
+            if not self._has_room(office, "take", lambda: office.watch.office.take(notice.number)):
+                return
+            office.state.told.discard(_mark_of(notice))
+            office.waiting -= 1
+            self.metrics.taken.labels(office.config.name).inc()
+
+    def _has_room(self, office: Watched, what: str, change: Callable[[], object]) -> bool:
+        """Makes a change; whether the office had room for it."""
+        try:
+            change()
+            office.full = None
+        except Full as refusal:
+            office.full = str(refusal)
+        self.told.say(f"office {office.config.name}, {what}", office.full or "")
+        return office.full is None
 
     def _sendings(
         self,
@@ -312,7 +327,7 @@ class Rounds:
         if office.full is not None:
             found["full"] = (
                 {"alertname": "SloOfficeFull", "severity": "page"},
-                f"the office takes no ticks: {office.full}",
+                f"the office takes no changes: {office.full}",
             )
         for what, (used, limit) in (office.watch.usage or {}).items():
             if limit and Fraction(used, limit) >= FILLING:
@@ -380,3 +395,7 @@ class Rounds:
             self.told.say("overview", str(fault))
         else:
             self.told.say("overview", "")
+
+
+def _mark_of(notice: Notice) -> Mark:
+    return Mark(notice.number, notice.at)

@@ -5,7 +5,7 @@ from __future__ import annotations
 import json
 from dataclasses import dataclass, field
 from pathlib import Path
-from typing import Any
+from typing import Any, NamedTuple
 
 from slo_tools.notify.deciding import Binding
 from slo_tools.whole_file import write_whole
@@ -23,13 +23,22 @@ class OpenAlert:
     link: str
 
 
+class Mark(NamedTuple):
+    """A notice by its number and its minute: another office has other minutes."""
+
+    number: int
+    at: int
+
+
 @dataclass
 class OfficeState:
-    """The open alerts of an office, and the indicators that have had data."""
+    """The open alerts of an office, the indicators that have had data, and the notices that need
+    no more telling and weren't taken yet."""
 
     opened: dict[Binding, OpenAlert] = field(default_factory=dict)
     own: dict[str, OpenAlert] = field(default_factory=dict)
     seen: set[str] = field(default_factory=set)
+    told: set[Mark] = field(default_factory=set)
     is_known: bool = False
 
 
@@ -67,7 +76,8 @@ def _read_office(told: dict[str, Any]) -> OfficeState:
         for entry in told["opened"]
     }
     own = {key: _read_alert(entry) for key, entry in told["own"].items()}
-    return OfficeState(opened, own, set(told["seen"]), True)
+    marks = {Mark(number, at) for number, at in told.get("told", [])}
+    return OfficeState(opened, own, set(told["seen"]), marks, True)
 
 
 def _read_alert(told: dict[str, Any]) -> OpenAlert:
@@ -82,6 +92,7 @@ def _spelled_office(state: OfficeState) -> dict[str, Any]:
         ],
         "own": {key: _spelled_alert(alert) for key, alert in state.own.items()},
         "seen": sorted(state.seen),
+        "told": sorted(state.told),
     }
 
 
