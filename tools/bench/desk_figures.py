@@ -13,7 +13,8 @@ from pathlib import Path
 
 sys.path.insert(0, str(Path(__file__).resolve().parent.parent / "tests"))
 
-from desk_support import RunningOffice, program, run_tool, running_office  # noqa: E402
+from support import OfficeServer, program, run_tool, running_office  # noqa: E402
+
 from slo_tools.apply.profile import written  # noqa: E402
 from slo_tools.clock import SystemClock  # noqa: E402
 from slo_tools.notify.command import made_rounds  # noqa: E402
@@ -74,7 +75,7 @@ def told(name: str, clock: float, used: float) -> None:
     print(f"{name}: {clock:.2f} s of the clock, {used:.2f} s of the processor", flush=True)
 
 
-def feed(office: RunningOffice, now: int) -> None:
+def feed(office: OfficeServer, now: int) -> None:
     client = office.client()
     with client.kept_link():
         for number in range(SLOS):
@@ -110,7 +111,7 @@ def with_office(words: set[str]) -> None:
             rounds_of(office, place)
 
 
-def rounds_of(office: RunningOffice, place: Path) -> None:
+def rounds_of(office: OfficeServer, place: Path) -> None:
     config = place / "notify.toml"
     config.write_text(
         f'state = "{place}/state.json"\noverview = "{place}/overview.json"\nclock = "trusted"\n'

@@ -13,7 +13,16 @@ from pathlib import Path
 
 sys.path.insert(0, str(Path(__file__).resolve().parent.parent / "tests"))
 
-import support  # noqa: E402
+from engines import (  # noqa: E402
+    ClickHouseServer,
+    PrometheusServer,
+    config_file,
+    data_source,
+    feed,
+    sli,
+)
+from support import OfficeServer  # noqa: E402
+
 from slo_tools.clock import SystemClock  # noqa: E402
 from slo_tools.feed.command import engine_maker, office_of  # noqa: E402
 from slo_tools.feed.config import read_config  # noqa: E402
@@ -39,10 +48,10 @@ def history(metrics: int, minutes: int, now: int) -> Iterator[str]:
 
 def objects(url: str, metrics: int) -> bytes:
     slis = "".join(
-        support.sli(f"m{n}", "prom", f'm{n}_total{{code="500"}}', f"m{n}_total", word="bad")
+        sli(f"m{n}", "prom", f'm{n}_total{{code="500"}}', f"m{n}_total", word="bad")
         for n in range(metrics)
     )
-    return (support.data_source("prom", "Prometheus", url=url) + slis).encode()
+    return (data_source("prom", "Prometheus", url=url) + slis).encode()
 
 
 class Scene:
@@ -50,12 +59,12 @@ class Scene:
 
     def __init__(self, folder: Path, metrics: int, minutes: int, settings: str) -> None:
         self.now = int(time.time()) // 60
-        self.prometheus = support.PrometheusServer(folder / "prometheus")
+        self.prometheus = PrometheusServer(folder / "prometheus")
         self.prometheus.history("\n".join(history(metrics, minutes, self.now)) + "\n")
         self.prometheus.start()
-        self.office = support.OfficeServer(folder / "office", self.now - minutes - 10).start()
+        self.office = OfficeServer(folder / "office", self.now - minutes - 10).start()
         self.office.client().define(objects(self.prometheus.url, metrics))
-        self.config = support.config_file(folder / "feed", self.office.address, settings)
+        self.config = config_file(folder / "feed", self.office.address, settings)
         config = read_config(self.config)
         maker = engine_maker(config)
         self.feed = Feed(config, office_of(config), maker, State(), SystemClock(), Watch())
@@ -98,12 +107,12 @@ def catch_up(folder: Path) -> None:
     scene = Scene(folder, 20, 1450, "")
     try:
         begin = time.monotonic()
-        support.feed(scene.config, "--from", str(scene.now - 1440))
+        feed(scene.config, "--from", str(scene.now - 1440))
         took = time.monotonic() - begin
         rows = len(scene.office.rows())
         begin = time.monotonic()
         (folder / "feed" / "state.json").unlink()
-        support.feed(scene.config, "--from", str(scene.now - 1440))
+        feed(scene.config, "--from", str(scene.now - 1440))
         again = time.monotonic() - begin
     finally:
         scene.end()
@@ -130,15 +139,15 @@ def events(folder: Path) -> None:
     """A week of events in ClickHouse: a round, and a day anew."""
     count = int(os.environ.get("EVENTS", "100000000"))
     now = int(time.time()) // 60
-    clickhouse = support.ClickHouseServer(folder / "clickhouse").start()
-    office = support.OfficeServer(folder / "office", now - 7 * 1440 - 10).start()
+    clickhouse = ClickHouseServer(folder / "clickhouse").start()
+    office = OfficeServer(folder / "office", now - 7 * 1440 - 10).start()
     try:
         clickhouse.run(TABLE)
         span = 7 * 86400 - 60
         begin = time.monotonic()
         clickhouse.run(FILL.format(begin=now * 60 - span, span=span, count=count))
         print(f"{count} events of a week inserted in {time.monotonic() - begin:.0f} s")
-        source = support.data_source(
+        source = data_source(
             "events",
             "ClickHouse",
             host="127.0.0.1",
@@ -149,7 +158,7 @@ def events(folder: Path) -> None:
             source="host",
         )
         slis = "".join(
-            support.sli(
+            sli(
                 f"s{n}",
                 "events",
                 f"service = ''shop'' AND status < {500 + n}",
@@ -159,7 +168,7 @@ def events(folder: Path) -> None:
         )
         office.client().define((source + slis).encode())
         config = read_config(
-            support.config_file(folder / "feed", office.address, "[engine.events]\nwait = 0\n")
+            config_file(folder / "feed", office.address, "[engine.events]\nwait = 0\n")
         )
         maker = engine_maker(config)
         feed = Feed(config, office_of(config), maker, State(), SystemClock(), Watch())

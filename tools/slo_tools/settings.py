@@ -3,12 +3,11 @@ by key. A key that nobody reads is a fault, so that no misspelt one is passed ov
 
 from __future__ import annotations
 
+import tomllib
 from collections.abc import Mapping
 from dataclasses import dataclass
 from pathlib import Path
 from typing import Any, Optional, Union
-
-import tomllib
 
 
 class ConfigFault(Exception):

@@ -5,7 +5,8 @@ from __future__ import annotations
 import random
 from collections.abc import Iterator
 
-import desk_support  # noqa: F401 - makes the tools' modules known
+import support  # noqa: F401 - makes the tools' modules known
+
 from slo_tools.nodes import Fields, Items, Node, Place, Scalar
 from slo_tools.yaml_reading import read_yaml
 

@@ -5,7 +5,6 @@ from __future__ import annotations
 import http.server
 import json
 import os
-import subprocess
 import tempfile
 import threading
 import time
@@ -13,11 +12,13 @@ import unittest
 import urllib.request
 from collections.abc import Sequence
 from contextlib import redirect_stderr
+from dataclasses import dataclass, field
 from io import StringIO
 from pathlib import Path
-from typing import Any, Optional
+from typing import Any
 
-from desk_support import RunningOffice, accepts, free_port, installed, program, wait_for
+from support import Child, OfficeServer, answers, free_port, needed, until
+
 from slo_tools.notify.clock_trust import ClockTrust
 from slo_tools.notify.config import read_config
 from slo_tools.notify.metrics import Metrics
@@ -110,38 +111,19 @@ class HeldClock:
         beside.replace(self.file)
 
 
-class TimedOffice(RunningOffice):
+def timed_office(folder: Path, clock: HeldClock, minutes: int = 5000) -> OfficeServer:
     """An office whose clock is held, and whose history begins before it."""
-
-    def __init__(self, folder: Path, clock: HeldClock, minutes: int = 5000) -> None:
-        super().__init__(folder)
-        if not os.path.exists(LIBRARY):
-            raise unittest.SkipTest("libfaketime isn't installed")
-        self.environment = {
-            **os.environ,
-            "LD_PRELOAD": LIBRARY,
-            "FAKETIME_TIMESTAMP_FILE": str(clock.file),
-            "FAKETIME_NO_CACHE": "1",
-            "FAKETIME_DONT_FAKE_MONOTONIC": "1",
-            "TZ": "UTC",
-        }
-        subprocess.run(
-            [program(), "init", str(clock.minute() - minutes)],
-            cwd=folder,
-            check=True,
-            capture_output=True,
-            env=self.environment,
-        )
-
-    def start(self) -> None:
-        self.run = subprocess.Popen(
-            [program(), "serve", str(self.port)],
-            cwd=self.folder,
-            stdout=subprocess.DEVNULL,
-            stderr=subprocess.DEVNULL,
-            env=self.environment,
-        )
-        wait_for("the office", 10, lambda: accepts(self.port))
+    if not os.path.exists(LIBRARY):
+        raise unittest.SkipTest("libfaketime isn't installed")
+    environment = {
+        **os.environ,
+        "LD_PRELOAD": LIBRARY,
+        "FAKETIME_TIMESTAMP_FILE": str(clock.file),
+        "FAKETIME_NO_CACHE": "1",
+        "FAKETIME_DONT_FAKE_MONOTONIC": "1",
+        "TZ": "UTC",
+    }
+    return OfficeServer(folder, clock.minute() - minutes, environment=environment)
 
 
 class Hook:
@@ -189,46 +171,32 @@ class Hook:
         self.server.server_close()
 
 
-class Manager:
+@dataclass
+class Manager(Child):
     """An Alertmanager of one's own."""
 
-    def __init__(self, folder: Path) -> None:
-        self.program = installed("prometheus-alertmanager")
-        self.folder = folder
-        self.port = free_port()
-        self.run: Optional[subprocess.Popen[bytes]] = None
-        (folder / "am.yml").write_text("route: {receiver: none}\nreceivers: [{name: none}]\n")
+    folder: Path
+    port: int = field(default_factory=free_port)
+
+    def __post_init__(self) -> None:
+        self.program = needed("prometheus-alertmanager")
+        text = "route: {receiver: none}\nreceivers: [{name: none}]\n"
+        (self.folder / "am.yml").write_text(text)
 
     @property
     def address(self) -> str:
         return f"http://127.0.0.1:{self.port}"
 
     def start(self) -> None:
-        self.run = subprocess.Popen(
-            [
-                self.program,
-                f"--config.file={self.folder}/am.yml",
-                f"--storage.path={self.folder}/am",
-                f"--web.listen-address=127.0.0.1:{self.port}",
-                "--cluster.listen-address=",
-            ],
-            stdout=subprocess.DEVNULL,
-            stderr=subprocess.DEVNULL,
-        )
-        wait_for("the Alertmanager", 30, self._is_ready)
-
-    def _is_ready(self) -> bool:
-        try:
-            with urllib.request.urlopen(f"{self.address}/-/ready", timeout=1) as answer:
-                return bool(answer.status == 200)
-        except OSError:
-            return False
-
-    def stop(self) -> None:
-        if self.run is not None:
-            self.run.kill()
-            self.run.wait()
-            self.run = None
+        words = [
+            self.program,
+            f"--config.file={self.folder}/am.yml",
+            f"--storage.path={self.folder}/am",
+            f"--web.listen-address=127.0.0.1:{self.port}",
+            "--cluster.listen-address=",
+        ]
+        self._start(words, self.folder, self.folder / "am.log")
+        until(lambda: answers(f"{self.address}/-/ready"), 30, "the Alertmanager isn't ready")
 
     def alerts(self) -> dict[str, dict[str, Any]]:
         """The alerts that are active, by their policies or names."""
@@ -263,12 +231,12 @@ class Desk(unittest.TestCase):
         told: dict[str, Any] = json.loads((self.folder / "overview.json").read_text())
         return told
 
-    def timed(self) -> tuple[HeldClock, TimedOffice, Hook]:
+    def timed(self) -> tuple[HeldClock, OfficeServer, Hook]:
         """A clock that a test moves, an office under it, and a webhook."""
         clock = HeldClock(self.folder / "clock")
         place = self.folder / "office"
         place.mkdir()
-        office = TimedOffice(place, clock)
+        office = timed_office(place, clock)
         office.start()
         self.addCleanup(office.kill)
         office.client().define(DOCUMENTS.encode())
@@ -277,10 +245,10 @@ class Desk(unittest.TestCase):
         return clock, office, hook
 
     def feed(
-        self, office: RunningOffice, minutes: Sequence[int], good: int, revision: int = 1
+        self, office: OfficeServer, minutes: Sequence[int], good: int, revision: int = 1
     ) -> None:
         lines = [f"good,web,{minute},{revision},{good},1000\n" for minute in minutes]
         office.client().ask("POST", ["samples"], body="".join(lines).encode())
 
-    def hooked(self, clock: HeldClock, office: RunningOffice, hook: Hook, more: str = "") -> Rounds:
+    def hooked(self, clock: HeldClock, office: OfficeServer, hook: Hook, more: str = "") -> Rounds:
         return self.rounds(clock, office.address, f'[webhook]\naddress = "{hook.address}"', more)

@@ -4,6 +4,7 @@ from __future__ import annotations
 
 import base64
 import http.server
+import importlib.util
 import json
 import os
 import shutil
@@ -16,7 +17,7 @@ import urllib.request
 from pathlib import Path
 from typing import Any, Optional
 
-from desk_support import TOOLS, TOP, RunningOffice, accepts, free_port, installed, wait_for
+from support import TOOLS, TOP, OfficeServer, accepts, free_port, needed, until
 
 HOST = "office.example.org"
 LIBRARY = Path("/usr/share/javascript/chart.js/chart.min.js")
@@ -29,16 +30,14 @@ EXCLUSION = (15 * DAY, 14 * DAY)
 ROWS = 1000
 
 
-def needed() -> None:
+def all_needed() -> None:
     """Everything that has to be installed, or the test is skipped by name."""
     for name in ("chromium", "chromedriver", "nginx", "openssl"):
-        installed(name)
+        needed(name)
     if not LIBRARY.exists():
         raise unittest.SkipTest("libjs-chart.js isn't installed")
-    try:
-        import selenium  # noqa: F401
-    except ImportError:
-        raise unittest.SkipTest("python3-selenium isn't installed") from None
+    if importlib.util.find_spec("selenium") is None:
+        raise unittest.SkipTest("python3-selenium isn't installed")
 
 
 def documents() -> str:
@@ -108,7 +107,7 @@ def rows(now: int) -> list[str]:
     return found
 
 
-def fill(office: RunningOffice, now: int) -> None:
+def fill(office: OfficeServer, now: int) -> None:
     client = office.client()
     client.ask("PUT", ["zones", *ZONE.split("/")], body=zone_file())
     client.define(documents().encode())
@@ -121,10 +120,10 @@ def fill(office: RunningOffice, now: int) -> None:
     client.ask("POST", ["tick"])
 
 
-def young_office(folder: Path, minutes: int, rows: int) -> RunningOffice:
+def young_office(folder: Path, minutes: int, rows: int) -> OfficeServer:
     """An office whose history has begun some minutes ago, with rows of its newest minutes."""
     now = int(time.time()) // 60
-    office = RunningOffice(folder, now - minutes)
+    office = OfficeServer(folder, now - minutes)
     office.start()
     client = office.client()
     client.ask("PUT", ["zones", *ZONE.split("/")], body=zone_file())
@@ -170,7 +169,7 @@ class LaterOffice:
     """An office of a later version: it answers also for status, sums, windows and exclusions, by
     what the present one tells, and hands everything else on."""
 
-    def __init__(self, office: RunningOffice, origin: int, exclusion: dict[str, Any]) -> None:
+    def __init__(self, office: OfficeServer, origin: int, exclusion: dict[str, Any]) -> None:
         self.office = office
         self.origin = origin
         self.exclusion = exclusion
@@ -257,10 +256,10 @@ class Front:
         self._make_secrets()
         (folder / "nginx.conf").write_text(self._text(office))
         self.run = subprocess.Popen(
-            [installed("nginx"), "-c", folder / "nginx.conf", "-g", "daemon off;"],
+            [needed("nginx"), "-c", folder / "nginx.conf", "-g", "daemon off;"],
             stderr=subprocess.DEVNULL,
         )
-        wait_for("nginx", 10, lambda: accepts(self.port))
+        until(lambda: accepts(self.port), 10, "nginx doesn't listen")
 
     @property
     def address(self) -> str:
@@ -328,7 +327,7 @@ class Browser:
         from selenium.webdriver.chrome.service import Service
 
         options: Any = webdriver.ChromeOptions()
-        options.binary_location = installed("chromium")
+        options.binary_location = needed("chromium")
         for word in (
             "--headless=new",
             "--no-sandbox",
@@ -341,7 +340,7 @@ class Browser:
             options.add_argument(word)
         options.set_capability("acceptInsecureCerts", True)
         options.set_capability("goog:loggingPrefs", {"browser": "ALL", "performance": "ALL"})
-        service = Service(executable_path=installed("chromedriver"))
+        service = Service(executable_path=needed("chromedriver"))
         self.driver: Any = webdriver.Chrome(service=service, options=options)
         self.driver.set_page_load_timeout(60)
         self.driver.set_script_timeout(30)
@@ -355,7 +354,7 @@ class Browser:
         return self.driver.execute_script(script, *words)
 
     def wait(self, script: str, seconds: float = 30) -> None:
-        wait_for(script, seconds, lambda: self.run(f"return Boolean({script})"))
+        until(lambda: bool(self.run(f"return Boolean({script})")), seconds, script)
 
     def log_in(self, front: Front) -> None:
         """The password once in the address, which the browser then keeps for this host."""

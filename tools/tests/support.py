@@ -2,7 +2,6 @@
 
 from __future__ import annotations
 
-import logging
 import os
 import shutil
 import signal
@@ -10,36 +9,49 @@ import socket
 import struct
 import subprocess
 import sys
-import threading
+import tempfile
 import time
+import unittest
 import urllib.request
-from collections.abc import Callable, Iterable, Iterator, Mapping
+from collections.abc import Callable, Iterator, Mapping
+from contextlib import contextmanager
 from dataclasses import dataclass, field
-from http.server import BaseHTTPRequestHandler, ThreadingHTTPServer
 from pathlib import Path
 from typing import Any, Optional
 
 TOOLS = Path(__file__).resolve().parent.parent
-REPOSITORY = TOOLS.parent
+TOP = TOOLS.parent
 sys.path.insert(0, str(TOOLS))
 
 from slo_tools.office import Office, Pauses  # noqa: E402
 
 
-def program() -> Optional[str]:
+def built_program() -> Optional[str]:
     """The office's program: $SLO_OFFICE_PROGRAM, the checkout's, or the installed one."""
-    named = os.environ.get("SLO_OFFICE_PROGRAM")
-    if named:
-        return named
-    for place in sorted(REPOSITORY.glob("out/**/slo_office")):
-        if place.is_file() and os.access(place, os.X_OK):
-            return str(place)
-    return shutil.which("slo_office")
+    built = TOP / "out" / "slo_office"
+    named = os.environ.get("SLO_OFFICE_PROGRAM") or (str(built) if built.exists() else None)
+    return os.path.abspath(named) if named else shutil.which("slo_office")
+
+
+def program() -> str:
+    """The office's program, or the test is skipped by name."""
+    found = built_program()
+    if found is None:
+        raise unittest.SkipTest("no slo_office: set SLO_OFFICE_PROGRAM")
+    return found
 
 
 def installed(name: str) -> Optional[str]:
     """A server's path; Debian keeps some where only root looks for them."""
     return shutil.which(name, path=os.environ.get("PATH", "") + ":/usr/sbin:/sbin")
+
+
+def needed(name: str) -> str:
+    """The path of a server that a test needs, or the test is skipped by name."""
+    found = installed(name)
+    if found is None:
+        raise unittest.SkipTest(f"{name} isn't installed")
+    return found
 
 
 def free_port() -> int:
@@ -58,6 +70,13 @@ def until(what: Callable[[], bool], seconds: float, why: str) -> None:
         time.sleep(0.05)
 
 
+def accepts(port: int) -> bool:
+    """Whether something listens at a port."""
+    with socket.socket() as door:
+        door.settimeout(1)
+        return door.connect_ex(("127.0.0.1", port)) == 0
+
+
 def answers(url: str) -> bool:
     try:
         with urllib.request.urlopen(url, timeout=2) as answer:
@@ -72,10 +91,21 @@ class Child:
 
     process: Optional[subprocess.Popen[bytes]] = field(default=None, init=False)
 
-    def _start(self, words: list[str], folder: Path, output: Path) -> None:
+    def _start(
+        self,
+        words: list[str],
+        folder: Path,
+        output: Path,
+        environment: Optional[Mapping[str, str]] = None,
+    ) -> None:
         with output.open("ab") as file:
             self.process = subprocess.Popen(
-                words, cwd=folder, stdout=file, stderr=file, stdin=subprocess.DEVNULL
+                words,
+                cwd=folder,
+                stdout=file,
+                stderr=file,
+                stdin=subprocess.DEVNULL,
+                env=environment,
             )
 
     def is_up(self) -> bool:
@@ -97,27 +127,35 @@ class Child:
 
 @dataclass
 class OfficeServer(Child):
-    """`slo_office serve` over a folder of its own."""
+    """`slo_office serve` over a folder of its own, at this machine's clock or at another one, as
+    `faketime` takes it or the environment has it."""
 
     folder: Path
     origin: Optional[int] = None
     port: int = field(default_factory=free_port)
+    clock: str = ""
+    environment: Optional[Mapping[str, str]] = None
 
     def __post_init__(self) -> None:
-        self.program = program() or "slo_office"
+        self.words = [*([needed("faketime"), "-f", self.clock] if self.clock else []), program()]
         self.folder.mkdir(parents=True, exist_ok=True)
         if not (self.folder / "office.journal").exists():
-            words = [self.program, "init"]
-            if self.origin is not None:
-                words.append(str(self.origin))
-            subprocess.run(words, cwd=self.folder, check=True, stdout=subprocess.DEVNULL)
+            origin = [] if self.origin is None else [str(self.origin)]
+            subprocess.run(
+                [*self.words, "init", *origin],
+                cwd=self.folder,
+                check=True,
+                stdout=subprocess.DEVNULL,
+                env=self.environment,
+            )
 
     @property
     def address(self) -> str:
         return f"http://127.0.0.1:{self.port}"
 
     def start(self) -> OfficeServer:
-        self._start([self.program, "serve", str(self.port)], self.folder, self.folder / "log")
+        words = [*self.words, "serve", str(self.port)]
+        self._start(words, self.folder, self.folder / "log", self.environment)
         until(lambda: answers(f"{self.address}/notices"), 60, "the office doesn't answer")
         return self
 
@@ -129,132 +167,15 @@ class OfficeServer(Child):
         return current_rows(self.folder / "office.journal")
 
 
-PROMETHEUS_FILE = """
-global:
-  scrape_interval: {interval}s
-  scrape_timeout: {timeout}s
-scrape_configs:
-{jobs}
-"""
-JOB = """  - job_name: {name}
-    static_configs:
-      - targets: [{targets}]
-"""
-
-
-@dataclass
-class PrometheusServer(Child):
-    """A Prometheus with short intervals."""
-
-    folder: Path
-    jobs: Mapping[str, Iterable[str]] = field(default_factory=dict)
-    interval: int = 5
-    timeout: int = 2
-    port: int = field(default_factory=free_port)
-
-    @property
-    def url(self) -> str:
-        return f"http://127.0.0.1:{self.port}"
-
-    @property
-    def data(self) -> Path:
-        return self.folder / "data"
-
-    def start(self) -> PrometheusServer:
-        self.folder.mkdir(parents=True, exist_ok=True)
-        jobs = "".join(
-            JOB.format(name=name, targets=", ".join(f"'{t}'" for t in targets))
-            for name, targets in self.jobs.items()
-        )
-        file = self.folder / "prometheus.yml"
-        text = PROMETHEUS_FILE.format(interval=self.interval, timeout=self.timeout, jobs=jobs)
-        file.write_text(text if jobs else text.replace("scrape_configs:\n", ""))
-        words = [
-            installed("prometheus") or "prometheus",
-            f"--config.file={file}",
-            f"--storage.tsdb.path={self.data}",
-            f"--web.listen-address=127.0.0.1:{self.port}",
-            "--storage.tsdb.retention.time=1y",
-        ]
-        self._start(words, self.folder, self.folder / "log")
-        until(lambda: answers(f"{self.url}/-/ready"), 60, "Prometheus isn't ready")
-        return self
-
-    def history(self, text: str) -> None:
-        """Put samples of the past into its blocks, before it is started."""
-        self.folder.mkdir(parents=True, exist_ok=True)
-        file = self.folder / "history.om"
-        file.write_text(text + "# EOF\n")
-        words = [installed("promtool") or "promtool", "tsdb", "create-blocks-from", "openmetrics"]
-        subprocess.run(
-            [*words, "--quiet", str(file), str(self.data)], check=True, stdout=subprocess.DEVNULL
-        )
-
-
-CLICKHOUSE_FILE = """<yandex>
-  <logger><level>warning</level><log>{folder}/server.log</log>
-    <errorlog>{folder}/error.log</errorlog></logger>
-  <listen_host>127.0.0.1</listen_host>
-  <http_port>{http}</http_port><tcp_port>{port}</tcp_port>
-  <interserver_http_port>{between}</interserver_http_port>
-  <path>{folder}/data/</path><tmp_path>{folder}/tmp/</tmp_path>
-  <user_files_path>{folder}/files/</user_files_path>
-  <format_schema_path>{folder}/schemas/</format_schema_path>
-  <mark_cache_size>268435456</mark_cache_size>
-  <users_config>{folder}/users.xml</users_config>
-  <default_profile>default</default_profile><default_database>default</default_database>
-  <timezone>UTC</timezone>
-</yandex>
-"""
-CLICKHOUSE_USERS = """<yandex>
-  <profiles><default><max_threads>2</max_threads></default>
-    <readonly><readonly>1</readonly><max_threads>2</max_threads></readonly></profiles>
-  <users>
-    <default><password></password><networks><ip>127.0.0.1</ip></networks>
-      <profile>default</profile><quota>default</quota></default>
-    <feed><password>counts</password><networks><ip>127.0.0.1</ip></networks>
-      <profile>readonly</profile><quota>default</quota></feed>
-  </users>
-  <quotas><default/></quotas>
-</yandex>
-"""
-
-
-@dataclass
-class ClickHouseServer(Child):
-    """A ClickHouse with a user `feed` that may only read."""
-
-    folder: Path
-    port: int = field(default_factory=free_port)
-
-    def start(self) -> ClickHouseServer:
-        for name in ("data", "tmp", "files", "schemas"):
-            (self.folder / name).mkdir(parents=True, exist_ok=True)
-        file = self.folder / "config.xml"
-        ports = {"port": self.port, "http": free_port(), "between": free_port()}
-        file.write_text(CLICKHOUSE_FILE.format(folder=self.folder, **ports))
-        (self.folder / "users.xml").write_text(CLICKHOUSE_USERS)
-        server = installed("clickhouse-server") or "clickhouse-server"
-        self._start([server, f"--config-file={file}"], self.folder, self.folder / "log")
-        until(self._answers, 60, "ClickHouse doesn't answer")
-        return self
-
-    def _answers(self) -> bool:
+@contextmanager
+def running_office(origin: int, clock: str = "") -> Iterator[OfficeServer]:
+    """An office that is gone with the block."""
+    with tempfile.TemporaryDirectory(prefix="slo-tools-") as folder:
+        office = OfficeServer(Path(folder), origin, clock=clock).start()
         try:
-            return bool(self.run("SELECT 1") == [(1,)])
-        except Exception:
-            return False
-
-    def run(self, query: str, rows: Optional[list[Any]] = None) -> Any:
-        """Run a query as the user who may write."""
-        from clickhouse_driver import Client
-
-        logging.getLogger("clickhouse_driver").setLevel(logging.CRITICAL)
-        client = Client("127.0.0.1", port=self.port, send_receive_timeout=600)
-        try:
-            return client.execute(query, rows) if rows is not None else client.execute(query)
+            yield office
         finally:
-            client.disconnect()
+            office.kill()
 
 
 def current_rows(journal: Path) -> dict[tuple[str, str, int], str]:
@@ -306,126 +227,27 @@ def _batch_rows(fields: bytes) -> Iterator[tuple[str, str, int, int, str]]:
         yield names[0], names[1], minute, revision, amount
 
 
-@dataclass
-class Exporter:
-    """A target with counters, which keeps account of what it was asked and what it said.
-
-    `counters` maps a series as `requests_total{code="200"}` to its value. `served` has the
-    moment and the values of each scrape that was answered.
-    """
-
-    port: int = field(default_factory=free_port)
-    counters: dict[str, int] = field(default_factory=dict)
-    served: list[tuple[float, dict[str, int]]] = field(default_factory=list)
-    delay: float = 0.0
-    broken: bool = False
-    lock: threading.Lock = field(default_factory=threading.Lock)
-    _server: Optional[ThreadingHTTPServer] = None
-
-    @property
-    def target(self) -> str:
-        return f"127.0.0.1:{self.port}"
-
-    def count(self, series: str, events: int) -> None:
-        with self.lock:
-            self.counters[series] = self.counters.get(series, 0) + events
-
-    def reset(self) -> None:
-        """Begin again at nothing, as a process that was started anew."""
-        with self.lock:
-            self.counters.clear()
-
-    def start(self) -> Exporter:
-        exporter = self
-
-        class Answering(BaseHTTPRequestHandler):
-            def do_GET(self) -> None:
-                if exporter.broken:
-                    self.send_error(503)
-                    return
-                with exporter.lock:
-                    values = dict(exporter.counters)
-                moment = time.time()
-                time.sleep(exporter.delay)
-                body = "".join(f"{name} {value}\n" for name, value in values.items()).encode()
-                self.send_response(200)
-                self.send_header("Content-Type", "text/plain; version=0.0.4")
-                self.send_header("Content-Length", str(len(body)))
-                self.end_headers()
-                self.wfile.write(body)
-                exporter.served.append((moment, values))
-
-            def log_message(self, *_: object) -> None:
-                pass
-
-        self._server = ThreadingHTTPServer(("127.0.0.1", self.port), Answering)
-        threading.Thread(target=self._server.serve_forever, daemon=True).start()
-        return self
-
-    def stop(self) -> None:
-        if self._server is not None:
-            self._server.shutdown()
-            self._server.server_close()
-            self._server = None
-
-
-def feed(
-    config: Path, *words: str, seconds: float = 300, check: Optional[int] = 0
-) -> subprocess.CompletedProcess[str]:
-    """Run slo-feed to its end; `check` is the exit status that it has to have."""
-    ended = subprocess.run(
-        ["/usr/bin/python3", str(TOOLS / "bin" / "slo-feed"), "--config", str(config), *words],
+def run_tool(name: str, *words: str, **more: str) -> subprocess.CompletedProcess[str]:
+    """Runs a tool of the checkout to its end."""
+    return subprocess.run(
+        ["/usr/bin/python3", str(TOOLS / "bin" / name), *words],
         capture_output=True,
         text=True,
-        timeout=seconds,
+        check=False,
+        timeout=120,
+        env={**os.environ, "SLO_OFFICE_PROGRAM": program(), **more},
     )
-    if check is not None and ended.returncode != check:
-        raise AssertionError(f"slo-feed {words}: status {ended.returncode}\n{ended.stderr}")
-    return ended
 
 
-def config_file(folder: Path, office: str, rest: str = "") -> Path:
-    folder.mkdir(parents=True, exist_ok=True)
-    file = folder / "feed.toml"
-    file.write_text(
-        f'[office]\naddress = "{office}"\n[feed]\nstate = "{folder}/state.json"\n{rest}'
+def message(method: str, path: str, body: bytes = b"") -> bytes:
+    """A request as `pipe` reads it."""
+    head = f"{method} {path} HTTP/1.1\r\nContent-Length: {len(body)}\r\n\r\n"
+    return head.encode("ascii") + body
+
+
+def pipe(folder: Path, *messages: bytes) -> bytes:
+    """The answers of one session over the journal of a folder."""
+    run = subprocess.run(
+        [program(), "pipe"], cwd=folder, input=b"".join(messages), capture_output=True, check=True
     )
-    return file
-
-
-def sli(name: str, source: str, part: str, total: str, word: str = "good") -> str:
-    """The document of an SLI of counters."""
-    return f"""---
-apiVersion: openslo/v1
-kind: SLI
-metadata:
-  name: {name}
-spec:
-  ratioMetric:
-    counter: true
-    {word}:
-      metricSource:
-        metricSourceRef: {source}
-        type: Metrics
-        spec:
-          query: '{part}'
-    total:
-      metricSource:
-        metricSourceRef: {source}
-        type: Metrics
-        spec:
-          query: '{total}'
-"""
-
-
-def data_source(name: str, kind: str, **details: object) -> str:
-    lines = "".join(f"    {key}: '{value}'\n" for key, value in details.items())
-    return f"""---
-apiVersion: openslo/v1
-kind: DataSource
-metadata:
-  name: {name}
-spec:
-  type: {kind}
-  connectionDetails:
-{lines}"""
+    return run.stdout

@@ -9,7 +9,8 @@ import unittest
 from pathlib import Path
 
 from apply_documents import changed_at_random, documents
-from desk_support import TOOLS, RunningOffice, program, run_tool, running_office
+from support import TOOLS, OfficeServer, program, run_tool, running_office
+
 from slo_tools.apply.folder import read_folder
 from slo_tools.apply.form import faults_of, key_of
 from slo_tools.apply.profile import written
@@ -48,10 +49,10 @@ class Folders(unittest.TestCase):
         lines = (run.stdout + run.stderr).splitlines()
         return run.returncode, [line.replace(f"{self.folder}/", "") for line in lines]
 
-    def office(self) -> RunningOffice:
+    def office(self) -> OfficeServer:
         return self.enterContext(running_office(NOW - 3000))
 
-    def apply(self, office: RunningOffice, *words: str) -> tuple[int, list[str], str]:
+    def apply(self, office: OfficeServer, *words: str) -> tuple[int, list[str], str]:
         run = run_tool(
             "slo-apply",
             *("--program", program(), "--office", office.address),

@@ -14,20 +14,11 @@ from decimal import Decimal
 from pathlib import Path
 from typing import Any, Optional
 
-import support
+from engines import ClickHouseServer, PrometheusServer, config_file, data_source, feed, sli
+from support import OfficeServer, differences
+
 from slo_tools.feed.clickhouse import ClickHouse, Table, merged
 from slo_tools.feed.engine import Form, Indicator
-from support import ClickHouseServer, OfficeServer, PrometheusServer
-
-LACKS = [
-    name
-    for name, found in (
-        ("the office's program", support.program()),
-        ("clickhouse-server", support.installed("clickhouse-server")),
-    )
-    if found is None
-]
-NEEDED = unittest.skipIf(LACKS, f"not installed: {', '.join(LACKS)}")
 
 TABLE = """
 CREATE TABLE events (at DateTime, came DateTime DEFAULT now(), host String, service String,
@@ -107,11 +98,9 @@ def plainly(held: list[Event], closed: int) -> Rows:
 
 def objects(port: int) -> bytes:
     details = {"host": "127.0.0.1", "port": port, "table": "events", "time": "at"}
-    source = support.data_source("events", "ClickHouse", **details, inserted="came", source="host")
-    shop = support.sli(
-        "shop", "events", "service = ''shop'' AND status < 500", "service = ''shop''"
-    )
-    fives = support.sli("fives", "events", "status >= 500", "1", word="bad")
+    source = data_source("events", "ClickHouse", **details, inserted="came", source="host")
+    shop = sli("shop", "events", "service = ''shop'' AND status < 500", "service = ''shop''")
+    fives = sli("fives", "events", "status >= 500", "1", word="bad")
     return (source + shop + fives + SLOW).encode()
 
 
@@ -126,7 +115,6 @@ every = 5
 """
 
 
-@NEEDED
 class ClickHouseTest(unittest.TestCase):
     def setUp(self) -> None:
         self.folder = Path(self.enterContext(tempfile.TemporaryDirectory()))
@@ -138,7 +126,7 @@ class ClickHouseTest(unittest.TestCase):
         self.server = OfficeServer(self.folder / "office", self.start - 10)
         self.addCleanup(self.server.kill)
         self.server.start().client().define(objects(self.clickhouse.port))
-        self.config = support.config_file(self.folder / "feed", self.server.address, SETTINGS)
+        self.config = config_file(self.folder / "feed", self.server.address, SETTINGS)
         (self.folder / "feed" / "password").write_text("counts\n")
         self.held = events(self.start, self.now - 2, 20_000, 1)
         insert(self.clickhouse, self.held)
@@ -147,7 +135,7 @@ class ClickHouseTest(unittest.TestCase):
         closed = self.now // 5 * 5
         held = {c: r for c, r in office.rows().items() if c[2] < closed and c[0] in NAMES}
         expected = plainly(self.held, closed)
-        self.assertEqual(support.differences(held, expected), [])
+        self.assertEqual(differences(held, expected), [])
         self.assertGreater(len(held), 1000)
 
     def add(self, added: list[Event]) -> None:
@@ -155,49 +143,48 @@ class ClickHouseTest(unittest.TestCase):
         self.held += added
 
     def test_rows_are_those_of_the_events(self) -> None:
-        told = support.feed(self.config, "--check").stdout
+        told = feed(self.config, "--check").stdout
         self.assertIn("fives: counters of events all as everyone, a row every 5 min", told)
-        support.feed(self.config, "--from", str(self.start))
+        feed(self.config, "--from", str(self.start))
         self.check_rows(self.server)
 
     def test_late_events_are_found_by_when_they_came(self) -> None:
-        support.feed(self.config, "--once")
+        feed(self.config, "--once")
         self.add(events(self.start, self.start + 30, 40, 2))
         self.add(events(self.now - 100, self.now - 90, 10, 3))
-        support.feed(self.config, "--once")
+        feed(self.config, "--once")
         self.check_rows(self.server)
 
     def test_state_lost_behind_late_events(self) -> None:
-        support.feed(self.config, "--from", str(self.start))
+        feed(self.config, "--from", str(self.start))
         self.add(events(self.start, self.now - 5, 300, 4))
-        support.feed(self.config, "--from", str(self.start))
+        feed(self.config, "--from", str(self.start))
         (self.folder / "feed" / "state.json").unlink()
         self.add(events(self.start, self.now - 5, 100, 5))
-        support.feed(self.config, "--from", str(self.start))
+        feed(self.config, "--from", str(self.start))
         self.check_rows(self.server)
 
     def test_a_condition_that_cant_be_run_stops_no_other(self) -> None:
-        broken = support.sli("broken", "events", "nowhere < 500", "1")
+        broken = sli("broken", "events", "nowhere < 500", "1")
         self.server.client().define(broken.encode())
-        ended = support.feed(self.config, "--from", str(self.start), check=1)
+        ended = feed(self.config, "--from", str(self.start), check=1)
         self.assertIn("broken: query: Unknown identifier: nowhere", ended.stderr)
         self.check_rows(self.server)
 
     def test_stops(self) -> None:
-        support.feed(self.config, "--from", str(self.start))
+        feed(self.config, "--from", str(self.start))
         self.clickhouse.kill()
-        ended = support.feed(self.config, "--from", str(self.start), check=4)
+        ended = feed(self.config, "--from", str(self.start), check=4)
         self.assertIn("events gave no answer", ended.stderr)
         self.clickhouse.start()
         self.server.kill()
-        ended = support.feed(self.config, "--from", str(self.start), check=3)
+        ended = feed(self.config, "--from", str(self.start), check=3)
         self.assertIn("the office gave no answer", ended.stderr)
         self.server.start()
         self.add(events(self.start, self.now - 5, 100, 6))
-        support.feed(self.config, "--from", str(self.start))
+        feed(self.config, "--from", str(self.start))
         self.check_rows(self.server)
 
-    @unittest.skipIf(support.installed("promtool") is None, "prometheus isn't installed")
     def test_both_feeds_at_once(self) -> None:
         """Each with its own state, while the office is killed and started."""
         import test_prometheus as other
@@ -206,35 +193,35 @@ class ClickHouseTest(unittest.TestCase):
         prometheus.history("\n".join(other.history(self.start, self.now - 2, 9)) + "\n")
         self.addCleanup(prometheus.kill)
         prometheus.start()
-        counters = support.data_source("prom", "Prometheus", url=prometheus.url) + support.sli(
+        counters = data_source("prom", "Prometheus", url=prometheus.url) + sli(
             "counted", "prom", 'requests_total{code="500"}', "requests_total", word="bad"
         )
         self.server.client().define(counters.encode())
         no_events = "[indicator.shop]\nskip = true\n[indicator.slow]\nskip = true\n"
-        second = support.config_file(
+        second = config_file(
             self.folder / "second",
             self.server.address,
             no_events + "[indicator.fives]\nskip = true\n",
         )
-        first = support.config_file(
+        first = config_file(
             self.folder / "feed",
             self.server.address,
             SETTINGS + "[indicator.counted]\nskip = true\n",
         )
         feeds = [
-            threading.Thread(target=support.feed, args=(file, "--from", str(self.start)))
+            threading.Thread(target=feed, args=(file, "--from", str(self.start)))
             for file in (first, second)
         ]
-        for feed in feeds:
-            feed.start()
+        for each in feeds:
+            each.start()
         for _ in range(3):
             time.sleep(0.6)
             self.server.kill()
             self.server.start()
-        for feed in feeds:
-            feed.join()
-        support.feed(first, "--from", str(self.start))
-        support.feed(second, "--from", str(self.start))
+        for each in feeds:
+            each.join()
+        feed(first, "--from", str(self.start))
+        feed(second, "--from", str(self.start))
         self.check_rows(self.server)
         sums = other.plainly(prometheus.url, "requests_total", self.start - 60, self.now)
         held = {c: r for c, r in self.server.rows().items() if c[0] == "counted"}

@@ -6,7 +6,8 @@ import subprocess
 import unittest
 from pathlib import Path
 
-import support
+from support import built_program
+
 from slo_tools.feed.counters import (
     Difference,
     Reading,
@@ -27,7 +28,7 @@ def table() -> list[tuple[str, list[int]]]:
 
 
 def counters_are_built() -> bool:
-    program = support.program()
+    program = built_program()
     if program is None:
         return False
     words = [program, "counters", "x"]
@@ -44,7 +45,7 @@ class RuleTest(unittest.TestCase):
 
     @unittest.skipUnless(counters_are_built(), "the program has no command `counters`")
     def test_command_has_the_same_table(self) -> None:
-        program = support.program() or ""
+        program = built_program() or ""
         for case, (good, total, later_good, later_total, part, of) in table():
             with self.subTest(case):
                 readings = f"a,1,1,{good},{total}\na,2,1,{later_good},{later_total}\n"

@@ -11,12 +11,13 @@ import tempfile
 import unittest
 from pathlib import Path
 
-from desk_support import TOOLS, TOP, free_port, installed, program
+import machine
+from support import TOOLS, TOP, free_port, needed, program
 
 PAGE = TOP / "docs" / "desk.md"
 EXAMPLES = TOP / "examples" / "desk"
 INSTALLED = "/usr/share/doc/slo-office-tools/examples/desk"
-PORTS = ("8080", "8081", "9093", "9464")
+PORTS = ("8080", "8081", "9193", "9464")
 PAGE_INSTALLED = "/usr/share/slo-office-tools/page"
 MARK = "\001"
 
@@ -32,8 +33,18 @@ class Page(unittest.TestCase):
         # Where root runs the test nginx reads as another user.
         self.folder.chmod(0o755)
 
-    def test_the_page_is_what_happens(self) -> None:
-        servers = [installed(name) for name in ("prometheus-alertmanager", "nginx", "curl")]
+    def test_the_page_is_what_happens_on_an_empty_machine(self) -> None:
+        """Every command as it stands, with what apt leaves running."""
+        machine.needed()
+        told = commands()
+        said = machine.said_on_empty_machine(self.folder, told, 1200)
+        self.assertEqual(said[0].status, 0, said[0].text)
+        self.assertIn("Setting up slo-office-tools", said[0].text)
+        self.judge(dict(zip(told[1:], (each.text for each in said[1:]))))
+
+    def test_the_page_is_what_happens_at_ports_of_its_own(self) -> None:
+        """All but the installation, in the checkout."""
+        servers = [needed(name) for name in ("prometheus-alertmanager", "nginx", "curl")]
         told = commands()
         self.assertTrue(told[0].startswith("sudo apt install ./slo-office_*.deb"))
         place = self.folder / "bin"
@@ -103,7 +114,7 @@ class Page(unittest.TestCase):
         self.assertTrue(of("slo-gate --remaining").endswith("release\nstatus 0\n"))
         self.assertTrue(of("mkdir page").endswith("status 0\n"))
         self.assertTrue(of("slo-notify --once", 0).endswith("status 0\n"))
-        alerts = of("curl -s http://127.0.0.1:9093")
+        alerts = of("curl -s http://127.0.0.1:9193")
         self.assertEqual(alerts.count("shop-answers, Good answers: workbook-"), 2)
         self.assertIn("<title>", of("curl -s http://127.0.0.1:8081/page/ "))
         told = of("curl -s http://127.0.0.1:8081/page/overview.json")

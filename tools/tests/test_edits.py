@@ -2,10 +2,9 @@
 
 from __future__ import annotations
 
+import tomllib
 import unittest
 from pathlib import Path
-
-import tomllib
 
 TESTS = Path(__file__).resolve().parent
 PACKAGE = TESTS.parent / "slo_tools"

@@ -11,21 +11,13 @@ import tempfile
 import unittest
 from pathlib import Path
 
-import support
-from support import PrometheusServer, free_port
+import machine
+from engines import PrometheusServer
+from support import TOOLS, TOP, free_port, needed, program
 
-PAGE = support.REPOSITORY / "docs" / "feeding.md"
-EXAMPLES = support.REPOSITORY / "examples" / "feed"
+PAGE = TOP / "docs" / "feeding.md"
+EXAMPLES = TOP / "examples" / "feed"
 INSTALLED = "/usr/share/doc/slo-office-tools/examples/feed"
-LACKS = [
-    name
-    for name, found in (
-        ("the office's program", support.program()),
-        ("prometheus", support.installed("prometheus")),
-        ("curl", support.installed("curl")),
-    )
-    if found is None
-]
 
 
 def commands() -> list[str]:
@@ -38,11 +30,21 @@ class PageTest(unittest.TestCase):
     def setUp(self) -> None:
         self.folder = Path(self.enterContext(tempfile.TemporaryDirectory()))
 
-    @unittest.skipIf(LACKS, f"not installed: {', '.join(LACKS)}")
-    def test_ten_commands(self) -> None:
-        """All but the installation, at ports of the test's own; the folder has the programs."""
+    def test_ten_commands_on_an_empty_machine(self) -> None:
+        """All ten, as they stand, with Debian's own Prometheus as apt leaves it."""
+        machine.needed()
         told = commands()
         self.assertEqual(len(told), 10)
+        said = machine.said_on_empty_machine(self.folder, told, 1200)
+        for line, each in zip(told, said):
+            self.assertEqual(each.status, 0, f"{line}\n{each.text}")
+        self.assertIn("Setting up slo-office-tools", said[0].text)
+        self.judge([each.text for each in said[1:]])
+
+    def test_nine_commands_at_ports_of_their_own(self) -> None:
+        """All but the installation, in the checkout."""
+        needed("curl")
+        told = commands()
         self.assertTrue(told[0].startswith("sudo apt install prometheus curl ./slo-office_"))
         ports = {"9090": str(free_port()), "8080": str(free_port()), "9469": str(free_port())}
         prometheus = PrometheusServer(self.folder / "prometheus", port=int(ports["9090"]))
@@ -50,7 +52,10 @@ class PageTest(unittest.TestCase):
         self.addCleanup(prometheus.kill)
         prometheus.start()
         self.programs()
-        answers = self.run_shell(self.rewritten(told[1:], ports))
+        self.judge(self.run_shell(self.rewritten(told[1:], ports)))
+
+    def judge(self, answers: list[str]) -> None:
+        """What the page says of the commands behind the installation."""
         self.assertEqual(json.loads(answers[3]), {"applied": 4, "entry": 0})
         self.assertIn("web-good: counters of prometheus by instance", answers[4])
         budget = json.loads(answers[7])["budgets"][0]
@@ -62,8 +67,8 @@ class PageTest(unittest.TestCase):
     def programs(self) -> None:
         place = self.folder / "bin"
         place.mkdir()
-        (place / "slo_office").symlink_to(support.program() or "")
-        (place / "slo-feed").symlink_to(support.TOOLS / "bin" / "slo-feed")
+        (place / "slo_office").symlink_to(program())
+        (place / "slo-feed").symlink_to(TOOLS / "bin" / "slo-feed")
 
     def rewritten(self, told: list[str], ports: dict[str, str]) -> list[str]:
         """The commands with the test's ports, in the copied files too."""

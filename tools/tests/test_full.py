@@ -10,14 +10,14 @@ import unittest
 from collections.abc import Callable
 from pathlib import Path
 
-import support
-from desk_support import RunningOffice, installed, run_tool
+from engines import PrometheusServer, config_file, data_source, feed, sli
 from notify_support import DOCUMENTS, Desk, Hook, Manager, MovedClock
+from support import OfficeServer, free_port, needed, run_tool
+
 from slo_tools.answers import SampleRow
 from slo_tools.journal.file import MAX_JOURNAL_BYTES
 from slo_tools.office import ROWS_OF_A_BATCH
 from slo_tools.refusals import Full
-from support import PrometheusServer, config_file, data_source, feed, sli
 
 DAY = 1440
 # A row of two such names takes 145 bytes of the journal.
@@ -37,7 +37,7 @@ spec:
 MEMORY = Path("/dev/shm")
 
 
-def fill(office: RunningOffice, now: int) -> None:
+def fill(office: OfficeServer, now: int) -> None:
     """Make an office's journal full: batches of one row a thousand times, smaller ones once these
     are refused, and ticks at the end."""
     client = office.client()
@@ -71,10 +71,10 @@ class FullOffice(Desk):
         cls.place = Path(cls.enterClassContext(room))
         (cls.place / "full").mkdir()
         now = int(time.time()) // 60
-        office = RunningOffice(cls.place / "full", now - 20 * DAY)
+        office = OfficeServer(cls.place / "full", now - 20 * DAY)
         office.start()
         try:
-            cls.port = support.free_port()
+            cls.port = free_port()
             client = office.client()
             client.define((DOCUMENTS + FILLER + cls.fed()).encode())
             for begin, good in ((120, 1000), (60, 0)):
@@ -92,12 +92,12 @@ class FullOffice(Desk):
         source = data_source("prom", "Prometheus", url=f"http://127.0.0.1:{cls.port}")
         return source + sli("fed", "prom", 'm{code="200"}', "m")
 
-    def office(self) -> RunningOffice:
+    def office(self) -> OfficeServer:
         """The full office, serving."""
         folder = self.place / self.id().rpartition(".")[2]
         shutil.copytree(self.place / "full", folder)
         self.addCleanup(shutil.rmtree, folder)
-        office = RunningOffice(folder)
+        office = OfficeServer(folder)
         office.start()
         self.addCleanup(office.kill)
         return office
@@ -142,7 +142,7 @@ class FullOffice(Desk):
         office.kill()
         (office.folder / "office.journal").unlink()
         now = int(time.time()) // 60
-        other = RunningOffice(office.folder, now - 2 * DAY)
+        other = OfficeServer(office.folder, now - 2 * DAY)
         other.port = office.port
         other.start()
         self.addCleanup(other.kill)
@@ -166,7 +166,7 @@ class FullOffice(Desk):
 
     def test_slo_feed_raises_the_alarm(self) -> None:
         for name in ("prometheus", "promtool"):
-            installed(name)
+            needed(name)
         office = self.office()
         prometheus = PrometheusServer(self.folder / "prometheus", port=self.port)
         now = int(time.time())

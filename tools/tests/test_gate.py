@@ -9,7 +9,8 @@ import time
 import unittest
 from fractions import Fraction
 
-from desk_support import RunningOffice, free_port, run_tool, running_office
+from support import OfficeServer, free_port, run_tool, running_office
+
 from slo_tools.freshness import excluded_age
 from slo_tools.gate.judging import BadFreeze, Freeze, Verdict, read_freeze, worst
 from slo_tools.spelling import percent
@@ -68,12 +69,12 @@ class Gate(unittest.TestCase):
         lines = [f"good,web,{self.now - n},1,{good},{total}\n" for n in range(first, last)]
         return "".join(lines).encode()
 
-    def office(self, *texts: str) -> RunningOffice:
+    def office(self, *texts: str) -> OfficeServer:
         office = self.enterContext(running_office(self.now - 3000))
         office.client().define((DOCUMENTS + "".join(texts)).encode())
         return office
 
-    def gate(self, office: RunningOffice, *words: str) -> tuple[int, str]:
+    def gate(self, office: OfficeServer, *words: str) -> tuple[int, str]:
         run = run_tool("slo-gate", "--office", office.address, *words)
         self.assertNotIn("Traceback", run.stderr)
         return run.returncode, run.stdout + run.stderr

@@ -17,8 +17,9 @@ from typing import Any, cast
 from hypothesis import HealthCheck, Phase, given, seed, settings
 from hypothesis import strategies as st
 
-import support
+from engines import data_source, sli
 from simulated import HeldClock, Sample, SimulatedOffice, SimulatedPrometheus
+
 from slo_tools.feed.config import Config, IndicatorConfig
 from slo_tools.feed.engine import Engine
 from slo_tools.feed.prometheus import Prometheus
@@ -108,8 +109,8 @@ def plainly(samples: list[Sample], first: int, last: int) -> dict[tuple[str, str
 
 def texts() -> dict[str, str]:
     return {
-        "DataSource/prom": support.data_source("prom", "Prometheus", url="http://x"),
-        "SLI/shop": support.sli("shop", "prom", 'm{code="500"}', "m", word="bad"),
+        "DataSource/prom": data_source("prom", "Prometheus", url="http://x"),
+        "SLI/shop": sli("shop", "prom", 'm{code="500"}', "m", word="bad"),
     }
 
 

@@ -9,7 +9,8 @@ import time
 import unittest
 from pathlib import Path
 
-from desk_support import TOP, message, pipe, program, run_tool, running_office
+from support import TOP, message, pipe, program, run_tool, running_office
+
 from slo_tools.journal.file import beyond_tail, read_journal
 from slo_tools.journal.mending import mending_of
 

@@ -12,8 +12,9 @@ from collections.abc import Callable, Sequence
 from pathlib import Path
 from typing import Optional
 
-from desk_support import TOP, RunningOffice, free_port, run_tool, wait_for
-from notify_support import DOCUMENTS, Desk, Manager, MovedClock, TimedOffice
+from notify_support import DOCUMENTS, Desk, Manager, MovedClock, timed_office
+from support import TOP, OfficeServer, free_port, run_tool, until
+
 from slo_tools.answers import Notice
 from slo_tools.notify.clock_trust import ClockTrust
 from slo_tools.notify.command import pause
@@ -76,7 +77,7 @@ class Webhooks(Desk):
         # Another office stands in its place.
         office.kill()
         (office.folder / "office.journal").unlink()
-        other = TimedOffice(office.folder, clock, 7)
+        other = timed_office(office.folder, clock, 7)
         other.port = office.port
         other.start()
         self.addCleanup(other.kill)
@@ -231,7 +232,7 @@ class Webhooks(Desk):
 class Killer:
     """A receiver that kills the office once it has taken what was sent."""
 
-    def __init__(self, inner: Receiver, office: RunningOffice) -> None:
+    def __init__(self, inner: Receiver, office: OfficeServer) -> None:
         self.inner = inner
         self.office = office
         self.kind = inner.kind
@@ -262,7 +263,7 @@ class Alertmanagers(Desk):
         place = self.folder / "office"
         place.mkdir()
         self.now = int(time.time()) // 60
-        self.office = RunningOffice(place, self.now - 5000)
+        self.office = OfficeServer(place, self.now - 5000)
         self.office.start()
         self.addCleanup(self.office.kill)
         self.office.client().define(DOCUMENTS.encode())
@@ -365,7 +366,8 @@ class Alertmanagers(Desk):
             stderr=subprocess.DEVNULL,
         )
         try:
-            wait_for("a round", 30, lambda: 'slo_office_up{office="shop"} 1.0' in scraped(port))
+            up = 'slo_office_up{office="shop"} 1.0'
+            until(lambda: up in scraped(port), 30, "no round was made")
             told = scraped(port)
         finally:
             serving.kill()

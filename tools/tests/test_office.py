@@ -10,7 +10,8 @@ from fractions import Fraction
 from http.server import BaseHTTPRequestHandler, ThreadingHTTPServer
 from typing import Any
 
-import support
+from support import free_port
+
 from slo_tools.answers import Batch, SampleRow
 from slo_tools.office import Office, Pauses
 from slo_tools.refusals import (
@@ -125,7 +126,7 @@ class OfficeTest(Scripted):
         with self.assertRaises(NoAnswer):
             self.post()
         self.assertEqual(len(self.asked), 4)
-        away = Office(f"http://127.0.0.1:{support.free_port()}", pauses=Pauses(tries=1))
+        away = Office(f"http://127.0.0.1:{free_port()}", pauses=Pauses(tries=1))
         with self.assertRaises(NoAnswer):
             away.notices()
 

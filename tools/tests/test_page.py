@@ -12,7 +12,6 @@ from contextlib import contextmanager
 from pathlib import Path
 from typing import Any
 
-from desk_support import RunningOffice
 from page_support import (
     DAY,
     EXCLUSION,
@@ -20,12 +19,13 @@ from page_support import (
     Browser,
     Front,
     LaterOffice,
+    all_needed,
     fill,
-    needed,
     pictures,
     write_overview,
     young_office,
 )
+from support import OfficeServer
 
 WIDTHS = (400, 700, 1280, 2500)
 DRAWN_WITHIN = 1.0
@@ -142,7 +142,7 @@ class Page(unittest.TestCase):
 
     folder: Path
     now: int
-    office: RunningOffice
+    office: OfficeServer
     overview: str
     front: Front
     browser: Browser
@@ -150,13 +150,13 @@ class Page(unittest.TestCase):
 
     @classmethod
     def setUpClass(cls) -> None:
-        needed()
+        all_needed()
         place = cls.enterClassContext(tempfile.TemporaryDirectory(prefix="slo-page-"))
         cls.folder = Path(place)
         for name in ("office", "front", "later", "browser"):
             (cls.folder / name).mkdir()
         cls.now = int(time.time()) // 60
-        cls.office = RunningOffice(cls.folder / "office", cls.now - 70 * DAY)
+        cls.office = OfficeServer(cls.folder / "office", cls.now - 70 * DAY)
         cls.office.start()
         cls.addClassCleanup(cls.office.kill)
         fill(cls.office, cls.now)

@@ -17,20 +17,11 @@ from collections.abc import Iterator
 from pathlib import Path
 from typing import Any
 
-import support
-from slo_tools.answers import SampleRow
-from support import Exporter, OfficeServer, PrometheusServer
+from engines import Exporter, PrometheusServer, config_file, data_source, feed, sli
+from support import TOOLS, Child, OfficeServer, differences, free_port, journal_rows, needed
 
-LACKS = [
-    name
-    for name, found in (
-        ("the office's program", support.program()),
-        ("prometheus", support.installed("prometheus")),
-        ("promtool", support.installed("promtool")),
-    )
-    if found is None
-]
-NEEDED = unittest.skipIf(LACKS, f"not installed: {', '.join(LACKS)}")
+from slo_tools.answers import SampleRow
+
 LIVE = os.environ.get("SLO_FEED_LIVE", "1") != "0"
 
 Rows = dict[tuple[str, str, int], str]
@@ -90,10 +81,10 @@ def rows_of(sums: dict[Any, list[int]], sli: str, every: int = 1, name: str = ""
 def objects(url: str) -> bytes:
     failures, everything = 'requests_total{code="500"}', "requests_total"
     return (
-        support.data_source("prom", "Prometheus", url=url)
-        + support.sli("shop", "prom", f"sum({failures})", f"sum({everything})", word="bad")
-        + support.sli("fives", "prom", failures, everything, word="bad")
-        + support.sli("whole", "prom", failures, everything, word="bad")
+        data_source("prom", "Prometheus", url=url)
+        + sli("shop", "prom", f"sum({failures})", f"sum({everything})", word="bad")
+        + sli("fives", "prom", failures, everything, word="bad")
+        + sli("whole", "prom", failures, everything, word="bad")
     ).encode()
 
 
@@ -148,7 +139,6 @@ class Real(unittest.TestCase):
         return office.start()
 
 
-@NEEDED
 class HistoryTest(Real):
     """Twelve hours that Prometheus has already."""
 
@@ -160,7 +150,7 @@ class HistoryTest(Real):
         self.prometheus.start()
         self.server = self.office(self.start - 100)
         self.server.client().define(objects(self.prometheus.url))
-        self.config = support.config_file(self.folder / "feed", self.server.address, INDICATORS)
+        self.config = config_file(self.folder / "feed", self.server.address, INDICATORS)
         self.state = self.folder / "feed" / "state.json"
 
     def expected(self, begin: int, end: int) -> Rows:
@@ -177,23 +167,23 @@ class HistoryTest(Real):
     def check_rows(self) -> None:
         held = {c: row for c, row in self.server.rows().items() if c[2] <= self.newest()}
         expected = self.expected(self.start, self.newest())
-        self.assertEqual(support.differences(held, expected), [])
+        self.assertEqual(differences(held, expected), [])
         self.assertGreater(len(held), 2000)
 
     def test_each_row_is_that_of_a_plain_computation(self) -> None:
-        support.feed(self.config, "--from", str(self.start))
+        feed(self.config, "--from", str(self.start))
         self.check_rows()
 
     def test_state_lost_behind_corrections(self) -> None:
         client = self.server.client()
         self.plant_wrong_rows(client)
-        support.feed(self.config, "--from", str(self.start))
+        feed(self.config, "--from", str(self.start))
         self.check_rows()
-        accepted = len(support.journal_rows(self.server.folder / "office.journal"))
+        accepted = len(journal_rows(self.server.folder / "office.journal"))
         self.state.unlink()
-        support.feed(self.config, "--from", str(self.start))
+        feed(self.config, "--from", str(self.start))
         self.check_rows()
-        after = len(support.journal_rows(self.server.folder / "office.journal"))
+        after = len(journal_rows(self.server.folder / "office.journal"))
         self.assertEqual(after, accepted, "rows that stood were accepted again")
 
     def plant_wrong_rows(self, client: Any) -> None:
@@ -222,16 +212,16 @@ class HistoryTest(Real):
         killer.start()
         try:
             for _ in range(10):
-                status = support.feed(self.config, "--from", str(self.start), check=None).returncode
+                status = feed(self.config, "--from", str(self.start), check=None).returncode
                 self.assertIn(status, (0, 3))
                 if status == 0:
                     break
         finally:
             ended.set()
             killer.join()
-        support.feed(self.config, "--from", str(self.start))
+        feed(self.config, "--from", str(self.start))
         self.check_rows()
-        rows = support.journal_rows(self.server.folder / "office.journal")
+        rows = journal_rows(self.server.folder / "office.journal")
         self.assertEqual(len(rows), len(self.server.rows()), "a row was accepted twice")
 
     def test_an_office_that_begins_later(self) -> None:
@@ -239,8 +229,8 @@ class HistoryTest(Real):
         later = OfficeServer(self.folder / "later", self.now - 300)
         self.addCleanup(later.kill)
         later.start().client().define(objects(self.prometheus.url))
-        config = support.config_file(self.folder / "second", later.address, INDICATORS)
-        ended = support.feed(config, "--from", str(self.start), check=1)
+        config = config_file(self.folder / "second", later.address, INDICATORS)
+        ended = feed(config, "--from", str(self.start), check=1)
         self.assertIn("before the office's origin", ended.stderr)
         held = {c: row for c, row in later.rows().items() if c[2] <= self.newest()}
         self.assertEqual(held, self.expected(self.now - 300, self.newest()))
@@ -260,18 +250,17 @@ spec:
 """
         client = self.server.client()
         client.define((broken % "quantile(0.9, requests_total").encode())
-        ended = support.feed(self.config, "--from", str(self.start), check=1)
+        ended = feed(self.config, "--from", str(self.start), check=1)
         self.assertIn("broken: query: bad_data:", ended.stderr)
         self.check_rows()
         # Once it is mended, the minutes that went by are asked for too.
         client.define((broken % "sum(requests_total) * 0 + 0.25").encode())
-        support.feed(self.config, "--once")
+        feed(self.config, "--once")
         values = {row for c, row in self.server.rows().items() if c[0] == "broken"}
         self.assertEqual(values, {"0.25"})
 
-    @unittest.skipIf(support.installed("faketime") is None, "faketime isn't installed")
     def test_a_wrong_clock(self) -> None:
-        words = ["faketime", "+2 years", str(support.TOOLS / "bin" / "slo-feed")]
+        words = [needed("faketime"), "+2 years", str(TOOLS / "bin" / "slo-feed")]
         ended = subprocess.run(
             [*words, "--config", str(self.config), "--once"], capture_output=True, text=True
         )
@@ -280,19 +269,17 @@ spec:
         self.assertEqual(self.server.rows(), {})
 
     def test_check_says_what_is_fed(self) -> None:
-        rate = support.sli("guess", "prom", "rate(requests_total[1m])", "requests_total")
-        away = support.sli("away", "nowhere", "a", "b").replace(
-            "        metricSourceRef: nowhere\n", ""
-        )
+        rate = sli("guess", "prom", "rate(requests_total[1m])", "requests_total")
+        away = sli("away", "nowhere", "a", "b").replace("        metricSourceRef: nowhere\n", "")
         self.server.client().define((rate + away).encode())
-        told = support.feed(self.config, "--check", check=1).stdout
+        told = feed(self.config, "--check", check=1).stdout
         self.assertIn("shop: counters of prom by instance, a row every 1 min", told)
         self.assertIn("whole: counters of prom all as everything, a row every 15 min", told)
         self.assertIn("guess: query: rate(..) is no counter", told)
         self.assertIn("away: not fed: its queries name no metricSourceRef", told)
 
 
-class FeedLoop(support.Child):
+class FeedLoop(Child):
     """slo-feed in its loop, as the unit runs it."""
 
     def __init__(self, config: Path) -> None:
@@ -300,12 +287,11 @@ class FeedLoop(support.Child):
         self.config = config
 
     def start(self) -> None:
-        words = ["/usr/bin/python3", str(support.TOOLS / "bin" / "slo-feed")]
+        words = ["/usr/bin/python3", str(TOOLS / "bin" / "slo-feed")]
         folder = self.config.parent
         self._start([*words, "--config", str(self.config)], folder, folder / "log")
 
 
-@NEEDED
 @unittest.skipUnless(LIVE, "SLO_FEED_LIVE is 0")
 class LiveTest(Real):
     """Four minutes as they pass, with faults in each part."""
@@ -322,9 +308,9 @@ class LiveTest(Real):
         self.begin = self.now - 1
         self.server = self.office(self.now - 100)
         self.server.client().define(objects(self.prometheus.url))
-        self.metrics = support.free_port()
+        self.metrics = free_port()
         # Asking right at the minutes' ends, so that each late scrape changes what was sent.
-        self.config = support.config_file(
+        self.config = config_file(
             self.folder / "feed",
             self.server.address,
             f"metrics_port = {self.metrics}\n{INDICATORS}[engine.prom]\nwait = 0\n",
@@ -387,9 +373,9 @@ class LiveTest(Real):
             fault()
         self.assertTrue(self.loop.is_up())
         self.loop.kill()
-        support.feed(self.config, "--once")
+        feed(self.config, "--once")
         self.compare(int(time.time()) // 60)
-        revisions = [row[3] for row in support.journal_rows(self.server.folder / "office.journal")]
+        revisions = [row[3] for row in journal_rows(self.server.folder / "office.journal")]
         self.assertGreater(max(revisions), 1, "no late scrape was seen")
         self.assertIn('slo_feed_rounds_total{end="office"}', told)
         self.assertIn('slo_feed_newest_minute{sli="shop"}', told)
@@ -404,7 +390,7 @@ class LiveTest(Real):
         sums = plainly(self.prometheus.url, "requests_total", self.begin - 60, end)
         expected = {c: r for c, r in rows_of(sums, "shop").items() if c[2] < end}
         held = {c: r for c, r in self.server.rows().items() if c[0] == "shop"}
-        self.assertEqual(support.differences(held, expected), [])
+        self.assertEqual(differences(held, expected), [])
         self.assertGreater(len(held), 6)
         fives = {c: r for c, r in self.server.rows().items() if c[0] == "fives"}
         self.assertEqual(fives, {c: r for c, r in rows_of(sums, "fives", 5).items() if c in fives})

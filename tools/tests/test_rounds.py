@@ -11,8 +11,9 @@ from pathlib import Path
 from typing import Optional, cast
 from unittest import mock
 
-import support
+from engines import data_source, sli
 from simulated import HeldClock, Sample, SimulatedOffice, SimulatedPrometheus
+
 from slo_tools.answers import Batch, SampleRow
 from slo_tools.feed.cells import Amount, Cell
 from slo_tools.feed.command import seconds_to_next
@@ -46,8 +47,8 @@ class Rounds(unittest.TestCase):
         ]
         self.prometheus = SimulatedPrometheus(self.clock, samples)
         texts = {
-            "DataSource/prom": support.data_source("prom", "Prometheus", url="http://x"),
-            "SLI/shop": support.sli("shop", "prom", "m", "m"),
+            "DataSource/prom": data_source("prom", "Prometheus", url="http://x"),
+            "SLI/shop": sli("shop", "prom", "m", "m"),
             "SLO/shop-slo": "",
         }
         self.office = SimulatedOffice(self.clock, texts, BEGIN)
@@ -152,12 +153,12 @@ class Rounds(unittest.TestCase):
 
     def test_a_query_that_is_mended(self) -> None:
         self.feed.round()
-        self.office.texts["SLI/shop"] = support.sli("shop", "prom", "rate(m)", "m")
+        self.office.texts["SLI/shop"] = sli("shop", "prom", "rate(m)", "m")
         for _ in range(20):
             self.clock.seconds += 60
             self.feed.round()
         self.assertIn("shop: query: rate(..) is no counter", self.lines())
-        self.office.texts["SLI/shop"] = support.sli("shop", "prom", "m", "m")
+        self.office.texts["SLI/shop"] = sli("shop", "prom", "m", "m")
         self.clock.seconds += 360
         self.assertEqual(self.feed.round(), End.DONE)
         self.assertEqual(self.minutes(), list(range(56)))

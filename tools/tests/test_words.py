@@ -8,7 +8,8 @@ import unittest
 from decimal import Decimal
 from pathlib import Path
 
-import support
+from support import TOOLS
+
 from slo_tools.clock import date_of, minute_of_date
 from slo_tools.feed.cells import Amount, Cell, amounts_of, source_name, stretch_minute
 from slo_tools.feed.config import Config, read_config
@@ -100,7 +101,7 @@ class NamesTest(unittest.TestCase):
 
 class CommandTest(unittest.TestCase):
     def run_with(self, *words: str) -> tuple[int, str, str]:
-        command = ["/usr/bin/python3", str(support.TOOLS / "bin" / "slo-feed"), *words]
+        command = ["/usr/bin/python3", str(TOOLS / "bin" / "slo-feed"), *words]
         ended = subprocess.run(command, capture_output=True, text=True)
         return ended.returncode, ended.stdout, ended.stderr
 

@@ -1,0 +1,98 @@
+"""The packages' units, started by the systemd of an empty machine as the page 'A team's set-up' says."""
+
+from __future__ import annotations
+
+import json
+import tempfile
+import unittest
+from pathlib import Path
+from typing import Any
+
+import machine
+from support import TOP
+
+PAGE = TOP / "docs" / "desk.md"
+EXAMPLES = "/usr/share/doc/slo-office-tools/examples"
+UNITS = ("slo_office", "slo-feed", "slo-notify")
+ALL = " ".join(UNITS)
+STATES = f"systemctl show --property=ActiveState,NRestarts --value {ALL} | xargs"
+BUDGETS = "curl -s http://127.0.0.1:8080/budgets/web-slo"
+JOURNAL = "sudo ls -l /var/lib/private/slo_office/office.journal"
+FEED_STATE = "sudo ls /var/lib/private/slo-feed"
+
+COMMANDS = {
+    "install": "sudo apt install ./*.deb prometheus prometheus-alertmanager curl",
+    # A machine without a network has no address at which an Alertmanager could meet others.
+    "alone": "echo 'ARGS=\"--cluster.listen-address=\"' | sudo tee /etc/default/prometheus-alertmanager;"
+    " sudo systemctl restart prometheus-alertmanager",
+    "disabled": f"systemctl is-enabled {ALL} | xargs",
+    # Nothing keeps the clock of this machine, so it is compared with the receiver's alone.
+    "clock": "sudo sed -i '1i clock = \"receiver\"' /etc/slo-notify.toml",
+    "define": f"curl -s --data-binary @{EXAMPLES}/feed/web.yaml http://127.0.0.1:8080/objects",
+    "restart": "sudo systemctl restart slo-feed slo-notify; sleep 140",
+    "states": STATES,
+    "users": "ps -C slo_office,slo-feed,slo-notify -o user= | sort -u | xargs",
+    "budgets": BUDGETS,
+    "overview": "cat /run/slo-notify/overview.json",
+    "metrics": "curl -s http://127.0.0.1:9469/metrics http://127.0.0.1:9464/metrics",
+    "kill": f"sudo systemctl kill --signal=KILL {ALL}; sleep 15; {STATES}",
+    "kept": BUDGETS,
+    "remove": f"sudo apt remove slo-office slo-office-tools; systemctl is-active {ALL} | xargs",
+    "left": f"{JOURNAL}; {FEED_STATE}",
+    "purge": f"sudo apt purge slo-office slo-office-tools; {JOURNAL}; {FEED_STATE}",
+    "again": "sudo apt install ./slo-office_*.deb; sudo systemctl start slo_office; sleep 1",
+    "still": BUDGETS,
+    "log": f"sudo journalctl --no-pager {' '.join(f'--unit={unit}' for unit in UNITS)}",
+}
+
+
+def commands() -> dict[str, str]:
+    """The test's commands, with the page's own behind the installation."""
+    block = PAGE.read_text().split("## As services", 1)[1].split("```\n", 2)[1]
+    page = {f"page {number}": line for number, line in enumerate(block.splitlines())}
+    first = list(COMMANDS)[:3]
+    rest = {name: line for name, line in COMMANDS.items() if name not in first}
+    return {**{name: COMMANDS[name] for name in first}, **page, **rest}
+
+
+class ServicesTest(unittest.TestCase):
+    def test_units(self) -> None:
+        machine.needed()
+        folder = Path(self.enterContext(tempfile.TemporaryDirectory()))
+        told = commands()
+        said = dict(zip(told, machine.said_on_empty_machine(folder, list(told.values()), 1200)))
+        log = said["log"].text
+        for name in said:
+            if name not in ("disabled", "remove", "purge"):
+                self.assertEqual(said[name].status, 0, f"{told[name]}\n{said[name].text}\n{log}")
+        self.assertEqual(said["disabled"].text, "disabled disabled disabled\n")
+        # Each came up and stayed, by a user of its own.
+        self.assertEqual(said["states"].text, "0 active 0 active 0 active\n", log)
+        self.assertNotIn("root", said["users"].text)
+        before = self.budget(said["budgets"].text)
+        self.assertGreater(before["den"], 0, log)
+        office = json.loads(said["overview"].text)["offices"][0]
+        self.assertTrue(office["up"], office)
+        self.assertEqual([slo["name"] for slo in office["slos"]], ["web-slo"])
+        for metric in (
+            'slo_feed_newest_minute{sli="web-good"}',
+            'slo_office_up{office="shop"} 1.0',
+        ):
+            self.assertIn(metric, said["metrics"].text)
+        # Killed, they come back, and nothing is lost.
+        self.assertTrue(said["kill"].text.endswith("1 active 1 active 1 active\n"), log)
+        self.assertGreaterEqual(self.budget(said["kept"].text)["den"], before["den"])
+        # Without the package they are ended; the journal stays, and outlives a purge.
+        self.assertTrue(said["remove"].text.endswith("inactive inactive inactive\n"), log)
+        self.assertIn("state.json", said["left"].text)
+        self.assertIn("office.journal", said["purge"].text)
+        self.assertNotIn("state.json", said["purge"].text)
+        self.assertGreaterEqual(self.budget(said["still"].text)["den"], before["den"])
+
+    def budget(self, text: str) -> dict[str, Any]:
+        told: dict[str, Any] = json.loads(text)["budgets"][0]
+        return told
+
+
+if __name__ == "__main__":
+    unittest.main()
