@@ -4,10 +4,12 @@ by key. A key that nobody reads is a fault, so that no misspelt one is passed ov
 from __future__ import annotations
 
 import tomllib
-from collections.abc import Mapping
+from collections.abc import Callable, Mapping
 from dataclasses import dataclass
 from pathlib import Path
-from typing import Any, Optional, Union
+from typing import Any, Optional, TypeVar, Union
+
+Read = TypeVar("Read")
 
 
 class ConfigFault(Exception):
@@ -113,14 +115,14 @@ class Table:
         return ConfigFault(f"{self._path}{key} {why}")
 
 
-def read_table(path: Path) -> Table:
-    """The table of a file. Raises ConfigFault."""
+def read_settings(path: Path, read: Callable[[Table, Path], Read]) -> Read:
+    """What is read of a file's table and its folder. Raises ConfigFault with the file's name."""
     try:
-        return Table(tomllib.loads(path.read_text(encoding="utf-8")))
+        return read(Table(tomllib.loads(path.read_text(encoding="utf-8"))), path.parent)
     except OSError as fault:
-        raise ConfigFault(str(fault.strerror)) from fault
-    except (UnicodeDecodeError, tomllib.TOMLDecodeError) as fault:
-        raise ConfigFault(str(fault)) from fault
+        raise ConfigFault(f"{path}: {fault.strerror}") from fault
+    except (UnicodeDecodeError, tomllib.TOMLDecodeError, ConfigFault) as fault:
+        raise ConfigFault(f"{path}: {fault}") from fault
 
 
 def first_line(path: Path) -> str:

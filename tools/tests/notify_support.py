@@ -17,7 +17,7 @@ from io import StringIO
 from pathlib import Path
 from typing import Any
 
-from support import Child, OfficeServer, answers, free_port, needed, until
+from support import SHOP, Child, OfficeServer, answers, free_port, needed, until
 
 from slo_tools.notify.clock_trust import ClockTrust
 from slo_tools.notify.config import read_config
@@ -31,24 +31,9 @@ LIBRARY = "/usr/lib/x86_64-linux-gnu/faketime/libfaketime.so.1"
 # Tests that hold the clock begin so far back that they never pass the true time.
 BACK = 6 * 3600
 
-DOCUMENTS = """
-apiVersion: openslo/v1
-kind: Service
-metadata:
-  name: shop
-spec: {}
----
-apiVersion: openslo/v1
-kind: SLI
-metadata:
-  name: good
-spec:
-  ratioMetric:
-    total:
-      metricSource: {}
-    good:
-      metricSource: {}
----
+DOCUMENTS = (
+    SHOP
+    + """---
 apiVersion: openslo/v1
 kind: SLO
 metadata:
@@ -66,6 +51,7 @@ spec:
   alertPolicies:
   - workbook-page
 """
+)
 
 
 class MovedClock:
@@ -252,3 +238,15 @@ class Desk(unittest.TestCase):
 
     def hooked(self, clock: HeldClock, office: OfficeServer, hook: Hook, more: str = "") -> Rounds:
         return self.rounds(clock, office.address, f'[webhook]\naddress = "{hook.address}"', more)
+
+    def burning(self) -> tuple[HeldClock, OfficeServer, Hook, Rounds]:
+        """The same after an hour and a half that went well and six rounds in which all failed."""
+        clock, office, hook = self.timed()
+        now = clock.minute()
+        self.feed(office, range(now - 90, now), 1000)
+        rounds = self.hooked(clock, office, hook)
+        for _ in range(6):
+            clock.go_on()
+            self.feed(office, [clock.minute() - 1], 0)
+            rounds.round()
+        return clock, office, hook, rounds

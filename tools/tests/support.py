@@ -251,3 +251,24 @@ def pipe(folder: Path, *messages: bytes) -> bytes:
         [program(), "pipe"], cwd=folder, input=b"".join(messages), capture_output=True, check=True
     )
     return run.stdout
+
+
+# A service, and an indicator of counted events.
+SHOP = """
+apiVersion: openslo/v1
+kind: Service
+metadata:
+  name: shop
+spec: {}
+---
+apiVersion: openslo/v1
+kind: SLI
+metadata:
+  name: good
+spec:
+  ratioMetric:
+    total:
+      metricSource: {}
+    good:
+      metricSource: {}
+"""

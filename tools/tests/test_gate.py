@@ -9,30 +9,11 @@ import time
 import unittest
 from fractions import Fraction
 
-from support import OfficeServer, free_port, run_tool, running_office
+from support import SHOP, OfficeServer, free_port, run_tool, running_office
 
 from slo_tools.freshness import excluded_age
 from slo_tools.gate.judging import BadFreeze, Freeze, Verdict, read_freeze, worst
 from slo_tools.spelling import percent
-
-DOCUMENTS = """
-apiVersion: openslo/v1
-kind: Service
-metadata:
-  name: shop
-spec: {}
----
-apiVersion: openslo/v1
-kind: SLI
-metadata:
-  name: good
-spec:
-  ratioMetric:
-    total:
-      metricSource: {}
-    good:
-      metricSource: {}
-"""
 
 SLO = """---
 apiVersion: openslo/v1
@@ -71,7 +52,7 @@ class Gate(unittest.TestCase):
 
     def office(self, *texts: str) -> OfficeServer:
         office = self.enterContext(running_office(self.now - 3000))
-        office.client().define((DOCUMENTS + "".join(texts)).encode())
+        office.client().define((SHOP + "".join(texts)).encode())
         return office
 
     def gate(self, office: OfficeServer, *words: str) -> tuple[int, str]:
@@ -140,7 +121,7 @@ class Gate(unittest.TestCase):
         client = office.client()
         client.ask("POST", ["samples"], body=self.rows(1, 120, 999))
         self.assertEqual(self.gate(office, "--service", "shop")[0], 0)
-        frozen = DOCUMENTS.split("---")[0].replace(
+        frozen = SHOP.split("---")[0].replace(
             "name: shop", "name: shop\n  annotations:\n    slo-office/freeze: always moving"
         )
         client.define(frozen.encode())
@@ -197,7 +178,7 @@ class Gate(unittest.TestCase):
     def test_a_clock_that_is_wrong_is_2(self) -> None:
         with running_office(self.now - 3000, clock="+2y") as office:
             client = office.client()
-            client.define((DOCUMENTS + slo("a")).encode())
+            client.define((SHOP + slo("a")).encode())
             later = self.now + 2 * 365 * 1440
             lines = [f"good,web,{later - n},1,999,1000\n" for n in range(3, 100)]
             client.ask("POST", ["samples"], body="".join(lines).encode())

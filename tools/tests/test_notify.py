@@ -40,14 +40,7 @@ class Webhooks(Desk):
         self.assertEqual(self.overview()["offices"][0]["slos"][0]["objectives"][0]["age"], 3)
 
     def test_an_alert_is_told_once_when_it_begins_and_once_when_it_ends(self) -> None:
-        clock, office, hook = self.timed()
-        now = clock.minute()
-        self.feed(office, range(now - 90, now), 1000)
-        rounds = self.hooked(clock, office, hook)
-        for _ in range(6):
-            clock.go_on()
-            self.feed(office, [clock.minute() - 1], 0)
-            rounds.round()
+        clock, office, hook, rounds = self.burning()
         self.assertEqual(hook.told(), [("workbook-page", "firing")])
         told = hook.alerts[0]
         self.assertEqual(told["labels"]["slo"], "answers")
@@ -60,7 +53,8 @@ class Webhooks(Desk):
             clock.go_on()
             self.feed(office, [clock.minute() - 1], 1000)
             rounds.round()
-        self.feed(office, range(now - 1, now + 7), 1000, 2)
+        begun = clock.minute() - 14
+        self.feed(office, range(begun - 1, begun + 7), 1000, 2)
         clock.go_on()
         rounds.round()
         self.assertEqual(hook.told(), [("workbook-page", "firing"), ("workbook-page", "resolved")])
@@ -86,14 +80,7 @@ class Webhooks(Desk):
         self.assertEqual(self.overview()["offices"][0]["origin"], clock.minute() - 7)
 
     def test_a_feed_that_dies_in_an_outage_resolves_nothing(self) -> None:
-        clock, office, hook = self.timed()
-        now = clock.minute()
-        self.feed(office, range(now - 90, now), 1000)
-        rounds = self.hooked(clock, office, hook)
-        for _ in range(6):
-            clock.go_on()
-            self.feed(office, [clock.minute() - 1], 0)
-            rounds.round()
+        clock, office, hook, rounds = self.burning()
         self.assertEqual(hook.told(), [("workbook-page", "firing")])
         # The feed is dead for two hours, in which the alert's state becomes quiet and no_data.
         for _ in range(24):
@@ -119,14 +106,7 @@ class Webhooks(Desk):
         self.assertEqual(office.client().notices(), [])
 
     def test_a_feed_that_comes_back_while_it_burns_resolves_nothing(self) -> None:
-        clock, office, hook = self.timed()
-        now = clock.minute()
-        self.feed(office, range(now - 90, now), 1000)
-        rounds = self.hooked(clock, office, hook)
-        for _ in range(6):
-            clock.go_on()
-            self.feed(office, [clock.minute() - 1], 0)
-            rounds.round()
+        clock, office, hook, rounds = self.burning()
         for _ in range(8):
             clock.go_on(5)
             rounds.round()
@@ -167,14 +147,7 @@ class Webhooks(Desk):
         self.assertEqual(hook.told(), [("workbook-page", "firing"), ("workbook-page", "resolved")])
 
     def test_an_office_that_is_away_is_told_and_ends_nothing(self) -> None:
-        clock, office, hook = self.timed()
-        now = clock.minute()
-        self.feed(office, range(now - 90, now), 1000)
-        rounds = self.hooked(clock, office, hook)
-        for _ in range(6):
-            clock.go_on()
-            self.feed(office, [clock.minute() - 1], 0)
-            rounds.round()
+        clock, office, hook, rounds = self.burning()
         office.kill()
         for _ in range(7):
             clock.go_on()

@@ -77,8 +77,10 @@ class ServicesTest(unittest.TestCase):
         for metric in (
             'slo_feed_newest_minute{sli="web-good"}',
             'slo_office_up{office="shop"} 1.0',
+            "slo_notify_clock_trusted 1.0",
         ):
-            self.assertIn(metric, said["metrics"].text)
+            self.assertIn(metric, said["metrics"].text, log)
+        self.assertGreater(office["entries"], 2, "it isn't ticked")
         # Killed, they come back, and nothing is lost.
         self.assertTrue(said["kill"].text.endswith("1 active 1 active 1 active\n"), log)
         self.assertGreaterEqual(self.budget(said["kept"].text)["den"], before["den"])

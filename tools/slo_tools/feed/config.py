@@ -8,7 +8,7 @@ from pathlib import Path
 from typing import Optional
 
 from slo_tools.office import is_label
-from slo_tools.settings import ConfigFault, Login, Table, read_table
+from slo_tools.settings import Login, Table, read_settings
 
 EVERY = (1, 5, 10, 15)
 
@@ -60,10 +60,7 @@ class Config:
 
 def read_config(path: Path) -> Config:
     """The configuration of a file. Raises ConfigFault."""
-    try:
-        return _config(read_table(path), path.parent)
-    except ConfigFault as fault:
-        raise ConfigFault(f"{path}: {fault}") from fault
+    return read_settings(path, _config)
 
 
 def _config(table: Table, folder: Path) -> Config:

@@ -6,7 +6,7 @@ from dataclasses import dataclass
 from pathlib import Path
 from typing import Optional
 
-from slo_tools.settings import ConfigFault, Login, Table, read_table
+from slo_tools.settings import Login, Table, read_settings
 
 CLOCKS = ("kernel", "receiver", "trusted")
 RECEIVERS = ("alertmanager", "webhook")
@@ -53,10 +53,7 @@ class Config:
 
 def read_config(path: Path) -> Config:
     """The configuration of a file. Raises ConfigFault."""
-    try:
-        return _config(read_table(path), path.parent)
-    except ConfigFault as fault:
-        raise ConfigFault(f"{path}: {fault}") from fault
+    return read_settings(path, _config)
 
 
 def _config(table: Table, folder: Path) -> Config:
