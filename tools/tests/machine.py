@@ -73,7 +73,7 @@ def packages() -> list[Path]:
 
 
 def empty_machine() -> Path:
-    """The root of the empty machine, which is made where it isn't there yet."""
+    """The root of the empty machine, which is made where it isn't there yet, in some minutes."""
     fields = [_told("dpkg-deb", "--field", it, "Depends", "Recommends") for it in packages()]
     recipe = "\n".join([SUITE, EMPTY, *SERVERS, *fields, *FILES.values()])
     root = ROOM / f"debian-{hashlib.sha256(recipe.encode()).hexdigest()[:8]}"
@@ -81,12 +81,13 @@ def empty_machine() -> Path:
         ROOM.mkdir(parents=True, exist_ok=True)
         for old in ROOM.glob("debian-*"):
             shutil.rmtree(old)
-        half = root.with_name(f"debian-half-{os.getpid()}")
+        half = root.with_name(f"half-{os.getpid()}")
         try:
             _make(half)
-            half.rename(root)
-        except subprocess.CalledProcessError as fault:
-            line = ((fault.stderr or fault.stdout or "").strip().splitlines() or [""])[-1]
+            if not root.exists():
+                half.rename(root)
+        except (subprocess.CalledProcessError, subprocess.TimeoutExpired) as fault:
+            line = (str(fault.stderr or fault.stdout or "").strip().splitlines() or [""])[-1]
             why = f"no empty Debian could be made: {fault.cmd[0]}: {line}"
             raise unittest.SkipTest(why) from fault
         finally:
