@@ -17,6 +17,7 @@ import { burnText, fraction, percent, readFraction, spell, toNumber } from "./fr
 const LANE_HEIGHT = 44;
 // A bar is at least this part of the axis.
 const MOST_BARS = 150;
+const LONG_TICK = 10_000;
 const CAPTIONS = {
   remaining: "Budget left, in the window up to each minute",
   burn: "Burn rate of each step",
@@ -58,7 +59,7 @@ export async function drawPanels(figures, told, target, zone) {
   const parts = {
     remaining: { series: [remainingSeries(told)], least: 0, most: 1, unit: percentTick },
     burn: { series: burnSeries(told, target), least: 0, most: 1, unit: tick },
-    events: { series: eventSeries(told), least: 0, unit: tick },
+    events: { series: eventSeries(told), least: 0, most: 1, unit: tick },
     alerts: {
       series: told.alerts.map((alert, lane) => alertSeries(alert, lane, least)),
       lanes: told.alerts.map(({ policy, severity }) => (severity ? `${policy} (${severity})` : policy)),
@@ -74,8 +75,14 @@ export function clearPanels() {
   drawn = [];
 }
 
-/** @param {number} value */
-const tick = (value) => value.toLocaleString("en").replace("-", "−");
+/**
+ * A number beside an axis: one that is too long for its place as `20K` or `1.5M`.
+ * @param {number} value
+ */
+export function tick(value) {
+  const isLong = Math.abs(value) >= LONG_TICK;
+  return value.toLocaleString("en", isLong ? { notation: "compact" } : {}).replace("-", "−");
+}
 
 /** @param {number} value */
 const percentTick = (value) => `${tick(Math.round(value * 100))} %`;
@@ -95,14 +102,18 @@ function remainingSeries(told) {
 }
 
 /**
- * Points that hold from the begin of each step to its end.
+ * Points that hold from the begin of each step to its end, also where the next one has no value.
  * @param {Told} told
  * @param {(sum: import("./office.js").Sum) => {y: number | null, exact: string}} value
  */
 function stepped(told, value) {
-  const points = told.steps.map(({ from, sum }) => ({ x: from, ...(sum ? value(sum) : { y: null, exact: "none" }) }));
-  const last = points.at(-1);
-  return last ? [...points, { ...last, x: told.to }] : points;
+  return told.steps.flatMap(({ from, to, sum }) => {
+    const point = sum ? value(sum) : { y: null, exact: "none" };
+    return [
+      { x: from, ...point },
+      { x: to, ...point },
+    ];
+  });
 }
 
 /**

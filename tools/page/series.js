@@ -20,6 +20,7 @@ import { OfficeFault, askEach } from "./office.js";
 // Every length divides the hour, or is a multiple of it, so that slices lie inside of steps.
 const STEPS = [1, 2, 5, 10, 15, 30, 60, 120, 180, 240, 360, 720, 1440, 2880, 4320, 7200, 10_080, 14_400];
 const MOST_STEPS = 60;
+const HOUR = 60;
 
 /**
  * The minutes at which steps begin and end, `from` and `to` among them.
@@ -44,9 +45,11 @@ export function edgesOf(from, to, least = 1) {
  * @returns {Promise<Told>}
  */
 export async function askSeries(office, slo, objective, to, told) {
-  const from = objective.from ?? to;
+  // What lies before the history is left out, but for the hour in which it begins, where a slice may.
+  const begun = Math.floor(office.origin / HOUR) * HOUR;
+  const from = Math.max(objective.from ?? to, Math.min(begun, to - HOUR));
   // A slice is an hour at most, so no step of an hour or more is without one.
-  const { edges, step } = edgesOf(from, to, slo.method === "Occurrences" ? 1 : 60);
+  const { edges, step } = edgesOf(from, to, slo.method === "Occurrences" ? 1 : HOUR);
   const known = edges.filter((edge) => edge >= office.origin);
   const all = 2 * known.length;
   const remaining = await askEach(

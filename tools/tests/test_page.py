@@ -74,7 +74,7 @@ return found.slice(0, 5);
 """
 
 # Cases of the page's arithmetic: an expression over the modules, and its value.
-MODULES = ("budget", "fractions", "minutes", "month", "routes", "series")
+MODULES = ("budget", "fractions", "minutes", "month", "panels", "routes", "series")
 EXPRESSIONS: list[tuple[str, Any]] = [
     ("fractions.spell(fractions.readFraction('-499/1'))", "-499/1"),
     ("fractions.spell(fractions.fraction(6, 4))", "3/2"),
@@ -129,6 +129,7 @@ EXPRESSIONS: list[tuple[str, Any]] = [
     ("series.edgesOf(0, 43200).edges.length", 61),
     ("series.edgesOf(100, 105).edges", [100, 101, 102, 103, 104, 105]),
     ("series.edgesOf(100, 250, 60).edges", [100, 120, 180, 240, 250]),
+    ("[-50000, 9999, 0.5, 1500000].map(panels.tick)", ["−50K", "9,999", "0.5", "1.5M"]),
     ("routes.readRoute('').view", "overview"),
     ("routes.readRoute('#/shop/a%2Fb').slo", "a/b"),
     ("routes.readRoute('#/shop/answers/1/month/2026-02').month", {"month": 2, "year": 2026}),
@@ -241,6 +242,7 @@ class Page(unittest.TestCase):
                 self.browser.open(front, "#/shop/rolling")
                 self.browser.settled()
                 self.browser.keep(self.pictures / f"slo-young-{minutes}.png")
+                self.add_up(json.loads(front.overview.read_text()), "rolling")
 
     def test_overview_of_200_is_drawn_within_a_second_of_the_first_byte(self) -> None:
         walls, threads = [], []
@@ -300,16 +302,21 @@ class Page(unittest.TestCase):
 
     def test_the_charts_numbers_add_up(self) -> None:
         self.see("#/shop/checkout", "as of")
+        self.add_up(json.loads(self.overview), "checkout")
+        self.assertEqual(self.browser.run(LAID_OUT), [])
+
+    def add_up(self, overview: dict[str, Any], name: str) -> None:
+        """The numbers of the charts' steps are those of the overview together."""
         self.browser.run("for (const d of document.querySelectorAll('details')) d.open = true")
         rows = self.browser.run(
             "return [...document.querySelectorAll('details tbody tr')]"
             ".map(r => [...r.querySelectorAll('td')].map(c => c.textContent.replaceAll(',', '')))"
         )
-        told = json.loads(self.overview)["offices"][0]["slos"]
-        wanted = next(slo for slo in told if slo["name"] == "checkout")["objectives"][0]
-        self.assertEqual(sum(int(row[0]) for row in rows), wanted["num"])
-        self.assertEqual(sum(int(row[1]) for row in rows), wanted["den"])
-        self.assertEqual(self.browser.run(LAID_OUT), [])
+        asked = [row for row in rows if row[0] != "not asked"]
+        told = overview["offices"][0]["slos"]
+        wanted = next(slo for slo in told if slo["name"] == name)["objectives"][0]
+        self.assertEqual(sum(int(row[0]) for row in asked), wanted["num"])
+        self.assertEqual(sum(int(row[1]) for row in asked), wanted["den"])
 
     def test_a_later_office_shows_exclusions_and_windows(self) -> None:
         with self.later_front() as front:
