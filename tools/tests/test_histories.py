@@ -30,6 +30,8 @@ from slo_tools.office import Office
 from slo_tools.settings import Login
 
 HISTORIES = int(os.environ.get("SLO_FEED_HISTORIES", "1000"))
+# The least history that fails is for people, and looked for in minutes.
+SHRINKS = os.environ.get("SLO_FEED_SHRINK", "1") != "0"
 SEED = int(os.environ.get("SLO_FEED_SEED") or random.randrange(2**32))
 BEGIN = 29_000_000
 MINUTES = 16
@@ -145,7 +147,7 @@ COMMON: dict[str, Any] = {
     "deadline": None,
     "suppress_health_check": list(HealthCheck),
     "max_examples": HISTORIES,
-    "phases": (Phase.explicit, Phase.reuse, Phase.generate, Phase.shrink),
+    "phases": (Phase.generate, Phase.shrink) if SHRINKS else (Phase.generate,),
     "database": None,
 }
 
