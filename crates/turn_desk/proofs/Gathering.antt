@@ -1,10 +1,13 @@
 -- Passes that are joined one after another, the last one first.
-use Rattle.std.proofs.Common.{◌≡◌, ℕ, zero, suc, List, [], ◌∷◌, ◌++◌, refl, sym, ap, ◌∙◌, subst}
-use Rattle.std.proofs.Common.{arith, append_assoc}
-use Rattle.std.specs.Prelude.{All, flat_map}
+use Rattle.std.proofs.Common.{◌≡◌, ℕ, zero, suc, ◌+◌, true, false, List, [], ◌∷◌, ◌++◌, refl, sym}
+use Rattle.std.proofs.Common.{ap, ◌∙◌, subst, arith, append_assoc, true≢false}
+use Rattle.std.specs.Prelude.{◌||◌, All, Bool}
 use Rattle.std.proofs.lemmas.List.{append-nil}
 use Rattle.turn_desk.specs.Histories.{Extends, Comparable}
 use Rattle.turn_desk.specs.Passes.{PassState, longer_history, pass_of_both}
+use Rattle.turn_desk.specs.Sources.{Accounts, AreAll, own_of, raised_of, total}
+use Rattle.turn_desk.specs.declared.view.Doubt.{Doubt}
+use Rattle.turn_desk.specs.declared.view.Opening.{Opening}
 use Rattle.turn_desk.proofs.Histories.{extends_same, extends_trans, longer_from_left}
 use Rattle.turn_desk.proofs.Histories.{longer_from_right}
 
@@ -62,7 +65,11 @@ pub record Stands (all rest : List PassState) (one : PassState) : Type 0 where
   pub split : all ≡ rest ++ done
   pub root : Each (λ p. p.root ≡ one.root) done
   pub seen : Each (λ p. Extends p.seen one.seen) done
-  pub own : one.own ≡ flat_map (λ p. p.own) done
+  pub own : one.own ≡ own_of done
+  pub raised : one.raised ≡ raised_of done
+  pub opening : (start : Opening) → Each (λ p. p.opening ≡ start) done → one.opening ≡ start
+  pub parts : one.parts ≡ total (λ p. p.parts) done
+  pub none_split : Each (λ p. p.has_split ≡ false) done → one.has_split ≡ false
 
 pub begins : (all rest : List PassState) (last : PassState) → all ≡ rest ++ last ∷ []
     → Stands all rest last
@@ -72,7 +79,15 @@ begins all rest last is = record {
   root = (refl, tt);
   seen = (extends_same last.seen, tt);
   own = sym (append-nil last.own);
+  raised = sym (append-nil last.raised);
+  opening = λ start same. same.0;
+  parts = omega arith;
+  none_split = λ none. none.0;
 }
+
+neither : (a b : Bool) → a ≡ false → b ≡ false → (a || b) ≡ false
+neither true b first second = absurd (true≢false first)
+neither false b first second = second
 
 pub goes_on : (all rest : List PassState) (one : PassState) (before : List PassState)
     (next both : PassState) → Stands all rest one → rest ≡ before ++ next ∷ []
@@ -98,6 +113,12 @@ goes_on all rest one before next both s is joins roots compare =
             (longer_from_right next.seen one.seen compare))) s.seen,
       );
       own = ap (λ (p : PassState). p.own) joins ∙ ap (λ (l : List ℕ). next.own ++ l) s.own;
+      raised = ap (λ (p : PassState). p.raised) joins
+          ∙ ap (λ (l : List Doubt). next.raised ++ l) s.raised;
+      opening = λ start same. ap (λ (p : PassState). p.opening) joins ∙ same.0;
+      parts = ap (λ (p : PassState). p.parts) joins ∙ ap (λ n. next.parts + n) s.parts;
+      none_split = λ none. ap (λ (p : PassState). p.has_split) joins
+          ∙ neither next.has_split one.has_split none.0 (s.none_split none.1);
     }
 
 -- all of them are one
@@ -114,10 +135,37 @@ module _ (all rest : List PassState) (one : PassState) (s : Stands all rest one)
   ends_seen = all_of (λ p. Extends p.seen one.seen) all
       (subst (Each (λ p. Extends p.seen one.seen)) whole s.seen)
 
-  pub ends_own : one.own ≡ flat_map (λ p. p.own) all
-  ends_own = s.own ∙ ap (flat_map (λ (p : PassState). p.own)) whole
+  pub ends_own : one.own ≡ own_of all
+  ends_own = s.own ∙ ap own_of whole
+
+  pub ends_raised : one.raised ≡ raised_of all
+  ends_raised = s.raised ∙ ap raised_of whole
+
+  pub ends_all : (opening : Opening) → AreAll opening all
+      → (one.opening ≡ opening) × (one.parts ≡ opening.passes) × (one.has_split ≡ false)
+  ends_all opening are = (
+    s.opening opening (subst (Each (λ p. p.opening ≡ opening)) (sym whole)
+        (each_of (λ p. p.opening ≡ opening) all are.opened)),
+    s.parts ∙ ap (total (λ (p : PassState). p.parts)) whole ∙ are.whole,
+    s.none_split (subst (Each (λ p. p.has_split ≡ false)) (sym whole)
+        (each_of (λ p. p.has_split ≡ false) all are.none_split)),
+  )
 
 pub extended : (all : List PassState) (one : PassState) (history : List (List ℕ))
     → All (λ p. Extends p.seen one.seen) all → Extends one.seen history
     → All (λ p. Extends p.seen history) all
 extended all one history h e k d lt = extends_trans _ one.seen history (h k d lt) e
+
+-- what one pass knows that stands for all, told of all of them
+pub known : (all : List PassState) (opening : Opening) (one : PassState) (history : List (List ℕ))
+    → (one.parts ≡ one.opening.passes → one.has_split ≡ false
+    → Accounts one.opening one.own one.raised history)
+    → (one.opening ≡ opening) × (one.parts ≡ opening.passes) × (one.has_split ≡ false)
+    → one.own ≡ own_of all → one.raised ≡ raised_of all
+    → Accounts opening (own_of all) (raised_of all) history
+known all opening one history told is own raised =
+    let whole : one.parts ≡ one.opening.passes =
+    is.1 ∙ ap (λ (o : Opening). o.passes) (sym is.0) in
+    subst (λ (ds : List Doubt). Accounts opening (own_of all) ds history) raised
+    (subst (λ (ps : List ℕ). Accounts opening ps one.raised history) own
+    (subst (λ (o : Opening). Accounts o one.own one.raised history) is.0 (told whole is.2)))

@@ -4,5 +4,6 @@ pub mod Histories
 pub mod Ledgers
 pub mod NumberLists
 pub mod Sharing
+pub mod Sources
 pub mod Taking
 pub mod Views

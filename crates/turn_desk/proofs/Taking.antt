@@ -13,20 +13,25 @@ use Rattle.turn_desk.specs.declared.view.View.{View}
 use Rattle.turn_desk.specs.Histories.{Extends, Has}
 use Rattle.turn_desk.specs.Ledgers.{Ledger}
 use Rattle.turn_desk.specs.Views.{IsIdle, with_turn}
-use Rattle.turn_desk.specs.Rule.{Fits, One, Apart, Held, Ruled, Took, Compared}
+use Rattle.turn_desk.specs.Rule.{Fits, One, Apart, Held, Ruled, Took, Compared, Covers, Foresees}
+use Rattle.turn_desk.specs.Rule.{GuestsAreKnown, HoldersForesee, opened}
+use Rattle.turn_desk.specs.Sources.{Accounts}
+use Rattle.turn_desk.specs.declared.view.Opening.{Opening}
 use Rattle.turn_desk.proofs.Histories.{comparable, extends_same, extends-length}
+use Rattle.turn_desk.proofs.Sources.{all_known, covers_set, foresees_set, guests_set, parts_of}
+use Rattle.turn_desk.proofs.Sources.{whole_set}
 use Rattle.turn_desk.proofs.Views.{each_set, held_set, one_set, apart_set}
 
 -- own positions lie in the history
-pub below : {history : List (List ℕ)} {root : List ℕ} {mark : ℕ} (v : View)
-    → Fits history root mark v → (p : ℕ) → Has v.own p → p < length history
+pub below : {history : List (List ℕ)} {root : List ℕ} {opening : Opening} {mark : ℕ} (v : View)
+    → Fits history root opening mark v → (p : ℕ) → Has v.own p → p < length history
 below {history} v f p had = omega (arith, f.within p had, extends-length v.seen history f.extends)
 
-module _ {T : Type 0} (ledger : T → Ledger) (first : T) where
+module _ {T : Type 0} (ledger : T → Ledger) (first : T) (passes : ℕ) where
   -- a step that changes nothing but to write what it found
-  pub looked : (s : State (Maybe T) View) (h : Ruled ledger first s) (id : ℕ) (v : View)
+  pub looked : (s : State (Maybe T) View) (h : Ruled ledger first passes s) (id : ℕ) (v : View)
       → get_elem? s.views id ≡ some v
-      → Ruled ledger first (stepped s 0 (slice_index s.words 0) id [] v keeps)
+      → Ruled ledger first passes (stepped s 0 (slice_index s.words 0) id [] v keeps)
   looked s h id v at =
       let as_was : set s.views id v ≡ s.views = set_again s.views id v at in
       record {
@@ -36,16 +41,32 @@ module _ {T : Type 0} (ledger : T → Ledger) (first : T) where
         words_are = ap (λ (ws : List ℕ). slice_set ws 0 (slice_index ws 0)) h.words_are;
         homes_are = h.homes_are;
         extends = h.extends;
-        at_home = h.at_home;
+        at_home = λ clear. let y = h.at_home clear in (
+          y.0,
+          y.1,
+          y.2,
+          y.3,
+          subst (λ (vs : List View). Foresees (opened ledger first passes) vs h.history
+              (ledger y.0).doubt) (sym as_was) y.4,
+        );
         held = λ set_mark. subst Held (sym as_was) (h.held set_mark);
         each = λ j u e. h.each j u (subst (λ (vs : List View). get_elem? vs j ≡ some u) as_was e);
         one = subst One (sym as_was) h.one;
         apart = subst Apart (sym as_was) h.apart;
+        covers = subst (λ (vs : List View). Covers (opened ledger first passes) vs h.history)
+            (sym as_was) h.covers;
+        foresee = subst (λ (vs : List View).
+            HoldersForesee (opened ledger first passes) vs h.history) (sym as_was) h.foresee;
+        whole = ap parts_of as_was ∙ h.whole;
+        guests = subst GuestsAreKnown (sym as_was) h.guests;
       }
 
-module _ {T : Type 0} (ledger : T → Ledger) (first : T) (slots : ℕ) where
+module _ {T : Type 0} (ledger : T → Ledger) (first : T) (passes slots : ℕ) where
   abbrev Rule : State (Maybe T) View → Type 0
-  Rule = Ruled ledger first
+  Rule = Ruled ledger first passes
+
+  abbrev start : Opening
+  start = opened ledger first passes
 
   found : (s : State (Maybe T) View) (h : Rule s) → slice_index s.words 0 ≡ h.mark
   found s h = ap (λ (ws : List ℕ). slice_index ws 0) h.words_are
@@ -60,7 +81,7 @@ module _ {T : Type 0} (ledger : T → Ledger) (first : T) (slots : ℕ) where
       )
   take_won s h id v live idle at clear =
       let y = h.at_home clear in
-      let w = with_turn v h.history in
+      let w = with_turn v h.history (ledger y.0).doubt in
       let mine = h.each id v at in (
         w,
         takes 0 (Some y.0),
@@ -74,11 +95,12 @@ module _ {T : Type 0} (ledger : T → Ledger) (first : T) (slots : ℕ) where
           extends = h.extends;
           at_home = λ e. absurd (omega (arith, e));
           held = λ _. held_set s.views id v w at live refl;
-          each = each_set s.views id v w at (Fits h.history (ledger first).root h.mark)
-              (Fits h.history (ledger first).root 1) h.each
+          each = each_set s.views id v w at (Fits h.history (ledger first).root start h.mark)
+              (Fits h.history (ledger first).root start 1) h.each
               (λ j u ne there f. record {
                 root_is = f.root_is;
                 other_root_is = f.other_root_is;
+                opening_is = f.opening_is;
                 extends = f.extends;
                 other_extends = f.other_extends;
                 within = f.within;
@@ -88,6 +110,7 @@ module _ {T : Type 0} (ledger : T → Ledger) (first : T) (slots : ℕ) where
               (record {
                 root_is = mine.root_is;
                 other_root_is = mine.other_root_is;
+                opening_is = mine.opening_is;
                 extends = extends_same h.history;
                 other_extends = mine.other_extends;
                 within = below v mine;
@@ -98,14 +121,28 @@ module _ {T : Type 0} (ledger : T → Ledger) (first : T) (slots : ℕ) where
               absurd (omega (arith, ((h.each j u there).holder holds).0, clear)));
           apart = apart_set s.views id v w at h.apart (length h.history)
               (λ j u there. below u (h.each j u there)) (λ p had. inl had);
+          covers = covers_set start s.views id v w at (λ p e made. made) h.history h.covers;
+          foresee = each_set s.views id v w at (λ u. Unit {0})
+              (λ u. u.holds ≡ true → Foresees start (set s.views id w) h.history u.doubt)
+              (λ j u e. tt)
+              (λ j u ne there _ holds.
+              absurd (omega (arith, ((h.each j u there).holder holds).0, clear)))
+              (λ _. foresees_set start s.views id v w at (λ p e made. made) h.history
+              (ledger y.0).doubt y.4);
+          whole = whole_set s.views id v w at refl passes h.whole;
+          guests = guests_set s.views id v w at (λ some_parts split. (some_parts, split)) live
+              (λ none. none) h.guests;
         },
         record {
           won = λ _. (
             y.0,
             refl,
-            ap (with_turn v) (sym y.2),
+            ap (λ (l : List (List ℕ)). with_turn v l (ledger y.0).doubt) (sym y.2),
             subst (Extends v.seen) (sym y.2) mine.extends,
             y.3 ∙ sym (mine.root_is live),
+            λ all. subst (Accounts v.opening v.own v.raised) (sym y.2)
+                (all_known start s.views h.history id v at (mine.opening_is live) h.whole h.covers
+                h.guests all),
           );
           lost = λ ne. absurd (ne (found s h ∙ clear));
         },
@@ -120,7 +157,7 @@ module _ {T : Type 0} (ledger : T → Ledger) (first : T) (slots : ℕ) where
     v,
     keeps,
     tt,
-    looked ledger first s h id v at,
+    looked ledger first passes s h id v at,
     record { won = λ e. absurd (busy e); lost = λ _. refl },
   )
 
@@ -150,7 +187,7 @@ module _ {T : Type 0} (ledger : T → Ledger) (first : T) (slots : ℕ) where
         m.0,
         keeps,
         tt,
-        looked ledger first s h id m.0 at,
+        looked ledger first passes s h id m.0 at,
         record {
           same = refl;
           one_root = λ live. mine.other_root_is live ∙ sym (mine.root_is live);

@@ -9,7 +9,7 @@ use Rattle.turn_desk.specs.Histories.{Has}
 use Rattle.turn_desk.specs.Rule.{One, Apart, Held}
 use Rattle.turn_desk.specs.declared.view.View.{View}
 
-set_there : {A : Type 0} (l : List A) (i : ℕ) (a b : A) → get_elem? l i ≡ some a
+pub set_there : {A : Type 0} (l : List A) (i : ℕ) (a b : A) → get_elem? l i ≡ some a
     → get_elem? (set l i b) i ≡ some b
 set_there [] i a b e = absurd (some-ne-none a (sym e))
 set_there (x ∷ xs) zero a b e = refl
@@ -30,6 +30,17 @@ module _ (views : List View) (id : ℕ) (v w : View) (at : get_elem? views id �
 
   pub held_set : w.live ≡ true → w.holds ≡ true → Held (set views id w)
   held_set live holds = (id, w, set_there views id v w at, live, holds)
+
+  pub held_still : v.holds ≡ false → Held views → Held (set views id w)
+  held_still idle h = (
+    h.0,
+    h.1,
+    set_else views id h.0 w (λ is. true≢false (sym h.4 ∙ ap (λ (x : View). x.holds)
+        (some-injective h.1 v (sym h.2 ∙ ap (λ (i : ℕ). get_elem? views i) is ∙ at)) ∙ idle))
+        ∙ h.2,
+    h.3,
+    h.4,
+  )
 
   pub one_set : One views → (w.holds ≡ true → (j : ℕ) (u : View) → j ≢ id
       → get_elem? views j ≡ some u → u.holds ≡ true → ⊥) → One (set views id w)

@@ -4,5 +4,6 @@ pub mod NumberLists
 pub mod Passes
 pub mod Rule
 pub mod Seats
+pub mod Sources
 pub mod Turns
 pub mod Views

@@ -1,13 +1,15 @@
 //! The desk: how it is made, taken in turns, and closed.
-ghost use Rattle.std.specs.Prelude.{◌≡◌, IfOk, IfErr, ◌++◌, ◌<◌, length, All, flat_map};
+ghost use Rattle.std.specs.Prelude.{◌≡◌, IfOk, IfErr, ◌++◌, ◌-◌, ◌<◌, false, length, All, flat_map};
 ghost use Rattle.turn_desk.specs.Histories.{Extends, Comparable, Distinct};
-ghost use Rattle.turn_desk.specs.Passes.{newcomer, pass_of_both};
+ghost use Rattle.turn_desk.specs.Passes.{guest_of, newcomer, pass_of_both, with_guest, with_parts};
+ghost use Rattle.turn_desk.specs.Sources.{Accounts, AreAll, own_of, raised_of};
 ghost use Rattle.turn_desk.specs.Turns.{TookTurn};
+ghost use Rattle.turn_desk.specs.declared.view.Opening.{Opening};
 
 use crate::bell::Bell;
 use crate::ledgered::{Call, Ledgered};
 use crate::pass::Pass;
-use crate::rule::{Another, Both, Compare, Turns};
+use crate::rule::{Another, Both, Compare, Deal, Opened, Turns};
 use crate::turn::{MARK, give_back, take_out};
 use crate::view::View;
 use atomic_table::{Refused, Table};
@@ -19,7 +21,7 @@ use std::sync::Wait;
 /// A value at which threads take turns, each by a pass. Contracts see which desk it is.
 #[derive(Drop)]
 pub struct Desk<T: Ledgered + Drop> {
-    table: Table<Option<T>, View, Snapshot<T>, Turns, Global>,
+    table: Table<Option<T>, View, Opened<T>, Turns, Global>,
     bell: Bell,
 }
 
@@ -51,18 +53,17 @@ impl<T: Ledgered + Drop> Desk<T> {
         requires { 0 < passes }
         ensures count { IfOk result (λ made. length made.1.items ≡ passes) }
         ensures passes { IfOk result (λ made. All
-            (λ p. p ≡ newcomer made.0 (T.ledger value).root (T.ledger value).history)
-            made.1.items) }
+            (λ p. p ≡ newcomer made.0 (T.ledger value) passes) made.1.items) }
         ensures err { IfErr result (λ failed. failed.value ≡ value) }
     {
         let mut list = Vec::new(alloc);
         if list.reserve(passes as usize).is_err() {
             return Err(DeskFailed { value });
         }
-        match Desk::with_pass(alloc, value) {
+        match Desk::with_pass(alloc, value, passes) {
             Ok((desk, mut pass)) => {
                 for _ in 1..passes {
-                    let more = desk.split(&mut pass);
+                    let more = desk.deal(&mut pass);
                     let _ = list.push(more);
                 }
                 let _ = list.push(pass);
@@ -72,13 +73,17 @@ impl<T: Ledgered + Drop> Desk<T> {
         }
     }
 
-    /// A desk over the value, and its first pass.
-    fn with_pass(alloc: Global, value: T) -> Result<(Desk<T>, Pass<T>), DeskFailed<T>>
+    /// A desk over the value that is opened for so many passes, and one that stands for all.
+    fn with_pass(alloc: Global, value: T, passes: u32) -> Result<(Desk<T>, Pass<T>), DeskFailed<T>>
+        requires { 0 < passes }
         ensures pass { IfOk result (λ made. made.1
-            ≡ newcomer made.0 (T.ledger value).root (T.ledger value).history) }
+            ≡ with_parts passes (newcomer made.0 (T.ledger value) passes)) }
         ensures err { IfErr result (λ failed. failed.value ≡ value) }
     {
-        let about = Snapshot::of(&value);
+        let about = Opened {
+            value: Snapshot::of(&value),
+            passes,
+        };
         let length = value.length();
         let mut slots = Vec::new(alloc);
         if let Err(AllocFailed { value }) = slots.push(Some(value)) {
@@ -123,17 +128,31 @@ impl<T: Ledgered + Drop> Desk<T> {
         out
     }
 
-    /// A further pass that has seen as much, and made none of it. The pass stays as it was.
+    /// One of the passes for which the desk is opened, in place of a part of this one.
+    fn deal(&self, pass: &mut Pass<T>) -> Pass<T>
+        requires desk { pass.old.desk ≡ self.now }
+        requires more { 1 < pass.old.parts }
+        ensures less { pass.new ≡ with_parts (pass.old.parts - 1) pass.old }
+        ensures new { result ≡ with_parts 1 (guest_of pass.old) }
+    {
+        let seat = self.table.shared.split_seat::<Deal>(&mut pass.seat);
+        Pass { seat }
+    }
+
+    /// A further pass that has seen as much, and made none of it. The pass stays as it was, but for
+    /// the mark that one was split off it: the desk wasn't opened for the further one, so that it
+    /// may be dropped unseen.
     pub fn split(&self, pass: &mut Pass<T>) -> Pass<T>
         requires { pass.old.desk ≡ self.now }
-        ensures same { pass.new ≡ pass.old }
-        ensures new { result ≡ newcomer self.now pass.old.root pass.old.seen }
+        ensures same { pass.new ≡ with_guest pass.old }
+        ensures new { result ≡ guest_of pass.old }
     {
         let seat = self.table.shared.split_seat::<Another>(&mut pass.seat);
         Pass { seat }
     }
 
-    /// One pass for two, which has seen the longer history and made what both made.
+    /// One pass for two, which has seen the longer history, made what both made, and stands for
+    /// both.
     pub fn join(&self, pass: &mut Pass<T>, other: Pass<T>)
         requires own { pass.old.desk ≡ self.now }
         requires other { other.desk ≡ self.now }
@@ -155,7 +174,11 @@ impl<T: Ledgered + Drop> Desk<T> {
         ensures desk { result.desk ≡ self.now }
         ensures root { All (λ p. p.root ≡ result.root) passes.items }
         ensures seen { All (λ p. Extends p.seen result.seen) passes.items }
-        ensures own { result.own ≡ flat_map (λ p. p.own) passes.items }
+        ensures own { result.own ≡ own_of passes.items }
+        ensures raised { result.raised ≡ raised_of passes.items }
+        ensures all { (opening : Opening) → AreAll opening passes.items
+            → (result.opening ≡ opening) × (result.parts ≡ opening.passes)
+            × (result.has_split ≡ false) }
     {
         let Some(mut pass) = passes.pop() else {
             unreachable!()
@@ -168,7 +191,9 @@ impl<T: Ledgered + Drop> Desk<T> {
     }
 
     /// Waits for the turn a last time, and hands out the value. Its history begins with what each
-    /// pass has seen. Each own position of the passes lies in it, and no position stands twice.
+    /// pass has seen. Each own position of the passes lies in it, and no position stands twice. If
+    /// the passes are all that the desk was opened for, each entry behind its opening is one of
+    /// theirs.
     pub fn close<R: Wait>(self, rt: &R, passes: Vec<Pass<T>>) -> T
         requires some { 0 < length passes.items }
         requires desk { All (λ p. p.desk ≡ self) passes.items }
@@ -177,6 +202,8 @@ impl<T: Ledgered + Drop> Desk<T> {
         ensures within { All (λ k. k < length (T.ledger result).history)
             (flat_map (λ p. p.own) passes.items) }
         ensures apart { Distinct (flat_map (λ p. p.own) passes.items) }
+        ensures no_other { (opening : Opening) → AreAll opening passes.items → Accounts opening
+            (own_of passes.items) (raised_of passes.items) (T.ledger result).history }
     {
         let pass = self.gather(passes);
         let Pass { mut seat } = pass;

@@ -1,12 +1,12 @@
 //! One turn over the table: how the value comes out, and how it goes back.
-ghost use Rattle.std.specs.Prelude.{◌≡◌, [], ◌∷◌, true, false, Some, None, ◌<◌, length};
-ghost use Rattle.turn_desk.specs.Histories.{Extends};
+ghost use Rattle.std.specs.Prelude.{◌≡◌, [], ◌∷◌, true, false, Some, None};
+ghost use Rattle.turn_desk.specs.Ledgers.{GoesOn, left_in_doubt};
 ghost use Rattle.turn_desk.specs.Views.{IsIdle, with_turn, holder_after, without_turn};
-ghost use Rattle.turn_desk.specs.Seats.{Continues, HasTurn, IsSameSeat, IsSeatOf};
+ghost use Rattle.turn_desk.specs.Seats.{Continues, HasTurn, IsSameSeat, IsSeatOf, Knows};
 
 use crate::bell::Bell;
 use crate::ledgered::{Call, Ledgered};
-use crate::rule::{Did, Free, Grow, Take, Turns};
+use crate::rule::{Did, Free, Grow, Opened, Take, Turns};
 use crate::view::View;
 use atomic_table::{Seat, Shared};
 use std::hint::spin_loop;
@@ -31,7 +31,7 @@ const TAKEN: u64 = 1;
 const LOOKS: u32 = 100;
 
 /// The table of a desk: two words, and one slot.
-pub(crate) type Board<T> = Shared<Option<T>, View, Snapshot<T>, Turns>;
+pub(crate) type Board<T> = Shared<Option<T>, View, Opened<T>, Turns>;
 
 /// Takes the turn, if it is free.
 fn try_turn<T: Ledgered>(board: &Board<T>, seat: &mut Seat<Option<T>, View>) -> bool
@@ -97,8 +97,10 @@ pub(crate) fn take_out<R: Wait, T: Ledgered>(
     requires idle { IsIdle seat.old.me }
     ensures seat { IsSameSeat seat.old seat.new }
     ensures value { Continues seat.old.me.0 (T.ledger result) }
-    ensures view { seat.new.me
-        ≡ (with_turn seat.old.me.0 (T.ledger result).history, (0, None) ∷ []) }
+    ensures view { seat.new.me ≡ (
+      with_turn seat.old.me.0 (T.ledger result).history (T.ledger result).doubt,
+      (0, None) ∷ [],
+    ) }
 {
     take_turn(rt, board, bell, seat);
     let found = board.exchange(seat, PLACE, None);
@@ -120,13 +122,13 @@ pub(crate) fn give_back<T: Ledgered, C: Call<T>, B: Did>(
     requires board { IsSeatOf board.now.table_id seat.old }
     requires holds { (seat.old.me.1 ≡ (0, None) ∷ []) × (seat.old.me.0.holds ≡ true)
         × (seat.old.me.0.live ≡ true) }
-    requires value { Extends seat.old.me.0.seen (T.ledger value).history
-        × ((T.ledger value).root ≡ seat.old.me.0.root)
-        × (B.added ≡ true → length seat.old.me.0.seen < length (T.ledger value).history) }
+    requires before { Knows seat.old.me.0 (T.ledger _before.value) }
+    requires went_on { GoesOn (T.ledger _before.value) (T.ledger value) B.added }
+    requires left { B.left ≡ left_in_doubt (T.ledger _before.value) (T.ledger value) }
     ensures seat { IsSameSeat seat.old seat.new }
     ensures view { seat.new.me ≡ (
-      without_turn (holder_after B.added B.rose seat.old.me.0
-          (T.ledger value).history),
+      without_turn (holder_after B.added B.rose B.left seat.old.me.0
+          (T.ledger value).history (T.ledger value).doubt),
       [],
     ) }
 {

@@ -1,5 +1,6 @@
 use Rattle.std.proofs.Common.{◌≡◌, [], rules}
 use Rattle.turn_desk.proofs.Gathering.{begins, goes_on, ends_root, ends_seen, ends_own, all_pop}
+use Rattle.turn_desk.proofs.Gathering.{ends_all, ends_raised}
 use Rattle.turn_desk.proofs.Gathering.{popped}
 use Rattle.turn_desk.proofs.desk.Desk.gather.Goals as goal
 
@@ -40,4 +41,16 @@ pub returns-clause-own : goal.returns-clause-own
 returns-clause-own g c =
     let none : c.loop-next.passes.items ≡ [] = search rules in
     ends_own c.args.passes.items c.loop-next.passes.items c.loop-next.pass
+    c.loop-next.invariant.stands none
+
+pub returns-clause-raised : goal.returns-clause-raised
+returns-clause-raised g c =
+    let none : c.loop-next.passes.items ≡ [] = search rules in
+    ends_raised c.args.passes.items c.loop-next.passes.items c.loop-next.pass
+    c.loop-next.invariant.stands none
+
+pub returns-clause-all : goal.returns-clause-all
+returns-clause-all g c =
+    let none : c.loop-next.passes.items ≡ [] = search rules in
+    ends_all c.args.passes.items c.loop-next.passes.items c.loop-next.pass
     c.loop-next.invariant.stands none

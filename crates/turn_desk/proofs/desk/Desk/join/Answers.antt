@@ -11,9 +11,10 @@ join_seat-requires g c = (
   search rules,
   c.other.invariant.none_out,
   omega (arith, c.self.invariant.0),
-  joins g.T.Ledgered.ledger c.self.inside.table.shared.key.value c.pass.inside.seat.id
+  joins g.T.Ledgered.ledger c.self.inside.table.shared.key.value.value
+      c.self.inside.table.shared.key.passes c.pass.inside.seat.id
       c.pass.inside.seat.me.0 c.other.inside.seat.id c.other.inside.seat.me.0
-      c.pass.invariant.idle c.other.invariant.idle c.other.invariant.live,
+      c.pass.invariant.idle c.pass.invariant.live c.other.invariant.idle c.other.invariant.live,
 )
 
 pub load-requires : goal.load-requires
@@ -21,8 +22,9 @@ load-requires g c =
     let e = c.join_seat.ensures in (
       search rules,
       omega (arith, c.self.invariant.0),
-      compares g.T.Ledgered.ledger c.self.inside.table.shared.key.value
-          c.self.inside.table.shared.table_id.slots c.join_seat.new.seat.id
+      compares g.T.Ledgered.ledger c.self.inside.table.shared.key.value.value
+          c.self.inside.table.shared.key.passes c.self.inside.table.shared.table_id.slots
+          c.join_seat.new.seat.id
           c.join_seat.new.seat.me (ap (λ m. m.1) e.2 ∙ c.pass.invariant.none_out),
     )
 

@@ -1,21 +1,9 @@
-use Rattle.std.proofs.Common.{◌<◌, length, List, ℕ, ap, sym, subst, ◌∙◌, rules}
+use Rattle.std.proofs.Common.{List, ℕ, ap, sym, subst}
 use Rattle.turn_desk.specs.Histories.{Extends}
 use Rattle.turn_desk.specs.Passes.{PassState}
 use Rattle.turn_desk.proofs.Histories.{extends_trans}
-use Rattle.turn_desk.proofs.Ledgers.{goes_extends, goes_more}
+use Rattle.turn_desk.proofs.Ledgers.{goes_extends}
 use Rattle.turn_desk.proofs.desk.Desk.with_turn.Goals as goal
-
-pub give_back-requires-clause-value : goal.give_back-requires-clause-value
-give_back-requires-clause-value g c =
-    let goes = c.act-out.ensures.ledger in
-    let after = (g.T.Ledgered.ledger c.act-out.new.value).history in
-    let seen = ap (λ m. m.0.seen) c.take_out-value.ensures.view in (
-      subst (λ (s : List (List ℕ)). Extends s after) (sym seen) (goes_extends _ _ _ goes),
-      goes.root ∙ c.take_out-value.ensures.value.1
-          ∙ sym (ap (λ m. m.0.root) c.take_out-value.ensures.view),
-      λ told. subst (λ (s : List (List ℕ)). length s < length after) (sym seen)
-          (goes_more _ _ _ goes (search (rules, told))),
-    )
 
 pub returns-clause-seen : goal.returns-clause-seen
 returns-clause-seen g c =

@@ -1,0 +1,14 @@
+use Rattle.std.proofs.Common.{◌<◌, sym, subst, rules, arith}
+use Rattle.turn_desk.specs.Passes.{PassState}
+use Rattle.turn_desk.proofs.Sharing.{deals}
+use Rattle.turn_desk.proofs.desk.Desk.deal.Goals as goal
+
+pub split_seat-seat-requires : goal.split_seat-seat-requires
+split_seat-seat-requires g c = (
+  search rules,
+  omega (arith, c.self.invariant.0),
+  deals g.T.Ledgered.ledger c.self.inside.table.shared.key.value.value
+      c.self.inside.table.shared.key.passes c.pass.inside.seat.id
+      c.pass.inside.seat.me.0 c.pass.invariant.idle c.pass.invariant.live
+      (subst (λ (p : PassState). 1 < p.parts) (sym c.pass.view_is) c.requires.more),
+)
