@@ -20,7 +20,7 @@ use Rattle.office_counter.proofs.Steps.{extends_with_others}
 use Rattle.turn_counter.specs.Holding.{HoldsEntry}
 
 -- what stands behind these
-at_seam : (xs : List Entry) (y : Entry) (ys : List Entry)
+pub at_seam : (xs : List Entry) (y : Entry) (ys : List Entry)
     → slice_get (xs ++ y ∷ ys) (length xs) ≡ Some y
 at_seam xs y ys =
     slice_get-get_or (xs ++ y ∷ ys) (length xs) y (omega (arith, length-append xs (y ∷ ys)))
@@ -40,7 +40,7 @@ judged point x e (Refused refusal) made = absurd cc
 judged point x e (Same outcome) made = absurd cc
 judged point x e Accepted made = unless _ x e made
 
-made_is : (point : Office) (reading : ℕ) (command : Command) (outcome : Outcome) (e : Entry)
+pub made_is : (point : Office) (reading : ℕ) (command : Command) (outcome : Outcome) (e : Entry)
     → Comes point reading (Change command) outcome (Some e)
     → e ≡ entry_of (moment_of point reading) command
 made_is point reading command outcome e (past at told none) = absurd cc

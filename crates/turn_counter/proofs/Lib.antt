@@ -4,3 +4,5 @@ pub mod Going
 pub mod Taking
 pub mod Holding
 pub mod Staying
+pub mod Asked
+pub mod Turning

@@ -7,6 +7,7 @@ use Rattle.std.specs.List.{AllByRecursion}
 use Rattle.atomic_table.specs.Seated.{TableId}
 use Rattle.slo_limits.specs.declared.TheConstants.{MAX_MINUTE}
 use Rattle.turn_desk.specs.Histories.{Extends as Begins}
+use Rattle.turn_desk.specs.Ledgers.{Ledger}
 use Rattle.turn_desk.specs.Passes.{PassState, newcomer}
 use Rattle.record_form.specs.declared.Entry.{Entry}
 use Rattle.record_form.specs.Laws.{EntriesAreReadBack}
@@ -17,7 +18,7 @@ use Rattle.office_counter.specs.Laws.{Extends}
 use Rattle.own_counter.specs.office_keep.Files.{IsWhole, records}
 use Rattle.turn_counter.specs.Seen.{entry_in, entry_or_tick, office_seen, origin_in, root_of}
 
-entry_back : EntriesAreReadBack → (e : Entry) → FitsRecord e → entry_in (record_of e) ≡ e
+pub entry_back : EntriesAreReadBack → (e : Entry) → FitsRecord e → entry_in (record_of e) ≡ e
 entry_back back e fits =
     ap (λ found. entry_or_tick (whole found))
     (ap entry.read (sym (append-nil (record_of e))) ∙ back e [] fits)
@@ -52,7 +53,10 @@ sees_office back root o whole within is =
     ∙ ap (λ (history : List Entry). record { origin = o.origin; history = history })
     (history_back back o.history whole.fit)
 
-pub new_sees_all : EntriesAreReadBack → (desk : TableId) (o : Office) → IsWhole o
-    → o.origin ≤ MAX_MINUTE
-    → office_seen (newcomer desk (root_of o.origin) (records o.history)) ≡ o
-new_sees_all back desk o whole within = sees_office back (root_of o.origin) o whole within refl
+pub new_sees_all : EntriesAreReadBack → (desk : TableId) (ledger : Ledger) (passes : ℕ)
+    (o : Office) → IsWhole o → o.origin ≤ MAX_MINUTE → ledger.root ≡ root_of o.origin
+    → ledger.history ≡ records o.history → office_seen (newcomer desk ledger passes) ≡ o
+new_sees_all back desk ledger passes o whole within root history =
+    ap (λ (h : List (List ℕ)). record { origin = origin_in ledger.root; history = map entry_in h })
+    history
+    ∙ sees_office back ledger.root o whole within root

@@ -10,11 +10,17 @@ use Rattle.turn_counter.specs.Holding.{StaysAtDesk}
 use Rattle.turn_counter.specs.Turns.{TurnAsks}
 
 pub stays_still : (p : PassState) → StaysAtDesk p p
-stays_still p = record { desk = refl; root = refl }
+stays_still p =
+    record { desk = refl; root = refl; opening = refl; parts = refl; has_split = refl }
 
 pub stays_both : (a b c : PassState) → StaysAtDesk a b → StaysAtDesk b c → StaysAtDesk a c
-stays_both a b c first second =
-    record { desk = second.desk ∙ first.desk; root = second.root ∙ first.root }
+stays_both a b c first second = record {
+  desk = second.desk ∙ first.desk;
+  root = second.root ∙ first.root;
+  opening = second.opening ∙ first.opening;
+  parts = second.parts ∙ first.parts;
+  has_split = second.has_split ∙ first.has_split;
+}
 
 module _ {D : Type 0} (images : D → List ℕ → Type 0) (moment : D → ℕ)
     (images_since : D → ℕ → List ℕ → Type 0) (faults : D → ℕ) where
@@ -23,7 +29,13 @@ module _ {D : Type 0} (images : D → List ℕ → Type 0) (moment : D → ℕ)
       → Treats (TurnAsks images moment images_since faults) old said last reading text new
       → StaysAtDesk old new
   turn_stays old said last reading text new (asked request outcome for asks answer) =
-      record { desk = asks.desk; root = asks.root }
+      record {
+        desk = asks.desk;
+        root = asks.root;
+        opening = asks.opening;
+        parts = asks.parts;
+        has_split = asks.has_split;
+      }
   turn_stays old said last reading text new (at_once reason for answer same) =
       subst (λ (p : PassState). StaysAtDesk old p) (sym same) (stays_still old)
   turn_stays old said last reading text new (unread answer same) =

@@ -56,9 +56,13 @@ turn_asks images moment images_since faults reading request call result call_aft
           ∙ ap (λ (n : ℕ). own_after v.own (is_some result.1) n)
           (length-map took.after.office.history record_of)
           ∙ places result.1 v.own (length took.after.office.history) went.last;
+      raised = ap (λ (p : PassState). p.raised) took.pass_is;
       counted = ap (λ (p : PassState). p.faults) took.pass_is;
       desk = ap (λ (p : PassState). p.desk) took.pass_is;
       root = ap (λ (p : PassState). p.root) took.pass_is;
+      opening = ap (λ (p : PassState). p.opening) took.pass_is;
+      parts = ap (λ (p : PassState). p.parts) took.pass_is;
+      has_split = ap (λ (p : PassState). p.has_split) took.pass_is;
     }
 
 -- the same of a counter, which is seen as its pass

@@ -3,6 +3,7 @@ use Rattle.std.specs.Prelude.{◌≡◌, ℕ, ◌≤◌, [], ◌∷◌, ◌++◌
 use Rattle.atomic_table.specs.Seated.{TableId}
 use Rattle.slo_limits.specs.declared.TheConstants.{MAX_MINUTE}
 use Rattle.turn_desk.specs.Histories.{Extends as Begins}
+use Rattle.turn_desk.specs.Ledgers.{Ledger}
 use Rattle.turn_desk.specs.Passes.{PassState, newcomer}
 use Rattle.record_form.specs.declared.Command.{Command}
 use Rattle.record_form.specs.declared.Outcome.{Outcome}
@@ -14,10 +15,14 @@ use Rattle.office_counter.specs.Steps.{Standing, Step, entry_of}
 use Rattle.own_counter.specs.office_keep.Files.{IsWhole, records}
 use Rattle.turn_counter.specs.Seen.{office_seen, root_of}
 
--- the pass is one of the same desk, and over the same origin
+-- The pass is one of the same desk, and over the same origin. It stands for as many of the passes
+-- that the desk was opened for, and no further one was split off it.
 pub record StaysAtDesk (old new : PassState) : Type 0 where
   pub desk : new.desk ≡ old.desk
   pub root : new.root ≡ old.root
+  pub opening : new.opening ≡ old.opening
+  pub parts : new.parts ≡ old.parts
+  pub has_split : new.has_split ≡ old.has_split
 
 -- A pass that has seen the first records of an office has seen the beginning of its history.
 abbrev pub PassesSeeBeginnings : Type 0
@@ -28,8 +33,9 @@ PassesSeeBeginnings =
 -- A new pass has seen the office.
 abbrev pub NewPassesSeeAll : Type 0
 NewPassesSeeAll =
-    (desk : TableId) (o : Office) → IsWhole o → o.origin ≤ MAX_MINUTE
-    → office_seen (newcomer desk (root_of o.origin) (records o.history)) ≡ o
+    (desk : TableId) (ledger : Ledger) (passes : ℕ) (o : Office) → IsWhole o
+    → o.origin ≤ MAX_MINUTE → ledger.root ≡ root_of o.origin → ledger.history ≡ records o.history
+    → office_seen (newcomer desk ledger passes) ≡ o
 
 -- The place holds the entry of the command, at the moment of its reading over an office that goes
 -- on from what was seen.

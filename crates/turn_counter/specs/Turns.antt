@@ -1,7 +1,7 @@
 -- What one asking in a turn does.
-use Rattle.std.specs.Prelude.{◌≡◌, ℕ, ◌≤◌, List, Option}
+use Rattle.std.specs.Prelude.{◌≡◌, ℕ, ◌≤◌, List, ◌++◌, Option}
 use Rattle.slo_limits.specs.declared.TheConstants.{MAX_MINUTE}
-use Rattle.turn_desk.specs.Ledgers.{has_risen}
+use Rattle.turn_desk.specs.Ledgers.{has_risen, left_in_doubt}
 use Rattle.turn_desk.specs.Passes.{PassState, faults_after}
 use Rattle.office_outside.specs.Disk.{All, LeavesOnly}
 use Rattle.record_form.specs.declared.Outcome.{Outcome}
@@ -11,7 +11,7 @@ use Rattle.own_counter.specs.office_keep.Files.{IsWhole}
 use Rattle.own_counter.specs.office_keep.Office.{IsBlamed, LeavesBy, OfficeOn, Performs, SettlesBy}
 use Rattle.own_counter.specs.office_keep.Office.{StandsSettled}
 use Rattle.own_counter.specs.Own.{places_with}
-use Rattle.turn_counter.specs.Seen.{office_seen}
+use Rattle.turn_counter.specs.Seen.{ledger_of, office_seen}
 
 -- a request, and the reading of the clock for it
 pub record Asked : Type 0 where
@@ -37,7 +37,8 @@ pub record Acts {D : Type 0} (images : D → List ℕ → Type 0) (moment : D �
 
 -- One asking by a pass. The office that was taken out goes on from what the pass had seen, and the
 -- pass has then seen the office that was put back. The place of the entry that the request added
--- joins the pass's own. The pass counts the turn as a fault exactly where the disk's count rose.
+-- joins the pass's own, and so does what it left in doubt. The pass counts the turn as a fault
+-- exactly where the disk's count rose. What it stands for stays.
 pub record TurnAsks {D : Type 0} (images : D → List ℕ → Type 0) (moment : D → ℕ)
     (images_since : D → ℕ → List ℕ → Type 0) (faults : D → ℕ) (old : PassState) (reading : ℕ)
     (request : Request) (outcome : Outcome) (new : PassState) : Type 0 where
@@ -48,7 +49,12 @@ pub record TurnAsks {D : Type 0} (images : D → List ℕ → Type 0) (moment : 
   pub acts : Acts images moment images_since faults taken reading request outcome place put
   pub seen : office_seen new ≡ put.office
   pub own : new.own ≡ places_with place old.own
+  pub raised : new.raised
+      ≡ old.raised ++ left_in_doubt (ledger_of faults taken) (ledger_of faults put)
   pub counted : new.faults ≡ faults_after old.faults
       (has_risen (faults taken.disk) (faults put.disk))
   pub desk : new.desk ≡ old.desk
   pub root : new.root ≡ old.root
+  pub opening : new.opening ≡ old.opening
+  pub parts : new.parts ≡ old.parts
+  pub has_split : new.has_split ≡ old.has_split

@@ -2,6 +2,8 @@
 ghost use Rattle.std.specs.Prelude.{◌≡◌, ◌<◌, All, IfErr, IfOk, flat_map, length};
 ghost use Rattle.turn_desk.specs.Histories.{Distinct, Extends};
 ghost use Rattle.turn_desk.specs.Passes.{newcomer};
+ghost use Rattle.turn_desk.specs.Sources.{Accounts, AreAll, own_of, raised_of};
+ghost use Rattle.turn_desk.specs.declared.Opening.{Opening};
 ghost use Rattle.turn_counter.specs.Seen.{ledger_of};
 
 use office_outside::Disk;
@@ -45,9 +47,7 @@ pub fn open_desk<D: Disk + Drop>(
     requires { 0 < passes }
     ensures count { IfOk result (λ made. length made.1.items ≡ passes) }
     ensures passes { IfOk result (λ made. All
-        (λ p. p ≡ newcomer made.0 (ledger_of D.faults office).root
-        (ledger_of D.faults office).history)
-        made.1.items) }
+        (λ p. p ≡ newcomer made.0 (ledger_of D.faults office) passes) made.1.items) }
     ensures err { IfErr result (λ back. back ≡ office) }
 {
     match Desk::new(alloc, DeskOffice { office }, passes) {
@@ -57,7 +57,8 @@ pub fn open_desk<D: Disk + Drop>(
 }
 
 /// Waits for the turn a last time, and hands out the office. Its history begins with what each pass
-/// has seen. Each own place of the passes lies in it, and none stands twice.
+/// has seen. Each own place of the passes lies in it, and none stands twice. If the passes are all
+/// that the desk was opened for, each entry behind its opening is one of theirs.
 pub fn close_desk<R: Wait, D: Disk + Drop>(
     rt: &R,
     desk: Desk<DeskOffice<D>>,
@@ -70,6 +71,8 @@ pub fn close_desk<R: Wait, D: Disk + Drop>(
     ensures within { All (λ k. k < length (ledger_of D.faults result).history)
         (flat_map (λ p. p.own) passes.items) }
     ensures apart { Distinct (flat_map (λ p. p.own) passes.items) }
+    ensures no_other { (opening : Opening) → AreAll opening passes.items → Accounts opening
+        (own_of passes.items) (raised_of passes.items) (ledger_of D.faults result).history }
 {
     desk.close(rt, passes).office
 }

@@ -4,6 +4,8 @@ ghost use Rattle.office_session.specs.declared.SessionEnd.{SessionEnd};
 ghost use Rattle.office_session.specs.Sessions.{EndsSo, Scene, Trace, Turn};
 ghost use Rattle.turn_desk.specs.Passes.{PassState};
 ghost use Rattle.wire_session.specs.Treats.{Treats};
+ghost use Rattle.own_counter.specs.Requests.{turns_of};
+ghost use Rattle.turn_counter.specs.Asked.{MakesAsked};
 ghost use Rattle.turn_counter.specs.Holding.{NewPassesSeeAll, OwnEntriesStay, PassesSeeBeginnings};
 ghost use Rattle.turn_counter.specs.Holding.{QueriesOwnNothing, StaysAtDesk};
 ghost use Rattle.turn_counter.specs.Turns.{TurnAsks};
@@ -37,3 +39,15 @@ pub fn an_own_entry_stays()
     ensures changes { OwnEntriesStay }
     ensures queries { QueriesOwnNothing }
 {}
+
+/// Each entry that a pass makes by a session, or leaves in doubt, is one for which a message of the
+/// session asks, over the office with the entries before it.
+pub fn a_pass_makes_what_is_asked<D: Disk + Drop>()
+    ensures { (refusal : PassState → ℕ → List ℕ) (end : SessionEnd) (old new : Scene PassState)
+        (ends : EndsSo (Treats (TurnAsks D.images D.moment D.images_since D.faults)) refusal end old
+        new)
+        → MakesAsked (turns_of (Treats (TurnAsks D.images D.moment D.images_since D.faults)) refusal
+        end old new ends) old.handler new.handler }
+{
+    an_entry_is_read_back();
+}
