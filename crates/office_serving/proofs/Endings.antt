@@ -10,26 +10,34 @@ use Rattle.office_outside.specs.Told.{Gained, GainedPrefix}
 use Rattle.turn_desk.specs.Histories.{Distinct}
 use Rattle.turn_desk.specs.Histories.{Extends as Begins}
 use Rattle.turn_desk.specs.Passes.{PassState, newcomer}
+use Rattle.turn_desk.specs.Sources.{Accounts, AreAll, own_of, raised_of}
+use Rattle.turn_desk.specs.declared.Opening.{Opening}
 use Rattle.office_doors.specs.Books.{Moves}
 use Rattle.office_doors.specs.Entrances.{Entrance, Opens, Stays, left_at}
 use Rattle.office_doors.specs.declared.Visit.{Visit}
+use Rattle.record_form.specs.Laws.{EntriesAreReadBack}
 use Rattle.office_history.specs.History.{Office}
 use Rattle.office_counter.specs.Laws.{Extends, IsOwned}
 use Rattle.office_counter.proofs.Steps.{extends_both, extends_still}
-use Rattle.turn_counter.specs.office_keep.Files.{IsWhole}
+use Rattle.turn_counter.specs.office_keep.Files.{IsWhole, records}
 use Rattle.turn_counter.specs.office_keep.Office.{OfficeOn, StandsSettled}
 use Rattle.turn_counter.specs.Holding.{NewPassesSeeAll, PassesSeeBeginnings}
 use Rattle.turn_counter.specs.Seen.{ledger_of, office_seen, standing_of}
+use Rattle.turn_counter.proofs.Asked.{Does}
+use Rattle.office_serving.specs.Asked.{AddsNoOther, turns_of_chain}
 use Rattle.office_serving.specs.Serving.{AreOpened, AskedAt, EndsServing, Front, IsServed, Ran}
-use Rattle.office_serving.specs.Serving.{SaidNotReady, WereOpen, front, ready_line}
+use Rattle.office_serving.specs.Serving.{NoneOpened, SaidNotReady, WereOpen, front, ready_line}
+use Rattle.office_serving.specs.Visits.{Chain, Service}
 use Rattle.office_serving.specs.Workers.{AreClosed, GoesOn, RanWorkers, Site, WorkersServe}
-use Rattle.office_serving.specs.Workers.{WorksEach}
+use Rattle.office_serving.specs.Workers.{WorksEach, turns_of_workers}
 use Rattle.office_serving.specs.declared.serving.ServeEnd.{ServeEnd}
 use Rattle.office_serving.specs.declared.serving.ServeEnd.TheVariants.{Done, DoorsFault}
 use Rattle.office_serving.specs.declared.serving.ServeEnd.TheVariants.{NoMemory, WriteFault}
 use Rattle.office_serving.specs.declared.workers.TheConstants.{WORKERS}
+use Rattle.office_serving.proofs.Asked.{adds_no_other, are_all, none_made, none_raised, own_asked}
+use Rattle.office_serving.proofs.Asked.{places_of, raised_asked, still_no_other}
 use Rattle.office_serving.proofs.Chains.{moves_both, moves_still}
-use Rattle.office_serving.proofs.Lists.{all_more}
+use Rattle.office_serving.proofs.Lists.{all_more, each_of}
 
 module _ {A I O C : Type 0} (site : Site A I O C) (port : ℕ) where
   open_book : (opened closed : List A) → length opened ≡ WORKERS
@@ -55,19 +63,21 @@ module _ {A I O C : Type 0} (site : Site A I O C) (port : ℕ) where
       moves_both (Opens site.told opened) (AreClosed closed) (WereOpen site.told opened closed)
       (open_book opened closed count) a b c opens closes
 
-  pub not_ready : (opened : List A) (a b c : Option (Entrance A (Visit I O C)))
+  pub not_ready : (IfIdle : Type 0) (opened : List A) (a b c : Option (Entrance A (Visit I O C)))
       (ports ports_after : List ℕ) (held held_after : Option (List ℕ)) → AreOpened site opened a
       → AskedAt port ports ports_after
       → GainedPrefix ready_line held held_after → Moves (Opens site.told opened) a b
-      → Moves (AreClosed opened) b c
-      → SaidNotReady site port (front a ports held) (front c ports_after held_after)
-  not_ready opened a b c ports ports_after held held_after are asked part opens closes = record {
-    opened = opened;
-    asked = asked;
-    are_opened = are;
-    part = part;
-    were_open = were_open opened opened are.count a b c opens closes;
-  }
+      → Moves (AreClosed opened) b c → IfIdle
+      → SaidNotReady site port IfIdle (front a ports held) (front c ports_after held_after)
+  not_ready IfIdle opened a b c ports ports_after held held_after are asked part opens closes
+      idle = record {
+        opened = opened;
+        asked = asked;
+        are_opened = are;
+        part = part;
+        were_open = were_open opened opened are.count a b c opens closes;
+        idle = idle;
+      }
 
   abbrev ran : (start : PassState) (opened : List A) (a b c : Option (Entrance A (Visit I O C)))
       (ports ports_after : List ℕ) (held held_after : Option (List ℕ)) (ends : List PassState)
@@ -87,7 +97,7 @@ module _ {A I O C : Type 0} (site : Site A I O C) (port : ℕ) where
     back = r.back;
   }
 
-  pub after_work : (start : PassState) (opened : List A)
+  pub after_work : (IfIdle : Type 0) (start : PassState) (opened : List A)
       (a b c : Option (Entrance A (Visit I O C))) (ports ports_after : List ℕ)
       (held held_after : Option (List ℕ))
       (ends : List PassState) (well : Bool) (end : ServeEnd)
@@ -95,27 +105,28 @@ module _ {A I O C : Type 0} (site : Site A I O C) (port : ℕ) where
       → AreOpened site opened a → AskedAt port ports ports_after
       → Gained ready_line held held_after
       → Moves (Opens site.told opened) a b → RanWorkers site start opened b c ends well
-      → EndsServing site port (λ o d. WorksEach site start o d ends) end (front a ports held)
-      (front c ports_after held_after)
-  after_work start opened a b c ports ports_after held held_after ends true end if_well if_not are
-      asked ready opens r =
-      subst (λ (e : ServeEnd). EndsServing site port (λ o d. WorksEach site start o d ends) e
-      (front a ports held) (front c ports_after held_after)) (sym (if_well refl))
+      → EndsServing site port (λ o d. WorksEach site start o d ends) IfIdle end
+      (front a ports held) (front c ports_after held_after)
+  after_work IfIdle start opened a b c ports ports_after held held_after ends true end if_well
+      if_not are asked ready opens r =
+      subst (λ (e : ServeEnd). EndsServing site port (λ o d. WorksEach site start o d ends)
+      IfIdle e (front a ports held) (front c ports_after held_after)) (sym (if_well refl))
       (record {
         ran =
             ran start opened a b c ports ports_after held held_after ends true are asked ready opens
             r;
         ended = r.ended refl;
       })
-  after_work start opened a b c ports ports_after held held_after ends false end if_well if_not are
-      asked ready opens r =
-      subst (λ (e : ServeEnd). EndsServing site port (λ o d. WorksEach site start o d ends) e
-      (front a ports held) (front c ports_after held_after)) (sym (if_not refl))
+  after_work IfIdle start opened a b c ports ports_after held held_after ends false end if_well
+      if_not are asked ready opens r =
+      subst (λ (e : ServeEnd). EndsServing site port (λ o d. WorksEach site start o d ends)
+      IfIdle e (front a ports held) (front c ports_after held_after)) (sym (if_not refl))
       (inl (ran start opened a b c ports ports_after held held_after ends false are asked ready
       opens r))
 
-  module _ (Serve Other : List A → List A → Type 0)
-      (more : (o d : List A) → Serve o d → Other o d) (old new : Front A (Visit I O C)) where
+  module _ (Serve Other : List A → List A → Type 0) (IfIdle Else : Type 0)
+      (more : (o d : List A) → Serve o d → Other o d) (less : IfIdle → Else)
+      (old new : Front A (Visit I O C)) where
     abbrev ran_more : Ran site port Serve old new → Ran site port Other old new
     ran_more r = record {
       opened = r.opened;
@@ -128,13 +139,29 @@ module _ {A I O C : Type 0} (site : Site A I O C) (port : ℕ) where
       back = r.back;
     }
 
-    ends_more : (end : ServeEnd) → EndsServing site port Serve end old new
-        → EndsServing site port Other end old new
+    abbrev none_more : {Asked : List ℕ → List ℕ → Type 0} → NoneOpened Asked IfIdle old new
+        → NoneOpened Asked Else old new
+    none_more n = record {
+      entrance = n.entrance;
+      asked = n.asked;
+      held = n.held;
+      idle = less n.idle;
+    }
+
+    ends_more : (end : ServeEnd) → EndsServing site port Serve IfIdle end old new
+        → EndsServing site port Other Else end old new
     ends_more Done e = record { ran = ran_more e.ran; ended = e.ended }
-    ends_more WriteFault e = e
+    ends_more WriteFault e = record {
+      opened = e.opened;
+      asked = e.asked;
+      are_opened = e.are_opened;
+      part = e.part;
+      were_open = e.were_open;
+      idle = less e.idle;
+    }
     ends_more DoorsFault (inl r) = inl (ran_more r)
-    ends_more DoorsFault (inr none) = inr none
-    ends_more NoMemory e = e
+    ends_more DoorsFault (inr none) = inr (none_more none)
+    ends_more NoMemory e = none_more e
 
 -- the passes are those of the desk
 pub at_desk : (start : PassState) (passes : List PassState) → All (λ p. GoesOn start p) passes
@@ -163,18 +190,31 @@ not_served {D} images site port office back entrance ports held disk same handed
         entrance = moves_still Stays (λ e. refl) entrance;
         asked = inl refl;
         held = refl;
+        idle = still_no_other office.office office.doubt;
       };
     }
 
 -- what the closing of the desk says of the passes, told of the office
 module _ {D A I O C : Type 0} (beginnings : PassesSeeBeginnings) (all : NewPassesSeeAll)
+    (back : EntriesAreReadBack)
     (images : D → List ℕ → Type 0) (faults : D → ℕ) (site : Site A I O C) (port : ℕ)
     (first last : OfficeOn D) (desk : TableId) (passes : List PassState) where
   abbrev pub begin : PassState
-  begin = newcomer desk (ledger_of faults first).root (ledger_of faults first).history
+  begin = newcomer desk (ledger_of faults first) WORKERS
 
   abbrev AllGo : Type 0
   AllGo = All (λ p. GoesOn begin p) passes
+
+  -- each worker makes what the messages of its visits ask for
+  abbrev pub ChainsDo : Type 0
+  ChainsDo = (services : List (Service (Visit I O C))) (new : PassState)
+      (chain : Chain site.asks site.look begin services new)
+      → Does (turns_of_chain site.asks site.look begin services new chain) begin new
+
+  -- each entry is accounted for, if the passes are all that the desk was opened for
+  abbrev pub AllAccount : Type 0
+  AllAccount = (opening : Opening) → AreAll opening passes
+      → Accounts opening (own_of passes) (raised_of passes) (ledger_of faults last).history
 
   extended : IsWhole last.office → last.office.origin ≤ MAX_MINUTE
       → All (λ p. p.root ≡ (ledger_of faults last).root) passes
@@ -185,7 +225,8 @@ module _ {D A I O C : Type 0} (beginnings : PassesSeeBeginnings) (all : NewPasse
 
   sees_first : IsWhole first.office → first.office.origin ≤ MAX_MINUTE
       → office_seen begin ≡ first.office
-  sees_first whole low = all desk first.office whole low
+  sees_first whole low =
+      all desk (ledger_of faults first) WORKERS first.office whole low refl refl
 
   grows : office_seen begin ≡ first.office → 0 < length passes → AllGo
       → All (λ p. Extends (office_seen p) last.office) passes
@@ -199,23 +240,47 @@ module _ {D A I O C : Type 0} (beginnings : PassesSeeBeginnings) (all : NewPasse
   new_owns : IsOwned (standing_of begin)
   new_owns = record { rise = tt; within = tt }
 
+  accounts_all : length passes ≡ WORKERS → AllGo → AllAccount
+      → Accounts begin.opening (own_of passes) (raised_of passes) (records last.office.history)
+  accounts_all count go account =
+      account begin.opening (are_all begin passes go refl refl count)
+
   workers_serve : office_seen begin ≡ first.office → AllGo
       → All (λ p. Extends (office_seen p) last.office) passes
-      → Distinct (flat_map (λ p. p.own) passes) → (o d : List A)
+      → Distinct (flat_map (λ p. p.own) passes) → IsWhole last.office → length passes ≡ WORKERS
+      → AllAccount → ChainsDo → (o d : List A)
       → WorksEach site begin o d passes
-      → WorkersServe site first.office last.office o d
-  workers_serve is go extends apart o d works = record {
-    start = begin;
-    begins = is;
-    none_own = refl;
-    none_failed = refl;
-    ends = passes;
-    works = works;
-    extended = extends;
-    owned = all_more (λ p. GoesOn begin p) (λ p. IsOwned (standing_of p)) passes
-        (λ p g. g.owned new_owns) go;
-    apart = apart;
-  }
+      → WorkersServe site first.office first.doubt last.office o d
+  workers_serve is go extends apart whole count account does o d works =
+      let each = each_of (λ p. Extends (office_seen p) last.office) passes extends in
+      record {
+        start = begin;
+        begins = is;
+        none_own = refl;
+        none_failed = refl;
+        ends = passes;
+        works = works;
+        extended = extends;
+        owned = all_more (λ p. GoesOn begin p) (λ p. IsOwned (standing_of p)) passes
+            (λ p g. g.owned new_owns) go;
+        apart = apart;
+        no_other = adds_no_other back (turns_of_workers site begin o d passes works)
+            (places_of site begin last.office does refl refl o d passes works) first.office
+            first.doubt last.office whole begin.opening refl refl (own_of passes)
+            (raised_of passes) (accounts_all count go account)
+            (own_asked site begin last.office does refl refl o d passes works each)
+            (raised_asked site begin last.office does refl refl o d passes works each);
+      }
+
+  none_worked : AllGo → IsWhole last.office → length passes ≡ WORKERS → AllAccount
+      → All (λ p. p ≡ begin) passes
+      → AddsNoOther [] first.office first.doubt last.office
+  none_worked go whole count account same =
+      let each = each_of (λ p. p ≡ begin) passes same in
+      adds_no_other back [] [] first.office first.doubt last.office whole begin.opening refl refl
+      (own_of passes) (raised_of passes) (accounts_all count go account)
+      (λ place had. absurd (none_made begin passes refl each place had))
+      (λ place bytes had. absurd (none_raised begin passes refl each place bytes had))
 
   pub served : (end : ServeEnd) (old new : Front A (Visit I O C)) (disk : D)
       → IsWhole first.office → first.office.origin ≤ MAX_MINUTE → IsWhole last.office
@@ -224,11 +289,12 @@ module _ {D A I O C : Type 0} (beginnings : PassesSeeBeginnings) (all : NewPasse
       → length passes ≡ WORKERS → AllGo
       → All (λ p. p.root ≡ (ledger_of faults last).root) passes
       → All (λ p. Begins p.seen (ledger_of faults last).history) passes
-      → Distinct (flat_map (λ p. p.own) passes)
-      → EndsServing site port (λ o d. WorksEach site begin o d passes) end old new
+      → Distinct (flat_map (λ p. p.own) passes) → AllAccount → ChainsDo
+      → EndsServing site port (λ o d. WorksEach site begin o d passes)
+      (All (λ p. p ≡ begin) passes) end old new
       → IsServed images site port first end old new disk
   served end old new disk was_whole was_low whole low handed stands count go roots seen apart
-      ends =
+      account does ends =
       let is = sees_first was_whole was_low in
       let extends = extended whole low roots seen in
       record {
@@ -239,6 +305,9 @@ module _ {D A I O C : Type 0} (beginnings : PassesSeeBeginnings) (all : NewPasse
         stands = subst (λ (d : D). disks.All (StandsSettled last.office last.doubt) (images d))
             (sym handed) stands;
         ends = ends_more site port (λ o d. WorksEach site begin o d passes)
-            (WorkersServe site first.office last.office)
-            (workers_serve is go extends apart) old new end ends;
+            (WorkersServe site first.office first.doubt last.office)
+            (All (λ p. p ≡ begin) passes)
+            (AddsNoOther [] first.office first.doubt last.office)
+            (workers_serve is go extends apart whole count account does)
+            (none_worked go whole count account) old new end ends;
       }

@@ -4,12 +4,16 @@ use Rattle.turn_desk.specs.Passes.{PassState}
 use Rattle.office_doors.specs.declared.Visit.{Visit}
 use Rattle.office_counter.specs.Laws.{Extends}
 use Rattle.office_counter.proofs.Steps.{extends_both, extends_still}
-use Rattle.wire_session.specs.Treats.{refusal_text}
+use Rattle.record_form.specs.Laws.{EntriesAreReadBack}
+use Rattle.wire_session.specs.Treats.{Treats, refusal_text}
 use Rattle.wire_session.proofs.Owning.{end_extends, end_owned}
 use Rattle.turn_counter.specs.Seen.{office_seen, standing_of}
 use Rattle.turn_counter.specs.Stepping.{turn_steps}
 use Rattle.turn_counter.specs.Turns.{TurnAsks}
+use Rattle.turn_counter.specs.requests.{turns_of}
+use Rattle.turn_counter.proofs.Asked.{Does, does_both, does_none, session_does}
 use Rattle.turn_counter.proofs.Staying.{end_stays, stays_both, stays_still}
+use Rattle.office_serving.specs.Asked.{turns_of_chain}
 use Rattle.office_serving.specs.Visits.{Chain, Looks, Service, ServesVisit, scene_at}
 use Rattle.office_serving.specs.Workers.{GoesOn}
 
@@ -48,3 +52,19 @@ module _ {D I O C : Type 0} (images : D → List ℕ → Type 0) (moment : D →
   chain_goes old [] new chain = subst (λ (p : PassState). GoesOn old p) (sym chain) (goes_still old)
   chain_goes old (s ∷ ss) new (mid, served, rest) =
       goes_both old mid new (visit_goes s.visit s.given old mid served) (chain_goes mid ss new rest)
+
+  -- a worker's pass makes what the messages of its visits ask for
+  pub chain_does : EntriesAreReadBack → (old : PassState)
+      (services : List (Service (Visit I O C))) (new : PassState)
+      (chain : Chain (TurnAsks images moment images_since faults) look old services new)
+      → Does (turns_of_chain (TurnAsks images moment images_since faults) look old services new
+      chain) old new
+  chain_does back old [] new same =
+      subst (λ (p : PassState). Does [] old p) (sym same) (does_none old)
+  chain_does back old (s ∷ ss) new (mid, serves, rest) =
+      does_both (turns_of (Treats (TurnAsks images moment images_since faults)) refusal_text
+      serves.end (scene_at look s.visit old) (scene_at look s.given mid) serves.ends)
+      (turns_of_chain (TurnAsks images moment images_since faults) look mid ss new rest) old mid new
+      (session_does back images moment images_since faults refusal_text serves.end
+      (scene_at look s.visit old) (scene_at look s.given mid) serves.ends)
+      (chain_does back mid ss new rest)

@@ -1,3 +1,4 @@
+pub mod Asked
 pub mod Serving
 pub mod Visits
 pub mod Workers

@@ -10,6 +10,7 @@ use Rattle.office_history.specs.History.{Office}
 use Rattle.office_counter.specs.Laws.{Extends}
 use Rattle.turn_counter.specs.office_keep.Files.{IsWhole}
 use Rattle.turn_counter.specs.office_keep.Office.{OfficeOn, StandsSettled}
+use Rattle.office_serving.specs.Asked.{AddsNoOther}
 use Rattle.office_serving.specs.Visits.{HasEnded}
 use Rattle.office_serving.specs.Workers.{Site, WorkersServe}
 use Rattle.office_serving.specs.declared.serving.ServeEnd.{ServeEnd}
@@ -73,34 +74,38 @@ pub record RanToEnd {A I O C : Type 0} (site : Site A I O C) (port : ℕ)
   pub ran : Ran site port Serve old new
   pub ended : All (λ d. Tells HasEnded (site.told d)) ran.closed
 
--- No visit was taken: the doors that were opened at the port are closed as they were.
-pub record SaidNotReady {A I O C : Type 0} (site : Site A I O C) (port : ℕ)
+-- No visit was taken: the doors that were opened at the port are closed as they were, and `IfIdle`
+-- holds.
+pub record SaidNotReady {A I O C : Type 0} (site : Site A I O C) (port : ℕ) (IfIdle : Type 0)
     (old new : Front A (Visit I O C)) : Type 0 where
   pub opened : List A
   pub asked : AskedAt port old.ports new.ports
   pub are_opened : AreOpened site opened old.entrance
   pub part : GainedPrefix ready_line old.held new.held
   pub were_open : Moves (WereOpen site.told opened opened) old.entrance new.entrance
+  pub idle : IfIdle
 
--- no door was opened, and doors were asked for like this
-pub record NoneOpened {A V : Type 0} (Asked : List ℕ → List ℕ → Type 0) (old new : Front A V) :
-    Type 0 where
+-- no door was opened, doors were asked for like this, and `IfIdle` holds
+pub record NoneOpened {A V : Type 0} (Asked : List ℕ → List ℕ → Type 0) (IfIdle : Type 0)
+    (old new : Front A V) : Type 0 where
   pub entrance : Moves Stays old.entrance new.entrance
   pub asked : Asked old.ports new.ports
   pub held : new.held ≡ old.held
+  pub idle : IfIdle
 
--- what each end says
+-- What each end says: workers served as `Serve` says, or nobody worked, and then `IfIdle` holds.
 abbrev pub EndsServing : {A I O C : Type 0} → Site A I O C → ℕ → (List A → List A → Type 0)
-    → ServeEnd → Front A (Visit I O C) → Front A (Visit I O C) → Type 0
-EndsServing site port Serve Done old new = RanToEnd site port Serve old new
-EndsServing site port Serve WriteFault old new = SaidNotReady site port old new
-EndsServing site port Serve DoorsFault old new =
-    Ran site port Serve old new ⊎ NoneOpened (AskedAt port) old new
-EndsServing site port Serve NoMemory old new = NoneOpened (AskedAtMost port) old new
+    → Type 0 → ServeEnd → Front A (Visit I O C) → Front A (Visit I O C) → Type 0
+EndsServing site port Serve IfIdle Done old new = RanToEnd site port Serve old new
+EndsServing site port Serve IfIdle WriteFault old new = SaidNotReady site port IfIdle old new
+EndsServing site port Serve IfIdle DoorsFault old new =
+    Ran site port Serve old new ⊎ NoneOpened (AskedAt port) IfIdle old new
+EndsServing site port Serve IfIdle NoMemory old new =
+    NoneOpened (AskedAtMost port) IfIdle old new
 
 -- An office was served at a port, and its disk is handed back: the history extends the one that was
 -- handed in, and is legal. Each image of the disk stands for it, or for it with the one entry in
--- doubt.
+-- doubt. Where nobody worked, nothing was added but what was in doubt.
 pub record IsServed {D A I O C : Type 0} (images : D → List ℕ → Type 0) (site : Site A I O C)
     (port : ℕ) (office : OfficeOn D) (end : ServeEnd) (old new : Front A (Visit I O C)) (disk : D) :
     Type 0 where
@@ -109,4 +114,5 @@ pub record IsServed {D A I O C : Type 0} (images : D → List ℕ → Type 0) (s
   pub grows : Extends office.office last.office
   pub whole : IsWhole last.office
   pub stands : disks.All (StandsSettled last.office last.doubt) (images disk)
-  pub ends : EndsServing site port (WorkersServe site office.office last.office) end old new
+  pub ends : EndsServing site port (WorkersServe site office.office office.doubt last.office)
+      (AddsNoOther [] office.office office.doubt last.office) end old new

@@ -7,11 +7,14 @@ use Rattle.turn_desk.specs.Passes.{PassState}
 use Rattle.office_doors.specs.Books.{Book, HasAllBack, Moves, Tells}
 use Rattle.office_doors.specs.Entrances.{Entrance}
 use Rattle.office_doors.specs.declared.Visit.{Visit}
+use Rattle.record_form.specs.declared.Entry.{Entry}
 use Rattle.office_history.specs.History.{Office}
 use Rattle.office_counter.specs.Laws.{Extends, IsOwned}
+use Rattle.office_session.specs.Sessions.{Turn}
 use Rattle.wire_session.specs.Treats.{Asking}
 use Rattle.turn_counter.specs.Holding.{StaysAtDesk}
 use Rattle.turn_counter.specs.Seen.{office_seen, standing_of}
+use Rattle.office_serving.specs.Asked.{AddsNoOther, turns_of_chain}
 use Rattle.office_serving.specs.Visits.{HasEnded, Looks, Works}
 use Rattle.office_serving.specs.declared.visits.WorkEnd.{WorkEnd}
 use Rattle.office_serving.specs.declared.visits.WorkEnd.TheVariants.{Done, DoorFault}
@@ -52,6 +55,15 @@ WorksEach site start (opened ∷ more) (closed ∷ rest) (end ∷ ends) =
     × WorksEach site start more rest ends
 WorksEach site start opened closed ends = ⊥
 
+-- the turns of all sessions over visits at these doors
+abbrev pub turns_of_workers : {A I O C : Type 0} (site : Site A I O C) (start : PassState)
+    (opened closed : List A) (ends : List PassState) → WorksEach site start opened closed ends
+    → List Turn
+turns_of_workers site start (opened ∷ more) (closed ∷ rest) (end ∷ ends) (works, others) =
+    turns_of_chain site.asks site.look start works.services end works.chain
+    ++ turns_of_workers site start more rest ends others
+turns_of_workers site start opened closed ends works = []
+
 -- so many doors can still be closed
 abbrev pub HasRoom : {A V : Type 0} → ℕ → Entrance A V → Type 0
 HasRoom count entrance = length entrance.closed + count ≤ entrance.opened
@@ -73,9 +85,11 @@ pub record RanWorkers {A I O C : Type 0} (site : Site A I O C) (start : PassStat
 
 -- Workers served these doors. Each began with the office as it was handed in, and had made none of
 -- its entries; the office at the end extends what each has seen. The places of the entries that a
--- worker made lie in what it has seen, and no two workers made one entry.
-pub record WorkersServe {A I O C : Type 0} (site : Site A I O C) (first last : Office)
-    (opened closed : List A) : Type 0 where
+-- worker made lie in what it has seen, and no two workers made one entry. Each entry behind those
+-- of the first office is the one that was in doubt then, or a message of one of the sessions asks
+-- for it.
+pub record WorkersServe {A I O C : Type 0} (site : Site A I O C) (first : Office)
+    (doubt : Option Entry) (last : Office) (opened closed : List A) : Type 0 where
   pub start : PassState
   pub begins : office_seen start ≡ first
   pub none_own : start.own ≡ []
@@ -85,3 +99,4 @@ pub record WorkersServe {A I O C : Type 0} (site : Site A I O C) (first last : O
   pub extended : All (λ p. Extends (office_seen p) last) ends
   pub owned : All (λ p. IsOwned (standing_of p)) ends
   pub apart : Distinct (flat_map (λ p. p.own) ends)
+  pub no_other : AddsNoOther (turns_of_workers site start opened closed ends works) first doubt last

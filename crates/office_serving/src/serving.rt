@@ -14,6 +14,7 @@ use crate::ready::say_ready;
 use crate::workers::{WORKERS, run_workers};
 use office_doors::{Door, Doors, DoorsFault};
 use office_outside::{Disk, Sink};
+use record_form::an_entry_is_read_back;
 use std::alloc::Global;
 use std::sync::Wait;
 use std::thread::Threads;
@@ -89,7 +90,8 @@ fn serve_at<R: Wait + Threads + Sync, D: Disk + Send + Drop, S: Doors, K: Sink>(
         (λ opened closed. WorksEach
         (site (TurnAsks D.images D.moment D.images_since D.faults)
         (looks S.One.In.left S.One.In.faults S.One.Out.held S.One.Out.faults S.One.Time.to_come)
-        (λ d. S.One.told d) (λ d. S.One.faults d)) v opened closed passes.new.items) result
+        (λ d. S.One.told d) (λ d. S.One.faults d)) v opened closed passes.new.items)
+        (All (λ p. p ≡ v) passes.new.items) result
         (front (S.told doors.old) (S.ports doors.old) (K.held ready.old))
         (front (S.told doors.new) (S.ports doors.new) (K.held ready.new)) }
     ensures write { result ≡ ServeEnd.WriteFault →
@@ -139,6 +141,7 @@ pub fn serve<R: Wait + Threads + Sync, D: Disk + Send + Drop, S: Doors, K: Sink>
         Rose (S.faults doors.old) (S.faults doors.new) }
 {
     what_a_pass_has_seen();
+    an_entry_is_read_back();
     office.disk_stands();
     office.core().is_legal();
     match open_desk(alloc, office, WORKERS) {

@@ -5,13 +5,15 @@ use Rattle.turn_counter.specs.Seen.{ledger_of}
 use Rattle.turn_counter.specs.Turns.{TurnAsks}
 use Rattle.office_serving.specs.Visits.{looks}
 use Rattle.office_serving.specs.Workers.{site}
+use Rattle.office_serving.specs.declared.workers.TheConstants.{WORKERS}
 use Rattle.office_serving.proofs.Endings.{at_desk, not_served, served}
+use Rattle.office_serving.proofs.Growing.{chain_does}
 use Rattle.office_serving.proofs.serving.serve.Goals as goal
 
 pub close_desk-office-requires-clause-desk : goal.close_desk-office-requires-clause-desk
 close_desk-office-requires-clause-desk g c =
     let kept = ledger_of g.D.Disk.faults c.args.office in
-    let start = newcomer c.in-Ok.desk kept.root kept.history in
+    let start = newcomer c.in-Ok.desk kept WORKERS in
     at_desk start c.serve_at-end.new.passes.items
     (c.serve_at-end.ensures.goes_on start c.in-Ok.ensures.passes)
 
@@ -27,14 +29,17 @@ returns-in-Ok-clause-served g c =
     let low : c.close_desk-office.result.office.origin ≤ MAX_MINUTE = search rules in
     let closed = c.close_desk-office.ensures in
     let kept = ledger_of D.faults c.args.office in
-    let start = newcomer c.in-Ok.desk kept.root kept.history in
-    served seen.beginnings seen.all D.images D.faults s c.args.port c.args.office
+    let start = newcomer c.in-Ok.desk kept WORKERS in
+    served seen.beginnings seen.all c.an_entry_is_read_back.ensures D.images D.faults s c.args.port
+    c.args.office
     c.close_desk-office.result
     c.in-Ok.desk c.serve_at-end.new.passes.items c.serve_at-end.result _ _ c.into_disk.result
     c.disk_stands.ensures.whole was_low c.disk_stands-in-Ok.ensures.whole low c.into_disk.ensures
     c.disk_stands-in-Ok.ensures.stands c.serve_at-end.ensures.count
     (c.serve_at-end.ensures.goes_on start c.in-Ok.ensures.passes) closed.root
-    closed.seen closed.apart
+    closed.seen closed.apart closed.no_other
+    (λ services new chain. chain_does D.images D.moment D.images_since D.faults s.look
+    c.an_entry_is_read_back.ensures start services new chain)
     (c.serve_at-end.ensures.ends start c.in-Ok.ensures.passes)
 
 pub returns-in-Err-clause-served : goal.returns-in-Err-clause-served

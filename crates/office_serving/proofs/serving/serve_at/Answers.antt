@@ -1,4 +1,5 @@
-use Rattle.std.proofs.Common.{◌∙◌, rules}
+use Rattle.std.proofs.Common.{◌≡◌, ◌∙◌, rules}
+use Rattle.std.specs.Prelude.{All}
 use Rattle.office_outside.specs.Told.{Gained, GainedPrefix}
 use Rattle.turn_counter.specs.Turns.{TurnAsks}
 use Rattle.office_serving.specs.Serving.{ready_line}
@@ -16,7 +17,8 @@ returns-then-is_err-2-clause-ends g c = λ v begins.
     A.Time.Clock.to_come) (λ d. A.Door.told d) (λ d. A.Door.faults d) in
     let part : GainedPrefix ready_line (g.K.Sink.held c.args.ready.now)
     (g.K.Sink.held c.say_ready.new.ready) = search rules in
-    not_ready s c.args.port c.in-Ok-open.opened.items (g.S.Doors.told c.args.doors.now)
+    not_ready s c.args.port (All (λ p. p ≡ v) c.args.passes.now.items) c.in-Ok-open.opened.items
+    (g.S.Doors.told c.args.doors.now)
     (g.S.Doors.told c.open.new.self) (g.S.Doors.told c.shut.new.doors)
     (g.S.Doors.ports c.args.doors.now) (g.S.Doors.ports c.shut.new.doors)
     (g.K.Sink.held c.args.ready.now) (g.K.Sink.held c.say_ready.new.ready)
@@ -25,7 +27,7 @@ returns-then-is_err-2-clause-ends g c = λ v begins.
       fresh = c.in-Ok-open.ensures.fresh;
       tell = c.in-Ok-open.ensures.tells;
     }) (c.shut.ensures.ports ∙ c.open.ensures.port) part c.in-Ok-open.ensures.shared
-    c.shut.ensures.closed
+    c.shut.ensures.closed begins
 
 pub returns-clause-goes_on : goal.returns-clause-goes_on
 returns-clause-goes_on g c = λ v begins. (c.run_workers-well.ensures.ran v begins).goes_on
@@ -39,7 +41,8 @@ returns-clause-ends g c = λ v begins.
     A.Time.Clock.to_come) (λ d. A.Door.told d) (λ d. A.Door.faults d) in
     let gained : Gained ready_line (g.K.Sink.held c.args.ready.now)
     (g.K.Sink.held c.say_ready.new.ready) = search rules in
-    after_work s c.args.port v c.in-Ok-open.opened.items (g.S.Doors.told c.args.doors.now)
+    after_work s c.args.port (All (λ p. p ≡ v) c.run_workers-well.new.passes.items) v
+    c.in-Ok-open.opened.items (g.S.Doors.told c.args.doors.now)
     (g.S.Doors.told c.open.new.self) (g.S.Doors.told c.run_workers-well.new.doors)
     (g.S.Doors.ports c.args.doors.now) (g.S.Doors.ports c.run_workers-well.new.doors)
     (g.K.Sink.held c.args.ready.now) (g.K.Sink.held c.say_ready.new.ready)
