@@ -1,0 +1,6 @@
+pub mod InputLemmas
+pub mod GainLemmas
+pub mod RowLemmas
+pub mod TakingLemmas
+pub mod UnderwayLemmas
+pub mod LawLemmas
