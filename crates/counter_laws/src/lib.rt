@@ -5,4 +5,4 @@
 
 mod laws;
 
-pub use laws::the_samples_are_the_differences;
+pub use laws::{the_counts_are_the_sums_of_the_differences, the_samples_are_the_differences};
