@@ -4,3 +4,4 @@ pub mod RowLemmas
 pub mod TakingLemmas
 pub mod UnderwayLemmas
 pub mod LawLemmas
+pub mod OneLemmas

@@ -1,5 +1,5 @@
 //! The laws of `counters`: what its rows are, from scratch.
-ghost use Rattle.std.specs.Prelude.{ℕ, List, ◌++◌, Option};
+ghost use Rattle.std.specs.Prelude.{◌≡◌, ℕ, List, ◌++◌, Option};
 ghost use Rattle.csv_records.specs.Records.{Fields};
 ghost use Rattle.counters_command.specs.Answer.{EndsOver};
 ghost use Rattle.counters_command.specs.Laws.{AreDifferences, BeginsWithRows, GainsDifferences};
@@ -19,8 +19,14 @@ pub fn what_is_done_is_the_differences()
         EndsOver sli bytes Done old new → GainsDifferences sli bytes old new }
 {}
 
-/// The rows of records begin with the rows of any front of them: so what was sent is sent again,
-/// and acts once, where more records are added to a file.
+/// Records have one text of rows.
+pub fn records_have_one_text()
+    ensures { (sli : List ℕ) (records : List Fields) (text other : List ℕ) →
+        GivesRows sli records text → GivesRows sli records other → text ≡ other }
+{}
+
+/// The rows of records begin with the rows of any front of them, which has no others: so what was
+/// sent is sent again, and acts once, where more records are added to a file.
 pub fn a_front_gives_a_front()
     ensures { (sli : List ℕ) (records more : List Fields) (text : List ℕ) →
         GivesRows sli (records ++ more) text → BeginsWithRows sli records text }

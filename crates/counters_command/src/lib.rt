@@ -12,7 +12,8 @@ mod taking;
 
 pub use fault::{CountersEnd, CountersFault, ReadingFault, counters_words};
 pub use laws::{
-    a_front_gives_a_front, the_rows_are_the_differences, what_is_done_is_the_differences,
+    a_front_gives_a_front, records_have_one_text, the_rows_are_the_differences,
+    what_is_done_is_the_differences,
 };
 pub use running::write_rows;
 

@@ -13,7 +13,8 @@ fn push_text(page: &mut Vec<u8>, text: &[u8], mark: u8) -> Result<(), AllocError
     ensures { OnOk result (page.new.items ≡ page.old.items ++ field text.now mark []) }
 {
     page.extend_from_slice(text)?;
-    page.extend_from_slice(&[mark])
+    page.push(mark)?;
+    Ok(())
 }
 
 // Appends the digits of a number and a byte behind them.
