@@ -1,4 +1,4 @@
-//! The laws on rows, and on what they count for.
+//! The law on rows.
 ghost use Rattle.std.specs.Prelude.{◌≡◌, ℕ, List, filter, length, map, option_map};
 ghost use Rattle.std.specs.List.{find};
 ghost use Rattle.counter_book.specs.Book.{Book};
@@ -7,12 +7,9 @@ ghost use Rattle.counter_book.specs.Laws.{HoldsReadings, row_at};
 ghost use Rattle.counter_book.specs.Puts.{is_difference_at};
 ghost use Rattle.counter_book.specs.declared.CounterReading.{CounterReading};
 ghost use Rattle.counter_book.specs.declared.Difference.{Difference};
-ghost use Rattle.exact_fraction.specs.declared.Op.{Op};
-ghost use Rattle.slice_method.specs.declared.Reading.TheVariants.{Good};
-ghost use Rattle.sample_book.specs.Counting.{counts_of_minute, is_of};
+ghost use Rattle.sample_book.specs.Counting.{is_of};
 ghost use Rattle.sample_book.specs.Rows.{current_rows};
 ghost use Rattle.sample_book.specs.declared.Row.{Row};
-ghost use Rattle.counter_laws.specs.Counted.{sums_of_differences};
 ghost use Rattle.counter_laws.specs.Samples.{is_sample_at, sample_of};
 
 /// Where the rows of an indicator are the differences that a book gave, in their order among any
@@ -28,15 +25,4 @@ pub fn the_samples_are_the_differences()
         ≡ option_map (sample_of sli) (row_at source minute
         (length (filter (is_difference_at source minute) given))
         (difference_at came source minute)) }
-{}
-
-/// The counts of a minute are sums of the differences: where the rows of an indicator are those of
-/// the differences that a book gave, and its reading is a ratio with good events, each minute
-/// counts for the differences there, added up over all sources.
-pub fn the_counts_are_the_sums_of_the_differences()
-    ensures { (sli : List ℕ) (rows : List Row) (came : List CounterReading)
-        (given : List Difference) (book : Book) → HoldsReadings came given book →
-        filter (is_of sli) rows ≡ map (sample_of sli) given → (op : Op) (value minute : ℕ) →
-        counts_of_minute Good op value (current_rows rows) sli minute
-        ≡ sums_of_differences came minute }
 {}
