@@ -16,7 +16,7 @@ use Rattle.budget_command.specs.Order.{budget_order}
 use Rattle.sample_stream.specs.declared.stream.TheConstants.{MAX_NUMBER}
 use Rattle.command_words.specs.Commands.{asked_alone, asked_named, asked_of, command_named}
 use Rattle.command_words.specs.Commands.{is_dashed, max_port, minute_asked, not_zero, number_asked}
-use Rattle.command_words.specs.Commands.{port_asked}
+use Rattle.command_words.specs.Commands.{counters_asked, port_asked}
 use Rattle.command_words.specs.declared.asked.Asked.TheVariants as asked
 use Rattle.command_words.specs.declared.asked.Command.TheVariants as commands
 
@@ -93,6 +93,11 @@ none_port (w ∷ []) h =
     ap (option_and_then not_zero) (no_dashed_number max_port w (only_one w h))
 none_port (w ∷ v ∷ ws) h = refl
 
+none_counters : (ws : List (List ℕ)) → HasDash ws → counters_asked ws ≡ None
+none_counters [] h = cc h
+none_counters (w ∷ []) h = let dashed : is_dashed w ≡ true = only_one w h in rw dashed refl
+none_counters (w ∷ v ∷ ws) h = refl
+
 none_order : (ws : List (List ℕ)) → HasDash ws → budget_order ws ≡ None
 none_order [] h = cc h
 none_order (target ∷ []) h = refl
@@ -132,7 +137,9 @@ none_named name ws h =
     (ap (option_map asked.Serve) (none_port ws h))
     (none_in_both (bytes_eq name (codes "generate")) _ _
     (ap (option_map asked.Generate) (none_number ws h))
-    (ap (option_map asked.Answer) (none_command name ws h))))))
+    (none_in_both (bytes_eq name (codes "counters")) _ _
+    (ap (option_map asked.Counters) (none_counters ws h))
+    (ap (option_map asked.Answer) (none_command name ws h)))))))
 
 pub none_of : (ws : List (List ℕ)) → HasDash ws → asked_of ws ≡ None
 none_of [] h = cc h

@@ -5,7 +5,8 @@ use Rattle.std.specs.Str.{bytes_eq}
 use Rattle.std.proofs.lemmas.Slice.Eq.{bytes_eq-Decides}
 use Rattle.clap.specs.Walk.{Text}
 use Rattle.command_words.specs.Commands.{asked_alone, asked_named, asked_of, command_named}
-use Rattle.command_words.specs.Commands.{minute_asked, number_asked, only_reads, port_asked}
+use Rattle.command_words.specs.Commands.{counters_asked, minute_asked, number_asked}
+use Rattle.command_words.specs.Commands.{only_reads, port_asked}
 use Rattle.command_words.specs.Matches.{begins_with_report}
 use Rattle.command_words.specs.declared.asked.Asked.{Asked}
 use Rattle.command_words.specs.declared.asked.Asked.TheVariants as asked
@@ -41,7 +42,9 @@ others name ws other =
     (mapped false asked.Serve (λ x. refl) (port_asked ws))
     (in_both (bytes_eq name (codes "generate")) _ _
     (mapped false asked.Generate (λ x. refl) (number_asked ws))
-    (mapped false asked.Answer (λ x. refl) (command_named name ws))))))
+    (in_both (bytes_eq name (codes "counters")) _ _
+    (mapped false asked.Counters (λ x. refl) (counters_asked ws))
+    (mapped false asked.Answer (λ x. refl) (command_named name ws)))))))
 
 reports : (ws : List Text) → Reads true (asked_of (codes "report" ∷ ws))
 reports ws = mapped true asked.Report (λ x. refl) (minute_asked ws)

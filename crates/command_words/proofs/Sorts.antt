@@ -88,6 +88,12 @@ generates =
     one_word (codes "generate") (codes "number") true (refl, refl)
     (inr (walks.generate_0, refl)) walks.generate_1 (λ a b ws. refl)
 
+counts : (ws : List Text) → ArePlain ws → Sorts (codes "counters" ∷ ws)
+unfolding clap_on_literals
+counts =
+    one_word (codes "counters") (codes "sli") true (refl, refl)
+    (inr (walks.counters_0, refl)) walks.counters_1 (λ a b ws. refl)
+
 budgets : (ws : List Text) → ArePlain ws → Sorts (codes "budget" ∷ ws)
 budgets [] h = inr (walks.budget_0, refl)
 budgets (a ∷ []) h = inr (walks.budget_1 a (first_plain a [] h).0, refl)
@@ -125,11 +131,11 @@ others : (w : Text) (ws : List Text) → is_dashed w ≡ false
     → bytes_eq (codes "budget") w ≡ false → bytes_eq (codes "check") w ≡ false
     → bytes_eq (codes "init") w ≡ false → bytes_eq (codes "pipe") w ≡ false
     → bytes_eq (codes "report") w ≡ false → bytes_eq (codes "serve") w ≡ false
-    → bytes_eq (codes "generate") w ≡ false
+    → bytes_eq (codes "generate") w ≡ false → bytes_eq (codes "counters") w ≡ false
     → Sorts (w ∷ ws)
-others w ws p budget check init pipe report serve generate =
+others w ws p budget check init pipe report serve generate counters =
     inr (
-      no_name w ws p budget check init pipe report serve generate,
+      no_name w ws p budget check init pipe report serve generate counters,
       rw (
         differs (codes "budget") w budget,
         differs (codes "check") w check,
@@ -138,6 +144,7 @@ others w ws p budget check init pipe report serve generate =
         differs (codes "report") w report,
         differs (codes "serve") w serve,
         differs (codes "generate") w generate,
+        differs (codes "counters") w counters,
       ) refl,
     )
 
@@ -162,7 +169,8 @@ all_words (w ∷ ws) h =
     (λ pipe. by_name (codes "report") w ws reports p.1
     (λ report. by_name (codes "serve") w ws serves p.1
     (λ serve. by_name (codes "generate") w ws generates p.1
-    (λ generate. others w ws p.0 budget check init pipe report serve generate)))))))
+    (λ generate. by_name (codes "counters") w ws counts p.1
+    (λ counters. others w ws p.0 budget check init pipe report serve generate counters))))))))
 
 -- words that `clap` took
 taken : (ws : List Text) (found : Option (Text × List Argument)) → ArePlain ws

@@ -68,10 +68,10 @@ pub no_name : (w : Text) (ws : List Text) → IsPlain w
     → bytes_eq (codes "budget") w ≡ false → bytes_eq (codes "check") w ≡ false
     → bytes_eq (codes "init") w ≡ false → bytes_eq (codes "pipe") w ≡ false
     → bytes_eq (codes "report") w ≡ false → bytes_eq (codes "serve") w ≡ false
-    → bytes_eq (codes "generate") w ≡ false
+    → bytes_eq (codes "generate") w ≡ false → bytes_eq (codes "counters") w ≡ false
     → IsRefused (w ∷ ws)
 unfolding clap_on_literals
-no_name w ws p budget check init pipe report serve generate =
+no_name w ws p budget check init pipe report serve generate counters =
     rw (
       budget,
       check,
@@ -80,6 +80,7 @@ no_name w ws p budget check init pipe report serve generate =
       report,
       serve,
       generate,
+      counters,
       plain_dashes w p,
       plain_long w p,
       plain_short w p,
@@ -263,3 +264,11 @@ generate_0 = λ e. cc e
 pub generate_1 : (a : Text) → IsPlain a → IsTaken (codes "generate" ∷ a ∷ [])
 unfolding clap_on_literals
 generate_1 a p_a = rw (plain_dashes a p_a, plain_long a p_a, plain_short a p_a) (refl, refl)
+
+pub counters_0 : IsRefused (codes "counters" ∷ [])
+unfolding clap_on_literals
+counters_0 = λ e. cc e
+
+pub counters_1 : (a : Text) → IsPlain a → IsTaken (codes "counters" ∷ a ∷ [])
+unfolding clap_on_literals
+counters_1 a p_a = rw (plain_dashes a p_a, plain_long a p_a, plain_short a p_a, p_a) (refl, refl)

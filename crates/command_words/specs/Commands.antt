@@ -3,12 +3,14 @@ use Rattle.std.specs.Prelude.{ℕ, ◌<◌, ◌≤◌, ◌==◌, ⊤, option_and
 use Rattle.std.specs.Prelude.{codes, Bool, true, false, Option, Some, None, if◌then◌else◌}
 use Rattle.std.specs.Str.{bytes_eq}
 use Rattle.exact_fraction.specs.Digits.{plain_number_within}
+use Rattle.exact_fraction.specs.Label.{label_of}
 use Rattle.slo_limits.specs.declared.TheConstants.{MAX_MINUTE, WHOLE}
 use Rattle.budget_command.specs.Order.{budget_order}
 use Rattle.sample_stream.specs.declared.stream.TheConstants.{MAX_NUMBER}
 use Rattle.command_words.specs.declared.asked.Asked.{Asked}
 use Rattle.command_words.specs.declared.asked.Asked.TheVariants.{Answer, Init, Pipe, Report}
-use Rattle.command_words.specs.declared.asked.Asked.TheVariants.{Generate, Serve}
+use Rattle.command_words.specs.declared.asked.Asked.TheVariants.{Counters, Generate, Serve}
+use Rattle.command_words.specs.declared.asked.CountersOrder.{CountersOrder}
 use Rattle.command_words.specs.declared.asked.Command.{Command}
 use Rattle.command_words.specs.declared.asked.Command.TheVariants.{Budget, Check}
 
@@ -55,6 +57,17 @@ abbrev pub port_asked : List (List ℕ) → Option ℕ
 port_asked (word ∷ []) = option_and_then not_zero (plain_number_within max_port word)
 port_asked _ = None
 
+-- the order for the rows of this indicator
+abbrev pub counters_for : List ℕ → CountersOrder
+counters_for sli = record { sli = sli }
+
+-- What the word behind `counters` asks for: the rows of an indicator, whose name is a label that
+-- begins with no hyphen.
+abbrev pub counters_asked : List (List ℕ) → Option CountersOrder
+counters_asked (word ∷ []) =
+    if is_dashed word then None else option_map counters_for (label_of word)
+counters_asked _ = None
+
 -- what the words behind the name of any command ask for
 abbrev pub asked_named : List ℕ → List (List ℕ) → Option Asked
 asked_named name words =
@@ -63,6 +76,7 @@ asked_named name words =
     else if bytes_eq name (codes "pipe") then asked_alone Pipe words
     else if bytes_eq name (codes "serve") then option_map Serve (port_asked words)
     else if bytes_eq name (codes "generate") then option_map Generate (number_asked words)
+    else if bytes_eq name (codes "counters") then option_map Counters (counters_asked words)
     else option_map Answer (command_named name words)
 
 -- What the words ask for; none where they are no form of a command.
@@ -83,6 +97,7 @@ IsSoundAsked Pipe = ⊤
 IsSoundAsked (Report at) = ⊤
 IsSoundAsked (Serve port) = (1 ≤ port) × (port ≤ max_port)
 IsSoundAsked (Generate number) = (1 ≤ number) × (number ≤ MAX_NUMBER)
+IsSoundAsked (Counters order) = ⊤
 
 -- a command that reads the journal's file and changes nothing in it: a report
 abbrev pub only_reads : Asked → Bool

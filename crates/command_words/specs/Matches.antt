@@ -3,11 +3,13 @@ use Rattle.std.specs.Prelude.{ℕ, List, [], ◌∷◌, Option, Some, None, code
 use Rattle.std.specs.Prelude.{Bool, false, option_map}
 use Rattle.std.specs.Str.{bytes_eq}
 use Rattle.clap.specs.Walk.{Row as Argument, Text, first_of}
+use Rattle.exact_fraction.specs.Label.{label_of}
 use Rattle.budget_command.specs.Order.{order_of}
-use Rattle.command_words.specs.Commands.{minute_asked, number_asked, port_asked}
+use Rattle.command_words.specs.Commands.{counters_for, minute_asked, number_asked, port_asked}
 use Rattle.command_words.specs.declared.asked.Asked.{Asked}
 use Rattle.command_words.specs.declared.asked.Asked.TheVariants.{Answer, Init, Pipe, Report}
-use Rattle.command_words.specs.declared.asked.Asked.TheVariants.{Generate, Serve}
+use Rattle.command_words.specs.declared.asked.Asked.TheVariants.{Counters, Generate, Serve}
+use Rattle.command_words.specs.declared.asked.CountersOrder.{CountersOrder}
 use Rattle.command_words.specs.declared.asked.Command.{Command}
 use Rattle.command_words.specs.declared.asked.Command.TheVariants.{Budget, Check}
 
@@ -25,6 +27,11 @@ number_by (Some word) = number_asked (word ∷ [])
 abbrev pub port_by : Option Text → Option ℕ
 port_by None = None
 port_by (Some word) = port_asked (word ∷ [])
+
+-- the indicator whose rows a word asks for, where there is one
+abbrev pub counters_by : Option Text → Option CountersOrder
+counters_by None = None
+counters_by (Some word) = option_map counters_for (label_of word)
 
 -- what the three words of `budget` ask for
 abbrev pub order_with : Option Text → Option Text → Option Text → Option Command
@@ -50,6 +57,8 @@ asked_in name arguments =
     then option_map Serve (port_by (first_of (codes "port") arguments))
     else if bytes_eq name (codes "generate")
     then option_map Generate (number_by (first_of (codes "number") arguments))
+    else if bytes_eq name (codes "counters")
+    then option_map Counters (counters_by (first_of (codes "sli") arguments))
     else None
 
 -- what the command that was found asks for

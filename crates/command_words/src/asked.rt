@@ -1,6 +1,7 @@
 //! What the program is asked for.
 
 use budget_command::BudgetOrder;
+use exact_fraction::Label;
 
 /// A command that is answered from the bytes of its input alone.
 #[derive(Clone, Copy, Debug)]
@@ -9,6 +10,13 @@ pub enum Command {
     Budget(BudgetOrder),
     /// Whether the documents of the input can be defined together, and how many there are.
     Check,
+}
+
+/// What `counters` is asked for.
+#[derive(Clone, Copy, Debug)]
+pub struct CountersOrder {
+    /// The indicator of the rows.
+    pub sli: Label,
 }
 
 /// What the program is asked for.
@@ -26,4 +34,6 @@ pub enum Asked {
     Serve(u16),
     /// A session of the sample stream of this number, over an office in memory.
     Generate(u32),
+    /// The sample rows of an indicator, from the readings of counters in the input.
+    Counters(CountersOrder),
 }

@@ -47,6 +47,7 @@ pub(crate) fn forms<'a>(alloc: Global) -> Result<Command<'a>, AllocError>
     let report = one_word(alloc, "report", "at", false)?;
     let serve = one_word(alloc, "serve", "port", true)?;
     let generate = one_word(alloc, "generate", "number", true)?;
+    let counters = one_word(alloc, "counters", "sli", true)?;
     let program = Command::new(alloc, "slo_office")
         .no_binary_name(true)
         .disable_help_flag(true)
@@ -60,5 +61,6 @@ pub(crate) fn forms<'a>(alloc: Global) -> Result<Command<'a>, AllocError>
         .subcommand(pipe)?
         .subcommand(report)?
         .subcommand(serve)?
-        .subcommand(generate)
+        .subcommand(generate)?
+        .subcommand(counters)
 }

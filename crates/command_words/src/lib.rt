@@ -7,5 +7,5 @@ mod asked;
 mod forms;
 mod reading;
 
-pub use asked::{Asked, Command};
+pub use asked::{Asked, Command, CountersOrder};
 pub use reading::{WordsFault, only_reads, read_words};

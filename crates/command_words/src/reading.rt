@@ -9,14 +9,14 @@ ghost use Rattle.command_words.specs.Commands.{IsSound, IsSoundAsked, asked_of};
 ghost use Rattle.command_words.specs.Commands.{is_dashed as dashed, only_reads as reads_alone};
 ghost use Rattle.command_words.specs.Matches.{begins_with_report as report_first};
 ghost use Rattle.command_words.specs.Matches.{asked_by, asked_in, minute_by, number_by};
-ghost use Rattle.command_words.specs.Matches.{order_by, port_by};
+ghost use Rattle.command_words.specs.Matches.{counters_by, order_by, port_by};
 
-use crate::asked::{Asked, Command};
+use crate::asked::{Asked, Command, CountersOrder};
 use crate::forms::forms;
 use budget_command::{BudgetOrder, read_order};
 use clap::ArgMatches;
 use clap::error::ErrorKind;
-use exact_fraction::read_plain_number;
+use exact_fraction::{read_label, read_plain_number};
 use sample_stream::MAX_NUMBER;
 use slo_limits::MAX_MINUTE;
 use std::alloc::Global;
@@ -113,6 +113,15 @@ fn read_port(words: &ArgMatches, id: &str) -> Option<u16>
     Some(port as u16)
 }
 
+/// What the words of `counters` ask for.
+fn read_counters(words: &ArgMatches, id: &str) -> Option<CountersOrder>
+    ensures { result ≡ counters_by (first_of id.now (arguments_of (found_of words.now))) }
+{
+    let text = word(words, id)?;
+    let sli = read_label(text.as_bytes())?;
+    Some(CountersOrder { sli })
+}
+
 /// What the words of `budget` ask for.
 fn read_budget(words: &ArgMatches) -> Option<Command>
     ensures order { result ≡ order_by (arguments_of (found_of words.now)) }
@@ -138,6 +147,7 @@ fn read_command(name: &str, words: &ArgMatches) -> Option<Asked>
         "report" => Some(Asked::Report(read_minute(words, "at")?)),
         "serve" => Some(Asked::Serve(read_port(words, "port")?)),
         "generate" => Some(Asked::Generate(read_number(words, "number")?)),
+        "counters" => Some(Asked::Counters(read_counters(words, "sli")?)),
         _ => None,
     }
 }

@@ -1,7 +1,13 @@
--- What the statuses of `generate`, `init`, `pipe` and `report` say.
-use Rattle.std.proofs.Common.{◌≡◌, ◌<◌, ◌≤◌, ℕ, List, arith, inl, inr}
+-- What the statuses of `counters`, `generate`, `init`, `pipe` and `report` say.
+use Rattle.std.proofs.Common.{◌≡◌, ◌<◌, ◌≤◌, ℕ, List, arith, inl, inr, subst}
 use Rattle.std.specs.Prelude.{Option, Some}
 use Rattle.office_outside.specs.Told.{Gained}
+use Rattle.counters_command.specs.Answer.{EndsCounters, EndsOver}
+use Rattle.counters_command.specs.Laws.{GainsDifferences}
+use Rattle.counters_command.proofs.LawLemmas.{done-is}
+use Rattle.counters_command.specs.declared.CountersEnd.{CountersEnd}
+use Rattle.counters_command.specs.declared.CountersEnd.TheVariants as counters
+use Rattle.counters_command.specs.declared.CountersFault.{CountersFault}
 use Rattle.office_session.specs.declared.SessionEnd.{SessionEnd}
 use Rattle.office_session.specs.declared.SessionEnd.TheVariants as session
 use Rattle.journal_commands.specs.Making.{Bench, EndsMaking, HasHeader}
@@ -17,6 +23,7 @@ use Rattle.journal_commands.specs.declared.ReportEnd.{ReportEnd}
 use Rattle.journal_commands.specs.declared.ReportEnd.TheVariants as report
 use Rattle.journal_commands.specs.office_keep.declared.Unopened.{Unopened}
 use Rattle.journal_commands.specs.office_keep.declared.Unopened.TheVariants as unopened
+use Rattle.office_commands.specs.Counters.{SettledCounters}
 use Rattle.office_commands.specs.Generate.{EndsGenerating, PrintsSummary, SettledGenerate}
 use Rattle.office_commands.specs.Init.{SettledInit}
 use Rattle.office_commands.specs.Pipe.{SettledPipe, SettledSession}
@@ -25,6 +32,46 @@ use Rattle.office_commands.specs.Unopened.{SettledUnopened}
 use Rattle.office_commands.specs.declared.ending.TheConstants.{BAD_FILE, DONE, REFUSED}
 use Rattle.office_commands.specs.declared.generate.GenerateEnd.{GenerateEnd}
 use Rattle.office_commands.specs.declared.generate.GenerateEnd.TheVariants as generate
+
+module _ (sli bytes : List ℕ) (status : ℕ) (said said_after : Option (List ℕ))
+    (told told_after : ℕ) (held held_after : Option (List ℕ)) where
+  pub counters_done : (end : CountersEnd) →
+      SettledCounters end status said said_after told told_after →
+      EndsOver sli bytes end held held_after → status ≡ DONE →
+      GainsDifferences sli bytes held held_after
+  counters_done counters.Done s ends e = done-is sli bytes held held_after ends
+  counters_done (counters.Refused fault) (inl s) ends e = absurd (omega (arith, s.0, e))
+  counters_done (counters.Refused fault) (inr s) ends e = absurd (omega (arith, s.0, e))
+  counters_done counters.ReadFault s ends e = absurd (omega (arith, s.0, e))
+  counters_done counters.WriteFault s ends e = absurd (omega (arith, s.0, e))
+  counters_done counters.NoMemory s ends e = absurd (omega (arith, s.0, e))
+
+  pub counters_refused : (end : CountersEnd) →
+      SettledCounters end status said said_after told told_after →
+      EndsOver sli bytes end held held_after → status ≡ REFUSED →
+      (fault : CountersFault) × EndsOver sli bytes (counters.Refused fault) held held_after
+  counters_refused counters.Done s ends e = absurd (omega (arith, s.0, e))
+  counters_refused (counters.Refused fault) s ends e = (fault, ends)
+  counters_refused counters.ReadFault s ends e = absurd (omega (arith, s.0, e))
+  counters_refused counters.WriteFault s ends e = absurd (omega (arith, s.0, e))
+  counters_refused counters.NoMemory s ends e = absurd (omega (arith, s.0, e))
+
+module _ (status : ℕ) (said said_after : Option (List ℕ)) (told told_after : ℕ) where
+  pub counters_file : (end : CountersEnd) →
+      SettledCounters end status said said_after told told_after → status ≡ BAD_FILE → ⊥
+  counters_file counters.Done s e = omega (arith, s.0, e)
+  counters_file (counters.Refused fault) (inl s) e = omega (arith, s.0, e)
+  counters_file (counters.Refused fault) (inr s) e = omega (arith, s.0, e)
+  counters_file counters.ReadFault s e = omega (arith, s.0, e)
+  counters_file counters.WriteFault s e = omega (arith, s.0, e)
+  counters_file counters.NoMemory s e = omega (arith, s.0, e)
+
+-- the ends over the bytes that a source tells
+pub ends_told : (sli bytes : List ℕ) (left : Option (List ℕ)) (end : CountersEnd)
+    (held held_after : Option (List ℕ)) → left ≡ Some bytes →
+    EndsCounters sli left end held held_after → EndsOver sli bytes end held held_after
+ends_told sli bytes left end held held_after is ends =
+    subst (λ (x : Option (List ℕ)). EndsCounters sli x end held held_after) is ends
 
 pub generate_done : (number status : ℕ) (end : GenerateEnd) (said said_after : Option (List ℕ))
     (told told_after : ℕ) (held held_after : Option (List ℕ)) (writes writes_after : ℕ) →

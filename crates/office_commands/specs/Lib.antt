@@ -4,6 +4,7 @@ pub mod Endings
 pub mod Answer
 pub mod Runs
 pub mod Generate
+pub mod Counters
 pub mod Init
 pub mod Unopened
 pub mod Pipe

@@ -9,7 +9,9 @@ use Rattle.journal_commands.specs.Serving.{EndsServing, outside}
 use Rattle.journal_commands.specs.declared.InitEnd.{InitEnd}
 use Rattle.journal_commands.specs.declared.PipeEnd.{PipeEnd}
 use Rattle.journal_commands.specs.declared.ReportEnd.{ReportEnd}
+use Rattle.counters_command.specs.declared.CountersEnd.{CountersEnd}
 use Rattle.office_commands.specs.Commands.{most_taken}
+use Rattle.office_commands.specs.Counters.{SettledCounters, WritesRows}
 use Rattle.office_commands.specs.Endings.{line_of_status}
 use Rattle.office_commands.specs.Generate.{EndsGenerating, SettledGenerate}
 use Rattle.office_commands.specs.Init.{SettledInit}
@@ -17,8 +19,8 @@ use Rattle.office_commands.specs.Pipe.{SettledPipe}
 use Rattle.office_commands.specs.Report.{SettledReport}
 use Rattle.office_commands.specs.Runs.{IsStatus, Prints, PrintsPart, Tells, TellsRefusal}
 use Rattle.command_words.specs.declared.Asked.{Asked}
-use Rattle.command_words.specs.declared.Asked.TheVariants.{Answer, Generate, Init, Pipe}
-use Rattle.command_words.specs.declared.Asked.TheVariants.{Report, Serve}
+use Rattle.command_words.specs.declared.Asked.TheVariants.{Answer, Counters, Generate, Init}
+use Rattle.command_words.specs.declared.Asked.TheVariants.{Pipe, Report, Serve}
 use Rattle.command_words.specs.declared.Command.{Command}
 use Rattle.office_commands.specs.declared.ending.TheConstants.{DONE, USAGE, READ_FAULT}
 use Rattle.office_commands.specs.declared.ending.TheConstants.{WRITE_FAULT, NO_MEMORY, REFUSED}
@@ -109,6 +111,16 @@ pub record RunsGenerate {D : Type 0} (number status : ℕ) (before after : World
   pub unread : after.to_come ≡ before.to_come
   pub untouched : after.disk ≡ before.disk
 
+-- A run of `counters`, by how the writing of the rows ended. Neither the clock nor the disk is
+-- touched.
+pub record RunsCounters {D : Type 0} (sli : List ℕ) (status : ℕ) (before after : World D) :
+    Type 0 where
+  pub end : CountersEnd
+  pub settled : SettledCounters end status before.said after.said before.tellings after.tellings
+  pub writes_rows : WritesRows sli end before.left after.left before.held after.held
+  pub unread : after.to_come ≡ before.to_come
+  pub untouched : after.disk ≡ before.disk
+
 -- A run of `init`, by how the making of the journal ended. The input isn't touched.
 pub record RunsInit {D : Type 0} (content : D → Option (List ℕ)) (images : D → List ℕ → Type 0)
     (moment : D → ℕ) (since : D → ℕ → List ℕ → Type 0) (origin : Option ℕ) (status : ℕ)
@@ -153,6 +165,8 @@ Does content images moment since faults (Some (Answer command)) status before af
     RunsAnswer command status before after
 Does content images moment since faults (Some (Generate number)) status before after =
     RunsGenerate number status before after
+Does content images moment since faults (Some (Counters order)) status before after =
+    RunsCounters order.sli status before after
 Does content images moment since faults (Some (Init origin)) status before after =
     RunsInit content images moment since origin status before after
 Does content images moment since faults (Some Pipe) status before after =
@@ -174,6 +188,7 @@ abbrev pub IsOffDisk : Option Asked → Type 0
 IsOffDisk None = Unit {0}
 IsOffDisk (Some (Answer command)) = Unit {0}
 IsOffDisk (Some (Generate number)) = Unit {0}
+IsOffDisk (Some (Counters order)) = Unit {0}
 IsOffDisk (Some (Init origin)) = ⊥
 IsOffDisk (Some Pipe) = ⊥
 IsOffDisk (Some (Report at)) = ⊥
@@ -184,6 +199,7 @@ abbrev pub IsOffDoors : Option Asked → Type 0
 IsOffDoors None = Unit {0}
 IsOffDoors (Some (Answer command)) = Unit {0}
 IsOffDoors (Some (Generate number)) = Unit {0}
+IsOffDoors (Some (Counters order)) = Unit {0}
 IsOffDoors (Some (Init origin)) = Unit {0}
 IsOffDoors (Some Pipe) = Unit {0}
 IsOffDoors (Some (Report at)) = Unit {0}

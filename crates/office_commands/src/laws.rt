@@ -1,7 +1,12 @@
-//! The laws of statuses: what a status of `generate`, `init`, `pipe`, `report` and `serve` says.
+//! The laws of statuses: what a status of `counters`, `generate`, `init`, `pipe`, `report` and
+//! `serve` says.
 ghost use Rattle.std.specs.Prelude.{◌≡◌, ◌≢◌, ◌<◌, ◌≤◌, ℕ, List, Option, Some};
 ghost use Rattle.office_session.specs.Sessions.{Reads};
 ghost use Rattle.office_outside.specs.Told.{Gained};
+ghost use Rattle.counters_command.specs.Answer.{EndsOver};
+ghost use Rattle.counters_command.specs.Laws.{GainsDifferences};
+ghost use Rattle.counters_command.specs.declared.CountersEnd.TheVariants.{Refused};
+ghost use Rattle.counters_command.specs.declared.CountersFault.{CountersFault};
 ghost use Rattle.journal_commands.specs.Making.{HasHeader, origin_by};
 ghost use Rattle.journal_commands.specs.Reporting.{IsPrinted, IsUnprinted, OpensTo};
 ghost use Rattle.journal_commands.specs.office_keep.Opening.{IsBad};
@@ -10,11 +15,28 @@ ghost use Rattle.serve_command.specs.office_serving.Visits.{looks};
 ghost use Rattle.serve_command.specs.office_serving.Workers.{site};
 ghost use Rattle.office_commands.specs.Generate.{PrintsSummary};
 ghost use Rattle.office_commands.specs.Serve.{ServeStatusesSay};
-ghost use Rattle.office_commands.specs.Worlds.{RunsGenerate, RunsInit, RunsPipe, RunsReport, World};
+ghost use Rattle.office_commands.specs.Worlds.{RunsCounters, RunsGenerate, RunsInit, RunsPipe};
+ghost use Rattle.office_commands.specs.Worlds.{RunsReport, World};
 
 use crate::ending::{BAD_FILE, DONE, REFUSED};
 use office_doors::{Door, Doors};
 use office_outside::Disk;
+
+/// `counters` is done only where the records of all bytes were taken and their rows written, which
+/// are the differences from scratch. It ends with the status of a refusal only where the bytes are
+/// too many, and then no row is written, or where a record is the first that isn't taken, and then
+/// just the rows of those before it are.
+pub fn statuses_of_counters<D: Disk + Drop>()
+    ensures done { (sli : List ℕ) (status : ℕ) (before after : World D) →
+        RunsCounters sli status before after → status ≡ DONE → (bytes : List ℕ) →
+        before.left ≡ Some bytes → GainsDifferences sli bytes before.held after.held }
+    ensures refused { (sli : List ℕ) (status : ℕ) (before after : World D) →
+        RunsCounters sli status before after → status ≡ REFUSED → (bytes : List ℕ) →
+        before.left ≡ Some bytes → (fault : CountersFault)
+        × EndsOver sli bytes (Refused fault) before.held after.held }
+    ensures file { (sli : List ℕ) (status : ℕ) (before after : World D) →
+        RunsCounters sli status before after → status ≢ BAD_FILE }
+{}
 
 /// `generate` is done only where the summary of the stream was printed.
 pub fn statuses_of_generate<D: Disk + Drop>()

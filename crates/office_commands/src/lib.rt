@@ -4,6 +4,7 @@
 #![tactic(auto)]
 
 mod answer;
+mod counters;
 mod ending;
 mod generate;
 mod init;
@@ -19,7 +20,8 @@ mod unopened;
 pub use ending::DISK_FAULT;
 pub use generate::GenerateEnd;
 pub use laws::{
-    statuses_of_generate, statuses_of_init, statuses_of_pipe, statuses_of_report, statuses_of_serve,
+    statuses_of_counters, statuses_of_generate, statuses_of_init, statuses_of_pipe,
+    statuses_of_report, statuses_of_serve,
 };
 pub use running::{RunEnd, run};
 pub use telling::run_out_of_memory;

@@ -11,6 +11,7 @@ ghost use Rattle.office_commands.specs.Serve.{RunsServe};
 ghost use Rattle.office_commands.specs.Worlds.{IsOffDisk, IsOffDoors, Runs, world};
 
 use crate::answer::run_answer;
+use crate::counters::run_counters;
 use crate::ending::{DISK_FAULT, DONE, DOORS_FAULT, NO_MEMORY, READ_FAULT, USAGE, WRITE_FAULT};
 use crate::generate::run_generate;
 use crate::init::run_init;
@@ -42,8 +43,11 @@ pub struct RunEnd<D: Drop> {
 /// print this origin. `pipe` opens the journal, and serves one session over the input and the
 /// output. `report` and `report AT` open the journal, and print the report over its history at the
 /// moment or at AT. `generate N` plays the sample stream of number N over an office in memory, and
-/// prints a summary. `serve PORT` opens the journal, and serves it to the visitors of the doors at
-/// this port, by four workers that take turns. The disk is handed back.
+/// prints a summary. `counters SLI` reads CSV records of counters' readings,
+/// `source,minute,revision,good,total`, and writes a sample row of the indicator SLI for each
+/// difference between two of them, as it arises. `serve PORT` opens the journal, and serves it to
+/// the visitors of the doors at this port, by four workers that take turns. The disk is handed
+/// back.
 pub fn run<
     R: AllocGlobal + Wait + Threads + Sync,
     S: Source,
@@ -89,7 +93,7 @@ pub fn run<
         (result.status ≡ USAGE) ⊎ (result.status ≡ NO_MEMORY) }
     ensures untouched { result.status ≡ USAGE → input.new ≡ input.old }
 
-    // `budget`, `check` and `generate` make no call on the disk and don't read the clock.
+    // `budget`, `check`, `generate` and `counters` don't call the disk, nor read the clock.
     ensures off_disk { IsOffDisk (asked_of (map string_bytes words.now)) → result.disk ≡ disk }
     ensures clockless { IsOffDisk (asked_of (map string_bytes words.now)) → clock.new ≡ clock.old }
 
@@ -120,6 +124,10 @@ pub fn run<
         }
         Ok(Asked::Generate(number)) => {
             let status = run_generate(alloc, number, output, faults);
+            RunEnd { status, disk }
+        }
+        Ok(Asked::Counters(order)) => {
+            let status = run_counters(alloc, order.sli, input, output, faults);
             RunEnd { status, disk }
         }
         Ok(Asked::Init(origin)) => run_init(alloc, origin, output, faults, disk, clock),

@@ -46,8 +46,11 @@ returns c =
     let serve =
     c.in_ok-subcommand-6.ensures.shape c.in_ok-serve.ensures.local
     ∙ ap₂ with_subcommand report (ap top c.in_ok-serve.ensures.form) in
-    IfOk-weaker c.subcommand-7.result _ _
+    let generate =
+    c.in_ok-subcommand-7.ensures.shape c.in_ok-generate.ensures.local
+    ∙ ap₂ with_subcommand serve (ap top c.in_ok-generate.ensures.form) in
+    IfOk-weaker c.subcommand-8.result _ _
     (λ r h.
-    h.shape c.in_ok-generate.ensures.local
-    ∙ ap₂ with_subcommand serve (ap top c.in_ok-generate.ensures.form))
-    c.subcommand-7.ensures
+    h.shape c.in_ok-counters.ensures.local
+    ∙ ap₂ with_subcommand generate (ap top c.in_ok-counters.ensures.form))
+    c.subcommand-8.ensures
