@@ -2,9 +2,9 @@
 use Rattle.std.proofs.Common.{◌≡◌, ℕ, List, [], ◌∷◌}
 use Rattle.std.specs.List.{AllByRecursion}
 use Rattle.std.proofs.lemmas.List.Elements.{recursion_from_All}
-use Rattle.yaml_subset.specs.Fits.{IsWritable}
-use Rattle.yaml_subset.specs.Text.{StandsFor}
-use Rattle.yaml_subset.specs.Tree.{Tree}
+use Rattle.yaml_terms.specs.Fits.{IsWritable}
+use Rattle.yaml_terms.specs.Text.{StandsFor}
+use Rattle.yaml_terms.specs.Tree.{Tree}
 use Rattle.slo_objects.specs.declared.Object.{Object}
 use Rattle.slo_objects.specs.Document.{IsOfDocument}
 use Rattle.definition_verdict.proofs.DocumentLemmas.{all_of_documents}

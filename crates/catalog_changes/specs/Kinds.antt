@@ -2,8 +2,8 @@
 -- `kind` and `spec`).
 use Rattle.std.specs.Prelude.{◌≡◌, ℕ, List, Ok}
 use Rattle.std.specs.List.{AllByRecursion}
-use Rattle.yaml_subset.specs.Text.{StandsFor}
-use Rattle.yaml_subset.specs.Tree.{Tree}
+use Rattle.yaml_terms.specs.Text.{StandsFor}
+use Rattle.yaml_terms.specs.Tree.{Tree}
 use Rattle.slo_objects.specs.declared.Object.{Object}
 use Rattle.definition_verdict.specs.Documents.{objects_in}
 use Rattle.sums_plan.specs.object_ranges.Kinds.{kind_of}

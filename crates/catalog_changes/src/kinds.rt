@@ -2,12 +2,12 @@
 ghost use Rattle.catalog_changes.specs.Kinds.{TextsHaveKinds};
 
 use sums_plan::bodies_are_of_their_kinds;
-use yaml_subset::standing_nodes_are_writable;
+use yaml_writing::laws;
 
 /// The objects of a text have the bodies of their kinds.
 pub(crate) fn texts_have_bodies_of_their_kinds()
     ensures { TextsHaveKinds }
 {
-    standing_nodes_are_writable();
+    laws::standing_nodes_are_writable();
     bodies_are_of_their_kinds();
 }

@@ -2,7 +2,7 @@
 -- spaces.
 use Rattle.std.specs.Prelude.{ℕ, List, [], ◌++◌, codes}
 use Rattle.std.specs.Fmt.{decimal}
-use Rattle.yaml_subset.specs.Words as which
+use Rattle.yaml_terms.specs.Words as which
 use Rattle.slo_objects.specs.Rules.{rule_word}
 use Rattle.slo_objects.specs.Scalars.{kind_word}
 use Rattle.record_form.specs.declared.LimitName.{LimitName}

@@ -4,8 +4,8 @@ use Rattle.std.specs.Prelude.{Result, Ok, Err}
 use Rattle.std.specs.List.{All, AllByRecursion}
 use Rattle.std.proofs.lemmas.List.Elements.{All-append, All-contains_itself}
 use Rattle.slo_objects.specs.Document.{IsOfDocument, objects_of}
-use Rattle.yaml_subset.specs.Fits.{IsWritable}
-use Rattle.yaml_subset.specs.Tree.{Tree}
+use Rattle.yaml_terms.specs.Fits.{IsWritable}
+use Rattle.yaml_terms.specs.Tree.{Tree}
 use Rattle.slo_objects.specs.declared.Object.{Object}
 use Rattle.slo_objects.specs.declared.ObjectFault.{ObjectFault}
 use Rattle.definition_verdict.specs.Documents.{objects_from, objects_in, objects_next}

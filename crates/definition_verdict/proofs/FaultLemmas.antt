@@ -1,8 +1,8 @@
 -- A text has one fault at most, and none where it stands for documents.
 use Rattle.std.proofs.Common.{◌≡◌, ◌∙◌, ℕ, List, ap, arith, refl, sym}
 use Rattle.std.specs.Str.Lines.{lines}
-use Rattle.yaml_subset.specs.Tree.{Tree}
-use Rattle.yaml_subset.specs.Text.{StandsFor, without_mark}
+use Rattle.yaml_terms.specs.Tree.{Tree}
+use Rattle.yaml_terms.specs.Text.{StandsFor, without_mark}
 use Rattle.yaml_subset.proofs.FaultLemmas.{never_both, one_fault}
 use Rattle.record_form.specs.declared.YamlWord.{YamlWord}
 use Rattle.record_form.specs.declared.YamlWord.TheVariants as yaml

@@ -1,18 +1,18 @@
 -- A text's lines, documents and objects are so few that 32 bits count them.
 use Rattle.std.proofs.Common.{ℕ, ◌<◌, ◌^◌, List, length, arith}
 use Rattle.std.proofs.lemmas.List.{length-map}
-use Rattle.yaml_subset.specs.NodeView.{node_view, nodes_view}
-use Rattle.yaml_subset.specs.ReadView.{NamesFault}
-use Rattle.yaml_subset.specs.Text.{StandsFor}
-use Rattle.yaml_subset.specs.declared.node.Node.{Node}
-use Rattle.yaml_subset.specs.declared.which.Which.{Which}
-use Rattle.yaml_subset.specs.declared.YamlFault.TheVariants as faults
+use Rattle.yaml_terms.specs.NodeView.{node_view, nodes_view}
+use Rattle.yaml_terms.specs.NamedFault.{NamesFault}
+use Rattle.yaml_terms.specs.Text.{StandsFor}
+use Rattle.yaml_terms.specs.declared.Node.{Node}
+use Rattle.yaml_terms.specs.declared.ProfileFault.{ProfileFault}
+use Rattle.yaml_terms.specs.declared.YamlFault.TheVariants as faults
 use Rattle.yaml_subset.proofs.CountLemmas.{few_documents, few_lines}
 use Rattle.definition_verdict.specs.declared.definition.Definition.{Definition}
 use Rattle.definition_verdict.specs.Verdict.{IsDefinition, Known}
 use Rattle.definition_verdict.proofs.ObjectCounts.{few_objects}
 
-pub line_is_short : (text : List ℕ) (line : ℕ) (which : Which)
+pub line_is_short : (text : List ℕ) (line : ℕ) (which : ProfileFault)
     → NamesFault text (faults.Form line which) → line < 2 ^ 32
 line_is_short text line which f = omega (arith, f.0, few_lines text line which f.2)
 

@@ -3,9 +3,9 @@
 use Rattle.std.proofs.Common.{◌≡◌, ℕ, ◌+◌, ◌≤◌, Bool, List, [], ◌∷◌, ◌++◌, Option, Some, None}
 use Rattle.std.proofs.Common.{Result, Ok, Err, length, refl, subst, arith, length-append}
 use Rattle.std.specs.Prelude.{◌||◌, codes, is_none}
-use Rattle.yaml_subset.specs.Tree.{Tree, Entries, no_entries, entry}
-use Rattle.yaml_subset.specs.Text.{StandsFor}
-use Rattle.yaml_subset.specs.Size.{keys, entry_keys, size}
+use Rattle.yaml_terms.specs.Tree.{Tree, Entries, no_entries, entry}
+use Rattle.yaml_terms.specs.Text.{StandsFor}
+use Rattle.yaml_terms.specs.Size.{keys, entry_keys, size}
 use Rattle.yaml_subset.proofs.CountLemmas.{few_keys}
 use Rattle.slo_objects.specs.declared.Kind.{Kind}
 use Rattle.slo_objects.specs.declared.Kind.TheVariants as kinds

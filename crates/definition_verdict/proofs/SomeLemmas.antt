@@ -9,9 +9,9 @@ use Rattle.std.proofs.lemmas.Bool.{cases_lt}
 use Rattle.std.proofs.lemmas.List.{take_all}
 use Rattle.std.proofs.lemmas.Str.{IsUtf8-nil, IsUtf8-from_is_utf8, is_utf8-from_IsUtf8}
 use Rattle.slo_limits.specs.declared.TheConstants.{MAX_TEXT_BYTES}
-use Rattle.yaml_subset.specs.Tree.{Tree}
-use Rattle.yaml_subset.specs.BadPlace.{IsBadPlace}
-use Rattle.yaml_subset.specs.Text.{StandsFor, without_mark}
+use Rattle.yaml_terms.specs.Tree.{Tree}
+use Rattle.yaml_terms.specs.BadPlace.{IsBadPlace}
+use Rattle.yaml_terms.specs.Text.{StandsFor, without_mark}
 use Rattle.yaml_subset.proofs.FaultLemmas.{Outcome, either}
 use Rattle.yaml_subset.proofs.PlaceLemmas.{place_at_first, place_at_end, place_inside}
 use Rattle.yaml_subset.proofs.PlaceLemmas.{place_in_text}

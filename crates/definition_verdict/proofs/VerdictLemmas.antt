@@ -1,9 +1,9 @@
 -- A text has one verdict at most.
 use Rattle.std.proofs.Common.{◌≡◌, ℕ, List, length, ap, sym, ◌∙◌}
 use Rattle.std.specs.Prelude.{Result, Ok, Err}
-use Rattle.yaml_subset.specs.Tree.{Tree}
-use Rattle.yaml_subset.specs.Text.{StandsFor}
-use Rattle.yaml_subset.proofs.ReadLemmas.{one_list}
+use Rattle.yaml_terms.specs.Tree.{Tree}
+use Rattle.yaml_terms.specs.Text.{StandsFor}
+use Rattle.yaml_terms.proofs.ReadLemmas.{one_list}
 use Rattle.slo_objects.specs.declared.Object.{Object}
 use Rattle.record_form.specs.declared.Refusal.{Refusal}
 use Rattle.record_form.specs.declared.Refusal.TheVariants.{Yaml}

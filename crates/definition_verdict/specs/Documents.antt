@@ -1,6 +1,6 @@
 -- The objects of a text's documents, one document after another.
 use Rattle.std.specs.Prelude.{ℕ, ◌+◌, List, [], ◌∷◌, ◌++◌, Result, Ok, Err}
-use Rattle.yaml_subset.specs.Tree.{Tree}
+use Rattle.yaml_terms.specs.Tree.{Tree}
 use Rattle.slo_objects.specs.Document.{objects_of}
 use Rattle.slo_objects.specs.declared.Object.{Object}
 use Rattle.slo_objects.specs.declared.ObjectFault.{ObjectFault}

@@ -1,7 +1,7 @@
 -- What is wrong with a text of documents.
 use Rattle.std.specs.Prelude.{◌≡◌, ℕ, List}
-use Rattle.yaml_subset.specs.ReadView.{NamesFault}
-use Rattle.yaml_subset.specs.declared.YamlFault.TheVariants as faults
+use Rattle.yaml_terms.specs.NamedFault.{NamesFault}
+use Rattle.yaml_terms.specs.declared.YamlFault.TheVariants as faults
 use Rattle.record_form.specs.declared.YamlWord.{YamlWord}
 use Rattle.record_form.specs.declared.YamlWord.TheVariants.{TooLarge, NotUtf8, Form}
 

@@ -1,8 +1,8 @@
 -- The verdict on a text that is to be defined.
 use Rattle.std.specs.Prelude.{◌≡◌, ℕ, Bool, true, false, List, length, Option, Some, None, Result}
 use Rattle.std.specs.Prelude.{Ok, Err}
-use Rattle.yaml_subset.specs.Tree.{Tree}
-use Rattle.yaml_subset.specs.Text.{StandsFor}
+use Rattle.yaml_terms.specs.Tree.{Tree}
+use Rattle.yaml_terms.specs.Text.{StandsFor}
 use Rattle.record_form.specs.sample_book.declared.Row.{Row}
 use Rattle.slo_objects.specs.declared.Object.{Object}
 use Rattle.slo_catalog.specs.Define.{is_unchanged, proposed_members}

@@ -1,16 +1,18 @@
 //! The documents of a text, and their objects.
 ghost use Rattle.std.specs.Prelude.{◌≡◌, ◌<◌, ◌^◌, ℕ, [], Ok, Err, IfOk, length, map};
 ghost use Rattle.std.specs.List.{AllByRecursion};
-ghost use Rattle.yaml_subset.specs.NodeView.{node_view, nodes_view};
-ghost use Rattle.yaml_subset.specs.Fits.{IsWritable};
-ghost use Rattle.yaml_subset.specs.Text.{StandsFor};
+ghost use Rattle.yaml_terms.specs.NodeView.{node_view, nodes_view};
+ghost use Rattle.yaml_terms.specs.Fits.{IsWritable};
+ghost use Rattle.yaml_terms.specs.Text.{StandsFor};
 ghost use Rattle.definition_verdict.specs.Documents.{broken_document, objects_in as objects_in_lem};
 ghost use Rattle.definition_verdict.specs.Texts.{IsYamlFault};
 
 use record_form::{Refusal, YamlWord};
 use slo_objects::{ObjectFault, Objects, ReadError, read_object};
 use std::alloc::Global;
-use yaml_subset::{Node, Nodes, YamlFault, read_documents, standing_nodes_are_writable};
+use yaml_subset::read_documents;
+use yaml_terms::{Node, Nodes, YamlFault};
+use yaml_writing::laws;
 
 /// Why a text stands for no documents.
 pub(crate) enum TextError {
@@ -45,7 +47,7 @@ pub(crate) fn documents_in(alloc: Global, text: &[u8]) -> Result<Nodes, TextErro
     ensures fault { (line : ℕ) (word : YamlWord) → result ≡ Err (TextError.Fault line word) →
         IsYamlFault text.now line word }
 {
-    standing_nodes_are_writable();
+    laws::standing_nodes_are_writable();
     match read_documents(alloc, text) {
         Ok(nodes) => Ok(nodes),
         Err(YamlFault::Form { line, which }) => Err(form_fault(line, YamlWord::Form(which))),

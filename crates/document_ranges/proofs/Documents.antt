@@ -4,8 +4,8 @@ use Rattle.std.proofs.Common.{◌≡◌, List, [], ◌∷◌, ◌++◌, Some, Ok
 use Rattle.std.specs.Prelude.{codes}
 use Rattle.std.specs.List.{AllByRecursion}
 use Rattle.std.proofs.lemmas.List.Elements.{All-from_recursion, All-contains}
-use Rattle.slo_objects.specs.yaml_subset.Tree.{Tree, Entries}
-use Rattle.slo_objects.specs.yaml_subset.Spelling.{meant}
+use Rattle.yaml_terms.specs.Tree.{Tree, Entries}
+use Rattle.yaml_terms.specs.Spelling.{meant}
 use Rattle.slo_objects.specs.declared.Object.{Object}
 use Rattle.slo_objects.specs.declared.Body.{Body}
 use Rattle.slo_objects.specs.declared.Body.TheVariants as bodies

@@ -3,9 +3,9 @@ use Rattle.std.proofs.Common.{◌≡◌, ℕ, ◌+◌, Bool, true, false, List, 
 use Rattle.std.proofs.Common.{None, Ok, Err, cond, length, refl, ap, ◌∙◌, subst, arith}
 use Rattle.std.specs.Prelude.{IfSome, IsSome, IsNone}
 use Rattle.std.specs.List.{AllByRecursion}
-use Rattle.slo_objects.specs.yaml_subset.Tree.{Tree, mapping, sequence, scalar, Entries, Trees}
-use Rattle.slo_objects.specs.yaml_subset.Tree.{no_trees, item}
-use Rattle.slo_objects.specs.yaml_subset.Spelling.{Spelling}
+use Rattle.yaml_terms.specs.Tree.{Tree, mapping, sequence, scalar, Entries, Trees}
+use Rattle.yaml_terms.specs.Tree.{no_trees, item}
+use Rattle.yaml_terms.specs.Spelling.{Spelling}
 use Rattle.slo_objects.specs.declared.Object.{Object}
 use Rattle.slo_objects.specs.declared.Rule.{Rule}
 use Rattle.slo_objects.specs.declared.Rule.TheVariants.{Missing, Both, NotList, ListLength}

@@ -1,6 +1,6 @@
 -- What holds of each value that a form or a table gives.
 use Rattle.std.proofs.Common.{◌≡◌, List, [], ◌++◌, Result, Ok, Err, refl, ap, ◌∙◌, subst}
-use Rattle.slo_objects.specs.yaml_subset.Tree.{Tree, mapping, sequence, scalar, Entries}
+use Rattle.yaml_terms.specs.Tree.{Tree, mapping, sequence, scalar, Entries}
 use Rattle.slo_objects.specs.declared.Object.{Object}
 use Rattle.slo_objects.specs.declared.Rule.{Rule}
 use Rattle.slo_objects.specs.declared.Rule.TheVariants.{NotMap}

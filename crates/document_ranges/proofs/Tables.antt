@@ -5,7 +5,7 @@ use Rattle.std.specs.Prelude.{codes, nat_le, IfSome, IsNone}
 use Rattle.std.proofs.lemmas.Bool.{leb-true, and_parts}
 use Rattle.std.proofs.lemmas.Option.{IfSome_then}
 use Rattle.std.proofs.lemmas.List.Elements.{All-from_recursion}
-use Rattle.slo_objects.specs.yaml_subset.Tree.{Entries}
+use Rattle.yaml_terms.specs.Tree.{Entries}
 use Rattle.slo_objects.specs.slo_duration.Unit.{unit_minutes}
 use Rattle.slo_objects.specs.slo_duration.declared.Unit.{Unit as TimeUnit}
 use Rattle.slo_objects.specs.slo_duration.declared.Unit.TheVariants as units

@@ -2,15 +2,17 @@
 //! node can be written, and that an object is of some document.
 
 ghost use Rattle.std.specs.List.{All};
-ghost use Rattle.yaml_subset.specs.NodeView.{node_view};
-ghost use Rattle.yaml_subset.specs.Fits.{IsWritable};
+ghost use Rattle.yaml_terms.specs.NodeView.{node_view};
+ghost use Rattle.yaml_terms.specs.Fits.{IsWritable};
 ghost use Rattle.slo_objects.specs.Document.{IsOfDocument};
 
 use sample_stream::{ALERT_TARGETS, SHOP};
 use slo_objects::{Objects, read_object};
 use std::alloc::Global;
 use std::process::Abort;
-use yaml_subset::{Node, Nodes, read_documents, standing_nodes_are_writable};
+use yaml_subset::read_documents;
+use yaml_terms::{Node, Nodes};
+use yaml_writing::laws;
 
 /// A text in which `@targets` and `@shop` stand for the documents of the sample stream.
 pub(crate) fn with_samples(rt: &impl Abort, alloc: Global, text: &str) -> String {
@@ -25,7 +27,7 @@ pub(crate) fn with_samples(rt: &impl Abort, alloc: Global, text: &str) -> String
 pub(crate) fn documents_of(rt: &impl Abort, alloc: Global, text: &str) -> Nodes
     ensures { All (λ node. IsWritable (node_view node)) result.items }
 {
-    standing_nodes_are_writable();
+    laws::standing_nodes_are_writable();
     read_documents(alloc, text.as_bytes()).expect(rt, "documents")
 }
 

@@ -9,7 +9,8 @@ use crate::expectations::{expect, expect_text};
 use slo_objects::{Object, ReadError, read_object};
 use std::alloc::Global;
 use std::process::Abort;
-use yaml_subset::{Node, read_documents};
+use yaml_subset::read_documents;
+use yaml_terms::Node;
 
 /// The version and the name of a document.
 const HEAD: &str = "apiVersion: openslo/v1

@@ -3,7 +3,8 @@
 use crate::expectations::expect;
 use slo_limits::MAX_TEXT_BYTES;
 use std::alloc::{AllocError, Global};
-use yaml_subset::{YamlFault, read_documents};
+use yaml_subset::read_documents;
+use yaml_terms::YamlFault;
 
 /// Bytes, and the place of the first that no UTF-8 text has there.
 const PLACES: [(&[u8], usize); 16] = [

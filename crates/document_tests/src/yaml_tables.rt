@@ -7,7 +7,8 @@ use crate::documents::with_samples;
 use crate::expectations::expect_text;
 use std::alloc::{AllocError, Global};
 use std::process::Abort;
-use yaml_subset::{Node, Nodes, YamlFault, read_documents};
+use yaml_subset::read_documents;
+use yaml_terms::{Node, Nodes, YamlFault};
 
 /// Appends a text, with line feeds and tabs as one writes them and `~` for a byte above 127.
 fn show_text(out: &mut String, bytes: &[u8]) -> Result<(), AllocError> {

@@ -5,7 +5,7 @@ use crate::documents::documents_of;
 use crate::expectations::{expect, expect_text};
 use std::alloc::Global;
 use std::process::Abort;
-use yaml_subset::write_node;
+use yaml_writing::write_node;
 
 /// The writing of a text's documents behind so many spaces.
 fn writing_of(rt: &impl Abort, alloc: Global, text: &str, indent: u32) -> Vec<u8> {

@@ -1,6 +1,6 @@
 //! The objects of the catalog.
 ghost use Rattle.std.specs.Prelude.{◌≡◌, map, IfOk};
-ghost use Rattle.yaml_subset.specs.Spelling.{writing};
+ghost use Rattle.yaml_terms.specs.Spelling.{writing};
 ghost use Rattle.slo_objects.specs.Document.{IsOfDocument, written};
 ghost use Rattle.slo_objects.specs.declared.Object.{Object};
 ghost use Rattle.record_form.specs.declared.Query.TheVariants as queries;

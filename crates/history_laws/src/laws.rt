@@ -9,7 +9,7 @@ use definition_verdict::one_verdict;
 use notice_changes::a_taking_acts_once;
 use object_ranges::bodies_are_of_their_kinds;
 use sample_changes::{a_lifting_acts_once, an_exclusion_acts_once};
-use yaml_subset::standing_nodes_are_writable;
+use yaml_writing::laws;
 
 /// A command has one judgement at most over an office at a moment.
 pub fn one_judgement()
@@ -26,7 +26,7 @@ pub fn legal_rows_are_read()
     ensures current { CurrentRowsAreRead }
 {
     // So what is called an indicator is one.
-    standing_nodes_are_writable();
+    laws::standing_nodes_are_writable();
     bodies_are_of_their_kinds();
 }
 

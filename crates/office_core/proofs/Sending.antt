@@ -3,9 +3,9 @@
 use denote.Param.Send.{IsSend, IsSync, sendable}
 use Rattle.std.proofs.Crossing.{crosses}
 use Rattle.std.proofs.MapsCrossing as maps
-use Rattle.yaml_subset.specs.contracts.node.Node as node
-use Rattle.yaml_subset.proofs.node.Node.TheLaws.TheKnot.{send-Node, sync-Node}
-use Rattle.yaml_subset.specs.contracts.text.ScalarText as text
+use Rattle.yaml_terms.specs.contracts.node.Node as node
+use Rattle.yaml_terms.proofs.node.Node.TheLaws.TheKnot.{send-Node, sync-Node}
+use Rattle.yaml_terms.specs.contracts.text.ScalarText as text
 use Rattle.slo_objects.specs.contracts.part.Part as part
 use Rattle.slo_objects.specs.contracts.sli.MetricSource as source
 use Rattle.slo_objects.specs.contracts.sli.Events as events

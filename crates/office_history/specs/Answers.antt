@@ -5,7 +5,7 @@ use Rattle.slo_limits.specs.declared.TheConstants.{MAX_LOOKBACK, MAX_NOTICES_IN_
 use Rattle.slo_limits.specs.declared.TheConstants.{MAX_TIMELINE}
 use Rattle.exact_fraction.specs.declared.Leaf.{Leaf}
 use Rattle.slo_terms.specs.Budget.{burn_of, error_rate_of, remaining_of}
-use Rattle.definition_verdict.specs.yaml_subset.Spelling.{writing}
+use Rattle.yaml_terms.specs.Spelling.{writing}
 use Rattle.definition_verdict.specs.slo_objects.Document.{written}
 use Rattle.definition_verdict.specs.slo_objects.declared.Object.{Object}
 use Rattle.definition_verdict.specs.slo_objects.declared.Slo.{Slo}

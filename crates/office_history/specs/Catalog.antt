@@ -2,8 +2,8 @@
 use Rattle.std.specs.Prelude.{ℕ, List, [], ◌∷◌, fold, map, Option, Some, None, Result, Ok, Err}
 use Rattle.std.specs.List.{flat_map}
 use Rattle.std.specs.Str.Lines.{lines}
-use Rattle.definition_verdict.specs.yaml_subset.Tree.{Tree}
-use Rattle.definition_verdict.specs.yaml_subset.Text.{nodes_of, without_mark}
+use Rattle.yaml_terms.specs.Tree.{Tree}
+use Rattle.yaml_terms.specs.Text.{nodes_of, without_mark}
 use Rattle.definition_verdict.specs.slo_objects.Document.{objects_of}
 use Rattle.definition_verdict.specs.slo_objects.declared.Object.{Object}
 use Rattle.definition_verdict.specs.slo_objects.declared.ObjectFault.{ObjectFault}

@@ -1,6 +1,6 @@
 -- The words and the HTTP statuses by which refusals are told.
 use Rattle.std.specs.Prelude.{ℕ, List, Option, Some, None, codes}
-use Rattle.slo_objects.specs.yaml_subset.Words.{word}
+use Rattle.yaml_terms.specs.Words.{word}
 use Rattle.record_form.specs.declared.limit_name.LimitName.{LimitName}
 use Rattle.record_form.specs.declared.limit_name.LimitName.TheVariants as limits
 use Rattle.record_form.specs.declared.outcome.Outcome.{Outcome}

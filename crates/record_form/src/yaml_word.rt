@@ -1,6 +1,6 @@
 //! What is wrong with a text of documents.
 
-use slo_objects::Which;
+use yaml_terms::ProfileFault;
 
 /// Why a text is no text of the YAML profile.
 #[derive(Clone, Copy, Debug, PartialEq, Eq)]
@@ -10,7 +10,7 @@ pub enum YamlWord {
     /// The bytes aren't UTF-8.
     NotUtf8,
     /// A line has no place after the lines before it, by this row of the profile's table.
-    Form(Which),
+    Form(ProfileFault),
 }
 
 impl YamlWord {

@@ -7,7 +7,7 @@ use Rattle.std.proofs.Common.{[], ◌∷◌, ◌++◌, Option, Some, None, is_so
 use Rattle.std.proofs.Common.{ap, ap₂, ◌∙◌, subst, true≢false, append_assoc}
 use Rattle.std.specs.List.{AllByRecursion, list_any}
 use Rattle.std.proofs.lemmas.Cmp.{nat_list_eq_equiv}
-use Rattle.slo_objects.specs.yaml_subset.Spelling.{writing}
+use Rattle.yaml_terms.specs.Spelling.{writing}
 use Rattle.slo_objects.specs.declared.kind.Kind.{Kind}
 use Rattle.slo_objects.specs.declared.object.Object.{Object}
 use Rattle.slo_objects.specs.Document.{written}

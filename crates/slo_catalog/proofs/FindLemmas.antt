@@ -14,11 +14,11 @@ use Rattle.slo_objects.specs.declared.object.Object.{Object}
 use Rattle.slo_catalog.specs.Keys.{is_kind, is_key, object_cmp, member_of}
 use Rattle.slo_catalog.specs.Catalog.{with_member}
 use Rattle.std.proofs.lemmas.Slice.Eq.{bytes_eq-Decides}
-use Rattle.slo_objects.specs.yaml_subset.Spelling.{writing}
+use Rattle.yaml_terms.specs.Spelling.{writing}
 use Rattle.slo_objects.specs.Document.{written}
 use Rattle.slo_catalog.specs.Limits.{weight}
 use Rattle.slo_limits.specs.declared.TheConstants.{MAX_CATALOG_BYTES}
-use Rattle.slo_objects.specs.yaml_subset.Room.{up_to}
+use Rattle.yaml_terms.specs.Room.{up_to}
 use Rattle.slo_catalog.specs.Define.{is_same}
 
 -- objects of one kind and name answer each question about kind and name alike

@@ -3,7 +3,7 @@ use Rattle.std.specs.Prelude.{◌≡◌, Bool, false, not, cond, ◌&&◌, List,
 use Rattle.std.specs.Prelude.{None, Result, Ok, Err, find}
 use Rattle.std.specs.List.{list_all, list_any}
 use Rattle.std.specs.Str.{bytes_eq}
-use Rattle.slo_objects.specs.yaml_subset.Spelling.{writing}
+use Rattle.yaml_terms.specs.Spelling.{writing}
 use Rattle.slo_objects.specs.declared.object.Object.{Object}
 use Rattle.slo_objects.specs.Document.{written}
 use Rattle.slo_objects.specs.declared.kind.Kind.TheVariants as kinds

@@ -1,8 +1,8 @@
 -- How much a catalog holds.
 use Rattle.std.specs.Prelude.{ℕ, ◌+◌, nat_lt, unwrap_or, cond, List, length, Option, Some}
 use Rattle.std.specs.Prelude.{None, sum_by, count_by}
-use Rattle.slo_objects.specs.yaml_subset.Room.{up_to}
-use Rattle.slo_objects.specs.yaml_subset.Spelling.{writing}
+use Rattle.yaml_terms.specs.Room.{up_to}
+use Rattle.yaml_terms.specs.Spelling.{writing}
 use Rattle.slo_objects.specs.declared.kind.Kind.{Kind}
 use Rattle.slo_objects.specs.declared.kind.Kind.TheVariants as kinds
 use Rattle.slo_objects.specs.declared.object.Object.{Object}

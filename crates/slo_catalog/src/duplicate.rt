@@ -2,7 +2,7 @@
 ghost use Rattle.std.specs.Prelude.{◌≡◌, IfOk};
 ghost use Rattle.std.specs.Option.{option_copied};
 ghost use Rattle.slo_objects.specs.Document.{written};
-ghost use Rattle.slo_objects.specs.yaml_subset.Spelling.{writing};
+ghost use Rattle.yaml_terms.specs.Spelling.{writing};
 ghost use Rattle.slo_catalog.specs.Keys.{member_of};
 ghost use Rattle.slo_catalog.specs.Define.{is_same as is_same_lem};
 ghost use Rattle.slo_catalog.specs.Define.{is_other_than as is_other_than_lem};

@@ -1,10 +1,10 @@
 -- Fields that are written one behind the other.
 use Rattle.std.proofs.Common.{◌≡◌, List, [], ◌∷◌, ◌++◌, refl, ap}
-use Rattle.yaml_subset.specs.Spelling.{Fields, no_fields, field, Items, no_items, one_item}
-use Rattle.yaml_subset.specs.SpellingView.{is_quoted, text_of, spelling_view, fields_view}
-use Rattle.yaml_subset.specs.SpellingView.{items_view}
-use Rattle.yaml_subset.specs.declared.spelling.FieldKey.{FieldKey}
-use Rattle.yaml_subset.specs.declared.spelling.Spelling.{Spelling as Written}
+use Rattle.yaml_terms.specs.Spelling.{Fields, no_fields, field, Items, no_items, one_item}
+use Rattle.yaml_terms.specs.SpellingView.{is_quoted, text_of, spelling_view, fields_view}
+use Rattle.yaml_terms.specs.SpellingView.{items_view}
+use Rattle.yaml_terms.specs.declared.FieldKey.{FieldKey}
+use Rattle.yaml_terms.specs.declared.Spelling.{Spelling as Written}
 use Rattle.slo_objects.specs.Adding.{before, items_before}
 
 -- one field more

@@ -1,6 +1,6 @@
 -- How many items a list has.
 use Rattle.std.proofs.Common.{◌≡◌, ◌≤◌, List, [], ◌∷◌, length, None, refl, arith}
-use Rattle.yaml_subset.specs.declared.node.Node.{Node}
+use Rattle.yaml_terms.specs.declared.Node.{Node}
 use Rattle.slo_objects.specs.Form.{count, only_in}
 use Rattle.slo_objects.specs.Reading.{trees_view}
 

@@ -1,10 +1,10 @@
 -- Objects with one writing are one object.
 use Rattle.std.proofs.Common.{◌≡◌, false, List, [], ◌∷◌, Ok, refl, sym, ap, ◌∙◌}
 use Rattle.std.specs.List.{AllByRecursion}
-use Rattle.yaml_subset.specs.Tree.{Tree}
-use Rattle.yaml_subset.specs.Spelling.{Spelling, meant, writing, is_word}
-use Rattle.yaml_subset.specs.Profile.{max_depth}
-use Rattle.yaml_subset.specs.Fits.{Fits, IsWritable}
+use Rattle.yaml_terms.specs.Tree.{Tree}
+use Rattle.yaml_terms.specs.Spelling.{Spelling, meant, writing, is_word}
+use Rattle.yaml_terms.specs.Profile.{max_depth}
+use Rattle.yaml_terms.specs.Fits.{Fits, IsWritable}
 use Rattle.slo_objects.specs.declared.object.Object.{Object}
 use Rattle.slo_objects.specs.Document.{objects_of, written}
 use Rattle.slo_objects.proofs.LawFieldTables.{ok_same}

@@ -5,8 +5,8 @@ use Rattle.std.proofs.Common.{append-nil}
 use Rattle.std.specs.Prelude.{◌||◌}
 use Rattle.std.specs.List.{AllByRecursion}
 use Rattle.std.proofs.lemmas.Bool.{false≢true}
-use Rattle.yaml_subset.specs.Tree.{Tree, Entries, no_entries, entry}
-use Rattle.yaml_subset.specs.Spelling.{Fields, meant, entries_meant}
+use Rattle.yaml_terms.specs.Tree.{Tree, Entries, no_entries, entry}
+use Rattle.yaml_terms.specs.Spelling.{Fields, meant, entries_meant}
 use Rattle.slo_objects.specs.declared.object.Object.{Object}
 use Rattle.slo_objects.specs.declared.fault.Rule.TheVariants.{NotMap, UnknownField}
 use Rattle.slo_objects.specs.declared.fault.ObjectFault.{ObjectFault}

@@ -6,7 +6,7 @@ use Rattle.std.specs.Str.{bytes_eq}
 use Rattle.std.proofs.lemmas.Bool.{false≢true, true≢false}
 use Rattle.std.proofs.lemmas.Slice.Eq.{bytes_eq-Decides}
 use Rattle.std.proofs.lemmas.Option.{none-some}
-use Rattle.yaml_subset.specs.Tree.{Tree, Entries, no_entries, entry}
+use Rattle.yaml_terms.specs.Tree.{Tree, Entries, no_entries, entry}
 use Rattle.slo_objects.specs.Form.{Key, gives, is_among, is_null, field_of, closed, refused, shown}
 use Rattle.slo_objects.specs.declared.fault.Rule.TheVariants.{UnknownField}
 

@@ -4,11 +4,11 @@ use Rattle.std.proofs.Common.{arith}
 use Rattle.std.specs.Prelude.{codes}
 use Rattle.std.specs.List.{AllByRecursion}
 use Rattle.slo_limits.specs.declared.TheConstants.{MAX_TEXT_BYTES}
-use Rattle.yaml_subset.specs.Tree.{Tree}
-use Rattle.yaml_subset.specs.Spelling.{Spelling, word, no_fields, meant, writing, is_word}
-use Rattle.yaml_subset.specs.Profile.{max_depth}
-use Rattle.yaml_subset.specs.Fits.{Fits, FitFields, IsWritable}
-use Rattle.yaml_subset.specs.Text.{StandsFor}
+use Rattle.yaml_terms.specs.Tree.{Tree}
+use Rattle.yaml_terms.specs.Spelling.{Spelling, word, no_fields, meant, writing, is_word}
+use Rattle.yaml_terms.specs.Profile.{max_depth}
+use Rattle.yaml_terms.specs.Fits.{Fits, FitFields, IsWritable}
+use Rattle.yaml_terms.specs.Text.{StandsFor}
 use Rattle.slo_objects.specs.declared.object.Object.{Object}
 use Rattle.slo_objects.specs.declared.object.Body.{Body}
 use Rattle.slo_objects.specs.declared.object.Metadata.{Metadata}

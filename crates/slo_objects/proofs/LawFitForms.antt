@@ -7,13 +7,13 @@ use Rattle.std.specs.List.{AllByRecursion, list_all}
 use Rattle.std.proofs.lemmas.Bool.{agree_below, agree_below_at}
 use Rattle.std.proofs.lemmas.Bool.Decides.{nat_tests}
 use Rattle.std.proofs.lemmas.Str.{IsUtf8-from_ascii}
-use Rattle.yaml_subset.specs.Tree.{Tree, mapping, sequence, scalar, Trees, no_trees, item}
-use Rattle.yaml_subset.specs.Spelling.{Spelling, word, quoted, spelled, items_spelled}
-use Rattle.yaml_subset.specs.Block.{is_blank_byte}
-use Rattle.yaml_subset.specs.Line.{is_control, has_control, is_plain_start, plain_len}
-use Rattle.yaml_subset.specs.Profile.{max_depth}
-use Rattle.yaml_subset.specs.Fits.{Fits, FitItems, is_plain, is_quotable}
-use Rattle.yaml_subset.proofs.StandingBytes.{quotable}
+use Rattle.yaml_terms.specs.Tree.{Tree, mapping, sequence, scalar, Trees, no_trees, item}
+use Rattle.yaml_terms.specs.Spelling.{Spelling, word, quoted, spelled, items_spelled}
+use Rattle.yaml_terms.specs.Block.{is_blank_byte}
+use Rattle.yaml_terms.specs.Line.{is_control, has_control, is_plain_start, plain_len}
+use Rattle.yaml_terms.specs.Profile.{max_depth}
+use Rattle.yaml_terms.specs.Fits.{Fits, FitItems, is_plain, is_quotable}
+use Rattle.yaml_writing.proofs.StandingBytes.{quotable}
 use Rattle.slo_objects.specs.declared.object.Object.{Object}
 use Rattle.slo_objects.specs.declared.fault.Rule.{Rule}
 use Rattle.slo_objects.specs.declared.fault.Rule.TheVariants as rules

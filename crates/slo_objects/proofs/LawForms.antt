@@ -4,10 +4,10 @@ use Rattle.std.proofs.Common.{◌≡◌, ℕ, ◌+◌, Bool, true, false, List, 
 use Rattle.std.proofs.Common.{cond, refl, sym, ap, ◌∙◌, subst, append_assoc, append-nil}
 use Rattle.std.specs.List.{AllByRecursion}
 use Rattle.std.proofs.lemmas.Bool.{true≢false}
-use Rattle.yaml_subset.specs.Tree.{Tree, mapping, sequence, scalar, Entries, no_entries, entry}
-use Rattle.yaml_subset.specs.Tree.{Trees, no_trees, item}
-use Rattle.yaml_subset.specs.Spelling.{Spelling, items, meant, entries_meant, items_meant, spelled}
-use Rattle.yaml_subset.specs.Spelling.{fields_spelled, items_spelled}
+use Rattle.yaml_terms.specs.Tree.{Tree, mapping, sequence, scalar, Entries, no_entries, entry}
+use Rattle.yaml_terms.specs.Tree.{Trees, no_trees, item}
+use Rattle.yaml_terms.specs.Spelling.{Spelling, items, meant, entries_meant, items_meant, spelled}
+use Rattle.yaml_terms.specs.Spelling.{fields_spelled, items_spelled}
 use Rattle.slo_objects.specs.declared.object.Object.{Object}
 use Rattle.slo_objects.specs.declared.fault.Rule.{Rule}
 use Rattle.slo_objects.specs.declared.fault.Rule.TheVariants.{NotList, NotMap, ListLength}

@@ -5,7 +5,7 @@ use Rattle.std.proofs.Common.{Ok, Err, cond, refl, sym, ap, ◌∙◌, subst}
 use Rattle.std.specs.Prelude.{◌&&◌, ◌||◌, is_none}
 use Rattle.std.specs.Str.{bytes_eq}
 use Rattle.std.specs.List.{AllByRecursion}
-use Rattle.yaml_subset.specs.Tree.{Tree, mapping, sequence, scalar, Entries, no_entries, entry}
+use Rattle.yaml_terms.specs.Tree.{Tree, mapping, sequence, scalar, Entries, no_entries, entry}
 use Rattle.slo_objects.specs.declared.object.Object.{Object}
 use Rattle.slo_objects.specs.declared.object.Body.{Body}
 use Rattle.slo_objects.specs.declared.object.Metadata.{Metadata}

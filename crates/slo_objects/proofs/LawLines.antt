@@ -3,8 +3,8 @@ use Rattle.std.proofs.Common.{◌≡◌, Bool, true, false, List, [], ◌∷◌,
 use Rattle.std.proofs.Common.{cond, refl, sym, ap, ◌∙◌, subst}
 use Rattle.std.specs.Str.{bytes_eq}
 use Rattle.std.specs.List.{AllByRecursion}
-use Rattle.yaml_subset.specs.Tree.{Tree, Entries, no_entries, entry}
-use Rattle.yaml_subset.specs.Spelling.{Fields, meant, entries_meant}
+use Rattle.yaml_terms.specs.Tree.{Tree, Entries, no_entries, entry}
+use Rattle.yaml_terms.specs.Spelling.{Fields, meant, entries_meant}
 use Rattle.slo_objects.specs.declared.object.Object.{Object}
 use Rattle.slo_objects.specs.declared.fault.Rule.{Rule}
 use Rattle.slo_objects.specs.declared.fault.Rule.TheVariants.{Missing, Both}

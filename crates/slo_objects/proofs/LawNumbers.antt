@@ -9,8 +9,8 @@ use Rattle.std.specs.Char.{is_ascii_digit}
 use Rattle.std.proofs.Math.Nat.{le_of_dvd}
 use Rattle.std.proofs.lemmas.Bool.{false≢true, true≢false, le-leb}
 use Rattle.std.proofs.lemmas.List.{take_all}
-use Rattle.yaml_subset.specs.Tree.{scalar}
-use Rattle.yaml_subset.specs.Spelling.{word, quoted}
+use Rattle.yaml_terms.specs.Tree.{scalar}
+use Rattle.yaml_terms.specs.Spelling.{word, quoted}
 use Rattle.exact_fraction.specs.Digits.{is_number, number_of, number_within, at_most}
 use Rattle.exact_fraction.specs.Decimal.{AnswersDecimal, StandsForBillionths}
 use Rattle.exact_fraction.specs.DecimalCuts.{decimal_by_cuts}

@@ -4,7 +4,7 @@ use Rattle.std.proofs.Common.{◌∙◌, subst, zero, suc, ◌≤◌, ◌∷◌,
 use Rattle.std.specs.Prelude.{◌||◌, codes, decimal, is_none}
 use Rattle.std.specs.List.{AllByRecursion}
 use Rattle.std.proofs.lemmas.Bool.{false≢true}
-use Rattle.yaml_subset.specs.Tree.{Tree, mapping, sequence, scalar, Entries}
+use Rattle.yaml_terms.specs.Tree.{Tree, mapping, sequence, scalar, Entries}
 use Rattle.slo_objects.specs.declared.object.Object.{Object}
 use Rattle.slo_objects.specs.declared.slo.BudgetingMethod.{BudgetingMethod}
 use Rattle.slo_objects.specs.Form.{Key, Answer, gives, refused, told, is_among, is_null, map_with}
@@ -62,9 +62,9 @@ use Rattle.slo_objects.specs.declared.slo.TheConstants.{BUDGETING_METHOD, INDICA
 use Rattle.slo_objects.specs.declared.slo.TheConstants.{OBJECTIVES, SERVICE, TIME_WINDOW}
 use Rattle.slo_objects.specs.declared.window.TheConstants.{CALENDAR, DURATION, IS_ROLLING}
 use Rattle.slo_objects.specs.declared.window.TheConstants.{START_TIME, TIME_ZONE}
-use Rattle.yaml_subset.specs.Spelling.{word, quoted, no_fields, spelled, fields_spelled}
-use Rattle.yaml_subset.specs.Profile.{max_depth}
-use Rattle.yaml_subset.specs.Fits.{Fits, FitFields}
+use Rattle.yaml_terms.specs.Spelling.{word, quoted, no_fields, spelled, fields_spelled}
+use Rattle.yaml_terms.specs.Profile.{max_depth}
+use Rattle.yaml_terms.specs.Fits.{Fits, FitFields}
 use Rattle.zone_calendar.specs.CivilText.{parts_in, parts_of, parts_text, is_moment, civil_text}
 use Rattle.zone_calendar.specs.CivilRead.{in_range, civil_of, civil_from, civil_when, civil_read}
 use Rattle.zone_calendar.specs.declared.civil.Civil.{Civil}

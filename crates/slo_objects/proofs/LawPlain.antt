@@ -9,10 +9,10 @@ use Rattle.std.proofs.lemmas.Bool.{false≢true, agree_below, agree_below_at}
 use Rattle.std.proofs.lemmas.Bool.Decides.{nat_tests}
 use Rattle.std.proofs.lemmas.List.Folds.{list_all-append}
 use Rattle.std.proofs.lemmas.Str.{IsUtf8-from_ascii}
-use Rattle.yaml_subset.specs.Block.{is_blank_byte}
-use Rattle.yaml_subset.specs.Flow.{is_indicator, is_soft_indicator}
-use Rattle.yaml_subset.specs.Line.{is_control, has_control, is_plain_start, plain_len}
-use Rattle.yaml_subset.specs.Fits.{is_letter, is_plain}
+use Rattle.yaml_terms.specs.Block.{is_blank_byte}
+use Rattle.yaml_terms.specs.Flow.{is_indicator, is_soft_indicator}
+use Rattle.yaml_terms.specs.Line.{is_control, has_control, is_plain_start, plain_len}
+use Rattle.yaml_terms.specs.Fits.{is_letter, is_plain}
 use Rattle.exact_fraction.specs.Decimal.{with_point}
 use Rattle.exact_fraction.specs.DecimalText.{decimal_text, last_digits, without_last_zeros}
 use Rattle.exact_fraction.proofs.SpelledDecimals.{trimmed-digits}

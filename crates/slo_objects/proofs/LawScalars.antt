@@ -3,8 +3,8 @@ use Rattle.std.proofs.Common.{◌≡◌, ℕ, Bool, true, false, List, Some, Non
 use Rattle.std.proofs.Common.{refl, sym, ap, ◌∙◌}
 use Rattle.std.specs.Prelude.{nat_le, length, codes}
 use Rattle.std.specs.Str.{is_utf8, chars}
-use Rattle.yaml_subset.specs.Tree.{scalar}
-use Rattle.yaml_subset.specs.Spelling.{Spelling, word, quoted, meant}
+use Rattle.yaml_terms.specs.Tree.{scalar}
+use Rattle.yaml_terms.specs.Spelling.{Spelling, word, quoted, meant}
 use Rattle.exact_fraction.specs.ZoneName.{is_zone_name}
 use Rattle.exact_fraction.specs.declared.op.Op.{Op}
 use Rattle.exact_fraction.specs.declared.op.Op.TheVariants.{Lte, Gte, Lt, Gt}

@@ -48,8 +48,8 @@ use Rattle.slo_objects.specs.declared.keys.TheConstants.{TARGET, TYPE}
 use Rattle.slo_objects.specs.declared.sli.TheConstants.{BAD, COUNTER, GOOD, METRIC_SOURCE}
 use Rattle.slo_objects.specs.declared.sli.TheConstants.{METRIC_SOURCE_REF, RATIO_METRIC, RAW}
 use Rattle.slo_objects.specs.declared.sli.TheConstants.{RAW_TYPE, THRESHOLD_METRIC, TOTAL}
-use Rattle.yaml_subset.specs.Spelling.{word, quoted}
-use Rattle.yaml_subset.specs.Fits.{Fits}
+use Rattle.yaml_terms.specs.Spelling.{word, quoted}
+use Rattle.yaml_terms.specs.Fits.{Fits}
 use Rattle.exact_fraction.specs.declared.op.Op.TheVariants.{Lte, Gte, Lt, Gt}
 use Rattle.slo_duration.specs.declared.duration.Duration.{Duration}
 use Rattle.exact_fraction.specs.declared.op.Op.{Op}

@@ -1,7 +1,7 @@
 -- What the items of a list give.
 use Rattle.std.proofs.Common.{◌≡◌, List, [], ◌∷◌, ◌++◌, Result, Ok, Err, refl, sym, ap, ◌∙◌, subst}
 use Rattle.std.proofs.Common.{append_assoc, append-nil}
-use Rattle.yaml_subset.specs.Tree.{Tree, Trees, no_trees, item}
+use Rattle.yaml_terms.specs.Tree.{Tree, Trees, no_trees, item}
 use Rattle.slo_objects.specs.declared.fault.ReadError.{ReadError}
 use Rattle.slo_objects.specs.declared.fault.ReadError.TheVariants.{NoMemory, Fault}
 use Rattle.slo_objects.specs.declared.object.Object.{Object}

@@ -1,9 +1,9 @@
 -- What contracts see of a map's fields while they are written one behind the other.
 use Rattle.std.specs.Prelude.{◌≡◌, List, [], ◌∷◌}
-use Rattle.yaml_subset.specs.Spelling.{Fields, field, Items, one_item}
-use Rattle.yaml_subset.specs.SpellingView.{is_quoted, text_of, spelling_view}
-use Rattle.yaml_subset.specs.declared.spelling.FieldKey.{FieldKey}
-use Rattle.yaml_subset.specs.declared.spelling.Spelling.{Spelling as Written}
+use Rattle.yaml_terms.specs.Spelling.{Fields, field, Items, one_item}
+use Rattle.yaml_terms.specs.SpellingView.{is_quoted, text_of, spelling_view}
+use Rattle.yaml_terms.specs.declared.FieldKey.{FieldKey}
+use Rattle.yaml_terms.specs.declared.Spelling.{Spelling as Written}
 
 -- these fields, and others behind them
 abbrev pub before : List (FieldKey × Written) → Fields → Fields

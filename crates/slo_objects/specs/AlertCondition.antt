@@ -1,6 +1,6 @@
 -- Alert conditions (OpenSLO v1, AlertCondition).
 use Rattle.std.specs.Prelude.{List, [], ◌∷◌, Result, codes, Option, Some, None}
-use Rattle.yaml_subset.specs.Spelling.{word}
+use Rattle.yaml_terms.specs.Spelling.{word}
 use Rattle.slo_objects.specs.declared.alert_condition.AlertCondition.{AlertCondition}
 use Rattle.slo_objects.specs.declared.alert_condition.Condition.{Condition}
 use Rattle.slo_objects.specs.declared.alert_condition.ConditionKind.{ConditionKind}

@@ -1,6 +1,6 @@
 -- Alert policies (OpenSLO v1, AlertPolicy).
 use Rattle.std.specs.Prelude.{ℕ, List, Bool, true, nat_le, codes, Option, Some, None}
-use Rattle.yaml_subset.specs.Tree.{Tree}
+use Rattle.yaml_terms.specs.Tree.{Tree}
 use Rattle.slo_objects.specs.declared.kind.Kind.TheVariants as kinds
 use Rattle.slo_objects.specs.declared.alert_policy.AlertPolicy.{AlertPolicy}
 use Rattle.slo_objects.specs.declared.object.Body.{Body}

@@ -1,8 +1,8 @@
 -- Documents, and the objects that they stand for (OpenSLO v1, general schema).
 use Rattle.std.specs.Prelude.{◌≡◌, List, [], ◌∷◌, ◌++◌, Result, Ok, Err, Contains, codes}
-use Rattle.yaml_subset.specs.Tree.{Tree}
-use Rattle.yaml_subset.specs.Spelling.{Spelling}
-use Rattle.yaml_subset.specs.Fits.{IsWritable}
+use Rattle.yaml_terms.specs.Tree.{Tree}
+use Rattle.yaml_terms.specs.Spelling.{Spelling}
+use Rattle.yaml_terms.specs.Fits.{IsWritable}
 use Rattle.slo_objects.specs.declared.kind.Kind.{Kind}
 use Rattle.slo_objects.specs.declared.kind.Kind.TheVariants as kinds
 use Rattle.slo_objects.specs.declared.object.Object.{Object}

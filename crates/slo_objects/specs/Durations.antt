@@ -1,6 +1,6 @@
 -- What scalars stand for: durations.
 use Rattle.std.specs.Prelude.{ℕ, List, Result, Ok, Err}
-use Rattle.yaml_subset.specs.Spelling.{Spelling, word}
+use Rattle.yaml_terms.specs.Spelling.{Spelling, word}
 use Rattle.slo_duration.specs.Reading.{duration_of}
 use Rattle.slo_duration.specs.Writing.{duration_text}
 use Rattle.slo_duration.specs.declared.duration.Duration.{Duration}

@@ -4,10 +4,10 @@
 use Rattle.std.specs.Prelude.{ℕ, ◌+◌, Bool, false, ◌&&◌, ◌||◌, not, cond, is_none, List, [], ◌∷◌}
 use Rattle.std.specs.Prelude.{◌++◌, Option, Some, None, Result, Ok, Err, codes}
 use Rattle.std.specs.Str.{bytes_eq, is_utf8}
-use Rattle.yaml_subset.specs.Tree.{Tree, mapping, sequence, scalar, Entries, no_entries, entry}
-use Rattle.yaml_subset.specs.Tree.{Trees, no_trees, item}
-use Rattle.yaml_subset.specs.Spelling.{Spelling, fields, items, Fields, no_fields, field, Items}
-use Rattle.yaml_subset.specs.Spelling.{no_items, one_item, spelled}
+use Rattle.yaml_terms.specs.Tree.{Tree, mapping, sequence, scalar, Entries, no_entries, entry}
+use Rattle.yaml_terms.specs.Tree.{Trees, no_trees, item}
+use Rattle.yaml_terms.specs.Spelling.{Spelling, fields, items, Fields, no_fields, field, Items}
+use Rattle.yaml_terms.specs.Spelling.{no_items, one_item, spelled}
 use Rattle.slo_objects.specs.declared.fault.ObjectFault.{ObjectFault}
 use Rattle.slo_objects.specs.declared.fault.Rule.{Rule}
 use Rattle.slo_objects.specs.declared.fault.Rule.TheVariants as rules

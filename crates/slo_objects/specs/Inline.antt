@@ -1,7 +1,7 @@
 -- Objects that stand inline, and references.
 use Rattle.std.specs.Prelude.{ℕ, is_none, cond, List, [], ◌∷◌, ◌++◌, None, Ok, Err, codes}
-use Rattle.yaml_subset.specs.Tree.{Tree, Entries}
-use Rattle.yaml_subset.specs.Spelling.{Spelling, quoted, fields, no_fields}
+use Rattle.yaml_terms.specs.Tree.{Tree, Entries}
+use Rattle.yaml_terms.specs.Spelling.{Spelling, quoted, fields, no_fields}
 use Rattle.slo_objects.specs.declared.kind.Kind.{Kind}
 use Rattle.slo_objects.specs.declared.object.Object.{Object}
 use Rattle.slo_objects.specs.declared.object.Body.{Body}

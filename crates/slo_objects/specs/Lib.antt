@@ -18,5 +18,4 @@ pub mod Moments
 pub mod Slo
 pub mod Document
 pub use Rattle.slo_duration.specs as slo_duration
-pub use Rattle.yaml_subset.specs as yaml_subset
 pub use Rattle.zone_calendar.specs as zone_calendar

@@ -1,6 +1,6 @@
 -- What scalars stand for: civil moments.
 use Rattle.std.specs.Prelude.{List, Result, ℕ}
-use Rattle.yaml_subset.specs.Spelling.{quoted}
+use Rattle.yaml_terms.specs.Spelling.{quoted}
 use Rattle.zone_calendar.specs.CivilText.{civil_text}
 use Rattle.zone_calendar.specs.CivilRead.{civil_read}
 use Rattle.zone_calendar.specs.declared.civil.Civil.{Civil}

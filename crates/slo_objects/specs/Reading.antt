@@ -1,9 +1,9 @@
 -- What a function of the code that reads gives: what the definition gives, unless memory ran out.
 use Rattle.std.specs.Prelude.{◌≡◌, List, [], Result, Ok, Err, map}
-use Rattle.yaml_subset.specs.Tree.{Entries, Trees, trees}
-use Rattle.yaml_subset.specs.NodeView.{node_view, entries_of, fields_view}
-use Rattle.yaml_subset.specs.declared.text.ScalarText.{ScalarText}
-use Rattle.yaml_subset.specs.declared.node.Node.{Node}
+use Rattle.yaml_terms.specs.Tree.{Entries, Trees, trees}
+use Rattle.yaml_terms.specs.NodeView.{node_view, entries_of, fields_view}
+use Rattle.yaml_terms.specs.declared.ScalarText.{ScalarText}
+use Rattle.yaml_terms.specs.declared.Node.{Node}
 use Rattle.slo_objects.specs.declared.fault.ObjectFault.{ObjectFault}
 use Rattle.slo_objects.specs.declared.fault.ReadError.{ReadError}
 use Rattle.slo_objects.specs.declared.fault.ReadError.TheVariants as errors

@@ -5,7 +5,7 @@ use Rattle.std.specs.Prelude.{Result, Ok, Err, codes}
 use Rattle.std.specs.List.{list_all}
 use Rattle.std.specs.Str.{bytes_eq, chars}
 use Rattle.std.specs.Char.{is_ascii_digit, is_ascii_lowercase}
-use Rattle.yaml_subset.specs.Spelling.{Spelling, word, quoted}
+use Rattle.yaml_terms.specs.Spelling.{Spelling, word, quoted}
 use Rattle.exact_fraction.specs.DecimalCuts.{decimal_by_cuts, leading_digits}
 use Rattle.exact_fraction.specs.DecimalText.{decimal_text}
 use Rattle.exact_fraction.specs.ZoneName.{zone_name_of}

@@ -1,6 +1,6 @@
 -- Indicators (OpenSLO v1, SLI).
 use Rattle.std.specs.Prelude.{Bool, true, false, List, [], ◌∷◌, Option, Some, None, Result, codes}
-use Rattle.yaml_subset.specs.Spelling.{Spelling, word, fields}
+use Rattle.yaml_terms.specs.Spelling.{Spelling, word, fields}
 use Rattle.slo_objects.specs.declared.sli.Sli.{Sli}
 use Rattle.slo_objects.specs.declared.sli.Metric.{Metric}
 use Rattle.slo_objects.specs.declared.sli.Metric.TheVariants as metrics

@@ -1,8 +1,8 @@
 -- Objectives over time (OpenSLO v1, SLO).
 use Rattle.std.specs.Prelude.{ℕ, Bool, true, false, ◌&&◌, ◌||◌, cond, nat_le, List, [], ◌∷◌}
 use Rattle.std.specs.Prelude.{Option, Some, None, Result, Ok, Err, codes, decimal, option_and_then}
-use Rattle.yaml_subset.specs.Tree.{Tree}
-use Rattle.yaml_subset.specs.Spelling.{word, quoted}
+use Rattle.yaml_terms.specs.Tree.{Tree}
+use Rattle.yaml_terms.specs.Spelling.{word, quoted}
 use Rattle.exact_fraction.specs.Digits.{is_number, number_within}
 use Rattle.slo_duration.specs.declared.unit.Unit.{Unit as TimeUnit}
 use Rattle.slo_duration.specs.declared.unit.Unit.TheVariants as units

@@ -3,8 +3,8 @@ use Rattle.std.specs.Prelude.{◌≡◌, ℕ, zero, suc, true, false, List, [], 
 use Rattle.std.specs.Coded.{Coded}
 use Rattle.std.proofs.Common.{ap, sym, ◌∙◌}
 use base.Stored.{Gv, gnil, gnum, gcons}
-use Rattle.yaml_subset.specs.Tree.{Tree, mapping, sequence, scalar, Entries, no_entries, entry}
-use Rattle.yaml_subset.specs.Tree.{Trees, no_trees, item}
+use Rattle.yaml_terms.specs.Tree.{Tree, mapping, sequence, scalar, Entries, no_entries, entry}
+use Rattle.yaml_terms.specs.Tree.{Trees, no_trees, item}
 
 abbrev bytes_code : List ℕ → Gv
 bytes_code [] = gnil

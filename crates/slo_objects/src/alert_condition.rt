@@ -1,7 +1,7 @@
 //! Alert conditions.
 ghost use Rattle.std.specs.Prelude.{◌≡◌, IfOk};
-ghost use Rattle.yaml_subset.specs.NodeView.{node_view};
-ghost use Rattle.yaml_subset.specs.Spelling.{word};
+ghost use Rattle.yaml_terms.specs.NodeView.{node_view};
+ghost use Rattle.yaml_terms.specs.Spelling.{word};
 ghost use Rattle.slo_objects.specs.Form.{map_with};
 ghost use Rattle.slo_objects.specs.Reading.{Reads};
 ghost use Rattle.slo_objects.specs.AlertCondition.{condition, alert_condition, condition_body};
@@ -21,7 +21,7 @@ use crate::scalars::{DescriptionForm, OpForm, TextForm, is_word};
 use crate::shape::map_entries;
 use exact_fraction::{Op, Text};
 use std::alloc::{AllocError, Global};
-use yaml_subset::Node;
+use yaml_terms::Node;
 
 // The keys of its maps that no other map has.
 pub(crate) const SEVERITY: &str = "severity";

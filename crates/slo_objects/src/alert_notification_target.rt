@@ -1,6 +1,6 @@
 //! Targets of notifications.
 ghost use Rattle.std.specs.Prelude.{◌≡◌, IfOk};
-ghost use Rattle.yaml_subset.specs.NodeView.{node_view};
+ghost use Rattle.yaml_terms.specs.NodeView.{node_view};
 ghost use Rattle.slo_objects.specs.Form.{map_with};
 ghost use Rattle.slo_objects.specs.Reading.{Reads};
 ghost use Rattle.slo_objects.specs.AlertNotificationTarget.{alert_notification_target, target_body};
@@ -16,7 +16,7 @@ use crate::scalars::{DescriptionForm, TextForm};
 use crate::shape::map_entries;
 use exact_fraction::Text;
 use std::alloc::{AllocError, Global};
-use yaml_subset::Node;
+use yaml_terms::Node;
 
 /// Whom an alert reaches.
 #[derive(Debug, Drop)]

@@ -1,6 +1,6 @@
 //! Alert policies.
 ghost use Rattle.std.specs.Prelude.{◌≡◌, IfOk};
-ghost use Rattle.yaml_subset.specs.NodeView.{node_view};
+ghost use Rattle.yaml_terms.specs.NodeView.{node_view};
 ghost use Rattle.slo_objects.specs.Form.{map_with};
 ghost use Rattle.slo_objects.specs.Reading.{Reads};
 ghost use Rattle.slo_objects.specs.AlertPolicy.{alert_policy, condition_item, target_item};
@@ -24,7 +24,7 @@ use crate::scalars::{BooleanForm, DescriptionForm};
 use crate::shape::map_entries;
 use exact_fraction::{Label, Text};
 use std::alloc::{AllocError, Global};
-use yaml_subset::Node;
+use yaml_terms::Node;
 
 // The keys that no other map has.
 pub(crate) const ALERT_WHEN_NO_DATA: &str = "alertWhenNoData";

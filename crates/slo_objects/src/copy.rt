@@ -12,7 +12,7 @@ use crate::sli::copy_sli;
 use crate::slo::copy_slo;
 use exact_fraction::Text;
 use std::alloc::{AllocError, Global};
-use yaml_subset::copy_node;
+use yaml_writing::copy_node;
 
 /// A copy of a text.
 pub(crate) fn copy_text(alloc: Global, text: &Text) -> Result<Text, AllocError>

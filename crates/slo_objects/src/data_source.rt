@@ -1,6 +1,6 @@
 //! Data sources.
 ghost use Rattle.std.specs.Prelude.{◌≡◌, IfOk};
-ghost use Rattle.yaml_subset.specs.NodeView.{node_view};
+ghost use Rattle.yaml_terms.specs.NodeView.{node_view};
 ghost use Rattle.slo_objects.specs.Form.{map_with};
 ghost use Rattle.slo_objects.specs.Reading.{Reads};
 ghost use Rattle.slo_objects.specs.DataSource.{data_source, data_source_body};
@@ -17,7 +17,7 @@ use crate::scalars::{DescriptionForm, TextForm};
 use crate::shape::map_entries;
 use exact_fraction::Text;
 use std::alloc::{AllocError, Global};
-use yaml_subset::Node;
+use yaml_terms::Node;
 
 // The key that no other map has.
 pub(crate) const CONNECTION_DETAILS: &str = "connectionDetails";

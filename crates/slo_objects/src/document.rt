@@ -1,8 +1,8 @@
 //! Documents, and the objects that they stand for.
 ghost use Rattle.std.specs.Prelude.{◌≡◌, IfOk};
 ghost use Rattle.std.specs.List.{All};
-ghost use Rattle.yaml_subset.specs.Fits.{IsWritable};
-ghost use Rattle.yaml_subset.specs.NodeView.{node_view};
+ghost use Rattle.yaml_terms.specs.Fits.{IsWritable};
+ghost use Rattle.yaml_terms.specs.NodeView.{node_view};
 ghost use Rattle.slo_objects.specs.Form.{map_with};
 ghost use Rattle.slo_objects.specs.Reading.{Gives, Reads};
 ghost use Rattle.slo_objects.specs.Document.{body, document, objects_of, IsOfDocument};
@@ -25,7 +25,7 @@ use crate::shape::map_entries;
 use crate::sli::SliBody;
 use crate::slo::SloBody;
 use std::alloc::Global;
-use yaml_subset::Node;
+use yaml_terms::Node;
 
 /// The name of a document in its fault.
 pub(crate) const DOCUMENT: &str = "document";

@@ -1,6 +1,6 @@
 //! The lines of the tables: each kind of line once, over the forms of its values.
 ghost use Rattle.std.specs.Prelude.{map};
-ghost use Rattle.yaml_subset.specs.NodeView.{node_view};
+ghost use Rattle.yaml_terms.specs.NodeView.{node_view};
 ghost use Rattle.slo_objects.specs.Form.{required as required_line, optional as optional_line};
 ghost use Rattle.slo_objects.specs.Form.{required_where as required_where_line};
 ghost use Rattle.slo_objects.specs.Form.{optional_alone as optional_alone_line};
@@ -12,7 +12,7 @@ use crate::fault::{ReadError, Rule};
 use crate::fields::{fail_at, field, has_one_of};
 use crate::forms::ReadForm;
 use crate::object::Objects;
-use yaml_subset::{Node, ScalarText};
+use yaml_terms::{Node, ScalarText};
 
 /// A field that must stand.
 pub(crate) fn required<F: ReadForm>(

@@ -1,7 +1,7 @@
 //! The fields of a map.
 ghost use Rattle.std.specs.Prelude.{◌≡◌, ◌&&◌, ◌||◌, not, option_map, map};
 ghost use Rattle.std.specs.Str.{bytes_eq};
-ghost use Rattle.yaml_subset.specs.NodeView.{node_view};
+ghost use Rattle.yaml_terms.specs.NodeView.{node_view};
 ghost use Rattle.slo_objects.specs.Form.{and_then, closed, field_of, refused};
 ghost use Rattle.slo_objects.specs.Form.{is_among as is_among_lem};
 ghost use Rattle.slo_objects.specs.Form.{is_null as is_null_lem, map_read, gives, shown, utf8_in};
@@ -13,7 +13,7 @@ use crate::object::Objects;
 use crate::shape::is_null;
 use exact_fraction::Text;
 use std::str;
-use yaml_subset::{Node, ScalarText};
+use yaml_terms::{Node, ScalarText};
 
 /// Fails at a key: the one way in which a reader finds a fault.
 pub(crate) fn fail_at<T>(found: &Objects, key: &str, rule: Rule) -> Result<T, ReadError>

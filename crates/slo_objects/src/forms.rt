@@ -1,7 +1,7 @@
 //! Forms: how values are read of nodes.
 ghost use Rattle.std.specs.Prelude.{◌≡◌, IfOk, List, ℕ, Result};
-ghost use Rattle.yaml_subset.specs.Spelling.{Spelling};
-ghost use Rattle.yaml_subset.specs.NodeView.{node_view};
+ghost use Rattle.yaml_terms.specs.Spelling.{Spelling};
+ghost use Rattle.yaml_terms.specs.NodeView.{node_view};
 ghost use Rattle.slo_objects.specs.Form.{Form, scalar_form, scalar_read, free, free_map};
 ghost use Rattle.slo_objects.specs.Reading.{Reads};
 ghost use Rattle.slo_objects.specs.declared.fault.Rule.{Rule};
@@ -12,7 +12,8 @@ use crate::object::Objects;
 use crate::part::Part;
 use crate::shape::{map_entries, scalar_text};
 use std::alloc::{AllocError, Global};
-use yaml_subset::{Node, copy_node};
+use yaml_terms::Node;
+use yaml_writing::copy_node;
 
 /// How a value is read: its form.
 pub(crate) trait ReadForm {

@@ -1,6 +1,6 @@
 //! Metadata, objects that stand inline, and references.
 ghost use Rattle.std.specs.Prelude.{◌≡◌, []};
-ghost use Rattle.yaml_subset.specs.NodeView.{node_view};
+ghost use Rattle.yaml_terms.specs.NodeView.{node_view};
 ghost use Rattle.slo_objects.specs.Form.{map_read, map_with, answer_by};
 ghost use Rattle.slo_objects.specs.Reading.{Reads, entries_view};
 ghost use Rattle.slo_objects.specs.Metadata.{metadata, object_with as object_with_lem};
@@ -17,7 +17,7 @@ use crate::object::{Body, Metadata, Object, Objects};
 use crate::scalars::{NameForm, OnlyKindForm, TextForm, VersionForm};
 use crate::shape::map_entries;
 use exact_fraction::Label;
-use yaml_subset::{Node, ScalarText};
+use yaml_terms::{Node, ScalarText};
 
 // The keys of metadata that no other map has.
 pub(crate) const NAME: &str = "name";

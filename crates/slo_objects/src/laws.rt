@@ -3,15 +3,15 @@
 ghost use Rattle.std.specs.Prelude.{◌≡◌, ◌≤◌, List, [], ◌∷◌, Ok, length};
 ghost use Rattle.std.specs.List.{AllByRecursion};
 ghost use Rattle.slo_limits.specs.declared.TheConstants.{MAX_TEXT_BYTES};
-ghost use Rattle.yaml_subset.specs.Tree.{Tree};
-ghost use Rattle.yaml_subset.specs.Profile.{max_depth};
-ghost use Rattle.yaml_subset.specs.Text.{StandsFor};
-ghost use Rattle.yaml_subset.specs.Spelling.{meant, writing};
-ghost use Rattle.yaml_subset.specs.Fits.{Fits, IsWritable};
+ghost use Rattle.yaml_terms.specs.Tree.{Tree};
+ghost use Rattle.yaml_terms.specs.Profile.{max_depth};
+ghost use Rattle.yaml_terms.specs.Text.{StandsFor};
+ghost use Rattle.yaml_terms.specs.Spelling.{meant, writing};
+ghost use Rattle.yaml_terms.specs.Fits.{Fits, IsWritable};
 ghost use Rattle.slo_objects.specs.declared.object.Object.{Object};
 ghost use Rattle.slo_objects.specs.Document.{objects_of, written};
 
-use yaml_subset::written_text_reads_back;
+use yaml_writing::laws;
 
 /// What is written is read again: the canonical writing of each object that a document stands for,
 /// also of one that stood inline, stands for that object alone.
@@ -30,7 +30,7 @@ pub fn each_object_can_be_written()
         → AllByRecursion (λ o. length (writing 0 (written o)) ≤ MAX_TEXT_BYTES
         → StandsFor (writing 0 (written o)) (meant (written o) ∷ [])) os }
 {
-    written_text_reads_back();
+    laws::written_text_reads_back();
 }
 
 /// Objects with one writing are one object: by the nodes that they are written as, and by their
@@ -45,5 +45,5 @@ pub fn objects_with_one_text_are_one()
         → AllByRecursion (λ o. AllByRecursion
         (λ p. writing 0 (written o) ≡ writing 0 (written p) → o ≡ p) ps) os }
 {
-    written_text_reads_back();
+    laws::written_text_reads_back();
 }

@@ -52,5 +52,4 @@ pub use sli::{Events, Metric, MetricSource, Ratio, RatioMetric, RawType, Sli};
 pub use slo::{BudgetingMethod, Calendar, Objective, Objectives, Slo, TimeWindow};
 pub use slo_duration::Duration;
 pub use writing::{object_length, write_object};
-pub use yaml_subset::Which;
 pub use zone_calendar::has_too_many_starts;

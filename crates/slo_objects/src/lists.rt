@@ -1,7 +1,7 @@
 //! Lists of names: references, and objects that stand inline in the place of one.
 ghost use Rattle.std.specs.Prelude.{◌≡◌, ℕ, Bool, List, [], ◌∷◌};
-ghost use Rattle.yaml_subset.specs.Tree.{Tree};
-ghost use Rattle.yaml_subset.specs.NodeView.{node_view};
+ghost use Rattle.yaml_terms.specs.Tree.{Tree};
+ghost use Rattle.yaml_terms.specs.NodeView.{node_view};
 ghost use Rattle.slo_objects.specs.Form.{Key, Answer, each, list_read};
 ghost use Rattle.slo_objects.specs.Reading.{Gives, Reads, trees_view};
 
@@ -11,7 +11,7 @@ use crate::names::Names;
 use crate::object::Objects;
 use crate::shape::{item_count, list_items};
 use exact_fraction::Label;
-use yaml_subset::Node;
+use yaml_terms::Node;
 
 /// How an item of a list of names is read, and how many items the list may have.
 pub(crate) trait ReadItem {

@@ -1,6 +1,6 @@
 //! Scalars: civil moments.
 ghost use Rattle.std.specs.Prelude.{◌≡◌, IfOk};
-ghost use Rattle.yaml_subset.specs.Spelling.{quoted};
+ghost use Rattle.yaml_terms.specs.Spelling.{quoted};
 ghost use Rattle.zone_calendar.specs.CivilText.{civil_text};
 ghost use Rattle.zone_calendar.specs.CivilRead.{civil_read};
 ghost use Rattle.slo_objects.specs.Moments.{moment_value};

@@ -3,8 +3,8 @@ ghost use Rattle.std.specs.Prelude.{◌≡◌, ◌≤◌, IfOk, decimal};
 ghost use Rattle.std.specs.List.{list_all};
 ghost use Rattle.std.specs.Char.{is_ascii_digit};
 ghost use Rattle.exact_fraction.specs.Digits.{is_number};
-ghost use Rattle.yaml_subset.specs.Spelling.{word};
-ghost use Rattle.yaml_subset.specs.NodeView.{node_view};
+ghost use Rattle.yaml_terms.specs.Spelling.{word};
+ghost use Rattle.yaml_terms.specs.NodeView.{node_view};
 ghost use Rattle.slo_objects.specs.Form.{map_with};
 ghost use Rattle.slo_objects.specs.Reading.{Reads};
 ghost use Rattle.slo_objects.specs.Slo.{objective, is_target, width_value};
@@ -28,7 +28,7 @@ use crate::slo::{BudgetingMethod, Objective};
 use exact_fraction::read_number;
 use slo_duration::rolling_minutes;
 use std::alloc::{AllocError, Global};
-use yaml_subset::Node;
+use yaml_terms::Node;
 
 // The keys that no other map has.
 pub(crate) const VALUE: &str = "value";

@@ -1,7 +1,7 @@
 //! Free parts of documents.
 
 use std::marker::Model;
-use yaml_subset::Node;
+use yaml_terms::Node;
 
 /// A part of a document whose form is free: it is kept as its node.
 #[derive(Debug, Drop)]
@@ -10,8 +10,8 @@ pub struct Part {
 }
 
 impl Model for Part {
-    ghost use Rattle.yaml_subset.specs.Tree.{Tree};
-    ghost use Rattle.yaml_subset.specs.NodeView.{node_view};
+    ghost use Rattle.yaml_terms.specs.Tree.{Tree};
+    ghost use Rattle.yaml_terms.specs.NodeView.{node_view};
     ghost use Rattle.slo_objects.specs.TreeCode.{coded_tree};
 
     ghost Value = { Tree };
@@ -23,7 +23,7 @@ impl Model for Part {
 
 impl Part {
     ghost use Rattle.std.specs.Prelude.{◌≡◌};
-    ghost use Rattle.yaml_subset.specs.NodeView.{node_view};
+    ghost use Rattle.yaml_terms.specs.NodeView.{node_view};
 
     /// The part that is this node.
     pub fn of(node: Node) -> Part

@@ -2,7 +2,7 @@
 ghost use Rattle.std.specs.Prelude.{◌≡◌, length, MatchResult, IfOk, Ok, Err, cond, codes};
 ghost use Rattle.std.specs.List.{list_all};
 ghost use Rattle.std.specs.Str.{bytes_eq, chars};
-ghost use Rattle.yaml_subset.specs.Spelling.{word, quoted};
+ghost use Rattle.yaml_terms.specs.Spelling.{word, quoted};
 ghost use Rattle.slo_objects.specs.Scalars.{text_value, description_value, name_value, zone_value};
 ghost use Rattle.slo_objects.specs.Scalars.{version_text, version_value, kind_word, kind_value};
 ghost use Rattle.slo_objects.specs.Scalars.{only_kind_value, op_word, op_value, boolean_value};

@@ -1,6 +1,6 @@
 //! Services.
 ghost use Rattle.std.specs.Prelude.{◌≡◌, IfOk};
-ghost use Rattle.yaml_subset.specs.NodeView.{node_view};
+ghost use Rattle.yaml_terms.specs.NodeView.{node_view};
 ghost use Rattle.slo_objects.specs.Form.{map_with};
 ghost use Rattle.slo_objects.specs.Reading.{Reads};
 ghost use Rattle.slo_objects.specs.Service.{service, service_body};
@@ -16,7 +16,7 @@ use crate::scalars::DescriptionForm;
 use crate::shape::map_entries;
 use exact_fraction::Text;
 use std::alloc::{AllocError, Global};
-use yaml_subset::Node;
+use yaml_terms::Node;
 
 /// A service: what objectives are set for.
 #[derive(Debug, Drop)]

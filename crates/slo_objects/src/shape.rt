@@ -1,11 +1,11 @@
 //! What a node is: a scalar, a map or a list.
 ghost use Rattle.std.specs.Prelude.{◌≡◌, option_map};
-ghost use Rattle.yaml_subset.specs.NodeView.{node_view};
+ghost use Rattle.yaml_terms.specs.NodeView.{node_view};
 ghost use Rattle.slo_objects.specs.Form.{scalar_in, mapping_in, list_in, is_null, count, only_in};
 ghost use Rattle.slo_objects.specs.Reading.{entries_view, trees_view};
 
 use crate::fields::is_among;
-use yaml_subset::{Node, ScalarText};
+use yaml_terms::{Node, ScalarText};
 
 /// The text of a scalar.
 pub(crate) fn scalar_text(node: &Node) -> Option<&[u8]>

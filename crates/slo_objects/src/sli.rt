@@ -1,7 +1,7 @@
 //! Indicators.
 ghost use Rattle.std.specs.Prelude.{◌≡◌, IfOk};
-ghost use Rattle.yaml_subset.specs.Spelling.{word};
-ghost use Rattle.yaml_subset.specs.NodeView.{node_view};
+ghost use Rattle.yaml_terms.specs.Spelling.{word};
+ghost use Rattle.yaml_terms.specs.NodeView.{node_view};
 ghost use Rattle.slo_objects.specs.Form.{map_with, variant, answer_by};
 ghost use Rattle.slo_objects.specs.Reading.{Reads, entries_view};
 ghost use Rattle.slo_objects.specs.Sli.{metric_source, source_map, source, raw_type_word};
@@ -24,7 +24,7 @@ use crate::scalars::{BooleanForm, DescriptionForm, NameForm, TextForm, is_word};
 use crate::shape::map_entries;
 use exact_fraction::{Label, Text};
 use std::alloc::{AllocError, Global};
-use yaml_subset::{Node, ScalarText};
+use yaml_terms::{Node, ScalarText};
 
 // The keys that no other map has.
 pub(crate) const METRIC_SOURCE: &str = "metricSource";

@@ -1,6 +1,6 @@
 //! Objectives over time.
 ghost use Rattle.std.specs.Prelude.{◌≡◌, ◌<◌, ◌≤◌, [], ◌∷◌, ◌++◌, length, OnOk, OnErr, IfOk};
-ghost use Rattle.yaml_subset.specs.NodeView.{node_view};
+ghost use Rattle.yaml_terms.specs.NodeView.{node_view};
 ghost use Rattle.slo_objects.specs.Form.{map_with, each};
 ghost use Rattle.slo_objects.specs.Reading.{Gives, Reads, trees_view};
 ghost use Rattle.slo_objects.specs.Slo.{slo, slo_body, objectives, objective_item};
@@ -30,7 +30,7 @@ use exact_fraction::{Decimal, Label, Op, Text, ZoneName};
 use slo_limits::{MAX_OBJECTIVES, MAX_POLICIES};
 use std::alloc::{AllocError, Global};
 use std::marker::Model;
-use yaml_subset::Node;
+use yaml_terms::Node;
 use zone_calendar::Civil;
 
 // The keys that no other map has.

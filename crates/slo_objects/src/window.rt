@@ -1,7 +1,7 @@
 //! Time windows and budgeting methods.
 ghost use Rattle.std.specs.Prelude.{◌≡◌, ◌||◌, cond, IfOk};
-ghost use Rattle.yaml_subset.specs.Spelling.{word};
-ghost use Rattle.yaml_subset.specs.NodeView.{node_view};
+ghost use Rattle.yaml_terms.specs.Spelling.{word};
+ghost use Rattle.yaml_terms.specs.NodeView.{node_view};
 ghost use Rattle.slo_objects.specs.Form.{map_with, single, gives, refused};
 ghost use Rattle.slo_objects.specs.Reading.{Reads};
 ghost use Rattle.slo_objects.specs.Slo.{calendar, time_window, is_rolling as is_rolling_lem};
@@ -21,7 +21,7 @@ use crate::shape::{list_items, map_entries, only_item};
 use crate::slo::{BudgetingMethod, Calendar, TimeWindow};
 use slo_duration::Unit;
 use std::alloc::{AllocError, Global};
-use yaml_subset::Node;
+use yaml_terms::Node;
 
 // The keys that no other map has.
 pub(crate) const DURATION: &str = "duration";

@@ -12,7 +12,7 @@ use std::alloc::{AllocError, Global};
 use std::test::Fail;
 use wire_replies::{Reply, bad_message, immediate_reply, render, write_reply};
 use wire_terms::{Allow, Immediate};
-use yaml_subset::Which;
+use yaml_terms::ProfileFault;
 
 fn label(text: &str) -> Result<Label, &'static str> {
     read_label(text.as_bytes()).ok_or("no label")
@@ -303,7 +303,7 @@ fn of_documents(alloc: Global) -> Result<Vec<Refusal>, Fail> {
         },
         Refusal::Yaml {
             line: 33,
-            which: YamlWord::Form(Which::TooDeep)
+            which: YamlWord::Form(ProfileFault::TooDeep)
         },
         Refusal::Yaml {
             line: 0,

@@ -4,7 +4,7 @@ use record_form::{Command, LimitName, Outcome, Refusal, YamlWord, read_record, w
 use sample_book::{Amount, Exclusion, Row};
 use slo_objects::Kind;
 use std::test::Fail;
-use yaml_subset::Which;
+use yaml_terms::ProfileFault;
 
 const DEFINE: &[u8] = b"\x00\x00\x01\xf4\x01\x00\x00\x00\x05a: b\n";
 
@@ -159,5 +159,5 @@ fn refusals_are_told_by_status_and_word(rt: HostRuntime) {
     assert!(rt; Outcome::Changed { entry: None }.failure().is_none());
     assert!(rt; LimitName::ZoneBytes.word() == "zone_bytes");
     assert!(rt; YamlWord::NotUtf8.word() == "not_utf8");
-    assert!(rt; YamlWord::Form(Which::TooDeep).word() == "too_deep");
+    assert!(rt; YamlWord::Form(ProfileFault::TooDeep).word() == "too_deep");
 }

@@ -10,39 +10,39 @@ use Rattle.std.specs.Str.Lines.{lines, lines_of_parts}
 use Rattle.std.proofs.Math.ListN.{length-drop}
 use Rattle.std.proofs.lemmas.List.Splits.{length-slice_split}
 use Rattle.std.proofs.lemmas.List.Sums.{count_by-le-length}
-use Rattle.yaml_subset.specs.Tree.{Tree, mapping, sequence, scalar, Entries, no_entries, entry}
-use Rattle.yaml_subset.specs.Tree.{Trees, no_trees, item, trees}
-use Rattle.yaml_subset.specs.Mark.{Mark, start, dash, key, value, header, raw, Child}
-use Rattle.yaml_subset.specs.Profile.{max_depth, documents, has_room, is_next, is_repeated}
-use Rattle.yaml_subset.specs.Profile.{is_shallow, with_child, or_no_text, collection, entries}
-use Rattle.yaml_subset.specs.OpenNodes.{Open, nothing, inline, block, within, node_so_far}
-use Rattle.yaml_subset.specs.OpenNodes.{documents_so_far}
-use Rattle.yaml_subset.specs.OpenNodes.{begun_node, with_raw, next_piece, next_open, open_after}
-use Rattle.yaml_subset.specs.OpenNodes.{open_after_all}
-use Rattle.yaml_subset.specs.OpenNodes.{open_nodes}
-use Rattle.yaml_subset.specs.Block.{Block, is_blank_byte, is_blank, indentation, trimmed_text}
-use Rattle.yaml_subset.specs.Quoted.{Quoted, quoted}
-use Rattle.yaml_subset.specs.Flow.{flow, flow_start, end_fault}
-use Rattle.yaml_subset.specs.FlowList.{IsFlowList, EndsOrGoesOn}
-use Rattle.yaml_subset.specs.FaultOrder.{earlier}
-use Rattle.yaml_subset.specs.Line.{Line, Key, no_marks, one_mark, faulty, is_quote, plain_len}
-use Rattle.yaml_subset.specs.Line.{is_plain_start, is_tail, indicator_fault, ends_word, with_mark}
-use Rattle.yaml_subset.specs.Line.{with_fault, inline_value, quoted_value, plain_value, flow_value}
-use Rattle.yaml_subset.specs.Line.{empty_map, header_value, header_tail, chomping_of, is_sign}
-use Rattle.yaml_subset.specs.Line.{spoiled_value, key_of, behind_colon, entry_or_value, tab_fault}
-use Rattle.yaml_subset.specs.Line.{content}
-use Rattle.yaml_subset.specs.Line.{marker_line, filled_line, line_of, is_marker, has_control}
-use Rattle.yaml_subset.specs.Text.{MarkedLines, StandsFor, line_at, next_line, no_line}
-use Rattle.yaml_subset.specs.Text.{marked_lines, nodes_of}
-use Rattle.yaml_subset.specs.Text.{takes, raw_fault, without_mark}
-use Rattle.yaml_subset.specs.Fault.{IsFault}
-use Rattle.yaml_subset.specs.Size.{keys, entry_keys, item_keys, size}
-use Rattle.yaml_subset.specs.declared.which.Which.{Which}
-use Rattle.yaml_subset.specs.declared.which.Which.TheVariants.{Control, Tab, LeftOut, Colon}
-use Rattle.yaml_subset.specs.declared.style.Style.{Style}
-use Rattle.yaml_subset.proofs.OpenLemmas.{documents_closed}
-use Rattle.yaml_subset.proofs.ReadLemmas.{step, none_stays}
-use Rattle.yaml_subset.proofs.FlowListLemmas.{list-bytes}
+use Rattle.yaml_terms.specs.Tree.{Tree, mapping, sequence, scalar, Entries, no_entries, entry}
+use Rattle.yaml_terms.specs.Tree.{Trees, no_trees, item, trees}
+use Rattle.yaml_terms.specs.Mark.{Mark, start, dash, key, value, header, raw, Child}
+use Rattle.yaml_terms.specs.Profile.{max_depth, documents, has_room, is_next, is_repeated}
+use Rattle.yaml_terms.specs.Profile.{is_shallow, with_child, or_no_text, collection, entries}
+use Rattle.yaml_terms.specs.OpenNodes.{Open, nothing, inline, block, within, node_so_far}
+use Rattle.yaml_terms.specs.OpenNodes.{documents_so_far}
+use Rattle.yaml_terms.specs.OpenNodes.{begun_node, with_raw, next_piece, next_open, open_after}
+use Rattle.yaml_terms.specs.OpenNodes.{open_after_all}
+use Rattle.yaml_terms.specs.OpenNodes.{open_nodes}
+use Rattle.yaml_terms.specs.Block.{Block, is_blank_byte, is_blank, indentation, trimmed_text}
+use Rattle.yaml_terms.specs.Quoted.{Quoted, quoted}
+use Rattle.yaml_terms.specs.Flow.{flow, flow_start, end_fault}
+use Rattle.yaml_terms.specs.FlowList.{IsFlowList, EndsOrGoesOn}
+use Rattle.yaml_terms.specs.FaultOrder.{earlier}
+use Rattle.yaml_terms.specs.Line.{Line, Key, no_marks, one_mark, faulty, is_quote, plain_len}
+use Rattle.yaml_terms.specs.Line.{is_plain_start, is_tail, indicator_fault, ends_word, with_mark}
+use Rattle.yaml_terms.specs.Line.{with_fault, inline_value, quoted_value, plain_value, flow_value}
+use Rattle.yaml_terms.specs.Line.{empty_map, header_value, header_tail, chomping_of, is_sign}
+use Rattle.yaml_terms.specs.Line.{spoiled_value, key_of, behind_colon, entry_or_value, tab_fault}
+use Rattle.yaml_terms.specs.Line.{content}
+use Rattle.yaml_terms.specs.Line.{marker_line, filled_line, line_of, is_marker, has_control}
+use Rattle.yaml_terms.specs.Text.{MarkedLines, StandsFor, line_at, next_line, no_line}
+use Rattle.yaml_terms.specs.Text.{marked_lines, nodes_of}
+use Rattle.yaml_terms.specs.Text.{takes, raw_fault, without_mark}
+use Rattle.yaml_terms.specs.Fault.{IsFault}
+use Rattle.yaml_terms.specs.Size.{keys, entry_keys, item_keys, size}
+use Rattle.yaml_terms.specs.declared.ProfileFault.{ProfileFault}
+use Rattle.yaml_terms.specs.declared.ProfileFault.TheVariants.{Control, Tab, LeftOut, Colon}
+use Rattle.yaml_terms.specs.declared.Style.{Style}
+use Rattle.yaml_terms.proofs.OpenLemmas.{documents_closed}
+use Rattle.yaml_terms.proofs.ReadLemmas.{step, none_stays}
+use Rattle.yaml_lines.proofs.FlowListLemmas.{list-bytes}
 
 -- KEYS OF NODES
 
@@ -348,7 +348,7 @@ flow_brings : (n : ℕ) (cs : List ℕ) → Brings 0 (flow_value n (flow flow_st
 flow_brings n cs = by (earlier (flow flow_start cs).fault (end_fault (flow flow_start cs).part))
     refl
   where
-    by : (o : Option Which) → earlier (flow flow_start cs).fault
+    by : (o : Option ProfileFault) → earlier (flow flow_start cs).fault
         (end_fault (flow flow_start cs).part)
         ≡ o → Brings 0 (flow_value n (flow flow_start cs))
     by None e = rw e (omega (
@@ -424,7 +424,7 @@ marker_brings : (cs : List ℕ) → Brings 1 (marker_line cs)
 marker_brings cs =
     either_line 1 _ (one_mark start None) (faulty LeftOut) (omega arith) (omega arith)
 
-fault_brings : (w : Which) → Brings 1 (faulty w)
+fault_brings : (w : ProfileFault) → Brings 1 (faulty w)
 fault_brings w = omega arith
 
 filled_brings : (line : List ℕ) → Brings 1 (filled_line line)
@@ -440,7 +440,7 @@ filled_brings line =
     (either_line 1 (first == 9) (faulty Tab) behind (fault_brings Tab)
     (content_brings n (drop n line))))
 
-raw_brings : (line : List ℕ) (o : Option Which)
+raw_brings : (line : List ℕ) (o : Option ProfileFault)
     → Brings 1 (record { marks = raw line ∷ []; fault = o })
 raw_brings line o = omega arith
 
@@ -537,7 +537,7 @@ pub few_documents : (text : List ℕ) (xs : List Tree) → StandsFor text xs
     → length xs ≤ length text + 2
 few_documents text xs s = omega (arith, few_keys text xs s, length-size xs)
 
-pub few_lines : (text : List ℕ) (line : ℕ) (which : Which)
+pub few_lines : (text : List ℕ) (line : ℕ) (which : ProfileFault)
     → IsFault (lines (without_mark text)) line which → line ≤ length text + 1
 few_lines text line which f =
     let all : length (lines (without_mark text)) ≡ length f.before + length (f.line ∷ f.after) =

@@ -7,20 +7,20 @@ use Rattle.std.specs.Option.{is_none, is_some}
 use Rattle.std.specs.Str.{IsUtf8}
 use Rattle.std.specs.Str.Lines.{lines}
 use Rattle.slo_limits.specs.declared.TheConstants.{MAX_TEXT_BYTES}
-use Rattle.yaml_subset.specs.Tree.{Tree}
-use Rattle.yaml_subset.specs.Mark.{start}
-use Rattle.yaml_subset.specs.FaultOrder.{earlier, place}
-use Rattle.yaml_subset.specs.Text.{MarkedLines, StandsFor, line_at, parent_after, scalar_after}
-use Rattle.yaml_subset.specs.Text.{marked_lines}
-use Rattle.yaml_subset.specs.Text.{nodes_of, without_mark}
-use Rattle.yaml_subset.specs.OpenNodes.{Open, nothing, within, open_after_all, open_nodes}
-use Rattle.yaml_subset.specs.OpenNodes.{documents_so_far}
-use Rattle.yaml_subset.specs.Fault.{IsFault, misfit, fault_of}
+use Rattle.yaml_terms.specs.Tree.{Tree}
+use Rattle.yaml_terms.specs.Mark.{start}
+use Rattle.yaml_terms.specs.FaultOrder.{earlier, place}
+use Rattle.yaml_terms.specs.Text.{MarkedLines, StandsFor, line_at, parent_after, scalar_after}
+use Rattle.yaml_terms.specs.Text.{marked_lines}
+use Rattle.yaml_terms.specs.Text.{nodes_of, without_mark}
+use Rattle.yaml_terms.specs.OpenNodes.{Open, nothing, within, open_after_all, open_nodes}
+use Rattle.yaml_terms.specs.OpenNodes.{documents_so_far}
+use Rattle.yaml_terms.specs.Fault.{IsFault, misfit, fault_of}
 use Rattle.yaml_subset.specs.Reader.{Reading, IsRead, Follows}
-use Rattle.yaml_subset.specs.declared.which.Which.{Which}
+use Rattle.yaml_terms.specs.declared.ProfileFault.{ProfileFault}
 use Rattle.yaml_subset.proofs.TextLemmas.{misfit_of_add, nothing_read, read_nodes, read_more}
 use Rattle.yaml_subset.proofs.TextLemmas.{fault_here}
-use Rattle.yaml_subset.proofs.ReadLemmas.{first_lines, no_text_at_fault}
+use Rattle.yaml_terms.proofs.ReadLemmas.{first_lines, no_text_at_fault}
 
 -- ONE FAULT
 
@@ -49,7 +49,8 @@ places (a ∷ b) l x (d ∷ c) m y e =
     one_further a d b c l m head (places b l x c m y tail)
 
 -- fewer lines than the first ones that are no text are a text, so no fault stands before another
-not_before : (ls : List (List ℕ)) (j k : ℕ) (v w : Which) (f : IsFault ls j v) (g : IsFault ls k w)
+not_before : (ls : List (List ℕ)) (j k : ℕ) (v w : ProfileFault) (f : IsFault ls j v)
+    (g : IsFault ls k w)
     (rest : List (List ℕ)) →
     g.before ≡ (f.before ++ f.line ∷ []) ++ rest → ⊥
 not_before ls j k v w f g rest e =
@@ -57,7 +58,8 @@ not_before ls j k v w f g rest e =
     let some = g.is_text in
     cc (none, some)
 
-same_fault : (ls : List (List ℕ)) (j k : ℕ) (v w : Which) (f : IsFault ls j v) (g : IsFault ls k w)
+same_fault : (ls : List (List ℕ)) (j k : ℕ) (v w : ProfileFault) (f : IsFault ls j v)
+    (g : IsFault ls k w)
     → f.before ≡ g.before → f.line ≡ g.line → (j ≡ k) × (v ≡ w)
 same_fault ls j k v w f g before line =
     let marks : f.marks ≡ g.marks = cc (f.are_marks, g.are_marks, ap marked_lines before) in
@@ -71,7 +73,8 @@ same_fault ls j k v w f g before line =
     (f.number ∙ ap (λ (b : List (List ℕ)). length b + 1) before ∙ sym g.number, cc fault)
 
 -- lines have one fault at most
-pub one_fault : (ls : List (List ℕ)) (j k : ℕ) (v w : Which) → IsFault ls j v → IsFault ls k w
+pub one_fault : (ls : List (List ℕ)) (j k : ℕ) (v w : ProfileFault) → IsFault ls j v
+    → IsFault ls k w
     → (j ≡ k) × (v ≡ w)
 one_fault ls j k v w f g =
     by (places f.before f.line f.after g.before g.line g.after (sym f.is_lines ∙ g.is_lines))
@@ -81,7 +84,8 @@ one_fault ls j k v w f g =
     by (inr (inl (rest, e))) = absurd (not_before ls k j w v g f rest e)
     by (inr (inr (before, line))) = same_fault ls j k v w f g before line
 
-pub never_both : (ls : List (List ℕ)) (xs : List Tree) (k : ℕ) (w : Which) → nodes_of ls ≡ Some xs
+pub never_both : (ls : List (List ℕ)) (xs : List Tree) (k : ℕ) (w : ProfileFault)
+    → nodes_of ls ≡ Some xs
     → IsFault ls k w → ⊥
 never_both ls xs k w stands fault = let none = no_text_at_fault ls k w fault in cc (none, stands)
 
@@ -99,13 +103,13 @@ first_of_text ls more xs stands = by (nodes_of ls) refl
 -- what lines come to
 abbrev pub Outcome : List (List ℕ) → Type 0
 Outcome ls = ((xs : List Tree) × (nodes_of ls ≡ Some xs))
-    ⊎ ((line : ℕ) × (which : Which) × IsFault ls line which)
+    ⊎ ((line : ℕ) × (which : ProfileFault) × IsFault ls line which)
 
-some_not_none : (b : Bool) (v w : Which) → cond b (Some v) (Some w) ≡ None → ⊥
+some_not_none : (b : Bool) (v w : ProfileFault) → cond b (Some v) (Some w) ≡ None → ⊥
 some_not_none true v w e = cc e
 some_not_none false v w e = cc e
 
-none_earlier : (a b : Option Which) → earlier a b ≡ None → (a ≡ None) × (b ≡ None)
+none_earlier : (a b : Option ProfileFault) → earlier a b ≡ None → (a ≡ None) × (b ≡ None)
 none_earlier None None e = (refl, refl)
 none_earlier None (Some w) e = absurd (let f : ⊥ = cc e in f)
 none_earlier (Some v) None e = absurd (let f : ⊥ = cc e in f)
@@ -123,7 +127,7 @@ follows r line e =
     (misfit (line_at r.scalar line).marks r.nodes) e in
     let added = some_of (open_after_all (line_at r.scalar line).marks r.nodes)
     (sym (misfit_of_add (line_at r.scalar line).marks r.nodes)
-    ∙ ap (λ (o : Option Which). is_none o) none.1) in (
+    ∙ ap (λ (o : Option ProfileFault). is_none o) none.1) in (
       record {
         nodes = added.0;
         parent = parent_after r.parent (line_at r.scalar line).marks;
@@ -138,7 +142,7 @@ behind_read ls [] r h =
 behind_read ls (l ∷ rest) r h = by (fault_of r.scalar r.nodes l) refl
     (λ next f. behind_read (ls ++ l ∷ []) rest next (read_more ls l r h next f))
   where
-    by : (o : Option Which) → fault_of r.scalar r.nodes l ≡ o
+    by : (o : Option ProfileFault) → fault_of r.scalar r.nodes l ≡ o
         → ((next : Reading) → Follows r l next → Outcome ((ls ++ l ∷ []) ++ rest))
         → Outcome (ls ++ l ∷ rest)
     by (Some w) e go = inr (length ls + 1, w, fault_here ls l r h rest w e)
@@ -152,10 +156,10 @@ either ls = behind_read [] ls
 
 pub text_either : (text : List ℕ) → length text ≤ MAX_TEXT_BYTES → IsUtf8 (without_mark text)
     → ((xs : List Tree) × StandsFor text xs)
-    ⊎ ((line : ℕ) × (which : Which) × IsFault (lines (without_mark text)) line which)
+    ⊎ ((line : ℕ) × (which : ProfileFault) × IsFault (lines (without_mark text)) line which)
 text_either text small utf8 = by (either (lines (without_mark text)))
   where
     by : Outcome (lines (without_mark text)) → ((xs : List Tree) × StandsFor text xs)
-        ⊎ ((line : ℕ) × (which : Which) × IsFault (lines (without_mark text)) line which)
+        ⊎ ((line : ℕ) × (which : ProfileFault) × IsFault (lines (without_mark text)) line which)
     by (inl (xs, e)) = inl (xs, record { small = small; utf8 = utf8; nodes = e })
     by (inr f) = inr f

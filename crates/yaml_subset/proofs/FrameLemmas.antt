@@ -3,13 +3,13 @@ use Rattle.std.proofs.Common.{◌≡◌, ℕ, List, [], ◌∷◌, ◌++◌, map
 use Rattle.std.proofs.Common.{false, ◌||◌, arith}
 use Rattle.std.specs.List.{list_any}
 use Rattle.std.specs.Str.{bytes_eq}
-use Rattle.yaml_subset.specs.Tree.{Tree, mapping, sequence, trees, entry}
-use Rattle.yaml_subset.specs.Mark.{Mark, dash, key}
-use Rattle.yaml_subset.specs.Profile.{collection, entries, is_key}
-use Rattle.yaml_subset.specs.NodeView.{node_view, entries_of}
+use Rattle.yaml_terms.specs.Tree.{Tree, mapping, sequence, trees, entry}
+use Rattle.yaml_terms.specs.Mark.{Mark, dash, key}
+use Rattle.yaml_terms.specs.Profile.{collection, entries, is_key}
+use Rattle.yaml_terms.specs.NodeView.{node_view, entries_of}
 use Rattle.yaml_subset.specs.OpenView.{child, entry_child}
-use Rattle.yaml_subset.specs.declared.text.ScalarText.{ScalarText}
-use Rattle.yaml_subset.specs.declared.node.Node.{Node}
+use Rattle.yaml_terms.specs.declared.ScalarText.{ScalarText}
+use Rattle.yaml_terms.specs.declared.Node.{Node}
 
 entries-map : (n : ℕ) (es : List (ScalarText × Node))
     → entries (map (entry_child n) es) ≡ entries_of (map (λ p. (p.0, node_view p.1)) es)

@@ -12,8 +12,8 @@ use Rattle.std.specs.Global.{Vec}
 use Rattle.std.proofs.lemmas.Cmp.{same_from_slice_cmp, nat_list_cmp_total}
 use Rattle.std.proofs.lemmas.List.Folds.{list_any-append}
 use Rattle.yaml_subset.specs.KeysView.{AreKeysOf}
-use Rattle.yaml_subset.specs.declared.text.ScalarText.{ScalarText}
-use Rattle.yaml_subset.specs.declared.node.Node.{Node}
+use Rattle.yaml_terms.specs.declared.ScalarText.{ScalarText}
+use Rattle.yaml_terms.specs.declared.Node.{Node}
 
 abbrev in_order : List ℕ → List ℕ → Ordering
 in_order = slice_cmp nat_cmp

@@ -6,35 +6,37 @@ use Rattle.std.proofs.Common.{sub-one, arith}
 use Rattle.std.proofs.lemmas.Bool.{false≢true}
 use Rattle.std.proofs.lemmas.Bool.Decides.{nat_tests}
 use Rattle.std.specs.Prelude.{nat_lt}
-use Rattle.yaml_subset.specs.declared.which.Which.TheVariants.{Indent, Colon, DuplicateKey, TooDeep}
+use Rattle.yaml_terms.specs.declared.ProfileFault.TheVariants.{Indent, Colon, DuplicateKey, TooDeep}
 use Rattle.std.proofs.Math.Seq.{drop-cons}
 use Rattle.std.proofs.lemmas.List.{drop_all, drop-append-le, take-append-le, take-take, take_all}
 use Rattle.std.proofs.lemmas.List.{take-append-drop}
 use Rattle.std.proofs.lemmas.List.Folds.{list_any-append}
-use Rattle.yaml_subset.specs.Tree.{Tree, mapping, sequence, scalar}
-use Rattle.yaml_subset.specs.Mark.{Mark, start, dash, key, value, header, raw, Child}
-use Rattle.yaml_subset.specs.Profile.{max_depth, is_next, has_room, with_child, is_repeated, is_key}
-use Rattle.yaml_subset.specs.Profile.{is_shallow, collection}
-use Rattle.yaml_subset.specs.Block.{Block, with_line}
-use Rattle.yaml_subset.specs.OpenNodes.{Open, nothing, inline, block, within, with_raw, node_so_far}
-use Rattle.yaml_subset.specs.OpenNodes.{begun_node, next_piece, next_open, open_after}
-use Rattle.yaml_subset.specs.Fault.{repeats, begins, column, same_column, is_at_open, fault_of_mark}
+use Rattle.yaml_terms.specs.Tree.{Tree, mapping, sequence, scalar}
+use Rattle.yaml_terms.specs.Mark.{Mark, start, dash, key, value, header, raw, Child}
+use Rattle.yaml_terms.specs.Profile.{max_depth, is_next, has_room, with_child, is_repeated, is_key}
+use Rattle.yaml_terms.specs.Profile.{is_shallow, collection}
+use Rattle.yaml_terms.specs.Block.{Block, with_line}
+use Rattle.yaml_terms.specs.OpenNodes.{Open, nothing, inline, block, within, with_raw, node_so_far}
+use Rattle.yaml_terms.specs.OpenNodes.{begun_node, next_piece, next_open, open_after}
+use Rattle.yaml_terms.specs.Fault.{repeats, begins, column, same_column, is_at_open, fault_of_mark}
 use Rattle.yaml_subset.specs.OpenView.{head_of, done_of, open_of, next_place, last_head, last_view}
 use Rattle.yaml_subset.specs.OpenView.{stream_of, child, entry_child, any_at, is_nothing}
-use Rattle.yaml_subset.specs.OpenView.{block_view, BeginsAs}
+use Rattle.yaml_lines.specs.BlockView.{block_view}
+use Rattle.yaml_subset.specs.OpenView.{BeginsAs}
 use Rattle.std.proofs.Common.{Result, Ok, Err, length-append}
 use Rattle.std.proofs.lemmas.List.{length-take-le}
 use Rattle.std.specs.Result.{IfOk, IfErr}
-use Rattle.yaml_subset.specs.LineView.{mark_view}
-use Rattle.yaml_subset.specs.StopView.{nodes_open, Refuses}
-use Rattle.yaml_subset.specs.declared.block.Block.{Block as Lines}
-use Rattle.yaml_subset.specs.declared.mark.Mark.{Mark as Rust}
-use Rattle.yaml_subset.specs.declared.mark.Mark.TheVariants as rust
-use Rattle.yaml_subset.specs.declared.node.Node.{Node}
-use Rattle.yaml_subset.specs.declared.which.Which.{Which}
+use Rattle.yaml_lines.specs.LineView.{mark_view}
+use Rattle.yaml_subset.specs.OpenView.{nodes_open}
+use Rattle.yaml_subset.specs.LineErrorView.{Refuses}
+use Rattle.yaml_lines.specs.declared.Block.{Block as Lines}
+use Rattle.yaml_lines.specs.declared.Mark.{Mark as Rust}
+use Rattle.yaml_lines.specs.declared.Mark.TheVariants as rust
+use Rattle.yaml_terms.specs.declared.Node.{Node}
+use Rattle.yaml_terms.specs.declared.ProfileFault.{ProfileFault}
 use Rattle.yaml_subset.specs.declared.open.OpenNodes.{OpenNodes}
-use Rattle.yaml_subset.specs.declared.open.Stop.{Stop}
-use Rattle.yaml_subset.specs.declared.open.Stop.TheVariants as stops
+use Rattle.yaml_subset.specs.declared.open.LineError.{LineError}
+use Rattle.yaml_subset.specs.declared.open.LineError.TheVariants as stops
 use Rattle.yaml_subset.specs.declared.frame.Frame.{Frame}
 use Rattle.yaml_subset.specs.declared.frame.Frame.TheVariants as frames
 use Rattle.yaml_subset.specs.declared.frame.Last.{Last}
@@ -379,10 +381,10 @@ no_raw (rust.Value n x) b = refl
 no_raw (rust.Header n s) b = refl
 
 module _ (docs : List Node) (fs : List Frame) (begins : Option Open) (whole : Option Open)
-    (w : Which) where
+    (w : ProfileFault) where
   pub begin_ok : whole ≡ option_map
       (within start (map (child start) docs)) (option_map (open_of fs) begins)
-      → (r : Result OpenNodes Stop) → IfOk r (λ o. BeginsAs docs fs begins (nodes_open o))
+      → (r : Result OpenNodes LineError) → IfOk r (λ o. BeginsAs docs fs begins (nodes_open o))
       → IfOk r (λ o. whole ≡ Some (nodes_open o))
   begin_ok e (Ok o) h = e ∙ twice begins ∙ h
     where
@@ -393,7 +395,7 @@ module _ (docs : List Node) (fs : List Frame) (begins : Option Open) (whole : Op
   begin_ok e (Err s) h = tt
 
   pub begin_refused : whole ≡ option_map (within start (map (child start) docs))
-      (option_map (open_of fs) begins) → w ≡ TooDeep → (r : Result OpenNodes Stop)
+      (option_map (open_of fs) begins) → w ≡ TooDeep → (r : Result OpenNodes LineError)
       → IfErr r (λ s. Refuses s (λ v. (begins ≡ None) × (v ≡ TooDeep)))
       → IfErr r (λ s. Refuses s (λ v. (whole ≡ None) × (w ≡ v)))
   begin_refused e d (Ok o) h = tt

@@ -15,9 +15,9 @@ use Rattle.std.specs.Str.Lossy.{second_byte_min, second_byte_max, error_len_afte
 use Rattle.std.specs.Str.Lossy.{error_len_after_one, error_len_of_some, utf8_error_len}
 use lib.Pointwise.{bytes_decides}
 use lib.Utf8.{scalar, scalars, encode, encodes, next, scalar_cases, low_scalar}
-use Rattle.yaml_subset.specs.BadPlace.{CanGoOn, IsBadPlace}
-use Rattle.yaml_subset.specs.Text.{without_mark}
-use Rattle.yaml_subset.proofs.StandingBytes.{pick, seam}
+use Rattle.yaml_terms.specs.BadPlace.{CanGoOn, IsBadPlace}
+use Rattle.yaml_terms.specs.Text.{without_mark}
+use Rattle.yaml_terms.proofs.Utf8Lemmas.{pick, seam}
 
 -- a byte that may follow the second one of a character
 abbrev pub Follows : ℕ → Type 0

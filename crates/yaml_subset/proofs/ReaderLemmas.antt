@@ -4,13 +4,13 @@ use Rattle.std.proofs.Common.{◌∷◌, Option, Some, None, length, drop, get_o
 use Rattle.std.proofs.Common.{◌∙◌, add-one, arith}
 use Rattle.std.proofs.Math.Seq.{drop-cons}
 use Rattle.std.proofs.lemmas.List.{take-append-drop, drop_all, map_push}
-use Rattle.yaml_subset.specs.Mark as marks
-use Rattle.yaml_subset.specs.OpenNodes.{Open, open_after, open_after_all}
-use Rattle.yaml_subset.specs.Fault.{misfit, fault_of_mark}
+use Rattle.yaml_terms.specs.Mark as marks
+use Rattle.yaml_terms.specs.OpenNodes.{Open, open_after, open_after_all}
+use Rattle.yaml_terms.specs.Fault.{misfit, fault_of_mark}
 use Rattle.yaml_subset.specs.Reader.{header_folds}
-use Rattle.yaml_subset.specs.Text.{parent_at, parent_after, header_scalar}
-use Rattle.yaml_subset.specs.LineView.{mark_view}
-use Rattle.yaml_subset.specs.declared.mark.Mark.{Mark}
+use Rattle.yaml_terms.specs.Text.{parent_at, parent_after, header_scalar}
+use Rattle.yaml_lines.specs.LineView.{mark_view}
+use Rattle.yaml_lines.specs.declared.Mark.{Mark}
 
 pub parent_after_more : (p : Option ℕ) (ms : List Mark) (at : ℕ) (d : Mark) → at < length ms
     → parent_after p (map mark_view (drop at ms))

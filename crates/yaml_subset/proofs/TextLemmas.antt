@@ -7,18 +7,18 @@ use Rattle.std.proofs.lemmas.List.Sums.{fold-append}
 use Rattle.std.proofs.lemmas.List.{take-append-drop, length-take-le, length-map}
 use denote.Ref.{Bor}
 use Rattle.std.proofs.Math.Seq.{take-suc, drop-cons}
-use Rattle.yaml_subset.specs.Mark.{Mark, start}
-use Rattle.yaml_subset.specs.FaultOrder.{earlier}
-use Rattle.yaml_subset.specs.Profile.{documents}
-use Rattle.yaml_subset.specs.Text.{MarkedLines, line_at, next_line, no_line, marked_lines, nodes_of}
-use Rattle.yaml_subset.specs.OpenNodes.{Open, nothing, within, open_nodes, documents_so_far}
-use Rattle.yaml_subset.specs.OpenNodes.{open_after, open_after_all}
-use Rattle.yaml_subset.specs.Fault.{fault_of_mark, misfit, fault_of, IsFault}
+use Rattle.yaml_terms.specs.Mark.{Mark, start}
+use Rattle.yaml_terms.specs.FaultOrder.{earlier}
+use Rattle.yaml_terms.specs.Profile.{documents}
+use Rattle.yaml_terms.specs.Text.{MarkedLines, line_at, next_line, no_line, marked_lines, nodes_of}
+use Rattle.yaml_terms.specs.OpenNodes.{Open, nothing, within, open_nodes, documents_so_far}
+use Rattle.yaml_terms.specs.OpenNodes.{open_after, open_after_all}
+use Rattle.yaml_terms.specs.Fault.{fault_of_mark, misfit, fault_of, IsFault}
 use Rattle.yaml_subset.specs.Reader.{IsRead, Reading, Follows}
 use Rattle.std.proofs.lemmas.Bool.{false≢true}
-use Rattle.yaml_subset.specs.declared.scalar.Scalar.{Scalar}
-use Rattle.yaml_subset.specs.declared.which.Which.{Which}
-use Rattle.yaml_subset.proofs.OpenLemmas.{open_nodes-append, documents_closed}
+use Rattle.yaml_terms.specs.declared.Scalar.{Scalar}
+use Rattle.yaml_terms.specs.declared.ProfileFault.{ProfileFault}
+use Rattle.yaml_terms.proofs.OpenLemmas.{open_nodes-append, documents_closed}
 
 -- marks that all have a place have no fault, and else the first that has none has one
 pub misfit_of_add : (ms : List Mark) (o : Open)
@@ -81,15 +81,17 @@ module _ (ls : List (List ℕ)) (line : List ℕ) (r : Reading) (h : IsRead ls r
           → ◌≡◌ {A = Option ℕ × Option Scalar} (a, c) (b, d)
       pair_same a b c d e g = rw (e, g) refl
 
-  no_place : (w : Which) → fault_of r.scalar r.nodes line ≡ Some w → (f : Option Which)
+  no_place : (w : ProfileFault) → fault_of r.scalar r.nodes line ≡ Some w
+      → (f : Option ProfileFault)
       → (line_at r.scalar line).fault ≡ f → nodes_of (ls ++ (line ∷ [])) ≡ None
   unfolding here
   no_place w e None g =
-      let misses : misfit (line_at r.scalar line).marks r.nodes ≡ Some w = ap (λ (x : Option Which).
+      let misses : misfit (line_at r.scalar line).marks r.nodes ≡ Some w =
+      ap (λ (x : Option ProfileFault).
       earlier x (misfit (line_at r.scalar line).marks r.nodes)) (sym g) ∙ e in
       let gone : is_some (open_after_all (line_at r.scalar line).marks r.nodes) ≡ false =
       sym (misfit_of_add (line_at r.scalar line).marks r.nodes)
-      ∙ ap (λ (o : Option Which). is_none o) misses in
+      ∙ ap (λ (o : Option ProfileFault). is_none o) misses in
       ap (option_and_then (λ (s : MarkedLines). documents s.marks)) marked_here ∙ rw
       g (documents_closed (h.marks ++ (line_at r.scalar line).marks) ∙ ap
       (option_map documents_so_far)
@@ -102,7 +104,8 @@ module _ (ls : List (List ℕ)) (line : List ℕ) (r : Reading) (h : IsRead ls r
       ap (option_and_then (λ (s : MarkedLines). documents s.marks)) marked_here ∙ rw g refl
 
   -- one more line that has a fault
-  pub fault_here : (after : List (List ℕ)) (w : Which) → fault_of r.scalar r.nodes line ≡ Some w
+  pub fault_here : (after : List (List ℕ)) (w : ProfileFault)
+      → fault_of r.scalar r.nodes line ≡ Some w
       → IsFault (ls ++ (line ∷ after)) (length ls + 1) w
   fault_here after w e = record {
     before = ls;

@@ -6,8 +6,8 @@ use Rattle.std.specs.Ordering.{nat_cmp}
 use Rattle.std.specs.Cmp.Lexicographic.{slice_cmp}
 use Rattle.std.specs.BTreeSet.{BTreeSet, contains_by}
 use Rattle.std.specs.Global.{Vec}
-use Rattle.yaml_subset.specs.declared.text.ScalarText.{ScalarText}
-use Rattle.yaml_subset.specs.declared.node.Node.{Node}
+use Rattle.yaml_terms.specs.declared.ScalarText.{ScalarText}
+use Rattle.yaml_terms.specs.declared.Node.{Node}
 
 -- a set has a text exactly where one of the entries has it as its key
 abbrev pub AreKeysOf : List (ScalarText × Node) → BTreeSet (Vec ℕ) → Type 0

@@ -1,23 +1,20 @@
 -- What contracts see of the open nodes that the reader keeps: its frames, the outermost first.
 use Rattle.std.specs.Prelude.{ℕ, suc, Bool, ◌||◌, true, false, ◌≡◌, List, [], ◌∷◌, ◌++◌, Option}
 use Rattle.std.specs.Prelude.{Some, cond, map, option_map}
-use Rattle.yaml_subset.specs.Tree.{Tree}
-use Rattle.yaml_subset.specs.Mark.{Mark, start, dash, key, Child}
-use Rattle.yaml_subset.specs.Profile.{is_next, with_child, collection}
-use Rattle.yaml_subset.specs.Block.{Block}
-use Rattle.yaml_subset.specs.OpenNodes.{Open, nothing, inline, block, within}
-use Rattle.yaml_subset.specs.Fault.{column, same_column}
-use Rattle.yaml_subset.specs.NodeView.{node_view}
-use Rattle.yaml_subset.specs.declared.text.ScalarText.{ScalarText}
-use Rattle.yaml_subset.specs.declared.node.Node.{Node}
-use Rattle.yaml_subset.specs.declared.block.Block.{Block as Lines}
+use Rattle.yaml_terms.specs.Tree.{Tree}
+use Rattle.yaml_terms.specs.Mark.{Mark, start, dash, key, Child}
+use Rattle.yaml_terms.specs.Profile.{is_next, with_child, collection}
+use Rattle.yaml_lines.specs.BlockView.{block_view}
+use Rattle.yaml_terms.specs.OpenNodes.{Open, nothing, inline, block, within}
+use Rattle.yaml_terms.specs.Fault.{column, same_column}
+use Rattle.yaml_terms.specs.NodeView.{node_view}
+use Rattle.yaml_terms.specs.declared.ScalarText.{ScalarText}
+use Rattle.yaml_terms.specs.declared.Node.{Node}
 use Rattle.yaml_subset.specs.declared.frame.Frame.{Frame}
 use Rattle.yaml_subset.specs.declared.frame.Frame.TheVariants as frames
 use Rattle.yaml_subset.specs.declared.frame.Last.{Last}
 use Rattle.yaml_subset.specs.declared.frame.Last.TheVariants as lasts
-
-abbrev pub block_view : Lines → Block
-block_view b = record { style = b.style; indent = b.indent; text = b.text.items; blanks = b.blanks }
+use Rattle.yaml_subset.specs.declared.open.OpenNodes.{OpenNodes}
 
 abbrev pub last_view : Last → Open
 last_view lasts.Nothing = nothing
@@ -59,6 +56,10 @@ last_head h (f ∷ fs) = last_head (head_of f) fs
 -- what the reader keeps as a whole: the finished documents, and what stands in the one that is open
 abbrev pub stream_of : List Node → List Frame → Open → Open
 stream_of docs fs o = within start (map (child start) docs) (open_of fs o)
+
+-- the open nodes of the reader
+abbrev pub nodes_open : OpenNodes → Open
+nodes_open o = stream_of o.documents.items o.frames.items (last_view o.last)
 
 -- one frame fewer: the innermost is closed, with this value within it
 pub record ClosesOne (before : List Frame) (value : Option Tree) (after : List Frame)

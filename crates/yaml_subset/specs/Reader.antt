@@ -1,10 +1,10 @@
 -- The reading of a text, line by line: what the reader keeps after some lines, and that
 -- it is theirs.
 use Rattle.std.specs.Prelude.{◌≡◌, ℕ, Bool, List, Option, Some, None, option_map}
-use Rattle.yaml_subset.specs.Mark.{Mark, header}
-use Rattle.yaml_subset.specs.Text.{marked_lines, line_at, parent_after, scalar_after}
-use Rattle.yaml_subset.specs.declared.scalar.Scalar.{Scalar}
-use Rattle.yaml_subset.specs.OpenNodes.{Open, open_nodes, open_after_all}
+use Rattle.yaml_terms.specs.Mark.{Mark, header}
+use Rattle.yaml_terms.specs.Text.{marked_lines, line_at, parent_after, scalar_after}
+use Rattle.yaml_terms.specs.declared.Scalar.{Scalar}
+use Rattle.yaml_terms.specs.OpenNodes.{Open, open_nodes, open_after_all}
 
 -- what the reader keeps: the open nodes, the column of the last mark where it is a key or dash, the
 -- block scalar that may go on

@@ -2,11 +2,10 @@
 
 ghost use Rattle.std.specs.Prelude.{◌≡◌, IfOk};
 
-use crate::node::{Node, Pairs};
-use crate::text::ScalarText;
 use std::alloc::{AllocError, Global};
 use std::collections::BTreeSet;
 use std::marker::Model;
+use yaml_terms::{Node, Pairs, ScalarText};
 
 /// The entries so far, with a copy of their keys in order: a map of many keys is read in little
 /// more than linear time, whatever its keys are.
@@ -18,9 +17,9 @@ pub(crate) struct OpenEntries {
 
 impl Model for OpenEntries {
     ghost use Rattle.std.specs.Prelude.{List, ℕ};
-    ghost use Rattle.yaml_subset.specs.declared.text.ScalarText.{ScalarText};
-    ghost use Rattle.yaml_subset.specs.declared.node.Node.{Node};
-    ghost use Rattle.yaml_subset.specs.contracts.node.Node as node;
+    ghost use Rattle.yaml_terms.specs.declared.ScalarText.{ScalarText};
+    ghost use Rattle.yaml_terms.specs.declared.Node.{Node};
+    ghost use Rattle.yaml_terms.specs.contracts.node.Node as node;
     ghost use Rattle.std.specs.Coded.{codes};
     ghost use Rattle.yaml_subset.specs.KeysView.{AreKeysOf};
 

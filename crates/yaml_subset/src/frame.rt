@@ -2,25 +2,23 @@
 
 ghost use Rattle.std.specs.Prelude.{◌≡◌, ℕ, ◌||◌, true, Option, Some, None, IfOk, ◌<◌, map, length};
 ghost use Rattle.std.specs.Prelude.{option_map};
-ghost use Rattle.yaml_subset.specs.Tree.{Tree};
+ghost use Rattle.yaml_terms.specs.Tree.{Tree};
 ghost use Rattle.std.specs.Str.{bytes_eq};
-ghost use Rattle.yaml_subset.specs.Mark as marks;
-ghost use Rattle.yaml_subset.specs.Fault.{column, same_column};
-ghost use Rattle.yaml_subset.specs.Profile.{is_next, has_room as has_room_lem, with_child};
-ghost use Rattle.yaml_subset.specs.Profile.{is_repeated as is_repeated_lem, collection};
-ghost use Rattle.yaml_subset.specs.Profile.{is_deeper as is_deeper_lem, no_text as no_text_lem};
-ghost use Rattle.yaml_subset.specs.Profile.{or_no_text as or_no_text_lem};
-ghost use Rattle.yaml_subset.specs.OpenNodes.{node_so_far};
-ghost use Rattle.yaml_subset.specs.NodeView.{node_view};
-ghost use Rattle.yaml_subset.specs.LineView.{mark_view};
+ghost use Rattle.yaml_terms.specs.Mark as marks;
+ghost use Rattle.yaml_terms.specs.Fault.{column, same_column};
+ghost use Rattle.yaml_terms.specs.Profile.{is_next, has_room as has_room_def, with_child};
+ghost use Rattle.yaml_terms.specs.Profile.{is_repeated as is_repeated_def, collection};
+ghost use Rattle.yaml_terms.specs.Profile.{is_deeper as is_deeper_def, no_text as no_text_def};
+ghost use Rattle.yaml_terms.specs.Profile.{or_no_text as or_no_text_def};
+ghost use Rattle.yaml_terms.specs.OpenNodes.{node_so_far};
+ghost use Rattle.yaml_terms.specs.NodeView.{node_view};
+ghost use Rattle.yaml_lines.specs.LineView.{mark_view};
 ghost use Rattle.yaml_subset.specs.OpenView.{head_of, done_of, last_view, child, entry_child};
 
-use crate::block::Block;
 use crate::entries::OpenEntries;
-use crate::mark::Mark;
-use crate::node::{Node, Nodes};
-use crate::text::ScalarText;
 use std::alloc::{AllocError, Global};
+use yaml_lines::{Block, Mark};
+use yaml_terms::{Node, Nodes, ScalarText};
 
 /// An open map or list at its column, with its finished children; a map also with the key whose
 /// value is open.
@@ -40,7 +38,7 @@ pub(crate) enum Last {
 
 /// The node that is left out.
 fn no_text(alloc: Global) -> Node
-    ensures { node_view result ≡ no_text_lem }
+    ensures { node_view result ≡ no_text_def }
 {
     Node::Scalar {
         text: ScalarText::of(Vec::new(alloc)),
@@ -49,7 +47,7 @@ fn no_text(alloc: Global) -> Node
 }
 
 fn or_no_text(alloc: Global, value: Option<Node>) -> Node
-    ensures { node_view result ≡ or_no_text_lem (option_map node_view value) }
+    ensures { node_view result ≡ or_no_text_def (option_map node_view value) }
 {
     match value {
         Some(node) => node,
@@ -85,7 +83,7 @@ fn same_bytes(one: &[u8], other: &[u8]) -> bool
 
 /// Whether a map at a column has a key among its entries, or open.
 fn is_known(column: usize, entries: &OpenEntries, key: &[u8], next: &[u8]) -> bool
-    ensures { result ≡ is_repeated_lem (marks.key column next.now)
+    ensures { result ≡ is_repeated_def (marks.key column next.now)
         (with_child (map (entry_child column) entries.now) (marks.key column key.now) None) }
 {
     let finished = entries.has_key(next);
@@ -97,31 +95,6 @@ fn either(one: bool, other: bool) -> bool
     ensures { result ≡ (one || other) }
 {
     one || other
-}
-
-impl Mark {
-    /// Whether it begins a document.
-    pub(crate) fn is_start(&self) -> bool
-        ensures { result ≡ is_next marks.start (mark_view self.now) }
-    {
-        match self {
-            Mark::Start => true,
-            _ => false,
-        }
-    }
-
-    /// The column at which it stands.
-    pub(crate) fn column(&self) -> Option<usize>
-        ensures { result ≡ column (mark_view self.now) }
-    {
-        match self {
-            Mark::Start => None,
-            Mark::Dash(column) => Some(*column),
-            Mark::Key(column, _) => Some(*column),
-            Mark::Value(column, _) => Some(*column),
-            Mark::Header(column, _) => Some(*column),
-        }
-    }
 }
 
 impl Frame {
@@ -143,7 +116,7 @@ impl Frame {
 
     /// Whether a node that isn't a list may begin at a column behind its last mark.
     fn is_deeper(&self, at: usize) -> bool
-        ensures { result ≡ is_deeper_lem (head_of self.now) at }
+        ensures { result ≡ is_deeper_def (head_of self.now) at }
     {
         match self {
             Frame::Map(column, _, _) => *column < at,
@@ -152,7 +125,7 @@ impl Frame {
     }
 
     fn has_room_for_list(&self, at: usize) -> bool
-        ensures { result ≡ has_room_lem (head_of self.now) (marks.dash at) }
+        ensures { result ≡ has_room_def (head_of self.now) (marks.dash at) }
     {
         match self {
             Frame::Map(column, _, _) => *column <= at,
@@ -162,7 +135,7 @@ impl Frame {
 
     /// Whether a node that begins with a mark has room behind its last mark.
     pub(crate) fn has_room(&self, mark: &Mark) -> bool
-        ensures { result ≡ has_room_lem (head_of self.now) (mark_view mark.now) }
+        ensures { result ≡ has_room_def (head_of self.now) (mark_view mark.now) }
     {
         match mark {
             Mark::Start => false,
@@ -189,7 +162,7 @@ impl Frame {
     /// Whether a mark is a key that it has already, finished or open.
     pub(crate) fn is_repeated_by(&self, mark: &Mark) -> bool
         requires { is_next (head_of self.now) (mark_view mark.now) ≡ true }
-        ensures { result ≡ is_repeated_lem (mark_view mark.now)
+        ensures { result ≡ is_repeated_def (mark_view mark.now)
             (with_child (done_of self.now) (head_of self.now) None) }
     {
         match self {

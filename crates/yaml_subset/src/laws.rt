@@ -1,37 +1,46 @@
-//! Laws of texts and nodes.
+//! Laws of texts and their faults.
 
-ghost use Rattle.std.specs.Prelude.{◌≡◌, ◌≤◌, ℕ, false, List, [], ◌∷◌, length};
-ghost use Rattle.std.specs.List.{AllByRecursion};
+ghost use Rattle.std.specs.Prelude.{◌≡◌, ◌≤◌, ◌+◌, ◌++◌, ℕ, List, Some, ◌⊎◌, length};
+ghost use Rattle.std.specs.Str.{IsUtf8};
+ghost use Rattle.std.specs.Str.Lines.{lines};
 ghost use Rattle.slo_limits.specs.declared.TheConstants.{MAX_TEXT_BYTES};
-ghost use Rattle.yaml_subset.specs.Tree.{Tree};
-ghost use Rattle.yaml_subset.specs.Profile.{max_depth};
-ghost use Rattle.yaml_subset.specs.Text.{StandsFor};
-ghost use Rattle.yaml_subset.specs.Spelling.{Spelling, meant, writing, is_word};
-ghost use Rattle.yaml_subset.specs.BadPlace.{IsBadPlace};
-ghost use Rattle.yaml_subset.specs.Fits.{Fits, IsWritable};
-ghost use Rattle.yaml_subset.specs.Standing.{IsIn, StandsIn};
+ghost use Rattle.yaml_terms.specs.Tree.{Tree};
+ghost use Rattle.yaml_terms.specs.Text.{StandsFor, nodes_of, without_mark};
+ghost use Rattle.yaml_terms.specs.BadPlace.{IsBadPlace};
+ghost use Rattle.yaml_terms.specs.Fault.{IsFault};
+ghost use Rattle.yaml_terms.specs.Size.{size};
+ghost use Rattle.yaml_terms.specs.declared.ProfileFault.{ProfileFault};
 
-/// Every node that stands in a text, at any depth, can be written. So its texts are UTF-8, its
-/// plain scalars are of the plain form, its other texts have no control characters but tabs and
-/// line feeds, none of its maps has a key twice, and its maps and lists nest at most 32 deep.
-pub fn standing_nodes_are_writable()
-    ensures documents { (text : List ℕ) (xs : List Tree) → StandsFor text xs
-        → AllByRecursion IsWritable xs }
-    ensures inside { (x y : Tree) → IsIn x y → IsWritable y → IsWritable x }
-    ensures at_any_depth { (text : List ℕ) (x : Tree) → StandsIn text x → IsWritable x }
+/// Lines stand for nodes or have a fault, and never both. They have one fault alone: the least
+/// number of lines that are no text, and one of the table's faults. The first lines of a text are a
+/// text.
+pub fn lines_are_a_text_or_have_one_fault()
+    ensures either { (ls : List (List ℕ)) → ((xs : List Tree) × (nodes_of ls ≡ Some xs))
+        ⊎ ((line : ℕ) × (which : ProfileFault) × IsFault ls line which) }
+    ensures never_both { (ls : List (List ℕ)) (xs : List Tree) (line : ℕ) (which : ProfileFault)
+        → nodes_of ls ≡ Some xs → IsFault ls line which → ⊥ }
+    ensures one { (ls : List (List ℕ)) (line other : ℕ) (v w : ProfileFault)
+        → IsFault ls line v → IsFault ls other w → (line ≡ other) × (v ≡ w) }
+    ensures first { (ls more : List (List ℕ)) (xs : List Tree) → nodes_of (ls ++ more) ≡ Some xs
+        → (ys : List Tree) × (nodes_of ls ≡ Some ys) }
 {}
 
-/// What is written reads back: the text of a value that can be written stands for its node, where
-/// it isn't a plain scalar alone and has at most `MAX_TEXT_BYTES` bytes. A text stands for one list
-/// of
-/// nodes at most; and values with one text are one node, whatever its size.
-pub fn written_text_reads_back()
-    ensures stands { (s : Spelling) → Fits max_depth s → is_word s ≡ false
-        → length (writing 0 s) ≤ MAX_TEXT_BYTES → StandsFor (writing 0 s) (meant s ∷ []) }
-    ensures alone { (text : List ℕ) (xs ys : List Tree) → StandsFor text xs → StandsFor text ys
-        → xs ≡ ys }
-    ensures told_apart { (s t : Spelling) → Fits max_depth s → Fits max_depth t → is_word s ≡ false
-        → is_word t ≡ false → writing 0 s ≡ writing 0 t → meant s ≡ meant t }
+/// A text that is small enough and UTF-8 stands for nodes, or one of its lines is at fault.
+pub fn a_text_has_nodes_or_a_fault()
+    ensures { (text : List ℕ) → length text ≤ MAX_TEXT_BYTES → IsUtf8 (without_mark text)
+        → ((xs : List Tree) × StandsFor text xs)
+        ⊎ ((line : ℕ) × (which : ProfileFault) × IsFault (lines (without_mark text)) line which) }
+{}
+
+/// The line at fault and the number of documents lie within the number of bytes of a text, but for
+/// one or two; so do the documents and the keys in them together, at any depth.
+pub fn lines_and_documents_are_few()
+    ensures lines { (text : List ℕ) (line : ℕ) (which : ProfileFault)
+        → IsFault (lines (without_mark text)) line which → line ≤ length text + 1 }
+    ensures documents { (text : List ℕ) (xs : List Tree) → StandsFor text xs
+        → length xs ≤ length text + 2 }
+    ensures keys { (text : List ℕ) (xs : List Tree) → StandsFor text xs
+        → size xs ≤ length text + 2 }
 {}
 
 /// Bytes have one place at most that no UTF-8 text can have: so `YamlFault::NotUtf8` names the only

@@ -4,58 +4,53 @@ ghost use Rattle.std.specs.Prelude.{◌≡◌, ℕ, cond, [], true, false, ◌+�
 ghost use Rattle.std.specs.Prelude.{Option, Some, None, IfOk, IfErr, OnOk, List, is_none, length};
 ghost use Rattle.std.specs.Prelude.{take, drop, vec_len};
 ghost use Rattle.std.specs.Prelude.{option_map, map};
-ghost use Rattle.yaml_subset.specs.Mark as marks;
-ghost use Rattle.yaml_subset.specs.Profile.{max_depth, is_next, has_room as has_room_lem};
-ghost use Rattle.yaml_subset.specs.Profile.{with_child};
-ghost use Rattle.yaml_subset.specs.OpenNodes.{begun_node, node_so_far, open_after};
-ghost use Rattle.yaml_subset.specs.OpenNodes.{documents_so_far, nothing, within};
-ghost use Rattle.yaml_subset.specs.Fault.{fault_of_mark, column as column_lem};
-ghost use Rattle.yaml_subset.specs.NodeView.{node_view, nodes_view};
-ghost use Rattle.yaml_subset.specs.LineView.{mark_view};
+ghost use Rattle.yaml_terms.specs.Mark as marks;
+ghost use Rattle.yaml_terms.specs.Profile.{max_depth, is_next, has_room as has_room_def};
+ghost use Rattle.yaml_terms.specs.Profile.{with_child};
+ghost use Rattle.yaml_terms.specs.OpenNodes.{begun_node, node_so_far, open_after};
+ghost use Rattle.yaml_terms.specs.OpenNodes.{documents_so_far, nothing, within};
+ghost use Rattle.yaml_terms.specs.Fault.{fault_of_mark, column as column_def};
+ghost use Rattle.yaml_terms.specs.NodeView.{node_view, nodes_view};
+ghost use Rattle.yaml_lines.specs.LineView.{mark_view};
 ghost use Rattle.yaml_subset.specs.OpenView.{head_of, done_of, open_of, last_view, stream_of};
-ghost use Rattle.yaml_subset.specs.OpenView.{next_place as next_place_lem, last_head};
-ghost use Rattle.yaml_subset.specs.OpenView.{any_at as any_at_lem, is_nothing as is_nothing_lem};
+ghost use Rattle.yaml_subset.specs.OpenView.{next_place as next_place_def, last_head};
+ghost use Rattle.yaml_subset.specs.OpenView.{any_at as any_at_def, is_nothing as is_nothing_def};
 ghost use Rattle.yaml_subset.specs.OpenView.{ClosesOne, BeginsAs, child};
-ghost use Rattle.yaml_subset.specs.StopView.{Refuses, nodes_open};
+ghost use Rattle.yaml_subset.specs.LineErrorView.{Refuses};
+ghost use Rattle.yaml_subset.specs.OpenView.{nodes_open};
 
-use crate::block::Block;
 use crate::entries::OpenEntries;
 use crate::frame::{Frame, Last, more_documents};
-use crate::mark::Mark;
-use crate::node::{Node, Nodes, is_scalar};
-use crate::which::Which;
 use std::alloc::{AllocError, AllocFailed, Global};
-
-/// How deep maps and lists are nested at most, the root's node being 1: what OpenSLO's objects
-/// need, with room.
-pub(crate) const MAX_DEPTH: usize = 32;
+use yaml_lines::{Block, Mark};
+use yaml_terms::{MAX_DEPTH, Node, Nodes, ProfileFault, is_scalar};
 
 /// Why a mark wasn't taken.
 #[derive(Drop)]
-pub(crate) enum Stop {
-    Fault(Which),
+pub(crate) enum LineError {
+    Fault(ProfileFault),
     NoMemory,
 }
 
-impl From<AllocError> for Stop {
+impl From<AllocError> for LineError {
     ghost use Rattle.std.specs.Prelude.{◌≡◌};
-    ghost use Rattle.yaml_subset.specs.declared.open.Stop.TheVariants.{NoMemory};
+    ghost use Rattle.yaml_subset.specs.declared.open.LineError.TheVariants.{NoMemory};
 
     ghost from_gives = { λ _ s. s ≡ NoMemory };
 
-    fn from(_error: AllocError) -> Stop {
-        Stop::NoMemory
+    fn from(_error: AllocError) -> LineError {
+        LineError::NoMemory
     }
 }
 
-impl<T: Drop> From<AllocFailed<T>> for Stop {
+impl<T: Drop> From<AllocFailed<T>> for LineError {
     ghost use Rattle.std.specs.Prelude.{◌≡◌};
-    ghost use Rattle.yaml_subset.specs.declared.open.Stop.TheVariants.{NoMemory};
+    ghost use Rattle.yaml_subset.specs.declared.open.LineError.TheVariants.{NoMemory};
 
     ghost from_gives = { λ _ s. s ≡ NoMemory };
 
-    fn from(_error: AllocFailed<T>) -> Stop {
-        Stop::NoMemory
+    fn from(_error: AllocFailed<T>) -> LineError {
+        LineError::NoMemory
     }
 }
 
@@ -70,7 +65,7 @@ pub(crate) struct OpenNodes {
 
 /// The place of the outermost frame whose next entry or item a mark begins, or their number.
 fn next_place(frames: &[Frame], mark: &Mark) -> usize
-    ensures value { result ≡ next_place_lem (mark_view mark.now) frames.now }
+    ensures value { result ≡ next_place_def (mark_view mark.now) frames.now }
     ensures within { result ≤ length frames.now }
 {
     for at in 0..frames.len() {
@@ -122,7 +117,7 @@ fn close_above(
 
 /// Whether nothing stands yet in the innermost map or list.
 fn is_nothing(last: &Last) -> bool
-    ensures { result ≡ is_nothing_lem last.now }
+    ensures { result ≡ is_nothing_def last.now }
 {
     match last {
         Last::Nothing => true,
@@ -134,7 +129,7 @@ fn is_nothing(last: &Last) -> bool
 /// list.
 #[tactic(auto, using(crate::proofs::OpenViewLemmas::last_head_at))]
 fn has_room(frames: &[Frame], mark: &Mark) -> bool
-    ensures { result ≡ has_room_lem (last_head marks.start frames.now) (mark_view mark.now) }
+    ensures { result ≡ has_room_def (last_head marks.start frames.now) (mark_view mark.now) }
 {
     if frames.is_empty() {
         !mark.is_start()
@@ -146,7 +141,7 @@ fn has_room(frames: &[Frame], mark: &Mark) -> bool
 
 /// Whether an open map or list stands at a column, if it is one.
 fn any_at(frames: &[Frame], at: Option<usize>) -> bool
-    ensures { result ≡ any_at_lem at frames.now }
+    ensures { result ≡ any_at_def at frames.now }
 {
     for index in 0..frames.len() {
         let frame = &frames[index];
@@ -159,8 +154,8 @@ fn any_at(frames: &[Frame], at: Option<usize>) -> bool
 
 /// Whether a node that begins with a mark may begin within the innermost map or list.
 fn may_begin(frames: &[Frame], last: &Last, mark: &Mark) -> bool
-    ensures { result ≡ cond (is_nothing_lem last.now)
-        (has_room_lem (last_head marks.start frames.now) (mark_view mark.now)) false }
+    ensures { result ≡ cond (is_nothing_def last.now)
+        (has_room_def (last_head marks.start frames.now) (mark_view mark.now)) false }
 {
     if is_nothing(last) {
         has_room(frames, mark)
@@ -170,17 +165,19 @@ fn may_begin(frames: &[Frame], last: &Last, mark: &Mark) -> bool
 }
 
 /// The fault of a mark that goes on in no open map or list.
-fn fault_of(frames: &[Frame], last: &Last, mark: &Mark) -> Which
-    ensures { result ≡ cond (cond (is_nothing_lem last.now)
-        (has_room_lem (last_head marks.start frames.now) (mark_view mark.now)) false) Which.TooDeep
-        (cond (any_at_lem (column_lem (mark_view mark.now)) frames.now) Which.Colon Which.Indent) }
+fn fault_of(frames: &[Frame], last: &Last, mark: &Mark) -> ProfileFault
+    ensures { result ≡ cond (cond (is_nothing_def last.now)
+        (has_room_def (last_head marks.start frames.now)
+        (mark_view mark.now)) false) ProfileFault.TooDeep
+        (cond (any_at_def
+        (column_def (mark_view mark.now)) frames.now) ProfileFault.Colon ProfileFault.Indent) }
 {
     if may_begin(frames, last, mark) {
-        Which::TooDeep
+        ProfileFault::TooDeep
     } else if any_at(frames, mark.column()) {
-        Which::Colon
+        ProfileFault::Colon
     } else {
-        Which::Indent
+        ProfileFault::Indent
     }
 }
 
@@ -214,20 +211,25 @@ fn is_too_deep(frames: &[Frame], mark: &Mark) -> bool
 }
 
 /// A node begins with a mark, within the innermost frame, where nothing stands there.
-fn begin(alloc: Global, documents: Nodes, frames: Vec<Frame>, mark: Mark) -> Result<OpenNodes, Stop>
+fn begin(
+    alloc: Global,
+    documents: Nodes,
+    frames: Vec<Frame>,
+    mark: Mark,
+) -> Result<OpenNodes, LineError>
     ensures ok { IfOk result (λ o. BeginsAs documents.items frames.items
         (begun_node (max_depth - length frames.items) (mark_view mark)) (nodes_open o)) }
     ensures refused { IfErr result (λ s. Refuses s
         (λ w. (begun_node (max_depth - length frames.items) (mark_view mark) ≡ None)
-        × (w ≡ Which.TooDeep))) }
+        × (w ≡ ProfileFault.TooDeep))) }
 {
     if is_too_deep(&frames, &mark) {
         drop(mark);
-        return Err(Stop::Fault(Which::TooDeep));
+        return Err(LineError::Fault(ProfileFault::TooDeep));
     }
     match begin_there(alloc, documents, frames, mark) {
         Ok(nodes) => Ok(nodes),
-        Err(_) => Err(Stop::NoMemory),
+        Err(_) => Err(LineError::NoMemory),
     }
 }
 
@@ -274,8 +276,8 @@ fn next_frames(
     last: Last,
     at: usize,
     mark: Mark,
-) -> Result<(), Stop>
-    requires place { next_place_lem (mark_view mark) frames.old.items ≡ at }
+) -> Result<(), LineError>
+    requires place { next_place_def (mark_view mark) frames.old.items ≡ at }
     requires inside { at < vec_len frames.old }
     requires no_start { is_next marks.start (mark_view mark) ≡ false }
     ensures ok { OnOk result ((docs : List Node)
@@ -293,7 +295,7 @@ fn next_frames(
             if frame.is_repeated_by(&mark) {
                 drop(frame);
                 drop(mark);
-                return Err(Stop::Fault(Which::DuplicateKey));
+                return Err(LineError::Fault(ProfileFault::DuplicateKey));
             }
             let frame = frame.next(alloc, value, mark)?;
             frames.push(frame)?;
@@ -303,8 +305,8 @@ fn next_frames(
 }
 
 /// A mark begins the next entry or item of the frame at a place.
-fn go_on(alloc: Global, nodes: OpenNodes, at: usize, mark: Mark) -> Result<OpenNodes, Stop>
-    requires place { next_place_lem (mark_view mark) nodes.frames.items ≡ at }
+fn go_on(alloc: Global, nodes: OpenNodes, at: usize, mark: Mark) -> Result<OpenNodes, LineError>
+    requires place { next_place_def (mark_view mark) nodes.frames.items ≡ at }
     requires inside { at < vec_len nodes.frames }
     requires no_start { is_next marks.start (mark_view mark) ≡ false }
     ensures ok { IfOk result (λ o. open_after (mark_view mark) (nodes_open nodes)
@@ -346,10 +348,10 @@ fn all_documents(alloc: Global, nodes: OpenNodes) -> Result<Nodes, AllocError>
 }
 
 /// A document ends, and the next one begins.
-fn next_document(alloc: Global, nodes: OpenNodes) -> Result<OpenNodes, Stop>
+fn next_document(alloc: Global, nodes: OpenNodes) -> Result<OpenNodes, LineError>
     ensures ok { IfOk result (λ o. open_after marks.start (nodes_open nodes)
         ≡ Some (nodes_open o)) }
-    ensures refused { IfErr result (λ s. s ≡ Stop.NoMemory) }
+    ensures refused { IfErr result (λ s. s ≡ LineError.NoMemory) }
 {
     let documents = all_documents(alloc, nodes)?;
     Ok(OpenNodes {
@@ -360,8 +362,8 @@ fn next_document(alloc: Global, nodes: OpenNodes) -> Result<OpenNodes, Stop>
 }
 
 /// A node begins within the innermost frame, or the mark has no place.
-fn begin_or_refuse(alloc: Global, nodes: OpenNodes, mark: Mark) -> Result<OpenNodes, Stop>
-    requires place { next_place_lem (mark_view mark) nodes.frames.items
+fn begin_or_refuse(alloc: Global, nodes: OpenNodes, mark: Mark) -> Result<OpenNodes, LineError>
+    requires place { next_place_def (mark_view mark) nodes.frames.items
         ≡ length nodes.frames.items }
     requires no_start { is_next marks.start (mark_view mark) ≡ false }
     ensures ok { IfOk result (λ o. open_after (mark_view mark) (nodes_open nodes)
@@ -376,7 +378,7 @@ fn begin_or_refuse(alloc: Global, nodes: OpenNodes, mark: Mark) -> Result<OpenNo
         let fault = fault_of(&nodes.frames, &nodes.last, &mark);
         drop(mark);
         drop(nodes);
-        Err(Stop::Fault(fault))
+        Err(LineError::Fault(fault))
     }
 }
 
@@ -393,7 +395,7 @@ impl OpenNodes {
     }
 
     /// The open nodes after one more mark.
-    pub(crate) fn add(self, alloc: Global, mark: Mark) -> Result<OpenNodes, Stop>
+    pub(crate) fn add(self, alloc: Global, mark: Mark) -> Result<OpenNodes, LineError>
         ensures ok { IfOk result (λ o. open_after (mark_view mark) (nodes_open self)
             ≡ Some (nodes_open o)) }
         ensures refused { IfErr result (λ s. Refuses s
@@ -413,7 +415,7 @@ impl OpenNodes {
     }
 
     /// The open nodes after one more line of the block scalar that stands in the innermost.
-    pub(crate) fn add_raw(self, line: &[u8]) -> Result<OpenNodes, Stop>
+    pub(crate) fn add_raw(self, line: &[u8]) -> Result<OpenNodes, LineError>
         ensures ok { IfOk result (λ o. open_after (marks.raw line.now) (nodes_open self)
             ≡ Some (nodes_open o)) }
         ensures refused { IfErr result (λ s. Refuses s
@@ -434,8 +436,8 @@ impl OpenNodes {
                     last: Last::Block(block),
                 })
             }
-            Last::Nothing => Err(Stop::Fault(Which::Indent)),
-            Last::Inline(_) => Err(Stop::Fault(Which::Indent)),
+            Last::Nothing => Err(LineError::Fault(ProfileFault::Indent)),
+            Last::Inline(_) => Err(LineError::Fault(ProfileFault::Indent)),
         }
     }
 

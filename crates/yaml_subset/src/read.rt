@@ -5,36 +5,20 @@ ghost use Rattle.std.specs.Prelude.{nat_eq, [], None};
 ghost use Rattle.std.specs.List.{starts_with};
 ghost use Rattle.std.specs.Str.{IsValidUpTo, IsErrorLen};
 ghost use Rattle.std.specs.Str.Lossy.{utf8_error_len};
-ghost use Rattle.std.specs.Str.Lines.{lines as lines_lem};
-ghost use Rattle.yaml_subset.specs.Tree.{Tree};
-ghost use Rattle.yaml_subset.specs.Text.{StandsFor, nodes_of, without_mark as without_mark_lem};
-ghost use Rattle.yaml_subset.specs.BadPlace.{IsBadPlace};
-ghost use Rattle.yaml_subset.specs.NodeView.{nodes_view};
-ghost use Rattle.yaml_subset.specs.ReadView.{NamesLine, NamesFault, IsStart};
+ghost use Rattle.std.specs.Str.Lines.{lines as lines_def};
+ghost use Rattle.yaml_terms.specs.Tree.{Tree};
+ghost use Rattle.yaml_terms.specs.Text.{StandsFor, nodes_of, without_mark as without_mark_def};
+ghost use Rattle.yaml_terms.specs.BadPlace.{IsBadPlace};
+ghost use Rattle.yaml_terms.specs.NodeView.{nodes_view};
+ghost use Rattle.yaml_terms.specs.NamedFault.{NamesLine, NamesFault};
+ghost use Rattle.yaml_subset.specs.ReadView.{IsStart};
 
-use crate::node::Nodes;
-use crate::open::{OpenNodes, Stop};
+use crate::open::{LineError, OpenNodes};
 use crate::reader::{Reader, read_line};
-use crate::which::Which;
 use slo_limits::MAX_TEXT_BYTES;
 use std::alloc::{AllocError, Global};
 use std::str;
-
-/// Why a text wasn't read.
-#[derive(Debug, Drop)]
-pub enum YamlFault {
-    /// It has more than `MAX_TEXT_BYTES` bytes.
-    TooLarge,
-    /// It isn't UTF-8: the place of the first byte that no UTF-8 text can have there, the first
-    /// byte's being 0.
-    /// The text's length where it ends inside a character.
-    NotUtf8(usize),
-    /// Its first lines up to this one, the first being 1, are no text of the profile, and that line
-    /// has this fault.
-    Form { line: usize, which: Which },
-    /// Memory ran out.
-    NoMemory,
-}
+use yaml_terms::{Nodes, YamlFault};
 
 /// The reader before the first line.
 fn at_start(alloc: Global) -> Reader
@@ -57,8 +41,8 @@ fn read_lines(alloc: Global, lines: &[&str]) -> Result<Nodes, YamlFault>
     for at in 0..lines.len() {
         match read_line(alloc, reader, lines[at].as_bytes()) {
             Ok(next) => reader = next,
-            Err(Stop::NoMemory) => return Err(YamlFault::NoMemory),
-            Err(Stop::Fault(which)) => {
+            Err(LineError::NoMemory) => return Err(YamlFault::NoMemory),
+            Err(LineError::Fault(which)) => {
                 return Err(YamlFault::Form {
                     line: at + 1,
                     which,
@@ -74,17 +58,17 @@ fn read_lines(alloc: Global, lines: &[&str]) -> Result<Nodes, YamlFault>
 
 /// The lines of a text: each ends with LF, with CR LF, or with the text.
 fn lines_of<'a>(alloc: Global, text: &'a str) -> Result<Vec<&'a str>, AllocError>
-    ensures { IfOk result (λ v. map (λ x. x.now) v.items ≡ lines_lem text.now) }
+    ensures { IfOk result (λ v. map (λ x. x.now) v.items ≡ lines_def text.now) }
 {
     text.lines().collect(alloc)
 }
 
 /// The text without a byte order mark at its start.
 fn without_mark(text: &[u8]) -> &[u8]
-    ensures { result.now ≡ without_mark_lem text.now }
+    ensures { result.now ≡ without_mark_def text.now }
 {
     if text.starts_with(b"\xEF\xBB\xBF") {
-        crate::bytes::from(text, 3)
+        yaml_lines::from(text, 3)
     } else {
         text
     }
@@ -92,8 +76,8 @@ fn without_mark(text: &[u8]) -> &[u8]
 
 /// Reads lines of a text.
 fn read_text(alloc: Global, text: &str) -> Result<Nodes, YamlFault>
-    ensures found { IfOk result (λ xs. nodes_of (lines_lem text.now) ≡ Some (nodes_view xs.items)) }
-    ensures fault { IfErr result (λ f. NamesLine (lines_lem text.now) f) }
+    ensures found { IfOk result (λ xs. nodes_of (lines_def text.now) ≡ Some (nodes_view xs.items)) }
+    ensures fault { IfErr result (λ f. NamesLine (lines_def text.now) f) }
 {
     match lines_of(alloc, text) {
         Err(_) => Err(YamlFault::NoMemory),
@@ -109,7 +93,7 @@ fn bad_place(bytes: &[u8], valid: usize, bad: Option<usize>) -> usize
     requires within { IsErrorLen bytes.now valid bad }
     ensures { IsBadPlace bytes.now result }
 {
-    let first = crate::bytes::byte_at(bytes, valid);
+    let first = yaml_lines::byte_at(bytes, valid);
     if first < 0xC2 || 0xF4 < first {
         return valid;
     }

@@ -1,27 +1,26 @@
 //! The reader: what is kept after some lines, and one more line.
 
 ghost use Rattle.std.specs.Prelude.{◌≡◌, IfOk, IfErr, None, Some, map, true, false};
-ghost use Rattle.yaml_subset.specs.Text.{parent_at as parent_at_lem};
-ghost use Rattle.yaml_subset.specs.Text.{parent_after as parent_after_lem};
-ghost use Rattle.yaml_subset.specs.Text.{header_scalar as header_scalar_lem, takes as takes_lem};
-ghost use Rattle.yaml_subset.specs.Fault.{misfit, fault_of};
-ghost use Rattle.yaml_subset.specs.OpenNodes.{open_after_all};
+ghost use Rattle.yaml_terms.specs.Text.{parent_at as parent_at_def};
+ghost use Rattle.yaml_terms.specs.Text.{parent_after as parent_after_def};
+ghost use Rattle.yaml_terms.specs.Text.{header_scalar as header_scalar_def, takes as takes_def};
+ghost use Rattle.yaml_terms.specs.Fault.{misfit, fault_of};
+ghost use Rattle.yaml_terms.specs.OpenNodes.{open_after_all};
 ghost use Rattle.yaml_subset.specs.Reader.{header_folds};
-ghost use Rattle.yaml_subset.specs.Reader.{scalar_behind as scalar_behind_lem, Follows};
-ghost use Rattle.yaml_subset.specs.LineView.{mark_view};
-ghost use Rattle.yaml_subset.specs.FaultOrder.{earlier as earlier_lem};
+ghost use Rattle.yaml_subset.specs.Reader.{scalar_behind as scalar_behind_def, Follows};
+ghost use Rattle.yaml_lines.specs.LineView.{mark_view};
+ghost use Rattle.yaml_terms.specs.FaultOrder.{earlier as earlier_def};
 ghost use Rattle.yaml_subset.specs.ReaderView.{reading};
-ghost use Rattle.yaml_subset.specs.StopView.{nodes_open, Refuses};
+ghost use Rattle.yaml_subset.specs.OpenView.{nodes_open};
+ghost use Rattle.yaml_subset.specs.LineErrorView.{Refuses};
 
-use crate::line::line_of;
-use crate::mark::{Line, Mark};
-use crate::open::{OpenNodes, Stop};
-use crate::scalar::{Scalar, raw_fault, scalar_with, takes};
-use crate::which::Which;
+use crate::open::{LineError, OpenNodes};
 use std::alloc::Global;
+use yaml_lines::{Line, Mark, line_of, raw_fault, scalar_with, takes};
+use yaml_terms::{ProfileFault, Scalar};
 
 fn parent_at(mark: &Mark) -> Option<usize>
-    ensures { result ≡ parent_at_lem (mark_view mark.now) }
+    ensures { result ≡ parent_at_def (mark_view mark.now) }
 {
     match mark {
         Mark::Key(column, _) => Some(*column),
@@ -33,7 +32,7 @@ fn parent_at(mark: &Mark) -> Option<usize>
 /// The column of the last of these marks, where it is a key or dash.
 #[tactic(auto, using(crate::proofs::ReaderLemmas::parent_after_more))]
 fn parent_after(parent: Option<usize>, marks: &[Mark]) -> Option<usize>
-    ensures { result ≡ parent_after_lem parent (map mark_view marks.now) }
+    ensures { result ≡ parent_after_def parent (map mark_view marks.now) }
 {
     let mut last = parent;
     for at in 0..marks.len() {
@@ -55,7 +54,7 @@ fn header_style(mark: &Mark) -> Option<bool>
 
 /// The scalar behind a header, if there is one.
 fn scalar_behind(parent: Option<usize>, folds: Option<bool>) -> Option<Scalar>
-    ensures { result ≡ scalar_behind_lem parent folds }
+    ensures { result ≡ scalar_behind_def parent folds }
 {
     match folds {
         None => None,
@@ -69,7 +68,7 @@ fn scalar_behind(parent: Option<usize>, folds: Option<bool>) -> Option<Scalar>
 
 /// The block scalar whose header ends the line with these marks.
 fn header_scalar(parent: Option<usize>, marks: &[Mark]) -> Option<Scalar>
-    ensures { result ≡ header_scalar_lem parent (map mark_view marks.now) }
+    ensures { result ≡ header_scalar_def parent (map mark_view marks.now) }
 {
     if marks.is_empty() {
         return None;
@@ -81,7 +80,7 @@ fn header_scalar(parent: Option<usize>, marks: &[Mark]) -> Option<Scalar>
 }
 
 /// The open nodes after the marks of a line, or the fault of the first that has no place.
-fn add_all(alloc: Global, nodes: OpenNodes, marks: Vec<Mark>) -> Result<OpenNodes, Stop>
+fn add_all(alloc: Global, nodes: OpenNodes, marks: Vec<Mark>) -> Result<OpenNodes, LineError>
     ensures ok { IfOk result (λ o. (open_after_all (map mark_view marks.items) (nodes_open nodes)
         ≡ Some (nodes_open o)) × (misfit (map mark_view marks.items) (nodes_open nodes) ≡ None)) }
     ensures refused { IfErr result (λ s. Refuses s
@@ -105,8 +104,8 @@ pub(crate) struct Reader {
 }
 
 /// A line that a block scalar takes.
-fn read_raw(reader: Reader, scalar: Scalar, line: &[u8]) -> Result<Reader, Stop>
-    requires taken { takes_lem reader.scalar line.now ≡ true }
+fn read_raw(reader: Reader, scalar: Scalar, line: &[u8]) -> Result<Reader, LineError>
+    requires taken { takes_def reader.scalar line.now ≡ true }
     requires it { reader.scalar ≡ Some scalar }
     ensures ok { IfOk result (λ r. Follows (reading reader) line.now (reading r)) }
     ensures refused { IfErr result (λ s. Refuses s
@@ -122,24 +121,24 @@ fn read_raw(reader: Reader, scalar: Scalar, line: &[u8]) -> Result<Reader, Stop>
             }),
             Some(which) => {
                 drop(nodes);
-                Err(Stop::Fault(which))
+                Err(LineError::Fault(which))
             }
         },
-        Err(Stop::NoMemory) => Err(Stop::NoMemory),
-        Err(Stop::Fault(which)) => Err(Stop::Fault(first_of(fault, which))),
+        Err(LineError::NoMemory) => Err(LineError::NoMemory),
+        Err(LineError::Fault(which)) => Err(LineError::Fault(first_of(fault, which))),
     }
 }
 
 /// A line by itself.
-fn read_own(alloc: Global, reader: Reader, line: &[u8]) -> Result<Reader, Stop>
-    requires { takes_lem reader.scalar line.now ≡ false }
+fn read_own(alloc: Global, reader: Reader, line: &[u8]) -> Result<Reader, LineError>
+    requires { takes_def reader.scalar line.now ≡ false }
     ensures ok { IfOk result (λ r. Follows (reading reader) line.now (reading r)) }
     ensures refused { IfErr result (λ s. Refuses s
         (λ w. fault_of reader.scalar (nodes_open reader.nodes) line.now ≡ Some w)) }
 {
     let Ok(Line { marks, fault }) = line_of(alloc, line) else {
         drop(reader);
-        return Err(Stop::NoMemory);
+        return Err(LineError::NoMemory);
     };
     let parent = parent_after(reader.parent, &marks);
     let scalar = header_scalar(reader.parent, &marks);
@@ -152,17 +151,17 @@ fn read_own(alloc: Global, reader: Reader, line: &[u8]) -> Result<Reader, Stop>
             }),
             Some(which) => {
                 drop(nodes);
-                Err(Stop::Fault(which))
+                Err(LineError::Fault(which))
             }
         },
-        Err(Stop::NoMemory) => Err(Stop::NoMemory),
-        Err(Stop::Fault(which)) => Err(Stop::Fault(first_of(fault, which))),
+        Err(LineError::NoMemory) => Err(LineError::NoMemory),
+        Err(LineError::Fault(which)) => Err(LineError::Fault(first_of(fault, which))),
     }
 }
 
 /// The earlier of a line's own fault and another.
-fn first_of(fault: Option<Which>, which: Which) -> Which
-    ensures { earlier_lem fault (Some which) ≡ Some result }
+fn first_of(fault: Option<ProfileFault>, which: ProfileFault) -> ProfileFault
+    ensures { earlier_def fault (Some which) ≡ Some result }
 {
     match fault {
         None => which,
@@ -177,7 +176,7 @@ fn first_of(fault: Option<Which>, which: Which) -> Which
 }
 
 /// One more line.
-pub(crate) fn read_line(alloc: Global, reader: Reader, line: &[u8]) -> Result<Reader, Stop>
+pub(crate) fn read_line(alloc: Global, reader: Reader, line: &[u8]) -> Result<Reader, LineError>
     ensures ok { IfOk result (λ r. Follows (reading reader) line.now (reading r)) }
     ensures refused { IfErr result (λ s. Refuses s
         (λ w. fault_of reader.scalar (nodes_open reader.nodes) line.now ≡ Some w)) }

@@ -1,7 +1,7 @@
 //! Alert conditions and policies, as they are written.
 ghost use Rattle.std.specs.Prelude.{◌≡◌, IfOk, OnOk};
-ghost use Rattle.yaml_subset.specs.Spelling.{items as items_lem};
-ghost use Rattle.yaml_subset.specs.SpellingView.{spelling_view};
+ghost use Rattle.yaml_terms.specs.Spelling.{items as items_lem};
+ghost use Rattle.yaml_terms.specs.SpellingView.{spelling_view};
 ghost use Rattle.slo_objects.specs.Form.{map_with, optional, written_items};
 ghost use Rattle.slo_objects.specs.Inline.{reference_written};
 ghost use Rattle.slo_objects.specs.AlertCondition.{condition, alert_condition, condition_body};
@@ -31,7 +31,7 @@ use crate::writing::fields::{list_of, map_of, put, put_item};
 use crate::writing::words::condition_word;
 use exact_fraction::Label;
 use std::alloc::{AllocError, Global};
-use yaml_subset::{FieldKey, Spelling};
+use yaml_terms::{FieldKey, Spelling};
 
 fn optional_condition_kind(
     fields: &mut Vec<(FieldKey, Spelling)>,

@@ -1,10 +1,10 @@
 //! Objects as documents.
 ghost use Rattle.std.specs.Prelude.{◌≡◌, ◌≤◌, ◌++◌, ◌∷◌, [], Ok, IfOk, OnOk, OnErr, length};
 ghost use Rattle.slo_limits.specs.declared.TheConstants.{MAX_TEXT_BYTES};
-ghost use Rattle.yaml_subset.specs.Text.{StandsFor};
-ghost use Rattle.yaml_subset.specs.Spelling.{meant, writing};
-ghost use Rattle.yaml_subset.specs.Room.{up_to};
-ghost use Rattle.yaml_subset.specs.SpellingView.{spelling_view};
+ghost use Rattle.yaml_terms.specs.Text.{StandsFor};
+ghost use Rattle.yaml_terms.specs.Spelling.{meant, writing};
+ghost use Rattle.yaml_terms.specs.Room.{up_to};
+ghost use Rattle.yaml_terms.specs.SpellingView.{spelling_view};
 ghost use Rattle.slo_objects.specs.Form.{map_with};
 ghost use Rattle.slo_objects.specs.Metadata.{metadata, metadata_of};
 ghost use Rattle.slo_objects.specs.Document.{body, objects_of, written, IsOfDocument};
@@ -21,7 +21,8 @@ use crate::writing::service::{data_source_spec, service_spec, target_spec};
 use crate::writing::sli::sli_spec;
 use crate::writing::slo::slo_spec;
 use std::alloc::{AllocError, Global};
-use yaml_subset::{Spelling, write_spelling, written_length};
+use yaml_terms::Spelling;
+use yaml_writing::{write_spelling, written_length};
 
 #[tactic(auto, unfolding(crate::specs::Metadata::metadata))]
 fn metadata_map(alloc: Global, value: &Object) -> Result<Spelling, AllocError>

@@ -1,6 +1,6 @@
 //! The lines of the tables, as they are written: a field that is omitted is left out.
 ghost use Rattle.std.specs.Prelude.{OnOk};
-ghost use Rattle.yaml_subset.specs.Spelling.{word};
+ghost use Rattle.yaml_terms.specs.Spelling.{word};
 ghost use Rattle.exact_fraction.specs.DecimalText.{decimal_text};
 ghost use Rattle.slo_duration.specs.Writing.{duration_text};
 ghost use Rattle.slo_objects.specs.Form.{own, optional, required, free, free_map};
@@ -14,7 +14,7 @@ use crate::writing::words::op_word;
 use exact_fraction::{Decimal, Label, Op, Text};
 use slo_duration::Duration;
 use std::alloc::AllocError;
-use yaml_subset::{FieldKey, Spelling};
+use yaml_terms::{FieldKey, Spelling};
 
 /// A fixed word.
 pub(crate) fn required_word(

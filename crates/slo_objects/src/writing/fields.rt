@@ -1,13 +1,13 @@
 //! Maps and lists that are written: their fields and items, one behind the other.
 ghost use Rattle.std.specs.Prelude.{◌≡◌, OnOk};
-ghost use Rattle.yaml_subset.specs.Spelling.{fields as fields_lem, no_fields, Items};
-ghost use Rattle.yaml_subset.specs.Spelling.{items as items_lem, no_items, one_item};
-ghost use Rattle.yaml_subset.specs.SpellingView.{spelling_view};
+ghost use Rattle.yaml_terms.specs.Spelling.{fields as fields_lem, no_fields, Items};
+ghost use Rattle.yaml_terms.specs.Spelling.{items as items_lem, no_items, one_item};
+ghost use Rattle.yaml_terms.specs.SpellingView.{spelling_view};
 ghost use Rattle.slo_objects.specs.Form.{own};
 ghost use Rattle.slo_objects.specs.Adding.{before, Adds, items_before};
 
 use std::alloc::AllocError;
-use yaml_subset::{FieldKey, ScalarText, Spelling};
+use yaml_terms::{FieldKey, ScalarText, Spelling};
 
 /// Adds a field whose key stands plain.
 #[tactic(auto, using(crate::proofs::AddLemmas::before_more))]

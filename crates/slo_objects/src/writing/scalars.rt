@@ -1,7 +1,7 @@
 //! Scalars as they are written: fixed words, numbers and durations plain, every other text quoted.
 ghost use Rattle.std.specs.Prelude.{◌≡◌, IfOk, codes, cond, decimal};
-ghost use Rattle.yaml_subset.specs.Spelling.{word, quoted, spelled as spelled_lem};
-ghost use Rattle.yaml_subset.specs.SpellingView.{spelling_view};
+ghost use Rattle.yaml_terms.specs.Spelling.{word, quoted, spelled as spelled_lem};
+ghost use Rattle.yaml_terms.specs.SpellingView.{spelling_view};
 ghost use Rattle.exact_fraction.specs.DecimalText.{decimal_text};
 ghost use Rattle.slo_duration.specs.Writing.{duration_text};
 ghost use Rattle.zone_calendar.specs.CivilText.{civil_text};
@@ -10,7 +10,8 @@ use crate::part::Part;
 use exact_fraction::{Decimal, write_decimal};
 use slo_duration::{Duration, write_duration};
 use std::alloc::{AllocError, Global};
-use yaml_subset::{ScalarText, Spelling, spelled};
+use yaml_terms::{ScalarText, Spelling};
+use yaml_writing::spelled;
 use zone_calendar::{Civil, write_civil};
 
 /// A text that is written plain.

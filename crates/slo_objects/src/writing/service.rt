@@ -1,6 +1,6 @@
 //! Services, data sources and targets of notifications, as they are written.
 ghost use Rattle.std.specs.Prelude.{◌≡◌, IfOk};
-ghost use Rattle.yaml_subset.specs.SpellingView.{spelling_view};
+ghost use Rattle.yaml_terms.specs.SpellingView.{spelling_view};
 ghost use Rattle.slo_objects.specs.Form.{map_with};
 ghost use Rattle.slo_objects.specs.Service.{service, service_body};
 ghost use Rattle.slo_objects.specs.DataSource.{data_source, data_source_body};
@@ -14,7 +14,7 @@ use crate::service::Service;
 use crate::writing::field_lines::{optional_description, optional_free, required_text};
 use crate::writing::fields::map_of;
 use std::alloc::{AllocError, Global};
-use yaml_subset::Spelling;
+use yaml_terms::Spelling;
 
 #[tactic(auto, unfolding(crate::specs::Service::service))]
 fn service_map(alloc: Global, value: &Service) -> Result<Spelling, AllocError>

@@ -1,6 +1,6 @@
 //! Indicators, as they are written.
 ghost use Rattle.std.specs.Prelude.{◌≡◌, IfOk, OnOk, cond};
-ghost use Rattle.yaml_subset.specs.SpellingView.{spelling_view};
+ghost use Rattle.yaml_terms.specs.SpellingView.{spelling_view};
 ghost use Rattle.slo_objects.specs.Form.{map_with, own};
 ghost use Rattle.slo_objects.specs.Sli.{metric_source, source, is_good, events_written};
 ghost use Rattle.slo_objects.specs.Sli.{ratio_metric, is_threshold, metric_written, sli, sli_body};
@@ -19,7 +19,7 @@ use crate::writing::field_lines::{
 use crate::writing::fields::{map_of, put};
 use crate::writing::words::raw_type_word;
 use std::alloc::{AllocError, Global};
-use yaml_subset::{FieldKey, Spelling};
+use yaml_terms::{FieldKey, Spelling};
 
 #[tactic(auto, unfolding(crate::specs::Sli::metric_source))]
 fn metric_source_map(alloc: Global, value: &MetricSource) -> Result<Spelling, AllocError>

@@ -1,7 +1,7 @@
 //! Objectives over time, as they are written.
 ghost use Rattle.std.specs.Prelude.{◌≡◌, IfOk, OnOk};
-ghost use Rattle.yaml_subset.specs.Spelling.{items as items_lem};
-ghost use Rattle.yaml_subset.specs.SpellingView.{spelling_view};
+ghost use Rattle.yaml_terms.specs.Spelling.{items as items_lem};
+ghost use Rattle.yaml_terms.specs.SpellingView.{spelling_view};
 ghost use Rattle.slo_objects.specs.Form.{map_with, optional, required, own_where, spelled_where};
 ghost use Rattle.slo_objects.specs.Form.{single, written_items};
 ghost use Rattle.slo_objects.specs.Ranges.{every_number, slice_target_range};
@@ -30,7 +30,7 @@ use crate::writing::scalars;
 use crate::writing::words::method_word;
 use exact_fraction::Decimal;
 use std::alloc::{AllocError, Global};
-use yaml_subset::{FieldKey, Spelling};
+use yaml_terms::{FieldKey, Spelling};
 
 #[tactic(auto, unfolding(crate::specs::Slo::calendar))]
 fn calendar_map(alloc: Global, value: &Calendar) -> Result<Spelling, AllocError>

@@ -1,6 +1,6 @@
 use Rattle.std.proofs.Common.{◌≡◌, Ok, Err, ap, rules, subst}
 use Rattle.std.specs.List.{All}
-use Rattle.yaml_subset.specs.NodeView.{nodes_view}
+use Rattle.yaml_terms.specs.NodeView.{nodes_view}
 use Rattle.slo_objects.specs.Document.{IsOfDocument}
 use Rattle.record_form.specs.declared.Refusal.{Refusal}
 use Rattle.record_form.specs.declared.Refusal.TheVariants.{Yaml}

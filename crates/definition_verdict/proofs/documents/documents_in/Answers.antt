@@ -1,5 +1,5 @@
 use Rattle.std.proofs.Common.{subst}
-use Rattle.yaml_subset.specs.ReadView.{NamesFault}
+use Rattle.yaml_terms.specs.NamedFault.{NamesFault}
 use Rattle.definition_verdict.proofs.Few.{documents_are_few, line_is_short}
 use Rattle.definition_verdict.proofs.documents.documents_in.Goals as goal
 

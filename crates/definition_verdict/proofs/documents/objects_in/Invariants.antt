@@ -1,5 +1,5 @@
 use Rattle.std.proofs.Common.{◌≡◌, ◌+◌, [], drop, map}
-use Rattle.yaml_subset.specs.NodeView.{node_view}
+use Rattle.yaml_terms.specs.NodeView.{node_view}
 use Rattle.definition_verdict.specs.Documents.{objects_from}
 use Rattle.definition_verdict.proofs.documents.objects_in.Given as goal
 

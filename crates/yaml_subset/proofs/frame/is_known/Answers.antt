@@ -1,5 +1,5 @@
 use Rattle.std.proofs.Common.{◌∙◌}
-use Rattle.yaml_subset.specs.Profile.{no_text}
+use Rattle.yaml_terms.specs.Profile.{no_text}
 use Rattle.yaml_subset.proofs.FrameLemmas.{repeated_entries}
 use Rattle.yaml_subset.proofs.frame.is_known.Goals as goal
 

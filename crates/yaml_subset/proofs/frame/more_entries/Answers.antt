@@ -1,4 +1,4 @@
-use Rattle.yaml_subset.proofs.Failures.{no_ok}
+use Rattle.yaml_terms.proofs.Failures.{no_ok}
 use Rattle.yaml_subset.proofs.frame.more_entries.Goals as goal
 
 pub returns-in_err-entries-clause-more : goal.returns-in_err-entries-clause-more

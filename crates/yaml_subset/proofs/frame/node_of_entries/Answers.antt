@@ -1,10 +1,10 @@
 use Rattle.std.proofs.Common.{List, map, sym, ap, ◌∙◌}
-use Rattle.yaml_subset.specs.Tree.{mapping}
-use Rattle.yaml_subset.specs.NodeView.{node_view, entries_of}
-use Rattle.yaml_subset.specs.declared.text.ScalarText.{ScalarText}
-use Rattle.yaml_subset.specs.declared.node.Node.{Node}
+use Rattle.yaml_terms.specs.Tree.{mapping}
+use Rattle.yaml_terms.specs.NodeView.{node_view, entries_of}
+use Rattle.yaml_terms.specs.declared.ScalarText.{ScalarText}
+use Rattle.yaml_terms.specs.declared.Node.{Node}
 use Rattle.yaml_subset.proofs.FrameLemmas.{collection-map}
-use Rattle.yaml_subset.proofs.NodeLemmas.{view-Map}
+use Rattle.yaml_terms.proofs.NodeLemmas.{view-Map}
 use Rattle.yaml_subset.proofs.frame.node_of_entries.Goals as goal
 
 pub returns : goal.returns

@@ -1,6 +1,6 @@
 use Rattle.std.proofs.Common.{sym, ◌∙◌}
 use Rattle.yaml_subset.proofs.FrameLemmas.{collection-items}
-use Rattle.yaml_subset.proofs.NodeLemmas.{view-List}
+use Rattle.yaml_terms.proofs.NodeLemmas.{view-List}
 use Rattle.yaml_subset.proofs.frame.node_of_items.Goals as goal
 
 pub returns : goal.returns

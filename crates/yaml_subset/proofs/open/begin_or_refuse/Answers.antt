@@ -1,14 +1,14 @@
 use Rattle.std.proofs.Common.{◌≡◌, ◌-◌, List, true, false, cond, map, length, refl, sym, subst, ◌∙◌}
 use Rattle.std.proofs.Common.{rules}
-use Rattle.yaml_subset.specs.Mark.{start}
-use Rattle.yaml_subset.specs.Profile.{max_depth, has_room}
-use Rattle.yaml_subset.specs.OpenNodes.{open_after, begun_node}
-use Rattle.yaml_subset.specs.Fault.{fault_of_mark, column}
-use Rattle.yaml_subset.specs.LineView.{mark_view}
+use Rattle.yaml_terms.specs.Mark.{start}
+use Rattle.yaml_terms.specs.Profile.{max_depth, has_room}
+use Rattle.yaml_terms.specs.OpenNodes.{open_after, begun_node}
+use Rattle.yaml_terms.specs.Fault.{fault_of_mark, column}
+use Rattle.yaml_lines.specs.LineView.{mark_view}
 use Rattle.yaml_subset.specs.OpenView.{child, is_nothing, last_head, any_at}
 use Rattle.yaml_subset.specs.declared.frame.Frame.{Frame}
-use Rattle.yaml_subset.specs.declared.which.Which.TheVariants.{Indent, Colon, TooDeep}
-use Rattle.yaml_subset.specs.StopView.{nodes_open}
+use Rattle.yaml_terms.specs.declared.ProfileFault.TheVariants.{Indent, Colon, TooDeep}
+use Rattle.yaml_subset.specs.OpenView.{nodes_open}
 use Rattle.yaml_subset.proofs.OpenViewLemmas.{begin_ok, begin_refused, begun_there, not_begun}
 use Rattle.yaml_subset.proofs.OpenViewLemmas.{fault_begun, no_raw}
 use Rattle.yaml_subset.proofs.open.begin_or_refuse.Goals as goal

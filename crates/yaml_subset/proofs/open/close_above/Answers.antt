@@ -1,10 +1,10 @@
 use Rattle.std.proofs.Common.{◌≡◌, ℕ, ◌+◌, Some, drop, take, vec_len, option_map, sym, ap, ◌∙◌}
 use Rattle.std.proofs.Common.{arith}
 use Rattle.std.proofs.lemmas.List.{take_all}
-use Rattle.yaml_subset.specs.NodeView.{node_view}
+use Rattle.yaml_terms.specs.NodeView.{node_view}
 use Rattle.yaml_subset.specs.OpenView.{last_view}
 use Rattle.yaml_subset.proofs.OpenViewLemmas.{close_start, close_more, take_fewer}
-use Rattle.yaml_subset.proofs.Failures.{no_ok, no_on}
+use Rattle.yaml_terms.proofs.Failures.{no_ok, no_on}
 use Rattle.yaml_subset.proofs.open.close_above.Goals as goal
 
 pub loop-done-init : goal.loop-done-init

@@ -1,6 +1,6 @@
 use Rattle.std.proofs.Common.{◌≡◌, ◌+◌, drop, take, vec_len, option_map}
-use Rattle.yaml_subset.specs.NodeView.{node_view}
-use Rattle.yaml_subset.specs.OpenNodes.{node_so_far}
+use Rattle.yaml_terms.specs.NodeView.{node_view}
+use Rattle.yaml_terms.specs.OpenNodes.{node_so_far}
 use Rattle.yaml_subset.specs.OpenView.{open_of, last_view}
 use Rattle.yaml_subset.proofs.OpenViewLemmas.{closed_with}
 use Rattle.yaml_subset.proofs.open.close_above.Given as goal

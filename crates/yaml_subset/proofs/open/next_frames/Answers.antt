@@ -1,10 +1,10 @@
 use Rattle.std.proofs.Common.{◌≡◌, ◌+◌, true, List, [], ◌∷◌, ◌++◌, Some, length, take, drop, map}
 use Rattle.std.proofs.Common.{option_map, sym, ap, ◌∙◌, arith}
-use Rattle.yaml_subset.specs.Mark.{start}
-use Rattle.yaml_subset.specs.Profile.{is_next}
-use Rattle.yaml_subset.specs.OpenNodes.{node_so_far, nothing}
-use Rattle.yaml_subset.specs.NodeView.{node_view}
-use Rattle.yaml_subset.specs.LineView.{mark_view}
+use Rattle.yaml_terms.specs.Mark.{start}
+use Rattle.yaml_terms.specs.Profile.{is_next}
+use Rattle.yaml_terms.specs.OpenNodes.{node_so_far, nothing}
+use Rattle.yaml_terms.specs.NodeView.{node_view}
+use Rattle.yaml_lines.specs.LineView.{mark_view}
 use Rattle.yaml_subset.specs.OpenView.{child, head_of, open_of, last_view, stream_of}
 use Rattle.yaml_subset.specs.declared.frame.Frame.{Frame}
 use Rattle.yaml_subset.proofs.OpenViewLemmas.{is_there, next_taken, next_refused, long_before}

@@ -1,5 +1,5 @@
 use Rattle.std.proofs.Common.{sym, ◌∙◌}
-use Rattle.yaml_subset.specs.LineView.{mark_view}
+use Rattle.yaml_lines.specs.LineView.{mark_view}
 use Rattle.yaml_subset.specs.OpenView.{next_place}
 use Rattle.yaml_subset.proofs.OpenViewLemmas.{next_stops, next_goes, next_ends}
 use Rattle.yaml_subset.proofs.open.next_place.Goals as goal

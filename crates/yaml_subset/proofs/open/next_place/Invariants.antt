@@ -1,5 +1,5 @@
 use Rattle.std.proofs.Common.{◌≡◌, ◌+◌, drop}
-use Rattle.yaml_subset.specs.LineView.{mark_view}
+use Rattle.yaml_lines.specs.LineView.{mark_view}
 use Rattle.yaml_subset.specs.OpenView.{next_place}
 use Rattle.yaml_subset.proofs.open.next_place.Given as goal
 

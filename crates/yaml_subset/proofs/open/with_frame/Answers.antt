@@ -1,6 +1,6 @@
 use Rattle.std.proofs.Common.{List, map, sym, ap, ◌∙◌}
-use Rattle.yaml_subset.specs.Mark.{start}
-use Rattle.yaml_subset.specs.OpenNodes.{nothing, within}
+use Rattle.yaml_terms.specs.Mark.{start}
+use Rattle.yaml_terms.specs.OpenNodes.{nothing, within}
 use Rattle.yaml_subset.specs.OpenView.{stream_of, child}
 use Rattle.yaml_subset.specs.declared.frame.Frame.{Frame}
 use Rattle.yaml_subset.proofs.OpenViewLemmas.{open_of_push}

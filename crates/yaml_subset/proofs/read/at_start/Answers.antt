@@ -1,5 +1,5 @@
 use Rattle.std.proofs.Common.{[], None, sym, subst}
-use Rattle.yaml_subset.specs.OpenNodes.{Open}
+use Rattle.yaml_terms.specs.OpenNodes.{Open}
 use Rattle.yaml_subset.specs.Reader.{IsRead}
 use Rattle.yaml_subset.proofs.TextLemmas.{nothing_read}
 use Rattle.yaml_subset.proofs.read.at_start.Goals as goal

@@ -1,6 +1,6 @@
 use Rattle.std.proofs.Common.{◌≡◌, ℕ, ◌+◌, ◌<◌, ◌≤◌, Option, MatchOption, length, sym, ◌∙◌, subst}
 use Rattle.std.proofs.Common.{arith, rules, ⊎_elim}
-use Rattle.yaml_subset.specs.BadPlace.{IsBadPlace}
+use Rattle.yaml_terms.specs.BadPlace.{IsBadPlace}
 use Rattle.yaml_subset.proofs.PlaceLemmas.{IsLead, place_at_first, place_at_end, place_inside}
 use Rattle.yaml_subset.proofs.read.bad_place.Goals as goal
 

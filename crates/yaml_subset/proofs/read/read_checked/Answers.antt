@@ -1,7 +1,7 @@
 use Rattle.std.proofs.Common.{◌≡◌, ℕ, ◌+◌, ◌-◌, length, sym, subst, rules}
 use Rattle.std.specs.Prelude.{List}
-use Rattle.yaml_subset.specs.Text.{without_mark}
-use Rattle.yaml_subset.specs.BadPlace.{IsBadPlace}
+use Rattle.yaml_terms.specs.Text.{without_mark}
+use Rattle.yaml_terms.specs.BadPlace.{IsBadPlace}
 use Rattle.yaml_subset.proofs.PlaceLemmas.{place_in_text}
 use Rattle.yaml_subset.proofs.read.read_checked.Goals as goal
 

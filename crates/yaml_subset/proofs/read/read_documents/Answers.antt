@@ -1,4 +1,4 @@
-use Rattle.yaml_subset.proofs.ReadLemmas.{taken_of}
+use Rattle.yaml_terms.proofs.ReadLemmas.{taken_of}
 use Rattle.yaml_subset.proofs.read.read_documents.Goals as goal
 
 pub returns-clause-taken : goal.returns-clause-taken

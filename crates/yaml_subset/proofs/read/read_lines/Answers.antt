@@ -1,12 +1,12 @@
 use Rattle.std.proofs.Common.{◌≡◌, ℕ, ◌+◌, List, Some, length, take, drop, map, sym, ap, ◌∙◌, subst}
 use Rattle.std.proofs.lemmas.List.{take_all, length-map}
-use Rattle.yaml_subset.specs.Text.{nodes_of}
-use Rattle.yaml_subset.specs.Fault.{IsFault, fault_of}
+use Rattle.yaml_terms.specs.Text.{nodes_of}
+use Rattle.yaml_terms.specs.Fault.{IsFault, fault_of}
 use Rattle.yaml_subset.specs.Reader.{IsRead}
 use Rattle.yaml_subset.specs.ReaderView.{reading}
-use Rattle.yaml_subset.specs.StopView.{Refuses}
-use Rattle.yaml_subset.specs.declared.open.Stop.{Stop}
-use Rattle.yaml_subset.specs.declared.which.Which.{Which}
+use Rattle.yaml_subset.specs.LineErrorView.{Refuses}
+use Rattle.yaml_subset.specs.declared.open.LineError.{LineError}
+use Rattle.yaml_terms.specs.declared.ProfileFault.{ProfileFault}
 use Rattle.yaml_subset.proofs.TextLemmas.{read_more, read_nodes, fault_here, line_taken}
 use Rattle.yaml_subset.proofs.TextLemmas.{line_splits, line_number}
 use Rattle.yaml_subset.proofs.read.read_lines.Goals as goal
@@ -19,7 +19,7 @@ returns-in-Err-Fault-clause-fault c =
     let xs = map (λ x. x.now) ls in
     let r = reading c.loop-at.reader in
     let meets : fault_of r.scalar r.nodes line ≡ Some c.in-Err-Fault.which =
-    subst (λ (s : Stop). Refuses s (λ w. fault_of r.scalar r.nodes line ≡ Some w))
+    subst (λ (s : LineError). Refuses s (λ w. fault_of r.scalar r.nodes line ≡ Some w))
     c.in-Err-Fault.field-0-is c.in-Err-Fault.ensures.refused in
     let named = fault_here (take at xs) line r c.loop-at.invariant (drop (at + 1) xs)
     c.in-Err-Fault.which meets in
@@ -28,7 +28,7 @@ returns-in-Err-Fault-clause-fault c =
     (line_splits ls at line _ c.loop-at-test.true c.as_bytes.ensures.value) named in
     let numbered = subst (λ (n : ℕ). IsFault xs n c.in-Err-Fault.which)
     (line_number ls at line _ c.loop-at-test.true c.as_bytes.ensures.value) placed in
-    subst (λ (w : Which). IsFault xs (at + 1) w) (sym c.in-Err-Fault.which-is) numbered
+    subst (λ (w : ProfileFault). IsFault xs (at + 1) w) (sym c.in-Err-Fault.which-is) numbered
 
 pub loop-at-preserved : goal.loop-at-preserved
 loop-at-preserved c =

@@ -1,9 +1,9 @@
 use Rattle.std.proofs.Common.{◌≡◌, ℕ, ◌-◌, ◌<◌, Option, length, take, get_or, map, sym, ap, ◌∙◌}
 use Rattle.std.proofs.Common.{rules}
-use Rattle.yaml_subset.specs.Text.{parent_after}
+use Rattle.yaml_terms.specs.Text.{parent_after}
 use Rattle.yaml_subset.specs.Reader.{header_folds, scalar_behind}
-use Rattle.yaml_subset.specs.LineView.{mark_view}
-use Rattle.yaml_subset.specs.declared.mark.Mark.{Mark}
+use Rattle.yaml_lines.specs.LineView.{mark_view}
+use Rattle.yaml_lines.specs.declared.Mark.{Mark}
 use Rattle.yaml_subset.proofs.ReaderLemmas.{header_last}
 use Rattle.yaml_subset.proofs.reader.header_scalar.Goals as goal
 

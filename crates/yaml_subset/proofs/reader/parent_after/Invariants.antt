@@ -1,6 +1,6 @@
 use Rattle.std.proofs.Common.{◌≡◌, drop, map}
-use Rattle.yaml_subset.specs.Text.{parent_after}
-use Rattle.yaml_subset.specs.LineView.{mark_view}
+use Rattle.yaml_terms.specs.Text.{parent_after}
+use Rattle.yaml_lines.specs.LineView.{mark_view}
 use Rattle.yaml_subset.proofs.reader.parent_after.Given as goal
 
 abbrev pub invariant-loop-at : goal.invariant-loop-at

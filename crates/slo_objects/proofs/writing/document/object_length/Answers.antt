@@ -1,6 +1,6 @@
 use Rattle.std.proofs.Common.{subst, sym}
-use Rattle.yaml_subset.specs.Profile.{max_depth}
-use Rattle.yaml_subset.specs.Fits.{Fits}
+use Rattle.yaml_terms.specs.Profile.{max_depth}
+use Rattle.yaml_terms.specs.Fits.{Fits}
 use Rattle.slo_objects.specs.Document.{written}
 use Rattle.slo_objects.proofs.OriginLemmas.{of_document}
 use Rattle.slo_objects.proofs.writing.document.object_length.Goals as goal

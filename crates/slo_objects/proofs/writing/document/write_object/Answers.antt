@@ -1,9 +1,9 @@
 use Rattle.std.proofs.Common.{◌≡◌, ◌≤◌, [], ◌∷◌, Ok, length, subst, sym}
 use Rattle.slo_limits.specs.declared.TheConstants.{MAX_TEXT_BYTES}
-use Rattle.yaml_subset.specs.Profile.{max_depth}
-use Rattle.yaml_subset.specs.Fits.{Fits}
-use Rattle.yaml_subset.specs.Text.{StandsFor}
-use Rattle.yaml_subset.specs.Spelling.{meant, writing}
+use Rattle.yaml_terms.specs.Profile.{max_depth}
+use Rattle.yaml_terms.specs.Fits.{Fits}
+use Rattle.yaml_terms.specs.Text.{StandsFor}
+use Rattle.yaml_terms.specs.Spelling.{meant, writing}
 use Rattle.slo_objects.specs.Document.{objects_of, written}
 use Rattle.slo_objects.proofs.OriginLemmas.{of_document}
 use Rattle.slo_objects.proofs.writing.document.write_object.Goals as goal

@@ -1,6 +1,6 @@
 use Rattle.std.proofs.Common.{ap, ◌∙◌}
-use Rattle.yaml_subset.specs.Spelling.{items}
-use Rattle.yaml_subset.proofs.SpellingLemmas.{view-Items}
+use Rattle.yaml_terms.specs.Spelling.{items}
+use Rattle.yaml_writing.proofs.SpellingLemmas.{view-Items}
 use Rattle.slo_objects.proofs.AddLemmas.{items_before_none}
 use Rattle.slo_objects.proofs.writing.fields.list_of.Goals as goal
 

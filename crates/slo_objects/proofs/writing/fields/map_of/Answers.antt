@@ -1,6 +1,6 @@
 use Rattle.std.proofs.Common.{ap, ◌∙◌}
-use Rattle.yaml_subset.specs.Spelling.{fields}
-use Rattle.yaml_subset.proofs.SpellingLemmas.{view-Fields}
+use Rattle.yaml_terms.specs.Spelling.{fields}
+use Rattle.yaml_writing.proofs.SpellingLemmas.{view-Fields}
 use Rattle.slo_objects.proofs.AddLemmas.{before_none}
 use Rattle.slo_objects.proofs.writing.fields.map_of.Goals as goal
 

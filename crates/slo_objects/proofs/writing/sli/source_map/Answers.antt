@@ -1,5 +1,5 @@
 use Rattle.std.proofs.Common.{ap, ◌∙◌}
-use Rattle.yaml_subset.specs.Spelling.{fields, no_fields}
+use Rattle.yaml_terms.specs.Spelling.{fields, no_fields}
 use Rattle.slo_objects.specs.Form.{fields_by}
 use Rattle.slo_objects.specs.Sli.{source_map}
 use Rattle.slo_objects.specs.Adding.{before}

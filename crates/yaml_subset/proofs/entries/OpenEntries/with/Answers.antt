@@ -1,9 +1,9 @@
 use Rattle.std.proofs.Common.{List, subst, sym, ◌∙◌}
 use Rattle.yaml_subset.specs.KeysView.{AreKeysOf}
-use Rattle.yaml_subset.specs.declared.text.ScalarText.{ScalarText}
-use Rattle.yaml_subset.specs.declared.node.Node.{Node}
+use Rattle.yaml_terms.specs.declared.ScalarText.{ScalarText}
+use Rattle.yaml_terms.specs.declared.Node.{Node}
 use Rattle.yaml_subset.proofs.KeyLemmas.{keys-more}
-use Rattle.yaml_subset.proofs.Failures.{no_ok}
+use Rattle.yaml_terms.proofs.Failures.{no_ok}
 use Rattle.yaml_subset.proofs.entries.OpenEntries.with.Goals as goal
 
 pub invariant_of-result : goal.invariant_of-result

@@ -1,8 +1,9 @@
 use Rattle.std.proofs.Common.{Some, map, sym, ap, ◌∙◌}
-use Rattle.yaml_subset.specs.Mark.{start, raw}
-use Rattle.yaml_subset.specs.Block.{Block}
-use Rattle.yaml_subset.specs.OpenNodes.{open_after, block, within}
-use Rattle.yaml_subset.specs.OpenView.{child, open_of, last_view, block_view}
+use Rattle.yaml_terms.specs.Mark.{start, raw}
+use Rattle.yaml_terms.specs.Block.{Block}
+use Rattle.yaml_terms.specs.OpenNodes.{open_after, block, within}
+use Rattle.yaml_subset.specs.OpenView.{child, open_of, last_view}
+use Rattle.yaml_lines.specs.BlockView.{block_view}
 use Rattle.yaml_subset.specs.declared.frame.Last.{Last}
 use Rattle.yaml_subset.proofs.OpenViewLemmas.{raw_taken, raw_refused}
 use Rattle.yaml_subset.proofs.open.OpenNodes.add_raw.Goals as goal

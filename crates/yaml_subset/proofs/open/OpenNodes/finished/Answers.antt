@@ -1,6 +1,6 @@
 use Rattle.std.proofs.Common.{List, map, sym, ap, ◌∙◌}
 use Rattle.std.proofs.lemmas.Result.{IfOk-weaker}
-use Rattle.yaml_subset.specs.Mark.{Child, start}
+use Rattle.yaml_terms.specs.Mark.{Child, start}
 use Rattle.yaml_subset.proofs.FrameLemmas.{trees-map}
 use Rattle.yaml_subset.proofs.open.OpenNodes.finished.Goals as goal
 

@@ -1,0 +1,9 @@
+pub mod FlowFaultLemmas
+pub mod FlowFaultsLaw
+pub mod FlowItemLemmas
+pub mod FlowLemmas
+pub mod FlowListLemmas
+pub mod FlowSteps
+pub mod LineLemmas
+pub mod ScanLemmas
+pub mod TrimLemmas

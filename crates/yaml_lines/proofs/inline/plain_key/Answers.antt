@@ -1,0 +1,8 @@
+use Rattle.yaml_terms.proofs.Failures.{no_ok}
+use Rattle.yaml_lines.proofs.inline.plain_key.Goals as goal
+
+pub returns-in_err-text-clause-value : goal.returns-in_err-text-clause-value
+returns-in_err-text-clause-value c = no_ok _ _ c.from_residual.result c.from_residual.ensures.1
+
+pub returns-in_err-text-clause-within : goal.returns-in_err-text-clause-within
+returns-in_err-text-clause-within c = no_ok _ _ c.from_residual.result c.from_residual.ensures.1

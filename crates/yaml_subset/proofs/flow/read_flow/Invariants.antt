@@ -1,8 +1,0 @@
-use Rattle.std.proofs.Common.{◌≡◌, drop}
-use Rattle.yaml_subset.specs.Flow.{flow, flow_start}
-use Rattle.yaml_subset.specs.FlowView.{flow_view}
-use Rattle.yaml_subset.proofs.flow.read_flow.Given as goal
-
--- the list so far, gone on with over the rest, is the list of all bytes
-abbrev pub invariant-loop-at : goal.invariant-loop-at
-invariant-loop-at l = flow (flow_view l.list) (drop l.at l.bytes) ≡ flow flow_start l.bytes

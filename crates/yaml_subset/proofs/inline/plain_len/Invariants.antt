@@ -1,7 +1,0 @@
-use Rattle.std.proofs.Common.{◌≡◌, ◌+◌, drop}
-use Rattle.yaml_subset.specs.Line.{plain_len}
-use Rattle.yaml_subset.proofs.inline.plain_len.Given as goal
-
--- the bytes so far all belong to the scalar
-abbrev pub invariant-loop-at : goal.invariant-loop-at
-invariant-loop-at l = l.at + plain_len (drop l.at l.bytes) ≡ plain_len l.bytes

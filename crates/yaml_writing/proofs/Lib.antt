@@ -1,0 +1,14 @@
+pub mod RoomLemmas
+pub mod SpellingLemmas
+pub mod StandingBytes
+pub mod StandingFlow
+pub mod StandingLine
+pub mod StandingOpen
+pub mod StandingPlain
+pub mod StandingQuoted
+pub mod StandingText
+pub mod WriteLemmas
+pub mod Writing
+pub mod WritingBytes
+pub mod WritingLines
+pub mod WritingMarks
