@@ -3,7 +3,7 @@ use Rattle.std.proofs.Common.{◌≡◌, ◌∙◌, ◌<◌, ◌≤◌, ◌+◌,
 use Rattle.std.proofs.Common.{ap, append_assoc, arith, length-append, refl, subst, sym}
 use Rattle.std.proofs.lemmas.List.{append-nil, length-take}
 use Rattle.std.specs.declared.option.Option.{Option}
-use Rattle.csv_pieces.proofs.PartLemmas.{read_all, read_none}
+use Rattle.csv_records.proofs.PartLemmas.{read_all, read_none}
 use Rattle.csv_records.specs.Records.{Fields, csv_records}
 use Rattle.office_outside.specs.Told.{HasNothingLeft, Lost}
 use Rattle.budget_command.specs.Input.{HasJudgedAll, HasMore, HasTakenBytes, TakesAtMost}

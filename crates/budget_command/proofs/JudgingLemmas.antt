@@ -4,8 +4,8 @@ use Rattle.std.proofs.Common.{length, length-append, refl, subst, sym, take}
 use Rattle.std.specs.Prelude.{Option, Some, None, Result, Ok, OnOk, false, is_err}
 use Rattle.std.proofs.lemmas.List.{length-take}
 use Rattle.std.proofs.lemmas.List.Elements.{All-nil}
-use Rattle.csv_pieces.specs.Parts.{EndsWithRecord, IsRead}
-use Rattle.csv_pieces.proofs.PartLemmas.{read_all, read_more, read_piece}
+use Rattle.csv_records.specs.Parts.{EndsWithRecord, IsRead}
+use Rattle.csv_records.proofs.PartLemmas.{read_all, read_more, read_piece}
 use Rattle.csv_records.specs.Records.{Fields, csv_records}
 use Rattle.csv_records.proofs.Counts.{csv_records-few}
 use Rattle.slo_terms.specs.Judged.{judged_from}

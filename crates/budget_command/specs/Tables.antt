@@ -2,7 +2,7 @@
 use Rattle.std.specs.Prelude.{◌≡◌, ◌+◌, ◌≤◌, ℕ, Bool, List, [], ◌∷◌, ◌++◌, Option, Some, None}
 use Rattle.std.specs.Prelude.{Result, Ok, Err, All, count_by}
 use Rattle.std.specs.Prelude.{length, if◌then◌else◌}
-use Rattle.csv_pieces.specs.Parts.{IsRead}
+use Rattle.csv_records.specs.Parts.{IsRead}
 use Rattle.csv_records.specs.Records.{Fields, csv_records}
 use Rattle.slo_limits.specs.declared.TheConstants.{MAX_CELLS}
 use Rattle.slo_terms.specs.Judged.{judged_from}

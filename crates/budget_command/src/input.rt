@@ -7,7 +7,7 @@ ghost use Rattle.budget_command.specs.Tables.{CanGoOn, HasJudged};
 
 use crate::MAX_INPUT_BYTES;
 use crate::judging::{Judging, take_piece};
-use csv_pieces::WaitingText;
+use csv_records::WaitingText;
 use office_outside::Source;
 use std::alloc::{AllocError, Global};
 

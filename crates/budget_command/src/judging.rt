@@ -6,7 +6,7 @@ ghost use Rattle.budget_command.specs.Tables.{CanGoOn, HasJudged, HasJudgedTo};
 
 use crate::fault::RecordFault;
 use crate::table::{Table, TableFault, fill};
-use csv_pieces::WaitingText;
+use csv_records::WaitingText;
 use std::alloc::{AllocError, Global};
 
 /// What came of the records so far.

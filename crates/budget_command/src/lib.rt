@@ -1,5 +1,5 @@
 //! `budget TARGET FROM TO`: the error budget of the samples of an input, which is CSV records.
-//! Stands on `csv_pieces`, `sample_book` and `burn_core`. The input's text isn't held.
+//! Stands on `csv_records`, `sample_book` and `burn_core`. The input's text isn't held.
 //! Promises that its lines, or why the input is refused, are the definition's answer on its bytes.
 #![tactic(auto)]
 

@@ -1,4 +1,6 @@
-pub mod Records
-pub mod Left
 pub mod Columns
+pub mod Left
+pub mod Parts
+pub mod Places
+pub mod Records
 pub mod Worked

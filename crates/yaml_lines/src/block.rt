@@ -68,6 +68,7 @@ fn with_ending(text: Vec<u8>, chomping: Chomping, blanks: usize) -> Result<Vec<u
     }
 }
 
+/// The text with these bytes behind it.
 fn with_bytes(text: Vec<u8>, bytes: &[u8]) -> Result<Vec<u8>, AllocError>
     ensures { IfOk result (λ t. t.items ≡ text.items ++ bytes.now) }
 {
@@ -77,6 +78,7 @@ fn with_bytes(text: Vec<u8>, bytes: &[u8]) -> Result<Vec<u8>, AllocError>
 }
 
 impl Block {
+    /// A block scalar of which no line is read.
     pub fn new(alloc: Global, style: Style) -> Block
         ensures { block_view result ≡ no_lines style }
     {
@@ -105,6 +107,7 @@ impl Block {
         })
     }
 
+    /// The scalar with a further line that isn't blank, behind the indentation of its content.
     #[tactic(auto, using(std::proofs::Common::append_assoc))]
     fn with_next(self, line: &[u8], indent: usize) -> Result<Block, AllocError>
         requires { self.indent ≡ Some indent }
@@ -120,6 +123,7 @@ impl Block {
         })
     }
 
+    /// The scalar with a line that isn't blank.
     fn with_filled(self, line: &[u8]) -> Result<Block, AllocError>
         ensures { IfOk result (λ b. block_view b ≡ filled_block (block_view self) line.now) }
     {

@@ -130,6 +130,7 @@ pub(crate) fn is_control(byte: u8) -> bool
     (byte < 32 && !(byte == b'\t')) || byte == 127
 }
 
+/// Whether one of the bytes is such a character.
 pub(crate) fn has_control(bytes: &[u8]) -> bool
     ensures { result ≡ has_control_def bytes.now }
 {

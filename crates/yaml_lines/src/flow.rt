@@ -103,6 +103,7 @@ pub(crate) fn end_fault(part: Part) -> Option<ProfileFault>
 }
 
 impl Flow {
+    /// Nothing is read behind the opening bracket.
     fn new(alloc: Global) -> Flow
         ensures { flow_view result ≡ flow_start }
     {
@@ -114,6 +115,7 @@ impl Flow {
         }
     }
 
+    /// The reading goes on at another part, with one more fault.
     fn with_fault(self, part: Part, which: ProfileFault) -> Flow
         ensures { flow_view result ≡ flow_fault (flow_view self) part which }
     {
@@ -125,6 +127,7 @@ impl Flow {
         }
     }
 
+    /// The reading goes on at another part.
     fn at(self, part: Part) -> Flow
         ensures { flow_view result ≡ flow_part (flow_view self) part }
     {
@@ -136,6 +139,7 @@ impl Flow {
         }
     }
 
+    /// An item begins with this text.
     fn with_text(self, part: Part, text: Vec<u8>) -> Flow
         ensures { flow_view result ≡ flow_item (flow_view self) part text.items }
     {
@@ -147,6 +151,7 @@ impl Flow {
         }
     }
 
+    /// The item's text gets one more byte.
     fn more(self, part: Part, byte: u8) -> Result<Flow, AllocError>
         ensures { IfOk result (λ s. flow_view s ≡ flow_more (flow_view self) part byte) }
     {
@@ -160,6 +165,7 @@ impl Flow {
         })
     }
 
+    /// A quoted item ends.
     fn quoted_item(self, alloc: Global) -> Result<Flow, AllocError>
         ensures { IfOk result (λ s. flow_view s ≡ flow_quoted (flow_view self)) }
     {
@@ -176,6 +182,7 @@ impl Flow {
         })
     }
 
+    /// A plain item ends with this text.
     fn plain_scalar(self, alloc: Global, part: Part, text: Vec<u8>) -> Result<Flow, AllocError>
         ensures { IfOk result (λ s. flow_view s ≡ flow_scalar (flow_view self) part text.items) }
     {
@@ -193,6 +200,7 @@ impl Flow {
         })
     }
 
+    /// A plain item ends, without the blanks at its end.
     fn plain_item(self, alloc: Global, part: Part) -> Result<Flow, AllocError>
         ensures { IfOk result (λ s. flow_view s ≡ flow_plain (flow_view self) part) }
     {
@@ -200,6 +208,7 @@ impl Flow {
         self.plain_scalar(alloc, part, text)
     }
 
+    /// One more byte behind the closing bracket.
     fn in_closed(self, byte: u8, next: u8) -> Flow
         ensures { flow_view result ≡ in_closed_def (flow_view self) byte next }
     {
@@ -214,6 +223,7 @@ impl Flow {
         }
     }
 
+    /// One more byte where an item, or the closing bracket, may begin.
     fn in_want(self, alloc: Global, byte: u8, next: u8) -> Result<Flow, AllocError>
         ensures { IfOk result (λ s. flow_view s ≡ in_want_def (flow_view self) byte next) }
     {
@@ -235,6 +245,7 @@ impl Flow {
         }
     }
 
+    /// One more byte within a plain item.
     fn in_plain(self, alloc: Global, byte: u8, next: u8) -> Result<Flow, AllocError>
         ensures { IfOk result (λ s. flow_view s ≡ in_plain_def (flow_view self) byte next) }
     {
@@ -251,6 +262,7 @@ impl Flow {
         }
     }
 
+    /// One more byte within a single-quoted item.
     fn in_single(self, alloc: Global, byte: u8, next: u8) -> Result<Flow, AllocError>
         ensures { IfOk result (λ s. flow_view s ≡ in_single_def (flow_view self) byte next) }
     {
@@ -265,6 +277,7 @@ impl Flow {
         }
     }
 
+    /// One more byte within a double-quoted item.
     fn in_double(self, alloc: Global, byte: u8) -> Result<Flow, AllocError>
         ensures { IfOk result (λ s. flow_view s ≡ in_double_def (flow_view self) byte) }
     {
@@ -277,6 +290,7 @@ impl Flow {
         }
     }
 
+    /// The byte behind a backslash: what the two stand for, if they are an escape.
     fn in_escape(self, meant: Option<u8>) -> Result<Flow, AllocError>
         ensures { IfOk result (λ s. flow_view s ≡ in_escape_def (flow_view self) meant) }
     {
@@ -286,6 +300,7 @@ impl Flow {
         }
     }
 
+    /// One more byte behind a quoted item.
     fn in_after(self, byte: u8, next: u8) -> Flow
         ensures { flow_view result ≡ in_after_def (flow_view self) byte next }
     {
@@ -306,6 +321,7 @@ impl Flow {
         }
     }
 
+    /// One more byte within something that is no item.
     fn in_broken(self, byte: u8, next: u8) -> Flow
         ensures { flow_view result ≡ in_broken_def (flow_view self) byte next }
     {
@@ -320,6 +336,7 @@ impl Flow {
         }
     }
 
+    /// One more byte that begins no comment.
     fn within(self, alloc: Global, byte: u8, next: u8) -> Result<Flow, AllocError>
         ensures { IfOk result (λ s. flow_view s
             ≡ flow_at_def self.part (flow_view self) byte next) }
@@ -338,6 +355,7 @@ impl Flow {
         }
     }
 
+    /// One more byte.
     fn step(self, alloc: Global, byte: u8, next: u8) -> Result<Flow, AllocError>
         ensures { IfOk result (λ s. flow_view s ≡ flow_step (flow_view self) byte next) }
     {

@@ -39,6 +39,7 @@ pub(crate) struct Key {
     pub(crate) fault: Option<ProfileFault>,
 }
 
+/// Whether a plain scalar begins with a byte.
 pub(crate) fn is_plain_start(byte: u8, rest: &[u8]) -> bool
     ensures { result ≡ is_plain_start_def byte rest.now }
 {
@@ -65,6 +66,7 @@ pub(crate) fn plain_len(bytes: &[u8]) -> usize
     bytes.len()
 }
 
+/// A plain value, to the end of its line.
 fn plain_value(alloc: Global, column: usize, bytes: &[u8]) -> Result<Line, AllocError>
     ensures { IfOk result (λ l. line_view l ≡ plain_value_def column bytes.now) }
 {
@@ -80,12 +82,14 @@ fn plain_value(alloc: Global, column: usize, bytes: &[u8]) -> Result<Line, Alloc
     Line::one(alloc, Mark::Value(column, node), None)
 }
 
+/// A single or a double quote.
 fn is_quote(byte: u8) -> bool
     ensures { result ≡ is_quote_def byte }
 {
     byte == b'\'' || byte == b'"'
 }
 
+/// The fault of a quoted scalar with an escape that is none.
 fn escape_fault(bad: bool) -> Option<ProfileFault>
     ensures { result ≡ escape_fault_def bad }
 {
@@ -123,6 +127,7 @@ fn quoted_value(
     }
 }
 
+/// A one-line list as a value.
 fn flow_value(alloc: Global, column: usize, list: Flow) -> Result<Line, AllocError>
     ensures { IfOk result (λ l. line_view l ≡ flow_value_def column (flow_view list)) }
 {
@@ -143,6 +148,7 @@ fn empty_map(alloc: Global, column: usize, rest: &[u8]) -> Result<Line, AllocErr
     }
 }
 
+/// What a sign in a header says of the line feeds at the end.
 fn chomping_of(byte: u8) -> Chomping
     ensures { result ≡ chomping_of_def byte }
 {
@@ -155,12 +161,14 @@ fn chomping_of(byte: u8) -> Chomping
     }
 }
 
+/// A sign of a header.
 fn is_sign(byte: u8) -> bool
     ensures { result ≡ is_sign_def byte }
 {
     byte == b'-' || byte == b'+'
 }
 
+/// A decimal digit.
 fn is_digit(byte: u8) -> bool
     ensures { result ≡ is_digit_def byte }
 {
@@ -279,6 +287,7 @@ fn plain_key_fault(text: &[u8]) -> Option<ProfileFault>
     }
 }
 
+/// A plain key: none where no colon follows it.
 fn plain_key(alloc: Global, bytes: &[u8]) -> Result<Option<Key>, AllocError>
     ensures value { IfOk result (λ k. option_map key_view k ≡ plain_key_def bytes.now) }
     ensures within { IfOk result (λ o. IfSome o (λ k. k.length ≤ length bytes.now)) }

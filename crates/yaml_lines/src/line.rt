@@ -44,6 +44,7 @@ fn key_line(alloc: Global, column: usize, key: Key) -> Result<Line, AllocError>
     Line::one(alloc, Mark::Key(column, key.text), key.fault)
 }
 
+/// The entry that a key begins, or a value where there is none.
 fn entry_or_value(
     alloc: Global,
     column: usize,
@@ -65,6 +66,7 @@ fn entry_or_value(
     }
 }
 
+/// The fault of a tab behind a dash.
 fn tab_fault(byte: u8) -> Option<ProfileFault>
     ensures { result ≡ tab_fault_def byte }
 {
@@ -116,6 +118,7 @@ pub(crate) enum Ahead {
     Entry,
 }
 
+/// What a byte and those behind it begin.
 fn begun_by(byte: u8, rest: &[u8]) -> Ahead
     ensures { result ≡ ahead_of byte rest.now }
 {
@@ -151,6 +154,7 @@ fn content(alloc: Global, column: usize, bytes: &[u8]) -> Result<Line, AllocErro
     Ok(line)
 }
 
+/// Whether a line begins with three dashes or three dots.
 fn begins_as_marker(line: &[u8]) -> bool
     ensures { result ≡ begins_as_marker_def line.now }
 {
@@ -176,6 +180,7 @@ fn marker_line(alloc: Global, rest: &[u8]) -> Result<Line, AllocError>
     }
 }
 
+/// A line that isn't blank.
 fn filled_line(alloc: Global, line: &[u8]) -> Result<Line, AllocError>
     ensures { IfOk result (λ l. line_view l ≡ filled_line_def line.now) }
 {

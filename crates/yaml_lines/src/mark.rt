@@ -72,6 +72,7 @@ impl Line {
         }
     }
 
+    /// A line without marks, with a fault.
     pub fn faulty(alloc: Global, which: ProfileFault) -> Line
         ensures { line_view result ≡ faulty_def which }
     {
@@ -81,6 +82,7 @@ impl Line {
         }
     }
 
+    /// A line with one mark.
     pub fn one(alloc: Global, mark: Mark, fault: Option<ProfileFault>) -> Result<Line, AllocError>
         ensures { IfOk result (λ l. line_view l ≡ one_mark (mark_view mark) fault) }
     {

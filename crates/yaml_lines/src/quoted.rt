@@ -62,6 +62,7 @@ pub(crate) fn escaped(byte: u8) -> Option<u8>
     }
 }
 
+/// What a byte does between single quotes.
 fn step_in_single(byte: u8, next: u8) -> Step
     ensures { result ≡ step_of_def 39 byte next }
 {
@@ -76,6 +77,7 @@ fn step_in_single(byte: u8, next: u8) -> Step
     }
 }
 
+/// What a byte does between quotes.
 fn step_of(quote: u8, byte: u8, next: u8) -> Step
     ensures { result ≡ step_of_def quote byte next }
 {
@@ -109,6 +111,7 @@ fn advance(place: Place, mut quoted: Quoted, step: Step) -> Result<Scan, AllocEr
     }
 }
 
+/// The same where the byte isn't the second of two.
 fn advance_inside(mut quoted: Quoted, step: Step) -> Result<Scan, AllocError>
     requires { quoted.length < 2 ^ 63 }
     ensures value { IfOk result (λ s. scan_view s ≡ inside (quoted_view quoted) step) }
@@ -169,6 +172,7 @@ fn end_of(scan: Scan) -> Option<Quoted>
     }
 }
 
+/// What is read after all bytes behind the first quote.
 #[tactic(auto, using(crate::proofs::ScanLemmas::scan_more))]
 fn scan_all(alloc: Global, quote: u8, bytes: &[u8]) -> Result<Scan, AllocError>
     ensures value { IfOk result (λ s. scan_view s ≡ scan quote scan_start bytes.now) }

@@ -33,6 +33,7 @@ fn takes_line(scalar: Scalar, line: &[u8]) -> bool
     !is_marker(line) && (is_blank(line) || is_content(scalar, spaces(line)))
 }
 
+/// Whether a line belongs to the open block scalar, if there is one.
 pub fn takes(scalar: Option<Scalar>, line: &[u8]) -> bool
     ensures { result ≡ takes_def scalar line.now }
 {
@@ -42,6 +43,7 @@ pub fn takes(scalar: Option<Scalar>, line: &[u8]) -> bool
     }
 }
 
+/// The indentation of the content, which the line sets where none has set it.
 fn indent_of(indent: Option<usize>, line: &[u8]) -> usize
     ensures { result ≡ indent_of_def indent line.now }
 {

@@ -46,6 +46,7 @@ fn no_text(alloc: Global) -> Node
     }
 }
 
+/// The node, or the scalar of no text where none stands.
 fn or_no_text(alloc: Global, value: Option<Node>) -> Node
     ensures { node_view result ≡ or_no_text_def (option_map node_view value) }
 {
@@ -91,6 +92,7 @@ fn is_known(column: usize, entries: &OpenEntries, key: &[u8], next: &[u8]) -> bo
     either(finished, open)
 }
 
+/// Whether one of two facts holds, both being known.
 fn either(one: bool, other: bool) -> bool
     ensures { result ≡ (one || other) }
 {
@@ -124,6 +126,7 @@ impl Frame {
         }
     }
 
+    /// Whether a list may begin at a column behind its last mark.
     fn has_room_for_list(&self, at: usize) -> bool
         ensures { result ≡ has_room_def (head_of self.now) (marks.dash at) }
     {
@@ -276,6 +279,7 @@ fn more_items(
     Ok(items)
 }
 
+/// The map with these entries.
 fn node_of_entries(column: usize, entries: OpenEntries) -> Node
     requires { 0 < length entries }
     ensures { node_view result ≡ collection (map (entry_child column) entries) }
@@ -283,6 +287,7 @@ fn node_of_entries(column: usize, entries: OpenEntries) -> Node
     Node::Map(entries.ended())
 }
 
+/// The list of these items.
 fn node_of_items(column: usize, items: Nodes) -> Node
     ensures { node_view result ≡ collection (map (child (marks.dash column)) items.items) }
 {

@@ -19,6 +19,7 @@ use std::alloc::Global;
 use yaml_lines::{Line, Mark, line_of, raw_fault, scalar_with, takes};
 use yaml_terms::{ProfileFault, Scalar};
 
+/// The column of a key or dash.
 fn parent_at(mark: &Mark) -> Option<usize>
     ensures { result ≡ parent_at_def (mark_view mark.now) }
 {

@@ -32,6 +32,7 @@ pub fn copy_node(alloc: Global, node: &Node) -> Result<Node, AllocError>
     }
 }
 
+/// Copies of entries.
 #[cycle(copies)]
 fn copy_pairs(alloc: Global, entries: &[(ScalarText, Node)]) -> Result<Pairs, AllocError>
     ensures { IfOk result (λ v. fields_view v.items ≡ fields_view entries.now) }
@@ -45,6 +46,7 @@ fn copy_pairs(alloc: Global, entries: &[(ScalarText, Node)]) -> Result<Pairs, Al
     Ok(copies)
 }
 
+/// Copies of nodes.
 #[cycle(copies)]
 fn copy_nodes(alloc: Global, items: &[Node]) -> Result<Nodes, AllocError>
     ensures { IfOk result (λ v. map node_view v.items ≡ map node_view items.now) }

@@ -30,6 +30,7 @@ fn is_escaped(byte: u8) -> bool
     byte == b'\\' || byte == b'"' || byte == b'\n' || byte == b'\t'
 }
 
+/// How many bytes of a text are written as two.
 fn escapes(text: &[u8]) -> usize
     ensures { result ≡ count_by is_escaped_def text.now }
 {

@@ -1,7 +1,7 @@
 use Rattle.std.proofs.Common.{◌≡◌, ◌∙◌, ◌-◌, ◌<◌, ◌++◌, ◌∷◌, List, ℕ, ap, arith, drop, length}
 use Rattle.std.proofs.Common.{subst, sym, take}
 use Rattle.std.proofs.lemmas.Grind.{common_steps}
-use Rattle.csv_pieces.specs.Parts.{EndsWithRecord}
+use Rattle.csv_records.specs.Parts.{EndsWithRecord}
 use Rattle.csv_records.specs.Records.{csv_records}
 use Rattle.budget_command.specs.Tables.{HasJudged, HasJudgedTo}
 use Rattle.budget_command.proofs.JudgingLemmas.{judged_to-part, on_ok-then}

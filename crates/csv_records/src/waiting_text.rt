@@ -1,6 +1,6 @@
 //! The part of a text that waits for the end of its last record.
 ghost use Rattle.std.specs.Prelude.{◌≡◌, ◌<◌, ◌≤◌, ◌++◌, ◌∷◌, [], IfOk, OnOk, length, take};
-ghost use Rattle.csv_pieces.specs.Parts.{EndsWithRecord};
+ghost use Rattle.csv_records.specs.Parts.{EndsWithRecord};
 
 use crate::places::{Place, last_cut, place_after};
 use std::alloc::{AllocError, Global};
@@ -27,8 +27,8 @@ pub struct WaitingText {
 
 impl Model for WaitingText {
     ghost use Rattle.std.specs.Prelude.{◌≡◌, ℕ, List};
-    ghost use Rattle.csv_pieces.specs.Places.{place_after};
-    ghost use Rattle.csv_pieces.specs.declared.places.Place.TheVariants as places;
+    ghost use Rattle.csv_records.specs.Places.{place_after};
+    ghost use Rattle.csv_records.specs.declared.places.Place.TheVariants as places;
 
     ghost Value = { List ℕ };
 

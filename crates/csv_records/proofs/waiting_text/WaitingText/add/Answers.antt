@@ -1,9 +1,9 @@
 use Rattle.std.proofs.Common.{sym, subst}
-use Rattle.csv_pieces.specs.Parts.{EndsWithRecord}
-use Rattle.csv_pieces.specs.Places.{IsCut}
-use Rattle.csv_pieces.specs.declared.places.Place.{Place}
-use Rattle.csv_pieces.proofs.PartLemmas.{cut_ends_record}
-use Rattle.csv_pieces.proofs.waiting_text.WaitingText.add.Goals as goal
+use Rattle.csv_records.specs.Parts.{EndsWithRecord}
+use Rattle.csv_records.specs.Places.{IsCut}
+use Rattle.csv_records.specs.declared.places.Place.{Place}
+use Rattle.csv_records.proofs.PartLemmas.{cut_ends_record}
+use Rattle.csv_records.proofs.waiting_text.WaitingText.add.Goals as goal
 
 pub returns-clause-ends : goal.returns-clause-ends
 returns-clause-ends c = λ some.

@@ -2,8 +2,8 @@
 -- cut.
 use Rattle.std.specs.Prelude.{◌≡◌, ◌≢◌, ℕ, List, ◌<◌, ◌-◌, Bool, true, false, fold, get_or, length}
 use Rattle.std.specs.Prelude.{take, ◌==◌, ◌||◌, if◌then◌else◌}
-use Rattle.csv_pieces.specs.declared.places.Place.{Place}
-use Rattle.csv_pieces.specs.declared.places.Place.TheVariants as place
+use Rattle.csv_records.specs.declared.places.Place.{Place}
+use Rattle.csv_records.specs.declared.places.Place.TheVariants as place
 
 -- a comma, a carriage return or a line feed ends a field
 abbrev pub ends_field : ℕ → Bool

@@ -1,6 +1,6 @@
 use Rattle.std.proofs.Common.{arith}
-use Rattle.csv_pieces.proofs.PlaceLemmas.{cut_at, plain_upto}
-use Rattle.csv_pieces.proofs.places.cut_at_feed.Goals as goal
+use Rattle.csv_records.proofs.PlaceLemmas.{cut_at, plain_upto}
+use Rattle.csv_records.proofs.places.cut_at_feed.Goals as goal
 
 pub returns-in-Some-clause-cut : goal.returns-in-Some-clause-cut
 returns-in-Some-clause-cut c = λ some.

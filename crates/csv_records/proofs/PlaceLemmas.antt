@@ -8,10 +8,10 @@ use Rattle.csv.specs.Machine.{step}
 use Rattle.csv.specs.Reading.{default_config, is_bom, strip_bom}
 use Rattle.csv.specs.declared.parser.State.{State}
 use Rattle.csv.specs.declared.parser.State.TheVariants as st
-use Rattle.csv_pieces.specs.Places.{HasNoQuote, IsCut, ends_line}
-use Rattle.csv_pieces.specs.Places.{in_quotes, next_place, place_after}
-use Rattle.csv_pieces.specs.declared.places.Place.{Place}
-use Rattle.csv_pieces.specs.declared.places.Place.TheVariants as place
+use Rattle.csv_records.specs.Places.{HasNoQuote, IsCut, ends_line}
+use Rattle.csv_records.specs.Places.{in_quotes, next_place, place_after}
+use Rattle.csv_records.specs.declared.places.Place.{Place}
+use Rattle.csv_records.specs.declared.places.Place.TheVariants as place
 
 -- the state of `csv`'s machine after one byte, and after these bytes
 abbrev pub next_state : State → ℕ → State

@@ -1,9 +1,9 @@
 use Rattle.std.proofs.Common.{◌∙◌, ap, arith, get_or, sym}
-use Rattle.csv_pieces.specs.Places.{ends_line, next_place}
-use Rattle.csv_pieces.specs.declared.places.Place.{Place}
-use Rattle.csv_pieces.proofs.PlaceLemmas.{cut_more, place_more}
-use Rattle.csv_pieces.proofs.places.cut_by_places.Goals as goal
-use Rattle.csv_pieces.proofs.places.cut_by_places.Goals.{then-ends_line, else-ends_line}
+use Rattle.csv_records.specs.Places.{ends_line, next_place}
+use Rattle.csv_records.specs.declared.places.Place.{Place}
+use Rattle.csv_records.proofs.PlaceLemmas.{cut_more, place_more}
+use Rattle.csv_records.proofs.places.cut_by_places.Goals as goal
+use Rattle.csv_records.proofs.places.cut_by_places.Goals.{then-ends_line, else-ends_line}
 
 pub loop-at-preserved : goal.loop-at-preserved
 loop-at-preserved c =

@@ -1,8 +1,8 @@
 //! Where a byte of a text stands, as far as quotes and line feeds ask.
 ghost use Rattle.std.specs.Prelude.{◌≡◌, ◌≢◌, ◌<◌, ◌≤◌, ℕ, IfSome, IfNone, false, get_or, length};
-ghost use Rattle.csv_pieces.specs.Places.{HasNoQuote, IsCut, after_plain, after_start};
-ghost use Rattle.csv_pieces.specs.Places.{ends_field, ends_line, in_quotes, next_place};
-ghost use Rattle.csv_pieces.specs.Places.{place_after};
+ghost use Rattle.csv_records.specs.Places.{HasNoQuote, IsCut, after_plain, after_start};
+ghost use Rattle.csv_records.specs.Places.{ends_field, ends_line, in_quotes, next_place};
+ghost use Rattle.csv_records.specs.Places.{place_after};
 
 use memchr::{memchr, memrchr};
 
@@ -25,13 +25,14 @@ pub enum Place {
     QuoteEnd,
 }
 
-// A byte that stands between fields, or ends a line.
+/// A byte that stands between fields, or ends a line.
 fn ends_field(byte: u8) -> bool
     ensures { result ≡ ends_field byte }
 {
     byte == b',' || byte == b'\r' || byte == b'\n'
 }
 
+/// The place behind a byte that no quote begins.
 fn after_plain(byte: u8) -> Place
     ensures { result ≡ after_plain byte }
 {
@@ -42,6 +43,7 @@ fn after_plain(byte: u8) -> Place
     }
 }
 
+/// The place behind the first byte of a field.
 fn after_start(byte: u8) -> Place
     ensures { result ≡ after_start byte }
 {
@@ -52,7 +54,7 @@ fn after_start(byte: u8) -> Place
     }
 }
 
-// The place after one more byte.
+/// The place after one more byte.
 fn next_place(place: Place, byte: u8) -> Place
     ensures { result ≡ next_place place byte }
 {
@@ -71,6 +73,7 @@ fn next_place(place: Place, byte: u8) -> Place
     }
 }
 
+/// Whether quotes are open.
 fn in_quotes(place: Place) -> bool
     ensures { result ≡ in_quotes place }
 {
@@ -80,7 +83,7 @@ fn in_quotes(place: Place) -> bool
     }
 }
 
-// Whether a byte at this place ends a line.
+/// Whether a byte at this place ends a line.
 fn ends_line(place: Place, byte: u8) -> bool
     ensures { result ≡ ends_line place byte }
 {
@@ -101,6 +104,7 @@ pub(crate) fn place_after(from: Place, bytes: &[u8]) -> Place
     place
 }
 
+/// Whether a quote is among the bytes.
 fn has_quote(bytes: &[u8]) -> bool
     ensures { result ≡ false → HasNoQuote bytes.now }
 {
@@ -110,7 +114,7 @@ fn has_quote(bytes: &[u8]) -> bool
     }
 }
 
-// How many bytes stand before the last cut, where no quote is open and none comes.
+/// How many bytes stand before the last cut, where no quote is open and none comes.
 fn cut_at_feed(from: Place, bytes: &[u8]) -> usize
     requires open { in_quotes from ≡ false }
     requires plain { HasNoQuote bytes.now }
@@ -123,7 +127,7 @@ fn cut_at_feed(from: Place, bytes: &[u8]) -> usize
     }
 }
 
-// The same byte after byte, wherever quotes stand.
+/// The same byte after byte, wherever quotes stand.
 fn cut_by_places(from: Place, bytes: &[u8]) -> usize
     ensures within { result ≤ length bytes.now }
     ensures cut { 0 < result → IsCut from bytes.now result }

@@ -1,6 +1,6 @@
 use Rattle.std.proofs.Common.{◌≡◌, ◌≤◌, ◌<◌, take}
-use Rattle.csv_pieces.specs.Places.{IsCut, place_after}
-use Rattle.csv_pieces.proofs.places.cut_by_places.Given as goal
+use Rattle.csv_records.specs.Places.{IsCut, place_after}
+use Rattle.csv_records.proofs.places.cut_by_places.Given as goal
 
 abbrev pub invariant-loop-at : goal.invariant-loop-at
 invariant-loop-at l = record {

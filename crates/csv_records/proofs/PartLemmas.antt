@@ -6,13 +6,13 @@ use Rattle.std.proofs.lemmas.List.{append-nil, take-append-drop, take_more}
 use Rattle.std.proofs.lemmas.List.Sums.{fold-append}
 use Rattle.csv.specs.Reading.{strip_bom}
 use Rattle.csv_records.specs.Records.{Fields, csv_records}
-use Rattle.csv_pieces.specs.Parts.{EndsWithRecord, IsRead}
-use Rattle.csv_pieces.specs.Places.{IsCut, in_quotes, next_place, place_after}
-use Rattle.csv_pieces.specs.declared.places.Place.{Place}
-use Rattle.csv_pieces.specs.declared.places.Place.TheVariants as place
-use Rattle.csv_pieces.proofs.CutLemmas.{plain_records, records_behind_feed, records_cut}
-use Rattle.csv_pieces.proofs.CutLemmas.{records_plain}
-use Rattle.csv_pieces.proofs.PlaceLemmas.{ends, strip_more}
+use Rattle.csv_records.specs.Parts.{EndsWithRecord, IsRead}
+use Rattle.csv_records.specs.Places.{IsCut, in_quotes, next_place, place_after}
+use Rattle.csv_records.specs.declared.places.Place.{Place}
+use Rattle.csv_records.specs.declared.places.Place.TheVariants as place
+use Rattle.csv_records.proofs.CutLemmas.{plain_records, records_behind_feed, records_cut}
+use Rattle.csv_records.proofs.CutLemmas.{records_plain}
+use Rattle.csv_records.proofs.PlaceLemmas.{ends, strip_more}
 
 -- a line feed outside quotes ends a record
 pub feed_ends_record : (text : List ℕ) → in_quotes (place_after place.TextStart text) ≡ false

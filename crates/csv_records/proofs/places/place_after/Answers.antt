@@ -1,8 +1,8 @@
 use Rattle.std.proofs.Common.{◌∙◌, ap, sym, get_or}
-use Rattle.csv_pieces.specs.Places.{next_place}
-use Rattle.csv_pieces.specs.declared.places.Place.{Place}
-use Rattle.csv_pieces.proofs.PlaceLemmas.{place_more}
-use Rattle.csv_pieces.proofs.places.place_after.Goals as goal
+use Rattle.csv_records.specs.Places.{next_place}
+use Rattle.csv_records.specs.declared.places.Place.{Place}
+use Rattle.csv_records.proofs.PlaceLemmas.{place_more}
+use Rattle.csv_records.proofs.places.place_after.Goals as goal
 
 pub loop-at-preserved : goal.loop-at-preserved
 loop-at-preserved c =

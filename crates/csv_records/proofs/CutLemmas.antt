@@ -11,7 +11,7 @@ use Rattle.csv.specs.declared.parser.Action.TheVariants as act
 use Rattle.csv_records.specs.Records.{Fields, csv_records}
 use Rattle.csv_records.specs.Left.{IsBetween, rest}
 use Rattle.csv_records.proofs.Rest.{all_left, leaves}
-use Rattle.csv_pieces.proofs.PlaceLemmas.{state_after}
+use Rattle.csv_records.proofs.PlaceLemmas.{state_after}
 
 -- the records of a text that has no byte order mark
 abbrev pub plain_records : List ℕ → List Fields
