@@ -182,13 +182,6 @@ pub text_counted : {E : Type 0} (known : Known) (text : List ℕ) (r : Result De
 text_counted known text (Ok made) h = (made_of_text known text made h).counted
 text_counted known text (Err e) h = tt
 
-pub texts_few : {E : Type 0} → ((known : Known) (text : List ℕ) (made : Definition)
-    → IsDefinition known text made → made.objects < 2 ^ 32)
-    → (known : Known) (text : List ℕ) (r : Result Definition E)
-    → IfOk r (λ made. IsDefinition known text made) → IfOk r (λ made. made.objects < 2 ^ 32)
-texts_few law known text (Ok made) h = law known text made h
-texts_few law known text (Err e) h = tt
-
 -- WHAT IS ACCEPTED
 
 fits : (entries : ℕ) → accepted entries ≡ Accepted → entries < most.MAX_ENTRIES

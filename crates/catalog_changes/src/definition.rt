@@ -1,5 +1,5 @@
 //! Definitions.
-ghost use Rattle.std.specs.Prelude.{◌≡◌, ◌<◌, ◌^◌, Err, IfOk, length};
+ghost use Rattle.std.specs.Prelude.{◌≡◌, Err, IfOk, length};
 ghost use Rattle.std.specs.List.{All};
 ghost use Rattle.record_form.specs.declared.Command.TheVariants.{Define};
 ghost use Rattle.record_form.specs.declared.Refusal.{Refusal};
@@ -17,7 +17,7 @@ ghost use Rattle.catalog_changes.specs.Judging.{IsJudgedBy, IsPlanOver, IsTextWo
 use crate::copies::copy_of;
 use crate::days::passes_days;
 use crate::kinds::texts_have_bodies_of_their_kinds;
-use definition_verdict::{Definition, VerdictError, a_text_defines_few_objects, judge_definition};
+use definition_verdict::{Definition, VerdictError, judge_definition};
 use exact_fraction::Bytes;
 use kept_objectives::SumsPlan;
 use office_derived::{Derived, Judged, Work, accepted};
@@ -39,14 +39,12 @@ fn definition_over(
     ensures catalog { IfOk result
         (λ made. made.catalog ≡ with_members (text_objects text.now) derived.now.catalog) }
     ensures objects { IfOk result (λ made. made.objects ≡ length (text_objects text.now)) }
-    ensures few { IfOk result (λ made. made.objects < 2 ^ 32) }
     ensures read { IfOk result (λ made. All (IsRead made.catalog) derived.now.book.rows) }
     ensures refused { (refusal : Refusal) → result ≡ Err (VerdictError.Refused refusal) →
         IsRefused (known_by derived.now) text.now refusal }
 {
     // So each indicator that has samples keeps its reading.
     texts_have_bodies_of_their_kinds();
-    a_text_defines_few_objects();
     let Ok(zones) = derived.zones.names(alloc) else {
         return Err(VerdictError::NoMemory);
     };
@@ -65,7 +63,7 @@ fn verdict_on(
     alloc: Global,
     derived: &Derived,
     made: &Definition,
-    applied: u32,
+    applied: u64,
 ) -> Result<Judgement, AllocError>
     requires sound { IsSound derived.now }
     requires applied { applied ≡ made.now.objects }
@@ -114,7 +112,7 @@ fn judged_text(alloc: Global, derived: &Derived, text: &Bytes) -> Judged
         Err(VerdictError::Refused(refusal)) => return Judged::Refused(refusal),
         Err(VerdictError::NoMemory) => return Judged::NoMemory,
     };
-    let applied = made.objects as u32;
+    let applied = made.objects as u64;
     match verdict_on(alloc, derived, &made, applied) {
         Ok(Judgement::Accepted) => match text_and_plan(alloc, derived, text, &made.catalog) {
             Ok((text, plan)) => Judged::Ready(Work::Define {
@@ -149,7 +147,7 @@ pub fn apply_define(
     moment: u32,
     text: Bytes,
     catalog: Catalog,
-    applied: u32,
+    applied: u64,
     plan: SumsPlan,
 ) -> Outcome
     requires sound { IsSound derived.old }

@@ -1,4 +1,4 @@
-//! The records of a text of comma-separated values, one at a time, and where such a text may be cut.
+//! The records of a text of comma-separated values, one by one, and where such a text may be cut.
 //! Stands on `csv`, a reader of RFC 4180.
 //! Promises that what is read is exactly `csv_records` of the text, also where it comes in parts.
 #![tactic(auto)]

@@ -1,4 +1,4 @@
--- A text's lines, documents and objects are so few that 32 bits count them.
+-- A text's lines and documents are so few that 32 bits count them.
 use Rattle.std.proofs.Common.{ℕ, ◌<◌, ◌^◌, List, length, arith}
 use Rattle.std.proofs.lemmas.List.{length-map}
 use Rattle.yaml_terms.specs.NodeView.{node_view, nodes_view}
@@ -8,9 +8,6 @@ use Rattle.yaml_terms.specs.declared.Node.{Node}
 use Rattle.yaml_terms.specs.declared.ProfileFault.{ProfileFault}
 use Rattle.yaml_terms.specs.declared.YamlFault.TheVariants as faults
 use Rattle.yaml_subset.proofs.CountLemmas.{few_documents, few_lines}
-use Rattle.definition_verdict.specs.declared.definition.Definition.{Definition}
-use Rattle.definition_verdict.specs.Verdict.{IsDefinition, Known}
-use Rattle.definition_verdict.proofs.ObjectCounts.{few_objects}
 
 pub line_is_short : (text : List ℕ) (line : ℕ) (which : ProfileFault)
     → NamesFault text (faults.Form line which) → line < 2 ^ 32
@@ -23,13 +20,4 @@ documents_are_few text nodes s = omega (
   s.small,
   few_documents text (nodes_view nodes) s,
   length-map nodes node_view,
-)
-
-pub objects_are_few : (known : Known) (text : List ℕ) (made : Definition)
-    → IsDefinition known text made → made.objects < 2 ^ 32
-objects_are_few known text made m = omega (
-  arith,
-  m.of_objects,
-  m.stands.small,
-  few_objects text m.nodes m.all m.stands m.read,
 )

@@ -3,6 +3,4 @@ pub mod FaultLemmas
 pub mod DocumentLemmas
 pub mod VerdictLemmas
 pub mod SomeLemmas
-pub mod AnswerCounts
-pub mod ObjectCounts
 pub mod Few

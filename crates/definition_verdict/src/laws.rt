@@ -1,5 +1,5 @@
 //! The laws of verdicts: a text has one.
-ghost use Rattle.std.specs.Prelude.{◌≡◌, ◌<◌, ◌^◌, ◌⊎◌, ℕ, List};
+ghost use Rattle.std.specs.Prelude.{◌≡◌, ◌⊎◌, ℕ, List};
 ghost use Rattle.record_form.specs.declared.Refusal.{Refusal};
 ghost use Rattle.definition_verdict.specs.declared.definition.Definition.{Definition};
 ghost use Rattle.definition_verdict.specs.Verdict.{IsDefinition, IsRefused, Known};
@@ -20,11 +20,4 @@ pub fn each_text_has_a_verdict()
     ensures { (known : Known) (text : List ℕ) →
         ((made : Definition) × IsDefinition known text made)
         ⊎ ((refusal : Refusal) × IsRefused known text refusal) }
-{}
-
-/// A text defines so few objects that a `u32` counts them: each has a document or a key of its own,
-/// and a text has at most `MAX_TEXT_BYTES` bytes.
-pub fn a_text_defines_few_objects()
-    ensures { (known : Known) (text : List ℕ) (made : Definition) → IsDefinition known text made →
-        made.objects < 2 ^ 32 }
 {}

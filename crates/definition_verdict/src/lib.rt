@@ -14,7 +14,7 @@ mod starts;
 mod zones;
 
 pub use definition::{Definition, VerdictError, judge_definition};
-pub use laws::{a_text_defines_few_objects, each_text_has_a_verdict, one_verdict};
+pub use laws::{each_text_has_a_verdict, one_verdict};
 pub use readings::reading_of;
 pub use record_form::{LimitName, Outcome, Refusal, Rows};
 pub use slo_catalog::{Binding, Catalog};

@@ -15,7 +15,7 @@ pub enum Work {
     Define {
         text: Bytes,
         catalog: Catalog,
-        applied: u32,
+        applied: u64,
         plan: SumsPlan,
     },
     /// The catalog without the object, and the sums that are kept with it.

@@ -22,7 +22,7 @@ pub type NoticeRows = Listed<Notice>;
 pub enum Outcome {
     /// `applied` counts the objects of the text, inline ones too.
     Defined {
-        applied: u32,
+        applied: u64,
         entry: Option<u32>,
     },
     /// How many rows were new, corrected their cell, were there already, or came too late.

@@ -37,12 +37,12 @@ fn push_entry(text: &mut SmallBody, entry: Option<u32>)
 }
 
 #[tactic(auto, unfolding(serde_json::proofs::OnLiterals::serde_json_on_literals))]
-pub(crate) fn defined(applied: u32, entry: Option<u32>) -> SmallBody
+pub(crate) fn defined(applied: u64, entry: Option<u32>) -> SmallBody
     ensures { result ≡ compact_text (defined_data applied entry) }
 {
     let mut text = SmallBody::new();
     text.push("{\"applied\":");
-    text.push_u32(applied);
+    text.push_u64(applied);
     text.push(",\"entry\":");
     push_entry(&mut text, entry);
     text.push("}");

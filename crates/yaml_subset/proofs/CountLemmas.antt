@@ -1,6 +1,5 @@
--- A text has few lines, few documents and few keys: of each at most so many as it has bytes,
--- and two more.
-use Rattle.std.proofs.Common.{◌≡◌, inl, inr, ℕ, suc, pred, ◌+◌, ◌≤◌, Bool, true, false, cond, List}
+-- A text has few lines and few documents: of each at most so many as it has bytes, and two more.
+use Rattle.std.proofs.Common.{◌≡◌, ℕ, suc, ◌+◌, ◌≤◌, Bool, true, false, cond, List}
 use Rattle.std.proofs.Common.{[], ◌∷◌, ◌++◌, Option, Some, None, length, take, drop, map, refl, sym}
 use Rattle.std.proofs.Common.{ap, ◌∙◌, subst, arith, length-append}
 use Rattle.std.specs.Prelude.{◌==◌, ◌&&◌, ◌||◌, nat_eq, slice_index, option_map}
@@ -8,22 +7,18 @@ use Rattle.std.specs.Option.{option_and_then, is_none}
 use Rattle.std.specs.List.{fold, slice_split, starts_with, prefix_len}
 use Rattle.std.specs.Str.Lines.{lines, lines_of_parts}
 use Rattle.std.proofs.Math.ListN.{length-drop}
+use Rattle.std.proofs.lemmas.List.{length-map}
 use Rattle.std.proofs.lemmas.List.Splits.{length-slice_split}
 use Rattle.std.proofs.lemmas.List.Sums.{count_by-le-length}
-use Rattle.yaml_terms.specs.Tree.{Tree, mapping, sequence, scalar, Entries, no_entries, entry}
-use Rattle.yaml_terms.specs.Tree.{Trees, no_trees, item, trees}
+use Rattle.yaml_terms.specs.Tree.{Tree, mapping, scalar, no_entries}
+use Rattle.yaml_terms.specs.Tree.{item}
 use Rattle.yaml_terms.specs.Mark.{Mark, start, dash, key, value, header, raw, Child}
-use Rattle.yaml_terms.specs.Profile.{max_depth, documents, has_room, is_next, is_repeated}
-use Rattle.yaml_terms.specs.Profile.{is_shallow, with_child, or_no_text, collection, entries}
-use Rattle.yaml_terms.specs.OpenNodes.{Open, nothing, inline, block, within, node_so_far}
-use Rattle.yaml_terms.specs.OpenNodes.{documents_so_far}
-use Rattle.yaml_terms.specs.OpenNodes.{begun_node, with_raw, next_piece, next_open, open_after}
-use Rattle.yaml_terms.specs.OpenNodes.{open_after_all}
-use Rattle.yaml_terms.specs.OpenNodes.{open_nodes}
-use Rattle.yaml_terms.specs.Block.{Block, is_blank_byte, is_blank, indentation, trimmed_text}
+use Rattle.yaml_terms.specs.Profile.{max_depth, documents, is_repeated}
+use Rattle.yaml_terms.specs.Profile.{with_child, or_no_text, Pieces, last_piece, piece, with_first}
+use Rattle.yaml_terms.specs.Profile.{pieces, children, behind, node}
+use Rattle.yaml_terms.specs.Block.{is_blank_byte, is_blank, indentation, trimmed_text}
 use Rattle.yaml_terms.specs.Quoted.{Quoted, quoted}
 use Rattle.yaml_terms.specs.Flow.{flow, flow_start, end_fault}
-use Rattle.yaml_terms.specs.FlowList.{IsFlowList, EndsOrGoesOn}
 use Rattle.yaml_terms.specs.FaultOrder.{earlier}
 use Rattle.yaml_terms.specs.Line.{Line, Key, no_marks, one_mark, faulty, is_quote, plain_len}
 use Rattle.yaml_terms.specs.Line.{is_plain_start, is_tail, indicator_fault, ends_word, with_mark}
@@ -36,107 +31,10 @@ use Rattle.yaml_terms.specs.Text.{MarkedLines, StandsFor, line_at, next_line, no
 use Rattle.yaml_terms.specs.Text.{marked_lines, nodes_of}
 use Rattle.yaml_terms.specs.Text.{takes, raw_fault, without_mark}
 use Rattle.yaml_terms.specs.Fault.{IsFault}
-use Rattle.yaml_terms.specs.Size.{keys, entry_keys, item_keys, size}
 use Rattle.yaml_terms.specs.declared.ProfileFault.{ProfileFault}
 use Rattle.yaml_terms.specs.declared.ProfileFault.TheVariants.{Control, Tab, LeftOut, Colon}
 use Rattle.yaml_terms.specs.declared.Style.{Style}
-use Rattle.yaml_terms.proofs.OpenLemmas.{documents_closed}
 use Rattle.yaml_terms.proofs.ReadLemmas.{step, none_stays}
-use Rattle.yaml_lines.proofs.FlowListLemmas.{list-bytes}
-
--- KEYS OF NODES
-
-length-size : (xs : List Tree) → length xs ≤ size xs
-length-size [] = omega arith
-length-size (x ∷ xs) = omega (arith, length-size xs)
-
--- KEYS OF OPEN NODES
-
--- a mark that begins an entry or a document
-abbrev begins : Mark → ℕ
-begins start = 1
-begins (key n k) = 1
-begins _ = 0
-
--- the documents and keys that a mark brings
-abbrev brought : Mark → ℕ
-brought (value n x) = keys x
-brought m = begins m
-
-abbrev all_brought : List Mark → ℕ
-all_brought [] = 0
-all_brought (m ∷ ms) = brought m + all_brought ms
-
-abbrev finished_keys : List Child → ℕ
-finished_keys [] = 0
-finished_keys (c ∷ cs) = begins c.mark + keys c.tree + finished_keys cs
-
-abbrev open_keys : Open → ℕ
-open_keys nothing = 0
-open_keys (inline x) = keys x
-open_keys (block b) = 0
-open_keys (within h done i) = finished_keys done + begins h + open_keys i
-
-abbrev keys_or : Option Tree → ℕ
-keys_or None = 0
-keys_or (Some x) = keys x
-
-begins_brought : (m : Mark) → begins m ≤ brought m
-begins_brought (value n x) = omega arith
-begins_brought m = omega arith
-
-one_more : (cs : List Child) (c : Child)
-    → finished_keys (cs ++ c ∷ []) ≡ finished_keys cs + (begins c.mark + keys c.tree)
-one_more [] c = omega arith
-one_more (d ∷ cs) c = omega (arith, one_more cs c)
-
-child_keys : (done : List Child) (h : Mark) (x : Option Tree) → finished_keys (done
-    ++ record { mark = h; tree = or_no_text x } ∷ []) ≤ finished_keys done + begins h + keys_or x
-child_keys done h None = omega (arith, one_more done (record { mark = h; tree = or_no_text None }))
-child_keys done h (Some x) = omega (arith, one_more done (record { mark = h; tree = x }))
-
-with_keys : (done : List Child) (h : Mark) (x : Option Tree)
-    → finished_keys (with_child done h x) ≤ finished_keys done + begins h + keys_or x
-with_keys done start None = omega arith
-with_keys done start (Some x) = child_keys done start (Some x)
-with_keys done h x = child_keys done h x
-
-entry_one : (m : Mark) (t : Tree) (cs : List Child) → entry_keys (entries cs) ≤ finished_keys cs
-    → entry_keys (entries (record { mark = m; tree = t } ∷ cs)) ≤ begins m + keys t
-    + finished_keys cs
-entry_one (key n k) t cs h = omega (arith, h)
-entry_one m t cs h = omega (arith, h)
-
-entries_less : (cs : List Child) → entry_keys (entries cs) ≤ finished_keys cs
-entries_less [] = omega arith
-entries_less (c ∷ cs) = entry_one c.mark c.tree cs (entries_less cs)
-
-items_less : (cs : List Child)
-    → item_keys (trees (map (λ (c : Child). c.tree) cs)) ≤ finished_keys cs
-items_less [] = omega arith
-items_less (c ∷ cs) = omega (arith, items_less cs)
-
-collection_one : (m : Mark) (t : Tree) (cs : List Child)
-    → keys (collection (record { mark = m; tree = t } ∷ cs)) ≤ begins m + keys t + finished_keys cs
-collection_one (key n k) t cs = entries_less (record { mark = key n k; tree = t } ∷ cs)
-collection_one m t cs = items_less (record { mark = m; tree = t } ∷ cs)
-
-collection_less : (cs : List Child) → keys (collection cs) ≤ finished_keys cs
-collection_less [] = omega arith
-collection_less (c ∷ cs) = collection_one c.mark c.tree cs
-
-closed_less : (o : Open) → keys_or (node_so_far o) ≤ open_keys o
-closed_less nothing = omega arith
-closed_less (inline x) = omega arith
-closed_less (block b) = omega arith
-closed_less (within h done i) = omega (
-  arith,
-  collection_less (with_child done h (node_so_far i)),
-  with_keys done h (node_so_far i),
-  closed_less i,
-)
-
--- ONE MORE MARK
 
 same_some : {A : Type 0} (x y : A) → Some x ≡ Some y → x ≡ y
 same_some x y e = cc e
@@ -144,205 +42,89 @@ same_some x y e = cc e
 none_some : {A : Type 0} {Q : Type 0} (y : A) → None ≡ Some y → Q
 none_some y e = absurd (let f : ⊥ = cc e in f)
 
-abbrev AtMost : ℕ → Open → Type 0
-AtMost n p = open_keys p ≤ n
+-- DOCUMENTS OF MARKS
 
-picked : (b : Bool) (o p : Open) (n : ℕ) → open_keys o ≤ n → cond b (Some o) None ≡ Some p
-    → open_keys p ≤ n
-picked true o p n h e = subst (AtMost n) (same_some o p e) h
-picked false o p n h e = none_some p e
+-- how many documents a mark begins
+abbrev begins : Mark → ℕ
+begins start = 1
+begins _ = 0
 
-begun_keys : (d : ℕ) (m : Mark) (p : Open) → begun_node d m ≡ Some p → open_keys p ≤ brought m
-begun_keys d (value n x) p e = picked (is_shallow d x) (inline x) p (keys x) (omega arith) e
-begun_keys d (header n s) p e = subst (AtMost 0) (same_some _ p e) (omega arith)
-begun_keys (suc d) (key n k) p e = subst (AtMost 1) (same_some _ p e) (omega arith)
-begun_keys (suc d) (dash n) p e = subst (AtMost 0) (same_some _ p e) (omega arith)
-begun_keys d m p e = none_some p e
+abbrev starts : List Mark → ℕ
+starts [] = 0
+starts (m ∷ ms) = begins m + starts ms
 
-raw_keys : (b : Block) (m : Mark) (p : Open) → with_raw b m ≡ Some p → open_keys p ≤ brought m
-raw_keys b (raw l) p e = subst (AtMost 0) (same_some _ p e) (omega arith)
-raw_keys b m p e = none_some p e
+abbrev count : Pieces → ℕ
+count (last_piece h ms) = 1
+count (piece h ms ps) = suc (count ps)
 
-next_keys : (m : Mark) (done : List Child) (p : Open) → next_piece m done ≡ Some p
-    → open_keys p ≤ finished_keys done + brought m
-next_keys m done p e = by (is_repeated m done) e
+count-with_first : (m : Mark) (ps : Pieces) → count (with_first m ps) ≡ count ps
+count-with_first m (last_piece h ms) = refl
+count-with_first m (piece h ms ps) = refl
+
+pieces_begun : (ms : List Mark) → count (pieces start ms) ≡ suc (starts ms)
+pieces_begun [] = refl
+pieces_begun (start ∷ ms) = omega (arith, pieces_begun ms)
+pieces_begun (dash n ∷ ms) = count-with_first (dash n) (pieces start ms) ∙ pieces_begun ms
+pieces_begun (key n k ∷ ms) = count-with_first (key n k) (pieces start ms) ∙ pieces_begun ms
+pieces_begun (value n x ∷ ms) = count-with_first (value n x) (pieces start ms) ∙ pieces_begun ms
+pieces_begun (header n s ∷ ms) = count-with_first (header n s) (pieces start ms) ∙ pieces_begun ms
+pieces_begun (raw l ∷ ms) = count-with_first (raw l) (pieces start ms) ∙ pieces_begun ms
+
+one_more : (done : List Child) (c : Child) → length (done ++ c ∷ []) ≤ length done + 1
+one_more done c = omega (arith, length-append done (c ∷ []))
+
+child_more : (done : List Child) (h : Mark) (x : Option Tree)
+    → length (with_child done h x) ≤ length done + 1
+child_more done start None = omega arith
+child_more done start (Some x) = one_more done (record { mark = start; tree = x })
+child_more done h x = one_more done (record { mark = h; tree = or_no_text x })
+
+children_few : (inside : Mark → List Mark → Option (Option Tree)) (done cs : List Child)
+    (ps : Pieces) → children inside done ps ≡ Some cs → length cs ≤ length done + count ps
+children_few inside done cs (last_piece h ms) e = by (is_repeated h done) (inside h ms) e
   where
-    by : (b : Bool) → cond b None (Some (within m done nothing)) ≡ Some p
-        → open_keys p ≤ finished_keys done + brought m
-    by true f = none_some p f
-    by false f = subst (AtMost (finished_keys done + brought m)) (same_some _ p f)
-        (omega (arith, begins_brought m))
-
-added_keys : (d : ℕ) (h m : Mark) (o p : Open) → next_open d h m o ≡ Some p
-    → open_keys p ≤ open_keys o + brought m
-added_keys d h m nothing p e = by (has_room h m) e
+    by : (b : Bool) (o : Option (Option Tree))
+        → cond b None (option_map (with_child done h) o) ≡ Some cs → length cs ≤ length done + 1
+    by true o f = none_some cs f
+    by false None f = none_some cs f
+    by false (Some x) f = subst (λ (ds : List Child). length ds ≤ length done + 1)
+        (same_some (with_child done h x) cs f) (child_more done h x)
+children_few inside done cs (piece h ms ps) e = by (is_repeated h done) (inside h ms) e
+    (λ x f. children_few inside (with_child done h x) cs ps f)
   where
-    by : (b : Bool) → cond b (begun_node d m) None ≡ Some p → open_keys p ≤ 0 + brought m
-    by true f = omega (arith, begun_keys d m p f)
-    by false f = none_some p f
-added_keys d h m (inline x) p e = none_some p e
-added_keys d h m (block b) p e = omega (arith, raw_keys b m p e)
-added_keys d h m (within g done i) p e = by (is_next g m) e (λ q f. added_keys (pred d) g m i q f)
+    by : (b : Bool) (o : Option (Option Tree)) → cond b None
+        (option_and_then (λ x. children inside (with_child done h x) ps) o) ≡ Some cs
+        → ((x : Option Tree) → children inside (with_child done h x) ps ≡ Some cs
+        → length cs ≤ length (with_child done h x) + count ps)
+        → length cs ≤ length done + suc (count ps)
+    by true o f go = none_some cs f
+    by false None f go = none_some cs f
+    by false (Some x) f go = omega (arith, go x f, child_more done h x)
+
+marks_few : (ms : List Mark) (xs : List Tree) → documents ms ≡ Some xs
+    → length xs ≤ 1 + starts ms
+marks_few ms xs e = by (children (behind (node max_depth)) [] (pieces start ms)) refl e
   where
-    inside : (r : Option Open) → option_map (within g done) r ≡ Some p
-        → ((q : Open) → r ≡ Some q → open_keys q ≤ open_keys i + brought m)
-        → open_keys p ≤ finished_keys done + begins g + open_keys i + brought m
-    inside None f go = none_some p f
-    inside (Some q) f go = subst (AtMost (finished_keys done + begins g + open_keys i + brought m))
-        (same_some _ p f) (omega (arith, go q refl))
-
-    by : (b : Bool) → cond b (next_piece m (with_child done g (node_so_far i)))
-        (option_map (within g done) (next_open (pred d) g m i)) ≡ Some p
-        → ((q : Open) → next_open (pred d) g m i ≡ Some q → open_keys q ≤ open_keys i + brought m)
-        → open_keys p ≤ finished_keys done + begins g + open_keys i + brought m
-    by true f go = omega (
-      arith,
-      next_keys m (with_child done g (node_so_far i)) p f,
-      with_keys done g (node_so_far i),
-      closed_less i,
-    )
-    by false f go = inside (next_open (pred d) g m i) f go
-
--- THE OPEN DOCUMENT AND THOSE BEFORE IT
-
-abbrev document_keys : List Child → ℕ
-document_keys [] = 0
-document_keys (c ∷ cs) = 1 + (keys c.tree + document_keys cs)
-
-more_documents : (cs : List Child) (c : Child)
-    → document_keys (cs ++ c ∷ []) ≡ document_keys cs + (1 + keys c.tree)
-more_documents [] c = omega arith
-more_documents (d ∷ cs) c = omega (arith, more_documents cs c)
-
-document_closed : (done : List Child) (x : Option Tree)
-    → document_keys (with_child done start x) ≤ document_keys done + 1 + keys_or x
-document_closed done None = omega arith
-document_closed done (Some x) =
-    omega (arith, more_documents done (record { mark = start; tree = x }))
-
--- the open nodes of a text, with at most so many keys and finished documents
-record HasFew (n : ℕ) (o : Open) : Type 0 where
-  done : List Child
-  last : Open
-  is : o ≡ within start done last
-  few : document_keys done + open_keys last ≤ n
-
-next_document : (done : List Child) (i p : Open) → open_after start (within start done i) ≡ Some p
-    → HasFew (document_keys done + open_keys i + 1) p
-next_document done i p e = record {
-  done = with_child done start (node_so_far i);
-  last = nothing;
-  is = sym (same_some (within start (with_child done start (node_so_far i)) nothing) p e);
-  few = omega (arith, document_closed done (node_so_far i), closed_less i);
-}
-
-in_document : (m : Mark) (done : List Child) (i p : Open)
-    → option_map (within start done) (next_open max_depth start m i) ≡ Some p
-    → HasFew (document_keys done + open_keys i + brought m) p
-in_document m done i p e = by (next_open max_depth start m i) refl e
-  where
-    by : (r : Option Open) → next_open max_depth start m i ≡ r
-        → option_map (within start done) r ≡ Some p
-        → HasFew (document_keys done + open_keys i + brought m) p
-    by None f g = none_some p g
-    by (Some q) f g = record {
-      done = done;
-      last = q;
-      is = sym (same_some (within start done q) p g);
-      few = omega (arith, added_keys max_depth start m i q f);
-    }
-
-one_added : (m : Mark) (done : List Child) (i p : Open)
-    → open_after m (within start done i) ≡ Some p
-    → HasFew (document_keys done + open_keys i + brought m) p
-one_added start done i p e = next_document done i p e
-one_added m done i p e = in_document m done i p e
-
-all_added : (ms : List Mark) (n : ℕ) (o p : Open) → HasFew n o → open_after_all ms o ≡ Some p
-    → HasFew (n + all_brought ms) p
-all_added [] n o p h e = record {
-  done = h.done;
-  last = h.last;
-  is = sym (same_some o p e) ∙ h.is;
-  few = omega (arith, h.few);
-}
-all_added (m ∷ ms) n o p h e =
-    by (open_after m (within start h.done h.last)) refl
-    (sym (ap (λ (x : Open). option_and_then (open_after_all ms) (open_after m x)) h.is) ∙ e)
-    (λ q f g. all_added ms (n + brought m) q p f g)
-  where
-    weaker : (a b : ℕ) (q : Open) → a ≤ b → HasFew a q → HasFew b q
-    weaker a b q le f = record {
-      done = f.done;
-      last = f.last;
-      is = f.is;
-      few = omega (arith, le, f.few);
-    }
-
-    by : (r : Option Open) → open_after m (within start h.done h.last) ≡ r
-        → option_and_then (open_after_all ms) r ≡ Some p
-        → ((q : Open) → HasFew (n + brought m) q → open_after_all ms q ≡ Some p
-        → HasFew (n + brought m + all_brought ms) p)
-        → HasFew (n + (brought m + all_brought ms)) p
-    by None f g go = none_some p g
-    by (Some q) f g go =
-        let one = one_added m h.done h.last q f in
-        let few = h.few in
-        let here = weaker (document_keys h.done + open_keys h.last + brought m) (n + brought m) q
-        (omega (arith, few)) one in
-        weaker (n + brought m + all_brought ms) (n + (brought m + all_brought ms)) p
-        (omega arith) (go q here g)
-
-sizes : (cs : List Child) → size (map (λ (c : Child). c.tree) cs) ≡ document_keys cs
-sizes [] = refl
-sizes (c ∷ cs) = omega (arith, sizes cs)
-
-finished_size : (n : ℕ) (o : Open) → HasFew n o → size (documents_so_far o) ≤ 1 + n
-finished_size n o h = subst (λ (x : Open). size (documents_so_far x) ≤ 1 + n) (sym h.is)
-    (omega (
-      arith,
-      h.few,
-      sizes (with_child h.done start (node_so_far h.last)),
-      document_closed h.done (node_so_far h.last),
-      closed_less h.last,
-    ))
-
-marks_size : (ms : List Mark) (xs : List Tree) → documents ms ≡ Some xs
-    → size xs ≤ 1 + all_brought ms
-marks_size ms xs e = by (open_nodes ms) refl (sym (documents_closed ms) ∙ e)
-  where
-    by : (o : Option Open) → open_nodes ms ≡ o → option_map documents_so_far o ≡ Some xs
-        → size xs ≤ 1 + all_brought ms
+    by : (o : Option (List Child)) → children (behind (node max_depth)) [] (pieces start ms) ≡ o
+        → option_map (map (λ (c : Child). c.tree)) o ≡ Some xs → length xs ≤ 1 + starts ms
     by None f g = none_some xs g
-    by (Some o) f g =
-        subst (λ (ys : List Tree). size ys ≤ 1 + all_brought ms)
-        (same_some (documents_so_far o) xs g)
+    by (Some cs) f g = subst (λ (ys : List Tree). length ys ≤ 1 + starts ms)
+        (same_some (map (λ (c : Child). c.tree) cs) xs g)
         (omega (
           arith,
-          finished_size (0 + all_brought ms) o (all_added ms 0 (within start []
-              nothing) o (record { done = []; last = nothing; is = refl; few = omega arith }) f),
+          length-map cs (λ (c : Child). c.tree),
+          children_few (behind (node max_depth)) [] cs (pieces start ms) f,
+          pieces_begun ms,
         ))
 
 -- THE MARKS OF A LINE
 
 abbrev Brings : ℕ → Line → Type 0
-Brings n l = all_brought l.marks ≤ n
+Brings n l = starts l.marks ≤ n
 
 either_line : (n : ℕ) (b : Bool) (x y : Line) → Brings n x → Brings n y → Brings n (cond b x y)
 either_line n true x y p q = p
 either_line n false x y p q = q
-
-flat_list : (line : List ℕ) (xs : List Tree) → IsFlowList line xs → item_keys (trees xs) ≤ 0
-flat_list line [] h = omega arith
-flat_list line (scalar text plain ∷ xs) h = by h.6 (λ l more. flat_list l xs more)
-  where
-    by : EndsOrGoesOn (λ l. IsFlowList l xs) h.4 xs
-        → ((l : List ℕ) → IsFlowList l xs → item_keys (trees xs) ≤ 0) → 0 + item_keys (trees xs) ≤ 0
-    by (inl ends) go =
-        subst (λ (ys : List Tree). 0 + item_keys (trees ys) ≤ 0) (sym ends.1) (omega arith)
-    by (inr more) go = omega (arith, go more.0 more.2)
-flat_list line (mapping es ∷ xs) h = absurd h.3
-flat_list line (sequence ts ∷ xs) h = absurd h.3
 
 flow_brings : (n : ℕ) (cs : List ℕ) → Brings 0 (flow_value n (flow flow_start cs))
 flow_brings n cs = by (earlier (flow flow_start cs).fault (end_fault (flow flow_start cs).part))
@@ -351,11 +133,7 @@ flow_brings n cs = by (earlier (flow flow_start cs).fault (end_fault (flow flow_
     by : (o : Option ProfileFault) → earlier (flow flow_start cs).fault
         (end_fault (flow flow_start cs).part)
         ≡ o → Brings 0 (flow_value n (flow flow_start cs))
-    by None e = rw e (omega (
-      arith,
-      flat_list cs (flow flow_start cs).items
-          (list-bytes cs (flow flow_start cs).items (record { fine = e; all = refl })),
-    ))
+    by None e = rw e (omega arith)
     by (Some w) e = rw e (omega arith)
 
 quoted_brings : (n : ℕ) (cs : List ℕ) (q : Option Quoted) → Brings 0 (quoted_value n cs q)
@@ -463,41 +241,42 @@ line_brings s line = by (takes s.scalar line)
 
 -- THE MARKS OF LINES
 
-brought-append : (ms ns : List Mark) → all_brought (ms ++ ns) ≡ all_brought ms + all_brought ns
-brought-append [] ns = omega arith
-brought-append (m ∷ ms) ns = omega (arith, brought-append ms ns)
+starts-append : (ms ns : List Mark) → starts (ms ++ ns) ≡ starts ms + starts ns
+starts-append [] ns = omega arith
+starts-append (m ∷ ms) ns = omega (arith, starts-append ms ns)
 
-lines_bring : (ls : List (List ℕ)) (s t : MarkedLines) → fold step (Some s) ls ≡ Some t
-    → all_brought t.marks ≤ all_brought s.marks + length ls
-lines_bring [] s t e = subst (λ (u : MarkedLines). all_brought u.marks ≤ all_brought s.marks + 0)
+lines_begin : (ls : List (List ℕ)) (s t : MarkedLines) → fold step (Some s) ls ≡ Some t
+    → starts t.marks ≤ starts s.marks + length ls
+lines_begin [] s t e = subst (λ (u : MarkedLines). starts u.marks ≤ starts s.marks + 0)
     (same_some s t e) (omega arith)
-lines_bring (l ∷ ls) s t e = by (next_line s l) refl e (λ u g. lines_bring ls u t g)
+lines_begin (l ∷ ls) s t e = by (next_line s l) refl e (λ u g. lines_begin ls u t g)
   where
-    added_line : (b : Bool) (n u : MarkedLines) → all_brought n.marks ≤ all_brought s.marks + 1
-        → cond b (Some n) None ≡ Some u → all_brought u.marks ≤ all_brought s.marks + 1
+    added_line : (b : Bool) (n u : MarkedLines) → starts n.marks ≤ starts s.marks + 1
+        → cond b (Some n) None ≡ Some u → starts u.marks ≤ starts s.marks + 1
     added_line true n u h f =
-        subst (λ (v : MarkedLines). all_brought v.marks ≤ all_brought s.marks + 1) (same_some n u f)
+        subst (λ (v : MarkedLines). starts v.marks ≤ starts s.marks + 1) (same_some n u f)
         h
     added_line false n u h f = none_some u f
 
     by : (o : Option MarkedLines) → next_line s l ≡ o → fold step o ls ≡ Some t
         → ((u : MarkedLines) → fold step (Some u) ls ≡ Some t
-        → all_brought t.marks ≤ all_brought u.marks + length ls)
-        → all_brought t.marks ≤ all_brought s.marks + length (l ∷ ls)
+        → starts t.marks ≤ starts u.marks + length ls)
+        → starts t.marks ≤ starts s.marks + length (l ∷ ls)
     by None f g go = none_some t (sym (none_stays ls) ∙ g)
     by (Some u) f g go =
         let one = added_line (is_none (line_at s.scalar l).fault) _ u
-        (omega (arith, brought-append s.marks (line_at s.scalar l).marks, line_brings s l)) f in
+        (omega (arith, starts-append s.marks (line_at s.scalar l).marks, line_brings s l)) f in
         omega (arith, one, go u g)
 
-nodes_size : (ls : List (List ℕ)) (xs : List Tree) → nodes_of ls ≡ Some xs → size xs ≤ 1 + length ls
-nodes_size ls xs e = by (marked_lines ls) refl e
+nodes_few : (ls : List (List ℕ)) (xs : List Tree) → nodes_of ls ≡ Some xs
+    → length xs ≤ 1 + length ls
+nodes_few ls xs e = by (marked_lines ls) refl e
   where
     by : (o : Option MarkedLines) → marked_lines ls ≡ o
         → option_and_then (λ (s : MarkedLines). documents s.marks) o ≡ Some xs
-        → size xs ≤ 1 + length ls
+        → length xs ≤ 1 + length ls
     by None f g = none_some xs g
-    by (Some s) f g = omega (arith, marks_size s.marks xs g, lines_bring ls no_line s f)
+    by (Some s) f g = omega (arith, marks_few s.marks xs g, lines_begin ls no_line s f)
 
 -- LINES OF BYTES
 
@@ -525,17 +304,14 @@ mark_less text = by (starts_with nat_eq text (239 ∷ 187 ∷ 191 ∷ []))
     by true = omega (arith, length-drop 3 text)
     by false = omega arith
 
-pub few_keys : (text : List ℕ) (xs : List Tree) → StandsFor text xs → size xs ≤ length text + 2
-few_keys text xs s = omega (
+pub few_documents : (text : List ℕ) (xs : List Tree) → StandsFor text xs
+    → length xs ≤ length text + 2
+few_documents text xs s = omega (
   arith,
-  nodes_size (lines (without_mark text)) xs s.nodes,
+  nodes_few (lines (without_mark text)) xs s.nodes,
   lines_less (without_mark text),
   mark_less text,
 )
-
-pub few_documents : (text : List ℕ) (xs : List Tree) → StandsFor text xs
-    → length xs ≤ length text + 2
-few_documents text xs s = omega (arith, few_keys text xs s, length-size xs)
 
 pub few_lines : (text : List ℕ) (line : ℕ) (which : ProfileFault)
     → IsFault (lines (without_mark text)) line which → line ≤ length text + 1

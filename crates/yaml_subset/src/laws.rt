@@ -8,7 +8,6 @@ ghost use Rattle.yaml_terms.specs.Tree.{Tree};
 ghost use Rattle.yaml_terms.specs.Text.{StandsFor, nodes_of, without_mark};
 ghost use Rattle.yaml_terms.specs.BadPlace.{IsBadPlace};
 ghost use Rattle.yaml_terms.specs.Fault.{IsFault};
-ghost use Rattle.yaml_terms.specs.Size.{size};
 ghost use Rattle.yaml_terms.specs.declared.ProfileFault.{ProfileFault};
 
 /// Lines stand for nodes or have a fault, and never both. They have one fault alone: the least
@@ -33,14 +32,12 @@ pub fn a_text_has_nodes_or_a_fault()
 {}
 
 /// The line at fault and the number of documents lie within the number of bytes of a text, but for
-/// one or two; so do the documents and the keys in them together, at any depth.
+/// one or two.
 pub fn lines_and_documents_are_few()
     ensures lines { (text : List ℕ) (line : ℕ) (which : ProfileFault)
         → IsFault (lines (without_mark text)) line which → line ≤ length text + 1 }
     ensures documents { (text : List ℕ) (xs : List Tree) → StandsFor text xs
         → length xs ≤ length text + 2 }
-    ensures keys { (text : List ℕ) (xs : List Tree) → StandsFor text xs
-        → size xs ≤ length text + 2 }
 {}
 
 /// Bytes have one place at most that no UTF-8 text can have: so `YamlFault::NotUtf8` names the only

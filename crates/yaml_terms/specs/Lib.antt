@@ -14,7 +14,6 @@ pub mod OpenNodes
 pub mod Profile
 pub mod Quoted
 pub mod Room
-pub mod Size
 pub mod Spelling
 pub mod SpellingView
 pub mod Standing

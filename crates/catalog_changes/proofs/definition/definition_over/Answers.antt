@@ -1,7 +1,7 @@
 use Rattle.std.proofs.Common.{IfOk, rules}
 use Rattle.definition_verdict.specs.Verdict.{IsDefinition}
 use Rattle.catalog_changes.specs.Judging.{known_by}
-use Rattle.catalog_changes.proofs.ChangeLemmas.{text_put, text_counted, texts_few, texts_read}
+use Rattle.catalog_changes.proofs.ChangeLemmas.{text_put, text_counted, texts_read}
 use Rattle.catalog_changes.proofs.definition.definition_over.Goals as goal
 
 pub returns-clause-catalog : goal.returns-clause-catalog
@@ -15,13 +15,6 @@ returns-clause-objects c =
     let h : IfOk c.judge_definition.result
     (λ made. IsDefinition (known_by c.args.derived.now) c.args.text.now made) = search rules in
     text_counted (known_by c.args.derived.now) c.args.text.now c.judge_definition.result h
-
-pub returns-clause-few : goal.returns-clause-few
-returns-clause-few c =
-    let h : IfOk c.judge_definition.result
-    (λ made. IsDefinition (known_by c.args.derived.now) c.args.text.now made) = search rules in
-    texts_few c.a_text_defines_few_objects.ensures (known_by c.args.derived.now) c.args.text.now
-    c.judge_definition.result h
 
 pub returns-clause-read : goal.returns-clause-read
 returns-clause-read c =
