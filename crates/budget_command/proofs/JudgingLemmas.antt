@@ -4,7 +4,7 @@ use Rattle.std.proofs.Common.{length, length-append, refl, subst, sym, take}
 use Rattle.std.specs.Prelude.{Option, Some, None, Result, Ok, OnOk, false, is_err}
 use Rattle.std.proofs.lemmas.List.{length-take}
 use Rattle.std.proofs.lemmas.List.Elements.{All-nil}
-use Rattle.csv_records.specs.Parts.{EndsWithRecord, IsRead}
+use Rattle.csv_records.specs.Parts.{EndsWithRecord, PartsAreRead}
 use Rattle.csv_records.proofs.PartLemmas.{read_all, read_more, read_piece}
 use Rattle.csv_records.specs.Records.{Fields, csv_records}
 use Rattle.csv_records.proofs.Counts.{csv_records-few}
@@ -86,7 +86,7 @@ judged-fault before more old table at fault unbroken judged goes few = record {
 
 -- the next part's records are as many as its bytes leave room for
 pub few-records : (seen : List ℕ) (records : List Fields) (waiting piece : List ℕ) (count : ℕ)
-    → IsRead seen records waiting →
+    → PartsAreRead seen records waiting →
     length records + length (csv_records (waiting ++ take count piece)) ≤ length seen + length piece
 few-records seen records waiting piece count read =
     let front = take count piece in

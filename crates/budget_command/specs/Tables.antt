@@ -2,7 +2,7 @@
 use Rattle.std.specs.Prelude.{◌≡◌, ◌+◌, ◌≤◌, ℕ, Bool, List, [], ◌∷◌, ◌++◌, Option, Some, None}
 use Rattle.std.specs.Prelude.{Result, Ok, Err, All, count_by}
 use Rattle.std.specs.Prelude.{length, if◌then◌else◌}
-use Rattle.csv_records.specs.Parts.{IsRead}
+use Rattle.csv_records.specs.Parts.{PartsAreRead}
 use Rattle.csv_records.specs.Records.{Fields, csv_records}
 use Rattle.slo_limits.specs.declared.TheConstants.{MAX_CELLS}
 use Rattle.slo_terms.specs.Judged.{judged_from}
@@ -108,5 +108,5 @@ pub record HasJudged (records : List Fields) (judging : Judging) : Type 0 where
 -- Of the bytes seen so far all records were judged but those of the bytes that wait.
 pub record HasJudgedTo (seen waiting : List ℕ) (judging : Judging) : Type 0 where
   pub records : List Fields
-  pub read : IsRead seen records waiting
+  pub read : PartsAreRead seen records waiting
   pub judged : HasJudged records judging

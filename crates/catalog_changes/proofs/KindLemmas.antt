@@ -2,7 +2,7 @@
 use Rattle.std.proofs.Common.{◌≡◌, ℕ, List, [], ◌∷◌}
 use Rattle.std.specs.List.{AllByRecursion}
 use Rattle.std.proofs.lemmas.List.Elements.{recursion_from_All}
-use Rattle.yaml_terms.specs.Fits.{IsWritable}
+use Rattle.yaml_terms.specs.SpellingFits.{IsWritable}
 use Rattle.yaml_terms.specs.Text.{StandsFor}
 use Rattle.yaml_terms.specs.Tree.{Tree}
 use Rattle.slo_objects.specs.declared.Object.{Object}

@@ -6,7 +6,7 @@ use Rattle.std.proofs.lemmas.List.{append-nil, take-append-drop, take_more}
 use Rattle.std.proofs.lemmas.List.Sums.{fold-append}
 use Rattle.csv.specs.Reading.{strip_bom}
 use Rattle.csv_records.specs.Records.{Fields, csv_records}
-use Rattle.csv_records.specs.Parts.{EndsWithRecord, IsRead}
+use Rattle.csv_records.specs.Parts.{EndsWithRecord, PartsAreRead}
 use Rattle.csv_records.specs.Places.{IsCut, in_quotes, next_place, place_after}
 use Rattle.csv_records.specs.declared.places.Place.{Place}
 use Rattle.csv_records.specs.declared.places.Place.TheVariants as place
@@ -60,29 +60,29 @@ cut_place from piece count some within cut =
     by at outside = grind arith
 
 -- At the start nothing was taken, and nothing waits.
-pub read_none : IsRead [] [] []
+pub read_none : PartsAreRead [] [] []
 read_none = λ more. refl
 
 -- A piece joins what waits.
 pub read_more : (seen : List ℕ) (records : List Fields) (waiting piece : List ℕ)
-    → IsRead seen records waiting → IsRead (seen ++ piece) records (waiting ++ piece)
+    → PartsAreRead seen records waiting → PartsAreRead (seen ++ piece) records (waiting ++ piece)
 read_more seen records waiting piece read = λ more.
     ap csv_records (append_assoc seen piece more) ∙ read (piece ++ more)
     ∙ ap (λ (text : List ℕ). records ++ csv_records text) (sym (append_assoc waiting piece more))
 
 -- The records of a part are taken, and the rest waits behind a line feed.
 pub read_part : (seen : List ℕ) (records : List Fields) (waiting : List ℕ)
-    → IsRead seen records waiting → EndsWithRecord waiting
-    → IsRead seen (records ++ csv_records waiting) (10 ∷ [])
+    → PartsAreRead seen records waiting → EndsWithRecord waiting
+    → PartsAreRead seen (records ++ csv_records waiting) (10 ∷ [])
 read_part seen records waiting read ends = λ more.
     read more ∙ ap (λ (rows : List Fields). records ++ rows) (ends more)
     ∙ sym (append_assoc records (csv_records waiting) (csv_records (10 ∷ more)))
 
 -- A piece with an end of a record in it.
 pub read_piece : (seen : List ℕ) (records : List Fields) (waiting piece : List ℕ) (count : ℕ)
-    → IsRead seen records waiting
+    → PartsAreRead seen records waiting
     → EndsWithRecord (waiting ++ take count piece)
-    → IsRead (seen ++ piece) (records ++ csv_records (waiting ++ take count piece))
+    → PartsAreRead (seen ++ piece) (records ++ csv_records (waiting ++ take count piece))
     (10 ∷ drop count piece)
 read_piece seen records waiting piece count read ends =
     let front = take count piece in
@@ -92,12 +92,13 @@ read_piece seen records waiting piece count read ends =
     (take-append-drop count piece) in
     let part = read_part (seen ++ front) records (waiting ++ front)
     (read_more seen records waiting front read) ends in
-    subst (λ (s : List ℕ). IsRead s (records ++ csv_records (waiting ++ front)) (10 ∷ back)) whole
+    subst (λ (s : List ℕ). PartsAreRead s (records ++ csv_records (waiting ++ front))
+    (10 ∷ back)) whole
     (read_more (seen ++ front) (records ++ csv_records (waiting ++ front)) (10 ∷ []) back part)
 
 -- At the end of the text.
 pub read_all : (seen : List ℕ) (records : List Fields) (waiting : List ℕ)
-    → IsRead seen records waiting → csv_records seen ≡ records ++ csv_records waiting
+    → PartsAreRead seen records waiting → csv_records seen ≡ records ++ csv_records waiting
 read_all seen records waiting read =
     ap csv_records (sym (append-nil seen)) ∙ read [] ∙ ap
     (λ (text : List ℕ). records ++ csv_records text) (append-nil waiting)

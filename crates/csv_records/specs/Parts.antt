@@ -11,6 +11,6 @@ EndsWithRecord text =
 -- Of the bytes seen so far these records were taken, and these bytes wait: the records of a text
 -- that begins with the bytes seen are those taken, and then those of the waiting bytes with
 -- whatever comes after.
-abbrev pub IsRead : List ℕ → List Fields → List ℕ → Type 0
-IsRead seen records waiting =
+abbrev pub PartsAreRead : List ℕ → List Fields → List ℕ → Type 0
+PartsAreRead seen records waiting =
     (more : List ℕ) → csv_records (seen ++ more) ≡ records ++ csv_records (waiting ++ more)

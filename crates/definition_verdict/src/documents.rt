@@ -2,7 +2,7 @@
 ghost use Rattle.std.specs.Prelude.{◌≡◌, ◌<◌, ◌^◌, ℕ, [], Ok, Err, IfOk, length, map};
 ghost use Rattle.std.specs.List.{AllByRecursion};
 ghost use Rattle.yaml_terms.specs.NodeView.{node_view, nodes_view};
-ghost use Rattle.yaml_terms.specs.Fits.{IsWritable};
+ghost use Rattle.yaml_terms.specs.SpellingFits.{IsWritable};
 ghost use Rattle.yaml_terms.specs.Text.{StandsFor};
 ghost use Rattle.definition_verdict.specs.Documents.{broken_document, objects_in as objects_in_lem};
 ghost use Rattle.definition_verdict.specs.Texts.{IsYamlFault};

@@ -4,7 +4,7 @@ use Rattle.std.specs.List.{All, AllByRecursion}
 use Rattle.std.proofs.lemmas.List.Elements.{All-from_recursion, All-append}
 use Rattle.yaml_terms.specs.declared.Node.{Node}
 use Rattle.yaml_terms.specs.NodeView.{node_view, nodes_view}
-use Rattle.yaml_terms.specs.Fits.{IsWritable}
+use Rattle.yaml_terms.specs.SpellingFits.{IsWritable}
 use Rattle.slo_objects.specs.declared.Object.{Object}
 use Rattle.slo_objects.specs.Document.{IsOfDocument}
 

@@ -3,7 +3,7 @@
 
 ghost use Rattle.std.specs.List.{All};
 ghost use Rattle.yaml_terms.specs.NodeView.{node_view};
-ghost use Rattle.yaml_terms.specs.Fits.{IsWritable};
+ghost use Rattle.yaml_terms.specs.SpellingFits.{IsWritable};
 ghost use Rattle.slo_objects.specs.Document.{IsOfDocument};
 
 use sample_stream::{ALERT_TARGETS, SHOP};

@@ -4,7 +4,7 @@ use Rattle.std.specs.List.{AllByRecursion}
 use Rattle.yaml_terms.specs.Tree.{Tree}
 use Rattle.yaml_terms.specs.Spelling.{Spelling, meant, writing, is_word}
 use Rattle.yaml_terms.specs.Profile.{max_depth}
-use Rattle.yaml_terms.specs.Fits.{Fits, IsWritable}
+use Rattle.yaml_terms.specs.SpellingFits.{SpellingFits, IsWritable}
 use Rattle.slo_objects.specs.declared.object.Object.{Object}
 use Rattle.slo_objects.specs.Document.{objects_of, written}
 use Rattle.slo_objects.proofs.LawFieldTables.{ok_same}
@@ -36,7 +36,8 @@ same_nodes t u os ps e f = each os (each_again t os e)
     each (o ∷ os) h = (beside o h.0 ps (each_again u ps f), each os h.1)
 
 -- the same by their texts, where values with one text are one node
-pub same_texts : ((r s : Spelling) → Fits max_depth r → Fits max_depth s → is_word r ≡ false
+pub same_texts :
+    ((r s : Spelling) → SpellingFits max_depth r → SpellingFits max_depth s → is_word r ≡ false
     → is_word s ≡ false → writing 0 r ≡ writing 0 s → meant r ≡ meant s)
     → (t u : Tree) (os ps : List Object) → IsWritable t → IsWritable u → objects_of t ≡ Ok os
     → objects_of u ≡ Ok ps

@@ -7,7 +7,7 @@ use Rattle.slo_limits.specs.declared.TheConstants.{MAX_TEXT_BYTES}
 use Rattle.yaml_terms.specs.Tree.{Tree}
 use Rattle.yaml_terms.specs.Spelling.{Spelling, word, no_fields, meant, writing, is_word}
 use Rattle.yaml_terms.specs.Profile.{max_depth}
-use Rattle.yaml_terms.specs.Fits.{Fits, FitFields, IsWritable}
+use Rattle.yaml_terms.specs.SpellingFits.{SpellingFits, FitFields, IsWritable}
 use Rattle.yaml_terms.specs.Text.{StandsFor}
 use Rattle.slo_objects.specs.declared.object.Object.{Object}
 use Rattle.slo_objects.specs.declared.object.Body.{Body}
@@ -36,14 +36,15 @@ Any o = Unit {0}
 
 -- the object's writing can be written
 abbrev pub IsFit : Object → Type 0
-IsFit o = Fits max_depth (written o)
+IsFit o = SpellingFits max_depth (written o)
 
 -- one level below the document's
 abbrev inside : ℕ
 inside = 31
 
-document_fits : (k : Kind) (m : Metadata) (b : Body) → Fits inside ((map_with metadata).write m)
-    → Fits inside ((body_form k).write b)
+document_fits : (k : Kind) (m : Metadata) (b : Body)
+    → SpellingFits inside ((map_with metadata).write m)
+    → SpellingFits inside ((body_form k).write b)
     → FitFields inside (fields_by document (object_with k m b))
 unfolding document body
 document_fits k m b fm fb =
@@ -107,7 +108,7 @@ document_fit = map_fit IsFit 4 3 Any document four_levels
     (document_law Any (λ k tm ts m b nm ns em eb. tt)) document_table
 
 pub each_fits : (t : Tree) (os : List Object) → IsWritable t → objects_of t ≡ Ok os
-    → AllByRecursion (λ o. Fits max_depth (written o)) os
+    → AllByRecursion (λ o. SpellingFits max_depth (written o)) os
 each_fits t os w e = by ((map_with document).read DOCUMENT.now t) refl e
   where
     by : (a : Answer Object) → (map_with document).read DOCUMENT.now t ≡ a → with_own a ≡ Ok os
@@ -119,7 +120,7 @@ each_fits t os w e = by ((map_with document).read DOCUMENT.now t) refl e
     by (Err x) f g = absurd (err_not_ok x os g)
 
 -- the text of an object's writing stands for its node, where every spelling's text does
-pub texts_stand : ((s : Spelling) → Fits max_depth s → is_word s ≡ false
+pub texts_stand : ((s : Spelling) → SpellingFits max_depth s → is_word s ≡ false
     → length (writing 0 s) ≤ MAX_TEXT_BYTES → StandsFor (writing 0 s) (meant s ∷ []))
     → (t : Tree) (os : List Object) → IsWritable t
     → objects_of t ≡ Ok os → AllByRecursion (λ o. length (writing 0 (written o)) ≤ MAX_TEXT_BYTES

@@ -12,7 +12,7 @@ use Rattle.yaml_terms.specs.Spelling.{Spelling, word, quoted, spelled, items_spe
 use Rattle.yaml_terms.specs.Block.{is_blank_byte}
 use Rattle.yaml_terms.specs.Line.{is_control, has_control, is_plain_start, plain_len}
 use Rattle.yaml_terms.specs.Profile.{max_depth}
-use Rattle.yaml_terms.specs.Fits.{Fits, FitItems, is_plain, is_quotable}
+use Rattle.yaml_terms.specs.SpellingFits.{SpellingFits, FitItems, is_plain, is_quotable}
 use Rattle.yaml_writing.proofs.StandingBytes.{quotable}
 use Rattle.slo_objects.specs.declared.object.Object.{Object}
 use Rattle.slo_objects.specs.declared.fault.Rule.{Rule}
@@ -36,8 +36,8 @@ pub variant_fit : {A B : Type 0} (Q : Object → Type 0) (room : ℕ) (f : Form 
 variant_fit Q room f made write same fit key t y e d h m ft =
     let o = mapped_ok made (f.read key t) y e in
     let r = fit key t o.first o.is_first d h m ft in (
-      subst (λ z. Fits d (write z))
-          (sym (ap (λ z. z.1) o.value)) (subst (Fits d) (sym (same o.first.1)) r.0),
+      subst (λ z. SpellingFits d (write z))
+          (sym (ap (λ z. z.1) o.value)) (subst (SpellingFits d) (sym (same o.first.1)) r.0),
       subst (AllByRecursion Q) (sym (ap (λ z. z.0) o.value)) r.1,
     )
 
@@ -50,20 +50,22 @@ chosen_fit Q room h made f g is_first same also fit write key t y e d r m ft =
     let o = mapped_ok made (h.read key t) y e in
     let k = fit key t o.first o.is_first d r m ft in
     let v = sym (ap (λ z. z.1) o.value) in (
-      λ _. subst (λ z. Fits d (f.write z)) v (subst (Fits d) (sym (same o.first.1)) k.0),
-      λ _. subst (λ z. Fits d (g.write z)) v (subst (Fits d) (sym (also o.first.1)) k.0),
+      λ _. subst (λ z. SpellingFits d (f.write z)) v
+          (subst (SpellingFits d) (sym (same o.first.1)) k.0),
+      λ _. subst (λ z. SpellingFits d (g.write z)) v
+          (subst (SpellingFits d) (sym (also o.first.1)) k.0),
       subst (AllByRecursion Q) (sym (ap (λ z. z.0) o.value)) k.1,
     )
 
 pub free_fit : (Q : Object → Type 0) (room : ℕ) → FormFit Q room free
 free_fit Q room key t y e d h m ft = let v = ok_same ([], t) y e in (
-  subst (λ z. Fits d (spelled z)) (ap (λ z. z.1) v) ft,
+  subst (λ z. SpellingFits d (spelled z)) (ap (λ z. z.1) v) ft,
   subst (AllByRecursion Q) (ap (λ z. z.0) v) tt,
 )
 
 pub free_map_fit : (Q : Object → Type 0) (room : ℕ) → FormFit Q room free_map
 free_map_fit Q room key (mapping es) y e d h m ft = let v = ok_same ([], mapping es) y e in (
-  subst (λ z. Fits d (spelled z)) (ap (λ z. z.1) v) ft,
+  subst (λ z. SpellingFits d (spelled z)) (ap (λ z. z.1) v) ft,
   subst (AllByRecursion Q) (ap (λ z. z.0) v) tt,
 )
 free_map_fit Q room key (sequence ts) y e d h m ft = refused_not_ok key rules.NotMap y e
@@ -74,11 +76,11 @@ free_map_fit Q room key (scalar bytes plain) y e d h m ft = refused_not_ok key r
 abbrev pub ItemFit : (Q : Object → Type 0) → ℕ → {A : Type 0} → (Key → List A → Tree → Answer A)
     → (A → Spelling) → Type 0
 ItemFit Q room {A} read write = (key : Key) (before : List A) (t : Tree) (y : List Object × A)
-    → read key before t ≡ Ok y → (d : ℕ) → room ≤ d → d ≤ max_depth → Fits d (spelled t)
-    → Fits d (write y.1) × AllByRecursion Q y.0
+    → read key before t ≡ Ok y → (d : ℕ) → room ≤ d → d ≤ max_depth → SpellingFits d (spelled t)
+    → SpellingFits d (write y.1) × AllByRecursion Q y.0
 
 items_more : {A : Type 0} (d : ℕ) (write : A → Spelling) (before : List A) (a : A)
-    → FitItems d (written_items write before) → Fits d (write a)
+    → FitItems d (written_items write before) → SpellingFits d (write a)
     → FitItems d (written_items write (before ++ a ∷ []))
 items_more d write [] a f g = (g, tt)
 items_more d write (b ∷ before) a f g = (f.0, items_more d write before a f.1 g)
@@ -145,7 +147,7 @@ single_fit Q outer inner f w fit key (sequence (item t (item u ts))) y e d h m f
 -- stand in quotes.
 abbrev pub ScalarFit : {A : Type 0} → (List ℕ → Result A Rule) → (A → Spelling) → Type 0
 ScalarFit {A} parse write = (bytes : List ℕ) (a : A) → parse bytes ≡ Ok a → IsUtf8 bytes
-    → is_quotable bytes ≡ true → (d : ℕ) → Fits d (write a)
+    → is_quotable bytes ≡ true → (d : ℕ) → SpellingFits d (write a)
 
 last_of_five : (a b c d e : Bool) → (a && (b && (c && (d && e)))) ≡ true → e ≡ true
 last_of_five a b c d e h = and_right d e
@@ -172,10 +174,10 @@ scalar_fit Q room rule parse write fit key (scalar bytes false) y e d h m ft =
 -- a text that is read as it stands
 pub quoted_fit : (parse : List ℕ → Result (List ℕ) Rule) → ((t a : List ℕ) → parse t ≡ Ok a → t ≡ a)
     → ScalarFit parse quoted
-quoted_fit parse same t a e u q d = subst (λ z. Fits d (quoted z)) (same t a e) (u, q)
+quoted_fit parse same t a e u q d = subst (λ z. SpellingFits d (quoted z)) (same t a e) (u, q)
 
 -- a word
-pub word_fit : (w : List ℕ) (d : ℕ) → is_low w ≡ true → is_plain w ≡ true → Fits d (word w)
+pub word_fit : (w : List ℕ) (d : ℕ) → is_low w ≡ true → is_plain w ≡ true → SpellingFits d (word w)
 word_fit w d e f = (low_utf8 w e, f)
 
 -- NAMES
@@ -215,5 +217,5 @@ name_all n e = by (is_object_name n) refl e
     by true f g = and_right _ _ (and_left _ _ (and_left _ _ f))
     by false f g = rule_not_ok rules.BadName n g
 
-pub name_fits : (n : List ℕ) → name_value n ≡ Ok n → (d : ℕ) → Fits d (quoted n)
+pub name_fits : (n : List ℕ) → name_value n ≡ Ok n → (d : ℕ) → SpellingFits d (quoted n)
 name_fits n e d = let a = name_all n e in (IsUtf8-from_ascii n (name_ascii n a), name_quotable n a)

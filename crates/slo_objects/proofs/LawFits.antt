@@ -14,7 +14,8 @@ use Rattle.yaml_terms.specs.Spelling.{Spelling, word, quoted, fields, items, Fie
 use Rattle.yaml_terms.specs.Spelling.{field, Items, no_items, one_item, entries_meant, spelled}
 use Rattle.yaml_terms.specs.Spelling.{fields_spelled}
 use Rattle.yaml_terms.specs.Profile.{max_depth}
-use Rattle.yaml_terms.specs.Fits.{Fits, FitFields, FitItems, is_plain_key, has_field}
+use Rattle.yaml_terms.specs.SpellingFits.{SpellingFits, FitFields, FitItems, is_plain_key}
+use Rattle.yaml_terms.specs.SpellingFits.{has_field}
 use Rattle.slo_objects.specs.declared.object.Object.{Object}
 use Rattle.slo_objects.specs.declared.fault.Rule.{Rule}
 use Rattle.slo_objects.specs.declared.fault.Rule.TheVariants.{Missing, Both, Neither, NotMap}
@@ -37,7 +38,7 @@ use Rattle.slo_objects.proofs.LawLines.{field_written, required_unless_of, requi
 
 -- what can be written can be written where more may nest
 mutual
-  pub deeper : (d e : ℕ) (s : Spelling) → d ≤ e → Fits d s → Fits e s
+  pub deeper : (d e : ℕ) (s : Spelling) → d ≤ e → SpellingFits d s → SpellingFits e s
   deeper d e (word t) h f = f
   deeper d e (quoted t) h f = f
   deeper zero e (fields fs) h f = absurd f
@@ -91,7 +92,8 @@ no_field key (field q k s fs) l = by (bytes_eq key k) refl
     by false e h = h
 
 pub own_fits : (d : ℕ) (key : Key) (s : Spelling) (behind : Fields)
-    → own_key key ≡ true → lacks key (entries_meant behind) ≡ true → Fits d s → FitFields d behind
+    → own_key key ≡ true → lacks key (entries_meant behind) ≡ true → SpellingFits d s
+    → FitFields d behind
     → FitFields d (own key s behind)
 own_fits d key s behind k l f g = (
   (
@@ -107,14 +109,14 @@ some_same : (a b : Tree) → (let o : Option Tree = Some a in o) ≡ Some b → 
 some_same a b g = cc
 
 pub found_fits : (d : ℕ) (key : Key) (es : Entries) (t : Tree) → field_of key es ≡ Some t
-    → FitFields d (fields_spelled es) → Fits d (spelled t)
+    → FitFields d (fields_spelled es) → SpellingFits d (spelled t)
 found_fits d key no_entries t e f = absurd (none-some t e)
 found_fits d key (entry k u es) t e f =
     by (bytes_eq k key && not (is_null u)) e (λ g. found_fits d key es t g f.3)
   where
     by : (b : Bool) → cond b (Some u) (field_of key es) ≡ Some t
-        → (field_of key es ≡ Some t → Fits d (spelled t)) → Fits d (spelled t)
-    by true g h = subst (λ z. Fits d (spelled z)) (some_same u t g) f.2
+        → (field_of key es ≡ Some t → SpellingFits d (spelled t)) → SpellingFits d (spelled t)
+    by true g h = subst (λ z. SpellingFits d (spelled z)) (some_same u t g) f.2
     by false g h = h g
 
 -- LAWS
@@ -123,7 +125,8 @@ found_fits d key (entry k u es) t e f =
 -- and so can each object that it took out.
 abbrev pub FormFit : (Q : Object → Type 0) → ℕ → {A : Type 0} → Form A → Type 0
 FormFit Q room {A} f = (key : Key) (t : Tree) (y : List Object × A) → f.read key t ≡ Ok y → (d : ℕ)
-    → room ≤ d → d ≤ max_depth → Fits d (spelled t) → Fits d (f.write y.1) × AllByRecursion Q y.0
+    → room ≤ d → d ≤ max_depth → SpellingFits d (spelled t)
+    → SpellingFits d (f.write y.1) × AllByRecursion Q y.0
 
 abbrev pub LineFit : (Q : Object → Type 0) → ℕ → {B : Type 0} → FieldLine B → Type 0
 LineFit Q room {B} r = (es : Entries) (y : List Object × B) → r.read es ≡ Ok y → (d : ℕ) → room ≤ d
@@ -279,8 +282,9 @@ alone_fit {A} Q room key others f k fit es y e d h m fe behind fb lk =
 abbrev pub EitherFit : (Q : Object → Type 0) → ℕ → {A : Type 0} → Form A → Form A → Form A
     → (A → Bool) → Type 0
 EitherFit Q room {A} h f g is_first = (key : Key) (t : Tree) (y : List Object × A)
-    → h.read key t ≡ Ok y → (d : ℕ) → room ≤ d → d ≤ max_depth → Fits d (spelled t)
-    → (is_first y.1 ≡ true → Fits d (f.write y.1)) × (is_first y.1 ≡ false → Fits d (g.write y.1))
+    → h.read key t ≡ Ok y → (d : ℕ) → room ≤ d → d ≤ max_depth → SpellingFits d (spelled t)
+    → (is_first y.1 ≡ true → SpellingFits d (f.write y.1))
+    × (is_first y.1 ≡ false → SpellingFits d (g.write y.1))
     × AllByRecursion Q y.0
 
 pub one_of_fit : {A : Type 0} (Q : Object → Type 0) (room : ℕ) (key : Key) (f : Form A)
@@ -290,8 +294,8 @@ pub one_of_fit : {A : Type 0} (Q : Object → Type 0) (room : ℕ) (key : Key) (
 one_of_fit {A} Q room key f other g is_first k j ff gf es y e d h m fe behind fb lk =
     by (field_of key es) (field_of other es) refl refl e
   where
-    written : (b : Bool) → is_first y.1 ≡ b → (is_first y.1 ≡ true → Fits d (f.write y.1))
-        × (is_first y.1 ≡ false → Fits d (g.write y.1)) × AllByRecursion Q y.0
+    written : (b : Bool) → is_first y.1 ≡ b → (is_first y.1 ≡ true → SpellingFits d (f.write y.1))
+        × (is_first y.1 ≡ false → SpellingFits d (g.write y.1)) × AllByRecursion Q y.0
         → FitFields d (cond b (own key (f.write y.1) behind) (own other (g.write y.1) behind))
         × AllByRecursion Q y.0
     written true i r = (

@@ -64,7 +64,7 @@ use Rattle.slo_objects.specs.declared.window.TheConstants.{CALENDAR, DURATION, I
 use Rattle.slo_objects.specs.declared.window.TheConstants.{START_TIME, TIME_ZONE}
 use Rattle.yaml_terms.specs.Spelling.{word, quoted, no_fields, spelled, fields_spelled}
 use Rattle.yaml_terms.specs.Profile.{max_depth}
-use Rattle.yaml_terms.specs.Fits.{Fits, FitFields}
+use Rattle.yaml_terms.specs.SpellingFits.{SpellingFits, FitFields}
 use Rattle.zone_calendar.specs.CivilText.{parts_in, parts_of, parts_text, is_moment, civil_text}
 use Rattle.zone_calendar.specs.CivilRead.{in_range, civil_of, civil_from, civil_when, civil_read}
 use Rattle.zone_calendar.specs.declared.civil.Civil.{Civil}
@@ -403,7 +403,7 @@ roomy Q room f fit key t y e d h m ft = fit key t y e d (omega arith) m ft
 abbrev pub OwnFit : (Q : Object → Type 0) → Kind → Form Body → Type 0
 OwnFit Q kind body = (tm ts : Tree) (m : List Object × Metadata) (b : List Object × Body)
     → (map_with metadata).read METADATA.now tm ≡ Ok m → body.read SPEC.now ts ≡ Ok b
-    → (d : ℕ) → suc d ≤ max_depth → Fits d (spelled tm) → Fits d (spelled ts)
+    → (d : ℕ) → suc d ≤ max_depth → SpellingFits d (spelled tm) → SpellingFits d (spelled ts)
     → Q (object_with kind m.1 b.1)
 
 taken_fit : (Q : Object → Type 0) (a : Answer Object) (y : List Object × List ℕ)
@@ -545,7 +545,7 @@ moment_same bytes m e = (elim (parts_in bytes) as (λ o. parts_in bytes ≡ o
 
 moment_fit : (Q : Object → Type 0) (room : ℕ) → FormFit Q room moment
 moment_fit Q room = scalar_fit Q room rules.NotMoment moment_value (λ m. quoted (civil_text m))
-    (λ t m e u q d. subst (λ z. Fits d (quoted z)) (moment_same t m e) (u, q))
+    (λ t m e u q d. subst (λ z. SpellingFits d (quoted z)) (moment_same t m e) (u, q))
 
 width_fit : (Q : Object → Type 0) (room : ℕ) → FormFit Q room slice_width
 width_fit Q room = scalar_fit Q room rules.NotDuration width_value (λ w. word (decimal w.minutes))
@@ -568,7 +568,7 @@ method_fit : (Q : Object → Type 0) (room : ℕ) → FormFit Q room method
 method_fit Q room =
     scalar_fit Q room rules.BadWord method_value (λ m. word (method_word m)) (λ t k e u q d. by k d)
   where
-    by : (k : BudgetingMethod) (d : ℕ) → Fits d (word (method_word k))
+    by : (k : BudgetingMethod) (d : ℕ) → SpellingFits d (word (method_word k))
     by Occurrences d = word_fit (codes "Occurrences") d refl refl
     by Timeslices d = word_fit (codes "Timeslices") d refl refl
     by RatioTimeslices d = word_fit (codes "RatioTimeslices") d refl refl
@@ -661,7 +661,8 @@ policy_item_fit Q fit own key before t y e (suc d) h m ft = let new =
       taken t new ft,
     )
   where
-    taken : (t : Tree) → policy_form key t ≡ Ok y → Fits (suc d) (spelled t) → AllByRecursion Q y.0
+    taken : (t : Tree) → policy_form key t ≡ Ok y → SpellingFits (suc d) (spelled t)
+        → AllByRecursion Q y.0
     taken (mapping es) f g =
         item_taken Q ALERT_POLICY_REF.now kinds.AlertPolicy policy_body fit own es y f d m g
     taken (sequence ts) f g = refused_not_ok key rules.NotMap y f

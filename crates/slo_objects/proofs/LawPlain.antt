@@ -12,7 +12,7 @@ use Rattle.std.proofs.lemmas.Str.{IsUtf8-from_ascii}
 use Rattle.yaml_terms.specs.Block.{is_blank_byte}
 use Rattle.yaml_terms.specs.Flow.{is_indicator, is_soft_indicator}
 use Rattle.yaml_terms.specs.Line.{is_control, has_control, is_plain_start, plain_len}
-use Rattle.yaml_terms.specs.Fits.{is_letter, is_plain}
+use Rattle.yaml_terms.specs.SpellingFits.{is_letter, is_plain}
 use Rattle.exact_fraction.specs.Decimal.{with_point}
 use Rattle.exact_fraction.specs.DecimalText.{decimal_text, last_digits, without_last_zeros}
 use Rattle.exact_fraction.proofs.SpelledDecimals.{trimmed-digits}

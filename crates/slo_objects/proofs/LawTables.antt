@@ -49,7 +49,7 @@ use Rattle.slo_objects.specs.declared.sli.TheConstants.{BAD, COUNTER, GOOD, METR
 use Rattle.slo_objects.specs.declared.sli.TheConstants.{METRIC_SOURCE_REF, RATIO_METRIC, RAW}
 use Rattle.slo_objects.specs.declared.sli.TheConstants.{RAW_TYPE, THRESHOLD_METRIC, TOTAL}
 use Rattle.yaml_terms.specs.Spelling.{word, quoted}
-use Rattle.yaml_terms.specs.Fits.{Fits}
+use Rattle.yaml_terms.specs.SpellingFits.{SpellingFits}
 use Rattle.exact_fraction.specs.declared.op.Op.TheVariants.{Lte, Gte, Lt, Gt}
 use Rattle.slo_duration.specs.declared.duration.Duration.{Duration}
 use Rattle.exact_fraction.specs.declared.op.Op.{Op}
@@ -384,7 +384,7 @@ pub boolean_fit : (Q : Object → Type 0) (room : ℕ) → FormFit Q room boolea
 boolean_fit Q room = scalar_fit Q room rules.NotBool boolean_value
     (λ b. word (cond b (codes "true") (codes "false"))) (λ t b e u q d. by b d)
   where
-    by : (b : Bool) (d : ℕ) → Fits d (word (cond b (codes "true") (codes "false")))
+    by : (b : Bool) (d : ℕ) → SpellingFits d (word (cond b (codes "true") (codes "false")))
     by true d = word_fit (codes "true") d refl refl
     by false d = word_fit (codes "false") d refl refl
 
@@ -392,13 +392,13 @@ pub op_fit : (Q : Object → Type 0) (room : ℕ) → FormFit Q room op
 op_fit Q room =
     scalar_fit Q room rules.BadWord op_value (λ o. word (op_word o)) (λ t o e u q d. by o d)
   where
-    by : (o : Op) (d : ℕ) → Fits d (word (op_word o))
+    by : (o : Op) (d : ℕ) → SpellingFits d (word (op_word o))
     by Lte d = word_fit (codes "lte") d refl refl
     by Gte d = word_fit (codes "gte") d refl refl
     by Lt d = word_fit (codes "lt") d refl refl
     by Gt d = word_fit (codes "gt") d refl refl
 
-pub kind_fits : (k : Kind) (d : ℕ) → Fits d (word (kind_word k))
+pub kind_fits : (k : Kind) (d : ℕ) → SpellingFits d (word (kind_word k))
 kind_fits kinds.DataSource d = word_fit (codes "DataSource") d refl refl
 kind_fits kinds.Service d = word_fit (codes "Service") d refl refl
 kind_fits kinds.Sli d = word_fit (codes "SLI") d refl refl
@@ -423,14 +423,14 @@ condition_kind_fit : (Q : Object → Type 0) (room : ℕ) → FormFit Q room con
 condition_kind_fit Q room = scalar_fit Q room rules.BadWord condition_kind_value
     (λ k. word (condition_word k)) (λ t k e u q d. by k d)
   where
-    by : (k : ConditionKind) (d : ℕ) → Fits d (word (condition_word k))
+    by : (k : ConditionKind) (d : ℕ) → SpellingFits d (word (condition_word k))
     by Burnrate d = word_fit (codes "burnrate") d refl refl
 
 raw_type_fit : (Q : Object → Type 0) (room : ℕ) → FormFit Q room raw_type
 raw_type_fit Q room = scalar_fit Q room rules.BadWord raw_type_value (λ k. word (raw_type_word k))
     (λ t k e u q d. by k d)
   where
-    by : (k : RawType) (d : ℕ) → Fits d (word (raw_type_word k))
+    by : (k : RawType) (d : ℕ) → SpellingFits d (word (raw_type_word k))
     by Success d = word_fit (codes "success") d refl refl
     by Failure d = word_fit (codes "failure") d refl refl
 

@@ -2,7 +2,7 @@
 use Rattle.std.specs.Prelude.{◌≡◌, List, [], ◌∷◌, ◌++◌, Result, Ok, Err, Contains, codes}
 use Rattle.yaml_terms.specs.Tree.{Tree}
 use Rattle.yaml_terms.specs.Spelling.{Spelling}
-use Rattle.yaml_terms.specs.Fits.{IsWritable}
+use Rattle.yaml_terms.specs.SpellingFits.{IsWritable}
 use Rattle.slo_objects.specs.declared.kind.Kind.{Kind}
 use Rattle.slo_objects.specs.declared.kind.Kind.TheVariants as kinds
 use Rattle.slo_objects.specs.declared.object.Object.{Object}

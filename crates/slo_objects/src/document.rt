@@ -1,7 +1,7 @@
 //! Documents, and the objects that they stand for.
 ghost use Rattle.std.specs.Prelude.{◌≡◌, IfOk};
 ghost use Rattle.std.specs.List.{All};
-ghost use Rattle.yaml_terms.specs.Fits.{IsWritable};
+ghost use Rattle.yaml_terms.specs.SpellingFits.{IsWritable};
 ghost use Rattle.yaml_terms.specs.NodeView.{node_view};
 ghost use Rattle.slo_objects.specs.Form.{map_with};
 ghost use Rattle.slo_objects.specs.Reading.{Gives, Reads};

@@ -7,7 +7,7 @@ ghost use Rattle.yaml_terms.specs.Tree.{Tree};
 ghost use Rattle.yaml_terms.specs.Profile.{max_depth};
 ghost use Rattle.yaml_terms.specs.Text.{StandsFor};
 ghost use Rattle.yaml_terms.specs.Spelling.{meant, writing};
-ghost use Rattle.yaml_terms.specs.Fits.{Fits, IsWritable};
+ghost use Rattle.yaml_terms.specs.SpellingFits.{SpellingFits, IsWritable};
 ghost use Rattle.slo_objects.specs.declared.object.Object.{Object};
 ghost use Rattle.slo_objects.specs.Document.{objects_of, written};
 
@@ -25,7 +25,7 @@ pub fn each_object_reads_back()
 /// for the node that it means.
 pub fn each_object_can_be_written()
     ensures fits { (t : Tree) (os : List Object) → IsWritable t → objects_of t ≡ Ok os
-        → AllByRecursion (λ o. Fits max_depth (written o)) os }
+        → AllByRecursion (λ o. SpellingFits max_depth (written o)) os }
     ensures stands { (t : Tree) (os : List Object) → IsWritable t → objects_of t ≡ Ok os
         → AllByRecursion (λ o. length (writing 0 (written o)) ≤ MAX_TEXT_BYTES
         → StandsFor (writing 0 (written o)) (meant (written o) ∷ [])) os }

@@ -16,7 +16,7 @@ use Rattle.yaml_terms.specs.Text.{nodes_of, without_mark}
 use Rattle.yaml_terms.specs.OpenNodes.{Open, nothing, within, open_after_all, open_nodes}
 use Rattle.yaml_terms.specs.OpenNodes.{documents_so_far}
 use Rattle.yaml_terms.specs.Fault.{IsFault, misfit, fault_of}
-use Rattle.yaml_subset.specs.Reader.{Reading, IsRead, Follows}
+use Rattle.yaml_subset.specs.Reader.{Reading, LinesAreRead, Follows}
 use Rattle.yaml_terms.specs.declared.ProfileFault.{ProfileFault}
 use Rattle.yaml_subset.proofs.TextLemmas.{misfit_of_add, nothing_read, read_nodes, read_more}
 use Rattle.yaml_subset.proofs.TextLemmas.{fault_here}
@@ -136,7 +136,7 @@ follows r line e =
       record { no_fault = none.0; nodes = added.1; parent = refl; scalar = refl },
     )
 
-behind_read : (ls rest : List (List ℕ)) (r : Reading) → IsRead ls r → Outcome (ls ++ rest)
+behind_read : (ls rest : List (List ℕ)) (r : Reading) → LinesAreRead ls r → Outcome (ls ++ rest)
 behind_read ls [] r h =
     subst Outcome (sym (append-nil ls)) (inl (documents_so_far r.nodes, read_nodes ls r h))
 behind_read ls (l ∷ rest) r h = by (fault_of r.scalar r.nodes l) refl

@@ -14,7 +14,7 @@ use Rattle.yaml_terms.specs.Text.{MarkedLines, line_at, next_line, no_line, mark
 use Rattle.yaml_terms.specs.OpenNodes.{Open, nothing, within, open_nodes, documents_so_far}
 use Rattle.yaml_terms.specs.OpenNodes.{open_after, open_after_all}
 use Rattle.yaml_terms.specs.Fault.{fault_of_mark, misfit, fault_of, IsFault}
-use Rattle.yaml_subset.specs.Reader.{IsRead, Reading, Follows}
+use Rattle.yaml_subset.specs.Reader.{LinesAreRead, Reading, Follows}
 use Rattle.std.proofs.lemmas.Bool.{false≢true}
 use Rattle.yaml_terms.specs.declared.Scalar.{Scalar}
 use Rattle.yaml_terms.specs.declared.ProfileFault.{ProfileFault}
@@ -39,17 +39,17 @@ marked-snoc ls line =
     fold-append (λ o l. option_and_then (λ s. next_line s l) o) (Some no_line) ls (line ∷ [])
 
 -- nothing is read yet
-pub nothing_read : IsRead []
+pub nothing_read : LinesAreRead []
     (record { nodes = within start [] nothing; parent = None; scalar = None })
 nothing_read = record { marks = []; are_marks = refl; are_open = refl }
 
 -- the nodes of lines that were read
-pub read_nodes : (ls : List (List ℕ)) (r : Reading) → IsRead ls r
+pub read_nodes : (ls : List (List ℕ)) (r : Reading) → LinesAreRead ls r
     → nodes_of ls ≡ Some (documents_so_far r.nodes)
 read_nodes ls r h = ap (option_and_then (λ (s : MarkedLines). documents s.marks)) h.are_marks
     ∙ documents_closed h.marks ∙ ap (option_map documents_so_far) h.are_open
 
-module _ (ls : List (List ℕ)) (line : List ℕ) (r : Reading) (h : IsRead ls r) where
+module _ (ls : List (List ℕ)) (line : List ℕ) (r : Reading) (h : LinesAreRead ls r) where
   here : MarkedLines
   here = record { marks = h.marks; parent = r.parent; scalar = r.scalar }
 
@@ -64,7 +64,7 @@ module _ (ls : List (List ℕ)) (line : List ℕ) (r : Reading) (h : IsRead ls r
       ∙ ap (option_and_then (open_after_all (line_at r.scalar line).marks)) h.are_open
 
   -- one more line that has no fault
-  pub read_more : (next : Reading) → Follows r line next → IsRead (ls ++ (line ∷ [])) next
+  pub read_more : (next : Reading) → Follows r line next → LinesAreRead (ls ++ (line ∷ [])) next
   unfolding here
   read_more next f = record {
     marks = h.marks ++ (line_at r.scalar line).marks;

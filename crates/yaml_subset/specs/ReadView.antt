@@ -1,9 +1,9 @@
 -- What contracts see of the reading of a text.
 use Rattle.std.specs.Prelude.{[]}
-use Rattle.yaml_subset.specs.Reader.{IsRead}
+use Rattle.yaml_subset.specs.Reader.{LinesAreRead}
 use Rattle.yaml_subset.specs.ReaderView.{reading}
 use Rattle.yaml_subset.specs.declared.reader.Reader.{Reader}
 
 -- no line is read yet
 abbrev pub IsStart : Reader → Type 0
-IsStart r = IsRead [] (reading r)
+IsStart r = LinesAreRead [] (reading r)

@@ -14,7 +14,7 @@ pub record Reading : Type 0 where
   pub scalar : Option Scalar
 
 -- after these lines, which are a text of the profile, the reader keeps what is theirs
-pub record IsRead (ls : List (List ℕ)) (r : Reading) : Type 0 where
+pub record LinesAreRead (ls : List (List ℕ)) (r : Reading) : Type 0 where
   pub marks : List Mark
   pub are_marks : marked_lines ls ≡ Some (record {
     marks = marks;

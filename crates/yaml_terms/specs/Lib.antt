@@ -2,7 +2,6 @@ pub mod BadPlace
 pub mod Block
 pub mod Fault
 pub mod FaultOrder
-pub mod Fits
 pub mod Flow
 pub mod FlowFaults
 pub mod FlowList
@@ -15,6 +14,7 @@ pub mod Profile
 pub mod Quoted
 pub mod Room
 pub mod Spelling
+pub mod SpellingFits
 pub mod SpellingView
 pub mod Standing
 pub mod Text

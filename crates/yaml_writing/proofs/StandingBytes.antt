@@ -16,7 +16,7 @@ use Rattle.std.proofs.Math.Seq.{take-append_seam, drop-append_seam, get_or-appen
 use lib.Utf8.{low_scalar}
 use Rattle.yaml_terms.specs.Block.{is_blank_byte}
 use Rattle.yaml_terms.specs.Line.{is_control, has_control}
-use Rattle.yaml_terms.specs.Fits.{is_quotable}
+use Rattle.yaml_terms.specs.SpellingFits.{is_quotable}
 use Rattle.yaml_terms.proofs.Utf8Lemmas.{pick, one_ascii, back, before_end, without, onward}
 use Rattle.yaml_terms.proofs.Utf8Lemmas.{backward, ascii_of}
 

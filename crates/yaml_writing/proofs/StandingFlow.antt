@@ -20,7 +20,7 @@ use Rattle.yaml_terms.specs.Flow.{is_soft_indicator, ends_soft, is_flow_start}
 use Rattle.yaml_terms.specs.Line.{is_control, has_control, ends_word, is_plain_start, stops_plain}
 use Rattle.yaml_terms.specs.Line.{plain_len}
 use Rattle.yaml_terms.specs.Spelling.{spelled}
-use Rattle.yaml_terms.specs.Fits.{is_plain, is_quotable, Fits}
+use Rattle.yaml_terms.specs.SpellingFits.{is_plain, is_quotable, SpellingFits}
 use Rattle.yaml_terms.specs.declared.ProfileFault.{ProfileFault}
 use Rattle.yaml_terms.specs.declared.ProfileFault.TheVariants.{Quote, Escape, FlowForm}
 use Rattle.yaml_terms.specs.declared.Part.{Part}
@@ -34,7 +34,7 @@ use Rattle.yaml_writing.proofs.StandingPlain.{is_plain_of}
 
 -- an item that can be written
 abbrev pub IsItem : Tree → Type 0
-IsItem x = (d : ℕ) → Fits d (spelled x)
+IsItem x = (d : ℕ) → SpellingFits d (spelled x)
 
 -- PLAIN ITEMS
 

@@ -23,7 +23,7 @@ use Rattle.yaml_terms.specs.Line.{plain_key_fault, plain_key, key_of, behind_col
 use Rattle.yaml_terms.specs.Line.{tab_fault, content, is_marker, marker_line, filled_line, line_of}
 use Rattle.yaml_terms.specs.Profile.{is_shallow}
 use Rattle.yaml_terms.specs.Spelling.{spelled, items_spelled}
-use Rattle.yaml_terms.specs.Fits.{Fits, FitItems}
+use Rattle.yaml_terms.specs.SpellingFits.{SpellingFits, FitItems}
 use Rattle.yaml_terms.specs.declared.ProfileFault.{ProfileFault}
 use Rattle.yaml_terms.specs.declared.ProfileFault.TheVariants.{Control, Tab, LeftOut, Quote, Colon}
 use Rattle.yaml_terms.specs.declared.Style.{Style}
@@ -40,7 +40,7 @@ abbrev pub IsGood : Mark → Type 0
 IsGood start = ⊤
 IsGood (dash n) = ⊤
 IsGood (key n k) = IsClean k
-IsGood (value n x) = (d : ℕ) → is_shallow d x ≡ true → Fits d (spelled x)
+IsGood (value n x) = (d : ℕ) → is_shallow d x ≡ true → SpellingFits d (spelled x)
 IsGood (header n s) = ⊤
 IsGood (raw l) = ⊥
 
@@ -83,7 +83,7 @@ items_fit d [] h = tt
 items_fit d (x ∷ xs) h = (h.0 d, items_fit d xs h.1)
 
 sequence_good : (xs : List Tree) → AllByRecursion IsItem xs → (d : ℕ)
-    → is_shallow d (sequence (trees xs)) ≡ true → Fits d (spelled (sequence (trees xs)))
+    → is_shallow d (sequence (trees xs)) ≡ true → SpellingFits d (spelled (sequence (trees xs)))
 sequence_good xs h zero s = absurd (true≢false (sym s))
 sequence_good xs h (suc d) s = items_fit d xs h
 
@@ -97,7 +97,7 @@ flow_value_good n s h = by (earlier s.fault (end_fault s.part)) refl
     by (Some w) e = rw e (spoiled_good n w)
 
 map_good : (d : ℕ) → is_shallow d (mapping no_entries) ≡ true
-    → Fits d (spelled (mapping no_entries))
+    → SpellingFits d (spelled (mapping no_entries))
 map_good zero s = absurd (true≢false (sym s))
 map_good (suc d) s = tt
 

@@ -19,7 +19,7 @@ use Rattle.yaml_terms.specs.OpenNodes.{documents_so_far}
 use Rattle.yaml_terms.specs.OpenNodes.{begun_node, with_raw, next_piece, next_open}
 use Rattle.yaml_terms.specs.Text.{scalar_with}
 use Rattle.yaml_terms.specs.Spelling.{spelled, fields_spelled, items_spelled}
-use Rattle.yaml_terms.specs.Fits.{Fits, FitFields, FitItems, has_field}
+use Rattle.yaml_terms.specs.SpellingFits.{SpellingFits, FitFields, FitItems, has_field}
 use Rattle.yaml_terms.specs.declared.Scalar.{Scalar}
 use Rattle.yaml_terms.specs.declared.Style.{Style}
 use Rattle.yaml_terms.specs.declared.Chomping.{Chomping}
@@ -95,7 +95,7 @@ no_field k (c ∷ cs) h x e f = by c.mark c.tree e (λ g. no_field k cs h x g f)
 
 fields_more : (d : ℕ) (done : List Child) (h : Mark) (x : Tree)
     → FitFields d (fields_spelled (entries done)) → IsGood h → is_repeated h done ≡ false
-    → Fits d (spelled x) → FitFields d (fields_spelled (entries (done ++ (child h x ∷ []))))
+    → SpellingFits d (spelled x) → FitFields d (fields_spelled (entries (done ++ (child h x ∷ []))))
 fields_more d [] start x f g e k = tt
 fields_more d [] (dash n) x f g e k = tt
 fields_more d [] (key n j) x f g e k = (g, refl, k, tt)
@@ -118,7 +118,7 @@ fields_more d (c ∷ cs) h x f g e k =
     by (raw l) t f e ih = ih f
 
 items_more : (d : ℕ) (done : List Child) (h : Mark) (x : Tree)
-    → FitItems d (items_spelled (trees (map (λ c. c.tree) done))) → Fits d (spelled x)
+    → FitItems d (items_spelled (trees (map (λ c. c.tree) done))) → SpellingFits d (spelled x)
     → FitItems d (items_spelled (trees (map (λ c. c.tree) (done ++ (child h x ∷ [])))))
 items_more d [] h x f k = (k, tt)
 items_more d (c ∷ cs) h x f k = (f.0, items_more d cs h x f.1 k)
@@ -126,9 +126,9 @@ items_more d (c ∷ cs) h x f k = (f.0, items_more d cs h x f.1 k)
 -- a node that stands somewhere, if one does
 abbrev OnTree : ℕ → Option Tree → Type 0
 OnTree d None = ⊤
-OnTree d (Some x) = Fits d (spelled x)
+OnTree d (Some x) = SpellingFits d (spelled x)
 
-or_no_text_fits : (d : ℕ) (o : Option Tree) → OnTree d o → Fits d (spelled (or_no_text o))
+or_no_text_fits : (d : ℕ) (o : Option Tree) → OnTree d o → SpellingFits d (spelled (or_no_text o))
 or_no_text_fits d None h = (IsUtf8-nil, refl)
 or_no_text_fits d (Some x) h = h
 
@@ -152,12 +152,12 @@ with_child_good d done h o f g e k = by h o g e k
     by (raw l) o g e k = absurd g
 
 collection_good : (d : ℕ) (done : List Child) → IsGoodDone d done
-    → Fits (suc d) (spelled (collection done))
+    → SpellingFits (suc d) (spelled (collection done))
 collection_good d [] h = tt
 collection_good d (c ∷ cs) h = by c.mark c.tree h
   where
     by : (m : Mark) (t : Tree) → IsGoodDone d (child m t ∷ cs)
-        → Fits (suc d) (spelled (collection (child m t ∷ cs)))
+        → SpellingFits (suc d) (spelled (collection (child m t ∷ cs)))
     by start t h = h.1
     by (dash n) t h = h.1
     by (key n j) t h = h.0
@@ -214,7 +214,7 @@ ended_clean f Keep None t n h = clean-replicate n
 -- open nodes that can be written, where maps and lists may nest so deep
 abbrev pub IsGoodOpen : ℕ → Open → Type 0
 IsGoodOpen d nothing = ⊤
-IsGoodOpen d (inline x) = Fits d (spelled x)
+IsGoodOpen d (inline x) = SpellingFits d (spelled x)
 IsGoodOpen d (block b) = IsClean b.text
 IsGoodOpen zero (within h done i) = ⊥
 IsGoodOpen (suc d) (within h done i) = IsGood h × (is_repeated h done ≡ false) × IsGoodDone d done
@@ -284,7 +284,7 @@ added_good (suc d) h m (within f done i) k g = pick (OnOpen (suc d)) (is_next f 
 
 -- the nodes of a stream that ends there
 pub finished_good : (d : ℕ) (o : Open) → IsGoodOpen (suc d) o
-    → AllByRecursion (λ x. Fits d (spelled x)) (documents_so_far o)
+    → AllByRecursion (λ x. SpellingFits d (spelled x)) (documents_so_far o)
 finished_good d nothing h = tt
 finished_good d (inline x) h = tt
 finished_good d (block b) h = tt
@@ -293,7 +293,7 @@ finished_good d (within g done i) h = all_fit
     (with_child_good d done g (node_so_far i) h.2 h.0 h.1 (closed_good d i h.3)).1
   where
     all_fit : (xs : List Tree) → FitItems d (items_spelled (trees xs))
-        → AllByRecursion (λ x. Fits d (spelled x)) xs
+        → AllByRecursion (λ x. SpellingFits d (spelled x)) xs
     all_fit [] f = tt
     all_fit (x ∷ xs) f = (f.0, all_fit xs f.1)
 

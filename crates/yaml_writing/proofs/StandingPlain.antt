@@ -12,7 +12,7 @@ use Rattle.std.proofs.lemmas.List.Sums.{prefix_len-le-length}
 use Rattle.yaml_terms.specs.Block.{is_space, is_blank_byte, trimmed_text}
 use Rattle.yaml_terms.specs.Flow.{is_indicator, is_soft_indicator}
 use Rattle.yaml_terms.specs.Line.{has_control, ends_word, is_plain_start, stops_plain, plain_len}
-use Rattle.yaml_terms.specs.Fits.{is_plain}
+use Rattle.yaml_terms.specs.SpellingFits.{is_plain}
 use Rattle.yaml_terms.proofs.Utf8Lemmas.{pick, before_end, onward, backward, ascii_of}
 use Rattle.yaml_writing.proofs.StandingBytes.{blank_ascii, free_take, IsPure}
 

@@ -7,7 +7,7 @@ use Rattle.std.proofs.lemmas.Bool.{and_parts, and_from, true≢false}
 use Rattle.yaml_terms.specs.Quoted.{Quoted, quote_end, with_byte, with_escape, escaped_byte}
 use Rattle.yaml_terms.specs.Quoted.{single}
 use Rattle.yaml_terms.specs.Quoted.{double, quoted}
-use Rattle.yaml_terms.specs.Fits.{is_quotable}
+use Rattle.yaml_terms.specs.SpellingFits.{is_quotable}
 use Rattle.yaml_terms.proofs.Utf8Lemmas.{pick, back, before_end, without, in_place, onward}
 use Rattle.yaml_terms.proofs.Utf8Lemmas.{backward, ascii_of}
 use Rattle.yaml_writing.proofs.StandingBytes.{may_stand}

@@ -21,7 +21,7 @@ use Rattle.yaml_terms.specs.Text.{scalar_with, scalar_after, no_line, without_ma
 use Rattle.yaml_terms.specs.Spelling.{Spelling, word, quoted, fields, items, Fields, no_fields}
 use Rattle.yaml_terms.specs.Spelling.{field, Items, no_items, one_item, spelled, fields_spelled}
 use Rattle.yaml_terms.specs.Spelling.{items_spelled}
-use Rattle.yaml_terms.specs.Fits.{Fits, FitFields, FitItems, IsWritable}
+use Rattle.yaml_terms.specs.SpellingFits.{SpellingFits, FitFields, FitItems, IsWritable}
 use Rattle.yaml_terms.specs.Standing.{IsIn, itself, in_map, in_list, IsInEntries, first_entry}
 use Rattle.yaml_terms.specs.Standing.{later_entry, IsInItems, first_item, later_item, StandsIn}
 use Rattle.yaml_terms.specs.declared.Scalar.{Scalar}
@@ -233,7 +233,7 @@ standing text xs s =
 -- NODES AT ANY DEPTH
 
 mutual
-  deeper : (d : ℕ) (s : Spelling) → Fits d s → Fits (suc d) s
+  deeper : (d : ℕ) (s : Spelling) → SpellingFits d s → SpellingFits (suc d) s
   deeper d (word text) h = h
   deeper d (quoted text) h = h
   deeper zero (fields fs) h = absurd h
@@ -250,7 +250,8 @@ mutual
   deeper_items d (one_item s is) h = (deeper d s h.0, deeper_items d is h.1)
 
 mutual
-  inside : (x y : Tree) → IsIn x y → (d : ℕ) → Fits d (spelled y) → Fits d (spelled x)
+  inside : (x y : Tree) → IsIn x y → (d : ℕ) → SpellingFits d (spelled y)
+      → SpellingFits d (spelled x)
   inside x y itself d h = h
   inside x y (in_map es i) zero h = absurd h
   inside x y (in_map es i) (suc d) h = deeper d (spelled x) (inside_entries x es i d h)
@@ -258,12 +259,12 @@ mutual
   inside x y (in_list xs i) (suc d) h = deeper d (spelled x) (inside_items x xs i d h)
 
   inside_entries : (x : Tree) (es : Entries) → IsInEntries x es → (d : ℕ)
-      → FitFields d (fields_spelled es) → Fits d (spelled x)
+      → FitFields d (fields_spelled es) → SpellingFits d (spelled x)
   inside_entries x es (first_entry k y fs i) d h = inside x y i d h.2
   inside_entries x es (later_entry k y fs i) d h = inside_entries x fs i d h.3
 
   inside_items : (x : Tree) (xs : Trees) → IsInItems x xs → (d : ℕ) → FitItems d (items_spelled xs)
-      → Fits d (spelled x)
+      → SpellingFits d (spelled x)
   inside_items x xs (first_item y ys i) d h = inside x y i d h.0
   inside_items x xs (later_item y ys i) d h = inside_items x ys i d h.1
 

@@ -13,7 +13,7 @@ use Rattle.yaml_terms.specs.Spelling.{written_items, writing, is_word, meant, sp
 use Rattle.yaml_terms.specs.Tree.{Tree}
 use Rattle.yaml_terms.specs.Profile.{max_depth}
 use Rattle.yaml_terms.specs.Text.{StandsFor}
-use Rattle.yaml_terms.specs.Fits.{Fits, FitFields, FitItems, IsWritable}
+use Rattle.yaml_terms.specs.SpellingFits.{SpellingFits, FitFields, FitItems, IsWritable}
 use Rattle.yaml_terms.specs.SpellingView.{spelling_view, is_quoted, text_of, is_no_text, has_lines}
 use Rattle.yaml_terms.specs.SpellingView.{fields_view, items_view}
 use Rattle.yaml_terms.specs.declared.FieldKey.{FieldKey}
@@ -51,12 +51,13 @@ gap-dash (fields fs) = refl
 gap-dash (items is) = refl
 
 -- maps and lists that fit have a level more
-pub fits-fields : (d : ℕ) (ps : List (FieldKey × Written)) → Fits d (fields (fields_view ps))
+pub fits-fields : (d : ℕ) (ps : List (FieldKey × Written))
+    → SpellingFits d (fields (fields_view ps))
     → (0 < d) × FitFields (d - 1) (fields_view ps)
 fits-fields zero ps f = absurd f
 fits-fields (suc d) ps f = let e : suc d - 1 ≡ d = omega arith in (omega arith, rw e f)
 
-pub fits-items : (d : ℕ) (ss : List Written) → Fits d (items (items_view ss))
+pub fits-items : (d : ℕ) (ss : List Written) → SpellingFits d (items (items_view ss))
     → (0 < d) × FitItems (d - 1) (items_view ss)
 fits-items zero ss f = absurd f
 fits-items (suc d) ss f = let e : suc d - 1 ≡ d = omega arith in (omega arith, rw e f)
@@ -103,7 +104,7 @@ pub where_ok : {T E : Type 0} (r : Result T E) (P : Type 0) → P → OnOk r P
 where_ok (Ok x) P h = h
 where_ok (Err x) P h = tt
 
-pub stands_alone : (n : ℕ) (s : Spelling) → Fits max_depth s → n ≡ 0 → is_word s ≡ false
+pub stands_alone : (n : ℕ) (s : Spelling) → SpellingFits max_depth s → n ≡ 0 → is_word s ≡ false
     → length (writing n s) ≤ MAX_TEXT_BYTES → StandsFor (writing n s) (meant s ∷ [])
 stands_alone n s f z e small = rw z (reads_back s f e (rw z at small))
 
@@ -125,13 +126,13 @@ next_items ss i s h e =
 
 pub fit_field : (d : ℕ) (ps : List (FieldKey × Written)) (i : ℕ) (p : FieldKey × Written)
     → i < length ps → p ≡ get_or ps i p → FitFields d (fields_view (drop i ps))
-    → Fits d (spelling_view p.1) × FitFields d (fields_view (drop (i + 1) ps))
+    → SpellingFits d (spelling_view p.1) × FitFields d (fields_view (drop (i + 1) ps))
 fit_field d ps i p h e f = let all = subst (FitFields d) (next_fields ps i p h e) f in
     (all.2, all.3)
 
 pub fit_item : (d : ℕ) (ss : List Written) (i : ℕ) (s : Written) → i < length ss → s ≡ get_or ss i s
     → FitItems d (items_view (drop i ss))
-    → Fits d (spelling_view s) × FitItems d (items_view (drop (i + 1) ss))
+    → SpellingFits d (spelling_view s) × FitItems d (items_view (drop (i + 1) ss))
 fit_item d ss i s h e f = subst (FitItems d) (next_items ss i s h e) f
 
 -- one field is written after those before it

@@ -18,7 +18,7 @@ use Rattle.yaml_terms.specs.Spelling.{Spelling, word, quoted, fields, items, Fie
 use Rattle.yaml_terms.specs.Spelling.{field, Items, no_items, one_item, meant, escape_of}
 use Rattle.yaml_terms.specs.Spelling.{in_quotes, key_text, spaces, step, gap_at_colon, gap_at_dash}
 use Rattle.yaml_terms.specs.Spelling.{written, written_fields, written_items, writing, is_word}
-use Rattle.yaml_terms.specs.Fits.{Fits, FitFields, FitItems, is_letter}
+use Rattle.yaml_terms.specs.SpellingFits.{SpellingFits, FitFields, FitItems, is_letter}
 use Rattle.yaml_writing.proofs.WritingMarks.{marks_at, marks_own, kept, document_read}
 use Rattle.yaml_writing.proofs.WritingBytes.{IsLetter, letter_is}
 use Rattle.yaml_writing.proofs.WritingLines.{text_lines, lines_nodes}
@@ -134,7 +134,7 @@ inline_utf8 lead text u v = IsUtf8-append lead (text ++ (10 ∷ [])) u
     (IsUtf8-append text (10 ∷ []) v (ascii_utf8 (10 ∷ []) refl))
 
 mutual
-  value_utf8 : (d : ℕ) (s : Spelling) (lead : List ℕ) (n : ℕ) → IsUtf8 lead → Fits d s
+  value_utf8 : (d : ℕ) (s : Spelling) (lead : List ℕ) (n : ℕ) → IsUtf8 lead → SpellingFits d s
       → IsUtf8 (written lead n s)
   value_utf8 zero (word text) lead n u fit = inline_utf8 lead text u fit.0
   value_utf8 (suc d) (word text) lead n u fit = inline_utf8 lead text u fit.0
@@ -171,7 +171,7 @@ mutual
       (n + step) (dash_gap_utf8 s) fit.0) (items_utf8 d is (spaces n) n (spaces_utf8 n) fit.1)))
 
 -- no text of a value that isn't plain begins with a byte order mark
-starts_at : (d : ℕ) (s : Spelling) → Fits d s → is_word s ≡ false
+starts_at : (d : ℕ) (s : Spelling) → SpellingFits d s → is_word s ≡ false
     → starts_with nat_eq (writing 0 s) (239 ∷ 187 ∷ 191 ∷ []) ≡ false
 starts_at d (word text) fit e = absurd (false≢true (sym e))
 starts_at d (quoted text) fit e = refl
@@ -184,7 +184,7 @@ starts_at (suc d) (fields (field false (c ∷ cs) s fs)) fit e = let l : IsLette
 starts_at d (items no_items) fit e = refl
 starts_at d (items (one_item s is)) fit e = refl
 
-no_mark : (s : Spelling) → Fits max_depth s → is_word s ≡ false
+no_mark : (s : Spelling) → SpellingFits max_depth s → is_word s ≡ false
     → without_mark (writing 0 s) ≡ writing 0 s
 no_mark s fit e = rw (starts_at max_depth s fit e) refl
 
@@ -197,14 +197,14 @@ kept_whole (items is) e = refl
 -- THE LAW
 
 -- the nodes of what is written, whatever its size
-pub written_nodes : (s : Spelling) → Fits max_depth s → is_word s ≡ false
+pub written_nodes : (s : Spelling) → SpellingFits max_depth s → is_word s ≡ false
     → nodes_of (lines (without_mark (writing 0 s))) ≡ Some (meant s ∷ [])
 written_nodes s fit e = ap (λ (text : List ℕ). nodes_of (lines text)) (no_mark s fit e)
     ∙ lines_nodes (writing 0 s) (marks_at 0 s) (text_lines max_depth s fit e) (marks_own 0 s)
     ∙ document_read s fit (kept_whole s e)
 
 -- what is written reads back
-pub reads_back : (s : Spelling) → Fits max_depth s → is_word s ≡ false
+pub reads_back : (s : Spelling) → SpellingFits max_depth s → is_word s ≡ false
     → length (writing 0 s) ≤ MAX_TEXT_BYTES → StandsFor (writing 0 s) (meant s ∷ [])
 reads_back s fit e small = record {
   small = small;
@@ -224,7 +224,8 @@ first_same : (x y : Tree) → ◌≡◌ {A = List Tree} (x ∷ []) (y ∷ []) �
 first_same x y e = cc
 
 -- values with one text are one node, whatever its size
-pub told_apart : (s t : Spelling) → Fits max_depth s → Fits max_depth t → is_word s ≡ false
+pub told_apart : (s t : Spelling) → SpellingFits max_depth s → SpellingFits max_depth t
+    → is_word s ≡ false
     → is_word t ≡ false → writing 0 s ≡ writing 0 t → meant s ≡ meant t
 told_apart s t f g d e same =
     first_same (meant s) (meant t) (some_same (meant s ∷ []) (meant t ∷ [])

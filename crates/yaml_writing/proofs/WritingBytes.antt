@@ -23,7 +23,7 @@ use Rattle.yaml_terms.specs.Line.{is_plain_start, stops_plain, plain_len, plain_
 use Rattle.yaml_terms.specs.Line.{inline_value, quoted_key, plain_key, plain_key_fault, key_of}
 use Rattle.yaml_terms.specs.Line.{behind_colon, entry_or_value, content}
 use Rattle.yaml_terms.specs.Spelling.{escape_of, in_quotes, key_text}
-use Rattle.yaml_terms.specs.Fits.{is_quotable, is_plain, is_letter, is_key_text}
+use Rattle.yaml_terms.specs.SpellingFits.{is_quotable, is_plain, is_letter, is_key_text}
 
 -- DOUBLE QUOTES
 

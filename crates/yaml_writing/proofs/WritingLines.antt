@@ -21,7 +21,7 @@ use Rattle.yaml_terms.specs.Spelling.{Spelling, word, quoted, fields, items, Fie
 use Rattle.yaml_terms.specs.Spelling.{field, Items, no_items, one_item, in_quotes, key_text}
 use Rattle.yaml_terms.specs.Spelling.{spaces, step, gap_at_colon, gap_at_dash, written}
 use Rattle.yaml_terms.specs.Spelling.{written_fields, written_items, writing, is_word}
-use Rattle.yaml_terms.specs.Fits.{Fits, FitFields, FitItems, is_key_text}
+use Rattle.yaml_terms.specs.SpellingFits.{SpellingFits, FitFields, FitItems, is_key_text}
 use Rattle.yaml_terms.specs.declared.Scalar.{Scalar}
 use Rattle.yaml_terms.specs.declared.ProfileFault.TheVariants.{Control}
 use Rattle.yaml_writing.proofs.WritingMarks.{behind_key, marks_at, marks_of_fields, marks_of_items}
@@ -396,7 +396,7 @@ module _ (lead : List ℕ) (n : ℕ) (ps : List Mark) (b : Begins lead n ps) whe
           ) (simp append_assoc)) (simp append_assoc)
 
       entry_step : (d : ℕ) (s : Spelling)
-          → Fits d s → ReadsOn (spaces (n + step)) (n + step) [] s (w ++ rest) (f ++ ms)
+          → SpellingFits d s → ReadsOn (spaces (n + step)) (n + step) [] s (w ++ rest) (f ++ ms)
           → AreLines (w ++ rest) (f ++ ms)
           → AreLines
           ((lead ++ (key_text q k ++ (58 ∷ (written (gap_at_colon n s) (n + step) s ++ w))))
@@ -420,7 +420,7 @@ module _ (lead : List ℕ) (n : ℕ) (ps : List Mark) (b : Begins lead n ps) whe
 mutual
   -- the lines of a value that can be written, behind bytes that begin a line
   value_lines : (d : ℕ) (s : Spelling) (lead : List ℕ) (n : ℕ) (ps : List Mark) → Begins lead n ps
-      → Fits d s → MayStand n s → (rest : List ℕ) (ms : List Mark) → AreLines rest ms
+      → SpellingFits d s → MayStand n s → (rest : List ℕ) (ms : List Mark) → AreLines rest ms
       → ReadsOn lead n ps s rest ms
   value_lines d (word []) lead n ps b fit p rest ms h = tt
   value_lines zero (word (c ∷ cs)) lead n ps b fit p rest ms h =
@@ -488,7 +488,7 @@ whole : (s : Spelling) → AreLines (written [] 0 s ++ []) (marks_at 0 s ++ [])
 whole s h = same_lines _ _ _ _ h (append-nil (written [] 0 s)) (append-nil (marks_at 0 s))
 
 -- the whole text of a value that isn't plain
-pub text_lines : (d : ℕ) (s : Spelling) → Fits d s → is_word s ≡ false
+pub text_lines : (d : ℕ) (s : Spelling) → SpellingFits d s → is_word s ≡ false
     → AreLines (writing 0 s) (marks_at 0 s)
 text_lines d (word text) fit e = absurd (false≢true (sym e))
 text_lines d (quoted text) fit e =

@@ -17,7 +17,7 @@ use Rattle.yaml_terms.specs.Profile.{children, entries, behind, node, documents}
 use Rattle.yaml_terms.specs.Spelling.{Spelling, word, quoted, fields, items, Fields, no_fields}
 use Rattle.yaml_terms.specs.Spelling.{field, Items, no_items, one_item, meant, entries_meant}
 use Rattle.yaml_terms.specs.Spelling.{items_meant, key_text, step}
-use Rattle.yaml_terms.specs.Fits.{Fits, FitFields, FitItems, has_field}
+use Rattle.yaml_terms.specs.SpellingFits.{SpellingFits, FitFields, FitItems, has_field}
 use Rattle.yaml_terms.specs.SpellingView.{has_lines}
 
 -- the column of a value behind a key
@@ -337,7 +337,8 @@ shallow d x = rw (lt_zero d) refl
 
 mutual
   -- what the marks of a value stand for behind a key, a dash or a document's start
-  pub value_read : (d : ℕ) (h : Mark) (n : ℕ) (s : Spelling) → Fits d s → is_deeper h n ≡ true
+  pub value_read : (d : ℕ) (h : Mark) (n : ℕ) (s : Spelling) → SpellingFits d s
+      → is_deeper h n ≡ true
       → behind (node d) h (marks_at n s) ≡ Some (kept s)
   value_read d h n (word []) f e = refl
   value_read zero h n (word (c ∷ cs)) f e = rw (has_room_value h n (scalar (c ∷ cs) true) e) refl
@@ -420,7 +421,7 @@ start_alone ms e = ap (pieces start) (sym (append-nil ms))
 
 -- the marks of a value that isn't the text of no length are those of one document with
 -- its node alone
-pub document_read : (s : Spelling) → Fits max_depth s → kept s ≡ Some (meant s)
+pub document_read : (s : Spelling) → SpellingFits max_depth s → kept s ≡ Some (meant s)
     → documents (marks_at 0 s) ≡ Some (meant s ∷ [])
 document_read s f e = rw (
   start_alone (marks_at 0 s) (marks_own 0 s),

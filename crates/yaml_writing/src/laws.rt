@@ -7,7 +7,7 @@ ghost use Rattle.yaml_terms.specs.Tree.{Tree};
 ghost use Rattle.yaml_terms.specs.Profile.{max_depth};
 ghost use Rattle.yaml_terms.specs.Text.{StandsFor};
 ghost use Rattle.yaml_terms.specs.Spelling.{Spelling, meant, writing, is_word};
-ghost use Rattle.yaml_terms.specs.Fits.{Fits, IsWritable};
+ghost use Rattle.yaml_terms.specs.SpellingFits.{SpellingFits, IsWritable};
 ghost use Rattle.yaml_terms.specs.Standing.{IsIn, StandsIn};
 
 /// Every node that stands in a text, at any depth, can be written. So its texts are UTF-8, its
@@ -24,10 +24,11 @@ pub fn standing_nodes_are_writable()
 /// it isn't a plain scalar alone and has at most `MAX_TEXT_BYTES` bytes. A text stands for one list
 /// of nodes at most; and values with one text are one node, whatever its size.
 pub fn written_text_reads_back()
-    ensures stands { (s : Spelling) → Fits max_depth s → is_word s ≡ false
+    ensures stands { (s : Spelling) → SpellingFits max_depth s → is_word s ≡ false
         → length (writing 0 s) ≤ MAX_TEXT_BYTES → StandsFor (writing 0 s) (meant s ∷ []) }
     ensures alone { (text : List ℕ) (xs ys : List Tree) → StandsFor text xs → StandsFor text ys
         → xs ≡ ys }
-    ensures told_apart { (s t : Spelling) → Fits max_depth s → Fits max_depth t → is_word s ≡ false
+    ensures told_apart { (s t : Spelling) → SpellingFits max_depth s → SpellingFits max_depth t
+        → is_word s ≡ false
         → is_word t ≡ false → writing 0 s ≡ writing 0 t → meant s ≡ meant t }
 {}

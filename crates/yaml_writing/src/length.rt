@@ -5,7 +5,7 @@ ghost use Rattle.std.specs.List.{count_by};
 ghost use Rattle.yaml_terms.specs.Profile.{max_depth};
 ghost use Rattle.yaml_terms.specs.Spelling.{in_quotes, key_text, gap_at_colon, gap_at_dash};
 ghost use Rattle.yaml_terms.specs.Spelling.{written, written_fields, written_items, writing};
-ghost use Rattle.yaml_terms.specs.Fits.{Fits, FitFields, FitItems};
+ghost use Rattle.yaml_terms.specs.SpellingFits.{SpellingFits, FitFields, FitItems};
 ghost use Rattle.yaml_terms.specs.Room.{is_escaped as is_escaped_def, room_behind, up_to};
 ghost use Rattle.yaml_terms.specs.SpellingView.{is_quoted, text_of, spelling_view};
 ghost use Rattle.yaml_terms.specs.SpellingView.{fields_view, items_view};
@@ -86,7 +86,7 @@ fn behind_value(
     levels: usize,
 ) -> Option<usize>
     requires bounded { column + 2 * levels ≤ 2 ^ 33 }
-    requires fits { Fits levels (spelling_view value.now) }
+    requires fits { SpellingFits levels (spelling_view value.now) }
     ensures { result ≡ room_behind room (length (written [] column (spelling_view value.now))) }
 {
     match value {
@@ -166,7 +166,7 @@ fn behind_items(
 /// How many bytes the text of a value has, as `write_spelling` writes it, where they are at most
 /// so many; nothing where there are more. No memory is taken, and the count stops there.
 pub fn written_length(value: &Spelling, indent: u32, most: usize) -> Option<usize>
-    requires { Fits max_depth (spelling_view value.now) }
+    requires { SpellingFits max_depth (spelling_view value.now) }
     ensures { result ≡ up_to most (length (writing indent (spelling_view value.now))) }
 {
     let column = indent as usize;

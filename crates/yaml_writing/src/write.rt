@@ -10,7 +10,7 @@ ghost use Rattle.yaml_terms.specs.Spelling.{meant, spelled as spelled_def, escap
 ghost use Rattle.yaml_terms.specs.Spelling.{key_text, spaces as spaces_def, step, gap_at_colon};
 ghost use Rattle.yaml_terms.specs.Spelling.{gap_at_dash, written, written_fields, written_items};
 ghost use Rattle.yaml_terms.specs.Spelling.{writing, is_word};
-ghost use Rattle.yaml_terms.specs.Fits.{Fits, FitFields, FitItems, IsWritable};
+ghost use Rattle.yaml_terms.specs.SpellingFits.{SpellingFits, FitFields, FitItems, IsWritable};
 ghost use Rattle.yaml_terms.specs.NodeView.{node_view};
 ghost use Rattle.yaml_terms.specs.SpellingView.{is_quoted, text_of, is_no_text as is_no_text_def};
 ghost use Rattle.yaml_terms.specs.SpellingView.{has_lines as has_lines_def, spelling_view};
@@ -145,7 +145,7 @@ fn write_value(
     levels: usize,
 ) -> Result<(), AllocError>
     requires bounded { column + 2 * levels ≤ 2 ^ 33 }
-    requires fits { Fits levels (spelling_view value.now) }
+    requires fits { SpellingFits levels (spelling_view value.now) }
     ensures { OnOk result (out.new.items ≡ out.old.items
         ++ written [] column (spelling_view value.now)) }
 {
@@ -226,7 +226,7 @@ fn write_items(
 /// With no spaces, the text of a value that isn't a plain scalar stands for its node alone, where
 /// it has at most `MAX_TEXT_BYTES` bytes. The error is want of memory, and leaves all as it was.
 pub fn write_spelling(out: &mut Vec<u8>, value: &Spelling, indent: u32) -> Result<(), AllocError>
-    requires { Fits max_depth (spelling_view value.now) }
+    requires { SpellingFits max_depth (spelling_view value.now) }
     ensures exact { OnOk result (out.new.items
         ≡ out.old.items ++ writing indent (spelling_view value.now)) }
     ensures kept { OnErr result (out.new.items ≡ out.old.items) }

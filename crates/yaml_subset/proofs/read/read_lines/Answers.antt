@@ -2,7 +2,7 @@ use Rattle.std.proofs.Common.{◌≡◌, ℕ, ◌+◌, List, Some, length, take,
 use Rattle.std.proofs.lemmas.List.{take_all, length-map}
 use Rattle.yaml_terms.specs.Text.{nodes_of}
 use Rattle.yaml_terms.specs.Fault.{IsFault, fault_of}
-use Rattle.yaml_subset.specs.Reader.{IsRead}
+use Rattle.yaml_subset.specs.Reader.{LinesAreRead}
 use Rattle.yaml_subset.specs.ReaderView.{reading}
 use Rattle.yaml_subset.specs.LineErrorView.{Refuses}
 use Rattle.yaml_subset.specs.declared.open.LineError.{LineError}
@@ -36,7 +36,7 @@ loop-at-preserved c =
     let at = c.loop-at.at in
     let line = c.as_bytes.result.now in
     let xs = map (λ x. x.now) ls in
-    subst (λ (l : List (List ℕ)). IsRead l (reading c.in-Ok.next))
+    subst (λ (l : List (List ℕ)). LinesAreRead l (reading c.in-Ok.next))
     (line_taken ls at line _ c.loop-at-test.true c.as_bytes.ensures.value)
     (read_more (take at xs) line (reading c.loop-at.reader) c.loop-at.invariant
     (reading c.in-Ok.next) c.in-Ok.ensures.ok)

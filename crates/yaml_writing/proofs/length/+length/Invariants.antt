@@ -1,6 +1,6 @@
 use Rattle.std.proofs.Common.{◌≡◌, [], drop, length}
 use Rattle.yaml_terms.specs.Spelling.{spaces, written_fields, written_items}
-use Rattle.yaml_terms.specs.Fits.{FitFields, FitItems}
+use Rattle.yaml_terms.specs.SpellingFits.{FitFields, FitItems}
 use Rattle.yaml_terms.specs.Room.{room_behind}
 use Rattle.yaml_terms.specs.SpellingView.{fields_view, items_view}
 use Rattle.yaml_writing.proofs.length.+length.Given as goal

@@ -1,12 +1,12 @@
 use Rattle.std.proofs.Common.{subst, sym}
 use Rattle.yaml_terms.specs.Profile.{max_depth}
-use Rattle.yaml_terms.specs.Fits.{Fits}
+use Rattle.yaml_terms.specs.SpellingFits.{SpellingFits}
 use Rattle.slo_objects.specs.Document.{written}
 use Rattle.slo_objects.proofs.OriginLemmas.{of_document}
 use Rattle.slo_objects.proofs.writing.document.object_length.Goals as goal
 
 pub written_length-requires : goal.written_length-requires
 written_length-requires c =
-    subst (Fits max_depth) (sym c.in_ok-document.ensures)
-    (of_document (λ o. Fits max_depth (written o)) c.each_object_can_be_written.ensures.fits
+    subst (SpellingFits max_depth) (sym c.in_ok-document.ensures)
+    (of_document (λ o. SpellingFits max_depth (written o)) c.each_object_can_be_written.ensures.fits
     c.args.value.now c.requires)

@@ -1,7 +1,7 @@
 use Rattle.std.proofs.Common.{◌≡◌, ◌≤◌, [], ◌∷◌, Ok, length, subst, sym}
 use Rattle.slo_limits.specs.declared.TheConstants.{MAX_TEXT_BYTES}
 use Rattle.yaml_terms.specs.Profile.{max_depth}
-use Rattle.yaml_terms.specs.Fits.{Fits}
+use Rattle.yaml_terms.specs.SpellingFits.{SpellingFits}
 use Rattle.yaml_terms.specs.Text.{StandsFor}
 use Rattle.yaml_terms.specs.Spelling.{meant, writing}
 use Rattle.slo_objects.specs.Document.{objects_of, written}
@@ -21,8 +21,8 @@ returns-in_err-document-clause-alone c =
 
 pub write_spelling-requires : goal.write_spelling-requires
 write_spelling-requires c =
-    subst (Fits max_depth) (sym c.in_ok-document.ensures)
-    (of_document (λ o. Fits max_depth (written o)) c.each_object_can_be_written.ensures.fits
+    subst (SpellingFits max_depth) (sym c.in_ok-document.ensures)
+    (of_document (λ o. SpellingFits max_depth (written o)) c.each_object_can_be_written.ensures.fits
     c.args.value.now c.requires)
 
 pub returns-clause-stands : goal.returns-clause-stands

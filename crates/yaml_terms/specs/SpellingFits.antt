@@ -46,23 +46,23 @@ has_field k (field q j s fs) = bytes_eq k j || has_field k fs
 
 -- A spelling that can be written, where maps and lists may nest so deep.
 abbrev mutual
-  pub Fits : ℕ → Spelling → Type 0
-  Fits d (word text) = IsUtf8 text × (is_plain text ≡ true)
-  Fits d (quoted text) = IsUtf8 text × (is_quotable text ≡ true)
-  Fits zero (fields fs) = ⊥
-  Fits (suc d) (fields fs) = FitFields d fs
-  Fits zero (items is) = ⊥
-  Fits (suc d) (items is) = FitItems d is
+  pub SpellingFits : ℕ → Spelling → Type 0
+  SpellingFits d (word text) = IsUtf8 text × (is_plain text ≡ true)
+  SpellingFits d (quoted text) = IsUtf8 text × (is_quotable text ≡ true)
+  SpellingFits zero (fields fs) = ⊥
+  SpellingFits (suc d) (fields fs) = FitFields d fs
+  SpellingFits zero (items is) = ⊥
+  SpellingFits (suc d) (items is) = FitItems d is
 
   pub FitFields : ℕ → Fields → Type 0
   FitFields d no_fields = ⊤
   FitFields d (field q k s fs) = (IsUtf8 k × (is_key_text q k ≡ true)) × (has_field k fs ≡ false)
-      × Fits d s × FitFields d fs
+      × SpellingFits d s × FitFields d fs
 
   pub FitItems : ℕ → Items → Type 0
   FitItems d no_items = ⊤
-  FitItems d (one_item s is) = Fits d s × FitItems d is
+  FitItems d (one_item s is) = SpellingFits d s × FitItems d is
 
 -- a node that can be written: as every node is that stands in a text
 abbrev pub IsWritable : Tree → Type 0
-IsWritable x = Fits max_depth (spelled x)
+IsWritable x = SpellingFits max_depth (spelled x)
