@@ -10,13 +10,13 @@ use Rattle.sample_book.specs.declared.Exclusion.{Exclusion}
 use Rattle.notice_box.specs.declared.Notice.{Notice}
 use Rattle.zone_calendar.specs.Zone.{ZoneText}
 use Rattle.sample_book.specs.History as book
-use Rattle.slo_objects.specs.declared.kind.Kind.{Kind}
-use Rattle.slo_objects.specs.declared.Object.{Object}
-use Rattle.slo_catalog.specs.Catalog.{with_members, without}
-use Rattle.slo_catalog.specs.Keys.{member_of}
-use Rattle.slo_catalog.specs.References.{first_referrer}
-use Rattle.slo_catalog.specs.Remove.{remaining_members, unless_used, where_found}
-use Rattle.slo_catalog.specs.declared.RemoveFault.{RemoveFault}
+use Rattle.object_terms.specs.declared.kind.Kind.{Kind}
+use Rattle.object_terms.specs.declared.Object.{Object}
+use Rattle.catalog_terms.specs.Catalog.{with_members, without}
+use Rattle.catalog_terms.specs.Keys.{member_of}
+use Rattle.catalog_terms.specs.References.{first_referrer}
+use Rattle.catalog_terms.specs.Remove.{remaining_members, unless_used, where_found}
+use Rattle.catalog_terms.specs.declared.RemoveFault.{RemoveFault}
 use Rattle.zone_calendar.specs.ZoneBytes.{zone_of}
 use Rattle.definition_verdict.specs.declared.Definition.{Definition}
 use Rattle.definition_verdict.specs.Readings.{first_read_anew}
@@ -37,8 +37,7 @@ use Rattle.office_history.specs.Judges.{Judges, JudgesText, refused, defined, de
 use Rattle.office_history.specs.Judges.{known_of}
 use Rattle.office_history.specs.Verdicts.{unless_refused, accepted, unless_removal, unless_sampled}
 use Rattle.office_history.specs.Verdicts.{first_row_of, remove_verdict, zone_verdict_beside}
-use Rattle.office_history.specs.Verdicts.{zone_verdict}
-use Rattle.office_history.specs.Verdicts.{new_zone_fault}
+use Rattle.office_history.specs.Verdicts.{zone_verdict, new_zone_fault}
 use Rattle.office_history.specs.Zones.{zones_of, zones_in, bytes_named, utc}
 use Rattle.office_history.specs.Lists.{first_some}
 use Rattle.office_derived.specs.declared.Derived.{Derived}

@@ -6,15 +6,15 @@ use Rattle.std.specs.List.{AllByRecursion}
 use Rattle.std.specs.Str.Lines.{lines}
 use Rattle.yaml_terms.specs.Tree.{Tree}
 use Rattle.yaml_terms.specs.Text.{StandsFor, nodes_of, without_mark}
-use Rattle.slo_objects.specs.declared.Object.{Object}
-use Rattle.slo_objects.specs.declared.ObjectFault.{ObjectFault}
-use Rattle.slo_objects.specs.Document.{objects_of}
-use Rattle.slo_catalog.specs.declared.CatalogFault.{CatalogFault}
-use Rattle.slo_catalog.specs.Catalog.{Defined, with_member, with_members}
-use Rattle.slo_catalog.specs.References.{first_unresolved}
-use Rattle.slo_catalog.specs.NeedsOp.{first_needing_op}
-use Rattle.slo_catalog.specs.Limits.{first_limit}
-use Rattle.slo_catalog.specs.Define as catalog
+use Rattle.object_terms.specs.declared.Object.{Object}
+use Rattle.object_terms.specs.declared.ObjectFault.{ObjectFault}
+use Rattle.object_terms.specs.Document.{objects_of}
+use Rattle.catalog_terms.specs.declared.CatalogFault.{CatalogFault}
+use Rattle.catalog_terms.specs.Catalog.{Defined, with_member, with_members}
+use Rattle.catalog_terms.specs.References.{first_unresolved}
+use Rattle.catalog_terms.specs.NeedsOp.{first_needing_op}
+use Rattle.catalog_terms.specs.Limits.{first_limit}
+use Rattle.catalog_terms.specs.Define as catalog
 use Rattle.record_form.specs.declared.Refusal.{Refusal}
 use Rattle.record_form.specs.declared.Refusal.TheVariants as refusals
 use Rattle.definition_verdict.specs.declared.Definition.{Definition}

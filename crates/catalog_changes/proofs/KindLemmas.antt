@@ -5,8 +5,8 @@ use Rattle.std.proofs.lemmas.List.Elements.{recursion_from_All}
 use Rattle.yaml_terms.specs.SpellingFits.{IsWritable}
 use Rattle.yaml_terms.specs.Text.{StandsFor}
 use Rattle.yaml_terms.specs.Tree.{Tree}
-use Rattle.slo_objects.specs.declared.Object.{Object}
-use Rattle.slo_objects.specs.Document.{IsOfDocument}
+use Rattle.object_terms.specs.declared.Object.{Object}
+use Rattle.object_terms.specs.Document.{IsOfDocument}
 use Rattle.definition_verdict.proofs.DocumentLemmas.{all_of_documents}
 use Rattle.catalog_changes.specs.Kinds.{HasKind, TextsHaveKinds}
 

@@ -4,7 +4,7 @@ use Rattle.std.specs.List.{AllByRecursion, Contains}
 use Rattle.std.proofs.lemmas.List.Elements.{All-contains, All-from_recursion}
 use Rattle.sample_book.specs.declared.Exclusion.{Exclusion}
 use Rattle.sample_book.specs.declared.Row.{Row}
-use Rattle.slo_objects.specs.declared.Object.{Object}
+use Rattle.object_terms.specs.declared.Object.{Object}
 use Rattle.kept_objectives.specs.declared.ObjectiveSums.{ObjectiveSums}
 use Rattle.kept_objectives.specs.declared.SumsPlan.{SumsPlan}
 use Rattle.kept_objectives.specs.Objectives.{AreKept, IsObjective, KeepsSums, measures_of}

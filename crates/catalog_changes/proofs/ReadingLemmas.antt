@@ -1,8 +1,8 @@
 -- The rows' indicators keep their readings: where objects are defined that read none of them
 -- otherwise, and where another object is removed.
-use Rattle.std.proofs.Common.{◌≡◌, ℕ, zero, suc, ◌<◌, Bool, true, false, not, cond, List, []}
-use Rattle.std.proofs.Common.{◌∷◌, Option, Some, None, length, slice_index_or, bytes_eq, refl, sym}
-use Rattle.std.proofs.Common.{ap, ◌∙◌, subst, arith}
+use Rattle.std.proofs.Common.{◌≡◌, ℕ, zero, suc, ◌<◌, Bool, true, false, not, cond, List, [], ◌∷◌}
+use Rattle.std.proofs.Common.{Option, Some, None, length, slice_index_or, bytes_eq, refl, sym, ap}
+use Rattle.std.proofs.Common.{◌∙◌, subst, arith}
 use Rattle.std.specs.List.{All, AllByRecursion, find}
 use Rattle.std.specs.Option.{option_or}
 use Rattle.std.specs.Prelude.{option_map, option_and_then}
@@ -12,21 +12,21 @@ use Rattle.slice_method.specs.declared.Reading.TheVariants.{Good, Bad, Threshold
 use Rattle.slice_method.specs.declared.Reading.TheVariants.{RawFailure}
 use Rattle.sample_book.specs.declared.Row.{Row}
 use Rattle.sample_book.specs.Counting.{is_of, first_of}
-use Rattle.slo_objects.specs.declared.kind.Kind.{Kind}
-use Rattle.slo_objects.specs.declared.kind.Kind.TheVariants as kinds
-use Rattle.slo_objects.specs.declared.Body.{Body}
-use Rattle.slo_objects.specs.declared.Body.TheVariants as bodies
-use Rattle.slo_objects.specs.declared.Object.{Object}
-use Rattle.slo_objects.specs.declared.Sli.{Sli}
-use Rattle.slo_objects.specs.Sli.{sli_in}
-use Rattle.slo_catalog.specs.Keys.{is_key, member_of}
-use Rattle.slo_catalog.specs.Catalog.{with_member, with_members, without}
-use Rattle.slo_catalog.specs.NeedsOp.{sli_named}
+use Rattle.object_terms.specs.declared.kind.Kind.{Kind}
+use Rattle.object_terms.specs.declared.kind.Kind.TheVariants as kinds
+use Rattle.object_terms.specs.declared.Body.{Body}
+use Rattle.object_terms.specs.declared.Body.TheVariants as bodies
+use Rattle.object_terms.specs.declared.Object.{Object}
+use Rattle.object_terms.specs.declared.Sli.{Sli}
+use Rattle.object_terms.specs.Sli.{sli_in}
+use Rattle.catalog_terms.specs.Keys.{is_key, member_of}
+use Rattle.catalog_terms.specs.Catalog.{with_member, with_members, without}
+use Rattle.catalog_terms.specs.NeedsOp.{sli_named}
 use Rattle.definition_verdict.specs.Readings.{reading_of, same_reading, is_other_reading}
 use Rattle.definition_verdict.specs.Readings.{row_read_anew, first_read_anew}
 use Rattle.office_history.specs.Objectives.{reading_named}
 use Rattle.office_derived.specs.Derived.{IsRead}
-use Rattle.sums_plan.specs.object_ranges.Kinds.{kind_of}
+use Rattle.object_laws.specs.Kinds.{kind_of}
 use Rattle.catalog_changes.specs.Kinds.{HasKind}
 use Rattle.slo_catalog.proofs.KeyLemmas.{key_parts}
 use Rattle.slo_catalog.proofs.FindLemmas.{find_put}

@@ -1,9 +1,9 @@
 -- What is found out about a definition, a removal and a zone, over what is kept.
 use Rattle.std.specs.Prelude.{◌≡◌, ℕ, List, length, map, Some}
 use Rattle.definition_verdict.specs.Verdict.{Known, known}
-use Rattle.slo_objects.specs.declared.kind.Kind.{Kind}
-use Rattle.slo_objects.specs.declared.Object.{Object}
-use Rattle.slo_catalog.specs.Catalog.{with_members, without}
+use Rattle.object_terms.specs.declared.kind.Kind.{Kind}
+use Rattle.object_terms.specs.declared.Object.{Object}
+use Rattle.catalog_terms.specs.Catalog.{with_members, without}
 use Rattle.zone_calendar.specs.ZoneBytes.{zone_of}
 use Rattle.kept_objectives.specs.declared.SumsPlan.{SumsPlan}
 use Rattle.kept_objectives.specs.Plans.{IsPlan}

@@ -4,9 +4,9 @@ use Rattle.std.specs.Prelude.{◌≡◌, ℕ, List, Ok}
 use Rattle.std.specs.List.{AllByRecursion}
 use Rattle.yaml_terms.specs.Text.{StandsFor}
 use Rattle.yaml_terms.specs.Tree.{Tree}
-use Rattle.slo_objects.specs.declared.Object.{Object}
+use Rattle.object_terms.specs.declared.Object.{Object}
 use Rattle.definition_verdict.specs.Documents.{objects_in}
-use Rattle.sums_plan.specs.object_ranges.Kinds.{kind_of}
+use Rattle.object_laws.specs.Kinds.{kind_of}
 
 -- the body is of the object's kind
 abbrev pub HasKind : Object → Type 0

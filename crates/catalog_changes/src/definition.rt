@@ -4,7 +4,7 @@ ghost use Rattle.std.specs.List.{All};
 ghost use Rattle.record_form.specs.declared.Command.TheVariants.{Define};
 ghost use Rattle.record_form.specs.declared.Refusal.{Refusal};
 ghost use Rattle.definition_verdict.specs.Verdict.{IsDefinition, IsRefused};
-ghost use Rattle.slo_catalog.specs.Catalog.{with_members};
+ghost use Rattle.catalog_terms.specs.Catalog.{with_members};
 ghost use Rattle.office_history.specs.Catalog.{text_objects};
 ghost use Rattle.office_history.specs.History.{Office, with_entry};
 ghost use Rattle.office_history.specs.Judges.{JudgesText, defined_verdict};

@@ -1,7 +1,7 @@
 //! The law of kinds and bodies, over texts.
 ghost use Rattle.catalog_changes.specs.Kinds.{TextsHaveKinds};
 
-use sums_plan::bodies_are_of_their_kinds;
+use object_laws::laws;
 use yaml_writing::laws;
 
 /// The objects of a text have the bodies of their kinds.
@@ -9,5 +9,5 @@ pub(crate) fn texts_have_bodies_of_their_kinds()
     ensures { TextsHaveKinds }
 {
     laws::standing_nodes_are_writable();
-    bodies_are_of_their_kinds();
+    laws::bodies_are_of_their_kinds();
 }

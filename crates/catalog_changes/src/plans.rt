@@ -1,7 +1,7 @@
 //! Room for the sums that come with another catalog.
 ghost use Rattle.std.specs.Prelude.{ℕ, List, OnOk};
-ghost use Rattle.slo_objects.specs.declared.Kind.{Kind};
-ghost use Rattle.slo_objects.specs.declared.Object.{Object};
+ghost use Rattle.object_terms.specs.declared.Kind.{Kind};
+ghost use Rattle.object_terms.specs.declared.Object.{Object};
 ghost use Rattle.office_derived.specs.Derived.{HasRoom, Stays};
 ghost use Rattle.office_derived.specs.declared.Work.TheVariants as works;
 

@@ -11,14 +11,15 @@ ghost use Rattle.office_derived.specs.Derived.{entry_of};
 ghost use Rattle.office_derived.specs.declared.Work.TheVariants as works;
 ghost use Rattle.catalog_changes.specs.Judging.{IsJudgedBy, IsRemoval};
 
+use catalog_terms::{RemoveError, RemoveFault};
 use exact_fraction::Label;
 use kept_objectives::SumsPlan;
+use object_terms::Kind;
 use office_derived::{Derived, Judged, Work, accepted};
 use office_history::Judgement;
 use record_form::{Outcome, Refusal};
 use sample_book::{Row, SampleBook};
-use slo_catalog::{Catalog, RemoveError, RemoveFault, remove};
-use slo_objects::Kind;
+use slo_catalog::{Catalog, remove};
 use std::alloc::{AllocError, Global};
 use sums_plan::plan_sums;
 

@@ -2,8 +2,8 @@
 use Rattle.std.proofs.Common.{◌≡◌, ℕ, ap, ◌∙◌, List, [], ◌∷◌, All, map, Some}
 use Rattle.std.proofs.lemmas.List.Elements.{All-head, All-tail, All-cons, All-nil}
 use Rattle.slice_method.specs.declared.Reading.{Reading}
-use Rattle.slo_objects.specs.declared.Object.{Object}
-use Rattle.slo_objects.specs.declared.Slo.{Slo}
+use Rattle.object_terms.specs.declared.Object.{Object}
+use Rattle.object_terms.specs.declared.Slo.{Slo}
 use Rattle.object_ranges.specs.office_history.Objectives.{measure_of, measures_named, measures_of}
 use Rattle.object_ranges.specs.office_history.Objectives.{measures_with, reading_named, slo_named}
 

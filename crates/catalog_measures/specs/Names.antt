@@ -1,8 +1,8 @@
 -- Whose objectives a catalog has.
 use Rattle.std.specs.Prelude.{ℕ, Bool, true, false, List, map, filter}
-use Rattle.slo_objects.specs.declared.Kind.{Kind}
-use Rattle.slo_objects.specs.declared.Kind.TheVariants as kinds
-use Rattle.slo_objects.specs.declared.Object.{Object}
+use Rattle.object_terms.specs.declared.Kind.{Kind}
+use Rattle.object_terms.specs.declared.Kind.TheVariants as kinds
+use Rattle.object_terms.specs.declared.Object.{Object}
 
 abbrev pub is_slo : Kind → Bool
 is_slo kinds.Slo = true

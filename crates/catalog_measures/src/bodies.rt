@@ -1,18 +1,19 @@
 //! What stands under a name in a catalog.
 ghost use Rattle.std.specs.Prelude.{◌≡◌, IfSome};
 ghost use Rattle.std.specs.Option.{option_copied};
-ghost use Rattle.slo_catalog.specs.Bindings.{policy_named as policy_named_lem};
-ghost use Rattle.slo_catalog.specs.References.{names_in as names_in_lem};
-ghost use Rattle.object_ranges.specs.Ranges.{HasObjectives, IsWindow};
+ghost use Rattle.catalog_terms.specs.Bindings.{policy_named as policy_named_lem};
+ghost use Rattle.catalog_terms.specs.References.{names_in as names_in_lem};
+ghost use Rattle.object_laws.specs.Ranges.{HasObjectives, IsWindow};
 ghost use Rattle.object_ranges.specs.office_history.Alerts.{condition_named as condition_named_lem};
 ghost use Rattle.object_ranges.specs.office_history.Objectives.{reading_named as reading_named_lem};
 ghost use Rattle.object_ranges.specs.office_history.Objectives.{slo_named as slo_named_lem};
 
 use exact_fraction::Label;
-use object_ranges::{objectives_are_in_range, reading_of, windows_are_in_range};
+use object_laws::laws;
+use object_ranges::reading_of;
+use object_terms::{AlertCondition, AlertPolicy, Kind, Names, Slo};
 use slice_method::Reading;
 use slo_catalog::{Catalog, condition_in, policy_in, sli_in, slo_in};
-use slo_objects::{AlertCondition, AlertPolicy, Kind, Names, Slo};
 
 /// The SLO of a name: none exactly where there is no such member.
 pub fn slo_named(catalog: &Catalog, name: Label) -> Option<&Slo>
@@ -20,8 +21,8 @@ pub fn slo_named(catalog: &Catalog, name: Label) -> Option<&Slo>
     ensures ranges { IfSome result (λ slo. HasObjectives slo.now) }
     ensures window { IfSome result (λ slo. IsWindow slo.now.time_window) }
 {
-    objectives_are_in_range();
-    windows_are_in_range();
+    laws::objectives_are_in_range();
+    laws::windows_are_in_range();
     slo_in(&catalog.find(Kind::Slo, name)?.body)
 }
 

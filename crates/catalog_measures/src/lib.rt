@@ -11,5 +11,4 @@ mod rules;
 pub use bodies::{reading_named, slo_named};
 pub use measures::{measure_at, measures_named};
 pub use names::slo_names;
-pub use object_ranges::bodies_are_of_their_kinds;
 pub use rules::{flags_named, rule_named};

@@ -15,9 +15,9 @@ ghost use Rattle.object_ranges.specs.office_history.Objectives.{slice_width as s
 use crate::bodies::{reading_named, slo_named};
 use exact_fraction::{Decimal, Label, Op};
 use object_ranges::{Measure, objectives_give_measures};
+use object_terms::{BudgetingMethod, Objective, Slo};
 use slice_method::{Method, Reading};
 use slo_catalog::Catalog;
-use slo_objects::{BudgetingMethod, Objective, Slo};
 use std::alloc::{AllocError, Global};
 
 fn slice_width(objective: &Objective) -> u32

@@ -3,8 +3,8 @@ ghost use Rattle.std.specs.Prelude.{◌≡◌, IfOk};
 ghost use Rattle.catalog_measures.specs.Names.{is_slo as is_slo_lem, slo_names as slo_names_lem};
 
 use exact_fraction::Label;
+use object_terms::Kind;
 use slo_catalog::Catalog;
-use slo_objects::Kind;
 use std::alloc::{AllocError, Global};
 
 fn is_slo(kind: Kind) -> bool

@@ -1,7 +1,7 @@
 //! The rules of alert policies.
 ghost use Rattle.std.specs.Prelude.{◌≡◌, IfSome, Some, option_map, unwrap_or};
 ghost use Rattle.burn_core.specs.Alert.{IsRule};
-ghost use Rattle.slo_objects.specs.declared.AlertAfter.{AlertAfter};
+ghost use Rattle.object_terms.specs.declared.AlertAfter.{AlertAfter};
 ghost use Rattle.std.specs.Option.{option_copied};
 ghost use Rattle.object_ranges.specs.office_history.Alerts.{first_condition as first_condition_lem};
 ghost use Rattle.object_ranges.specs.office_history.Alerts.{flags_named as flags_named_lem};
@@ -14,9 +14,9 @@ use crate::bodies::{condition_named, names_in, policy_named};
 use burn_core::{AlertRule, Flags};
 use exact_fraction::{Label, Op};
 use object_ranges::conditions_give_rules;
+use object_terms::{AlertCondition, AlertPolicy, Condition};
 use slo_catalog::Catalog;
 use slo_duration::rolling_minutes;
-use slo_objects::{AlertCondition, AlertPolicy, Condition};
 
 fn wait_of(condition: &Condition) -> u32
     ensures { result ≡ unwrap_or

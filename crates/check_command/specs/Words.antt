@@ -3,8 +3,8 @@
 use Rattle.std.specs.Prelude.{ℕ, List, [], ◌++◌, codes}
 use Rattle.std.specs.Fmt.{decimal}
 use Rattle.yaml_terms.specs.Words as which
-use Rattle.slo_objects.specs.Rules.{rule_word}
-use Rattle.slo_objects.specs.Scalars.{kind_word}
+use Rattle.object_terms.specs.Rules.{rule_word}
+use Rattle.object_terms.specs.Scalars.{kind_word}
 use Rattle.record_form.specs.declared.LimitName.{LimitName}
 use Rattle.record_form.specs.declared.LimitName.TheVariants as limits
 use Rattle.record_form.specs.declared.YamlWord.{YamlWord}

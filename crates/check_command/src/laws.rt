@@ -3,7 +3,7 @@ ghost use Rattle.std.specs.Prelude.{◌≡◌, List, ℕ, Result};
 ghost use Rattle.record_form.specs.declared.Refusal.{Refusal};
 ghost use Rattle.check_command.specs.Answer.{IsCheckAnswer};
 
-use definition_verdict::each_text_has_a_verdict;
+use definition_verdict::laws;
 
 /// A text has exactly one answer of `check`: the number of its documents and objects, or the first
 /// refusal.
@@ -13,5 +13,5 @@ pub fn one_check_answer()
     ensures some { (bytes : List ℕ) → (answer : Result (List ℕ) Refusal)
         × IsCheckAnswer bytes answer }
 {
-    each_text_has_a_verdict();
+    laws::each_text_has_a_verdict();
 }

@@ -3,11 +3,11 @@ use Rattle.std.proofs.Common.{◌≡◌, ◌+◌, ◌<◌, ℕ, List, [], ◌∷
 use Rattle.std.specs.Prelude.{Result, Ok, Err}
 use Rattle.std.specs.List.{All, AllByRecursion}
 use Rattle.std.proofs.lemmas.List.Elements.{All-append, All-contains_itself}
-use Rattle.slo_objects.specs.Document.{IsOfDocument, objects_of}
+use Rattle.object_terms.specs.Document.{IsOfDocument, objects_of}
 use Rattle.yaml_terms.specs.SpellingFits.{IsWritable}
 use Rattle.yaml_terms.specs.Tree.{Tree}
-use Rattle.slo_objects.specs.declared.Object.{Object}
-use Rattle.slo_objects.specs.declared.ObjectFault.{ObjectFault}
+use Rattle.object_terms.specs.declared.Object.{Object}
+use Rattle.object_terms.specs.declared.ObjectFault.{ObjectFault}
 use Rattle.definition_verdict.specs.Documents.{objects_from, objects_in, objects_next}
 
 -- objects that are read of nodes that stand in a text are objects of documents

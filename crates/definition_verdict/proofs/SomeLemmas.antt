@@ -15,8 +15,8 @@ use Rattle.yaml_terms.specs.Text.{StandsFor, without_mark}
 use Rattle.yaml_subset.proofs.FaultLemmas.{Outcome, either}
 use Rattle.yaml_subset.proofs.PlaceLemmas.{place_at_first, place_at_end, place_inside}
 use Rattle.yaml_subset.proofs.PlaceLemmas.{place_in_text}
-use Rattle.slo_objects.specs.declared.Object.{Object}
-use Rattle.slo_catalog.specs.Define.{is_unchanged}
+use Rattle.object_terms.specs.declared.Object.{Object}
+use Rattle.catalog_terms.specs.Define.{is_unchanged}
 use Rattle.record_form.specs.declared.Refusal.{Refusal}
 use Rattle.record_form.specs.declared.Refusal.TheVariants.{Yaml}
 use Rattle.record_form.specs.declared.YamlWord.TheVariants as words

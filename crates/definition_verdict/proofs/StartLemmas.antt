@@ -1,10 +1,10 @@
 -- The windows of a calendar in a document follow each other by a step of calendars.
 use Rattle.std.proofs.Common.{◌≡◌, Some, subst}
 use Rattle.std.specs.Prelude.{IfSome}
-use Rattle.document_ranges.specs.Ranges.{IsWindow}
-use Rattle.slo_objects.specs.declared.Calendar.{Calendar}
-use Rattle.slo_objects.specs.declared.slo.TimeWindow.{TimeWindow}
-use Rattle.slo_objects.specs.zone_calendar.Starts.{IsCalendarStep}
+use Rattle.object_laws.specs.Ranges.{IsWindow}
+use Rattle.object_terms.specs.declared.Calendar.{Calendar}
+use Rattle.object_terms.specs.declared.window.TimeWindow.{TimeWindow}
+use Rattle.zone_calendar.specs.Starts.{IsCalendarStep}
 
 pub calendar_step : (window : TimeWindow) (calendar : Calendar) → IsWindow window
     → window.calendar ≡ Some calendar → IsCalendarStep window.duration.span

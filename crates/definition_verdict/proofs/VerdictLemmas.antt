@@ -4,10 +4,10 @@ use Rattle.std.specs.Prelude.{Result, Ok, Err}
 use Rattle.yaml_terms.specs.Tree.{Tree}
 use Rattle.yaml_terms.specs.Text.{StandsFor}
 use Rattle.yaml_terms.proofs.ReadLemmas.{one_list}
-use Rattle.slo_objects.specs.declared.Object.{Object}
+use Rattle.object_terms.specs.declared.Object.{Object}
 use Rattle.record_form.specs.declared.Refusal.{Refusal}
 use Rattle.record_form.specs.declared.Refusal.TheVariants.{Yaml}
-use Rattle.slo_catalog.specs.Define.{is_unchanged}
+use Rattle.catalog_terms.specs.Define.{is_unchanged}
 use Rattle.definition_verdict.specs.declared.definition.Definition.{Definition}
 use Rattle.definition_verdict.specs.declared.definition.VerdictError.{VerdictError}
 use Rattle.definition_verdict.specs.declared.definition.VerdictError.TheVariants.{Refused}

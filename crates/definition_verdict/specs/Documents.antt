@@ -1,9 +1,9 @@
 -- The objects of a text's documents, one document after another.
 use Rattle.std.specs.Prelude.{ℕ, ◌+◌, List, [], ◌∷◌, ◌++◌, Result, Ok, Err}
 use Rattle.yaml_terms.specs.Tree.{Tree}
-use Rattle.slo_objects.specs.Document.{objects_of}
-use Rattle.slo_objects.specs.declared.Object.{Object}
-use Rattle.slo_objects.specs.declared.ObjectFault.{ObjectFault}
+use Rattle.object_terms.specs.Document.{objects_of}
+use Rattle.object_terms.specs.declared.Object.{Object}
+use Rattle.object_terms.specs.declared.ObjectFault.{ObjectFault}
 use Rattle.record_form.specs.declared.Refusal.{Refusal}
 use Rattle.record_form.specs.declared.Refusal.TheVariants as refusals
 

@@ -6,6 +6,3 @@ pub mod Texts
 pub mod Verdict
 pub use Rattle.record_form.specs.notice_box as notice_box
 pub use Rattle.record_form.specs as record_form
-pub use Rattle.slo_catalog.specs as slo_catalog
-pub use Rattle.slo_objects.specs as slo_objects
-pub use Rattle.slo_objects.specs.zone_calendar as zone_calendar

@@ -6,18 +6,18 @@ use Rattle.slice_method.specs.declared.Reading.{Reading}
 use Rattle.slice_method.specs.declared.Reading.TheVariants as readings
 use Rattle.record_form.specs.sample_book.declared.Row.{Row}
 use Rattle.record_form.specs.sample_book.Counting.{first_of}
-use Rattle.slo_objects.specs.declared.Object.{Object}
-use Rattle.slo_objects.specs.declared.Sli.{Sli}
-use Rattle.slo_objects.specs.declared.Metric.{Metric}
-use Rattle.slo_objects.specs.declared.Metric.TheVariants as metrics
-use Rattle.slo_objects.specs.declared.Ratio.{Ratio}
-use Rattle.slo_objects.specs.declared.Ratio.TheVariants as ratios
-use Rattle.slo_objects.specs.declared.RawType.{RawType}
-use Rattle.slo_objects.specs.declared.RawType.TheVariants as raw_types
-use Rattle.slo_objects.specs.declared.Events.{Events}
-use Rattle.slo_objects.specs.declared.Events.TheVariants as events
-use Rattle.slo_objects.specs.Sli.{sli_in}
-use Rattle.slo_catalog.specs.NeedsOp.{sli_named}
+use Rattle.object_terms.specs.declared.Object.{Object}
+use Rattle.object_terms.specs.declared.Sli.{Sli}
+use Rattle.object_terms.specs.declared.Metric.{Metric}
+use Rattle.object_terms.specs.declared.Metric.TheVariants as metrics
+use Rattle.object_terms.specs.declared.Ratio.{Ratio}
+use Rattle.object_terms.specs.declared.Ratio.TheVariants as ratios
+use Rattle.object_terms.specs.declared.RawType.{RawType}
+use Rattle.object_terms.specs.declared.RawType.TheVariants as raw_types
+use Rattle.object_terms.specs.declared.Events.{Events}
+use Rattle.object_terms.specs.declared.Events.TheVariants as events
+use Rattle.object_terms.specs.Sli.{sli_in}
+use Rattle.catalog_terms.specs.NeedsOp.{sli_named}
 
 abbrev pub reading_of_raw : RawType → Reading
 reading_of_raw raw_types.Success = readings.RawSuccess

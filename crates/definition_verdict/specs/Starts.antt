@@ -3,11 +3,11 @@ use Rattle.std.specs.Prelude.{ℕ, Bool, false, List, Option, Some, None}
 use Rattle.std.specs.List.{list_any}
 use Rattle.slo_duration.specs.declared.Duration.{Duration}
 use Rattle.slo_limits.specs.declared.TheConstants.{MAX_STARTS}
-use Rattle.slo_objects.specs.Slo.{slo_in}
-use Rattle.slo_objects.specs.declared.Calendar.{Calendar}
-use Rattle.slo_objects.specs.declared.Object.{Object}
-use Rattle.slo_objects.specs.declared.Slo.{Slo}
-use Rattle.slo_objects.specs.zone_calendar.Starts.{is_counted}
+use Rattle.object_terms.specs.Slo.{slo_in}
+use Rattle.object_terms.specs.declared.Calendar.{Calendar}
+use Rattle.object_terms.specs.declared.Object.{Object}
+use Rattle.object_terms.specs.declared.Slo.{Slo}
+use Rattle.zone_calendar.specs.Starts.{is_counted}
 
 -- The windows begin more often than a list of starts may have: the start of number MAX_STARTS,
 -- counted from 0, lies below the horizon, and all before it with it.

@@ -4,13 +4,13 @@ use Rattle.std.specs.Prelude.{Ok, Err}
 use Rattle.yaml_terms.specs.Tree.{Tree}
 use Rattle.yaml_terms.specs.Text.{StandsFor}
 use Rattle.record_form.specs.sample_book.declared.Row.{Row}
-use Rattle.slo_objects.specs.declared.Object.{Object}
-use Rattle.slo_catalog.specs.Define.{is_unchanged, proposed_members}
-use Rattle.slo_catalog.specs.Limits.{first_limit}
-use Rattle.slo_catalog.specs.declared.CatalogFault.{CatalogFault}
-use Rattle.slo_catalog.specs.declared.CatalogFault.TheVariants as faults
-use Rattle.slo_catalog.specs.declared.CatalogLimit.{CatalogLimit}
-use Rattle.slo_catalog.specs.declared.CatalogLimit.TheVariants as catalog_limits
+use Rattle.object_terms.specs.declared.Object.{Object}
+use Rattle.catalog_terms.specs.Define.{is_unchanged, proposed_members}
+use Rattle.catalog_terms.specs.Limits.{first_limit}
+use Rattle.catalog_terms.specs.declared.CatalogFault.{CatalogFault}
+use Rattle.catalog_terms.specs.declared.CatalogFault.TheVariants as faults
+use Rattle.catalog_terms.specs.declared.CatalogLimit.{CatalogLimit}
+use Rattle.catalog_terms.specs.declared.CatalogLimit.TheVariants as catalog_limits
 use Rattle.record_form.specs.declared.LimitName.{LimitName}
 use Rattle.record_form.specs.declared.LimitName.TheVariants as limits
 use Rattle.record_form.specs.declared.Refusal.{Refusal}

@@ -3,10 +3,10 @@ use Rattle.std.specs.Prelude.{ℕ, Bool, ◌||◌, cond, List, [], ◌∷◌, Op
 use Rattle.std.specs.List.{list_any}
 use Rattle.std.specs.Option.{option_or}
 use Rattle.std.specs.Str.{bytes_eq}
-use Rattle.slo_objects.specs.Slo.{slo_in}
-use Rattle.slo_objects.specs.declared.Calendar.{Calendar}
-use Rattle.slo_objects.specs.declared.Object.{Object}
-use Rattle.slo_objects.specs.declared.Slo.{Slo}
+use Rattle.object_terms.specs.Slo.{slo_in}
+use Rattle.object_terms.specs.declared.Calendar.{Calendar}
+use Rattle.object_terms.specs.declared.Object.{Object}
+use Rattle.object_terms.specs.declared.Slo.{Slo}
 
 abbrev pub is_among : List (List ℕ) → List ℕ → Bool
 is_among zones name = list_any (bytes_eq name) zones

@@ -1,13 +1,14 @@
 //! The faults of the catalog as refusals.
 ghost use Rattle.std.specs.Prelude.{◌≡◌};
-ghost use Rattle.definition_verdict.specs.Verdict.{catalog_refusal as catalog_refusal_lem};
-ghost use Rattle.definition_verdict.specs.Verdict.{limit_name as limit_name_lem};
+ghost use Rattle.definition_verdict.specs.Verdict.{catalog_refusal as catalog_refusal_def};
+ghost use Rattle.definition_verdict.specs.Verdict.{limit_name as limit_name_def};
 
+use catalog_terms::{CatalogFault, CatalogLimit};
 use record_form::{LimitName, Refusal};
-use slo_catalog::{CatalogFault, CatalogLimit};
 
+/// The name of a limit of the catalog, as a refusal has it.
 fn limit_name(limit: CatalogLimit) -> LimitName
-    ensures { result ≡ limit_name_lem limit }
+    ensures { result ≡ limit_name_def limit }
 {
     match limit {
         CatalogLimit::Objects => LimitName::Objects,
@@ -20,7 +21,7 @@ fn limit_name(limit: CatalogLimit) -> LimitName
 
 /// A fault of the catalog as a refusal.
 pub(crate) fn catalog_refusal(fault: CatalogFault) -> Refusal
-    ensures { result ≡ catalog_refusal_lem fault }
+    ensures { result ≡ catalog_refusal_def fault }
 {
     match fault {
         CatalogFault::Reserved { name } => Refusal::ReservedPolicy { name },

@@ -1,9 +1,9 @@
 //! Definitions.
 ghost use Rattle.std.specs.Prelude.{◌≡◌, ◌<◌, ◌^◌, ℕ, Ok, Err, IfOk, List};
 ghost use Rattle.std.specs.List.{All};
-ghost use Rattle.slo_objects.specs.declared.Object.{Object};
-ghost use Rattle.slo_objects.specs.Document.{IsOfDocument};
-ghost use Rattle.slo_catalog.specs.Define.{is_unchanged};
+ghost use Rattle.object_terms.specs.declared.Object.{Object};
+ghost use Rattle.object_terms.specs.Document.{IsOfDocument};
+ghost use Rattle.catalog_terms.specs.Define.{is_unchanged};
 ghost use Rattle.definition_verdict.specs.Verdict.{IsDefinition, IsRefused, defined_over, known};
 ghost use Rattle.definition_verdict.specs.Verdict.{within_limits};
 
@@ -12,10 +12,11 @@ use crate::documents::{DocumentsError, TextError, documents_in, objects_in};
 use crate::readings::first_read_anew;
 use crate::starts::one_begins_too_often;
 use crate::zones::first_unknown_zone;
+use catalog_terms::DefineError;
 use exact_fraction::ZoneName;
+use object_terms::Object;
 use record_form::{LimitName, Refusal, SampleBook};
-use slo_catalog::{Catalog, DefineError, Proposal, propose};
-use slo_objects::Object;
+use slo_catalog::{Catalog, Proposal, propose};
 use std::alloc::Global;
 
 /// What a text defines.

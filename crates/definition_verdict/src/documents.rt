@@ -4,11 +4,12 @@ ghost use Rattle.std.specs.List.{AllByRecursion};
 ghost use Rattle.yaml_terms.specs.NodeView.{node_view, nodes_view};
 ghost use Rattle.yaml_terms.specs.SpellingFits.{IsWritable};
 ghost use Rattle.yaml_terms.specs.Text.{StandsFor};
-ghost use Rattle.definition_verdict.specs.Documents.{broken_document, objects_in as objects_in_lem};
+ghost use Rattle.definition_verdict.specs.Documents.{broken_document, objects_in as objects_in_def};
 ghost use Rattle.definition_verdict.specs.Texts.{IsYamlFault};
 
+use object_terms::{ObjectFault, Objects, ReadError};
 use record_form::{Refusal, YamlWord};
-use slo_objects::{ObjectFault, Objects, ReadError, read_object};
+use slo_objects::read_object;
 use std::alloc::Global;
 use yaml_subset::read_documents;
 use yaml_terms::{Node, Nodes, YamlFault};
@@ -78,10 +79,10 @@ fn broken(document: u32, fault: ObjectFault) -> Refusal
 /// The objects of all documents in order.
 pub(crate) fn objects_in(alloc: Global, documents: &[Node]) -> Result<Objects, DocumentsError>
     requires { length documents.now < 2 ^ 32 }
-    ensures ok { IfOk result (λ objects. objects_in_lem (map node_view documents.now)
+    ensures ok { IfOk result (λ objects. objects_in_def (map node_view documents.now)
         ≡ Ok objects) }
     ensures refused { (refusal : Refusal) → result ≡ Err (DocumentsError.Refused refusal) →
-        objects_in_lem (map node_view documents.now) ≡ Err refusal }
+        objects_in_def (map node_view documents.now) ≡ Err refusal }
 {
     let mut objects = Objects::new(alloc);
     let mut number: usize = 1;

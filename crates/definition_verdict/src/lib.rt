@@ -8,14 +8,11 @@
 mod catalog_refusal;
 mod definition;
 mod documents;
-mod laws;
+pub mod laws;
 mod readings;
 mod starts;
 mod zones;
 
 pub use definition::{Definition, VerdictError, judge_definition};
-pub use laws::{each_text_has_a_verdict, one_verdict};
 pub use readings::reading_of;
 pub use record_form::{LimitName, Outcome, Refusal, Rows};
-pub use slo_catalog::{Binding, Catalog};
-pub use slo_objects::Kind;

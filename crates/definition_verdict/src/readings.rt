@@ -1,24 +1,24 @@
 //! How the amounts of an indicator's rows are read, and whose reading a text would change.
 ghost use Rattle.std.specs.Prelude.{◌≡◌};
-ghost use Rattle.slo_catalog.specs.NeedsOp.{sli_named as sli_named_lem};
-ghost use Rattle.slo_objects.specs.Sli.{sli_in as sli_in_lem};
+ghost use Rattle.catalog_terms.specs.NeedsOp.{sli_named as sli_named_def};
+ghost use Rattle.object_terms.specs.Sli.{sli_in as sli_in_def};
 ghost use Rattle.std.specs.Option.{option_copied};
-ghost use Rattle.definition_verdict.specs.Readings.{first_read_anew as first_read_anew_lem};
-ghost use Rattle.definition_verdict.specs.Readings.{is_other_reading as is_other_reading_lem};
-ghost use Rattle.definition_verdict.specs.Readings.{reading_of as reading_of_lem};
-ghost use Rattle.definition_verdict.specs.Readings.{row_read_anew as row_read_anew_lem};
-ghost use Rattle.definition_verdict.specs.Readings.{same_reading as same_reading_lem};
+ghost use Rattle.definition_verdict.specs.Readings.{first_read_anew as first_read_anew_def};
+ghost use Rattle.definition_verdict.specs.Readings.{is_other_reading as is_other_reading_def};
+ghost use Rattle.definition_verdict.specs.Readings.{reading_of as reading_of_def};
+ghost use Rattle.definition_verdict.specs.Readings.{row_read_anew as row_read_anew_def};
+ghost use Rattle.definition_verdict.specs.Readings.{same_reading as same_reading_def};
 
 use exact_fraction::Label;
+use object_terms::{Events, Kind, Metric, Object, Ratio, RawType, Sli};
 use record_form::{Row, SampleBook};
 use slice_method::Reading;
 use slo_catalog::{Catalog, sli_in};
-use slo_objects::{Events, Kind, Metric, Object, Ratio, RawType, Sli};
 
 /// How the amounts of an indicator's rows are read (OpenSLO v1, `ratioMetric` and
 /// `thresholdMetric`).
 pub fn reading_of(metric: &Metric) -> Reading
-    ensures { result ≡ reading_of_lem metric.now }
+    ensures { result ≡ reading_of_def metric.now }
 {
     let Metric::Ratio(metric) = metric else {
         return Reading::Threshold;
@@ -35,8 +35,9 @@ pub fn reading_of(metric: &Metric) -> Reading
     }
 }
 
+/// Whether two readings are one.
 fn same_reading(a: Reading, b: Reading) -> bool
-    ensures { result ≡ same_reading_lem a b }
+    ensures { result ≡ same_reading_def a b }
 {
     match (a, b) {
         (Reading::Good, Reading::Good) => true,
@@ -50,14 +51,14 @@ fn same_reading(a: Reading, b: Reading) -> bool
 
 /// The indicator of that name.
 fn sli_named(catalog: &Catalog, name: Label) -> Option<&Sli>
-    ensures { option_copied result ≡ sli_named_lem catalog.now name }
+    ensures { option_copied result ≡ sli_named_def catalog.now name }
 {
     sli_in(&catalog.find(Kind::Sli, name)?.body)
 }
 
 /// Whether the member of that name is there and read otherwise.
 fn is_other_reading(catalog: &Catalog, name: Label, reading: Reading) -> bool
-    ensures { result ≡ is_other_reading_lem reading (sli_named_lem catalog.now name) }
+    ensures { result ≡ is_other_reading_def reading (sli_named_def catalog.now name) }
 {
     match sli_named(catalog, name) {
         Some(member) => !same_reading(reading, reading_of(&member.metric)),
@@ -67,8 +68,8 @@ fn is_other_reading(catalog: &Catalog, name: Label, reading: Reading) -> bool
 
 /// The first row of an indicator that would be read otherwise than its member.
 fn row_read_anew(catalog: &Catalog, book: &SampleBook, object: &Object) -> Option<Row>
-    ensures { result ≡ row_read_anew_lem catalog.now book.now.rows object.now.name
-        (sli_in_lem object.now.body) }
+    ensures { result ≡ row_read_anew_def catalog.now book.now.rows object.now.name
+        (sli_in_def object.now.body) }
 {
     let sli = sli_in(&object.body)?;
     if is_other_reading(catalog, object.name, reading_of(&sli.metric)) {
@@ -85,7 +86,7 @@ pub(crate) fn first_read_anew(
     book: &SampleBook,
     objects: &[Object],
 ) -> Option<Row>
-    ensures { result ≡ first_read_anew_lem catalog.now book.now.rows objects.now }
+    ensures { result ≡ first_read_anew_def catalog.now book.now.rows objects.now }
 {
     for object in objects {
         if let Some(row) = row_read_anew(catalog, book, object) {

@@ -1,21 +1,22 @@
 //! How often the windows of calendars begin.
 ghost use Rattle.std.specs.Prelude.{◌≡◌, ◌<◌, ◌^◌};
-ghost use Rattle.slo_objects.specs.Document.{IsOfDocument};
-ghost use Rattle.definition_verdict.specs.Starts.{begins_too_often as begins_too_often_lem};
-ghost use Rattle.definition_verdict.specs.Starts.{one_begins_too_often as one_begins_too_often_lem};
+ghost use Rattle.object_terms.specs.Document.{IsOfDocument};
+ghost use Rattle.definition_verdict.specs.Starts.{begins_too_often as begins_too_often_def};
+ghost use Rattle.definition_verdict.specs.Starts.{one_begins_too_often as one_begins_too_often_def};
 
-use document_ranges::windows_are_in_range;
+use object_laws::laws;
+use object_terms::Object;
 use slo_catalog::{Member, slo_in};
-use slo_objects::{Object, has_too_many_starts};
+use zone_calendar::has_too_many_starts;
 
 /// Whether the windows of an SLO's calendar begin more often than a list of starts may have. They
 /// follow each other by a step of calendars, as in each document.
 fn begins_too_often(horizon: u32, object: &Object) -> bool
     requires document { IsOfDocument object.now }
     requires horizon { horizon < 2 ^ 27 }
-    ensures { result ≡ begins_too_often_lem horizon object.now }
+    ensures { result ≡ begins_too_often_def horizon object.now }
 {
-    windows_are_in_range();
+    laws::windows_are_in_range();
     let Some(slo) = slo_in(&object.body) else {
         return false;
     };
@@ -29,7 +30,7 @@ fn begins_too_often(horizon: u32, object: &Object) -> bool
 /// Whether the windows of an SLO among the members begin too often.
 pub(crate) fn one_begins_too_often(horizon: u32, members: &[Member]) -> bool
     requires { horizon < 2 ^ 27 }
-    ensures { result ≡ one_begins_too_often_lem horizon members.now }
+    ensures { result ≡ one_begins_too_often_def horizon members.now }
 {
     for member in members {
         if begins_too_often(horizon, member.object()) {

@@ -1,18 +1,18 @@
 //! The zones that the calendars of objects name.
 ghost use Rattle.std.specs.Prelude.{◌≡◌};
-ghost use Rattle.slo_objects.specs.Slo.{slo_in as slo_in_lem};
-ghost use Rattle.definition_verdict.specs.Zones.{first_unknown_zone as first_unknown_zone_lem};
-ghost use Rattle.definition_verdict.specs.Zones.{is_among as is_among_lem};
-ghost use Rattle.definition_verdict.specs.Zones.{is_known_zone as is_known_zone_lem};
+ghost use Rattle.object_terms.specs.Slo.{slo_in as slo_in_def};
+ghost use Rattle.definition_verdict.specs.Zones.{first_unknown_zone as first_unknown_zone_def};
+ghost use Rattle.definition_verdict.specs.Zones.{is_among as is_among_def};
+ghost use Rattle.definition_verdict.specs.Zones.{is_known_zone as is_known_zone_def};
 ghost use Rattle.definition_verdict.specs.Zones.{unknown_zone_in};
 
 use exact_fraction::ZoneName;
+use object_terms::Object;
 use slo_catalog::slo_in;
-use slo_objects::Object;
 
 /// Whether a zone is one of these.
 fn is_among(zones: &[ZoneName], name: ZoneName) -> bool
-    ensures { result ≡ is_among_lem zones.now name }
+    ensures { result ≡ is_among_def zones.now name }
 {
     for zone in zones {
         if name.as_bytes() == zone.as_bytes() {
@@ -24,14 +24,14 @@ fn is_among(zones: &[ZoneName], name: ZoneName) -> bool
 
 /// Whether a zone is known: one of these, or `UTC`.
 fn is_known_zone(zones: &[ZoneName], name: ZoneName) -> bool
-    ensures { result ≡ is_known_zone_lem zones.now name }
+    ensures { result ≡ is_known_zone_def zones.now name }
 {
     name.as_bytes() == b"UTC".as_slice() || is_among(zones, name)
 }
 
 /// The zone of an SLO's calendar, where it isn't known.
 fn unknown_zone(zones: &[ZoneName], object: &Object) -> Option<ZoneName>
-    ensures { result ≡ unknown_zone_in zones.now (slo_in_lem object.now.body) }
+    ensures { result ≡ unknown_zone_in zones.now (slo_in_def object.now.body) }
 {
     let slo = slo_in(&object.body)?;
     let Some(calendar) = &slo.time_window.calendar else {
@@ -46,7 +46,7 @@ fn unknown_zone(zones: &[ZoneName], object: &Object) -> Option<ZoneName>
 
 /// The first zone of the objects that isn't known.
 pub(crate) fn first_unknown_zone(zones: &[ZoneName], objects: &[Object]) -> Option<ZoneName>
-    ensures { result ≡ first_unknown_zone_lem zones.now objects.now }
+    ensures { result ≡ first_unknown_zone_def zones.now objects.now }
 {
     for object in objects {
         if let Some(name) = unknown_zone(zones, object) {

@@ -5,8 +5,8 @@ use Rattle.std.proofs.lemmas.List.Elements.{All-from_recursion, All-append}
 use Rattle.yaml_terms.specs.declared.Node.{Node}
 use Rattle.yaml_terms.specs.NodeView.{node_view, nodes_view}
 use Rattle.yaml_terms.specs.SpellingFits.{IsWritable}
-use Rattle.slo_objects.specs.declared.Object.{Object}
-use Rattle.slo_objects.specs.Document.{IsOfDocument}
+use Rattle.object_terms.specs.declared.Object.{Object}
+use Rattle.object_terms.specs.Document.{IsOfDocument}
 
 by_nodes : (nodes : List Node) → AllByRecursion IsWritable (nodes_view nodes)
     → AllByRecursion (λ n. IsWritable (node_view n)) nodes

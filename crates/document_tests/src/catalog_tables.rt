@@ -7,9 +7,10 @@
 
 use crate::documents::{objects_of, with_samples};
 use crate::expectations::expect_text;
+use catalog_terms::{CatalogFault, DefineError, RemoveError};
 use exact_fraction::read_label;
-use slo_catalog::{Catalog, CatalogFault, DefineError, RemoveError, define, remove};
-use slo_objects::Kind;
+use object_terms::Kind;
+use slo_catalog::{Catalog, define, remove};
 use std::alloc::Global;
 use std::process::Abort;
 

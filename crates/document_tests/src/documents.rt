@@ -4,10 +4,11 @@
 ghost use Rattle.std.specs.List.{All};
 ghost use Rattle.yaml_terms.specs.NodeView.{node_view};
 ghost use Rattle.yaml_terms.specs.SpellingFits.{IsWritable};
-ghost use Rattle.slo_objects.specs.Document.{IsOfDocument};
+ghost use Rattle.object_terms.specs.Document.{IsOfDocument};
 
+use object_terms::Objects;
 use sample_stream::{ALERT_TARGETS, SHOP};
-use slo_objects::{Objects, read_object};
+use slo_objects::read_object;
 use std::alloc::Global;
 use std::process::Abort;
 use yaml_subset::read_documents;

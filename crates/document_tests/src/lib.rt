@@ -1,5 +1,5 @@
 //! Tests of YAML texts, OpenSLO objects and catalogs; no code.
-//! Stands on `yaml_subset`, `slo_objects` and `slo_catalog`, by public names.
+//! Stands on the crates of documents, objects and catalogs, by public names.
 //! Promises that texts are read, written and kept as OpenSLO, YAML 1.2.2 and worked cases say.
 #![tactic(auto)]
 

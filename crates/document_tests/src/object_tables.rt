@@ -6,7 +6,8 @@
 //! begins most documents.
 
 use crate::expectations::{expect, expect_text};
-use slo_objects::{Object, ReadError, read_object};
+use object_terms::{Object, ReadError};
+use slo_objects::read_object;
 use std::alloc::Global;
 use std::process::Abort;
 use yaml_subset::read_documents;

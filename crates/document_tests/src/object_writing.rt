@@ -2,7 +2,7 @@
 
 use crate::documents::{objects_of, with_samples};
 use crate::expectations::expect;
-use slo_objects::write_object;
+use object_writing::write_object;
 use std::alloc::Global;
 use std::process::Abort;
 

@@ -2,8 +2,8 @@
 use Rattle.std.proofs.Common.{◌≡◌, ◌≤◌, ℕ, List, length, Option, Some, None, arith, subst, sym}
 use Rattle.std.proofs.lemmas.List.{length-map}
 use Rattle.slice_method.specs.declared.Reading.{Reading}
-use Rattle.slo_objects.specs.declared.Object.{Object}
-use Rattle.slo_objects.specs.declared.Slo.{Slo}
+use Rattle.object_terms.specs.declared.Object.{Object}
+use Rattle.object_terms.specs.declared.Slo.{Slo}
 use Rattle.office_history.specs.Objectives.{measures_named, measures_of, measures_with, measure_of}
 use Rattle.office_history.specs.Objectives.{reading_named, slo_named}
 

@@ -5,8 +5,8 @@ use Rattle.slo_duration.specs.declared.duration.Duration.{Duration}
 use Rattle.zone_calendar.specs.Starts.{is_counted, start_at}
 use Rattle.zone_calendar.specs.Zone.{ZoneText}
 use Rattle.zone_calendar.proofs.LastLemmas.{one_last}
-use Rattle.slo_objects.specs.declared.slo.Calendar.{Calendar}
-use Rattle.slo_objects.specs.declared.Slo.{Slo}
+use Rattle.object_terms.specs.declared.window.Calendar.{Calendar}
+use Rattle.object_terms.specs.declared.Slo.{Slo}
 use Rattle.record_form.specs.declared.Outcome.{Outcome}
 use Rattle.record_form.specs.declared.Outcome.TheVariants.{Timeline, Refused}
 use Rattle.record_form.specs.declared.Refusal.TheVariants as refusals

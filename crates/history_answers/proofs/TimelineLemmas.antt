@@ -4,7 +4,7 @@ use Rattle.std.proofs.Common.{Some, None, Result, IfOk, option_map, length, ap, 
 use Rattle.slo_limits.specs.declared.TheConstants.{MAX_TIMELINE}
 use Rattle.burn_core.specs.declared.State.{State}
 use Rattle.burn_core.specs.Timeline.{AreSpansOf}
-use Rattle.slo_catalog.specs.declared.Binding.{Binding}
+use Rattle.catalog_terms.specs.declared.Binding.{Binding}
 use Rattle.record_form.specs.declared.Outcome.{Outcome}
 use Rattle.record_form.specs.declared.Outcome.TheVariants.{Timeline, Refused}
 use Rattle.record_form.specs.declared.Refusal.TheVariants as refusals

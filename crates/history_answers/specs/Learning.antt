@@ -1,6 +1,6 @@
 -- What the lines of alerts know once a query is answered.
 use Rattle.std.specs.Prelude.{ℕ, List, Option, Some}
-use Rattle.slo_objects.specs.declared.Object.{Object}
+use Rattle.object_terms.specs.declared.Object.{Object}
 use Rattle.record_form.specs.declared.Outcome.{Outcome}
 use Rattle.record_form.specs.declared.Outcome.TheVariants as outcomes
 use Rattle.record_form.specs.declared.Query.{Query}

@@ -1,7 +1,7 @@
 -- How the alert of a binding stands.
 use Rattle.std.specs.Prelude.{ℕ, Option, option_map}
 use Rattle.burn_core.specs.declared.State.{State}
-use Rattle.slo_catalog.specs.declared.Binding.{Binding}
+use Rattle.catalog_terms.specs.declared.Binding.{Binding}
 use Rattle.office_history.specs.History.{Office}
 use Rattle.office_history.specs.Catalog.{catalog_in}
 use Rattle.office_history.specs.Alerts.{watched, state_at}

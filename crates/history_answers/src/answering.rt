@@ -12,9 +12,9 @@ use crate::burn_rate::burn_rate;
 use crate::notice_list::notice_list;
 use crate::object_list::{object_list, object_text};
 use crate::timeline::timeline;
+use catalog_terms::Binding;
 use office_derived::Derived;
 use record_form::{Outcome, Query};
-use slo_catalog::Binding;
 use std::alloc::{AllocError, Global};
 use watched_objectives::KeptLines;
 

@@ -3,7 +3,7 @@ ghost use Rattle.std.specs.Prelude.{◌≡◌, ◌≤◌, ◌<◌, All, IfOk, So
 ghost use Rattle.std.specs.List.{AllByRecursion};
 ghost use Rattle.office_derived.specs.kept_objectives.Objectives.{IsObjective};
 ghost use Rattle.watched_objectives.specs.object_ranges.Measures.{IsMeasure};
-ghost use Rattle.watched_objectives.specs.object_ranges.Ranges.{IsWindow};
+ghost use Rattle.object_laws.specs.Ranges.{IsWindow};
 ghost use Rattle.record_form.specs.declared.Query.TheVariants.{Budgets};
 ghost use Rattle.office_history.specs.History.{Office, end_of};
 ghost use Rattle.office_history.specs.Catalog.{catalog_in};
@@ -20,11 +20,11 @@ use crate::sums::sum_between;
 use crate::window_start::window_start;
 use burn_core::{burn, error_rate, remaining};
 use exact_fraction::Label;
+use object_terms::Slo;
 use office_derived::Derived;
 use office_history::Measure;
 use record_form::{BudgetRow, Listed, Outcome, Refusal};
 use slo_limits::{MAX_OBJECTIVES, RANGE_MINUTES};
-use slo_objects::Slo;
 use std::alloc::{AllocError, Global};
 use watched_objectives::{measures_named, slo_named};
 

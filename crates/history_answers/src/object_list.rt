@@ -1,18 +1,19 @@
 //! The objects of the catalog.
 ghost use Rattle.std.specs.Prelude.{◌≡◌, map, IfOk};
 ghost use Rattle.yaml_terms.specs.Spelling.{writing};
-ghost use Rattle.slo_objects.specs.Document.{IsOfDocument, written};
-ghost use Rattle.slo_objects.specs.declared.Object.{Object};
+ghost use Rattle.object_terms.specs.Document.{IsOfDocument, written};
+ghost use Rattle.object_terms.specs.declared.Object.{Object};
 ghost use Rattle.record_form.specs.declared.Query.TheVariants as queries;
 ghost use Rattle.office_history.specs.History.{Office};
 ghost use Rattle.office_history.specs.Answers.{Answers};
 ghost use Rattle.office_derived.specs.Derived.{Reflects};
 
 use exact_fraction::{Bytes, Label};
+use object_terms::{Kind, Object};
+use object_writing::write_object;
 use office_derived::Derived;
 use record_form::{Listed, ObjectNames, Outcome, Refusal};
 use slo_catalog::Member;
-use slo_objects::{Kind, Object, write_object};
 use std::alloc::{AllocError, Global};
 
 fn names_of(alloc: Global, members: &[Member]) -> Result<ObjectNames, AllocError>

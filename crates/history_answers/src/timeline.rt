@@ -1,7 +1,6 @@
 //! The stretches in which an alert is active, and how it stands.
-ghost use Rattle.std.specs.Prelude.{◌≡◌, ◌-◌, ◌<◌, ◌≤◌, ◌&&◌, IfOk, Some};
-ghost use Rattle.std.specs.Prelude.{nat_le};
-ghost use Rattle.slo_catalog.specs.declared.Binding.{Binding};
+ghost use Rattle.std.specs.Prelude.{◌≡◌, ◌-◌, ◌<◌, ◌≤◌, ◌&&◌, IfOk, Some, nat_le};
+ghost use Rattle.catalog_terms.specs.declared.Binding.{Binding};
 ghost use Rattle.record_form.specs.declared.Query.TheVariants.{Timeline};
 ghost use Rattle.office_history.specs.History.{Office, end_of};
 ghost use Rattle.office_history.specs.Answers.{Answers, AnswersTimeline};
@@ -14,10 +13,10 @@ ghost use Rattle.history_answers.specs.Learning.{KnowsGiven};
 ghost use Rattle.history_answers.specs.States.{binding_state};
 
 use burn_core::State;
+use catalog_terms::Binding;
 use exact_fraction::Label;
 use office_derived::Derived;
 use record_form::{Listed, Outcome, Refusal};
-use slo_catalog::Binding;
 use slo_limits::MAX_TIMELINE;
 use std::alloc::AllocError;
 use watched_objectives::{KeptLines, Watch, watched};

@@ -6,9 +6,9 @@ ghost use Rattle.office_history.specs.Windows.{BeginsIn, WindowBegins};
 ghost use Rattle.office_history.specs.Zones.{utc, zone_named};
 
 use exact_fraction::ZoneName;
+use object_terms::{Calendar, TimeWindow};
 use office_derived::Zones;
 use slo_duration::{Duration, rolling_minutes};
-use slo_objects::{Calendar, TimeWindow};
 use zone_calendar::{Zone, last_start};
 
 fn is_utc(name: ZoneName) -> bool

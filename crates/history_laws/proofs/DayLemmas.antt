@@ -1,7 +1,7 @@
 -- In a legal history the days of its objectives stay within their limit.
-use Rattle.std.proofs.Common.{◌≡◌, ℕ, ◌≤◌, Bool, true, false, cond, nat_lt, not, List, []}
-use Rattle.std.proofs.Common.{◌∷◌, ◌++◌, Option, Some, None, refl, sym, subst, fold, filter}
-use Rattle.std.proofs.Common.{length, sum_by, arith}
+use Rattle.std.proofs.Common.{◌≡◌, ℕ, ◌≤◌, Bool, true, false, cond, nat_lt, not, List, [], ◌∷◌}
+use Rattle.std.proofs.Common.{◌++◌, Option, Some, None, refl, sym, subst, fold, filter, length}
+use Rattle.std.proofs.Common.{sum_by, arith}
 use Rattle.std.specs.List.{list_any}
 use Rattle.std.proofs.lemmas.Bool.{ltb-false}
 use Rattle.std.proofs.lemmas.List.{append-nil}
@@ -11,11 +11,11 @@ use Rattle.sample_book.specs.declared.Row.{Row}
 use Rattle.sample_book.specs.History.{is_put}
 use Rattle.sample_book.specs.Puts.{verdicts}
 use Rattle.sample_book.specs.Rows.{current_rows}
-use Rattle.slo_objects.specs.declared.kind.Kind.{Kind}
-use Rattle.slo_objects.specs.declared.Object.{Object}
-use Rattle.slo_objects.specs.Slo.{slo_in}
-use Rattle.slo_catalog.specs.Catalog.{with_members, without}
-use Rattle.slo_catalog.specs.Keys.{is_key}
+use Rattle.object_terms.specs.declared.kind.Kind.{Kind}
+use Rattle.object_terms.specs.declared.Object.{Object}
+use Rattle.object_terms.specs.Slo.{slo_in}
+use Rattle.catalog_terms.specs.Catalog.{with_members, without}
+use Rattle.catalog_terms.specs.Keys.{is_key}
 use Rattle.record_form.specs.declared.Command.{Command}
 use Rattle.record_form.specs.declared.Command.TheVariants.{Define, Remove, PutZone, Samples}
 use Rattle.record_form.specs.declared.Command.TheVariants.{Exclude, Lift, Tick, Take}

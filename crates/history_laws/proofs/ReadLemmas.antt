@@ -11,12 +11,12 @@ use Rattle.sample_book.specs.Counting.{first_of, is_of}
 use Rattle.sample_book.specs.Puts.{verdicts}
 use Rattle.sample_book.specs.Rows.{cell_of, current_rows, same_cell}
 use Rattle.sample_book.proofs.StandingLemmas.{cell_same}
-use Rattle.slo_objects.specs.declared.kind.Kind.{Kind}
-use Rattle.slo_objects.specs.declared.Object.{Object}
-use Rattle.slo_objects.specs.declared.Sli.{Sli}
-use Rattle.slo_objects.specs.Sli.{sli_in}
-use Rattle.slo_catalog.specs.Catalog.{with_members, without}
-use Rattle.slo_catalog.specs.NeedsOp.{sli_named}
+use Rattle.object_terms.specs.declared.kind.Kind.{Kind}
+use Rattle.object_terms.specs.declared.Object.{Object}
+use Rattle.object_terms.specs.declared.Sli.{Sli}
+use Rattle.object_terms.specs.Sli.{sli_in}
+use Rattle.catalog_terms.specs.Catalog.{with_members, without}
+use Rattle.catalog_terms.specs.NeedsOp.{sli_named}
 use Rattle.record_form.specs.declared.Command.{Command}
 use Rattle.record_form.specs.declared.Command.TheVariants.{Define, Remove, PutZone, Samples}
 use Rattle.record_form.specs.declared.Command.TheVariants.{Exclude, Lift, Tick, Take}

@@ -5,9 +5,7 @@ ghost use Rattle.history_laws.specs.Once.{BatchActsOnce, BatchBringsNothing};
 ghost use Rattle.history_laws.specs.Once.{ChangesActOnce, NoneStandsTwice};
 
 use catalog_changes::{a_history_begins_legally, a_zone_acts_once};
-use definition_verdict::one_verdict;
 use notice_changes::a_taking_acts_once;
-use object_ranges::bodies_are_of_their_kinds;
 use sample_changes::{a_lifting_acts_once, an_exclusion_acts_once};
 use yaml_writing::laws;
 
@@ -15,7 +13,7 @@ use yaml_writing::laws;
 pub fn one_judgement()
     ensures { OneJudgement }
 {
-    one_verdict();
+    definition_verdict::laws::one_verdict();
 }
 
 /// In a legal history the indicator of each row is in the catalog, and the row's amount has the
@@ -27,7 +25,7 @@ pub fn legal_rows_are_read()
 {
     // So what is called an indicator is one.
     laws::standing_nodes_are_writable();
-    bodies_are_of_their_kinds();
+    object_laws::laws::bodies_are_of_their_kinds();
 }
 
 /// In a legal history at most `MAX_DAYS` pairs of an objective and a day have a current row of the

@@ -1,16 +1,16 @@
 -- What is known of the objectives of a catalog.
-use Rattle.std.proofs.Common.{◌≡◌, ℕ, zero, suc, List, [], ◌∷◌, map}
-use Rattle.std.proofs.Common.{slice_get, Option, Some, None, sym, subst, refl}
+use Rattle.std.proofs.Common.{◌≡◌, ℕ, zero, suc, List, [], ◌∷◌, map, slice_get, Option, Some, None}
+use Rattle.std.proofs.Common.{sym, subst, refl}
 use Rattle.std.specs.List.{All, Contains}
 use Rattle.std.proofs.lemmas.Option.{get_or_from_slice_get, slice_get-get_or, slice_get_within}
 use Rattle.slice_method.specs.declared.Reading.{Reading}
-use Rattle.kept_sums.specs.slo_objects.declared.Object.{Object}
-use Rattle.kept_sums.specs.slo_objects.declared.Slo.{Slo}
-use Rattle.kept_sums.specs.slo_objects.declared.slo.Objective.{Objective}
+use Rattle.object_terms.specs.declared.Object.{Object}
+use Rattle.object_terms.specs.declared.Slo.{Slo}
+use Rattle.object_terms.specs.declared.objective.Objective.{Objective}
 use Rattle.kept_sums.specs.office_history.declared.Measure.{Measure}
 use Rattle.kept_sums.specs.office_history.Objectives.{measure_at, measure_of, measures_named}
-use Rattle.kept_sums.specs.office_history.Objectives.{measures_of}
-use Rattle.kept_sums.specs.office_history.Objectives.{measures_with, reading_named, slo_named}
+use Rattle.kept_sums.specs.office_history.Objectives.{measures_of, measures_with, reading_named}
+use Rattle.kept_sums.specs.office_history.Objectives.{slo_named}
 use Rattle.kept_objectives.specs.Objectives.{IsObjective}
 
 -- an objective of the SLO of a name has that name, and the reading of its indicator

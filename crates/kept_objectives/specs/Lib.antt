@@ -3,5 +3,3 @@ pub mod Plans
 pub use Rattle.kept_sums.specs as kept_sums
 pub use Rattle.kept_sums.specs.office_history as office_history
 pub use Rattle.kept_sums.specs.record_form as record_form
-pub use Rattle.kept_sums.specs.slo_catalog as slo_catalog
-pub use Rattle.kept_sums.specs.slo_objects as slo_objects

@@ -11,8 +11,6 @@ mod same;
 mod take;
 
 pub use kept::{KeptSums, ObjectiveSums};
-pub use kept_sums::{
-    Binding, Catalog, Judgement, Kind, LimitName, Outcome, Refusal, Rows, sums_over,
-};
+pub use kept_sums::{Judgement, LimitName, Outcome, Refusal, Rows, sums_over};
 pub use plan::SumsPlan;
 pub use same::is_same;

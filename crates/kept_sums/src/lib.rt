@@ -14,8 +14,6 @@ pub use anew::sums_over;
 pub use batch::{follow_rows, reserve_rows};
 pub use counting::{NOTHING, moves, row_at, row_counts, takes};
 pub use laws::kept_counts_are_those_of_the_minutes;
-pub use office_history::{
-    Binding, Catalog, Judgement, Kind, LimitName, Measure, Outcome, Refusal, Rows,
-};
+pub use office_history::{Judgement, LimitName, Measure, Outcome, Refusal, Rows};
 pub use range::follow_exclusion;
 pub use window_sums::WindowSums;

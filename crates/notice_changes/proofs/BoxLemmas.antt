@@ -9,7 +9,7 @@ use Rattle.std.proofs.lemmas.List.Elements.{filter-append}
 use Rattle.burn_core.specs.declared.State.{State}
 use Rattle.notice_box.specs.declared.Notice.{Notice}
 use Rattle.notice_box.specs.Box.{AreNumbered, notices_of, after_taking}
-use Rattle.slo_catalog.specs.declared.Binding.{Binding}
+use Rattle.catalog_terms.specs.declared.Binding.{Binding}
 use Rattle.office_history.specs.Notices.{Told, notice_of, notices_from, waiting}
 use Rattle.office_history.specs.Verdicts.{is_waiting}
 use Rattle.notice_changes.specs.Works.{new_notices}

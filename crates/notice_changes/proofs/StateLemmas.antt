@@ -1,13 +1,13 @@
 -- The states of bindings, each of which has but one.
-use Rattle.std.proofs.Common.{◌≡◌, ◌∙◌, ℕ, zero, suc, Bool, true, false, cond, refl, ap, sym}
-use Rattle.std.proofs.Common.{List, [], ◌∷◌, map, Option, Some, option_map, slice_get, unwrap_or}
-use Rattle.std.proofs.Common.{◌+◌, ◌<◌, ◌++◌, drop, filter, length}
+use Rattle.std.proofs.Common.{◌≡◌, ◌∙◌, ℕ, zero, suc, Bool, true, false, cond, refl, ap, sym, List}
+use Rattle.std.proofs.Common.{[], ◌∷◌, map, Option, Some, option_map, slice_get, unwrap_or, ◌+◌}
+use Rattle.std.proofs.Common.{◌<◌, ◌++◌, drop, filter, length}
 use Rattle.std.proofs.Math.ListN.{get_or}
 use Rattle.std.proofs.lemmas.List.{append_assoc, drop_more}
 use Rattle.std.specs.List.{AllByRecursion, find}
 use Rattle.burn_core.specs.declared.State.{State}
 use Rattle.burn_core.specs.declared.State.TheVariants.{Quiet}
-use Rattle.slo_catalog.specs.declared.Binding.{Binding}
+use Rattle.catalog_terms.specs.declared.Binding.{Binding}
 use Rattle.office_history.specs.Alerts.{same_binding}
 use Rattle.office_history.specs.Notices.{state_among}
 use Rattle.watched_objectives.proofs.WatchLemmas.{one_binding}

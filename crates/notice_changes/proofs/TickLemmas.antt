@@ -1,14 +1,14 @@
 -- What a tick finds and leaves.
 use Rattle.std.proofs.Common.{◌≡◌, ℕ, ◌+◌, ◌<◌, ◌≤◌, nat_lt, Bool, true, false, not, cond, refl, ap}
-use Rattle.std.proofs.Common.{sym, ◌∙◌, subst, arith, List, [], ◌∷◌, ◌++◌, map, max, length}
-use Rattle.std.proofs.Common.{Option, None, Some, length-append}
+use Rattle.std.proofs.Common.{sym, ◌∙◌, subst, arith, List, [], ◌∷◌, ◌++◌, map, max, length, Option}
+use Rattle.std.proofs.Common.{None, Some, length-append}
 use Rattle.std.proofs.lemmas.List.{append-nil, length-map, map-append}
 use Rattle.slo_limits.specs.declared.TheConstants as most
 use Rattle.burn_core.specs.declared.State.{State}
 use Rattle.burn_core.specs.declared.State.TheVariants.{Quiet}
 use Rattle.notice_box.specs.declared.Notice.{Notice}
-use Rattle.slo_catalog.specs.declared.Binding.{Binding}
-use Rattle.slo_catalog.specs.Bindings.{bindings}
+use Rattle.catalog_terms.specs.declared.Binding.{Binding}
+use Rattle.catalog_terms.specs.Bindings.{bindings}
 use Rattle.sample_book.specs.Rows.{current_rows}
 use Rattle.sample_book.specs.History as book
 use Rattle.sample_book.specs.History.{Holds}
@@ -26,8 +26,7 @@ use Rattle.office_history.specs.Alerts.{state_if, states_at, watch_of}
 use Rattle.office_history.specs.Lists.{last_of}
 use Rattle.office_history.specs.Notices.{changes, is_taken, last_states, notice_of, notices_in}
 use Rattle.office_history.specs.Notices.{notices_from, samples_in, states_of_tick, states_over}
-use Rattle.office_history.specs.Notices.{tick_changes}
-use Rattle.office_history.specs.Notices.{ticks_in, told_at, told_in, waiting}
+use Rattle.office_history.specs.Notices.{tick_changes, ticks_in, told_at, told_in, waiting}
 use Rattle.office_history.specs.Batches.{when}
 use Rattle.office_history.specs.Judges.{Judges}
 use Rattle.office_history.specs.Verdicts.{accepted, tick_verdict, unless_refused}

@@ -2,7 +2,7 @@
 use Rattle.std.specs.Prelude.{◌≡◌, List}
 use Rattle.std.specs.List.{AllByRecursion}
 use Rattle.burn_core.specs.declared.State.{State}
-use Rattle.slo_catalog.specs.declared.Binding.{Binding}
+use Rattle.catalog_terms.specs.declared.Binding.{Binding}
 
 -- a binding has but one state among these, however often it is there
 pub record AreByBinding (states : List (Binding × State)) : Type 0 where

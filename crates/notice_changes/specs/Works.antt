@@ -3,7 +3,7 @@ use Rattle.std.specs.Prelude.{ℕ, ◌+◌, ◌≤◌, Bool, true, List, [], ◌
 use Rattle.slo_limits.specs.declared.TheConstants.{MAX_NOTICES}
 use Rattle.burn_core.specs.declared.State.{State}
 use Rattle.notice_box.specs.declared.Notice.{Notice}
-use Rattle.slo_catalog.specs.declared.Binding.{Binding}
+use Rattle.catalog_terms.specs.declared.Binding.{Binding}
 use Rattle.office_history.specs.Notices.{notice_of}
 use Rattle.office_derived.specs.declared.Work.{Work}
 use Rattle.office_derived.specs.declared.Work.TheVariants as works

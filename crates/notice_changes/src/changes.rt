@@ -8,7 +8,8 @@ ghost use Rattle.office_history.specs.Notices.{state_eq as state_eq_lem};
 ghost use Rattle.notice_changes.specs.States.{AreByBinding};
 
 use burn_core::State;
-use slo_catalog::{Binding, Catalog};
+use catalog_terms::Binding;
+use slo_catalog::Catalog;
 use std::alloc::{AllocError, Global};
 use watched_objectives::{flags_named, same_binding};
 

@@ -4,8 +4,8 @@ ghost use Rattle.office_history.specs.Notices.{notice_of};
 ghost use Rattle.notice_changes.specs.Works.{new_notices};
 
 use burn_core::State;
+use catalog_terms::Binding;
 use notice_box::{Notice, NoticeBox};
-use slo_catalog::Binding;
 
 // Each change becomes a notice, numbered on.
 pub(crate) fn tell(notices: &mut NoticeBox, at: u32, told: &[(Binding, State)])

@@ -12,34 +12,34 @@ use Rattle.burn_core.specs.declared.AlertRule.TheVariants.{Page, Ticket}
 use Rattle.burn_core.specs.Alert.{IsRule, lookback_of}
 use Rattle.slo_limits.specs.declared.TheConstants.{MAX_LOOKBACK}
 use Rattle.slice_method.specs.declared.Reading.{Reading}
-use Rattle.slo_objects.specs.declared.Kind.{Kind}
-use Rattle.slo_objects.specs.declared.Kind.TheVariants as kinds
-use Rattle.slo_objects.specs.declared.Object.{Object}
-use Rattle.slo_objects.specs.declared.Body.{Body}
-use Rattle.slo_objects.specs.declared.Slo.{Slo}
-use Rattle.slo_objects.specs.declared.slo.BudgetingMethod.{BudgetingMethod}
-use Rattle.slo_objects.specs.declared.slo.BudgetingMethod.TheVariants as budgeting
-use Rattle.slo_objects.specs.declared.slo.Objective.{Objective}
-use Rattle.slo_objects.specs.declared.AlertCondition.{AlertCondition}
-use Rattle.slo_objects.specs.declared.alert_condition.Condition.{Condition}
-use Rattle.slo_objects.specs.declared.AlertAfter.{AlertAfter}
-use Rattle.slo_objects.specs.declared.SliceTarget.{SliceTarget}
-use Rattle.slo_objects.specs.declared.SliceWidth.{SliceWidth}
-use Rattle.slo_objects.specs.Document.{IsOfDocument}
-use Rattle.slo_objects.specs.Slo.{slo_in}
-use Rattle.slo_catalog.specs.Bindings.{policy_named}
-use Rattle.slo_catalog.specs.Keys.{is_key, member_of}
-use Rattle.slo_catalog.specs.References.{page, ticket}
+use Rattle.object_terms.specs.declared.Kind.{Kind}
+use Rattle.object_terms.specs.declared.Kind.TheVariants as kinds
+use Rattle.object_terms.specs.declared.Object.{Object}
+use Rattle.object_terms.specs.declared.Body.{Body}
+use Rattle.object_terms.specs.declared.Slo.{Slo}
+use Rattle.object_terms.specs.declared.slo.BudgetingMethod.{BudgetingMethod}
+use Rattle.object_terms.specs.declared.slo.BudgetingMethod.TheVariants as budgeting
+use Rattle.object_terms.specs.declared.objective.Objective.{Objective}
+use Rattle.object_terms.specs.declared.AlertCondition.{AlertCondition}
+use Rattle.object_terms.specs.declared.alert_condition.Condition.{Condition}
+use Rattle.object_terms.specs.declared.AlertAfter.{AlertAfter}
+use Rattle.object_terms.specs.declared.SliceTarget.{SliceTarget}
+use Rattle.object_terms.specs.declared.SliceWidth.{SliceWidth}
+use Rattle.object_terms.specs.Document.{IsOfDocument}
+use Rattle.object_terms.specs.Slo.{slo_in}
+use Rattle.catalog_terms.specs.Bindings.{policy_named}
+use Rattle.catalog_terms.specs.Keys.{is_key, member_of}
+use Rattle.catalog_terms.specs.References.{page, ticket}
 use Rattle.window_sums.specs.Slices.{width_of}
 use Rattle.office_history.specs.declared.Measure.{Measure}
 use Rattle.office_history.specs.Alerts.{rule_of, first_condition, rule_named}
 use Rattle.slo_duration.specs.Minutes.{minutes_of}
 use Rattle.office_history.specs.Objectives.{reading_named, method_of, measure_of, slo_named}
 use Rattle.office_history.specs.Objectives.{measures_with, measures_of, measure_at}
-use Rattle.document_ranges.specs.Ranges.{IsObjective, HasObjectives, IsWindow}
+use Rattle.object_laws.specs.Ranges.{IsObjective, HasObjectives, IsWindow}
 use Rattle.object_ranges.specs.Measures.{HasSliceTarget, IsMeasure, IsSliceTarget, IsWidth}
-use Rattle.document_ranges.proofs.Tables.{IsSlo}
-use Rattle.document_ranges.proofs.Documents.{ReadsBack, slos}
+use Rattle.object_laws.proofs.RangeTables.{IsSlo}
+use Rattle.object_laws.proofs.RangeDocuments.{ReadsBack, slos}
 
 -- OBJECTS BY THEIR NAMES
 

@@ -5,9 +5,6 @@
 
 mod named;
 
-pub use document_ranges::{
-    bodies_are_of_their_kinds, objectives_are_in_range, windows_are_in_range,
-};
 pub use named::{
     conditions_give_rules, measures_are_in_range, named_windows_are_in_range,
     objectives_give_measures, rules_are_in_range,

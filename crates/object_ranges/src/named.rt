@@ -8,16 +8,16 @@ ghost use Rattle.office_history.specs.Alerts.{rule_named, rule_of};
 ghost use Rattle.office_history.specs.Objectives.{measure_at, measure_of, slo_named};
 ghost use Rattle.slice_method.specs.declared.Reading.{Reading};
 ghost use Rattle.slo_limits.specs.declared.TheConstants.{WHOLE};
-ghost use Rattle.slo_objects.specs.declared.Object.{Object};
-ghost use Rattle.slo_objects.specs.declared.Slo.{Slo};
-ghost use Rattle.slo_objects.specs.declared.slo.Objective.{Objective};
-ghost use Rattle.slo_objects.specs.declared.alert_condition.Condition.{Condition};
-ghost use Rattle.slo_objects.specs.Document.{IsOfDocument};
+ghost use Rattle.object_terms.specs.declared.Object.{Object};
+ghost use Rattle.object_terms.specs.declared.Slo.{Slo};
+ghost use Rattle.object_terms.specs.declared.objective.Objective.{Objective};
+ghost use Rattle.object_terms.specs.declared.alert_condition.Condition.{Condition};
+ghost use Rattle.object_terms.specs.Document.{IsOfDocument};
 ghost use Rattle.window_sums.specs.Slices.{width_of};
 ghost use Rattle.object_ranges.specs.Measures.{HasSliceTarget, IsMeasure};
-ghost use Rattle.document_ranges.specs.Ranges.{IsObjective, IsWindow};
+ghost use Rattle.object_laws.specs.Ranges.{IsObjective, IsWindow};
 
-use slo_objects::each_object_reads_back;
+use object_laws::laws;
 
 /// What an objective with all that its method wants counts is in its ranges, whatever the indicator
 /// reads.
@@ -47,7 +47,7 @@ pub fn measures_are_in_range()
         All IsOfDocument members → measure_at members slo number ≡ Some m
         → HasSliceTarget m.method }
 {
-    each_object_reads_back();
+    laws::each_object_reads_back();
 }
 
 /// The rule of a policy is one too, and looks back for at least a minute.
@@ -64,5 +64,5 @@ pub fn named_windows_are_in_range()
     ensures { (members : List Object) (name : List ℕ) (slo : Slo) →
         All IsOfDocument members → slo_named members name ≡ Some slo → IsWindow slo.time_window }
 {
-    each_object_reads_back();
+    laws::each_object_reads_back();
 }

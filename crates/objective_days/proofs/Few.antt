@@ -8,9 +8,9 @@ use Rattle.std.proofs.lemmas.Bool.{lt-ltb, le-ltb}
 use Rattle.std.proofs.lemmas.List.Sums.{sum_by-cons, sum_by_more_le}
 use Rattle.std.proofs.lemmas.List.Elements.{All-weaker}
 use Rattle.slo_limits.specs.declared.TheConstants.{MAX_DAYS}
-use Rattle.slo_objects.specs.declared.Object.{Object}
-use Rattle.slo_objects.specs.declared.Slo.{Slo}
-use Rattle.slo_objects.specs.Slo.{slo_in}
+use Rattle.object_terms.specs.declared.Object.{Object}
+use Rattle.object_terms.specs.declared.Slo.{Slo}
+use Rattle.object_terms.specs.Slo.{slo_in}
 use Rattle.sample_book.specs.declared.Row.{Row}
 use Rattle.sample_book.specs.Rows.{current_rows}
 use Rattle.office_history.specs.Batches.{days_of, days_of_slo, objective_days}

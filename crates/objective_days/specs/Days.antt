@@ -2,9 +2,9 @@
 use Rattle.std.specs.Prelude.{ℕ, ◌+◌, ◌-◌, ◌/◌, ◌≤◌, ◌<◌, ◌||◌, Bool, true, false, List, length}
 use Rattle.std.specs.Prelude.{slice_index_or, Option, Some, None}
 use Rattle.slo_limits.specs.declared.TheConstants.{MINUTES_A_DAY}
-use Rattle.slo_objects.specs.declared.Object.{Object}
-use Rattle.slo_objects.specs.declared.Slo.{Slo}
-use Rattle.slo_objects.specs.Slo.{slo_in}
+use Rattle.object_terms.specs.declared.Object.{Object}
+use Rattle.object_terms.specs.declared.Slo.{Slo}
+use Rattle.object_terms.specs.Slo.{slo_in}
 use Rattle.std.specs.List.{list_any}
 use Rattle.slo_terms.specs.Sums.{sum_over}
 use Rattle.sample_book.specs.declared.Row.{Row}

@@ -4,16 +4,16 @@ ghost use Rattle.std.specs.Prelude.{sum_by};
 ghost use Rattle.std.specs.List.{All};
 ghost use Rattle.sample_book.specs.Rows.{current_rows};
 ghost use Rattle.slo_limits.specs.declared.TheConstants.{MAX_DAYS as most};
-ghost use Rattle.slo_objects.specs.Slo.{slo_in as slo_in_lem};
+ghost use Rattle.object_terms.specs.Slo.{slo_in as slo_in_lem};
 ghost use Rattle.office_history.specs.Batches.{days_of_slo, objective_days};
 ghost use Rattle.objective_days.specs.Days.{IsOnDays, IsWithin, objectives_of as objectives_of_lem};
 ghost use Rattle.objective_days.specs.Days.{objectives_in};
 
 use crate::days::{Days, days_of};
+use object_terms::Object;
 use sample_book::{Row, SampleBook};
 use slo_catalog::{Catalog, Member, slo_in};
 use slo_limits::MAX_DAYS;
-use slo_objects::Object;
 use std::alloc::{AllocError, Global};
 
 /// How many objectives an object has.

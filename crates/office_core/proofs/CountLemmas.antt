@@ -8,7 +8,7 @@ use Rattle.slice_method.specs.declared.Counts.{Counts}
 use Rattle.slice_method.specs.declared.Method.{Method}
 use Rattle.window_sums.specs.Shares.{slice_counts as share_counts}
 use Rattle.window_sums.specs.Slices.{CountedDays, counts_of}
-use Rattle.slo_objects.specs.declared.Object.{Object}
+use Rattle.object_terms.specs.declared.Object.{Object}
 use Rattle.office_history.specs.declared.Measure.{Measure}
 use Rattle.kept_sums.specs.Sums.{IsKept, row_counts, shares_by}
 use Rattle.kept_objectives.specs.Objectives.{IsObjective, KeepsSums, measures_of}

@@ -4,8 +4,8 @@ use Rattle.std.specs.List.{Contains}
 use Rattle.slice_method.specs.Leaves.{leaf}
 use Rattle.window_sums.specs.Slices.{CountedDays, counts_of}
 use Rattle.alert_line.specs.Line.{Agrees, Line}
-use Rattle.slo_catalog.specs.declared.Binding.{Binding}
-use Rattle.slo_objects.specs.declared.Object.{Object}
+use Rattle.catalog_terms.specs.declared.Binding.{Binding}
+use Rattle.object_terms.specs.declared.Object.{Object}
 use Rattle.office_history.specs.declared.Measure.{Measure}
 use Rattle.office_history.specs.Alerts.{Watch, watched}
 use Rattle.office_history.specs.Catalog.{catalog_in}

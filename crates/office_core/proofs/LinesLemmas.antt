@@ -1,7 +1,6 @@
 -- What an accepted command leaves of the catalog and the samples, which the lines are of.
 use Rattle.std.proofs.Common.{◌≡◌, ◌∙◌, ℕ, ◌<◌, ◌++◌, ◌∷◌, ◌||◌, [], Bool, true, false, List}
-use Rattle.std.proofs.Common.{Option}
-use Rattle.std.proofs.Common.{Some, None, ap, arith, cond, fold, length, refl, sym, subst}
+use Rattle.std.proofs.Common.{Option, Some, None, ap, arith, cond, fold, length, refl, sym, subst}
 use Rattle.std.specs.Global.{Vec}
 use Rattle.std.specs.List.{AllByRecursion}
 use Rattle.std.proofs.lemmas.List.{append-nil}
@@ -12,8 +11,8 @@ use Rattle.sample_book.specs.Exclusions.{excludes, exclusion_of, is_excluded}
 use Rattle.sample_book.specs.History as book
 use Rattle.sample_book.specs.Rows.{current_rows}
 use Rattle.sample_book.proofs.BatchLemmas.{current-append}
-use Rattle.slo_objects.specs.declared.Object.{Object}
-use Rattle.slo_objects.specs.declared.Kind.{Kind}
+use Rattle.object_terms.specs.declared.Object.{Object}
+use Rattle.object_terms.specs.declared.Kind.{Kind}
 use Rattle.record_form.specs.declared.Entry.{Entry}
 use Rattle.record_form.specs.declared.Outcome.TheVariants.{Changed}
 use Rattle.office_history.specs.declared.Judgement.TheVariants.{Accepted, Same}

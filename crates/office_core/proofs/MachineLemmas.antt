@@ -4,7 +4,7 @@ use Rattle.std.proofs.Common.{Bool, fold, max, length, Option, Some, None, IfSom
 use Rattle.std.specs.List.{All, AllByRecursion}
 use Rattle.std.proofs.lemmas.List.Elements.{All-from_recursion}
 use Rattle.slo_limits.specs.declared.TheConstants as most
-use Rattle.slo_objects.specs.declared.Object.{Object}
+use Rattle.object_terms.specs.declared.Object.{Object}
 use Rattle.sample_book.specs.declared.Exclusion.{Exclusion}
 use Rattle.sample_book.specs.declared.Row.{Row}
 use Rattle.notice_box.specs.declared.Notice.{Notice}

@@ -11,7 +11,7 @@ use Rattle.sample_book.specs.declared.RowVerdict.{RowVerdict}
 use Rattle.sample_book.specs.declared.Exclusion.{Exclusion}
 use Rattle.sample_book.specs.Exclusions.{exclusion_of}
 use Rattle.sample_book.specs.Puts.{verdicts}
-use Rattle.slo_objects.specs.declared.Object.{Object}
+use Rattle.object_terms.specs.declared.Object.{Object}
 use Rattle.office_history.specs.definition_verdict.Verdict.{Known}
 use Rattle.record_form.specs.declared.fields.TheConstants.{MAX_EXCLUDED_MINUTE}
 use Rattle.record_form.specs.declared.Command.{Command}
@@ -33,8 +33,7 @@ use Rattle.office_history.specs.Batches.{when, form_fault, conflict_fault, row_f
 use Rattle.office_history.specs.Batches.{batch_fault}
 use Rattle.office_history.specs.Objectives.{reading_named, slo_named}
 use Rattle.office_history.specs.Verdicts.{accepted, exclude_verdict, exclude_verdict_beside}
-use Rattle.office_history.specs.Verdicts.{is_range}
-use Rattle.office_history.specs.Verdicts.{samples_verdict, unless_refused, zone_verdict}
+use Rattle.office_history.specs.Verdicts.{is_range, samples_verdict, unless_refused, zone_verdict}
 use Rattle.office_history.specs.Verdicts.{zone_verdict_beside}
 use Rattle.office_history.specs.Judges.{JudgesText, Judges, known_of, refused, defined}
 use Rattle.office_core.specs.Machine.{HasRevision, HasRevisions}
@@ -59,7 +58,7 @@ small_zone name bytes false false j is e = grind (arith, is)
 in_office : (origin : ℕ) (value : Exclusion) (missing outside : Bool) (full : Bool)
     (j : Judgement) → not (is_range origin value) ≡ outside →
     unless_refused (first_some (when missing (refusals.NoSuchSlo
-    Rattle.slo_objects.specs.declared.kind.Kind.TheVariants.Slo value.slo) ∷ when outside
+    Rattle.object_terms.specs.declared.kind.Kind.TheVariants.Slo value.slo) ∷ when outside
     refusals.Range ∷ when full (refusals.Limit limits.Exclusions) ∷ [])) j ≡ Accepted →
     is_range origin value ≡ true
 in_office origin value true outside full j is e = cc e

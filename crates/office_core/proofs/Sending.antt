@@ -6,16 +6,16 @@ use Rattle.std.proofs.MapsCrossing as maps
 use Rattle.yaml_terms.specs.contracts.node.Node as node
 use Rattle.yaml_terms.proofs.node.Node.TheLaws.TheKnot.{send-Node, sync-Node}
 use Rattle.yaml_terms.specs.contracts.text.ScalarText as text
-use Rattle.slo_objects.specs.contracts.part.Part as part
-use Rattle.slo_objects.specs.contracts.sli.MetricSource as source
-use Rattle.slo_objects.specs.contracts.sli.Events as events
-use Rattle.slo_objects.specs.contracts.sli.Metric as metric
-use Rattle.slo_objects.specs.contracts.sli.Ratio as ratio
-use Rattle.slo_objects.specs.contracts.sli.RatioMetric as ratio_metric
-use Rattle.slo_objects.specs.contracts.sli.Sli as sli
-use Rattle.slo_objects.specs.contracts.slo.Slo as slo
-use Rattle.slo_objects.specs.contracts.object.Body as body
-use Rattle.slo_objects.specs.contracts.object.Object as object
+use Rattle.object_terms.specs.contracts.free_part.FreePart as part
+use Rattle.object_terms.specs.contracts.sli.MetricSource as source
+use Rattle.object_terms.specs.contracts.sli.Events as events
+use Rattle.object_terms.specs.contracts.sli.Metric as metric
+use Rattle.object_terms.specs.contracts.sli.Ratio as ratio
+use Rattle.object_terms.specs.contracts.sli.RatioMetric as ratio_metric
+use Rattle.object_terms.specs.contracts.sli.Sli as sli
+use Rattle.object_terms.specs.contracts.slo.Slo as slo
+use Rattle.object_terms.specs.contracts.object.Body as body
+use Rattle.object_terms.specs.contracts.object.Object as object
 use Rattle.slo_catalog.specs.contracts.member.Member as member
 use Rattle.slo_catalog.specs.contracts.catalog.Catalog as catalog
 use Rattle.office_derived.specs.contracts.derived.Derived as derived

@@ -20,7 +20,7 @@ use Rattle.office_derived.specs.declared.Work.TheVariants as works
 use Rattle.watched_objectives.specs.Lines.{HasLines, LinesKept}
 use Rattle.watched_objectives.specs.Plans.{IsLinesPlan}
 use Rattle.watched_objectives.specs.declared.LinesPlan.{LinesPlan}
-use Rattle.slo_objects.specs.declared.Object.{Object}
+use Rattle.object_terms.specs.declared.Object.{Object}
 use Rattle.office_core.specs.declared.machine.Pending.{Pending}
 use Rattle.office_core.specs.declared.machine.Verdict.{Verdict}
 use Rattle.office_core.specs.declared.machine.Verdict.TheVariants as verdicts

@@ -33,6 +33,7 @@ use crate::commands::{apply, judge, make_room};
 use crate::lines::plan_of;
 use alert_line::AlertLine;
 use burn_core::State;
+use catalog_terms::Binding;
 use exact_fraction::Label;
 use history_answers::{answer, state_of};
 use kept_objectives::KeptSums;
@@ -44,7 +45,7 @@ use record_form::{
 };
 use sample_book::SampleBook;
 use sample_changes::measure_at;
-use slo_catalog::{Binding, Catalog};
+use slo_catalog::Catalog;
 use slo_limits::RANGE_MINUTES;
 use std::alloc::{AllocError, Global};
 use std::marker::Model;

@@ -6,7 +6,7 @@ use Rattle.std.proofs.lemmas.Slice.Eq.{bytes_eq-Decides}
 use Rattle.slice_method.specs.declared.Reading.{Reading}
 use Rattle.slice_method.specs.Readings.{HasForm}
 use Rattle.sample_book.specs.declared.Row.{Row}
-use Rattle.kept_objectives.specs.slo_objects.declared.Object.{Object}
+use Rattle.object_terms.specs.declared.Object.{Object}
 use Rattle.kept_objectives.specs.kept_sums.Sums.{Fits}
 use Rattle.kept_objectives.specs.declared.ObjectiveSums.{ObjectiveSums}
 use Rattle.kept_objectives.specs.Objectives.{IsObjective}

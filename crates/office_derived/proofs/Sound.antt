@@ -4,7 +4,7 @@ use Rattle.std.specs.List.{All}
 use Rattle.slo_limits.specs.declared.TheConstants as most
 use Rattle.sample_book.specs.declared.Exclusion.{Exclusion}
 use Rattle.sample_book.specs.declared.Row.{Row}
-use Rattle.kept_objectives.specs.slo_objects.declared.Object.{Object}
+use Rattle.object_terms.specs.declared.Object.{Object}
 use Rattle.kept_objectives.specs.declared.ObjectiveSums.{ObjectiveSums}
 use Rattle.kept_objectives.specs.Objectives.{KeepsSums}
 use Rattle.kept_objectives.specs.office_history.Notices.{waiting}

@@ -2,9 +2,11 @@
 
 use crate::zones::Zones;
 use burn_core::State;
-use kept_objectives::{Binding, Catalog, KeptSums};
+use catalog_terms::Binding;
+use kept_objectives::KeptSums;
 use notice_box::NoticeBox;
 use sample_book::SampleBook;
+use slo_catalog::Catalog;
 
 /// What the history comes to.
 #[derive(Drop)]

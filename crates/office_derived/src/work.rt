@@ -2,9 +2,12 @@
 
 use crate::tally::Tally;
 use burn_core::State;
+use catalog_terms::Binding;
 use exact_fraction::{Bytes, Label, ZoneName};
-use kept_objectives::{Binding, Catalog, Kind, Outcome, Refusal, Rows, SumsPlan};
+use kept_objectives::{Outcome, Refusal, Rows, SumsPlan};
+use object_terms::Kind;
 use sample_book::{Exclusion, RowVerdict};
+use slo_catalog::Catalog;
 use zone_calendar::Zone;
 
 /// An accepted command, with what was found out about it.

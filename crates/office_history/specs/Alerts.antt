@@ -13,17 +13,17 @@ use Rattle.burn_core.specs.declared.State.TheVariants.{Quiet}
 use Rattle.burn_core.specs.Alert.{lookback_of, wait_of}
 use Rattle.burn_core.specs.Condition.{condition}
 use Rattle.burn_core.specs.Timeline.{is_active, state_of}
-use Rattle.definition_verdict.specs.slo_objects.declared.kind.Kind.TheVariants as kinds
-use Rattle.definition_verdict.specs.slo_objects.declared.Object.{Object}
-use Rattle.definition_verdict.specs.slo_objects.declared.AlertAfter.{AlertAfter}
-use Rattle.definition_verdict.specs.slo_objects.declared.AlertCondition.{AlertCondition}
-use Rattle.definition_verdict.specs.slo_objects.declared.alert_condition.Condition.{Condition}
-use Rattle.definition_verdict.specs.slo_objects.declared.AlertPolicy.{AlertPolicy}
-use Rattle.definition_verdict.specs.slo_objects.AlertCondition.{condition_in}
-use Rattle.definition_verdict.specs.slo_catalog.declared.Binding.{Binding}
-use Rattle.definition_verdict.specs.slo_catalog.Bindings.{bindings, policy_named}
-use Rattle.definition_verdict.specs.slo_catalog.Keys.{member_of}
-use Rattle.definition_verdict.specs.slo_catalog.References.{names_in, page, ticket}
+use Rattle.object_terms.specs.declared.kind.Kind.TheVariants as kinds
+use Rattle.object_terms.specs.declared.Object.{Object}
+use Rattle.object_terms.specs.declared.AlertAfter.{AlertAfter}
+use Rattle.object_terms.specs.declared.AlertCondition.{AlertCondition}
+use Rattle.object_terms.specs.declared.alert_condition.Condition.{Condition}
+use Rattle.object_terms.specs.declared.AlertPolicy.{AlertPolicy}
+use Rattle.object_terms.specs.AlertCondition.{condition_in}
+use Rattle.catalog_terms.specs.declared.Binding.{Binding}
+use Rattle.catalog_terms.specs.Bindings.{bindings, policy_named}
+use Rattle.catalog_terms.specs.Keys.{member_of}
+use Rattle.catalog_terms.specs.References.{names_in, page, ticket}
 use Rattle.window_sums.specs.Slices.{width_of}
 use Rattle.office_history.specs.declared.measure.Measure.{Measure}
 use Rattle.office_history.specs.Counts.{Samples, leaf_at, sum_between}

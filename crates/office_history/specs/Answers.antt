@@ -6,19 +6,18 @@ use Rattle.slo_limits.specs.declared.TheConstants.{MAX_TIMELINE}
 use Rattle.exact_fraction.specs.declared.Leaf.{Leaf}
 use Rattle.slo_terms.specs.Budget.{burn_of, error_rate_of, remaining_of}
 use Rattle.yaml_terms.specs.Spelling.{writing}
-use Rattle.definition_verdict.specs.slo_objects.Document.{written}
-use Rattle.definition_verdict.specs.slo_objects.declared.Object.{Object}
-use Rattle.definition_verdict.specs.slo_objects.declared.Slo.{Slo}
-use Rattle.definition_verdict.specs.slo_catalog.Keys.{member_of}
+use Rattle.object_terms.specs.Document.{written}
+use Rattle.object_terms.specs.declared.Object.{Object}
+use Rattle.object_terms.specs.declared.Slo.{Slo}
+use Rattle.catalog_terms.specs.Keys.{member_of}
 use Rattle.burn_core.specs.Timeline.{AreSpansOf}
 use Rattle.definition_verdict.specs.notice_box.declared.Notice.{Notice}
 use Rattle.definition_verdict.specs.record_form.declared.BudgetRow.{BudgetRow}
 use Rattle.definition_verdict.specs.record_form.declared.Outcome.{Outcome}
 use Rattle.definition_verdict.specs.record_form.declared.Outcome.TheVariants.{ObjectList}
 use Rattle.definition_verdict.specs.record_form.declared.Outcome.TheVariants.{ObjectText, Budgets}
-use Rattle.definition_verdict.specs.record_form.declared.Outcome.TheVariants.{Burn}
-use Rattle.definition_verdict.specs.record_form.declared.Outcome.TheVariants.{Timeline, Notices}
-use Rattle.definition_verdict.specs.record_form.declared.Outcome.TheVariants.{Refused}
+use Rattle.definition_verdict.specs.record_form.declared.Outcome.TheVariants.{Burn, Timeline}
+use Rattle.definition_verdict.specs.record_form.declared.Outcome.TheVariants.{Notices, Refused}
 use Rattle.definition_verdict.specs.record_form.declared.Query.{Query}
 use Rattle.definition_verdict.specs.record_form.declared.Query.TheVariants as queries
 use Rattle.definition_verdict.specs.record_form.declared.Refusal.{Refusal}

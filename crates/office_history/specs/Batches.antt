@@ -13,9 +13,9 @@ use Rattle.sample_book.specs.declared.RowVerdict.TheVariants.{Newer, Repeated, S
 use Rattle.sample_book.specs.Counting.{is_of}
 use Rattle.sample_book.specs.Puts.{verdicts, is_new}
 use Rattle.slo_terms.specs.Rows.{first_of_each}
-use Rattle.definition_verdict.specs.slo_objects.declared.Object.{Object}
-use Rattle.definition_verdict.specs.slo_objects.declared.Slo.{Slo}
-use Rattle.definition_verdict.specs.slo_objects.Slo.{slo_in}
+use Rattle.object_terms.specs.declared.Object.{Object}
+use Rattle.object_terms.specs.declared.Slo.{Slo}
+use Rattle.object_terms.specs.Slo.{slo_in}
 use Rattle.definition_verdict.specs.record_form.declared.Refusal.{Refusal}
 use Rattle.definition_verdict.specs.record_form.declared.Refusal.TheVariants as refusals
 use Rattle.definition_verdict.specs.record_form.declared.Outcome.{Outcome}

@@ -4,11 +4,10 @@ use Rattle.std.specs.List.{flat_map}
 use Rattle.std.specs.Str.Lines.{lines}
 use Rattle.yaml_terms.specs.Tree.{Tree}
 use Rattle.yaml_terms.specs.Text.{nodes_of, without_mark}
-use Rattle.definition_verdict.specs.slo_objects.Document.{objects_of}
-use Rattle.definition_verdict.specs.slo_objects.declared.Object.{Object}
-use Rattle.definition_verdict.specs.slo_objects.declared.ObjectFault.{ObjectFault}
-use Rattle.definition_verdict.specs.slo_catalog.Catalog.{Change, Defined, Removed, with_member}
-use Rattle.definition_verdict.specs.slo_catalog.Catalog.{without}
+use Rattle.object_terms.specs.Document.{objects_of}
+use Rattle.object_terms.specs.declared.Object.{Object}
+use Rattle.object_terms.specs.declared.ObjectFault.{ObjectFault}
+use Rattle.catalog_terms.specs.Catalog.{Change, Defined, Removed, with_member, without}
 use Rattle.definition_verdict.specs.record_form.declared.Command.{Command}
 use Rattle.definition_verdict.specs.record_form.declared.Command.TheVariants.{Define, Remove}
 use Rattle.definition_verdict.specs.record_form.declared.Entry.{Entry}

@@ -15,5 +15,3 @@ pub mod Outcomes
 pub mod Legal
 pub use Rattle.definition_verdict.specs as definition_verdict
 pub use Rattle.definition_verdict.specs.record_form as record_form
-pub use Rattle.definition_verdict.specs.slo_catalog as slo_catalog
-pub use Rattle.definition_verdict.specs.slo_objects as slo_objects

@@ -6,8 +6,8 @@ use Rattle.burn_core.specs.declared.State.{State}
 use Rattle.burn_core.specs.declared.State.TheVariants.{Quiet, NoData, Breaching}
 use Rattle.burn_core.specs.Alert.{flag_of}
 use Rattle.definition_verdict.specs.notice_box.declared.Notice.{Notice}
-use Rattle.definition_verdict.specs.slo_catalog.declared.Binding.{Binding}
-use Rattle.definition_verdict.specs.slo_objects.declared.Object.{Object}
+use Rattle.catalog_terms.specs.declared.Binding.{Binding}
+use Rattle.object_terms.specs.declared.Object.{Object}
 use Rattle.definition_verdict.specs.record_form.declared.Command.{Command}
 use Rattle.definition_verdict.specs.record_form.declared.Command.TheVariants.{Tick, Take}
 use Rattle.definition_verdict.specs.record_form.declared.Entry.{Entry}

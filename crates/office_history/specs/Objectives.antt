@@ -5,18 +5,18 @@ use Rattle.exact_fraction.specs.declared.Op.TheVariants.{Gte}
 use Rattle.slice_method.specs.declared.Reading.{Reading}
 use Rattle.slice_method.specs.declared.Method.{Method}
 use Rattle.slice_method.specs.declared.Method.TheVariants as methods
-use Rattle.definition_verdict.specs.slo_objects.declared.kind.Kind.TheVariants as kinds
-use Rattle.definition_verdict.specs.slo_objects.declared.Object.{Object}
-use Rattle.definition_verdict.specs.slo_objects.declared.Sli.{Sli}
-use Rattle.definition_verdict.specs.slo_objects.declared.SliceTarget.{SliceTarget}
-use Rattle.definition_verdict.specs.slo_objects.declared.SliceWidth.{SliceWidth}
-use Rattle.definition_verdict.specs.slo_objects.declared.Slo.{Slo}
-use Rattle.definition_verdict.specs.slo_objects.declared.slo.BudgetingMethod.{BudgetingMethod}
-use Rattle.definition_verdict.specs.slo_objects.declared.slo.BudgetingMethod.TheVariants as ways
-use Rattle.definition_verdict.specs.slo_objects.declared.slo.Objective.{Objective}
-use Rattle.definition_verdict.specs.slo_objects.Slo.{slo_in}
-use Rattle.definition_verdict.specs.slo_catalog.Keys.{member_of}
-use Rattle.definition_verdict.specs.slo_catalog.NeedsOp.{sli_named}
+use Rattle.object_terms.specs.declared.kind.Kind.TheVariants as kinds
+use Rattle.object_terms.specs.declared.Object.{Object}
+use Rattle.object_terms.specs.declared.Sli.{Sli}
+use Rattle.object_terms.specs.declared.SliceTarget.{SliceTarget}
+use Rattle.object_terms.specs.declared.SliceWidth.{SliceWidth}
+use Rattle.object_terms.specs.declared.Slo.{Slo}
+use Rattle.object_terms.specs.declared.slo.BudgetingMethod.{BudgetingMethod}
+use Rattle.object_terms.specs.declared.slo.BudgetingMethod.TheVariants as ways
+use Rattle.object_terms.specs.declared.objective.Objective.{Objective}
+use Rattle.object_terms.specs.Slo.{slo_in}
+use Rattle.catalog_terms.specs.Keys.{member_of}
+use Rattle.catalog_terms.specs.NeedsOp.{sli_named}
 use Rattle.definition_verdict.specs.Readings.{reading_of}
 use Rattle.office_history.specs.declared.measure.Measure.{Measure}
 

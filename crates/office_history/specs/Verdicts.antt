@@ -13,13 +13,13 @@ use Rattle.sample_book.specs.Exclusions.{exclusion_of}
 use Rattle.sample_book.specs.History.{is_put}
 use Rattle.sample_book.specs.Puts.{verdicts}
 use Rattle.sample_book.specs.Rows.{current_rows}
-use Rattle.definition_verdict.specs.slo_objects.declared.kind.Kind.{Kind}
-use Rattle.definition_verdict.specs.slo_objects.declared.kind.Kind.TheVariants as kinds
-use Rattle.definition_verdict.specs.slo_objects.declared.Object.{Object}
-use Rattle.definition_verdict.specs.slo_catalog.declared.RemoveFault.{RemoveFault}
-use Rattle.definition_verdict.specs.slo_catalog.declared.RemoveFault.TheVariants as removal
-use Rattle.definition_verdict.specs.slo_catalog.Remove.{remaining_members}
-use Rattle.definition_verdict.specs.zone_calendar.ZoneBytes.{zone_of}
+use Rattle.object_terms.specs.declared.kind.Kind.{Kind}
+use Rattle.object_terms.specs.declared.kind.Kind.TheVariants as kinds
+use Rattle.object_terms.specs.declared.Object.{Object}
+use Rattle.catalog_terms.specs.declared.RemoveFault.{RemoveFault}
+use Rattle.catalog_terms.specs.declared.RemoveFault.TheVariants as removal
+use Rattle.catalog_terms.specs.Remove.{remaining_members}
+use Rattle.zone_calendar.specs.ZoneBytes.{zone_of}
 use Rattle.definition_verdict.specs.notice_box.declared.Notice.{Notice}
 use Rattle.definition_verdict.specs.record_form.declared.Outcome.TheVariants.{Changed}
 use Rattle.definition_verdict.specs.record_form.declared.Refusal.{Refusal}

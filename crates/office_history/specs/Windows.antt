@@ -2,10 +2,10 @@
 use Rattle.std.specs.Prelude.{◌≡◌, ℕ, ◌-◌, List, Option, Some, None}
 use Rattle.slo_duration.specs.declared.Duration.{Duration}
 use Rattle.slo_duration.specs.Minutes.{minutes_of}
-use Rattle.definition_verdict.specs.zone_calendar.Window.{IsLastStart}
-use Rattle.definition_verdict.specs.zone_calendar.Zone.{ZoneText}
-use Rattle.definition_verdict.specs.slo_objects.declared.slo.Calendar.{Calendar}
-use Rattle.definition_verdict.specs.slo_objects.declared.slo.TimeWindow.{TimeWindow}
+use Rattle.zone_calendar.specs.Window.{IsLastStart}
+use Rattle.zone_calendar.specs.Zone.{ZoneText}
+use Rattle.object_terms.specs.declared.window.Calendar.{Calendar}
+use Rattle.object_terms.specs.declared.window.TimeWindow.{TimeWindow}
 use Rattle.office_history.specs.Zones.{zone_named}
 
 -- the last start of a calendar at or before a minute, of all that lie below the horizon, by the

@@ -3,8 +3,8 @@ use Rattle.std.specs.Prelude.{ℕ, cond, List, [], ◌∷◌, Option, Some, opti
 use Rattle.std.specs.Prelude.{codes}
 use Rattle.std.specs.List.{flat_map, find}
 use Rattle.std.specs.Str.{bytes_eq}
-use Rattle.definition_verdict.specs.zone_calendar.Zone.{ZoneText, utc_text}
-use Rattle.definition_verdict.specs.zone_calendar.ZoneBytes.{zone_of}
+use Rattle.zone_calendar.specs.Zone.{ZoneText, utc_text}
+use Rattle.zone_calendar.specs.ZoneBytes.{zone_of}
 use Rattle.definition_verdict.specs.record_form.declared.Command.{Command}
 use Rattle.definition_verdict.specs.record_form.declared.Command.TheVariants.{PutZone}
 use Rattle.definition_verdict.specs.record_form.declared.Entry.{Entry}

@@ -7,8 +7,6 @@
 mod judgement;
 mod measure;
 
-pub use definition_verdict::{
-    Binding, Catalog, Kind, LimitName, Outcome, Refusal, Rows, reading_of,
-};
+pub use definition_verdict::{LimitName, Outcome, Refusal, Rows, reading_of};
 pub use judgement::Judgement;
 pub use measure::Measure;

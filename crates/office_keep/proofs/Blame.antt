@@ -1,7 +1,7 @@
 -- Neither a judgement nor an answer blames the disk.
 use Rattle.std.proofs.Common.{◌≡◌, ℕ, ◌+◌, ◌-◌, ◌||◌, ◌==◌, Bool, true, false, cond, nat_lt, List}
-use Rattle.std.proofs.Common.{[], ◌∷◌, length}
-use Rattle.std.proofs.Common.{Option, Some, None, Result, Ok, Err, refl, sym, ap, ◌∙◌}
+use Rattle.std.proofs.Common.{[], ◌∷◌, length, Option, Some, None, Result, Ok, Err, refl, sym, ap}
+use Rattle.std.proofs.Common.{◌∙◌}
 use Rattle.std.specs.List.{list_any}
 use Rattle.std.specs.Str.{bytes_eq}
 use Rattle.slo_limits.specs.declared.TheConstants as most
@@ -13,11 +13,11 @@ use Rattle.sample_book.specs.declared.RowVerdict.{RowVerdict}
 use Rattle.sample_book.specs.Exclusions.{exclusion_of}
 use Rattle.sample_book.specs.History.{is_put}
 use Rattle.sample_book.specs.Puts.{verdicts}
-use Rattle.slo_objects.specs.declared.Object.{Object}
-use Rattle.slo_objects.specs.declared.Slo.{Slo}
-use Rattle.slo_catalog.specs.declared.RemoveFault.{RemoveFault}
-use Rattle.slo_catalog.specs.Keys.{member_of}
-use Rattle.slo_catalog.specs.Remove.{remaining_members}
+use Rattle.object_terms.specs.declared.Object.{Object}
+use Rattle.object_terms.specs.declared.Slo.{Slo}
+use Rattle.catalog_terms.specs.declared.RemoveFault.{RemoveFault}
+use Rattle.catalog_terms.specs.Keys.{member_of}
+use Rattle.catalog_terms.specs.Remove.{remaining_members}
 use Rattle.definition_verdict.specs.Verdict.{Known}
 use Rattle.record_form.specs.declared.Command.{Command}
 use Rattle.record_form.specs.declared.Command.TheVariants.{Define, Remove, PutZone, Samples}
@@ -47,12 +47,12 @@ use Rattle.office_history.specs.Notices.{notices_in, samples_in, told_at, waitin
 use Rattle.office_history.specs.Objectives.{measure_at, measures_named, slo_named}
 use Rattle.office_history.specs.Outcomes.{outcome_of}
 use Rattle.office_history.specs.Verdicts.{accepted, exclude_verdict_beside, first_row_of}
-use Rattle.office_history.specs.Verdicts.{is_waiting}
-use Rattle.office_history.specs.Verdicts.{lift_verdict_of, new_exclusion_fault, new_zone_fault}
-use Rattle.office_history.specs.Verdicts.{same_content, samples_fault, unless_refused}
-use Rattle.office_history.specs.Verdicts.{unless_removal, unless_sampled, zone_verdict_beside}
+use Rattle.office_history.specs.Verdicts.{is_waiting, lift_verdict_of, new_exclusion_fault}
+use Rattle.office_history.specs.Verdicts.{new_zone_fault, same_content, samples_fault}
+use Rattle.office_history.specs.Verdicts.{unless_refused, unless_removal, unless_sampled}
+use Rattle.office_history.specs.Verdicts.{zone_verdict_beside}
 use Rattle.office_history.specs.Windows.{WindowBegins}
-use Rattle.slo_objects.specs.slo_duration.Minutes.{minutes_of}
+use Rattle.slo_duration.specs.Minutes.{minutes_of}
 use Rattle.office_history.specs.Zones.{bytes_named, utc, zones_in}
 
 -- the outcome is a fault of the disk

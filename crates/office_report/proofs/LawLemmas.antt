@@ -4,8 +4,8 @@ use Rattle.std.proofs.Common.{Option, Some, None, refl, ap, sym, subst, flat_map
 use Rattle.std.proofs.lemmas.Bool.Decides.{nat_tests}
 use Rattle.std.specs.List.{AllByRecursion}
 use Rattle.burn_core.specs.declared.State.{State}
-use Rattle.slo_objects.specs.declared.Slo.{Slo}
-use Rattle.slo_catalog.specs.declared.Binding.{Binding}
+use Rattle.object_terms.specs.declared.Slo.{Slo}
+use Rattle.catalog_terms.specs.declared.Binding.{Binding}
 use Rattle.record_form.specs.declared.Outcome.{Outcome}
 use Rattle.record_form.specs.declared.Outcome.TheVariants.{Refused}
 use Rattle.record_form.specs.declared.Query.TheVariants as queries

@@ -1,12 +1,12 @@
 -- The lines of SLOs, one after another.
-use Rattle.std.proofs.Common.{◌≡◌, ◌∙◌, ◌<◌, ◌≤◌, ℕ, ◌+◌, suc, List, [], ◌∷◌, ◌++◌, length}
-use Rattle.std.proofs.Common.{get_or, drop, Option, Some, None, Result, Ok, Err, IfOk, refl, ap}
-use Rattle.std.proofs.Common.{sym, subst, flat_map, append_assoc, add-one}
+use Rattle.std.proofs.Common.{◌≡◌, ◌∙◌, ◌<◌, ◌≤◌, ℕ, ◌+◌, suc, List, [], ◌∷◌, ◌++◌, length, get_or}
+use Rattle.std.proofs.Common.{drop, Option, Some, None, Result, Ok, Err, IfOk, refl, ap, sym, subst}
+use Rattle.std.proofs.Common.{flat_map, append_assoc, add-one}
 use Rattle.std.proofs.Math.Seq.{drop-cons}
 use Rattle.std.proofs.lemmas.List.{append-nil, drop_all}
 use Rattle.std.specs.List.{enumerate_from}
 use Rattle.burn_core.specs.declared.State.{State}
-use Rattle.slo_catalog.specs.declared.Binding.{Binding}
+use Rattle.catalog_terms.specs.declared.Binding.{Binding}
 use Rattle.record_form.specs.declared.BudgetRow.{BudgetRow}
 use Rattle.office_history.specs.declared.Measure.{Measure}
 use Rattle.office_history.specs.Answers.{budget_row, budget_rows}

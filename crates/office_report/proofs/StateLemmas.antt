@@ -1,7 +1,7 @@
 -- Each binding of the catalog stands as its state says.
-use Rattle.std.proofs.Common.{◌≡◌, ◌∙◌, ℕ, ◌==◌, ◌||◌, ◌&&◌, Bool, true, cond, List, [], ◌∷◌}
-use Rattle.std.proofs.Common.{◌++◌, map, Option, Some, None, option_map, unwrap_or, refl, ap}
-use Rattle.std.proofs.Common.{sym, append_assoc, arith}
+use Rattle.std.proofs.Common.{◌≡◌, ◌∙◌, ℕ, ◌==◌, ◌||◌, ◌&&◌, Bool, true, cond, List, [], ◌∷◌, ◌++◌}
+use Rattle.std.proofs.Common.{map, Option, Some, None, option_map, unwrap_or, refl, ap, sym}
+use Rattle.std.proofs.Common.{append_assoc, arith}
 use Rattle.std.proofs.Math.Bool.{or-true}
 use Rattle.std.proofs.lemmas.Bool.Decides.{nat_tests}
 use Rattle.std.proofs.lemmas.List.Folds.{list_any-append}
@@ -10,8 +10,8 @@ use Rattle.std.specs.List.{list_any}
 use Rattle.std.specs.Str.{bytes_eq}
 use Rattle.burn_core.specs.declared.State.{State}
 use Rattle.burn_core.specs.declared.State.TheVariants.{Quiet}
-use Rattle.slo_catalog.specs.declared.Binding.{Binding}
-use Rattle.slo_catalog.specs.Bindings.{bindings}
+use Rattle.catalog_terms.specs.declared.Binding.{Binding}
+use Rattle.catalog_terms.specs.Bindings.{bindings}
 use Rattle.office_history.specs.Alerts.{Watch, same_binding, state_at, state_if, watch_of}
 use Rattle.office_history.specs.Catalog.{catalog_in}
 use Rattle.office_history.specs.History.{Office}

@@ -2,7 +2,7 @@
 use Rattle.std.specs.Prelude.{ℕ, unwrap_or}
 use Rattle.burn_core.specs.declared.State.{State}
 use Rattle.burn_core.specs.declared.State.TheVariants.{Quiet}
-use Rattle.slo_catalog.specs.declared.Binding.{Binding}
+use Rattle.catalog_terms.specs.declared.Binding.{Binding}
 use Rattle.office_history.specs.History.{Office}
 use Rattle.office_core.specs.history_answers.States.{binding_state}
 

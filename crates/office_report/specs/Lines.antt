@@ -8,7 +8,7 @@ use Rattle.exact_fraction.specs.DecimalText.{percent_text}
 use Rattle.exact_fraction.specs.Ratio.{Ratio}
 use Rattle.burn_core.specs.declared.State.{State}
 use Rattle.burn_core.specs.Alert.{state_word}
-use Rattle.slo_catalog.specs.declared.Binding.{Binding}
+use Rattle.catalog_terms.specs.declared.Binding.{Binding}
 use Rattle.record_form.specs.declared.BudgetRow.{BudgetRow}
 
 -- what was good, of what was counted, and what is left of the budget, in percent (byte 37)

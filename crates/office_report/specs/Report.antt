@@ -3,11 +3,11 @@ use Rattle.std.specs.Prelude.{◌≡◌, ℕ, Bool, true, false, List, map, filt
 use Rattle.std.specs.Prelude.{None}
 use Rattle.std.specs.List.{AllByRecursion, enumerate_from, flat_map}
 use Rattle.burn_core.specs.declared.State.{State}
-use Rattle.slo_objects.specs.declared.Kind.{Kind}
-use Rattle.slo_objects.specs.declared.Kind.TheVariants as kinds
-use Rattle.slo_objects.specs.declared.Object.{Object}
-use Rattle.slo_objects.specs.declared.Slo.{Slo}
-use Rattle.slo_catalog.specs.declared.Binding.{Binding}
+use Rattle.object_terms.specs.declared.Kind.{Kind}
+use Rattle.object_terms.specs.declared.Kind.TheVariants as kinds
+use Rattle.object_terms.specs.declared.Object.{Object}
+use Rattle.object_terms.specs.declared.Slo.{Slo}
+use Rattle.catalog_terms.specs.declared.Binding.{Binding}
 use Rattle.office_history.specs.declared.Measure.{Measure}
 use Rattle.office_history.specs.Answers.{budget_row}
 use Rattle.office_history.specs.Catalog.{catalog_in}

@@ -1,7 +1,7 @@
 -- What is told of one SLO.
 use Rattle.std.specs.Prelude.{◌≡◌, ℕ, List, Option, option_map}
 use Rattle.burn_core.specs.declared.State.{State}
-use Rattle.slo_catalog.specs.declared.Binding.{Binding}
+use Rattle.catalog_terms.specs.declared.Binding.{Binding}
 use Rattle.record_form.specs.declared.BudgetRow.{BudgetRow}
 use Rattle.office_history.specs.declared.Measure.{Measure}
 use Rattle.office_history.specs.Answers.{budget_rows}

@@ -7,11 +7,12 @@ ghost use Rattle.office_report.specs.Rows.{AreRows, AreSloLines};
 
 use crate::lines::{counted_lines, unbegun_lines};
 use burn_core::State;
+use catalog_terms::Binding;
 use exact_fraction::Label;
+use object_terms::Kind;
 use office_core::{Core, measures_named};
 use record_form::{BudgetRows, Outcome, Query};
-use slo_catalog::{Binding, Catalog};
-use slo_objects::Kind;
+use slo_catalog::Catalog;
 use std::alloc::{AllocError, Global};
 
 fn is_slo(kind: Kind) -> bool

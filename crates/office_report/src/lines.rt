@@ -10,10 +10,10 @@ ghost use Rattle.office_report.specs.Lines.{state_line as state_line_lem};
 ghost use Rattle.office_report.specs.Lines.{state_lines as state_lines_lem, unbegun_words};
 
 use burn_core::State;
+use catalog_terms::Binding;
 use exact_fraction::{Bytes, Fraction, Label, write_percent};
 use office_history::Measure;
 use record_form::BudgetRow;
-use slo_catalog::Binding;
 use std::alloc::{AllocError, Global};
 
 // What was good, of what was counted, and what is left of the budget.

@@ -7,8 +7,8 @@ ghost use Rattle.office_core.specs.history_answers.States.{binding_state};
 ghost use Rattle.office_report.specs.Bound.{with_state};
 
 use burn_core::State;
+use catalog_terms::Binding;
 use office_core::Core;
-use slo_catalog::Binding;
 use std::alloc::{AllocError, Global};
 
 // How the alert of a binding stands: quiet where there is none.

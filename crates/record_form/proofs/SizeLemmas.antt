@@ -10,7 +10,7 @@ use Rattle.slice_method.specs.declared.amount.Amount.{Amount}
 use Rattle.slice_method.specs.declared.amount.Amount.TheVariants.{Counts, Value}
 use Rattle.sample_book.specs.declared.row.Row.{Row}
 use Rattle.sample_book.specs.declared.exclusions.Exclusion.{Exclusion}
-use Rattle.slo_objects.specs.declared.kind.Kind.{Kind}
+use Rattle.object_terms.specs.declared.kind.Kind.{Kind}
 use Rattle.slo_limits.specs.declared.TheConstants.{MAX_RECORD_BYTES, MAX_TEXT_BYTES, MAX_ZONE_BYTES}
 use Rattle.record_form.specs.declared.command.Command.{Command}
 use Rattle.record_form.specs.declared.command.Command.TheVariants.{Define, Remove, PutZone, Samples}

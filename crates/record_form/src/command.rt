@@ -2,8 +2,8 @@
 
 use crate::listed::Listed;
 use exact_fraction::{Bytes, Label, ZoneName};
+use object_terms::Kind;
 use sample_book::{Exclusion, Row};
-use slo_objects::Kind;
 
 /// Samples in the order in which they were sent.
 pub type Rows = Listed<Row>;

@@ -14,10 +14,10 @@ ghost use Rattle.record_form.specs.Reading.{Reads, ReadsAs, reading_behind};
 use crate::command::Rows;
 use crate::cursor::{Cursor, Unread};
 use exact_fraction::{Bytes, Decimal, Label, ZoneName, read_label, read_zone_name};
+use object_terms::Kind;
 use sample_book::{Exclusion, Row};
 use slice_method::Amount;
 use slo_limits::{MAX_BATCH_ROWS, MAX_DECIMAL, MAX_MINUTE, MAX_REVISION};
-use slo_objects::Kind;
 use std::alloc::Global;
 
 /// The greatest bound of an exclusion: above the end of any office's range.

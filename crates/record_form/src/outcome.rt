@@ -5,7 +5,7 @@ use crate::listed::Listed;
 use crate::refusal::Refusal;
 use exact_fraction::{Bytes, Fraction, Label};
 use notice_box::{Notice, State};
-use slo_objects::Kind;
+use object_terms::Kind;
 
 /// Kinds and names of objects, by kind and then by name.
 pub type ObjectNames = Listed<(Kind, Label)>;

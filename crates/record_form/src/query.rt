@@ -2,7 +2,8 @@
 
 use crate::command::Command;
 use exact_fraction::Label;
-use slo_objects::{Duration, Kind};
+use object_terms::Kind;
+use slo_duration::Duration;
 
 /// What is asked. Minutes are counted since 1970-01-01T00:00Z, objectives from 0.
 #[derive(Clone, Copy)]

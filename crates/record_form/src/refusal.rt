@@ -3,8 +3,8 @@
 use crate::limit_name::LimitName;
 use crate::yaml_word::YamlWord;
 use exact_fraction::{Label, Text, ZoneName};
+use object_terms::{Kind, Rule};
 use slice_method::Amount;
-use slo_objects::{Kind, Rule};
 
 /// The first rule that a request breaks. `row` and `document` are counted from 1, objectives from
 /// 0, minutes since 1970-01-01T00:00Z.

@@ -1,6 +1,6 @@
 -- The sums of the objectives follow batches, exclusions and liftings.
-use Rattle.std.proofs.Common.{◌≡◌, ℕ, ◌++◌, ◌∷◌, [], ◌&&◌, ◌||◌, ◌∙◌, Bool, List}
-use Rattle.std.proofs.Common.{true, false, not, if◌then◌else◌, refl, ap, sym, subst}
+use Rattle.std.proofs.Common.{◌≡◌, ℕ, ◌++◌, ◌∷◌, [], ◌&&◌, ◌||◌, ◌∙◌, Bool, List, true, false, not}
+use Rattle.std.proofs.Common.{if◌then◌else◌, refl, ap, sym, subst}
 use Rattle.std.specs.Global.{Vec}
 use Rattle.std.specs.List.{AllByRecursion, Contains}
 use Rattle.std.proofs.lemmas.List.Folds.{list_any-append}
@@ -14,14 +14,13 @@ use Rattle.sample_book.specs.Rows.{current_rows}
 use Rattle.sample_book.proofs.BatchLemmas.{current-append}
 use Rattle.window_sums.specs.Shares.{IsSumOf}
 use Rattle.window_sums.specs.Slices.{no_counts}
-use Rattle.slo_objects.specs.declared.Object.{Object}
+use Rattle.object_terms.specs.declared.Object.{Object}
 use Rattle.office_history.specs.declared.Measure.{Measure}
 use Rattle.office_history.specs.History.{Office, rows_in, with_entry}
 use Rattle.office_derived.specs.kept_sums.Sums.{row_counts, shares_by}
 use Rattle.office_derived.specs.kept_objectives.declared.ObjectiveSums.{ObjectiveSums}
 use Rattle.office_derived.specs.kept_objectives.Objectives.{AreKept, HaveForms, IsObjective}
-use Rattle.office_derived.specs.kept_objectives.Objectives.{KeepsSums}
-use Rattle.office_derived.specs.kept_objectives.Objectives.{measures_of}
+use Rattle.office_derived.specs.kept_objectives.Objectives.{KeepsSums, measures_of}
 use Rattle.office_derived.specs.declared.Derived.{Derived}
 use Rattle.office_derived.specs.declared.Tally.{Tally}
 use Rattle.office_derived.specs.declared.Work.TheVariants as works

@@ -15,7 +15,7 @@ use Rattle.sample_book.specs.declared.RowVerdict.{RowVerdict}
 use Rattle.sample_book.specs.declared.RowVerdict.TheVariants.{New, Newer, Repeated, Superseded}
 use Rattle.sample_book.specs.declared.RowVerdict.TheVariants.{Conflict}
 use Rattle.sample_book.specs.Puts.{is_conflict}
-use Rattle.slo_objects.specs.declared.Object.{Object}
+use Rattle.object_terms.specs.declared.Object.{Object}
 use Rattle.record_form.specs.declared.Refusal.{Refusal}
 use Rattle.record_form.specs.declared.Refusal.TheVariants as refusals
 use Rattle.office_history.specs.Lists.{first_some}

@@ -11,7 +11,7 @@ use Rattle.sample_book.specs.History.{is_put}
 use Rattle.sample_book.specs.Puts.{is_new, verdicts}
 use Rattle.sample_book.specs.Rows.{current_rows}
 use Rattle.sample_book.proofs.BatchLemmas.{current-append, length-verdicts, verdicts-over}
-use Rattle.slo_objects.specs.declared.Object.{Object}
+use Rattle.object_terms.specs.declared.Object.{Object}
 use Rattle.record_form.specs.declared.Refusal.{Refusal}
 use Rattle.record_form.specs.declared.Refusal.TheVariants as refusals
 use Rattle.record_form.specs.declared.LimitName.TheVariants as limits

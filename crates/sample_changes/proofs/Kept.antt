@@ -16,7 +16,7 @@ use Rattle.sample_book.specs.Puts.{verdicts}
 use Rattle.sample_book.proofs.CurrentLemmas.{current-push, settle}
 use Rattle.sample_book.proofs.RoomLemmas.{room-enough}
 use Rattle.sample_book.proofs.StandingLemmas.{cell_laws}
-use Rattle.slo_objects.specs.declared.Object.{Object}
+use Rattle.object_terms.specs.declared.Object.{Object}
 use Rattle.notice_box.specs.declared.Notice.{Notice}
 use Rattle.office_history.specs.Notices.{waiting}
 use Rattle.record_form.specs.declared.LimitName.TheVariants as limits
@@ -27,8 +27,7 @@ use Rattle.sample_book.specs.declared.Exclusion.{Exclusion}
 use Rattle.sample_book.specs.Exclusions.{exclusion_of}
 use Rattle.office_history.specs.declared.Judgement.TheVariants.{Accepted, Same, Refused}
 use Rattle.office_history.specs.Verdicts.{accepted, exclude_verdict_beside, lift_verdict_of}
-use Rattle.office_history.specs.Verdicts.{new_exclusion_fault}
-use Rattle.office_history.specs.Verdicts.{same_content, unless_refused}
+use Rattle.office_history.specs.Verdicts.{new_exclusion_fault, same_content, unless_refused}
 use Rattle.office_history.specs.Catalog.{catalog_in}
 use Rattle.office_history.specs.History.{Office, accepted_rows, exclusions_in, rows_in, with_entry}
 use Rattle.office_derived.specs.kept_objectives.Objectives.{KeepsSums}

@@ -23,7 +23,7 @@ use Rattle.sample_book.specs.Puts.{is_settled, verdicts}
 use Rattle.sample_book.specs.Rows.{current_rows, verdict_of}
 use Rattle.sample_book.proofs.BatchLemmas.{settled-once, settled-stays}
 use Rattle.sample_book.proofs.CameLemmas.{pass-current}
-use Rattle.slo_objects.specs.declared.Object.{Object}
+use Rattle.object_terms.specs.declared.Object.{Object}
 use Rattle.record_form.specs.declared.Command.{Command}
 use Rattle.record_form.specs.declared.Command.TheVariants.{Define, Remove, PutZone, Samples}
 use Rattle.record_form.specs.declared.Command.TheVariants.{Exclude, Lift, Tick, Take}

@@ -7,7 +7,7 @@ use Rattle.sample_book.specs.declared.RowVerdict.{RowVerdict}
 use Rattle.sample_book.specs.History.{is_put}
 use Rattle.sample_book.specs.Puts.{verdicts}
 use Rattle.sample_book.specs.Rows.{current_rows}
-use Rattle.slo_objects.specs.declared.Object.{Object}
+use Rattle.object_terms.specs.declared.Object.{Object}
 use Rattle.record_form.specs.declared.Refusal.{Refusal}
 use Rattle.record_form.specs.declared.Refusal.TheVariants as refusals
 use Rattle.record_form.specs.declared.LimitName.TheVariants as limits

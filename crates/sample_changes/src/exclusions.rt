@@ -19,13 +19,13 @@ ghost use Rattle.office_derived.specs.Derived.{entry_of};
 
 use crate::faults::limit;
 use exact_fraction::Label;
+use object_terms::Kind;
 use office_derived::{Derived, Judged, Work, accepted};
 use office_history::Judgement;
 use record_form::{LimitName, Outcome, Refusal};
 use sample_book::{Exclusion, SampleBook};
 use slo_catalog::{Catalog, slo_in};
 use slo_limits::{MAX_EXCLUSIONS, RANGE_MINUTES};
-use slo_objects::Kind;
 use std::alloc::AllocError;
 
 /// Whether no SLO has the name.

@@ -1,20 +1,20 @@
 -- What a definition that isn't refused makes of a catalog.
 use Rattle.std.proofs.Common.{◌≡◌, List, ◌++◌, map, Option, Some, None, Result, Ok, Err, IfOk}
 use Rattle.std.proofs.Common.{is_ok, refl, sym, ap, subst, true≢false}
-use Rattle.slo_objects.specs.declared.object.Object.{Object}
-use Rattle.slo_catalog.specs.declared.fault.CatalogFault.{CatalogFault}
-use Rattle.slo_catalog.specs.declared.fault.CatalogFault.TheVariants as faults
-use Rattle.slo_catalog.specs.declared.fault.DefineError.{DefineError}
-use Rattle.slo_catalog.specs.Keys.{IsSorted}
-use Rattle.slo_catalog.specs.Catalog.{Change, Defined, IsCatalog, with_members}
-use Rattle.slo_catalog.specs.References.{first_unresolved, IsLegal}
+use Rattle.object_terms.specs.declared.object.Object.{Object}
+use Rattle.catalog_terms.specs.declared.fault.CatalogFault.{CatalogFault}
+use Rattle.catalog_terms.specs.declared.fault.CatalogFault.TheVariants as faults
+use Rattle.catalog_terms.specs.declared.fault.DefineError.{DefineError}
+use Rattle.catalog_terms.specs.Keys.{IsSorted}
+use Rattle.catalog_terms.specs.Catalog.{Change, Defined, IsCatalog, with_members}
+use Rattle.catalog_terms.specs.References.{first_unresolved, IsLegal}
 use Rattle.slo_catalog.specs.Whole.{IsJoined, IsWhole}
-use Rattle.slo_catalog.specs.NeedsOp.{first_needing_op}
-use Rattle.slo_catalog.specs.Limits.{first_limit}
-use Rattle.slo_catalog.specs.Define.{unless, reserved_fault, duplicate_fault, unresolved_fault}
-use Rattle.slo_catalog.specs.Define.{needs_op_fault, first_reserved, first_duplicate}
-use Rattle.slo_catalog.specs.Define.{joined_members, proposed_members, within_limits, then_within}
-use Rattle.slo_catalog.specs.Define.{defined_members, Defines}
+use Rattle.catalog_terms.specs.NeedsOp.{first_needing_op}
+use Rattle.catalog_terms.specs.Limits.{first_limit}
+use Rattle.catalog_terms.specs.Define.{unless, reserved_fault, duplicate_fault, unresolved_fault}
+use Rattle.catalog_terms.specs.Define.{needs_op_fault, first_reserved, first_duplicate}
+use Rattle.catalog_terms.specs.Define.{joined_members, proposed_members, within_limits, then_within}
+use Rattle.catalog_terms.specs.Define.{defined_members, Defines}
 use Rattle.slo_catalog.proofs.LegalLemmas.{legal_defined}
 use Rattle.slo_catalog.proofs.WholeLemmas.{ops_of_none}
 use Rattle.slo_catalog.proofs.HistoryLemmas.{all_defined}

@@ -1,24 +1,23 @@
 -- The first object that is another than an earlier one of its kind and name is another than the
 -- first one of them, and than the one of them that stands among members.
-use Rattle.std.proofs.Common.{◌≡◌, ℕ, ◌<◌, ◌≤◌, ◌+◌, Bool, true, false, not, ◌&&◌, ◌||◌, cond}
-use Rattle.std.proofs.Common.{◌⊎◌, inl, inr, List, length, drop, get_or}
+use Rattle.std.proofs.Common.{◌≡◌, ℕ, ◌<◌, ◌≤◌, ◌+◌, Bool, true, false, not, ◌&&◌, ◌||◌, cond, ◌⊎◌}
+use Rattle.std.proofs.Common.{inl, inr, List, length, drop, get_or, [], ◌∷◌, ◌++◌, Option, Some}
+use Rattle.std.proofs.Common.{None, is_some, is_eq, refl, sym, ap, ap₂, ◌∙◌, subst, true≢false}
+use Rattle.std.proofs.Common.{append_assoc}
 use Rattle.std.proofs.lemmas.List.{drop_all, drop_more}
-use Rattle.std.proofs.Common.{[], ◌∷◌, ◌++◌, Option, Some, None, is_some, is_eq, refl, sym}
-use Rattle.std.proofs.Common.{ap, ap₂, ◌∙◌, subst, true≢false, append_assoc}
 use Rattle.std.specs.List.{AllByRecursion, list_any}
-use Rattle.std.proofs.lemmas.Cmp.{nat_list_eq_equiv}
+use Rattle.std.proofs.lemmas.Cmp.{nat_list_eq_equiv, tied_itself}
 use Rattle.yaml_terms.specs.Spelling.{writing}
-use Rattle.slo_objects.specs.declared.kind.Kind.{Kind}
-use Rattle.slo_objects.specs.declared.object.Object.{Object}
-use Rattle.slo_objects.specs.Document.{written}
-use Rattle.slo_catalog.specs.Keys.{is_key, member_of}
-use Rattle.slo_catalog.specs.Catalog.{with_member}
-use Rattle.slo_catalog.specs.Define.{is_same, is_other_than, first_other, first_duplicate, differs}
-use Rattle.slo_catalog.specs.Define.{first_differing}
+use Rattle.object_terms.specs.declared.kind.Kind.{Kind}
+use Rattle.object_terms.specs.declared.object.Object.{Object}
+use Rattle.object_terms.specs.Document.{written}
+use Rattle.catalog_terms.specs.Keys.{is_key, member_of}
+use Rattle.catalog_terms.specs.Catalog.{with_member}
+use Rattle.catalog_terms.specs.Define.{is_same, is_other_than, first_other, first_duplicate}
+use Rattle.catalog_terms.specs.Define.{differs, first_differing}
 use Rattle.slo_catalog.proofs.AmongLemmas.{Among, all_among}
 use Rattle.slo_catalog.proofs.KeyLemmas.{object_order, same_key}
 use Rattle.slo_catalog.proofs.FindLemmas.{both_keys, find_put}
-use Rattle.std.proofs.lemmas.Cmp.{tied_itself}
 
 same_itself : (o : Object) → is_same o o ≡ true
 same_itself o = nat_list_eq_equiv.refl (writing 0 (written o))

@@ -1,25 +1,24 @@
 -- Looking for an object among those that were put in their places.
 use Rattle.std.proofs.Common.{length, ◌≡◌, ℕ, Bool, true, false, ◌&&◌, cond, List, [], ◌∷◌, Option}
 use Rattle.std.proofs.Common.{Some, None, IfSome, All, refl, sym, ap, ap₂, ◌∙◌, true≢false, subst}
-use Rattle.std.proofs.Common.{Ordering, Less, Equal, Greater, is_eq, bytes_eq}
+use Rattle.std.proofs.Common.{Ordering, Less, Equal, Greater, is_eq, bytes_eq, Bor}
 use Rattle.std.specs.Ordering.{match_ordering}
 use Rattle.std.specs.Prelude.{◌+◌, unwrap_or}
 use Rattle.std.proofs.lemmas.List.Elements.{recursion_from_All}
 use Rattle.std.specs.List.{AllByRecursion}
 use Rattle.std.specs.Option.{option_copied}
-use Rattle.std.proofs.Common.{Bor}
 use Rattle.slo_catalog.proofs.KeyLemmas.{key_parts, same_key, equal_same}
-use Rattle.slo_objects.specs.declared.kind.Kind.{Kind}
-use Rattle.slo_objects.specs.declared.object.Object.{Object}
-use Rattle.slo_catalog.specs.Keys.{is_kind, is_key, object_cmp, member_of}
-use Rattle.slo_catalog.specs.Catalog.{with_member}
+use Rattle.object_terms.specs.declared.kind.Kind.{Kind}
+use Rattle.object_terms.specs.declared.object.Object.{Object}
+use Rattle.catalog_terms.specs.Keys.{is_kind, is_key, object_cmp, member_of}
+use Rattle.catalog_terms.specs.Catalog.{with_member}
 use Rattle.std.proofs.lemmas.Slice.Eq.{bytes_eq-Decides}
 use Rattle.yaml_terms.specs.Spelling.{writing}
-use Rattle.slo_objects.specs.Document.{written}
-use Rattle.slo_catalog.specs.Limits.{weight}
+use Rattle.object_terms.specs.Document.{written}
+use Rattle.catalog_terms.specs.Limits.{weight}
 use Rattle.slo_limits.specs.declared.TheConstants.{MAX_CATALOG_BYTES}
 use Rattle.yaml_terms.specs.Room.{up_to}
-use Rattle.slo_catalog.specs.Define.{is_same}
+use Rattle.catalog_terms.specs.Define.{is_same}
 
 -- objects of one kind and name answer each question about kind and name alike
 alike : (o p : Object) (kind : Kind) (name : List ℕ) → object_cmp o p ≡ Equal

@@ -2,11 +2,11 @@
 use Rattle.std.proofs.Common.{◌≡◌, ℕ, Bool, true, false, not, ◌⊎◌, inl, inr, List, [], ◌∷◌, ◌++◌}
 use Rattle.std.proofs.Common.{map, refl, sym, ap, subst, append_assoc, append-nil, true≢false}
 use Rattle.std.specs.List.{AllByRecursion, Contains}
-use Rattle.slo_objects.specs.declared.kind.Kind.{Kind}
-use Rattle.slo_objects.specs.declared.object.Object.{Object}
-use Rattle.slo_catalog.specs.Keys.{is_key}
-use Rattle.slo_catalog.specs.Catalog.{Change, Defined, Removed, is_about, IsMember, IsCatalog}
-use Rattle.slo_catalog.specs.Catalog.{with_member, with_members, without}
+use Rattle.object_terms.specs.declared.kind.Kind.{Kind}
+use Rattle.object_terms.specs.declared.object.Object.{Object}
+use Rattle.catalog_terms.specs.Keys.{is_key}
+use Rattle.catalog_terms.specs.Catalog.{Change, Defined, Removed, is_about, IsMember, IsCatalog}
+use Rattle.catalog_terms.specs.Catalog.{with_member, with_members, without}
 use Rattle.slo_catalog.proofs.AmongLemmas.{Among, among_of, contains_of}
 use Rattle.slo_catalog.proofs.PutLemmas.{put_sorted, in_put, put_there, put_keeps, without_sorted}
 use Rattle.slo_catalog.proofs.PutLemmas.{in_without, without_keeps}

@@ -7,12 +7,12 @@ use Rattle.std.specs.Cmp.Lexicographic.{slice_cmp}
 use Rattle.std.proofs.lemmas.Cmp.{on_total, then_total, nat_list_cmp_total}
 use Rattle.std.proofs.lemmas.Map.Text.{is_eq-slice_cmp}
 use Rattle.std.proofs.lemmas.Slice.Eq.{bytes_eq-Decides}
-use Rattle.slo_objects.specs.declared.kind.Kind.{Kind}
-use Rattle.slo_objects.specs.declared.kind.Kind.TheVariants as kinds
-use Rattle.slo_objects.specs.declared.object.Object.{Object}
-use Rattle.slo_objects.specs.contracts.kind.KindEq.TheImpl.Laws.{laws-law}
-use Rattle.slo_objects.specs.contracts.kind.KindOrd.TheImpl.Laws.{total-law, matches_eq-law}
-use Rattle.slo_catalog.specs.Keys.{is_kind, kind_cmp, is_key, key_cmp, object_cmp, ComesBefore}
+use Rattle.object_terms.specs.declared.kind.Kind.{Kind}
+use Rattle.object_terms.specs.declared.kind.Kind.TheVariants as kinds
+use Rattle.object_terms.specs.declared.object.Object.{Object}
+use Rattle.object_terms.specs.contracts.kind.KindEq.TheImpl.Laws.{laws-law}
+use Rattle.object_terms.specs.contracts.kind.KindOrd.TheImpl.Laws.{total-law, matches_eq-law}
+use Rattle.catalog_terms.specs.Keys.{is_kind, kind_cmp, is_key, key_cmp, object_cmp, ComesBefore}
 
 -- the derived order of kinds is one, and says of two kinds that they are one where `==` does
 pub kind_order : IsTotalOrder kind_cmp

@@ -4,14 +4,14 @@ use Rattle.std.proofs.Common.{inr, List, [], ◌∷◌, Option, Some, None, refl
 use Rattle.std.proofs.Common.{true≢false, bytes_eq, find}
 use Rattle.std.specs.List.{AllByRecursion, list_any}
 use Rattle.std.specs.Option.{option_or}
-use Rattle.slo_objects.specs.declared.kind.Kind.{Kind}
-use Rattle.slo_objects.specs.declared.object.Object.{Object}
-use Rattle.slo_catalog.specs.declared.reference.Reference.{Reference}
-use Rattle.slo_catalog.specs.Keys.{is_kind, is_key, member_of, IsSorted}
-use Rattle.slo_catalog.specs.Catalog.{with_member, with_members, without}
-use Rattle.slo_catalog.specs.References.{references, is_built_in_policy, is_resolved, unresolved_of}
-use Rattle.slo_catalog.specs.References.{first_unresolved, is_to, refers_to, first_referrer}
-use Rattle.slo_catalog.specs.References.{IsResolvedIn, IsLegal}
+use Rattle.object_terms.specs.declared.kind.Kind.{Kind}
+use Rattle.object_terms.specs.declared.object.Object.{Object}
+use Rattle.catalog_terms.specs.declared.reference.Reference.{Reference}
+use Rattle.catalog_terms.specs.Keys.{is_kind, is_key, member_of, IsSorted}
+use Rattle.catalog_terms.specs.Catalog.{with_member, with_members, without}
+use Rattle.catalog_terms.specs.References.{references, is_built_in_policy, is_resolved}
+use Rattle.catalog_terms.specs.References.{unresolved_of, first_unresolved, is_to, refers_to}
+use Rattle.catalog_terms.specs.References.{first_referrer, IsResolvedIn, IsLegal}
 use Rattle.slo_catalog.proofs.KeyLemmas.{key_parts, key_itself}
 use Rattle.slo_catalog.proofs.AmongLemmas.{Among, all_weaker, all_among}
 use Rattle.slo_catalog.proofs.PutLemmas.{put_sorted, in_put, put_there, put_keeps, in_without}

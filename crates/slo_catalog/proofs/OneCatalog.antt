@@ -1,9 +1,9 @@
 -- Sorted lists with the same elements are equal.
 use Rattle.std.proofs.Common.{◌≡◌, inl, inr, List, [], ◌∷◌, refl, sym, ap, ◌∙◌, subst, is_lt}
 use Rattle.std.proofs.Common.{true≢false, ap₂}
-use Rattle.slo_objects.specs.declared.object.Object.{Object}
-use Rattle.slo_catalog.specs.Keys.{ComesBefore, IsSorted}
-use Rattle.slo_catalog.specs.Catalog.{Change, IsCatalog}
+use Rattle.object_terms.specs.declared.object.Object.{Object}
+use Rattle.catalog_terms.specs.Keys.{ComesBefore, IsSorted}
+use Rattle.catalog_terms.specs.Catalog.{Change, IsCatalog}
 use Rattle.slo_catalog.proofs.KeyLemmas.{before}
 use Rattle.slo_catalog.proofs.AmongLemmas.{Among, among_of, contains_of, all_among}
 

@@ -8,10 +8,10 @@ use Rattle.std.specs.Prelude.{MatchResult}
 use Rattle.std.specs.Ordering.{match_ordering, ordering_reverse}
 use Rattle.std.specs.Cmp.{IsTotalOrder}
 use Rattle.std.proofs.lemmas.Cmp.{on_total, then_total, nat_list_cmp_total, alike_right}
-use Rattle.slo_objects.specs.declared.kind.Kind.{Kind}
-use Rattle.slo_objects.specs.declared.object.Object.{Object}
-use Rattle.slo_catalog.specs.Keys.{is_key, key_cmp, object_cmp, member_of, ComesBefore, IsSorted}
-use Rattle.slo_catalog.specs.Catalog.{with_member}
+use Rattle.object_terms.specs.declared.kind.Kind.{Kind}
+use Rattle.object_terms.specs.declared.object.Object.{Object}
+use Rattle.catalog_terms.specs.Keys.{is_key, key_cmp, object_cmp, member_of, ComesBefore, IsSorted}
+use Rattle.catalog_terms.specs.Catalog.{with_member}
 use Rattle.slo_catalog.specs.Places.{to, StandsAt, BelongsAt}
 use Rattle.slo_catalog.proofs.KeyLemmas.{kind_order, object_order, same_as, after, before}
 

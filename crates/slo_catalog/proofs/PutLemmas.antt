@@ -4,10 +4,10 @@ use Rattle.std.proofs.Common.{filter, refl, sym, ap, ◌∙◌, subst, true≢fa
 use Rattle.std.proofs.Common.{Greater}
 use Rattle.std.specs.List.{AllByRecursion}
 use Rattle.std.specs.Ordering.{match_ordering}
-use Rattle.slo_objects.specs.declared.kind.Kind.{Kind}
-use Rattle.slo_objects.specs.declared.object.Object.{Object}
-use Rattle.slo_catalog.specs.Keys.{is_key, object_cmp, ComesBefore, IsSorted}
-use Rattle.slo_catalog.specs.Catalog.{with_member, without}
+use Rattle.object_terms.specs.declared.kind.Kind.{Kind}
+use Rattle.object_terms.specs.declared.object.Object.{Object}
+use Rattle.catalog_terms.specs.Keys.{is_key, object_cmp, ComesBefore, IsSorted}
+use Rattle.catalog_terms.specs.Catalog.{with_member, without}
 use Rattle.slo_catalog.proofs.KeyLemmas.{object_order, less_apart, greater_apart, equal_same, after}
 use Rattle.slo_catalog.proofs.AmongLemmas.{Among, all_weaker, all_among}
 

@@ -1,15 +1,15 @@
 -- What a removal that isn't refused makes of a catalog.
 use Rattle.std.proofs.Common.{◌≡◌, ℕ, List, [], ◌∷◌, ◌++◌, Option, Some, None, Result, Ok, Err}
 use Rattle.std.proofs.Common.{IfOk, is_ok, refl, sym, ap, subst, true≢false}
-use Rattle.slo_objects.specs.declared.kind.Kind.{Kind}
-use Rattle.slo_objects.specs.declared.object.Object.{Object}
-use Rattle.slo_catalog.specs.declared.fault.RemoveFault.{RemoveFault}
-use Rattle.slo_catalog.specs.declared.fault.RemoveError.{RemoveError}
-use Rattle.slo_catalog.specs.Keys.{member_of}
-use Rattle.slo_catalog.specs.Catalog.{Change, Removed, IsCatalog, without}
-use Rattle.slo_catalog.specs.References.{first_referrer}
+use Rattle.object_terms.specs.declared.kind.Kind.{Kind}
+use Rattle.object_terms.specs.declared.object.Object.{Object}
+use Rattle.catalog_terms.specs.declared.fault.RemoveFault.{RemoveFault}
+use Rattle.catalog_terms.specs.declared.fault.RemoveError.{RemoveError}
+use Rattle.catalog_terms.specs.Keys.{member_of}
+use Rattle.catalog_terms.specs.Catalog.{Change, Removed, IsCatalog, without}
+use Rattle.catalog_terms.specs.References.{first_referrer}
 use Rattle.slo_catalog.specs.Whole.{IsWhole}
-use Rattle.slo_catalog.specs.Remove.{unless_used, where_found, remaining_members, Removes}
+use Rattle.catalog_terms.specs.Remove.{unless_used, where_found, remaining_members, Removes}
 use Rattle.slo_catalog.proofs.LegalLemmas.{legal_removed}
 use Rattle.slo_catalog.proofs.WholeLemmas.{ops_without, limits_without}
 use Rattle.slo_catalog.proofs.HistoryLemmas.{removed_kept}

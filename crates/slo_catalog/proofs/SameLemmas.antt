@@ -10,12 +10,12 @@ use Rattle.std.proofs.lemmas.List.Elements.{recursion_from_All}
 use Rattle.yaml_terms.specs.Tree.{Tree}
 use Rattle.yaml_terms.specs.Spelling.{writing}
 use Rattle.yaml_terms.specs.SpellingFits.{IsWritable}
-use Rattle.slo_objects.specs.declared.kind.Kind.{Kind}
-use Rattle.slo_objects.specs.declared.object.Object.{Object}
-use Rattle.slo_objects.specs.Document.{IsOfDocument, objects_of, written}
-use Rattle.slo_catalog.specs.Keys.{is_key, object_cmp, member_of, ComesBefore, IsSorted}
-use Rattle.slo_catalog.specs.Catalog.{with_member, with_members}
-use Rattle.slo_catalog.specs.Define.{is_same, is_alike, is_unchanged}
+use Rattle.object_terms.specs.declared.kind.Kind.{Kind}
+use Rattle.object_terms.specs.declared.object.Object.{Object}
+use Rattle.object_terms.specs.Document.{IsOfDocument, objects_of, written}
+use Rattle.catalog_terms.specs.Keys.{is_key, object_cmp, member_of, ComesBefore, IsSorted}
+use Rattle.catalog_terms.specs.Catalog.{with_member, with_members}
+use Rattle.catalog_terms.specs.Define.{is_same, is_alike, is_unchanged}
 use Rattle.slo_catalog.proofs.KeyLemmas.{object_order, before}
 use Rattle.slo_catalog.proofs.AmongLemmas.{Among, among_of, all_among}
 

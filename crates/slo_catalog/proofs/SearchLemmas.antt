@@ -4,10 +4,10 @@ use Rattle.std.proofs.Common.{sym, ap, ap₂, ◌∙◌, find, flat_map}
 use Rattle.std.specs.List.{AllByRecursion}
 use Rattle.std.specs.Option.{option_or}
 use Rattle.std.proofs.lemmas.List.Folds.{find-append}
-use Rattle.slo_objects.specs.declared.object.Object.{Object}
-use Rattle.slo_catalog.specs.declared.reference.Reference.{Reference}
-use Rattle.slo_catalog.specs.References.{references, is_resolved, first_given, unresolved_of}
-use Rattle.slo_catalog.specs.References.{first_unresolved, IsResolvedIn}
+use Rattle.object_terms.specs.declared.object.Object.{Object}
+use Rattle.catalog_terms.specs.declared.reference.Reference.{Reference}
+use Rattle.catalog_terms.specs.References.{references, is_resolved, first_given, unresolved_of}
+use Rattle.catalog_terms.specs.References.{first_unresolved, IsResolvedIn}
 
 pub given_by_both : {A B : Type 0} (f : A → Option B) (xs ys : List A)
     → first_given f (xs ++ ys) ≡ option_or (first_given f xs) (first_given f ys)

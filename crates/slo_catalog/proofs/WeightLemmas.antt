@@ -4,10 +4,10 @@ use Rattle.std.proofs.Common.{List, [], ◌∷◌, length, refl, arith}
 use Rattle.std.specs.Prelude.{nat_le, nat_lt, unwrap_or}
 use Rattle.std.proofs.lemmas.List.Sums.{sum_by-cons, sum_by-le, sum_by-le-sum_by}
 use Rattle.std.proofs.lemmas.Bool.Decides.{nat_tests}
-use Rattle.slo_objects.specs.declared.object.Object.{Object}
+use Rattle.object_terms.specs.declared.object.Object.{Object}
 use Rattle.slo_limits.specs.declared.TheConstants.{MAX_CATALOG_BYTES}
 use Rattle.yaml_terms.specs.Room.{up_to}
-use Rattle.slo_catalog.specs.Limits.{weight, total_weight, written_bytes, catalog_bytes}
+use Rattle.catalog_terms.specs.Limits.{weight, total_weight, written_bytes, catalog_bytes}
 
 capped_less : (most n : ℕ) → unwrap_or (up_to most n) (most + 1) ≤ n
 capped_less most n = by (nat_le n most) refl

@@ -10,26 +10,26 @@ use Rattle.std.proofs.lemmas.List.{length-append, length-map}
 use Rattle.std.proofs.lemmas.List.Sums.{sum_by-cons}
 use Rattle.std.proofs.lemmas.List.Filters.{length-filter_both, sum_by-filter_both}
 use Rattle.std.proofs.lemmas.List.Concat.{length-flat_map}
-use Rattle.slo_objects.specs.declared.kind.Kind.{Kind}
-use Rattle.slo_objects.specs.declared.kind.Kind.TheVariants as kinds
-use Rattle.slo_objects.specs.declared.object.Object.{Object}
-use Rattle.slo_objects.specs.declared.slo.Slo.{Slo}
-use Rattle.slo_objects.specs.declared.slo.Objective.{Objective}
-use Rattle.slo_objects.specs.Sli.{sli_in}
-use Rattle.slo_objects.specs.Slo.{slo_in}
-use Rattle.slo_objects.specs.AlertPolicy.{policy_in}
-use Rattle.slo_catalog.specs.declared.fault.CatalogLimit.{CatalogLimit}
-use Rattle.slo_catalog.specs.declared.needs_op.NeedsOp.{NeedsOp}
-use Rattle.slo_catalog.specs.declared.bindings.Binding.{Binding}
-use Rattle.slo_catalog.specs.Keys.{is_kind, is_key, member_of}
-use Rattle.slo_catalog.specs.Catalog.{without}
-use Rattle.slo_catalog.specs.References.{names_in, is_built_in, first_given}
-use Rattle.slo_catalog.specs.NeedsOp.{sli_named, gives_values, lacks_op, lacking_in, needing_op}
-use Rattle.slo_catalog.specs.NeedsOp.{first_needing_op}
-use Rattle.slo_catalog.specs.Bindings.{policy_named, lists_condition, has_condition, bound}
-use Rattle.slo_catalog.specs.Bindings.{bound_from, bindings_in, bindings}
-use Rattle.slo_catalog.specs.Limits.{written_bytes, catalog_bytes, count_of_kind, else_within}
-use Rattle.slo_catalog.specs.Limits.{first_limit}
+use Rattle.object_terms.specs.declared.kind.Kind.{Kind}
+use Rattle.object_terms.specs.declared.kind.Kind.TheVariants as kinds
+use Rattle.object_terms.specs.declared.object.Object.{Object}
+use Rattle.object_terms.specs.declared.slo.Slo.{Slo}
+use Rattle.object_terms.specs.declared.objective.Objective.{Objective}
+use Rattle.object_terms.specs.Sli.{sli_in}
+use Rattle.object_terms.specs.Slo.{slo_in}
+use Rattle.object_terms.specs.AlertPolicy.{policy_in}
+use Rattle.catalog_terms.specs.declared.fault.CatalogLimit.{CatalogLimit}
+use Rattle.catalog_terms.specs.declared.needs_op.NeedsOp.{NeedsOp}
+use Rattle.catalog_terms.specs.declared.binding.Binding.{Binding}
+use Rattle.catalog_terms.specs.Keys.{is_kind, is_key, member_of}
+use Rattle.catalog_terms.specs.Catalog.{without}
+use Rattle.catalog_terms.specs.References.{names_in, is_built_in, first_given}
+use Rattle.catalog_terms.specs.NeedsOp.{sli_named, gives_values, lacks_op, lacking_in, needing_op}
+use Rattle.catalog_terms.specs.NeedsOp.{first_needing_op}
+use Rattle.catalog_terms.specs.Bindings.{policy_named, lists_condition, has_condition, bound}
+use Rattle.catalog_terms.specs.Bindings.{bound_from, bindings_in, bindings}
+use Rattle.catalog_terms.specs.Limits.{written_bytes, catalog_bytes, count_of_kind, else_within}
+use Rattle.catalog_terms.specs.Limits.{first_limit}
 use Rattle.slo_catalog.specs.Whole.{HaveOps}
 use Rattle.slo_catalog.proofs.AmongLemmas.{all_weaker}
 use Rattle.slo_catalog.proofs.PutLemmas.{in_without}

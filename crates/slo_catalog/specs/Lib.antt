@@ -1,11 +1,3 @@
-pub mod Keys
-pub mod Catalog
 pub mod Places
-pub mod References
-pub mod NeedsOp
-pub mod Bindings
-pub mod Limits
 pub mod Whole
 pub mod Members
-pub mod Define
-pub mod Remove

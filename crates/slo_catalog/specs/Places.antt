@@ -3,9 +3,9 @@ use Rattle.std.specs.Prelude.{◌≡◌, ◌≤◌, ◌<◌, ℕ, List, length, 
 use Rattle.std.specs.List.{AllByRecursion}
 use Rattle.std.specs.declared.cmp.Ordering.{Ordering}
 use Rattle.std.specs.declared.cmp.Ordering.TheVariants.{Less, Equal, Greater}
-use Rattle.slo_objects.specs.declared.kind.Kind.{Kind}
-use Rattle.slo_objects.specs.declared.object.Object.{Object}
-use Rattle.slo_catalog.specs.Keys.{key_cmp}
+use Rattle.object_terms.specs.declared.kind.Kind.{Kind}
+use Rattle.object_terms.specs.declared.object.Object.{Object}
+use Rattle.catalog_terms.specs.Keys.{key_cmp}
 
 -- whether an object comes before a kind and name, is of them, or comes behind them
 abbrev pub to : Kind → List ℕ → Object → Ordering

@@ -1,10 +1,10 @@
 -- What holds of each catalog, whatever its history.
 use Rattle.std.specs.Prelude.{◌≡◌, List, None}
 use Rattle.std.specs.List.{AllByRecursion}
-use Rattle.slo_objects.specs.declared.object.Object.{Object}
-use Rattle.slo_catalog.specs.References.{IsLegal}
-use Rattle.slo_catalog.specs.NeedsOp.{needing_op}
-use Rattle.slo_catalog.specs.Limits.{first_limit}
+use Rattle.object_terms.specs.declared.object.Object.{Object}
+use Rattle.catalog_terms.specs.References.{IsLegal}
+use Rattle.catalog_terms.specs.NeedsOp.{needing_op}
+use Rattle.catalog_terms.specs.Limits.{first_limit}
 
 -- no objective of an SLO over values lacks `op` or `value`
 abbrev pub HaveOps : List Object → Type 0

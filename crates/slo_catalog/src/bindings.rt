@@ -2,33 +2,24 @@
 ghost use Rattle.std.specs.Prelude.{◌≡◌, ◌≤◌, ◌++◌, length, filter, Some, IfOk, OnOk};
 ghost use Rattle.std.specs.Option.{option_copied};
 ghost use Rattle.slo_limits.specs.declared.TheConstants.{MAX_OBJECTIVES};
-ghost use Rattle.slo_objects.specs.Slo.{slo_in as slo_in_lem};
-ghost use Rattle.slo_catalog.specs.References.{names_in as names_in_lem};
-ghost use Rattle.slo_catalog.specs.Bindings.{is_empty, policy_named as policy_named_lem};
-ghost use Rattle.slo_catalog.specs.Bindings.{lists_condition as lists_condition_lem};
-ghost use Rattle.slo_catalog.specs.Bindings.{has_condition as has_condition_lem, bound, bound_from};
-ghost use Rattle.slo_catalog.specs.Bindings.{bindings_in, bindings as bindings_lem};
+ghost use Rattle.object_terms.specs.Slo.{slo_in as slo_in_def};
+ghost use Rattle.catalog_terms.specs.Bindings.{is_empty, policy_named as policy_named_def};
+ghost use Rattle.catalog_terms.specs.Bindings.{lists_condition as lists_condition_def};
+ghost use Rattle.catalog_terms.specs.Bindings.{has_condition as has_condition_def, bound};
+ghost use Rattle.catalog_terms.specs.Bindings.{bound_from, bindings_in, bindings as bindings_def};
 
 use crate::bodies::{objectives_of, policy_in, slo_in};
 use crate::catalog::Catalog;
 use crate::members::Members;
 use crate::reference::{is_built_in, names_in};
+use catalog_terms::Binding;
 use exact_fraction::Label;
-use slo_objects::{AlertPolicy, Kind, Object, Objective, Slo};
+use object_terms::{AlertPolicy, Kind, Object, Objective, Slo};
 use std::alloc::{AllocError, Global};
-
-/// An alert that is kept: of an objective of an SLO, by a policy of the SLO.
-#[derive(Clone, Copy, Debug)]
-pub struct Binding {
-    pub slo: Label,
-    /// The objective's number in the SLO, from 0.
-    pub objective: u32,
-    pub policy: Label,
-}
 
 /// The alert policy of that name.
 fn policy_named(members: &Members, name: Label) -> Option<&AlertPolicy>
-    ensures { option_copied result ≡ policy_named_lem members.now name }
+    ensures { option_copied result ≡ policy_named_def members.now name }
 {
     match members.find(Kind::AlertPolicy, name) {
         Some(member) => policy_in(&member.object().body),
@@ -36,6 +27,7 @@ fn policy_named(members: &Members, name: Label) -> Option<&AlertPolicy>
     }
 }
 
+/// Whether a list has no names.
 fn is_empty_list(names: &[Label]) -> bool
     ensures { result ≡ is_empty names.now }
 {
@@ -45,8 +37,9 @@ fn is_empty_list(names: &[Label]) -> bool
     }
 }
 
+/// Whether the ordinary policy of that name has a condition.
 fn lists_condition(members: &Members, name: Label) -> bool
-    ensures { result ≡ lists_condition_lem (policy_named_lem members.now name) }
+    ensures { result ≡ lists_condition_def (policy_named_def members.now name) }
 {
     match policy_named(members, name) {
         Some(policy) => !is_empty_list(names_in(&policy.conditions)),
@@ -56,7 +49,7 @@ fn lists_condition(members: &Members, name: Label) -> bool
 
 /// Whether the policy of that name has a condition.
 fn has_condition(members: &Members, name: &Label) -> bool
-    ensures { result ≡ has_condition_lem members.now name.now }
+    ensures { result ≡ has_condition_def members.now name.now }
 {
     is_built_in(name) || lists_condition(members, *name)
 }
@@ -67,7 +60,7 @@ fn policies_with_condition(
     members: &Members,
     names: &[Label],
 ) -> Result<Vec<Label>, AllocError>
-    ensures { IfOk result (λ kept. kept.items ≡ filter (has_condition_lem members.now) names.now) }
+    ensures { IfOk result (λ kept. kept.items ≡ filter (has_condition_def members.now) names.now) }
 {
     let mut kept = Vec::new(alloc);
     for name in names {
@@ -117,6 +110,7 @@ fn bind_each(
     Ok(())
 }
 
+/// Adds the bindings of an SLO.
 fn bind_slo(
     bindings: &mut Vec<Binding>,
     alloc: Global,
@@ -140,7 +134,7 @@ fn bind_object(
 ) -> Result<(), AllocError>
     ensures { OnOk result (bindings.new.items
         ≡ bindings.old.items ++ bindings_in members.now object.now.name
-        (slo_in_lem object.now.body)) }
+        (slo_in_def object.now.body)) }
 {
     match slo_in(&object.body) {
         Some(slo) => bind_slo(bindings, alloc, members, &object.name, slo),
@@ -150,7 +144,7 @@ fn bind_object(
 
 /// The bindings of members.
 pub(crate) fn bindings_of(alloc: Global, members: &Members) -> Result<Vec<Binding>, AllocError>
-    ensures { IfOk result (λ bindings. bindings.items ≡ bindings_lem members.now) }
+    ensures { IfOk result (λ bindings. bindings.items ≡ bindings_def members.now) }
 {
     let mut bindings = Vec::new(alloc);
     for member in members.as_slice() {
@@ -161,7 +155,7 @@ pub(crate) fn bindings_of(alloc: Global, members: &Members) -> Result<Vec<Bindin
 
 impl Catalog {
     ghost use Rattle.std.specs.Prelude.{◌≡◌, IfOk};
-    ghost use Rattle.slo_catalog.specs.Bindings.{bindings as bindings_lem};
+    ghost use Rattle.catalog_terms.specs.Bindings.{bindings as bindings_def};
 
     /// The bindings: by SLO, by the objective's number, and by the policy's place in the SLO.
     ///
@@ -169,7 +163,7 @@ impl Catalog {
     ///
     /// Memory ran out.
     pub fn bindings(&self, alloc: Global) -> Result<Vec<Binding>, AllocError>
-        ensures { IfOk result (λ bindings. bindings.items ≡ bindings_lem self.now) }
+        ensures { IfOk result (λ bindings. bindings.items ≡ bindings_def self.now) }
     {
         bindings_of(alloc, self.sorted())
     }

@@ -2,16 +2,16 @@
 ghost use Rattle.std.specs.Prelude.{◌≡◌, ◌≤◌, length};
 ghost use Rattle.std.specs.Option.{option_copied};
 ghost use Rattle.slo_limits.specs.declared.TheConstants.{MAX_OBJECTIVES};
-ghost use Rattle.slo_objects.specs.AlertCondition.{condition_in as condition_in_lem};
-ghost use Rattle.slo_objects.specs.AlertPolicy.{policy_in as policy_in_lem};
-ghost use Rattle.slo_objects.specs.Sli.{sli_in as sli_in_lem};
-ghost use Rattle.slo_objects.specs.Slo.{slo_in as slo_in_lem};
+ghost use Rattle.object_terms.specs.AlertCondition.{condition_in as condition_in_def};
+ghost use Rattle.object_terms.specs.AlertPolicy.{policy_in as policy_in_def};
+ghost use Rattle.object_terms.specs.Sli.{sli_in as sli_in_def};
+ghost use Rattle.object_terms.specs.Slo.{slo_in as slo_in_def};
 
-use slo_objects::{AlertCondition, AlertPolicy, Body, Objective, Sli, Slo};
+use object_terms::{AlertCondition, AlertPolicy, Body, Objective, Sli, Slo};
 
 /// The indicator that a body is.
 pub fn sli_in(body: &Body) -> Option<&Sli>
-    ensures { option_copied result ≡ sli_in_lem body.now }
+    ensures { option_copied result ≡ sli_in_def body.now }
 {
     match body {
         Body::Sli(sli) => Some(sli),
@@ -26,7 +26,7 @@ pub fn sli_in(body: &Body) -> Option<&Sli>
 
 /// The objective over time that a body is.
 pub fn slo_in(body: &Body) -> Option<&Slo>
-    ensures { option_copied result ≡ slo_in_lem body.now }
+    ensures { option_copied result ≡ slo_in_def body.now }
 {
     match body {
         Body::Slo(slo) => Some(slo),
@@ -41,7 +41,7 @@ pub fn slo_in(body: &Body) -> Option<&Slo>
 
 /// The alert policy that a body is.
 pub fn policy_in(body: &Body) -> Option<&AlertPolicy>
-    ensures { option_copied result ≡ policy_in_lem body.now }
+    ensures { option_copied result ≡ policy_in_def body.now }
 {
     match body {
         Body::AlertPolicy(policy) => Some(policy),
@@ -56,7 +56,7 @@ pub fn policy_in(body: &Body) -> Option<&AlertPolicy>
 
 /// The alert condition that a body is.
 pub fn condition_in(body: &Body) -> Option<&AlertCondition>
-    ensures { option_copied result ≡ condition_in_lem body.now }
+    ensures { option_copied result ≡ condition_in_def body.now }
 {
     match body {
         Body::AlertCondition(condition) => Some(condition),

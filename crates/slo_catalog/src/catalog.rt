@@ -2,15 +2,15 @@
 ghost use Rattle.std.specs.Prelude.{◌≡◌, [], IfSome};
 ghost use Rattle.std.specs.List.{slice_get};
 ghost use Rattle.std.specs.Option.{option_copied};
-ghost use Rattle.slo_objects.specs.Document.{IsOfDocument};
-ghost use Rattle.slo_catalog.specs.Keys.{IsSorted, member_of};
-ghost use Rattle.slo_catalog.specs.References.{IsLegal};
+ghost use Rattle.object_terms.specs.Document.{IsOfDocument};
+ghost use Rattle.catalog_terms.specs.Keys.{IsSorted, member_of};
+ghost use Rattle.catalog_terms.specs.References.{IsLegal};
 ghost use Rattle.slo_catalog.specs.Whole.{IsWhole};
 
 use crate::member::Member;
 use crate::members::Members;
 use exact_fraction::Label;
-use slo_objects::{Kind, Object};
+use object_terms::{Kind, Object};
 use std::alloc::Global;
 use std::marker::Model;
 
@@ -25,8 +25,8 @@ pub struct Catalog {
 impl Model for Catalog {
     ghost use Rattle.std.specs.Prelude.{List};
     ghost use Rattle.std.specs.Coded.{coded_list};
-    ghost use Rattle.slo_objects.specs.declared.object.Object.{Object};
-    ghost use Rattle.slo_objects.specs.contracts.object.Object.{the_row};
+    ghost use Rattle.object_terms.specs.declared.object.Object.{Object};
+    ghost use Rattle.object_terms.specs.contracts.object.Object.{the_row};
     ghost use Rattle.slo_catalog.specs.Whole.{IsWhole};
 
     ghost Value = { List Object };

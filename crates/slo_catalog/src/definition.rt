@@ -2,35 +2,35 @@
 ghost use Rattle.std.specs.Prelude.{◌≡◌, ◌++◌, List, map, IfOk};
 ghost use Rattle.std.specs.List.{All};
 ghost use Rattle.std.specs.Option.{option_copied};
-ghost use Rattle.slo_objects.specs.Document.{IsOfDocument};
-ghost use Rattle.slo_catalog.specs.Catalog.{Change, Defined, IsCatalog};
-ghost use Rattle.slo_catalog.specs.Define.{Defines, Proposes, joined_members as judged_lem};
-ghost use Rattle.slo_catalog.specs.Define.{proposed_members};
-ghost use Rattle.slo_catalog.specs.Define.{defined_members, is_unchanged};
-ghost use Rattle.slo_catalog.specs.Define.{is_reserved as is_reserved_lem};
-ghost use Rattle.slo_catalog.specs.Define.{first_reserved as first_reserved_lem};
+ghost use Rattle.object_terms.specs.Document.{IsOfDocument};
+ghost use Rattle.catalog_terms.specs.Catalog.{Change, Defined, IsCatalog};
+ghost use Rattle.catalog_terms.specs.Define.{Defines, Proposes, joined_members as judged_def};
+ghost use Rattle.catalog_terms.specs.Define.{proposed_members, defined_members, is_unchanged};
+ghost use Rattle.catalog_terms.specs.Define.{is_reserved as is_reserved_def};
+ghost use Rattle.catalog_terms.specs.Define.{first_reserved as first_reserved_def};
 
 use crate::catalog::Catalog;
 use crate::duplicate::first_duplicate;
-use crate::fault::{CatalogFault, DefineError};
 use crate::member::{Member, members_of};
 use crate::members::Members;
 use crate::needs_op::first_needing_op;
 use crate::proposal::Proposal;
 use crate::reference::{first_unresolved, is_built_in};
 use crate::same::are_alike;
-use slo_objects::{Kind, Object};
+use catalog_terms::{CatalogFault, DefineError};
+use object_terms::{Kind, Object};
 use std::alloc::Global;
 
 /// Whether an object is an alert policy with the name of one that is always there.
 fn is_reserved(object: &Object) -> bool
-    ensures { result ≡ is_reserved_lem object.now }
+    ensures { result ≡ is_reserved_def object.now }
 {
     object.kind == Kind::AlertPolicy && is_built_in(&object.name)
 }
 
+/// The first alert policy with the name of one that is always there.
 fn first_reserved(objects: &[Member]) -> Option<&Object>
-    ensures { option_copied result ≡ first_reserved_lem objects.now }
+    ensures { option_copied result ≡ first_reserved_def objects.now }
 {
     for member in objects {
         if is_reserved(member.object()) {
@@ -42,7 +42,7 @@ fn first_reserved(objects: &[Member]) -> Option<&Object>
 
 /// The members, unless one of the objects, which are among them, has a fault.
 fn judged(alloc: Global, members: Members, objects: &[Member]) -> Result<Members, DefineError>
-    ensures { Defines result (judged_lem members objects.now) }
+    ensures { Defines result (judged_def members objects.now) }
 {
     if let Some(reference) = first_unresolved(alloc, &members, objects)? {
         return Err(DefineError::Fault(CatalogFault::Unresolved {

@@ -1,16 +1,16 @@
 //! Kinds and names that a text defines twice with different content.
 ghost use Rattle.std.specs.Prelude.{◌≡◌, IfOk};
 ghost use Rattle.std.specs.Option.{option_copied};
-ghost use Rattle.slo_objects.specs.Document.{written};
+ghost use Rattle.object_terms.specs.Document.{written};
 ghost use Rattle.yaml_terms.specs.Spelling.{writing};
-ghost use Rattle.slo_catalog.specs.Keys.{member_of};
-ghost use Rattle.slo_catalog.specs.Define.{is_same as is_same_lem};
-ghost use Rattle.slo_catalog.specs.Define.{is_other_than as is_other_than_lem};
-ghost use Rattle.slo_catalog.specs.Define.{first_duplicate as first_duplicate_lem};
+ghost use Rattle.catalog_terms.specs.Keys.{member_of};
+ghost use Rattle.catalog_terms.specs.Define.{is_same as is_same_def};
+ghost use Rattle.catalog_terms.specs.Define.{is_other_than as is_other_than_def};
+ghost use Rattle.catalog_terms.specs.Define.{first_duplicate as first_duplicate_def};
 
 use crate::member::Member;
 use crate::members::Members;
-use slo_objects::write_object;
+use object_writing::write_object;
 use std::alloc::{AllocError, Global};
 
 /// The canonical writing of a member, for which room is made by its weight.
@@ -25,7 +25,7 @@ fn text_of(alloc: Global, member: &Member) -> Result<Vec<u8>, AllocError>
 /// Whether two members have the same content. They are written only where they weigh the same.
 #[tactic(auto, using(crate::proofs::FindLemmas::other_weight))]
 pub(crate) fn is_same(alloc: Global, one: &Member, other: &Member) -> Result<bool, AllocError>
-    ensures { IfOk result (λ same. same ≡ is_same_lem one.now other.now) }
+    ensures { IfOk result (λ same. same ≡ is_same_def one.now other.now) }
 {
     if one.weight() != other.weight() {
         return Ok(false);
@@ -39,7 +39,7 @@ pub(crate) fn is_same(alloc: Global, one: &Member, other: &Member) -> Result<boo
 /// is of its kind and name it is compared with nothing.
 fn is_other(alloc: Global, earlier: &Members, member: &Member) -> Result<bool, AllocError>
     ensures { IfOk result (λ other. other
-        ≡ is_other_than_lem (member_of earlier.now member.now.kind member.now.name) member.now) }
+        ≡ is_other_than_def (member_of earlier.now member.now.kind member.now.name) member.now) }
 {
     let object = member.object();
     match earlier.find(object.kind, object.name) {
@@ -54,7 +54,7 @@ pub(crate) fn first_duplicate(
     alloc: Global,
     objects: &[Member],
 ) -> Result<Option<&Member>, AllocError>
-    ensures { IfOk result (λ first. option_copied first ≡ first_duplicate_lem objects.now) }
+    ensures { IfOk result (λ first. option_copied first ≡ first_duplicate_def objects.now) }
 {
     let mut earlier = Members::new(alloc);
     for member in objects {

@@ -1,9 +1,9 @@
 //! Keys: a kind and a name.
 ghost use Rattle.std.specs.Prelude.{◌≡◌};
-ghost use Rattle.slo_catalog.specs.Keys.{is_key};
+ghost use Rattle.catalog_terms.specs.Keys.{is_key};
 
 use exact_fraction::Label;
-use slo_objects::{Kind, Object};
+use object_terms::{Kind, Object};
 
 /// Whether an object is of that kind and name.
 pub(crate) fn is_key(kind: Kind, name: Label, object: &Object) -> bool

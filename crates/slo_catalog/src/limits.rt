@@ -1,14 +1,14 @@
 //! How much a catalog holds.
 ghost use Rattle.std.specs.Prelude.{◌≡◌, IfOk, nat_lt};
-ghost use Rattle.slo_catalog.specs.Limits.{catalog_bytes, count_of_kind as count_of_kind_lem};
-ghost use Rattle.slo_catalog.specs.Limits.{first_limit as first_limit_lem};
+ghost use Rattle.catalog_terms.specs.Limits.{catalog_bytes, count_of_kind as count_of_kind_def};
+ghost use Rattle.catalog_terms.specs.Limits.{first_limit as first_limit_def};
 
 use crate::bindings::bindings_of;
-use crate::fault::CatalogLimit;
 use crate::member::Member;
 use crate::members::Members;
+use catalog_terms::CatalogLimit;
+use object_terms::Kind;
 use slo_limits::{MAX_BINDINGS, MAX_CATALOG_BYTES, MAX_OBJECTS, MAX_SLIS, MAX_SLOS};
-use slo_objects::Kind;
 use std::alloc::{AllocError, Global};
 
 /// Whether all members together have more bytes than a catalog may.
@@ -21,7 +21,7 @@ fn is_above_bytes(members: &Members) -> bool
 
 /// How many of the members are of that kind.
 fn count_of_kind(kind: Kind, members: &[Member]) -> usize
-    ensures { result ≡ count_of_kind_lem kind members.now }
+    ensures { result ≡ count_of_kind_def kind members.now }
 {
     let mut count = 0;
     for member in members {
@@ -37,7 +37,7 @@ pub(crate) fn first_limit(
     alloc: Global,
     members: &Members,
 ) -> Result<Option<CatalogLimit>, AllocError>
-    ensures { IfOk result (λ first. first ≡ first_limit_lem members.now) }
+    ensures { IfOk result (λ first. first ≡ first_limit_def members.now) }
 {
     let list = members.as_slice();
     if list.len() > MAX_OBJECTS {

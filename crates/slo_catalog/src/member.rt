@@ -1,11 +1,12 @@
 //! Members: the objects of a catalog, which catalogs share.
 ghost use Rattle.std.specs.Prelude.{◌≡◌, IfOk};
 ghost use Rattle.std.specs.List.{All};
-ghost use Rattle.slo_objects.specs.Document.{IsOfDocument};
-ghost use Rattle.slo_catalog.specs.Limits.{weight as weight_lem};
+ghost use Rattle.object_terms.specs.Document.{IsOfDocument};
+ghost use Rattle.catalog_terms.specs.Limits.{weight as weight_def};
 
+use object_terms::Object;
+use object_writing::{copy_object, object_length};
 use slo_limits::MAX_CATALOG_BYTES;
-use slo_objects::{Object, copy_object, object_length};
 use std::alloc::{AllocError, Global};
 use std::marker::Model;
 use std::sync::Arc;
@@ -18,8 +19,8 @@ pub struct Member {
 }
 
 impl Model for Member {
-    ghost use Rattle.slo_objects.specs.declared.object.Object.{Object};
-    ghost use Rattle.slo_objects.specs.contracts.object.Object.{the_row};
+    ghost use Rattle.object_terms.specs.declared.object.Object.{Object};
+    ghost use Rattle.object_terms.specs.contracts.object.Object.{the_row};
     ghost use Rattle.std.specs.Arc.{arc_value};
     ghost use Rattle.slo_catalog.specs.Members.{IsWeighed};
 
@@ -32,14 +33,14 @@ impl Model for Member {
     ghost invariant = { λ m. IsWeighed (arc_value m.object) m.weight };
 }
 
-// What an object weighs that is above the limit by itself.
+/// What an object weighs that is above the limit by itself.
 const ABOVE: usize = MAX_CATALOG_BYTES + 1;
 
 /// The weight of an object: how many bytes its canonical writing has, which is counted up to the
 /// limit and not made.
 fn weight(alloc: Global, object: &Object) -> Result<usize, AllocError>
     requires { IsOfDocument object.now }
-    ensures { IfOk result (λ weight. weight ≡ weight_lem object.now) }
+    ensures { IfOk result (λ weight. weight ≡ weight_def object.now) }
 {
     match object_length(alloc, object, MAX_CATALOG_BYTES)? {
         Some(bytes) => Ok(bytes),
@@ -50,8 +51,8 @@ fn weight(alloc: Global, object: &Object) -> Result<usize, AllocError>
 impl Member {
     ghost use Rattle.std.specs.Prelude.{◌≡◌, ◌+◌, ◌≤◌, IfOk};
     ghost use Rattle.slo_limits.specs.declared.TheConstants.{MAX_CATALOG_BYTES};
-    ghost use Rattle.slo_objects.specs.Document.{IsOfDocument};
-    ghost use Rattle.slo_catalog.specs.Limits.{weight as weight_lem};
+    ghost use Rattle.object_terms.specs.Document.{IsOfDocument};
+    ghost use Rattle.catalog_terms.specs.Limits.{weight as weight_def};
 
     /// A member that is a copy of an object, which is weighed once, here.
     pub(crate) fn of(alloc: Global, object: &Object) -> Result<Member, AllocError>
@@ -74,7 +75,7 @@ impl Member {
     /// How many bytes its canonical writing has, or one more than the limit where it has more.
     #[tactic(auto, using(crate::proofs::WeightLemmas::weight_few))]
     pub(crate) fn weight(&self) -> usize
-        ensures exact { result ≡ weight_lem self.now }
+        ensures exact { result ≡ weight_def self.now }
         ensures few { result ≤ MAX_CATALOG_BYTES + 1 }
     {
         self.weight

@@ -1,7 +1,7 @@
 //! Lists of members that know what they weigh together.
 ghost use Rattle.std.specs.Prelude.{◌≡◌, ◌<◌, ◌≤◌, ◌+◌, ◌++◌, ◌∷◌, [], length, take, drop};
 ghost use Rattle.std.specs.Prelude.{slice_set, IfOk, OnOk};
-ghost use Rattle.slo_catalog.specs.Limits.{total_weight, weight as weight_lem};
+ghost use Rattle.catalog_terms.specs.Limits.{total_weight, weight as weight_def};
 
 use crate::member::Member;
 use std::alloc::{AllocError, Global};
@@ -18,9 +18,9 @@ pub(crate) struct MemberList {
 impl Model for MemberList {
     ghost use Rattle.std.specs.Prelude.{◌≡◌, List};
     ghost use Rattle.std.specs.Coded.{coded_list};
-    ghost use Rattle.slo_objects.specs.declared.object.Object.{Object};
-    ghost use Rattle.slo_objects.specs.contracts.object.Object.{the_row};
-    ghost use Rattle.slo_catalog.specs.Limits.{total_weight};
+    ghost use Rattle.object_terms.specs.declared.object.Object.{Object};
+    ghost use Rattle.object_terms.specs.contracts.object.Object.{the_row};
+    ghost use Rattle.catalog_terms.specs.Limits.{total_weight};
 
     ghost Value = { List Object };
 
@@ -99,7 +99,7 @@ impl MemberList {
 
     /// What they and another member weigh together.
     fn bytes_with(&self, member: &Member) -> u128
-        ensures { result ≡ total_weight self.now + weight_lem member.now }
+        ensures { result ≡ total_weight self.now + weight_def member.now }
     {
         // The sum fits: their count is known to be below 2^64 where it is told.
         let _ = self.count();

@@ -1,16 +1,16 @@
 //! Sorted members.
 ghost use Rattle.std.specs.Prelude.{◌≡◌, [], IfOk, MatchResult};
 ghost use Rattle.std.specs.Option.{option_copied};
-ghost use Rattle.slo_catalog.specs.Catalog.{with_member, with_members, without};
-ghost use Rattle.slo_catalog.specs.Keys.{IsSorted, member_of, key_cmp};
-ghost use Rattle.slo_catalog.specs.Limits.{total_weight};
+ghost use Rattle.catalog_terms.specs.Catalog.{with_member, with_members, without};
+ghost use Rattle.catalog_terms.specs.Keys.{IsSorted, member_of, key_cmp};
+ghost use Rattle.catalog_terms.specs.Limits.{total_weight};
 ghost use Rattle.slo_catalog.specs.Places.{StandsAt, BelongsAt};
 
 use crate::key::is_key;
 use crate::member::Member;
 use crate::member_list::MemberList;
 use exact_fraction::Label;
-use slo_objects::{Kind, Object};
+use object_terms::{Kind, Object};
 use std::alloc::{AllocError, Global};
 use std::cmp::Ordering;
 use std::marker::Model;
@@ -24,9 +24,9 @@ pub(crate) struct Members {
 impl Model for Members {
     ghost use Rattle.std.specs.Prelude.{List};
     ghost use Rattle.std.specs.Coded.{coded_list};
-    ghost use Rattle.slo_objects.specs.declared.object.Object.{Object};
-    ghost use Rattle.slo_objects.specs.contracts.object.Object.{the_row};
-    ghost use Rattle.slo_catalog.specs.Keys.{IsSorted};
+    ghost use Rattle.object_terms.specs.declared.object.Object.{Object};
+    ghost use Rattle.object_terms.specs.contracts.object.Object.{the_row};
+    ghost use Rattle.catalog_terms.specs.Keys.{IsSorted};
 
     ghost Value = { List Object };
 

@@ -3,31 +3,24 @@ ghost use Rattle.std.specs.Prelude.{◌≡◌, ◌≤◌, Some, length};
 ghost use Rattle.std.specs.Option.{option_copied};
 ghost use Rattle.std.specs.List.{position_from};
 ghost use Rattle.slo_limits.specs.declared.TheConstants.{MAX_OBJECTIVES};
-ghost use Rattle.slo_catalog.specs.References.{first_given};
-ghost use Rattle.slo_catalog.specs.NeedsOp.{sli_named as sli_named_lem};
-ghost use Rattle.slo_catalog.specs.NeedsOp.{gives_values as gives_values_lem};
-ghost use Rattle.slo_catalog.specs.NeedsOp.{lacks_op as lacks_op_lem, lacking_in as lacking_in_lem};
-ghost use Rattle.slo_catalog.specs.NeedsOp.{needing_op as needing_op_lem};
-ghost use Rattle.slo_catalog.specs.NeedsOp.{first_needing_op as first_needing_op_lem};
-ghost use Rattle.slo_objects.specs.Slo.{slo_in as slo_in_lem};
+ghost use Rattle.catalog_terms.specs.References.{first_given};
+ghost use Rattle.catalog_terms.specs.NeedsOp.{sli_named as sli_named_def};
+ghost use Rattle.catalog_terms.specs.NeedsOp.{gives_values as gives_values_def};
+ghost use Rattle.catalog_terms.specs.NeedsOp.{lacks_op as lacks_op_def};
+ghost use Rattle.catalog_terms.specs.NeedsOp.{lacking_in as lacking_in_def};
+ghost use Rattle.catalog_terms.specs.NeedsOp.{needing_op as needing_op_def};
+ghost use Rattle.catalog_terms.specs.NeedsOp.{first_needing_op as first_needing_op_def};
 
 use crate::bodies::{objectives_of, sli_in, slo_in};
 use crate::member::Member;
 use crate::members::Members;
+use catalog_terms::NeedsOp;
 use exact_fraction::Label;
-use slo_objects::{Kind, Metric, Object, Objective, Sli, Slo};
-
-/// An objective that needs `op` or `value`.
-#[derive(Clone, Copy, Debug)]
-pub(crate) struct NeedsOp {
-    pub(crate) slo: Label,
-    /// Its number in the SLO, from 0.
-    pub(crate) objective: u32,
-}
+use object_terms::{Kind, Metric, Object, Objective, Sli, Slo};
 
 /// The indicator of that name.
 fn sli_named(members: &Members, name: Label) -> Option<&Sli>
-    ensures { option_copied result ≡ sli_named_lem members.now name }
+    ensures { option_copied result ≡ sli_named_def members.now name }
 {
     match members.find(Kind::Sli, name) {
         Some(member) => sli_in(&member.object().body),
@@ -37,7 +30,7 @@ fn sli_named(members: &Members, name: Label) -> Option<&Sli>
 
 /// Whether the indicator of that name is there and gives values.
 fn gives_values(members: &Members, name: Label) -> bool
-    ensures { result ≡ gives_values_lem (sli_named_lem members.now name) }
+    ensures { result ≡ gives_values_def (sli_named_def members.now name) }
 {
     let Some(sli) = sli_named(members, name) else {
         return false;
@@ -50,7 +43,7 @@ fn gives_values(members: &Members, name: Label) -> bool
 
 /// Whether an objective can be compared with no value.
 fn lacks_op(objective: &Objective) -> bool
-    ensures { result ≡ lacks_op_lem objective.now }
+    ensures { result ≡ lacks_op_def objective.now }
 {
     objective.op.is_none() || objective.value.is_none()
 }
@@ -58,7 +51,7 @@ fn lacks_op(objective: &Objective) -> bool
 /// The number of the first objective that can be compared with no value.
 fn first_lacking(objectives: &[Objective]) -> Option<u32>
     requires { length objectives.now ≤ MAX_OBJECTIVES }
-    ensures { result ≡ position_from lacks_op_lem 0 objectives.now }
+    ensures { result ≡ position_from lacks_op_def 0 objectives.now }
 {
     let mut number = 0;
     for objective in objectives {
@@ -70,8 +63,9 @@ fn first_lacking(objectives: &[Objective]) -> Option<u32>
     None
 }
 
+/// The number of the first objective of an SLO over values that lacks `op` or `value`.
 fn lacking_in(members: &Members, slo: &Slo) -> Option<u32>
-    ensures { result ≡ lacking_in_lem members.now (Some slo.now) }
+    ensures { result ≡ lacking_in_def members.now (Some slo.now) }
 {
     if gives_values(members, slo.indicator) {
         first_lacking(objectives_of(slo))
@@ -80,8 +74,9 @@ fn lacking_in(members: &Members, slo: &Slo) -> Option<u32>
     }
 }
 
+/// The first objective of an object that needs `op` or `value`.
 fn needing_op(members: &Members, object: &Object) -> Option<NeedsOp>
-    ensures { result ≡ needing_op_lem members.now object.now }
+    ensures { result ≡ needing_op_def members.now object.now }
 {
     let Some(slo) = slo_in(&object.body) else {
         return None;
@@ -95,8 +90,9 @@ fn needing_op(members: &Members, object: &Object) -> Option<NeedsOp>
     }
 }
 
+/// The first objective of the objects that needs `op` or `value`.
 fn first_in(members: &Members, objects: &[Member]) -> Option<NeedsOp>
-    ensures { result ≡ first_given (needing_op_lem members.now) objects.now }
+    ensures { result ≡ first_given (needing_op_def members.now) objects.now }
 {
     for member in objects {
         if let Some(needs) = needing_op(members, member.object()) {
@@ -110,7 +106,7 @@ fn first_in(members: &Members, objects: &[Member]) -> Option<NeedsOp>
 /// of those of the members in theirs.
 #[tactic(auto, using(crate::proofs::SearchLemmas::given_by_both))]
 pub(crate) fn first_needing_op(members: &Members, objects: &[Member]) -> Option<NeedsOp>
-    ensures { result ≡ first_needing_op_lem members.now objects.now }
+    ensures { result ≡ first_needing_op_def members.now objects.now }
 {
     match first_in(members, objects) {
         Some(needs) => Some(needs),

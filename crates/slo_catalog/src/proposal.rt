@@ -1,14 +1,14 @@
 //! Proposals: what a definition would leave, before the limits are tried.
 ghost use Rattle.std.specs.Prelude.{◌≡◌};
-ghost use Rattle.slo_catalog.specs.Keys.{IsSorted};
+ghost use Rattle.catalog_terms.specs.Keys.{IsSorted};
 ghost use Rattle.slo_catalog.specs.Whole.{IsJoined};
-ghost use Rattle.slo_catalog.specs.Define.{Defines, within_limits};
+ghost use Rattle.catalog_terms.specs.Define.{Defines, within_limits};
 
 use crate::catalog::Catalog;
-use crate::fault::{CatalogFault, DefineError};
 use crate::limits::first_limit;
 use crate::member::Member;
 use crate::members::Members;
+use catalog_terms::{CatalogFault, DefineError};
 use std::alloc::Global;
 use std::marker::Model;
 
@@ -23,8 +23,8 @@ pub struct Proposal {
 impl Model for Proposal {
     ghost use Rattle.std.specs.Prelude.{List, Bool};
     ghost use Rattle.std.specs.Coded.{coded_list, coded_bool, coded×};
-    ghost use Rattle.slo_objects.specs.declared.object.Object.{Object};
-    ghost use Rattle.slo_objects.specs.contracts.object.Object.{the_row};
+    ghost use Rattle.object_terms.specs.declared.object.Object.{Object};
+    ghost use Rattle.object_terms.specs.contracts.object.Object.{the_row};
     ghost use Rattle.slo_catalog.specs.Whole.{IsJoined};
 
     ghost Value = { List Object × Bool };

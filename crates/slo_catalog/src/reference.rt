@@ -1,48 +1,39 @@
 //! What objects refer to, and who refers to an object.
-ghost use Rattle.std.specs.Prelude.{◌≡◌, ◌++◌, [], ◌∷◌, not, find, flat_map, List, None, IfOk};
-ghost use Rattle.std.specs.Prelude.{OnOk};
+ghost use Rattle.std.specs.Prelude.{◌≡◌, ◌++◌, [], ◌∷◌, not, find, IfOk, OnOk};
 ghost use Rattle.std.specs.Option.{option_copied};
 ghost use Rattle.std.specs.List.{list_any};
-ghost use Rattle.slo_objects.specs.declared.kind.Kind.TheVariants as kinds;
-ghost use Rattle.slo_objects.specs.declared.object.Object.{Object};
-ghost use Rattle.slo_catalog.specs.References.{names_in as names_in_lem, data_sources, sources_of};
-ghost use Rattle.slo_catalog.specs.References.{sources_of_ratio, references_to, references_of_slo};
-ghost use Rattle.slo_catalog.specs.References.{references_of_policy, references as references_lem};
-ghost use Rattle.slo_catalog.specs.References.{is_built_in as is_built_in_lem};
-ghost use Rattle.slo_catalog.specs.References.{is_built_in_policy as is_built_in_policy_lem};
-ghost use Rattle.slo_catalog.specs.References.{is_resolved as is_resolved_lem};
-ghost use Rattle.slo_catalog.specs.References.{unresolved_of as unresolved_of_lem};
-ghost use Rattle.slo_catalog.specs.References.{first_unresolved as first_unresolved_lem};
-ghost use Rattle.slo_catalog.specs.References.{is_to as is_to_lem, refers_to as refers_to_lem};
-ghost use Rattle.slo_catalog.specs.References.{first_referrer as first_referrer_lem, IsLegal};
+ghost use Rattle.object_terms.specs.declared.kind.Kind.TheVariants as kinds;
+ghost use Rattle.catalog_terms.specs.References.{names_in as names_in_def, data_sources};
+ghost use Rattle.catalog_terms.specs.References.{sources_of, sources_of_ratio, references_to};
+ghost use Rattle.catalog_terms.specs.References.{references_of_slo, references_of_policy};
+ghost use Rattle.catalog_terms.specs.References.{references as references_def};
+ghost use Rattle.catalog_terms.specs.References.{is_built_in as is_built_in_def};
+ghost use Rattle.catalog_terms.specs.References.{is_built_in_policy as is_built_in_policy_def};
+ghost use Rattle.catalog_terms.specs.References.{is_resolved as is_resolved_def};
+ghost use Rattle.catalog_terms.specs.References.{unresolved_of as unresolved_of_def};
+ghost use Rattle.catalog_terms.specs.References.{first_unresolved as first_unresolved_def};
+ghost use Rattle.catalog_terms.specs.References.{is_to as is_to_def, refers_to as refers_to_def};
+ghost use Rattle.catalog_terms.specs.References.{first_referrer as first_referrer_def};
 
 use crate::member::Member;
 use crate::members::Members;
+use catalog_terms::Reference;
 use exact_fraction::Label;
-use slo_objects::{
+use object_terms::{
     AlertPolicy, Body, Events, Kind, Metric, MetricSource, Names, Object, Ratio, Sli, Slo,
 };
 use std::alloc::{AllocError, Global};
 
-/// A reference of an object to another.
-#[derive(Clone, Copy, Debug)]
-pub(crate) struct Reference {
-    pub(crate) from_kind: Kind,
-    pub(crate) from_name: Label,
-    pub(crate) kind: Kind,
-    pub(crate) name: Label,
-}
-
 /// Whether it is the name of a policy that is always there.
 pub(crate) fn is_built_in(name: &Label) -> bool
-    ensures { result ≡ is_built_in_lem name.now }
+    ensures { result ≡ is_built_in_def name.now }
 {
     name.as_str() == "workbook-page" || name.as_str() == "workbook-ticket"
 }
 
 /// The names of a list that may be omitted.
 pub(crate) fn names_in(names: &Option<Names>) -> &[Label]
-    ensures { result.now ≡ names_in_lem names.now }
+    ensures { result.now ≡ names_in_def names.now }
 {
     match names {
         Some(names) => names.as_slice(),
@@ -87,6 +78,7 @@ fn refer_to_source(
     }
 }
 
+/// Adds the references of a ratio to data sources.
 fn refer_to_ratio(
     references: &mut Vec<Reference>,
     object: &Object,
@@ -108,6 +100,7 @@ fn refer_to_ratio(
     }
 }
 
+/// Adds the references of an indicator.
 fn refer_of_sli(
     references: &mut Vec<Reference>,
     object: &Object,
@@ -123,6 +116,7 @@ fn refer_of_sli(
     }
 }
 
+/// Adds the references of an SLO.
 fn refer_of_slo(
     references: &mut Vec<Reference>,
     object: &Object,
@@ -141,6 +135,7 @@ fn refer_of_slo(
     )
 }
 
+/// Adds the references of a policy.
 fn refer_of_policy(
     references: &mut Vec<Reference>,
     object: &Object,
@@ -165,7 +160,7 @@ fn refer_of_policy(
 
 /// The references of an object, in the order of its fields.
 pub(crate) fn references(alloc: Global, object: &Object) -> Result<Vec<Reference>, AllocError>
-    ensures { IfOk result (λ references. references.items ≡ references_lem object.now) }
+    ensures { IfOk result (λ references. references.items ≡ references_def object.now) }
 {
     let mut references = Vec::new(alloc);
     match &object.body {
@@ -182,21 +177,21 @@ pub(crate) fn references(alloc: Global, object: &Object) -> Result<Vec<Reference
 
 /// Whether a reference may name a policy that is always there, and does.
 fn is_built_in_policy(reference: &Reference) -> bool
-    ensures { result ≡ is_built_in_policy_lem reference.now }
+    ensures { result ≡ is_built_in_policy_def reference.now }
 {
     reference.kind == Kind::AlertPolicy && is_built_in(&reference.name)
 }
 
 /// Whether a reference names a member, or a policy that is always there.
 fn is_resolved(members: &Members, reference: &Reference) -> bool
-    ensures { result ≡ is_resolved_lem members.now reference.now }
+    ensures { result ≡ is_resolved_def members.now reference.now }
 {
     members.find(reference.kind, reference.name).is_some() || is_built_in_policy(reference)
 }
 
 /// The first of the references that isn't resolved.
 fn unresolved_in(members: &Members, references: &[Reference]) -> Option<Reference>
-    ensures { result ≡ find (λ r. not (is_resolved_lem members.now r)) references.now }
+    ensures { result ≡ find (λ r. not (is_resolved_def members.now r)) references.now }
 {
     for reference in references {
         if !is_resolved(members, reference) {
@@ -206,12 +201,13 @@ fn unresolved_in(members: &Members, references: &[Reference]) -> Option<Referenc
     None
 }
 
+/// The first reference of an object that names no member.
 fn unresolved_of(
     alloc: Global,
     members: &Members,
     object: &Object,
 ) -> Result<Option<Reference>, AllocError>
-    ensures { IfOk result (λ first. first ≡ unresolved_of_lem members.now object.now) }
+    ensures { IfOk result (λ first. first ≡ unresolved_of_def members.now object.now) }
 {
     let references = references(alloc, object)?;
     Ok(unresolved_in(members, &references))
@@ -224,7 +220,7 @@ pub(crate) fn first_unresolved(
     members: &Members,
     objects: &[Member],
 ) -> Result<Option<Reference>, AllocError>
-    ensures { IfOk result (λ first. first ≡ first_unresolved_lem members.now objects.now) }
+    ensures { IfOk result (λ first. first ≡ first_unresolved_def members.now objects.now) }
 {
     for member in objects {
         if let Some(reference) = unresolved_of(alloc, members, member.object())? {
@@ -236,13 +232,14 @@ pub(crate) fn first_unresolved(
 
 /// Whether a reference is to that kind and name.
 fn is_to(kind: Kind, name: &Label, reference: &Reference) -> bool
-    ensures { result ≡ is_to_lem kind name.now reference.now }
+    ensures { result ≡ is_to_def kind name.now reference.now }
 {
     reference.kind == kind && reference.name.as_bytes() == name.as_bytes()
 }
 
+/// Whether one of the references is to that kind and name.
 fn some_is_to(kind: Kind, name: &Label, references: &[Reference]) -> bool
-    ensures { result ≡ list_any (is_to_lem kind name.now) references.now }
+    ensures { result ≡ list_any (is_to_def kind name.now) references.now }
 {
     for reference in references {
         if is_to(kind, name, reference) {
@@ -254,12 +251,13 @@ fn some_is_to(kind: Kind, name: &Label, references: &[Reference]) -> bool
 
 /// Whether an object refers to that kind and name.
 fn refers_to(alloc: Global, kind: Kind, name: &Label, object: &Object) -> Result<bool, AllocError>
-    ensures { IfOk result (λ answer. answer ≡ refers_to_lem kind name.now object.now) }
+    ensures { IfOk result (λ answer. answer ≡ refers_to_def kind name.now object.now) }
 {
     let references = references(alloc, object)?;
     Ok(some_is_to(kind, name, &references))
 }
 
+/// The first of the objects that refers to that kind and name.
 fn referrer_in(
     alloc: Global,
     objects: &[Member],
@@ -267,7 +265,7 @@ fn referrer_in(
     name: Label,
 ) -> Result<Option<&Object>, AllocError>
     ensures { IfOk result (λ first. option_copied first
-        ≡ first_referrer_lem objects.now kind name) }
+        ≡ first_referrer_def objects.now kind name) }
 {
     for member in objects {
         if refers_to(alloc, kind, &name, member.object())? {
@@ -285,20 +283,7 @@ pub(crate) fn first_referrer(
     name: Label,
 ) -> Result<Option<&Object>, AllocError>
     ensures { IfOk result (λ first. option_copied first
-        ≡ first_referrer_lem members.now kind name) }
+        ≡ first_referrer_def members.now kind name) }
 {
     referrer_in(alloc, members.as_slice(), kind, name)
 }
-
-/// The reference that is named as unresolved is the first such one of all that the objects have, in
-/// the order of the objects and of their fields; and a list of objects is legal exactly where none
-/// of theirs is named.
-pub fn the_first_reference_to_nothing_is_named()
-    ensures first { (members objects : List Object)
-        → first_unresolved_lem members objects
-        ≡ find (λ r. not (is_resolved_lem members r)) (flat_map references_lem objects) }
-    ensures none { (members : List Object) → IsLegal members
-        → first_unresolved_lem members members ≡ None }
-    ensures legal { (members : List Object) → first_unresolved_lem members members ≡ None
-        → IsLegal members }
-{}

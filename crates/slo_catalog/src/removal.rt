@@ -1,16 +1,17 @@
 //! Removals.
-ghost use Rattle.std.specs.Prelude.{◌≡◌, ◌++◌, [], ◌∷◌, List, IfOk};
-ghost use Rattle.slo_catalog.specs.Catalog.{Change, Removed, IsCatalog};
-ghost use Rattle.slo_catalog.specs.Remove.{Removes, remaining_members};
+ghost use Rattle.std.specs.Prelude.{◌++◌, [], ◌∷◌, List, IfOk};
+ghost use Rattle.catalog_terms.specs.Catalog.{Change, Removed, IsCatalog};
+ghost use Rattle.catalog_terms.specs.Remove.{Removes, remaining_members};
 
 use crate::catalog::Catalog;
-use crate::fault::{RemoveError, RemoveFault};
 use crate::members::Members;
 use crate::reference::first_referrer;
+use catalog_terms::{RemoveError, RemoveFault};
 use exact_fraction::Label;
-use slo_objects::Kind;
+use object_terms::Kind;
 use std::alloc::Global;
 
+/// The members without the one of that kind and name.
 fn remove_one(alloc: Global, old: &Members, kind: Kind, name: Label) -> Result<Members, RemoveError>
     ensures { Removes result (remaining_members old.now kind name) }
 {

@@ -17,5 +17,3 @@ pub mod AlertPolicy
 pub mod Moments
 pub mod Slo
 pub mod Document
-pub use Rattle.slo_duration.specs as slo_duration
-pub use Rattle.zone_calendar.specs as zone_calendar

@@ -1,67 +1,26 @@
-//! Alert conditions.
-ghost use Rattle.std.specs.Prelude.{◌≡◌, IfOk};
-ghost use Rattle.yaml_terms.specs.NodeView.{node_view};
+//! Alert conditions, as they are read.
+ghost use Rattle.std.specs.Prelude.{◌≡◌};
 ghost use Rattle.yaml_terms.specs.Spelling.{word};
-ghost use Rattle.slo_objects.specs.Form.{map_with};
-ghost use Rattle.slo_objects.specs.Reading.{Reads};
-ghost use Rattle.slo_objects.specs.AlertCondition.{condition, alert_condition, condition_body};
-ghost use Rattle.slo_objects.specs.AlertCondition.{condition_word, condition_kind_value};
-ghost use Rattle.slo_objects.specs.declared.fault.Rule.TheVariants as rules;
+ghost use Rattle.object_terms.specs.Form.{map_with};
+ghost use Rattle.object_terms.specs.AlertCondition.{condition, alert_condition, condition_body};
+ghost use Rattle.object_terms.specs.AlertCondition.{condition_word, condition_kind_value};
+ghost use Rattle.object_terms.specs.declared.fault.Rule.TheVariants as rules;
 
-use crate::copy::{copy_optional_text, copy_text};
-use crate::durations::{LookbackForm, ThresholdForm, WaitForm};
-use crate::fault::{ReadError, Rule};
-use crate::field_lines::{optional, required};
-use crate::fields::{close_with, fail_at};
-use crate::forms::{ReadForm, ReadText};
-use crate::keys::{DESCRIPTION, KIND, OP};
-use crate::object::{Body, Objects};
-use crate::ranges::{AlertAfter, Lookback, Threshold};
-use crate::scalars::{DescriptionForm, OpForm, TextForm, is_word};
-use crate::shape::map_entries;
-use exact_fraction::{Op, Text};
+use object_fields::{
+    DescriptionForm, LookbackForm, OpForm, ReadForm, ReadText, TextForm, ThresholdForm, WaitForm,
+    close_with, fail_at, map_entries, optional, required,
+};
+use object_terms::keys::{
+    ALERT_AFTER, CONDITION, DESCRIPTION, KIND, LOOKBACK_WINDOW, OP, SEVERITY, THRESHOLD,
+};
+use object_terms::{
+    AlertCondition, Body, Condition, ConditionKind, Objects, ReadError, Rule, is_word,
+};
 use std::alloc::{AllocError, Global};
 use yaml_terms::Node;
 
-// The keys of its maps that no other map has.
-pub(crate) const SEVERITY: &str = "severity";
-
-pub(crate) const CONDITION: &str = "condition";
-
-pub(crate) const THRESHOLD: &str = "threshold";
-
-pub(crate) const LOOKBACK_WINDOW: &str = "lookbackWindow";
-
-pub(crate) const ALERT_AFTER: &str = "alertAfter";
-
-/// A condition under which an alert is told.
-#[derive(Debug, Drop)]
-pub struct AlertCondition {
-    pub description: Option<Text>,
-    pub severity: Text,
-    pub condition: Condition,
-}
-
-/// What has to hold, and for how long.
-#[derive(Debug, Drop)]
-pub struct Condition {
-    /// Omitted is `burnrate`.
-    pub kind: Option<ConditionKind>,
-    /// Omitted is `gte`.
-    pub op: Option<Op>,
-    pub threshold: Threshold,
-    pub lookback_window: Lookback,
-    /// Omitted is `0m`.
-    pub alert_after: Option<AlertAfter>,
-}
-
-/// What a condition is about.
-#[derive(Clone, Copy, Debug, PartialEq, Eq)]
-pub enum ConditionKind {
-    Burnrate,
-}
-
-#[tactic(auto, unfolding(crate::specs::AlertCondition::condition_kind_value))]
+/// The kind of a condition, if the text is its word.
+#[tactic(auto, unfolding(object_terms::specs::AlertCondition::condition_kind_value))]
 fn read_condition_kind(text: &[u8]) -> Result<ConditionKind, Rule>
     ensures { result ≡ condition_kind_value text.now }
 {
@@ -105,7 +64,7 @@ impl ReadForm for ConditionForm {
 
     ghost form = { λ _. map_with condition };
 
-    #[tactic(auto, unfolding(crate::specs::AlertCondition::condition))]
+    #[tactic(auto, unfolding(object_terms::specs::AlertCondition::condition))]
     fn read(&self, found: &mut Objects, key: &str, node: &Node) -> Result<Condition, ReadError> {
         let Some(fields) = map_entries(node) else {
             return fail_at(found, key, Rule::NotMap);
@@ -139,7 +98,7 @@ impl ReadForm for AlertConditionForm {
 
     ghost form = { λ _. map_with alert_condition };
 
-    #[tactic(auto, unfolding(crate::specs::AlertCondition::alert_condition))]
+    #[tactic(auto, unfolding(object_terms::specs::AlertCondition::alert_condition))]
     fn read(
         &self,
         found: &mut Objects,
@@ -193,24 +152,4 @@ impl ReadForm for ConditionBody {
             Err(error) => Err(error),
         }
     }
-}
-
-/// A copy of a condition.
-pub(crate) fn copy_condition(
-    alloc: Global,
-    condition: &AlertCondition,
-) -> Result<AlertCondition, AllocError>
-    ensures { IfOk result (λ c. c ≡ condition.now) }
-{
-    Ok(AlertCondition {
-        description: copy_optional_text(alloc, &condition.description)?,
-        severity: copy_text(alloc, &condition.severity)?,
-        condition: Condition {
-            kind: condition.condition.kind,
-            op: condition.condition.op,
-            threshold: condition.condition.threshold,
-            lookback_window: condition.condition.lookback_window,
-            alert_after: condition.condition.alert_after,
-        },
-    })
 }

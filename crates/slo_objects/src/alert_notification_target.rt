@@ -1,29 +1,14 @@
-//! Targets of notifications.
-ghost use Rattle.std.specs.Prelude.{◌≡◌, IfOk};
-ghost use Rattle.yaml_terms.specs.NodeView.{node_view};
-ghost use Rattle.slo_objects.specs.Form.{map_with};
-ghost use Rattle.slo_objects.specs.Reading.{Reads};
-ghost use Rattle.slo_objects.specs.AlertNotificationTarget.{alert_notification_target, target_body};
+//! Targets of notifications, as they are read.
+ghost use Rattle.object_terms.specs.Form.{map_with};
+ghost use Rattle.object_terms.specs.AlertNotificationTarget.{alert_notification_target};
+ghost use Rattle.object_terms.specs.AlertNotificationTarget.{target_body};
 
-use crate::copy::{copy_optional_text, copy_text};
-use crate::fault::{ReadError, Rule};
-use crate::field_lines::{optional, required};
-use crate::fields::{close_with, fail_at};
-use crate::forms::ReadForm;
-use crate::keys::{DESCRIPTION, TARGET};
-use crate::object::{Body, Objects};
-use crate::scalars::{DescriptionForm, TextForm};
-use crate::shape::map_entries;
-use exact_fraction::Text;
-use std::alloc::{AllocError, Global};
+use object_fields::{
+    DescriptionForm, ReadForm, TextForm, close_with, fail_at, map_entries, optional, required,
+};
+use object_terms::keys::{DESCRIPTION, TARGET};
+use object_terms::{AlertNotificationTarget, Body, Objects, ReadError, Rule};
 use yaml_terms::Node;
-
-/// Whom an alert reaches.
-#[derive(Debug, Drop)]
-pub struct AlertNotificationTarget {
-    pub description: Option<Text>,
-    pub target: Text,
-}
 
 /// The `spec` of a target.
 struct TargetForm;
@@ -33,7 +18,7 @@ impl ReadForm for TargetForm {
 
     ghost form = { λ _. map_with alert_notification_target };
 
-    #[tactic(auto, unfolding(crate::specs::AlertNotificationTarget::alert_notification_target))]
+    #[tactic(auto, unfolding(object_terms::specs::AlertNotificationTarget::alert_notification_target))]
     fn read(
         &self,
         found: &mut Objects,
@@ -73,17 +58,4 @@ impl ReadForm for TargetBody {
             Err(error) => Err(error),
         }
     }
-}
-
-/// A copy of a target.
-pub(crate) fn copy_target(
-    alloc: Global,
-    target: &AlertNotificationTarget,
-) -> Result<AlertNotificationTarget, AllocError>
-    ensures { IfOk result (λ t. t ≡ target.now) }
-{
-    Ok(AlertNotificationTarget {
-        description: copy_optional_text(alloc, &target.description)?,
-        target: copy_text(alloc, &target.target)?,
-    })
 }

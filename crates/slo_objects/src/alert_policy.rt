@@ -1,58 +1,22 @@
-//! Alert policies.
-ghost use Rattle.std.specs.Prelude.{◌≡◌, IfOk};
-ghost use Rattle.yaml_terms.specs.NodeView.{node_view};
-ghost use Rattle.slo_objects.specs.Form.{map_with};
-ghost use Rattle.slo_objects.specs.Reading.{Reads};
-ghost use Rattle.slo_objects.specs.AlertPolicy.{alert_policy, condition_item, target_item};
-ghost use Rattle.slo_objects.specs.AlertPolicy.{conditions, targets, policy_body};
-ghost use Rattle.slo_objects.specs.AlertPolicy.{at_most_one, any_number_of};
+//! Alert policies, as they are read.
+ghost use Rattle.object_terms.specs.Form.{map_with};
+ghost use Rattle.object_terms.specs.AlertPolicy.{alert_policy, condition_item, target_item};
+ghost use Rattle.object_terms.specs.AlertPolicy.{conditions, targets, policy_body, at_most_one};
+ghost use Rattle.object_terms.specs.AlertPolicy.{any_number_of};
 
 use crate::alert_condition::ConditionBody;
 use crate::alert_notification_target::TargetBody;
-use crate::copy::copy_optional_text;
-use crate::fault::{ReadError, Rule};
-use crate::field_lines::optional;
-use crate::fields::{close_with, fail_at};
-use crate::forms::ReadForm;
-use crate::inline::referenced;
-use crate::keys::DESCRIPTION;
-use crate::kind::Kind;
-use crate::lists::{ReadItem, names_of};
-use crate::names::{Names, copy_optional_names};
-use crate::object::{Body, Objects};
-use crate::scalars::{BooleanForm, DescriptionForm};
-use crate::shape::map_entries;
-use exact_fraction::{Label, Text};
-use std::alloc::{AllocError, Global};
+use exact_fraction::Label;
+use object_fields::{
+    BooleanForm, DescriptionForm, ReadForm, ReadItem, close_with, fail_at, map_entries, names_of,
+    optional, referenced,
+};
+use object_terms::keys::{
+    ALERT_WHEN_BREACHING, ALERT_WHEN_NO_DATA, ALERT_WHEN_RESOLVED, CONDITION_REF, CONDITIONS,
+    DESCRIPTION, NOTIFICATION_TARGETS, TARGET_REF,
+};
+use object_terms::{AlertPolicy, Body, Kind, Names, Objects, ReadError, Rule};
 use yaml_terms::Node;
-
-// The keys that no other map has.
-pub(crate) const ALERT_WHEN_NO_DATA: &str = "alertWhenNoData";
-
-pub(crate) const ALERT_WHEN_RESOLVED: &str = "alertWhenResolved";
-
-pub(crate) const ALERT_WHEN_BREACHING: &str = "alertWhenBreaching";
-
-pub(crate) const CONDITIONS: &str = "conditions";
-
-pub(crate) const CONDITION_REF: &str = "conditionRef";
-
-pub(crate) const NOTIFICATION_TARGETS: &str = "notificationTargets";
-
-pub(crate) const TARGET_REF: &str = "targetRef";
-
-/// When an alert is told, and to whom.
-#[derive(Debug, Drop)]
-pub struct AlertPolicy {
-    pub description: Option<Text>,
-    pub alert_when_no_data: Option<bool>,
-    pub alert_when_resolved: Option<bool>,
-    pub alert_when_breaching: Option<bool>,
-    /// The name of an AlertCondition, at most one.
-    pub conditions: Option<Names>,
-    /// The names of AlertNotificationTargets.
-    pub notification_targets: Option<Names>,
-}
 
 /// An item of `conditions`.
 struct ConditionItem;
@@ -136,7 +100,7 @@ impl ReadForm for PolicyForm {
 
     ghost form = { λ _. map_with alert_policy };
 
-    #[tactic(auto, unfolding(crate::specs::AlertPolicy::alert_policy))]
+    #[tactic(auto, unfolding(object_terms::specs::AlertPolicy::alert_policy))]
     fn read(&self, found: &mut Objects, key: &str, node: &Node) -> Result<AlertPolicy, ReadError> {
         let Some(fields) = map_entries(node) else {
             return fail_at(found, key, Rule::NotMap);
@@ -198,34 +162,4 @@ impl ReadForm for PolicyBody {
             Err(error) => Err(error),
         }
     }
-}
-
-/// A copy of a policy.
-pub(crate) fn copy_policy(alloc: Global, policy: &AlertPolicy) -> Result<AlertPolicy, AllocError>
-    ensures { IfOk result (λ p. p ≡ policy.now) }
-{
-    let description = copy_optional_text(alloc, &policy.description)?;
-    let conditions = match copy_optional_names(alloc, &policy.conditions) {
-        Ok(conditions) => conditions,
-        Err(error) => {
-            drop(description);
-            return Err(error);
-        }
-    };
-    let notification_targets = match copy_optional_names(alloc, &policy.notification_targets) {
-        Ok(notification_targets) => notification_targets,
-        Err(error) => {
-            drop(description);
-            drop(conditions);
-            return Err(error);
-        }
-    };
-    Ok(AlertPolicy {
-        description,
-        alert_when_no_data: policy.alert_when_no_data,
-        alert_when_resolved: policy.alert_when_resolved,
-        alert_when_breaching: policy.alert_when_breaching,
-        conditions,
-        notification_targets,
-    })
 }

@@ -1,35 +1,13 @@
-//! Data sources.
-ghost use Rattle.std.specs.Prelude.{◌≡◌, IfOk};
-ghost use Rattle.yaml_terms.specs.NodeView.{node_view};
-ghost use Rattle.slo_objects.specs.Form.{map_with};
-ghost use Rattle.slo_objects.specs.Reading.{Reads};
-ghost use Rattle.slo_objects.specs.DataSource.{data_source, data_source_body};
+//! Data sources, as they are read.
+ghost use Rattle.object_terms.specs.Form.{map_with};
+ghost use Rattle.object_terms.specs.DataSource.{data_source, data_source_body};
 
-use crate::copy::{copy_optional_part, copy_optional_text, copy_text};
-use crate::fault::{ReadError, Rule};
-use crate::field_lines::{optional, required};
-use crate::fields::{close_with, fail_at};
-use crate::forms::{Free, ReadForm};
-use crate::keys::{DESCRIPTION, TYPE};
-use crate::object::{Body, Objects};
-use crate::part::Part;
-use crate::scalars::{DescriptionForm, TextForm};
-use crate::shape::map_entries;
-use exact_fraction::Text;
-use std::alloc::{AllocError, Global};
+use object_fields::{
+    DescriptionForm, Free, ReadForm, TextForm, close_with, fail_at, map_entries, optional, required,
+};
+use object_terms::keys::{CONNECTION_DETAILS, DESCRIPTION, TYPE};
+use object_terms::{Body, DataSource, Objects, ReadError, Rule};
 use yaml_terms::Node;
-
-// The key that no other map has.
-pub(crate) const CONNECTION_DETAILS: &str = "connectionDetails";
-
-/// Where metrics come from.
-#[derive(Debug, Drop)]
-pub struct DataSource {
-    pub description: Option<Text>,
-    /// The field `type`.
-    pub type_text: Text,
-    pub connection_details: Option<Part>,
-}
 
 /// The `spec` of a data source.
 struct DataSourceForm;
@@ -39,7 +17,7 @@ impl ReadForm for DataSourceForm {
 
     ghost form = { λ _. map_with data_source };
 
-    #[tactic(auto, unfolding(crate::specs::DataSource::data_source))]
+    #[tactic(auto, unfolding(object_terms::specs::DataSource::data_source))]
     fn read(&self, found: &mut Objects, key: &str, node: &Node) -> Result<DataSource, ReadError> {
         let Some(fields) = map_entries(node) else {
             return fail_at(found, key, Rule::NotMap);
@@ -88,15 +66,4 @@ impl ReadForm for DataSourceBody {
             Err(error) => Err(error),
         }
     }
-}
-
-/// A copy of a data source.
-pub(crate) fn copy_data_source(alloc: Global, source: &DataSource) -> Result<DataSource, AllocError>
-    ensures { IfOk result (λ s. s ≡ source.now) }
-{
-    Ok(DataSource {
-        description: copy_optional_text(alloc, &source.description)?,
-        type_text: copy_text(alloc, &source.type_text)?,
-        connection_details: copy_optional_part(alloc, &source.connection_details)?,
-    })
 }

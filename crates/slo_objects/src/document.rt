@@ -1,34 +1,27 @@
 //! Documents, and the objects that they stand for.
-ghost use Rattle.std.specs.Prelude.{◌≡◌, IfOk};
+ghost use Rattle.std.specs.Prelude.{IfOk};
 ghost use Rattle.std.specs.List.{All};
 ghost use Rattle.yaml_terms.specs.SpellingFits.{IsWritable};
 ghost use Rattle.yaml_terms.specs.NodeView.{node_view};
-ghost use Rattle.slo_objects.specs.Form.{map_with};
-ghost use Rattle.slo_objects.specs.Reading.{Gives, Reads};
-ghost use Rattle.slo_objects.specs.Document.{body, document, objects_of, IsOfDocument};
+ghost use Rattle.object_terms.specs.Form.{map_with};
+ghost use Rattle.object_fields.specs.Reading.{Gives};
+ghost use Rattle.object_terms.specs.Document.{body, document, objects_of, IsOfDocument};
 
 use crate::alert_condition::ConditionBody;
 use crate::alert_notification_target::TargetBody;
 use crate::alert_policy::PolicyBody;
 use crate::data_source::DataSourceBody;
-use crate::fault::{ReadError, Rule};
-use crate::field_lines::required;
-use crate::fields::{close_with, fail_at};
-use crate::forms::ReadForm;
-use crate::inline::{MetadataForm, object_with};
-use crate::keys::{API_VERSION, KIND, METADATA, SPEC};
-use crate::kind::Kind;
-use crate::object::{Body, Object, Objects};
-use crate::scalars::{KindForm, VersionForm};
 use crate::service::ServiceBody;
-use crate::shape::map_entries;
 use crate::sli::SliBody;
 use crate::slo::SloBody;
+use object_fields::{
+    KindForm, MetadataForm, ReadForm, VersionForm, close_with, fail_at, map_entries, object_with,
+    required,
+};
+use object_terms::keys::{API_VERSION, KIND, METADATA, SPEC};
+use object_terms::{Body, DOCUMENT, Kind, Object, Objects, ReadError, Rule};
 use std::alloc::Global;
 use yaml_terms::Node;
-
-/// The name of a document in its fault.
-pub(crate) const DOCUMENT: &str = "document";
 
 /// What stands in `spec`, by the kind.
 #[derive(Clone, Copy)]
@@ -41,7 +34,7 @@ impl ReadForm for BodyForm {
 
     ghost form = { λ b. body b.kind };
 
-    #[tactic(auto, unfolding(crate::specs::Document::body))]
+    #[tactic(auto, unfolding(object_terms::specs::Document::body))]
     fn read(&self, found: &mut Objects, key: &str, node: &Node) -> Result<Body, ReadError> {
         match self.kind {
             Kind::DataSource => DataSourceBody.read(found, key, node),
@@ -63,7 +56,7 @@ impl ReadForm for DocumentForm {
 
     ghost form = { λ _. map_with document };
 
-    #[tactic(auto, unfolding(crate::specs::Document::document))]
+    #[tactic(auto, unfolding(object_terms::specs::Document::document))]
     fn read(&self, found: &mut Objects, key: &str, node: &Node) -> Result<Object, ReadError> {
         let Some(fields) = map_entries(node) else {
             return fail_at(found, key, Rule::NotMap);

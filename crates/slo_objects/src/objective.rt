@@ -1,57 +1,44 @@
-//! Objectives of an SLO.
-ghost use Rattle.std.specs.Prelude.{◌≡◌, ◌≤◌, IfOk, decimal};
+//! Objectives of an SLO, as they are read.
+ghost use Rattle.std.specs.Prelude.{◌≡◌, decimal};
 ghost use Rattle.std.specs.List.{list_all};
 ghost use Rattle.std.specs.Char.{is_ascii_digit};
 ghost use Rattle.exact_fraction.specs.Digits.{is_number};
 ghost use Rattle.yaml_terms.specs.Spelling.{word};
-ghost use Rattle.yaml_terms.specs.NodeView.{node_view};
-ghost use Rattle.slo_objects.specs.Form.{map_with};
-ghost use Rattle.slo_objects.specs.Reading.{Reads};
-ghost use Rattle.slo_objects.specs.Slo.{objective, is_target, width_value};
-ghost use Rattle.slo_objects.specs.Slo.{has_slice_target as has_slice_target_lem};
-ghost use Rattle.slo_objects.specs.Slo.{has_slices as has_slices_lem};
-ghost use Rattle.slo_objects.specs.declared.fault.Rule.TheVariants as rules;
+ghost use Rattle.object_terms.specs.Form.{map_with};
+ghost use Rattle.object_terms.specs.Slo.{objective, width_value};
+ghost use Rattle.object_terms.specs.Slo.{has_slice_target as has_slice_target_def};
+ghost use Rattle.object_terms.specs.Slo.{has_slices as has_slices_def};
+ghost use Rattle.object_terms.specs.declared.fault.Rule.TheVariants as rules;
 
-use crate::durations::{
-    NumberForm, PercentForm, SliceTargetForm, TargetForm, duration_at, in_range,
-};
-use crate::fault::{ReadError, Rule};
-use crate::field_lines::{one_of, optional, required_where};
-use crate::fields::{close_with, fail_at};
-use crate::forms::{ReadForm, ReadText};
-use crate::keys::{DISPLAY_NAME, OP, TARGET};
-use crate::object::Objects;
-use crate::ranges::SliceWidth;
-use crate::scalars::{OpForm, TextForm};
-use crate::shape::map_entries;
-use crate::slo::{BudgetingMethod, Objective};
 use exact_fraction::read_number;
+use object_fields::{
+    NumberForm, OpForm, PercentForm, ReadForm, ReadText, SliceTargetForm, TargetForm, TextForm,
+    close_with, duration_at, fail_at, in_range, map_entries, one_of, optional, required_where,
+};
+use object_terms::keys::{
+    DISPLAY_NAME, OP, TARGET, TARGET_PERCENT, TIME_SLICE_TARGET, TIME_SLICE_WINDOW, VALUE,
+};
+use object_terms::{BudgetingMethod, Objective, Objects, ReadError, Rule, SliceWidth};
 use slo_duration::rolling_minutes;
 use std::alloc::{AllocError, Global};
 use yaml_terms::Node;
 
-// The keys that no other map has.
-pub(crate) const VALUE: &str = "value";
-
-pub(crate) const TARGET_PERCENT: &str = "targetPercent";
-
-pub(crate) const TIME_SLICE_TARGET: &str = "timeSliceTarget";
-
-pub(crate) const TIME_SLICE_WINDOW: &str = "timeSliceWindow";
-
+/// Whether each byte is a digit.
 fn all_digits(text: &[u8]) -> bool
     ensures { result ≡ list_all is_ascii_digit text.now }
 {
     text.iter().all(|byte| byte.is_ascii_digit())
 }
 
+/// Whether a text is a number of digits alone.
 fn is_digits(text: &[u8]) -> bool
     ensures { result ≡ is_number text.now }
 {
     text.len() != 0 && all_digits(text)
 }
 
-#[tactic(auto, unfolding(crate::specs::Slo::width_value))]
+/// The width of a slice: minutes where the text has digits alone, else a duration.
+#[tactic(auto, unfolding(object_terms::specs::Slo::width_value))]
 fn read_width(text: &[u8]) -> Result<SliceWidth, Rule>
     ensures { result ≡ width_value text.now }
 {
@@ -88,8 +75,9 @@ impl ReadText for WidthForm {
     }
 }
 
+/// Whether objectives by this method name the ratio from which on a slice is good.
 fn has_slice_target(method: BudgetingMethod) -> bool
-    ensures { result ≡ has_slice_target_lem method }
+    ensures { result ≡ has_slice_target_def method }
 {
     match method {
         BudgetingMethod::Occurrences => false,
@@ -98,8 +86,9 @@ fn has_slice_target(method: BudgetingMethod) -> bool
     }
 }
 
+/// Whether objectives by this method name the width of a slice.
 fn has_slices(method: BudgetingMethod) -> bool
-    ensures { result ≡ has_slices_lem method }
+    ensures { result ≡ has_slices_def method }
 {
     match method {
         BudgetingMethod::Occurrences => false,
@@ -119,7 +108,7 @@ impl ReadForm for ObjectiveForm {
 
     ghost form = { λ o. map_with (objective o.method) };
 
-    #[tactic(auto, unfolding(crate::specs::Slo::objective))]
+    #[tactic(auto, unfolding(object_terms::specs::Slo::objective))]
     fn read(&self, found: &mut Objects, key: &str, node: &Node) -> Result<Objective, ReadError> {
         let Some(fields) = map_entries(node) else {
             return fail_at(found, key, Rule::NotMap);

@@ -1,28 +1,11 @@
-//! Services.
-ghost use Rattle.std.specs.Prelude.{◌≡◌, IfOk};
-ghost use Rattle.yaml_terms.specs.NodeView.{node_view};
-ghost use Rattle.slo_objects.specs.Form.{map_with};
-ghost use Rattle.slo_objects.specs.Reading.{Reads};
-ghost use Rattle.slo_objects.specs.Service.{service, service_body};
+//! Services, as they are read.
+ghost use Rattle.object_terms.specs.Form.{map_with};
+ghost use Rattle.object_terms.specs.Service.{service, service_body};
 
-use crate::copy::copy_optional_text;
-use crate::fault::{ReadError, Rule};
-use crate::field_lines::optional;
-use crate::fields::{close_with, fail_at};
-use crate::forms::ReadForm;
-use crate::keys::DESCRIPTION;
-use crate::object::{Body, Objects};
-use crate::scalars::DescriptionForm;
-use crate::shape::map_entries;
-use exact_fraction::Text;
-use std::alloc::{AllocError, Global};
+use object_fields::{DescriptionForm, ReadForm, close_with, fail_at, map_entries, optional};
+use object_terms::keys::DESCRIPTION;
+use object_terms::{Body, Objects, ReadError, Rule, Service};
 use yaml_terms::Node;
-
-/// A service: what objectives are set for.
-#[derive(Debug, Drop)]
-pub struct Service {
-    pub description: Option<Text>,
-}
 
 /// The `spec` of a service.
 struct ServiceForm;
@@ -32,7 +15,7 @@ impl ReadForm for ServiceForm {
 
     ghost form = { λ _. map_with service };
 
-    #[tactic(auto, unfolding(crate::specs::Service::service))]
+    #[tactic(auto, unfolding(object_terms::specs::Service::service))]
     fn read(&self, found: &mut Objects, key: &str, node: &Node) -> Result<Service, ReadError> {
         let Some(fields) = map_entries(node) else {
             return fail_at(found, key, Rule::NotMap);
@@ -56,13 +39,4 @@ impl ReadForm for ServiceBody {
             Err(error) => Err(error),
         }
     }
-}
-
-/// A copy of a service.
-pub(crate) fn copy_service(alloc: Global, service: &Service) -> Result<Service, AllocError>
-    ensures { IfOk result (λ s. s ≡ service.now) }
-{
-    Ok(Service {
-        description: copy_optional_text(alloc, &service.description)?,
-    })
 }

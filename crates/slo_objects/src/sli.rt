@@ -1,117 +1,32 @@
-//! Indicators.
-ghost use Rattle.std.specs.Prelude.{◌≡◌, IfOk};
+//! Indicators, as they are read.
+ghost use Rattle.std.specs.Prelude.{◌≡◌};
 ghost use Rattle.yaml_terms.specs.Spelling.{word};
-ghost use Rattle.yaml_terms.specs.NodeView.{node_view};
-ghost use Rattle.slo_objects.specs.Form.{map_with, variant, answer_by};
-ghost use Rattle.slo_objects.specs.Reading.{Reads, entries_view};
-ghost use Rattle.slo_objects.specs.Sli.{metric_source, source_map, source, raw_type_word};
-ghost use Rattle.slo_objects.specs.Sli.{raw_type_value, events_written, ratio_metric};
-ghost use Rattle.slo_objects.specs.Sli.{raw_ratio, counted_ratio, metric_written};
-ghost use Rattle.slo_objects.specs.Sli.{sli, sli_body, known_with_raw};
-ghost use Rattle.slo_objects.specs.declared.sli.Events.TheVariants.{Good, Bad};
-ghost use Rattle.slo_objects.specs.declared.sli.Metric.TheVariants as metrics;
-ghost use Rattle.slo_objects.specs.declared.fault.Rule.TheVariants as rules;
+ghost use Rattle.object_terms.specs.Form.{map_with, variant, answer_by};
+ghost use Rattle.object_fields.specs.Reading.{Reads, entries_view};
+ghost use Rattle.object_terms.specs.Sli.{metric_source, source, raw_type_word, raw_type_value};
+ghost use Rattle.object_terms.specs.Sli.{events_written, ratio_metric, raw_ratio, counted_ratio};
+ghost use Rattle.object_terms.specs.Sli.{metric_written, sli, sli_body, known_with_raw};
+ghost use Rattle.object_terms.specs.declared.sli.Events.TheVariants.{Good, Bad};
+ghost use Rattle.object_terms.specs.declared.sli.Metric.TheVariants as metrics;
+ghost use Rattle.object_terms.specs.declared.fault.Rule.TheVariants as rules;
 
-use crate::copy::{copy_optional_part, copy_optional_text};
-use crate::fault::{ReadError, Rule};
-use crate::field_lines::{one_of, optional, optional_alone, required};
-use crate::fields::{close_with, fail_at};
-use crate::forms::{Free, ReadForm, ReadText};
-use crate::keys::{DESCRIPTION, SPEC, TYPE};
-use crate::object::{Body, Objects};
-use crate::part::Part;
-use crate::scalars::{BooleanForm, DescriptionForm, NameForm, TextForm, is_word};
-use crate::shape::map_entries;
-use exact_fraction::{Label, Text};
+use object_fields::{
+    BooleanForm, DescriptionForm, Free, NameForm, ReadForm, ReadText, TextForm, close_with,
+    fail_at, map_entries, one_of, optional, optional_alone, required,
+};
+use object_terms::keys::{
+    BAD, COUNTER, DESCRIPTION, GOOD, METRIC_SOURCE, METRIC_SOURCE_REF, RATIO_METRIC, RAW, RAW_TYPE,
+    SPEC, THRESHOLD_METRIC, TOTAL, TYPE,
+};
+use object_terms::{
+    Body, Events, Metric, MetricSource, Objects, Ratio, RatioMetric, RawType, ReadError, Rule, Sli,
+    is_word,
+};
 use std::alloc::{AllocError, Global};
 use yaml_terms::{Node, ScalarText};
 
-// The keys that no other map has.
-pub(crate) const METRIC_SOURCE: &str = "metricSource";
-
-pub(crate) const METRIC_SOURCE_REF: &str = "metricSourceRef";
-
-pub(crate) const THRESHOLD_METRIC: &str = "thresholdMetric";
-
-pub(crate) const RATIO_METRIC: &str = "ratioMetric";
-
-pub(crate) const COUNTER: &str = "counter";
-
-pub(crate) const RAW: &str = "raw";
-
-pub(crate) const RAW_TYPE: &str = "rawType";
-
-pub(crate) const TOTAL: &str = "total";
-
-pub(crate) const GOOD: &str = "good";
-
-pub(crate) const BAD: &str = "bad";
-
-/// A service level indicator.
-#[derive(Debug, Drop)]
-pub struct Sli {
-    pub description: Option<Text>,
-    pub metric: Metric,
-}
-
-/// What an indicator measures.
-#[derive(Debug, Drop)]
-pub enum Metric {
-    /// `thresholdMetric`: values that an objective compares with its own.
-    Threshold(MetricSource),
-    /// `ratioMetric`: counts of events.
-    Ratio(RatioMetric),
-}
-
-/// A query of a data source, kept and never run.
-#[derive(Debug, Drop)]
-pub struct MetricSource {
-    /// The name of a DataSource.
-    pub metric_source_ref: Option<Label>,
-    /// The field `type`.
-    pub type_text: Option<Text>,
-    pub spec: Option<Part>,
-}
-
-/// A ratio of events.
-#[derive(Debug, Drop)]
-pub struct RatioMetric {
-    pub counter: Option<bool>,
-    pub ratio: Ratio,
-}
-
-/// How a ratio is told.
-#[derive(Debug, Drop)]
-pub enum Ratio {
-    /// `raw` with `rawType`: the ratio itself.
-    Raw {
-        raw: MetricSource,
-        raw_type: RawType,
-    },
-    /// `total`, and the events of one sort.
-    Counts {
-        total: MetricSource,
-        events: Events,
-    },
-}
-
-/// What a raw ratio is a ratio of.
-#[derive(Clone, Copy, Debug, PartialEq, Eq)]
-pub enum RawType {
-    Success,
-    Failure,
-}
-
-/// The events that are counted beside the total.
-#[derive(Debug, Drop)]
-pub enum Events {
-    /// `good`.
-    Good(MetricSource),
-    /// `bad`.
-    Bad(MetricSource),
-}
-
-#[tactic(auto, unfolding(crate::specs::Sli::raw_type_value))]
+/// What a raw ratio is a ratio of, if the text is its word.
+#[tactic(auto, unfolding(object_terms::specs::Sli::raw_type_value))]
 fn read_raw_type(text: &[u8]) -> Result<RawType, Rule>
     ensures { result ≡ raw_type_value text.now }
 {
@@ -153,7 +68,7 @@ impl ReadForm for MetricSourceForm {
 
     ghost form = { λ _. map_with metric_source };
 
-    #[tactic(auto, unfolding(crate::specs::Sli::metric_source))]
+    #[tactic(auto, unfolding(object_terms::specs::Sli::metric_source))]
     fn read(&self, found: &mut Objects, key: &str, node: &Node) -> Result<MetricSource, ReadError> {
         let Some(fields) = map_entries(node) else {
             return fail_at(found, key, Rule::NotMap);
@@ -184,7 +99,7 @@ impl ReadForm for SourceForm {
 
     ghost form = { λ _. source };
 
-    #[tactic(auto, unfolding(crate::specs::Sli::source_map))]
+    #[tactic(auto, unfolding(object_terms::specs::Sli::source_map))]
     fn read(&self, found: &mut Objects, key: &str, node: &Node) -> Result<MetricSource, ReadError> {
         let Some(fields) = map_entries(node) else {
             return fail_at(found, key, Rule::NotMap);
@@ -227,7 +142,7 @@ impl ReadForm for BadForm {
 }
 
 /// What follows on `counter` and `raw` where `raw` stands.
-#[tactic(auto, unfolding(crate::specs::Sli::raw_ratio))]
+#[tactic(auto, unfolding(object_terms::specs::Sli::raw_ratio))]
 fn raw_ratio_of(
     found: &mut Objects,
     fields: &[(ScalarText, Node)],
@@ -252,7 +167,7 @@ fn raw_ratio_of(
 }
 
 /// What follows on `counter` where `raw` doesn't stand.
-#[tactic(auto, unfolding(crate::specs::Sli::counted_ratio))]
+#[tactic(auto, unfolding(object_terms::specs::Sli::counted_ratio))]
 fn counted_ratio_of(
     found: &mut Objects,
     fields: &[(ScalarText, Node)],
@@ -284,7 +199,7 @@ impl ReadForm for RatioForm {
 
     ghost form = { λ _. map_with ratio_metric };
 
-    #[tactic(auto, unfolding(crate::specs::Sli::ratio_metric))]
+    #[tactic(auto, unfolding(object_terms::specs::Sli::ratio_metric))]
     fn read(&self, found: &mut Objects, key: &str, node: &Node) -> Result<RatioMetric, ReadError> {
         let Some(fields) = map_entries(node) else {
             return fail_at(found, key, Rule::NotMap);
@@ -337,7 +252,7 @@ impl ReadForm for SliForm {
 
     ghost form = { λ _. map_with sli };
 
-    #[tactic(auto, unfolding(crate::specs::Sli::sli))]
+    #[tactic(auto, unfolding(object_terms::specs::Sli::sli))]
     fn read(&self, found: &mut Objects, key: &str, node: &Node) -> Result<Sli, ReadError> {
         let Some(fields) = map_entries(node) else {
             return fail_at(found, key, Rule::NotMap);
@@ -384,66 +299,4 @@ impl ReadForm for SliBody {
             Err(error) => Err(error),
         }
     }
-}
-
-fn copy_source(alloc: Global, source: &MetricSource) -> Result<MetricSource, AllocError>
-    ensures { IfOk result (λ s. s ≡ source.now) }
-{
-    Ok(MetricSource {
-        metric_source_ref: source.metric_source_ref,
-        type_text: copy_optional_text(alloc, &source.type_text)?,
-        spec: copy_optional_part(alloc, &source.spec)?,
-    })
-}
-
-fn copy_events(alloc: Global, events: &Events) -> Result<Events, AllocError>
-    ensures { IfOk result (λ e. e ≡ events.now) }
-{
-    match events {
-        Events::Good(source) => Ok(Events::Good(copy_source(alloc, source)?)),
-        Events::Bad(source) => Ok(Events::Bad(copy_source(alloc, source)?)),
-    }
-}
-
-fn copy_ratio(alloc: Global, ratio: &Ratio) -> Result<Ratio, AllocError>
-    ensures { IfOk result (λ r. r ≡ ratio.now) }
-{
-    match ratio {
-        Ratio::Raw { raw, raw_type } => Ok(Ratio::Raw {
-            raw: copy_source(alloc, raw)?,
-            raw_type: *raw_type,
-        }),
-        Ratio::Counts { total, events } => {
-            let total = copy_source(alloc, total)?;
-            match copy_events(alloc, events) {
-                Ok(events) => Ok(Ratio::Counts { total, events }),
-                Err(error) => {
-                    drop(total);
-                    Err(error)
-                }
-            }
-        }
-    }
-}
-
-fn copy_metric(alloc: Global, metric: &Metric) -> Result<Metric, AllocError>
-    ensures { IfOk result (λ m. m ≡ metric.now) }
-{
-    match metric {
-        Metric::Threshold(source) => Ok(Metric::Threshold(copy_source(alloc, source)?)),
-        Metric::Ratio(ratio) => Ok(Metric::Ratio(RatioMetric {
-            counter: ratio.counter,
-            ratio: copy_ratio(alloc, &ratio.ratio)?,
-        })),
-    }
-}
-
-/// A copy of an indicator.
-pub(crate) fn copy_sli(alloc: Global, sli: &Sli) -> Result<Sli, AllocError>
-    ensures { IfOk result (λ s. s ≡ sli.now) }
-{
-    Ok(Sli {
-        description: copy_optional_text(alloc, &sli.description)?,
-        metric: copy_metric(alloc, &sli.metric)?,
-    })
 }

@@ -1,41 +1,26 @@
-//! Time windows and budgeting methods.
-ghost use Rattle.std.specs.Prelude.{◌≡◌, ◌||◌, cond, IfOk};
+//! Time windows and budgeting methods, as they are read.
+ghost use Rattle.std.specs.Prelude.{◌≡◌, ◌||◌, cond};
 ghost use Rattle.yaml_terms.specs.Spelling.{word};
-ghost use Rattle.yaml_terms.specs.NodeView.{node_view};
-ghost use Rattle.slo_objects.specs.Form.{map_with, single, gives, refused};
-ghost use Rattle.slo_objects.specs.Reading.{Reads};
-ghost use Rattle.slo_objects.specs.Slo.{calendar, time_window, is_rolling as is_rolling_lem};
-ghost use Rattle.slo_objects.specs.Slo.{is_calendar_unit as is_calendar_unit_lem, method_word};
-ghost use Rattle.slo_objects.specs.Slo.{method_value};
-ghost use Rattle.slo_objects.specs.declared.fault.Rule.TheVariants as rules;
+ghost use Rattle.object_terms.specs.Form.{map_with, single, gives, refused};
+ghost use Rattle.object_fields.specs.Reading.{Reads};
+ghost use Rattle.object_terms.specs.Slo.{calendar, time_window, is_rolling as is_rolling_def};
+ghost use Rattle.object_terms.specs.Slo.{is_calendar_unit as is_calendar_unit_def, method_word};
+ghost use Rattle.object_terms.specs.Slo.{method_value};
+ghost use Rattle.object_terms.specs.declared.fault.Rule.TheVariants as rules;
 
-use crate::durations::WindowLengthForm;
-use crate::fault::{ReadError, Rule};
-use crate::field_lines::{optional, required, required_unless};
-use crate::fields::{close_with, fail_at};
-use crate::forms::{ReadForm, ReadText};
-use crate::moments::MomentForm;
-use crate::object::Objects;
-use crate::scalars::{BooleanForm, ZoneForm, is_word};
-use crate::shape::{list_items, map_entries, only_item};
-use crate::slo::{BudgetingMethod, Calendar, TimeWindow};
+use object_fields::{
+    BooleanForm, MomentForm, ReadForm, ReadText, WindowLengthForm, ZoneForm, close_with, fail_at,
+    list_items, map_entries, only_item, optional, required, required_unless,
+};
+use object_terms::keys::{CALENDAR, DURATION, IS_ROLLING, START_TIME, TIME_ZONE};
+use object_terms::{BudgetingMethod, Calendar, Objects, ReadError, Rule, TimeWindow, is_word};
 use slo_duration::Unit;
 use std::alloc::{AllocError, Global};
 use yaml_terms::Node;
 
-// The keys that no other map has.
-pub(crate) const DURATION: &str = "duration";
-
-pub(crate) const IS_ROLLING: &str = "isRolling";
-
-pub(crate) const CALENDAR: &str = "calendar";
-
-pub(crate) const START_TIME: &str = "startTime";
-
-pub(crate) const TIME_ZONE: &str = "timeZone";
-
+/// Whether a window is rolling, by its field.
 fn is_rolling(rolling: Option<bool>) -> bool
-    ensures { result ≡ is_rolling_lem rolling }
+    ensures { result ≡ is_rolling_def rolling }
 {
     match rolling {
         Some(rolling) => rolling,
@@ -43,8 +28,9 @@ fn is_rolling(rolling: Option<bool>) -> bool
     }
 }
 
+/// Whether windows of a calendar may last so many of that unit.
 fn is_calendar_unit(unit: Unit) -> bool
-    ensures { result ≡ is_calendar_unit_lem unit }
+    ensures { result ≡ is_calendar_unit_def unit }
 {
     match unit {
         Unit::Minute => false,
@@ -59,12 +45,13 @@ fn is_calendar_unit(unit: Unit) -> bool
 
 /// Whether a window may have a duration of that unit.
 fn may_have_unit(rolling: bool, unit: Unit) -> bool
-    ensures { result ≡ (rolling || is_calendar_unit_lem unit) }
+    ensures { result ≡ (rolling || is_calendar_unit_def unit) }
 {
     rolling || is_calendar_unit(unit)
 }
 
-#[tactic(auto, unfolding(crate::specs::Slo::method_value))]
+/// The budgeting method of a text, if it is one.
+#[tactic(auto, unfolding(object_terms::specs::Slo::method_value))]
 fn read_method(text: &[u8]) -> Result<BudgetingMethod, Rule>
     ensures { result ≡ method_value text.now }
 {
@@ -112,7 +99,7 @@ impl ReadForm for CalendarForm {
 
     ghost form = { λ _. map_with calendar };
 
-    #[tactic(auto, unfolding(crate::specs::Slo::calendar))]
+    #[tactic(auto, unfolding(object_terms::specs::Slo::calendar))]
     fn read(&self, found: &mut Objects, key: &str, node: &Node) -> Result<Calendar, ReadError> {
         let Some(fields) = map_entries(node) else {
             return fail_at(found, key, Rule::NotMap);
@@ -147,7 +134,7 @@ impl ReadForm for WindowForm {
 
     ghost form = { λ _. map_with time_window };
 
-    #[tactic(auto, unfolding(crate::specs::Slo::time_window))]
+    #[tactic(auto, unfolding(object_terms::specs::Slo::time_window))]
     fn read(&self, found: &mut Objects, key: &str, node: &Node) -> Result<TimeWindow, ReadError> {
         let Some(fields) = map_entries(node) else {
             return fail_at(found, key, Rule::NotMap);

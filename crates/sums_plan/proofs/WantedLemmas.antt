@@ -1,16 +1,15 @@
 -- What is known of the objectives of a catalog, one SLO after another.
-use Rattle.std.proofs.Common.{◌≡◌, ℕ, Bool, true, false, cond, List, [], ◌∷◌}
-use Rattle.std.proofs.Common.{map, filter, Option, Some, None, refl, sym, ap}
-use Rattle.std.proofs.Common.{subst, arith}
+use Rattle.std.proofs.Common.{◌≡◌, ℕ, Bool, true, false, cond, List, [], ◌∷◌, map, filter, Option}
+use Rattle.std.proofs.Common.{Some, None, refl, sym, ap, subst, arith}
 use Rattle.std.specs.List.{All, AllByRecursion, Contains}
 use Rattle.std.specs.Prelude.{option_and_then, slice_get}
 use Rattle.std.proofs.lemmas.List.Elements.{recursion_from_All, All-from_recursion}
 use Rattle.std.proofs.lemmas.List.Elements.{Contains-append_right}
 use Rattle.sample_book.specs.declared.Row.{Row}
-use Rattle.slo_objects.specs.declared.kind.Kind.TheVariants as kinds
-use Rattle.slo_objects.specs.declared.Object.{Object}
-use Rattle.slo_objects.specs.Slo.{slo_in}
-use Rattle.slo_catalog.specs.Keys.{member_of, is_key}
+use Rattle.object_terms.specs.declared.kind.Kind.TheVariants as kinds
+use Rattle.object_terms.specs.declared.Object.{Object}
+use Rattle.object_terms.specs.Slo.{slo_in}
+use Rattle.catalog_terms.specs.Keys.{member_of, is_key}
 use Rattle.slo_catalog.proofs.KeyLemmas.{key_parts}
 use Rattle.catalog_measures.specs.Names.{is_slo, slo_names}
 use Rattle.kept_objectives.specs.kept_sums.Sums.{Fits}

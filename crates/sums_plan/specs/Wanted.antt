@@ -1,7 +1,7 @@
 -- The objectives whose sums are wanted.
 use Rattle.std.specs.Prelude.{List, ◌⊎◌}
 use Rattle.std.specs.List.{Contains, flat_map}
-use Rattle.slo_objects.specs.declared.Object.{Object}
+use Rattle.object_terms.specs.declared.Object.{Object}
 use Rattle.catalog_measures.specs.Names.{slo_names}
 use Rattle.kept_objectives.specs.declared.ObjectiveSums.{ObjectiveSums}
 use Rattle.kept_objectives.specs.Objectives.{IsObjective, measures_of}

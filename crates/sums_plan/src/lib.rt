@@ -6,5 +6,4 @@
 mod objectives;
 mod plan;
 
-pub use catalog_measures::bodies_are_of_their_kinds;
 pub use plan::plan_sums;

@@ -1,23 +1,23 @@
 -- A binding of a catalog is that of an SLO with its objective, which lists its policy.
-use Rattle.std.proofs.Common.{◌≡◌, ◌∙◌, ℕ, suc, ◌+◌, ◌==◌, ◌&&◌, ◌||◌, nat_le, nat_lt, Bool}
-use Rattle.std.proofs.Common.{true, false, cond, not, arith, ap, refl, sym, List, [], ◌∷◌, length}
-use Rattle.std.proofs.Common.{filter, Option, Some, None, option_map, option_and_then, slice_get}
+use Rattle.std.proofs.Common.{◌≡◌, ◌∙◌, ℕ, suc, ◌+◌, ◌==◌, ◌&&◌, ◌||◌, nat_le, nat_lt, Bool, true}
+use Rattle.std.proofs.Common.{false, cond, not, arith, ap, refl, sym, List, [], ◌∷◌, length, filter}
+use Rattle.std.proofs.Common.{Option, Some, None, option_map, option_and_then, slice_get}
 use Rattle.std.proofs.lemmas.Bool.Decides.{nat_tests}
 use Rattle.std.proofs.lemmas.List.Folds.{list_any-append}
 use Rattle.std.proofs.lemmas.Slice.Eq.{bytes_eq-Decides}
 use Rattle.std.specs.List.{flat_map, list_any}
 use Rattle.std.specs.Str.{bytes_eq}
 use Rattle.burn_core.specs.declared.AlertRule.TheVariants.{Page, Ticket}
-use Rattle.slo_objects.specs.Slo.{slo_in}
-use Rattle.slo_objects.specs.declared.AlertCondition.{AlertCondition}
-use Rattle.slo_objects.specs.declared.AlertPolicy.{AlertPolicy}
-use Rattle.slo_objects.specs.declared.Object.{Object}
-use Rattle.slo_objects.specs.declared.Slo.{Slo}
-use Rattle.slo_objects.specs.declared.slo.Objective.{Objective}
-use Rattle.slo_catalog.specs.declared.Binding.{Binding}
-use Rattle.slo_catalog.specs.Bindings.{bindings, bindings_in, bound, bound_from, has_condition}
-use Rattle.slo_catalog.specs.Bindings.{is_empty, lists_condition, policy_named}
-use Rattle.slo_catalog.specs.References.{names_in, page, ticket}
+use Rattle.object_terms.specs.Slo.{slo_in}
+use Rattle.object_terms.specs.declared.AlertCondition.{AlertCondition}
+use Rattle.object_terms.specs.declared.AlertPolicy.{AlertPolicy}
+use Rattle.object_terms.specs.declared.Object.{Object}
+use Rattle.object_terms.specs.declared.Slo.{Slo}
+use Rattle.object_terms.specs.declared.objective.Objective.{Objective}
+use Rattle.catalog_terms.specs.declared.Binding.{Binding}
+use Rattle.catalog_terms.specs.Bindings.{bindings, bindings_in, bound, bound_from, has_condition}
+use Rattle.catalog_terms.specs.Bindings.{is_empty, lists_condition, policy_named}
+use Rattle.catalog_terms.specs.References.{names_in, page, ticket}
 use Rattle.office_history.specs.declared.Measure.{Measure}
 use Rattle.office_history.specs.Alerts.{Watch, condition_named, first_condition, rule_of}
 use Rattle.office_history.specs.Alerts.{same_binding, watch_of, watch_with, watched}

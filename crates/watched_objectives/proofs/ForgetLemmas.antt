@@ -10,7 +10,7 @@ use Rattle.sample_book.specs.declared.Row.{Row}
 use Rattle.sample_book.specs.declared.RowVerdict.{RowVerdict}
 use Rattle.window_sums.specs.Slices.{width_of}
 use Rattle.alert_line.specs.Line.{Line}
-use Rattle.slo_objects.specs.declared.Object.{Object}
+use Rattle.object_terms.specs.declared.Object.{Object}
 use Rattle.kept_lines.specs.Right.{IsRight}
 use Rattle.kept_lines.specs.Touched.{Forgets, LAST_MINUTE}
 use Rattle.kept_lines.proofs.RightLemmas.{right-over-batches}

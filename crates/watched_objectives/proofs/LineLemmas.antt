@@ -1,9 +1,8 @@
 -- What the lines that are kept know of the alerts that a catalog watches.
-use Rattle.std.proofs.Common.{◌≡◌, ◌∙◌, ℕ, zero, suc, ◌+◌, ◌-◌, ◌<◌, ◌≤◌, Bool, true, false}
-use Rattle.std.proofs.Common.{List, [], ◌∷◌}
-use Rattle.std.proofs.Common.{IfSome, Option, Some, None, is_some, option_map, unwrap_or, length}
-use Rattle.std.proofs.Common.{slice_get}
-use Rattle.std.proofs.Common.{slice_index_or, slice_set, arith, ap, refl, subst, sym}
+use Rattle.std.proofs.Common.{◌≡◌, ◌∙◌, ℕ, zero, suc, ◌+◌, ◌-◌, ◌<◌, ◌≤◌, Bool, true, false, List}
+use Rattle.std.proofs.Common.{[], ◌∷◌, IfSome, Option, Some, None, is_some, option_map, unwrap_or}
+use Rattle.std.proofs.Common.{length, slice_get, slice_index_or, slice_set, arith, ap, refl, subst}
+use Rattle.std.proofs.Common.{sym}
 use Rattle.std.specs.Bool.{Decides}
 use Rattle.std.specs.List.{AllByRecursion, Contains}
 use Rattle.std.proofs.lemmas.Option.{get_or_from_slice_get, slice_get_within}
@@ -14,7 +13,7 @@ use Rattle.burn_core.specs.Condition.{condition}
 use Rattle.burn_core.specs.Timeline.{is_active, state_of}
 use Rattle.slo_terms.specs.Sums.{sum_of_slices}
 use Rattle.window_sums.specs.Slices.{CountedDays, width_of}
-use Rattle.slo_objects.specs.declared.Object.{Object}
+use Rattle.object_terms.specs.declared.Object.{Object}
 use Rattle.alert_line.specs.Line.{Agrees, IsMinute, Line, SameAlert, active_on, condition_on}
 use Rattle.alert_line.specs.Line.{den_before}
 use Rattle.office_history.specs.declared.Measure.{Measure}

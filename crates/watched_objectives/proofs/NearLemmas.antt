@@ -3,8 +3,8 @@ use Rattle.std.proofs.Common.{◌≡◌, ◌∙◌, ◌==◌, ◌&&◌, Bool, tr
 use Rattle.std.specs.Str.{bytes_eq}
 use Rattle.std.proofs.lemmas.Bool.{eqb-true}
 use Rattle.std.proofs.lemmas.Slice.Eq.{bytes_eq-Decides}
-use Rattle.slo_objects.specs.declared.Object.{Object}
-use Rattle.slo_catalog.specs.declared.Binding.{Binding}
+use Rattle.object_terms.specs.declared.Object.{Object}
+use Rattle.catalog_terms.specs.declared.Binding.{Binding}
 use Rattle.office_history.specs.Objectives.{measure_at}
 use Rattle.watched_objectives.specs.Near.{IsSeen, is_of}
 use Rattle.watched_objectives.specs.declared.near.Seen.{Seen}

@@ -2,11 +2,11 @@
 use Rattle.std.proofs.Common.{◌≡◌, ◌⊎◌, inl, inr, List, [], ◌∷◌, Option, Some, None, arith, refl}
 use Rattle.std.proofs.Common.{sym, subst}
 use Rattle.std.specs.List.{AllByRecursion, Contains, flat_map}
-use Rattle.std.proofs.lemmas.List.Elements.{All-contains, All-contains_itself}
-use Rattle.std.proofs.lemmas.List.Elements.{All-from_recursion, All-map, recursion_from_All}
-use Rattle.slo_objects.specs.declared.Object.{Object}
-use Rattle.slo_catalog.specs.declared.Binding.{Binding}
-use Rattle.slo_catalog.specs.Bindings.{bindings}
+use Rattle.std.proofs.lemmas.List.Elements.{All-contains, All-contains_itself, All-from_recursion}
+use Rattle.std.proofs.lemmas.List.Elements.{All-map, recursion_from_All}
+use Rattle.object_terms.specs.declared.Object.{Object}
+use Rattle.catalog_terms.specs.declared.Binding.{Binding}
+use Rattle.catalog_terms.specs.Bindings.{bindings}
 use Rattle.office_history.specs.Alerts.{Watch, watch_of}
 use Rattle.office_derived.proofs.kept_objectives_proofs.ListLemmas.{all_append, flat_contains}
 use Rattle.watched_objectives.specs.Watches.{IsWatched}

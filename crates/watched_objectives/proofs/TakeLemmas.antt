@@ -4,7 +4,7 @@ use Rattle.std.proofs.Common.{◌∙◌, Some, None}
 use Rattle.std.specs.Bool.{Decides}
 use Rattle.std.specs.List.{AllByRecursion, Contains, items_where_true}
 use Rattle.std.specs.List.Retain.{IsFiltered, ReturnsInTurn}
-use Rattle.slo_objects.specs.declared.Object.{Object}
+use Rattle.object_terms.specs.declared.Object.{Object}
 use Rattle.alert_line.specs.Line.{Line, knowledge}
 use Rattle.office_history.specs.Alerts.{Watch, holds_at}
 use Rattle.office_history.specs.Counts.{Samples}

@@ -1,7 +1,7 @@
 -- The lines of the alerts that a catalog watches, over the samples of a history.
 use Rattle.std.specs.Prelude.{ℕ, List, map}
 use Rattle.std.specs.List.{AllByRecursion, Contains}
-use Rattle.slo_objects.specs.declared.Object.{Object}
+use Rattle.object_terms.specs.declared.Object.{Object}
 use Rattle.kept_lines.specs.Right.{IsRight}
 use Rattle.office_history.specs.Alerts.{Watch}
 use Rattle.office_history.specs.Counts.{Samples}

@@ -1,9 +1,9 @@
 -- What becomes of the lines as a catalog takes the place of another.
 use Rattle.std.specs.Prelude.{◌≡◌, ◌⊎◌, ℕ, List, [], ◌∷◌, Option, None, Some}
 use Rattle.std.specs.List.{AllByRecursion, Contains, flat_map}
-use Rattle.slo_objects.specs.declared.Object.{Object}
-use Rattle.slo_catalog.specs.declared.Binding.{Binding}
-use Rattle.slo_catalog.specs.Bindings.{bindings}
+use Rattle.object_terms.specs.declared.Object.{Object}
+use Rattle.catalog_terms.specs.declared.Binding.{Binding}
+use Rattle.catalog_terms.specs.Bindings.{bindings}
 use Rattle.alert_line.specs.Line.{knowledge}
 use Rattle.office_history.specs.Alerts.{Watch, watch_of}
 use Rattle.watched_objectives.specs.Watches.{IsWatched}

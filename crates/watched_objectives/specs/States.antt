@@ -1,7 +1,7 @@
 -- How the bindings of a catalog stand.
 use Rattle.std.specs.Prelude.{ℕ}
 use Rattle.burn_core.specs.declared.State.{State}
-use Rattle.slo_catalog.specs.declared.Binding.{Binding}
+use Rattle.catalog_terms.specs.declared.Binding.{Binding}
 use Rattle.office_history.specs.Alerts.{state_if, watch_of}
 use Rattle.office_derived.specs.declared.Derived.{Derived}
 use Rattle.watched_objectives.specs.Sums.{samples_of}

@@ -2,12 +2,12 @@
 use Rattle.std.specs.Prelude.{◌≡◌, ◌&&◌, ℕ, nat_lt, Bool, false, List, length, Option, None, Some}
 use Rattle.std.specs.List.{Contains, list_any}
 use Rattle.std.specs.Str.{bytes_eq}
-use Rattle.slo_objects.specs.Slo.{slo_in}
-use Rattle.slo_objects.specs.declared.Object.{Object}
-use Rattle.slo_objects.specs.declared.Slo.{Slo}
-use Rattle.slo_catalog.specs.declared.Binding.{Binding}
-use Rattle.slo_catalog.specs.Bindings.{bindings}
-use Rattle.slo_catalog.specs.References.{names_in}
+use Rattle.object_terms.specs.Slo.{slo_in}
+use Rattle.object_terms.specs.declared.Object.{Object}
+use Rattle.object_terms.specs.declared.Slo.{Slo}
+use Rattle.catalog_terms.specs.declared.Binding.{Binding}
+use Rattle.catalog_terms.specs.Bindings.{bindings}
+use Rattle.catalog_terms.specs.References.{names_in}
 use Rattle.office_history.specs.Alerts.{Watch, watch_of}
 
 -- the catalog has a binding that watches this

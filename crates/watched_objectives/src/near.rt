@@ -6,9 +6,10 @@ ghost use Rattle.watched_objectives.specs.Near.{IsSeen, is_of as is_of_lem};
 
 use crate::watch::{Watch, with_rule};
 use catalog_measures::measure_at;
+use catalog_terms::Binding;
 use exact_fraction::Label;
 use office_history::Measure;
-use slo_catalog::{Binding, Catalog};
+use slo_catalog::Catalog;
 
 // Where sums and lines are looked for first: where those of the binding before stood, or behind.
 #[derive(Clone, Copy)]

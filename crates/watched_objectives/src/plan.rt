@@ -1,7 +1,7 @@
 //! What becomes of the lines as a catalog takes the place of another.
 ghost use Rattle.std.specs.Prelude.{◌≡◌, ◌++◌, List, All, IfOk, OnOk};
 ghost use Rattle.std.specs.List.{AllByRecursion};
-ghost use Rattle.slo_objects.specs.declared.Object.{Object};
+ghost use Rattle.object_terms.specs.declared.Object.{Object};
 ghost use Rattle.office_history.specs.Alerts.{Watch};
 ghost use Rattle.watched_objectives.specs.Lines.{AreWatched};
 ghost use Rattle.watched_objectives.specs.Plans.{HasLine, IsFresh, IsLinesPlan, watches_at};
@@ -10,7 +10,8 @@ ghost use Rattle.watched_objectives.specs.Plans.{watches_in};
 use crate::kept::{KeptLines, WatchLine, has_line};
 use crate::watch::{Watch, watch_of};
 use alert_line::AlertLine;
-use slo_catalog::{Binding, Catalog};
+use catalog_terms::Binding;
+use slo_catalog::Catalog;
 use std::alloc::{AllocError, Global};
 
 /// The alerts whose lines are to be kept, and the lines of those that had none.

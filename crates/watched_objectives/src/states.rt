@@ -5,7 +5,7 @@ ghost use Rattle.slo_limits.specs.declared.TheConstants.{RANGE_MINUTES};
 ghost use Rattle.office_history.specs.Alerts.{state_if, states_at, watch_of as watch_of_lem};
 ghost use Rattle.office_history.specs.Objectives.{measure_at as measure_at_lem};
 ghost use Rattle.office_derived.specs.Derived.{IsSound};
-ghost use Rattle.slo_catalog.specs.Bindings.{bindings as bindings_lem};
+ghost use Rattle.catalog_terms.specs.Bindings.{bindings as bindings_lem};
 ghost use Rattle.watched_objectives.specs.Sums.{samples_of};
 ghost use Rattle.watched_objectives.specs.Known.{AllKnow};
 ghost use Rattle.watched_objectives.specs.Lines.{HasLines, watches_of};
@@ -15,8 +15,8 @@ ghost use Rattle.watched_objectives.specs.States.{with_state};
 use crate::kept::KeptLines;
 use crate::near::{AT_THE_BEGIN, Hint, Seen, seen_near, watch_seen};
 use burn_core::State;
+use catalog_terms::Binding;
 use office_derived::Derived;
-use slo_catalog::Binding;
 use std::alloc::{AllocError, Global};
 
 // How the alert of a binding of this objective stands, and where those of the next one are looked

@@ -3,7 +3,7 @@ ghost use Rattle.std.specs.Prelude.{◌≡◌, ◌≤◌, ℕ, List, length};
 ghost use Rattle.std.specs.Bool.{Decides};
 ghost use Rattle.std.specs.List.{Contains};
 ghost use Rattle.alert_line.specs.Line.{Line};
-ghost use Rattle.slo_objects.specs.declared.Object.{Object};
+ghost use Rattle.object_terms.specs.declared.Object.{Object};
 ghost use Rattle.office_history.specs.Alerts.{Watch};
 ghost use Rattle.office_history.specs.Counts.{Samples};
 ghost use Rattle.watched_objectives.specs.Known.{IsLineOf};

@@ -8,16 +8,17 @@ ghost use Rattle.catalog_measures.specs.object_ranges.Measures.{IsMeasure};
 ghost use Rattle.office_history.specs.Alerts.{same_binding as same_binding_lem};
 ghost use Rattle.office_history.specs.Alerts.{rule_named as rule_named_lem, watch_with};
 ghost use Rattle.office_history.specs.Alerts.{watch_of as watch_of_lem, watched as watched_lem};
-ghost use Rattle.slo_catalog.specs.References.{names_in};
+ghost use Rattle.catalog_terms.specs.References.{names_in};
 ghost use Rattle.watched_objectives.specs.Watches.{IsWatched, has_both as has_both_lem};
 ghost use Rattle.watched_objectives.specs.Watches.{is_bound_in as is_bound_in_lem};
 
 use burn_core::AlertRule;
 use catalog_measures::{measure_at, rule_named};
+use catalog_terms::Binding;
 use exact_fraction::Label;
+use object_terms::{Body, Names, Object, Slo};
 use office_history::Measure;
-use slo_catalog::{Binding, Catalog};
-use slo_objects::{Body, Names, Object, Slo};
+use slo_catalog::Catalog;
 use std::marker::Model;
 
 /// An objective, and the rule of an alert policy.

@@ -7,8 +7,8 @@ use Rattle.burn_core.specs.declared.alert.State.{State}
 use Rattle.exact_fraction.specs.Ratio.{Ratio, fraction_text}
 use Rattle.notice_box.specs.declared.notice.Notice.{Notice}
 use Rattle.record_form.specs.declared.budget_row.BudgetRow.{BudgetRow}
-use Rattle.slo_objects.specs.Scalars.{kind_word}
-use Rattle.slo_objects.specs.declared.kind.Kind.{Kind}
+use Rattle.object_terms.specs.Scalars.{kind_word}
+use Rattle.object_terms.specs.declared.kind.Kind.{Kind}
 use Rattle.wire_replies.specs.Answers.{object_of, whole}
 
 -- a list of what is said of each

@@ -7,8 +7,8 @@ use Rattle.record_form.specs.declared.refusal.Refusal.{Refusal}
 use Rattle.record_form.specs.declared.refusal.Refusal.TheVariants as refusals
 use Rattle.slice_method.specs.declared.amount.Amount.{Amount}
 use Rattle.slice_method.specs.declared.amount.Amount.TheVariants.{Counts, Value}
-use Rattle.slo_objects.specs.Rules.{rule_word}
-use Rattle.slo_objects.specs.Scalars.{kind_word}
+use Rattle.object_terms.specs.Rules.{rule_word}
+use Rattle.object_terms.specs.Scalars.{kind_word}
 use Rattle.wire_replies.specs.Answers.{error_data, object_of, whole}
 
 -- an amount as it is told: "9990,10000", or a decimal

@@ -10,9 +10,9 @@ use crate::in_json::{InJson, list_value};
 use burn_core::State;
 use exact_fraction::{Fraction, Label};
 use notice_box::Notice;
+use object_terms::Kind;
 use record_form::BudgetRow;
 use serde_json::{Value, json};
-use slo_objects::Kind;
 use std::alloc::{AllocError, Global};
 
 fn fraction_value(alloc: Global, fraction: Option<Fraction>) -> Result<Value, AllocError>

@@ -7,9 +7,9 @@ use Rattle.std.specs.Str.{bytes_eq}
 use Rattle.std.proofs.lemmas.Slice.Eq.{bytes_eq-Decides}
 use Rattle.exact_fraction.specs.Label.{is_label, label_of}
 use Rattle.exact_fraction.specs.ZoneName.{is_zone_name, zone_name_of}
-use Rattle.slo_objects.specs.Scalars.{all_kinds, kind_word, of_word}
-use Rattle.slo_objects.specs.declared.kind.Kind.{Kind}
-use Rattle.slo_objects.specs.declared.kind.Kind.TheVariants as kinds
+use Rattle.object_terms.specs.Scalars.{all_kinds, kind_word, of_word}
+use Rattle.object_terms.specs.declared.kind.Kind.{Kind}
+use Rattle.object_terms.specs.declared.kind.Kind.TheVariants as kinds
 use Rattle.wire_routes.specs.declared.place.Route.{Route}
 use Rattle.wire_routes.specs.declared.place.Route.TheVariants as route
 use Rattle.wire_routes.specs.declared.place.Place.{Place}

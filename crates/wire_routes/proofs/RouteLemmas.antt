@@ -5,9 +5,9 @@ use Rattle.matchit.specs.Router.{RouteOf}
 use Rattle.matchit.specs.Seek.{first, has_slash}
 use Rattle.matchit.proofs.OnLiterals.{matchit_on_literals}
 use Rattle.message_heads.specs.Targets.{path_of}
-use Rattle.slo_objects.specs.Scalars.{kind_word}
-use Rattle.slo_objects.specs.declared.kind.Kind.{Kind}
-use Rattle.slo_objects.specs.declared.kind.Kind.TheVariants as kinds
+use Rattle.object_terms.specs.Scalars.{kind_word}
+use Rattle.object_terms.specs.declared.kind.Kind.{Kind}
+use Rattle.object_terms.specs.declared.kind.Kind.TheVariants as kinds
 use Rattle.wire_routes.specs.declared.place.Route.{Route}
 use Rattle.wire_routes.specs.declared.place.Place.{Place}
 use Rattle.wire_routes.specs.declared.place.Place.TheVariants.{Objects, Object, Zone, Samples}

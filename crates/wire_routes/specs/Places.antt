@@ -2,7 +2,7 @@
 use Rattle.std.specs.Prelude.{◌≡◌, ℕ, true, List, ◌∷◌, ◌++◌, Option, Some, None, codes}
 use Rattle.exact_fraction.specs.Label.{is_label}
 use Rattle.exact_fraction.specs.ZoneName.{is_zone_name}
-use Rattle.slo_objects.specs.Scalars.{kind_word}
+use Rattle.object_terms.specs.Scalars.{kind_word}
 use Rattle.wire_routes.specs.Cuts.{number32}
 use Rattle.wire_routes.specs.declared.place.Place.{Place}
 use Rattle.wire_routes.specs.declared.place.Place.TheVariants.{Objects, Object, Zone, Samples}

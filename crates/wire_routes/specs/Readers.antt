@@ -3,7 +3,7 @@ use Rattle.std.specs.Prelude.{ℕ, cond, List, Option, Some, None, option_map, o
 use Rattle.std.specs.Str.{bytes_eq}
 use Rattle.exact_fraction.specs.Label.{label_of}
 use Rattle.exact_fraction.specs.ZoneName.{zone_name_of}
-use Rattle.slo_objects.specs.Scalars.{all_kinds, kind_word, of_word}
+use Rattle.object_terms.specs.Scalars.{all_kinds, kind_word, of_word}
 use Rattle.wire_routes.specs.Cuts.{after_word, cut_at, number32}
 use Rattle.wire_routes.specs.declared.place.Place.{Place}
 use Rattle.wire_routes.specs.declared.place.Place.TheVariants.{Objects, Object, Zone, Samples}

@@ -1,7 +1,7 @@
 //! What paths name.
 
 use exact_fraction::{Label, ZoneName};
-use slo_objects::Kind;
+use object_terms::Kind;
 
 /// The paths of the routes.
 #[derive(Clone, Copy)]

@@ -7,7 +7,7 @@ ghost use Rattle.wire_routes.specs.Readers.{zone_at};
 use crate::cuts::{after_word, cut_at, read_number32};
 use crate::place::{Place, Route};
 use exact_fraction::{Label, read_label, read_zone_name};
-use slo_objects::Kind;
+use object_terms::Kind;
 
 fn fixed_at(path: &[u8], spelled: &[u8], place: Place) -> Option<Place>
     ensures { result ≡ fixed_at spelled.now place path.now }

@@ -22,8 +22,8 @@ use crate::routed::Routed;
 use crate::samples::{SampleFault, read_samples};
 use exact_fraction::{Bytes, Label, ZoneName};
 use message_heads::{Message, target_of};
+use object_terms::Kind;
 use record_form::{Command, Query, Request};
-use slo_objects::Kind;
 use std::alloc::{AllocError, Global};
 use wire_terms::{Allow, Immediate};
 

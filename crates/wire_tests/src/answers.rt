@@ -4,10 +4,10 @@ use exact_fraction::{
     Bytes, Fraction, Label, Text, ZoneName, read_decimal, read_label, read_zone_name,
 };
 use notice_box::Notice;
+use object_terms::{Kind, Rule};
 use office_outside::{Failed, MemorySink, Plan};
 use record_form::{BudgetRow, LimitName, Listed, Outcome, Refusal, YamlWord};
 use slice_method::Amount;
-use slo_objects::{Kind, Rule};
 use std::alloc::{AllocError, Global};
 use std::test::Fail;
 use wire_replies::{Reply, bad_message, immediate_reply, render, write_reply};

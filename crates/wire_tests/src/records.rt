@@ -1,8 +1,8 @@
 //! Records written out by hand from the format, and bytes that are none.
 use exact_fraction::Decimal;
+use object_terms::Kind;
 use record_form::{Command, LimitName, Outcome, Refusal, YamlWord, read_record, write_record};
 use sample_book::{Amount, Exclusion, Row};
-use slo_objects::Kind;
 use std::test::Fail;
 use yaml_terms::ProfileFault;
 

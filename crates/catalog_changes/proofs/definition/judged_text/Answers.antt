@@ -1,7 +1,7 @@
 use Rattle.std.proofs.Common.{◌≡◌, ◌∙◌, ℕ, List, Err, length, sym, ap, subst}
 use Rattle.definition_verdict.specs.declared.Definition.{Definition}
 use Rattle.definition_verdict.specs.Verdict.{IsDefinition, IsRefused}
-use Rattle.slo_catalog.specs.Catalog.{with_members}
+use Rattle.catalog_terms.specs.Catalog.{with_members}
 use Rattle.office_history.specs.Catalog.{text_objects}
 use Rattle.office_history.specs.declared.Judgement.{Judgement}
 use Rattle.office_history.specs.declared.Judgement.TheVariants.{Refused}

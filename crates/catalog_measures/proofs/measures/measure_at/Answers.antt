@@ -1,9 +1,9 @@
 use Rattle.std.proofs.Common.{◌≡◌, ◌∙◌, ap, List, option_map, slice_get, subst, sym, Some}
 use Rattle.std.proofs.lemmas.Option.{slice_get-map}
 use Rattle.object_ranges.specs.Measures.{IsMeasure}
-use Rattle.object_ranges.specs.Ranges.{IsObjective}
-use Rattle.slo_objects.specs.declared.Objective.{Objective}
-use Rattle.slo_objects.specs.declared.Slo.{Slo}
+use Rattle.object_laws.specs.Ranges.{IsObjective}
+use Rattle.object_terms.specs.declared.Objective.{Objective}
+use Rattle.object_terms.specs.declared.Slo.{Slo}
 use Rattle.sample_book.proofs.TallyLemmas.{all_at}
 use Rattle.object_ranges.specs.office_history.declared.Measure.{Measure}
 use Rattle.object_ranges.specs.office_history.Objectives.{measure_at, measure_of}

@@ -2,10 +2,10 @@ use Rattle.std.proofs.Common.{◌≡◌, ◌∙◌, subst, sym, All, Some}
 use Rattle.std.specs.List.{AllByRecursion}
 use Rattle.std.proofs.lemmas.List.Elements.{recursion_from_All}
 use Rattle.object_ranges.specs.Measures.{IsMeasure}
-use Rattle.object_ranges.specs.Ranges as ranges
+use Rattle.object_laws.specs.Ranges as ranges
 use Rattle.object_ranges.specs.office_history.Objectives.{measure_of, measures_named, reading_named}
 use Rattle.object_ranges.specs.office_history.Objectives.{slo_named}
-use Rattle.slo_objects.specs.declared.Slo.{Slo}
+use Rattle.object_terms.specs.declared.Slo.{Slo}
 use Rattle.kept_objectives.specs.Objectives.{IsObjective}
 use Rattle.kept_objectives.proofs.ObjectiveLemmas.{all_objectives}
 use Rattle.catalog_measures.proofs.CatalogLemmas.{all_made, measures_there}

@@ -1,7 +1,7 @@
 use Rattle.std.proofs.Common.{◌≡◌, Ok, Err, ap, rules, subst}
 use Rattle.std.specs.List.{All}
 use Rattle.yaml_terms.specs.NodeView.{nodes_view}
-use Rattle.slo_objects.specs.Document.{IsOfDocument}
+use Rattle.object_terms.specs.Document.{IsOfDocument}
 use Rattle.record_form.specs.declared.Refusal.{Refusal}
 use Rattle.record_form.specs.declared.Refusal.TheVariants.{Yaml}
 use Rattle.definition_verdict.specs.declared.definition.VerdictError.TheVariants.{Refused}

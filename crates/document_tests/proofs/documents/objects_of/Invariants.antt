@@ -1,5 +1,5 @@
 use Rattle.std.specs.List.{All}
-use Rattle.slo_objects.specs.Document.{IsOfDocument}
+use Rattle.object_terms.specs.Document.{IsOfDocument}
 use Rattle.document_tests.proofs.documents.objects_of.Given as goal
 
 abbrev pub invariant-loop-node : goal.invariant-loop-node

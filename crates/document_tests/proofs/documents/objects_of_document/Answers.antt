@@ -1,9 +1,9 @@
 use Rattle.std.proofs.Common.{Result, List, subst}
 use Rattle.std.specs.Prelude.{IfOk}
 use Rattle.std.specs.List.{All}
-use Rattle.slo_objects.specs.declared.ReadError.{ReadError}
-use Rattle.slo_objects.specs.declared.Object.{Object}
-use Rattle.slo_objects.specs.Document.{IsOfDocument}
+use Rattle.object_terms.specs.declared.ReadError.{ReadError}
+use Rattle.object_terms.specs.declared.Object.{Object}
+use Rattle.object_terms.specs.Document.{IsOfDocument}
 use Rattle.document_tests.proofs.documents.objects_of_document.Goals as goal
 
 pub returns : goal.returns

@@ -1,5 +1,5 @@
 use Rattle.std.proofs.Common.{◌≡◌, take, map}
-use Rattle.slo_objects.specs.declared.object.Object.{Object}
+use Rattle.object_terms.specs.declared.object.Object.{Object}
 use Rattle.history_answers.proofs.object_list.names_of.Given as goal
 
 abbrev pub invariant-loop-member : goal.invariant-loop-member

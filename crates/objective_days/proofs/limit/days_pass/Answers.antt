@@ -1,6 +1,6 @@
 use Rattle.std.proofs.Common.{◌++◌, arith, ap, ◌∙◌}
-use Rattle.slo_objects.specs.declared.Object.{Object}
-use Rattle.slo_objects.specs.Slo.{slo_in}
+use Rattle.object_terms.specs.declared.Object.{Object}
+use Rattle.object_terms.specs.Slo.{slo_in}
 use Rattle.sample_book.specs.Rows.{current_rows}
 use Rattle.office_history.specs.Batches.{days_of_slo}
 use Rattle.objective_days.proofs.Few.{passes_already}

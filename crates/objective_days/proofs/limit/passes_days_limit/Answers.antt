@@ -1,6 +1,6 @@
 use Rattle.std.proofs.Common.{refl, ◌*◌, ◌≤◌, sum_by, subst, List}
 use Rattle.slo_limits.specs.declared.TheConstants.{MAX_DAYS}
-use Rattle.slo_objects.specs.declared.Object.{Object}
+use Rattle.object_terms.specs.declared.Object.{Object}
 use Rattle.objective_days.specs.Days.{objectives_of}
 use Rattle.objective_days.proofs.Few.{never_passes, on_days}
 use Rattle.objective_days.proofs.limit.passes_days_limit.Goals as goal

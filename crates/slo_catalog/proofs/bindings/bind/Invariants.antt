@@ -1,5 +1,5 @@
 use Rattle.std.proofs.Common.{◌≡◌, ◌++◌, drop}
-use Rattle.slo_catalog.specs.Bindings.{bound}
+use Rattle.catalog_terms.specs.Bindings.{bound}
 use Rattle.slo_catalog.proofs.bindings.bind.Given as goal
 
 -- the bindings so far and those to the policies that are left are those to all

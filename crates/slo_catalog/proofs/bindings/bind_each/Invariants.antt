@@ -1,5 +1,5 @@
 use Rattle.std.proofs.Common.{◌≡◌, ◌++◌, drop}
-use Rattle.slo_catalog.specs.Bindings.{bound_from}
+use Rattle.catalog_terms.specs.Bindings.{bound_from}
 use Rattle.slo_catalog.proofs.bindings.bind_each.Given as goal
 
 -- the bindings so far and those of the objectives that are left are those of all

@@ -1,6 +1,6 @@
 use Rattle.std.proofs.Common.{◌≡◌, ◌++◌, drop, flat_map}
-use Rattle.slo_objects.specs.Slo.{slo_in}
-use Rattle.slo_catalog.specs.Bindings.{bindings_in, bindings}
+use Rattle.object_terms.specs.Slo.{slo_in}
+use Rattle.catalog_terms.specs.Bindings.{bindings_in, bindings}
 use Rattle.slo_catalog.proofs.bindings.bindings_of.Given as goal
 
 -- the bindings so far and those of the objects that are left are those of all

@@ -1,5 +1,5 @@
 use Rattle.std.proofs.Common.{◌≡◌, ◌++◌, drop, filter}
-use Rattle.slo_catalog.specs.Bindings.{has_condition}
+use Rattle.catalog_terms.specs.Bindings.{has_condition}
 use Rattle.slo_catalog.proofs.bindings.policies_with_condition.Given as goal
 
 -- the policies that were kept so far and those that will be of the rest are those of all

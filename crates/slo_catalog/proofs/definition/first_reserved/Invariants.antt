@@ -1,5 +1,5 @@
 use Rattle.std.proofs.Common.{◌≡◌, drop}
-use Rattle.slo_catalog.specs.Define.{first_reserved}
+use Rattle.catalog_terms.specs.Define.{first_reserved}
 use Rattle.slo_catalog.proofs.definition.first_reserved.Given as goal
 
 abbrev pub invariant-loop-member : goal.invariant-loop-member

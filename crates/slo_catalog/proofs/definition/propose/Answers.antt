@@ -1,6 +1,6 @@
 use Rattle.std.proofs.Common.{sym, subst}
-use Rattle.slo_catalog.specs.Keys.{IsSorted}
-use Rattle.slo_catalog.specs.References.{IsLegal}
+use Rattle.catalog_terms.specs.Keys.{IsSorted}
+use Rattle.catalog_terms.specs.References.{IsLegal}
 use Rattle.slo_catalog.proofs.DefineLemmas.{joined_by}
 use Rattle.slo_catalog.proofs.definition.propose.Goals as goal
 

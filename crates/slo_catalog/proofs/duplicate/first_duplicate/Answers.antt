@@ -1,6 +1,6 @@
 use Rattle.std.proofs.Common.{rules, ◌≡◌, true}
-use Rattle.slo_catalog.specs.Keys.{member_of}
-use Rattle.slo_catalog.specs.Define.{is_other_than}
+use Rattle.catalog_terms.specs.Keys.{member_of}
+use Rattle.catalog_terms.specs.Define.{is_other_than}
 use Rattle.slo_catalog.proofs.DuplicateLemmas.{ends_at, stops_at}
 use Rattle.slo_catalog.proofs.duplicate.first_duplicate.Goals as goal
 

@@ -1,5 +1,5 @@
 use Rattle.std.proofs.Common.{◌≡◌, ◌≤◌, take}
-use Rattle.slo_catalog.specs.Limits.{count_of_kind}
+use Rattle.catalog_terms.specs.Limits.{count_of_kind}
 use Rattle.slo_catalog.proofs.limits.count_of_kind.Given as goal
 
 -- the count so far

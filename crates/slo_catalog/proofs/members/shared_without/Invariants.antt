@@ -1,5 +1,5 @@
 use Rattle.std.proofs.Common.{◌≡◌, ◌++◌, drop}
-use Rattle.slo_catalog.specs.Catalog.{without}
+use Rattle.catalog_terms.specs.Catalog.{without}
 use Rattle.slo_catalog.proofs.members.shared_without.Given as goal
 
 abbrev pub invariant-loop-member : goal.invariant-loop-member

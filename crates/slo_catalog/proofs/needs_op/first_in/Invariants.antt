@@ -1,6 +1,6 @@
 use Rattle.std.proofs.Common.{◌≡◌, drop}
-use Rattle.slo_catalog.specs.NeedsOp.{needing_op}
-use Rattle.slo_catalog.specs.References.{first_given}
+use Rattle.catalog_terms.specs.NeedsOp.{needing_op}
+use Rattle.catalog_terms.specs.References.{first_given}
 use Rattle.slo_catalog.proofs.needs_op.first_in.Given as goal
 
 abbrev pub invariant-loop-member : goal.invariant-loop-member

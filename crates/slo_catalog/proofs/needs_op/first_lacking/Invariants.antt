@@ -1,6 +1,6 @@
 use Rattle.std.proofs.Common.{◌≡◌, drop}
 use Rattle.std.specs.List.{position_from}
-use Rattle.slo_catalog.specs.NeedsOp.{lacks_op}
+use Rattle.catalog_terms.specs.NeedsOp.{lacks_op}
 use Rattle.slo_catalog.proofs.needs_op.first_lacking.Given as goal
 
 abbrev pub invariant-loop-objective : goal.invariant-loop-objective

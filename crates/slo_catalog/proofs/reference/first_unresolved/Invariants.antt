@@ -1,5 +1,5 @@
 use Rattle.std.proofs.Common.{◌≡◌, drop}
-use Rattle.slo_catalog.specs.References.{first_unresolved}
+use Rattle.catalog_terms.specs.References.{first_unresolved}
 use Rattle.slo_catalog.proofs.reference.first_unresolved.Given as goal
 
 abbrev pub invariant-loop-member : goal.invariant-loop-member

@@ -1,5 +1,5 @@
 use Rattle.std.proofs.Common.{◌≡◌, ◌++◌, drop}
-use Rattle.slo_catalog.specs.References.{references_to}
+use Rattle.catalog_terms.specs.References.{references_to}
 use Rattle.slo_catalog.proofs.reference.refer.Given as goal
 
 -- the references so far and those to the names that are left are those to all

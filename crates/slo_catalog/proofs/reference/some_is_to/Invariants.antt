@@ -1,6 +1,6 @@
 use Rattle.std.proofs.Common.{◌≡◌, drop}
 use Rattle.std.specs.List.{list_any}
-use Rattle.slo_catalog.specs.References.{is_to}
+use Rattle.catalog_terms.specs.References.{is_to}
 use Rattle.slo_catalog.proofs.reference.some_is_to.Given as goal
 
 abbrev pub invariant-loop-reference : goal.invariant-loop-reference

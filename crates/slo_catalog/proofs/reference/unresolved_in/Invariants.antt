@@ -1,5 +1,5 @@
 use Rattle.std.proofs.Common.{◌≡◌, drop, find, not}
-use Rattle.slo_catalog.specs.References.{is_resolved}
+use Rattle.catalog_terms.specs.References.{is_resolved}
 use Rattle.slo_catalog.proofs.reference.unresolved_in.Given as goal
 
 abbrev pub invariant-loop-reference : goal.invariant-loop-reference

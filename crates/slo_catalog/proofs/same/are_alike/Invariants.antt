@@ -1,5 +1,5 @@
 use Rattle.std.proofs.Common.{◌≡◌, drop}
-use Rattle.slo_catalog.specs.Define.{is_unchanged}
+use Rattle.catalog_terms.specs.Define.{is_unchanged}
 use Rattle.slo_catalog.proofs.same.are_alike.Given as goal
 
 abbrev pub invariant-loop-member : goal.invariant-loop-member

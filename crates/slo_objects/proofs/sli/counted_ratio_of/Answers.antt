@@ -1,5 +1,5 @@
-use Rattle.slo_objects.specs.Sli.{counted_ratio}
-use Rattle.slo_objects.proofs.ReadLemmas.{reads_behind}
+use Rattle.object_terms.specs.Sli.{counted_ratio}
+use Rattle.object_fields.proofs.ReadLemmas.{reads_behind}
 use Rattle.slo_objects.proofs.sli.counted_ratio_of.Goals as goal
 
 -- line by line

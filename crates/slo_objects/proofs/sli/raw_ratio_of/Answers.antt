@@ -1,5 +1,5 @@
-use Rattle.slo_objects.specs.Sli.{raw_ratio}
-use Rattle.slo_objects.proofs.ReadLemmas.{reads_behind}
+use Rattle.object_terms.specs.Sli.{raw_ratio}
+use Rattle.object_fields.proofs.ReadLemmas.{reads_behind}
 use Rattle.slo_objects.proofs.sli.raw_ratio_of.Goals as goal
 
 -- line by line

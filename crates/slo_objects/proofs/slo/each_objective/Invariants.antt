@@ -1,7 +1,7 @@
 use Rattle.std.proofs.Common.{◌≡◌, ◌≤◌, [], drop, length}
-use Rattle.slo_objects.specs.Form.{each}
-use Rattle.slo_objects.specs.Reading.{trees_view}
-use Rattle.slo_objects.specs.Slo.{objective_item}
+use Rattle.object_terms.specs.Form.{each}
+use Rattle.object_fields.specs.Reading.{trees_view}
+use Rattle.object_terms.specs.Slo.{objective_item}
 use Rattle.slo_objects.proofs.slo.each_objective.Given as goal
 
 -- what is read so far, and what the rest gives; each item gave one objective

@@ -1,6 +1,6 @@
 use Rattle.std.proofs.Common.{◌∙◌, ◌++◌, List, ap, map, refl}
 use Rattle.burn_core.specs.declared.State.{State}
-use Rattle.slo_catalog.specs.declared.Binding.{Binding}
+use Rattle.catalog_terms.specs.declared.Binding.{Binding}
 use Rattle.watched_objectives.specs.States.{with_state}
 use Rattle.watched_objectives.proofs.KnownLemmas.{all_know, know_on}
 use Rattle.watched_objectives.proofs.StateLemmas.{next_state}

@@ -1,5 +1,5 @@
 use Rattle.std.proofs.Common.{◌≤◌, List, subst, sym, arith}
-use Rattle.slo_objects.specs.declared.Object.{Object}
+use Rattle.object_terms.specs.declared.Object.{Object}
 use Rattle.office_history.specs.Catalog.{catalog_in}
 use Rattle.office_history.specs.History.{present}
 use Rattle.history_answers.specs.Learning.{KnowsAnswered}

@@ -1,5 +1,5 @@
 use Rattle.std.proofs.Common.{sym, ap, ◌∙◌, arith}
-use Rattle.slo_catalog.specs.Limits.{total_weight}
+use Rattle.catalog_terms.specs.Limits.{total_weight}
 use Rattle.slo_catalog.proofs.WeightLemmas.{room_for_one}
 use Rattle.slo_catalog.proofs.member_list.MemberList.bytes_with.Goals as goal
 

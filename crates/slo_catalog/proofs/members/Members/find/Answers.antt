@@ -1,5 +1,5 @@
 use Rattle.std.proofs.Common.{ap, ◌∙◌}
-use Rattle.slo_catalog.specs.Keys.{member_of}
+use Rattle.catalog_terms.specs.Keys.{member_of}
 use Rattle.slo_catalog.proofs.PlaceLemmas.{place_there, place_free, found_at, none_at}
 use Rattle.slo_catalog.proofs.members.Members.find.Goals as goal
 

@@ -1,5 +1,5 @@
 use Rattle.std.proofs.Common.{sym, subst}
-use Rattle.slo_catalog.specs.Keys.{IsSorted}
+use Rattle.catalog_terms.specs.Keys.{IsSorted}
 use Rattle.slo_catalog.proofs.PutLemmas.{put_sorted}
 use Rattle.slo_catalog.proofs.members.Members.put.Goals as goal
 

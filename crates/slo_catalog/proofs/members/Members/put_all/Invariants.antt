@@ -1,5 +1,5 @@
 use Rattle.std.proofs.Common.{◌≡◌, drop}
-use Rattle.slo_catalog.specs.Catalog.{with_members}
+use Rattle.catalog_terms.specs.Catalog.{with_members}
 use Rattle.slo_catalog.proofs.members.Members.put_all.Given as goal
 
 abbrev pub invariant-loop-member : goal.invariant-loop-member

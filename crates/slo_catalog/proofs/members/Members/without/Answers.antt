@@ -1,6 +1,6 @@
 use Rattle.std.proofs.Common.{sym, ap, ◌∙◌, subst}
-use Rattle.slo_catalog.specs.Keys.{IsSorted}
-use Rattle.slo_catalog.specs.Catalog.{without}
+use Rattle.catalog_terms.specs.Keys.{IsSorted}
+use Rattle.catalog_terms.specs.Catalog.{without}
 use Rattle.slo_catalog.proofs.PutLemmas.{without_sorted}
 use Rattle.slo_catalog.proofs.members.Members.without.Goals as goal
 

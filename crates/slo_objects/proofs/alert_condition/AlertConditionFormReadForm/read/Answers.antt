@@ -1,6 +1,6 @@
 use Rattle.std.proofs.Common.{sym}
-use Rattle.slo_objects.specs.AlertCondition.{alert_condition}
-use Rattle.slo_objects.proofs.ReadLemmas.{reads_behind}
+use Rattle.object_terms.specs.AlertCondition.{alert_condition}
+use Rattle.object_fields.proofs.ReadLemmas.{reads_behind}
 use Rattle.slo_objects.proofs.alert_condition.AlertConditionFormReadForm.read.Goals as goal
 
 -- line by line

@@ -1,6 +1,6 @@
 use Rattle.std.proofs.Common.{sym}
-use Rattle.slo_objects.specs.AlertNotificationTarget.{alert_notification_target}
-use Rattle.slo_objects.proofs.ReadLemmas.{reads_behind}
+use Rattle.object_terms.specs.AlertNotificationTarget.{alert_notification_target}
+use Rattle.object_fields.proofs.ReadLemmas.{reads_behind}
 use Rattle.slo_objects.proofs.alert_notification_target.TargetFormReadForm.read.Goals as goal
 
 -- line by line

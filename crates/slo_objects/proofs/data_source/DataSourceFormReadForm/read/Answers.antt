@@ -1,6 +1,6 @@
 use Rattle.std.proofs.Common.{sym}
-use Rattle.slo_objects.specs.DataSource.{data_source}
-use Rattle.slo_objects.proofs.ReadLemmas.{reads_behind}
+use Rattle.object_terms.specs.DataSource.{data_source}
+use Rattle.object_fields.proofs.ReadLemmas.{reads_behind}
 use Rattle.slo_objects.proofs.data_source.DataSourceFormReadForm.read.Goals as goal
 
 -- line by line

@@ -1,7 +1,7 @@
 use Rattle.std.proofs.Common.{sym}
 use Rattle.std.proofs.lemmas.Result.{err_from_is_err_and}
-use Rattle.slo_objects.specs.Slo.{objective}
-use Rattle.slo_objects.proofs.ReadLemmas.{fails_then, fails_behind, reads_behind}
+use Rattle.object_terms.specs.Slo.{objective}
+use Rattle.object_fields.proofs.ReadLemmas.{fails_then, fails_behind, reads_behind}
 use Rattle.slo_objects.proofs.objective.ObjectiveFormReadForm.read.Goals as goal
 
 -- line by line

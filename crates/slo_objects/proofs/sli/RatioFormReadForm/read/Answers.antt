@@ -1,6 +1,6 @@
 use Rattle.std.proofs.Common.{sym}
-use Rattle.slo_objects.specs.Sli.{ratio_metric}
-use Rattle.slo_objects.proofs.ReadLemmas.{reads_behind}
+use Rattle.object_terms.specs.Sli.{ratio_metric}
+use Rattle.object_fields.proofs.ReadLemmas.{reads_behind}
 use Rattle.slo_objects.proofs.sli.RatioFormReadForm.read.Goals as goal
 
 pub returns-in-Some-2 : goal.returns-in-Some-2

@@ -1,8 +1,8 @@
 use Rattle.std.proofs.Common.{◌≡◌, true, rules, sym}
-use Rattle.slo_objects.specs.Form.{count}
-use Rattle.slo_objects.specs.Reading.{trees_view}
-use Rattle.slo_objects.specs.Slo.{is_objective_count, objective_item}
-use Rattle.slo_objects.proofs.ListLemmas.{reads_each}
+use Rattle.object_terms.specs.Form.{count}
+use Rattle.object_fields.specs.Reading.{trees_view}
+use Rattle.object_terms.specs.Slo.{is_objective_count, objective_item}
+use Rattle.object_fields.proofs.ListLemmas.{reads_each}
 use Rattle.slo_objects.proofs.slo.ObjectivesFormReadForm.read.Goals as goal
 
 pub returns : goal.returns

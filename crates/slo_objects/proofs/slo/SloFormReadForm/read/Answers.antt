@@ -1,6 +1,6 @@
 use Rattle.std.proofs.Common.{sym}
-use Rattle.slo_objects.specs.Slo.{slo}
-use Rattle.slo_objects.proofs.ReadLemmas.{fails_then, fails_behind, reads_behind}
+use Rattle.object_terms.specs.Slo.{slo}
+use Rattle.object_fields.proofs.ReadLemmas.{fails_then, fails_behind, reads_behind}
 use Rattle.slo_objects.proofs.slo.SloFormReadForm.read.Goals as goal
 
 -- line by line

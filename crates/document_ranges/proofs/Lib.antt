@@ -1,4 +1,0 @@
-pub mod Reading
-pub mod Lines
-pub mod Tables
-pub mod Documents

@@ -1,5 +1,0 @@
-use Rattle.document_ranges.proofs.Documents.{kinds_of}
-use Rattle.document_ranges.proofs.laws.bodies_are_of_their_kinds.Goals as goal
-
-pub returns : goal.returns
-returns c = kinds_of c.each_object_reads_back.ensures

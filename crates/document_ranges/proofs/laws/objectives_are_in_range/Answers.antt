@@ -1,5 +1,0 @@
-use Rattle.document_ranges.proofs.Documents.{objectives}
-use Rattle.document_ranges.proofs.laws.objectives_are_in_range.Goals as goal
-
-pub returns : goal.returns
-returns c = objectives c.each_object_reads_back.ensures

@@ -1,0 +1,4 @@
+mod TextLemmas
+pub mod ReadLemmas
+pub mod ListLemmas
+pub mod CountLemmas

@@ -1,0 +1,15 @@
+use Rattle.std.proofs.Common.{ap, ◌∙◌}
+use Rattle.yaml_terms.specs.Spelling.{fields, no_fields}
+use Rattle.object_terms.specs.Form.{fields_by}
+use Rattle.object_terms.specs.Sli.{metric_source}
+use Rattle.object_writing.specs.Adding.{before}
+use Rattle.object_writing.proofs.writing.sli.metric_source_map.Goals as goal
+
+-- line by line, from the last to the first
+pub returns : goal.returns
+unfolding metric_source
+returns c = c.map_of.ensures ∙ ap fields
+    (c.in_ok-optional_free.ensures no_fields
+    ∙ c.in_ok-optional_text.ensures _
+    ∙ c.in_ok-optional_name.ensures _
+    ∙ ap (λ ps. before ps (fields_by metric_source c.args.value.now)) c.new-fields.ensures.items)

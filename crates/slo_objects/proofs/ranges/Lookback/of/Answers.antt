@@ -1,6 +1,0 @@
-use Rattle.std.proofs.Common.{sym}
-use Rattle.slo_objects.proofs.RangeLemmas.{lookback_is}
-use Rattle.slo_objects.proofs.ranges.Lookback.of.Goals as goal
-
-pub returns-then-rolling_minutes-le-MAX_LOOKBACK : goal.returns-then-rolling_minutes-le-MAX_LOOKBACK
-returns-then-rolling_minutes-le-MAX_LOOKBACK c = sym (lookback_is.again _)

@@ -1,6 +1,0 @@
-use Rattle.std.proofs.Common.{sym}
-use Rattle.slo_objects.proofs.RangeLemmas.{window_is}
-use Rattle.slo_objects.proofs.ranges.WindowLength.of.Goals as goal
-
-pub returns-then-rolling_minutes-le-MAX_WINDOW : goal.returns-then-rolling_minutes-le-MAX_WINDOW
-returns-then-rolling_minutes-le-MAX_WINDOW c = sym (window_is.again _)

@@ -1,5 +1,0 @@
-use Rattle.slo_objects.proofs.CountLemmas.{only_none}
-use Rattle.slo_objects.proofs.shape.only_item.Goals as goal
-
-pub returns-in-len2-up : goal.returns-in-len2-up
-returns-in-len2-up c = only_none c.args.items.now c.in-len2-up.len_at_least
