@@ -5,7 +5,7 @@ use Rattle.std.proofs.lemmas.List.{append-nil}
 use Rattle.std.specs.Cmp.{IsEquivalence}
 use Rattle.std.specs.List.{find}
 use Rattle.slo_terms.specs.Rows.{newer, current}
-use Rattle.sample_book.proofs.CurrentLemmas.{settle, current-push}
+use Rattle.slo_terms.proofs.CurrentLemmas.{settle, current-push}
 
 module _ {A : Type 0} (rev : A → ℕ) where
   -- what stays of a kept row and one that comes

@@ -3,7 +3,8 @@ use Rattle.std.specs.Prelude.{ℕ, Bool, List}
 use Rattle.slice_method.specs.declared.Amount.TheVariants.{Counts}
 use Rattle.counter_book.specs.declared.Difference.{Difference}
 use Rattle.sample_book.specs.declared.Row.{Row}
-use Rattle.sample_book.specs.Rows.{cell_eq, cell_of}
+use Rattle.cell_index.specs.Cells.{cell_eq}
+use Rattle.sample_book.specs.Rows.{cell_of}
 
 -- the row of a difference under an indicator, as it is sent to an office
 abbrev pub sample_of : List ℕ → Difference → Row

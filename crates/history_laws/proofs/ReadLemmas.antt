@@ -5,7 +5,7 @@ use Rattle.std.specs.List.{AllByRecursion, find, list_any}
 use Rattle.std.specs.Option.{option_or}
 use Rattle.std.proofs.lemmas.List.{append-nil}
 use Rattle.std.proofs.lemmas.List.Elements.{All-from_recursion, recursion_from_All}
-use Rattle.sample_book.specs.declared.Cell.{Cell}
+use Rattle.cell_index.specs.declared.Cell.{Cell}
 use Rattle.sample_book.specs.declared.Row.{Row}
 use Rattle.sample_book.specs.Counting.{first_of, is_of}
 use Rattle.sample_book.specs.Puts.{verdicts}

@@ -7,10 +7,11 @@ use Rattle.std.proofs.lemmas.Bool.{and_parts}
 use Rattle.std.proofs.lemmas.Bool.Decides.{leb_tells, nat_tests}
 use Rattle.sample_book.specs.declared.Exclusion.{Exclusion}
 use Rattle.sample_book.specs.declared.Row.{Row}
-use Rattle.sample_book.specs.Chains.{below, is_on, last, last_place}
+use Rattle.cell_index.specs.Chains.{below, last}
+use Rattle.sample_book.specs.LastRows.{is_on, last_place}
 use Rattle.sample_book.specs.Counting.{is_of}
 use Rattle.sample_book.specs.Exclusions.{excludes}
-use Rattle.sample_book.proofs.ChainLemmas.{last-behind, last-passes, last-within}
+use Rattle.cell_index.proofs.ChainLemmas.{last-behind, last-passes, last-within}
 use Rattle.window_sums.specs.Slices.{day_of}
 use Rattle.office_history.specs.declared.Measure.{Measure}
 use Rattle.kept_sums.specs.Sums.{row_counts}

@@ -8,7 +8,7 @@ use Rattle.std.proofs.lemmas.List.{append-nil}
 use Rattle.slice_method.specs.declared.Counts.{Counts}
 use Rattle.slice_method.specs.declared.Method.{Method}
 use Rattle.slo_terms.specs.Sums.{amount_at, sum_over}
-use Rattle.sample_book.specs.declared.Cell.{Cell}
+use Rattle.cell_index.specs.declared.Cell.{Cell}
 use Rattle.sample_book.specs.declared.Exclusion.{Exclusion}
 use Rattle.sample_book.specs.declared.Row.{Row}
 use Rattle.sample_book.specs.declared.RowVerdict.{RowVerdict}

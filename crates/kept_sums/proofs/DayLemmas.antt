@@ -9,7 +9,7 @@ use Rattle.slice_method.specs.declared.Counts.{Counts}
 use Rattle.slice_method.specs.Readings.{counts}
 use Rattle.sample_book.specs.declared.Exclusion.{Exclusion}
 use Rattle.sample_book.specs.declared.Row.{Row}
-use Rattle.sample_book.specs.Chains.{is_on}
+use Rattle.sample_book.specs.LastRows.{is_on}
 use Rattle.sample_book.specs.Counting.{is_of}
 use Rattle.sample_book.specs.Exclusions.{excludes, is_excluded}
 use Rattle.window_sums.specs.Shares.{IsSmall}

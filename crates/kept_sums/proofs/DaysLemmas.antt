@@ -9,9 +9,10 @@ use Rattle.slice_method.specs.declared.Counts.{Counts}
 use Rattle.slo_terms.specs.Sums.{amount_at}
 use Rattle.sample_book.specs.declared.Exclusion.{Exclusion}
 use Rattle.sample_book.specs.declared.Row.{Row}
-use Rattle.sample_book.specs.Chains.{last, last_place}
+use Rattle.cell_index.specs.Chains.{last}
+use Rattle.sample_book.specs.LastRows.{last_place}
 use Rattle.sample_book.specs.Counting.{is_of}
-use Rattle.sample_book.proofs.ChainLemmas.{last-behind, last-within}
+use Rattle.cell_index.proofs.ChainLemmas.{last-behind, last-within}
 use Rattle.std.proofs.lemmas.Cmp.{nat_eq_equiv}
 use Rattle.window_sums.specs.Shares.{IsSumOf, Share, slice_counts}
 use Rattle.window_sums.specs.Slices.{CountedDays, counts_of, day_of, has_day, no_counts, slice_of}

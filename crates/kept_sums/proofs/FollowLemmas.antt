@@ -6,7 +6,7 @@ use Rattle.std.specs.List.{AllByRecursion}
 use Rattle.std.specs.Str.{bytes_eq}
 use Rattle.std.proofs.lemmas.List.{append-nil}
 use Rattle.slice_method.specs.declared.Counts.{Counts}
-use Rattle.sample_book.specs.declared.Cell.{Cell}
+use Rattle.cell_index.specs.declared.Cell.{Cell}
 use Rattle.sample_book.specs.declared.Exclusion.{Exclusion}
 use Rattle.sample_book.specs.declared.Row.{Row}
 use Rattle.sample_book.specs.declared.RowVerdict.{RowVerdict}
@@ -19,7 +19,7 @@ use Rattle.sample_book.specs.Rows.{MayPutAs, cell_of, current_rows, same_cell, v
 use Rattle.sample_book.specs.Puts.{verdicts}
 use Rattle.sample_book.proofs.BatchLemmas.{length-current, verdicts-at}
 use Rattle.sample_book.proofs.CameLemmas.{pass-current, put-current}
-use Rattle.sample_book.proofs.CurrentLemmas.{current-distinct}
+use Rattle.slo_terms.proofs.CurrentLemmas.{current-distinct}
 use Rattle.sample_book.proofs.PutLemmas.{put_placed}
 use Rattle.sample_book.proofs.StandingLemmas.{cell_laws}
 use Rattle.window_sums.specs.Shares.{IsSmall, IsSumOf, Share}

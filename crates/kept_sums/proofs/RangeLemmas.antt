@@ -15,7 +15,7 @@ use Rattle.slo_limits.specs.declared.TheConstants.{MINUTES_A_DAY}
 use Rattle.slice_method.specs.declared.Counts.{Counts}
 use Rattle.sample_book.specs.declared.Exclusion.{Exclusion}
 use Rattle.sample_book.specs.declared.Row.{Row}
-use Rattle.sample_book.specs.Chains.{is_on}
+use Rattle.sample_book.specs.LastRows.{is_on}
 use Rattle.sample_book.specs.Counting.{is_of}
 use Rattle.window_sums.specs.Shares.{IsSumOf, slice_counts}
 use Rattle.window_sums.specs.Slices.{CountedDays, counts_of, counts_outside, day_of, has_day}

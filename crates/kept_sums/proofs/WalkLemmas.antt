@@ -5,8 +5,9 @@ use Rattle.std.proofs.Common.{append_assoc, slice_get, Option, Some}
 use Rattle.std.proofs.lemmas.List.{append-nil, map-append}
 use Rattle.slice_method.specs.declared.Counts.{Counts}
 use Rattle.sample_book.specs.declared.Row.{Row}
-use Rattle.sample_book.specs.Chains.{below, last, last_place}
-use Rattle.sample_book.proofs.ChainLemmas.{last-behind, last-passes, last-within}
+use Rattle.cell_index.specs.Chains.{below, last}
+use Rattle.sample_book.specs.LastRows.{last_place}
+use Rattle.cell_index.proofs.ChainLemmas.{last-behind, last-passes, last-within}
 use Rattle.window_sums.specs.Shares.{IsSmall, IsSumOf, Share}
 use Rattle.window_sums.specs.Slices.{CountedDays}
 use Rattle.kept_sums.specs.Replacing.{MayReplace, among}

@@ -9,66 +9,13 @@ use Rattle.std.proofs.lemmas.Bool.Decides.{nat_tests}
 use Rattle.std.proofs.lemmas.List.Quantifiers.{position-Some}
 use Rattle.std.proofs.lemmas.Option.{get_or_from_slice_get, slice_get_within}
 use Rattle.std.proofs.lemmas.Slice.Eq.{bytes_eq-Decides}
-use Rattle.name_numbers.specs.Names.{IsNumber, named_with}
-
--- the first place at which a test passes, by recursion on the list
-abbrev first : {A : Type 0} → (A → Bool) → List A → Option ℕ
-first p [] = None
-first p (x ∷ xs) = cond (p x) (Some 0) (option_map suc (first p xs))
-
-next_place : (n l : ℕ) → cond (nat_lt (1 + n) (suc l)) (Some (1 + n)) None
-    ≡ option_map suc (cond (nat_lt n l) (Some n) None)
-next_place n l = by (nat_lt n l) refl
-  where
-    by : (b : Bool) → nat_lt n l ≡ b
-        → cond (nat_lt (1 + n) (suc l)) (Some (1 + n)) None ≡ option_map suc (cond b (Some n) None)
-    by true e = grind (arith, nat_tests)
-    by false e = grind (arith, nat_tests)
-
-place_zero : (l : ℕ) → cond {A = Option ℕ} (nat_lt 0 (suc l)) (Some 0) None ≡ Some 0
-place_zero l = grind (arith, nat_tests)
-
-position-first : {A : Type 0} (p : A → Bool) (xs : List A) → position p xs ≡ first p xs
-position-first p [] = refl
-position-first p (x ∷ xs) = by (p x) (position-first p xs)
-  where
-    by : (b : Bool) → position p xs ≡ first p xs →
-        cond (nat_lt (cond (not b) (1 + position_or_len p xs) 0) (suc (length xs)))
-        (Some (cond (not b) (1 + position_or_len p xs) 0)) None
-        ≡ cond b (Some 0) (option_map suc (first p xs))
-    by true rest = place_zero (length xs)
-    by false rest = next_place (position_or_len p xs) (length xs) ∙ ap (option_map suc) rest
-
-none-first : {A : Type 0} (p : A → Bool) (xs : List A) → first p xs ≡ None
-    → list_any p xs ≡ false
-none-first p [] h = refl
-none-first p (x ∷ xs) h = by (p x) (first p xs) h (none-first p xs)
-  where
-    by : (b : Bool) (o : Option ℕ) → cond b (Some 0) (option_map suc o) ≡ None
-        → (o ≡ None → list_any p xs ≡ false) → (b || list_any p xs) ≡ false
-    by true o h go = cc h
-    by false None h go = go refl
-    by false (Some n) h go = cc h
-
--- what fails everywhere fails at a place
-fails_at : {A : Type 0} (p : A → Bool) (xs : List A) (n : ℕ) (d : A) → list_any p xs ≡ false
-    → n < length xs → p (get_or xs n d) ≡ false
-fails_at p [] n d h lt = absurd (omega arith)
-fails_at p (x ∷ xs) zero d h lt = by (p x) h
-  where
-    by : (b : Bool) → (b || list_any p xs) ≡ false → b ≡ false
-    by true h = h
-    by false h = refl
-fails_at p (x ∷ xs) (suc n) d h lt = fails_at p xs n d (by (p x) h) (omega arith)
-  where
-    by : (b : Bool) → (b || list_any p xs) ≡ false → list_any p xs ≡ false
-    by true h = cc h
-    by false h = h
+use Rattle.name_numbers.specs.Names.{IsNumber, name_at, named_with}
+use Rattle.name_numbers.proofs.FirstPlaces.{first, position-first, none-first, fails_at}
 
 -- a name that is another than all in a list is another than the one at a place
 apart_at : (name : List ℕ) (names : List (List ℕ)) (n : ℕ)
     → AllByRecursion (λ other. bytes_eq name other ≡ false) names → n < length names
-    → bytes_eq name (get_or names n []) ≡ false
+    → bytes_eq name (name_at names n) ≡ false
 apart_at name [] n all lt = absurd (omega arith)
 apart_at name (x ∷ xs) zero all lt = all.0
 apart_at name (x ∷ xs) (suc n) all lt = apart_at name xs n all.1 (omega arith)
@@ -83,9 +30,9 @@ eq-above : (n : ℕ) → nat_eq (suc n) 0 ≡ false
 eq-above n = grind (arith, nat_tests)
 
 -- of names that stand once each the number tells which name it is
-same_number : (names : List (List ℕ)) (name : List ℕ) (i j : ℕ)
+pub same_number : (names : List (List ℕ)) (name : List ℕ) (i j : ℕ)
     → IsDistinct bytes_eq names → first (bytes_eq name) names ≡ Some i → j < length names
-    → nat_eq i j ≡ bytes_eq name (get_or names j [])
+    → nat_eq i j ≡ bytes_eq name (name_at names j)
 unfolding IsDistinct
 same_number [] name i j apart here lt = cc here
 same_number (x ∷ xs) name i j apart here lt =
@@ -94,8 +41,8 @@ same_number (x ∷ xs) name i j apart here lt =
     later : (o : Option ℕ) (j : ℕ) → first (bytes_eq name) xs ≡ o → option_map suc o ≡ Some i →
         j < length xs →
         ((k : ℕ) → first (bytes_eq name) xs ≡ Some k
-        → nat_eq k j ≡ bytes_eq name (get_or xs j [])) →
-        nat_eq i (suc j) ≡ bytes_eq name (get_or xs j [])
+        → nat_eq k j ≡ bytes_eq name (name_at xs j)) →
+        nat_eq i (suc j) ≡ bytes_eq name (name_at xs j)
     later None j o e lt go = cc e
     later (Some k) j o e lt go = let s : suc k ≡ i = cc e in
         ap (λ n. nat_eq n (suc j)) (sym s) ∙ eq-suc k j ∙ go k o
@@ -108,13 +55,13 @@ same_number (x ∷ xs) name i j apart here lt =
     by : (b : Bool) (j : ℕ) → bytes_eq name x ≡ b →
         cond b (Some 0) (option_map suc (first (bytes_eq name) xs)) ≡ Some i → j < length (x ∷ xs) →
         ((k j : ℕ) → first (bytes_eq name) xs ≡ Some k
-        → j < length xs → nat_eq k j ≡ bytes_eq name (get_or xs j [])) →
-        nat_eq i j ≡ bytes_eq name (get_or (x ∷ xs) j [])
+        → j < length xs → nat_eq k j ≡ bytes_eq name (name_at xs j)) →
+        nat_eq i j ≡ bytes_eq name (name_at (x ∷ xs) j)
     by true zero b e lt go = let z : 0 ≡ i = cc e in ap (λ n. nat_eq n zero) (sym z) ∙ sym b
     by true (suc j) b e lt go =
         let z : 0 ≡ i = cc e in
         ap (λ n. nat_eq n (suc j)) (sym z) ∙ eq-zero j ∙ sym
-        (nat_list_eq_equiv.congr name x (get_or xs j []) b ∙ apart_at x xs j apart.0 (omega arith))
+        (nat_list_eq_equiv.congr name x (name_at xs j) b ∙ apart_at x xs j apart.0 (omega arith))
     by false zero b e lt go = none_before (first (bytes_eq name) xs) e ∙ sym b
     by false (suc j) b e lt go = let below : j < length xs = omega arith in
         later (first (bytes_eq name) xs) j refl e below (λ k h. go k j h below)
@@ -124,12 +71,12 @@ pub position_at : (names : List (List ℕ)) (name : List ℕ) (i : ℕ) → IsDi
     → slice_get names i ≡ Some name → position (bytes_eq name) names ≡ Some i
 position_at names name i apart there =
     let within = slice_get_within names i name there in
-    let at : get_or names i [] ≡ name = get_or_from_slice_get names i name [] there in
-    let same : bytes_eq name (get_or names i []) ≡ true = rw at (nat_list_eq_equiv.refl name) in
+    let at : name_at names i ≡ name = get_or_from_slice_get names i name [] there in
+    let same : bytes_eq name (name_at names i) ≡ true = rw at (nat_list_eq_equiv.refl name) in
     position-first (bytes_eq name) names ∙ by (first (bytes_eq name) names) refl within same
   where
     by : (o : Option ℕ) → first (bytes_eq name) names ≡ o → i < length names
-        → bytes_eq name (get_or names i []) ≡ true → o ≡ Some i
+        → bytes_eq name (name_at names i) ≡ true → o ≡ Some i
     by None e within same =
         (let no = fails_at (bytes_eq name) names i [] (none-first (bytes_eq name) names e) within in
         cc (no, same))
@@ -203,5 +150,5 @@ apart-numbers names name s n k (Some q) far e h p same =
     (position-Some (bytes_eq s) names k [] p).1 in
     let b : bytes_eq name (get_or names q []) ≡ true =
     (position-Some (bytes_eq name) names q [] e).1 in
-    far ((bytes_eq-Decides s (get_or names k [])).0 a ∙ ap (λ i. get_or names i []) (same ∙ h)
+    far ((bytes_eq-Decides s (get_or names k [])).0 a ∙ ap (λ i. name_at names i) (same ∙ h)
     ∙ sym ((bytes_eq-Decides name (get_or names q [])).0 b))

@@ -1,16 +1,16 @@
 // Names, numbered in the order in which they came.
-ghost use Rattle.std.specs.Prelude.{◌≡◌, List, ℕ, [], length, IfSome, OnErr, OnOk, Some, take};
-ghost use Rattle.std.specs.Prelude.{true};
-ghost use Rattle.std.specs.List.{position};
+ghost use Rattle.std.specs.Prelude.{◌≡◌, ◌<◌, ◌++◌, ◌∷◌, List, ℕ, [], length, IfOk, IfSome, OnErr, OnOk, Some};
+ghost use Rattle.std.specs.Prelude.{None, slice_get, take, true};
+ghost use Rattle.std.specs.List.{IsDistinct, position};
 ghost use Rattle.std.specs.Str.{bytes_eq};
-ghost use Rattle.name_numbers.specs.Names.{IsNumber, named_with};
+ghost use Rattle.name_numbers.specs.Names.{IsGrown, IsNumber, name_at, named_with};
 
 use exact_fraction::Label;
 use indexmap::IndexSet;
 use std::alloc::{AllocError, Global};
 use std::marker::Model;
 
-// A number of a name is a `u32`.
+/// A number of a name is a `u32`.
 const MOST_NAMES: usize = 4_294_967_296;
 
 /// Names by their numbers, which count from 0 in the order in which the names came.
@@ -53,9 +53,10 @@ impl NameTable {
         self.set.len()
     }
 
-    // Whether a name has this number.
+    /// Whether a name has this number.
     fn is_at(&self, number: u32, name: &Label) -> bool
-        ensures { result ≡ true → position (bytes_eq name.now) self.now ≡ Some number }
+        ensures number { result ≡ true → position (bytes_eq name.now) self.now ≡ Some number }
+        ensures distinct { IsDistinct bytes_eq self.now }
     {
         let set = &self.set;
         match set.get_index(number as usize) {
@@ -64,7 +65,7 @@ impl NameTable {
         }
     }
 
-    // The number that came after the latest one last time.
+    /// The number that came after the latest one last time.
     fn follower(&self) -> u32 {
         match self.followers.get(self.latest as usize) {
             Some(number) => *number,
@@ -74,14 +75,15 @@ impl NameTable {
 
     /// The number of a name, where it has one.
     pub fn find(&self, name: &Label) -> Option<u32>
-        ensures { result ≡ position (bytes_eq name.now) self.now }
+        ensures number { result ≡ position (bytes_eq name.now) self.now }
+        ensures distinct { IsDistinct bytes_eq self.now }
     {
-        if self.is_at(self.latest, name) {
-            return Some(self.latest);
-        }
         let guess = self.follower();
         if self.is_at(guess, name) {
             return Some(guess);
+        }
+        if self.is_at(self.latest, name) {
+            return Some(self.latest);
         }
         let number = self.set.get_index_of(name)?;
         Some(number as u32)
@@ -104,7 +106,7 @@ impl NameTable {
         }
     }
 
-    // Notes that a number was used, for the next look-ups.
+    /// Notes that a number was used, for the next look-ups.
     fn note(&mut self, number: u32)
         ensures { self.new ≡ self.old }
     {
@@ -112,6 +114,45 @@ impl NameTable {
             *follower = number;
         }
         self.latest = number;
+    }
+
+    /// The name of a number.
+    pub fn name(&self, number: u32) -> Label
+        requires { number < length self.now }
+        ensures { result ≡ name_at self.now number }
+    {
+        *self.set.get_index(number as usize).unwrap()
+    }
+
+    /// The number of a name, which gets one where it has none.
+    ///
+    /// # Errors
+    ///
+    /// Where memory runs out, or numbers do. The table is as before then.
+    pub fn number(&mut self, name: &Label) -> Result<u32, AllocError>
+        ensures ok { OnOk result (self.new ≡
+            named_with (position (bytes_eq name.now) self.old) self.old name.now) }
+        ensures number { IfOk result
+            (λ number. position (bytes_eq name.now) self.new ≡ Some number) }
+        ensures err { OnErr result (self.new ≡ self.old) }
+        ensures grown { IsGrown self.old self.new }
+        ensures distinct { IsDistinct bytes_eq self.new }
+    {
+        if let Some(number) = self.find(name) {
+            self.note(number);
+            return Ok(number);
+        }
+        let count = self.set.len();
+        if count >= MOST_NAMES || make_follower(&mut self.followers, count).is_err() {
+            return Err(AllocError);
+        }
+        match self.set.insert_full(*name) {
+            Ok(_) => {
+                self.note(count as u32);
+                Ok(count as u32)
+            }
+            Err(_) => Err(AllocError),
+        }
     }
 
     /// Gives a name a number, where it has none.
@@ -124,20 +165,9 @@ impl NameTable {
             named_with (position (bytes_eq name.now) self.old) self.old name.now) }
         ensures err { OnErr result (self.new ≡ self.old) }
     {
-        if let Some(number) = self.find(name) {
-            self.note(number);
-            return Ok(());
-        }
-        let count = self.set.len();
-        if count >= MOST_NAMES || make_follower(&mut self.followers, count).is_err() {
-            return Err(AllocError);
-        }
-        match self.set.insert_full(*name) {
-            Ok(_) => {
-                self.note(count as u32);
-                Ok(())
-            }
-            Err(_) => Err(AllocError),
+        match self.number(name) {
+            Ok(_) => Ok(()),
+            Err(refused) => Err(refused),
         }
     }
 
@@ -152,7 +182,7 @@ impl NameTable {
     }
 }
 
-// A place for what comes after so many numbers.
+/// A place for what comes after so many numbers.
 fn make_follower(followers: &mut Vec<u32>, count: usize) -> Result<(), AllocError> {
     if followers.len() <= count {
         followers.extend_from_slice(&[0u32])?;

@@ -14,11 +14,12 @@ use Rattle.std.proofs.lemmas.Bool.{or_parts}
 use Rattle.std.proofs.lemmas.Bool.Decides.{nat_tests}
 use Rattle.slo_terms.specs.Rows.{newer}
 use Rattle.sample_book.specs.declared.row.Row.{Row}
-use Rattle.sample_book.specs.declared.row.Cell.{Cell}
+use Rattle.cell_index.specs.declared.Cell.{Cell}
 use Rattle.sample_book.specs.Rows.{cell_of, same_cell, current_rows}
-use Rattle.sample_book.specs.Chains.{is_on, last, last_place, later, below}
+use Rattle.sample_book.specs.LastRows.{is_on, last_place}
+use Rattle.cell_index.specs.Chains.{last, later, below}
 use Rattle.sample_book.specs.Counting.{is_of}
-use Rattle.sample_book.proofs.CurrentLemmas.{settle, current-push}
+use Rattle.slo_terms.proofs.CurrentLemmas.{settle, current-push}
 use Rattle.sample_book.proofs.StandingLemmas.{cell_laws, cell_same}
 use Rattle.office_history.specs.Batches.{days_of}
 use Rattle.objective_days.specs.Days.{IsOnDays, has_day, days_passing}

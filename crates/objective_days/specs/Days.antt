@@ -8,7 +8,7 @@ use Rattle.object_terms.specs.Slo.{slo_in}
 use Rattle.std.specs.List.{list_any}
 use Rattle.slo_terms.specs.Sums.{sum_over}
 use Rattle.sample_book.specs.declared.Row.{Row}
-use Rattle.sample_book.specs.Chains.{is_on}
+use Rattle.sample_book.specs.LastRows.{is_on}
 
 -- a row's minute lies in [origin, until)
 abbrev pub IsWithin : ℕ → ℕ → Row → Type 0

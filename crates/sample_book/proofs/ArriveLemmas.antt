@@ -5,17 +5,19 @@ use Rattle.std.proofs.Common.{length, refl, ap, sym, subst, arith, take, drop, s
 use Rattle.std.proofs.Common.{is_some, Option, Some, None}
 use Rattle.std.specs.List.{IsDistinct, find, list_any, position}
 use Rattle.std.proofs.lemmas.List.{append-nil}
-use Rattle.sample_book.specs.declared.row.Cell.{Cell}
+use Rattle.cell_index.specs.declared.Cell.{Cell}
 use Rattle.sample_book.specs.declared.row.Row.{Row}
 use Rattle.sample_book.specs.declared.row.RowVerdict.{RowVerdict}
 use Rattle.sample_book.specs.declared.row.RowVerdict.TheVariants.{New}
 use Rattle.sample_book.specs.declared.stored.Stored.{Stored}
 use Rattle.sample_book.specs.History.{is_put, rows_after}
 use Rattle.sample_book.specs.Puts.{IsPutInto}
-use Rattle.sample_book.specs.Rows.{MayPutAs, cell_eq, cell_of, current_rows, same_cell, verdict_of}
-use Rattle.sample_book.specs.Rows.{verdict_on, verdict_where, with_cell}
+use Rattle.sample_book.specs.Rows.{MayPutAs, cell_of, current_rows, same_cell, verdict_of}
+use Rattle.cell_index.specs.Cells.{cell_eq}
+use Rattle.sample_book.specs.Rows.{verdict_on, verdict_where}
+use Rattle.cell_index.specs.Cells.{with_cell}
 use Rattle.sample_book.specs.Standing.{IsInStep, MOST_CELLS, row_stored, rows_stored}
-use Rattle.sample_book.proofs.FirstPlaces.{any-position, first, position-first}
+use Rattle.name_numbers.proofs.FirstPlaces.{any-position, first, position-first}
 use Rattle.sample_book.proofs.PutLemmas.{newer_on, placed_settled}
 use Rattle.sample_book.proofs.StandingLemmas.{RoomMade, kept_at, none_found, none_kept, put_apart}
 use Rattle.sample_book.proofs.StandingLemmas.{put_behind, put_current, room_made, row_at, settle_at}

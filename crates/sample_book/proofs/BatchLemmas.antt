@@ -13,14 +13,14 @@ use Rattle.sample_book.specs.declared.row.RowVerdict.{RowVerdict}
 use Rattle.sample_book.specs.declared.row.RowVerdict.TheVariants.{New, Newer, Repeated, Superseded}
 use Rattle.sample_book.specs.declared.row.RowVerdict.TheVariants.{Conflict}
 use Rattle.std.proofs.lemmas.List.{drop_more, take_more}
-use Rattle.sample_book.specs.declared.row.Cell.{Cell}
+use Rattle.cell_index.specs.declared.Cell.{Cell}
 use Rattle.sample_book.specs.History.{MayComeAll, MayComeAs, room_after, rows_after}
 use Rattle.sample_book.specs.Puts.{is_conflict, is_new, is_settled, later_of, verdicts}
 use Rattle.sample_book.specs.Rows.{cell_of, current_rows, kept_of, room_for, same_amount, same_cell}
 use Rattle.sample_book.specs.Rows.{verdict_of, verdict_on, verdict_where}
 use Rattle.sample_book.proofs.CameLemmas.{after-current, put-current}
 use Rattle.sample_book.proofs.RoomLemmas.{room-enough}
-use Rattle.sample_book.proofs.CurrentLemmas.{current-current, current-push, settle}
+use Rattle.slo_terms.proofs.CurrentLemmas.{current-current, current-push, settle}
 use Rattle.sample_book.proofs.StandingLemmas.{cell_laws}
 
 -- what becomes of a row where another of its cell came in between

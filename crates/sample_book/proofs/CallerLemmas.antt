@@ -5,7 +5,8 @@ use Rattle.std.specs.List.{find, list_any}
 use Rattle.slo_terms.specs.Rows.{first_of_each}
 use Rattle.sample_book.specs.declared.row.Row.{Row}
 use Rattle.sample_book.specs.declared.row.RowVerdict.TheVariants.{New}
-use Rattle.sample_book.specs.Rows.{cell_of, cell_eq, same_cell, kept_of, verdict_where, verdict_of}
+use Rattle.sample_book.specs.Rows.{cell_of, same_cell, kept_of, verdict_where, verdict_of}
+use Rattle.cell_index.specs.Cells.{cell_eq}
 use Rattle.sample_book.specs.Rows.{room_for}
 use Rattle.sample_book.proofs.StandingLemmas.{newer_verdict}
 

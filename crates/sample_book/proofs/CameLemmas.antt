@@ -8,7 +8,7 @@ use Rattle.sample_book.specs.declared.row.RowVerdict.TheVariants.{Conflict}
 use Rattle.sample_book.specs.Rows.{same_cell, current_rows, kept_of, same_amount, verdict_on}
 use Rattle.sample_book.specs.Rows.{verdict_where, verdict_of}
 use Rattle.sample_book.specs.History.{is_put, rows_after}
-use Rattle.sample_book.proofs.CurrentLemmas.{settle, settle-kept, current-push, current-step}
+use Rattle.slo_terms.proofs.CurrentLemmas.{settle, settle-kept, current-push, current-step}
 use Rattle.sample_book.proofs.StandingLemmas.{cell_laws}
 
 -- A row that is put over the current rows of those before it leaves the current rows of all.

@@ -10,18 +10,18 @@ use Rattle.std.specs.Cmp.Lexicographic.{nat_list_eq_equiv}
 use Rattle.std.proofs.lemmas.Bool.{and_parts}
 use Rattle.std.proofs.lemmas.Bool.Decides.{nat_tests}
 use Rattle.std.proofs.lemmas.List.{length-map, map-append, take-take}
-use Rattle.sample_book.specs.Chains.{AreLinked, HasRoomFor, group_eq, last, later}
+use Rattle.cell_index.specs.Chains.{AreLinked, HasRoomFor, group_eq, last, later}
 use Rattle.sample_book.specs.Exclusions.{AreExclusions, excludes, is_excluded, after_lifting}
 use Rattle.sample_book.specs.ExclusionGroups.{AreGrouped, day_of, excludes_in, excludes_on}
 use Rattle.sample_book.specs.ExclusionGroups.{group_of, group_of_kept, room_left}
-use Rattle.sample_book.specs.declared.chains.Chains.{Chains}
-use Rattle.sample_book.specs.declared.chains.Group.{Group}
+use Rattle.cell_index.specs.declared.Chains.{Chains}
+use Rattle.cell_index.specs.declared.Group.{Group}
 use Rattle.sample_book.specs.declared.exclusions.Exclusion.{Exclusion}
-use Rattle.sample_book.proofs.CellLemmas.{map-take}
-use Rattle.sample_book.proofs.ChainLemmas.{group_same, last-map, last-push, last-take, last-within}
-use Rattle.sample_book.proofs.ChainLemmas.{length-few, length-links}
+use Rattle.cell_index.proofs.ListLemmas.{map-take}
+use Rattle.cell_index.proofs.ChainLemmas.{group_same, last-map, last-push, last-take, last-within}
+use Rattle.cell_index.proofs.ChainLemmas.{length-few, length-links}
 use Rattle.sample_book.proofs.StandingLemmas.{list_any-append}
-use Rattle.sample_book.proofs.TallyLemmas.{take_at}
+use Rattle.cell_index.proofs.ListLemmas.{take_at}
 
 -- what two tests find together
 any-or : {A : Type 0} (p q : A → Bool) (xs : List A)

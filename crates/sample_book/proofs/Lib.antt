@@ -1,7 +1,4 @@
 pub mod ArriveLemmas
-pub mod FirstPlaces
-pub mod CellLemmas
-pub mod CurrentLemmas
 pub mod StandingLemmas
 pub mod TallyLemmas
 pub mod CameLemmas
@@ -11,10 +8,7 @@ pub mod HistoryLemmas
 pub mod RoomLemmas
 pub mod IdLemmas
 pub mod BatchLemmas
-pub mod BucketLemmas
-pub mod NumberLemmas
-pub mod PlaceLemmas
 pub mod PutLemmas
-pub mod ChainLemmas
-pub mod ExtentLemmas
 pub mod GroupLemmas
+pub mod IndexLemmas
+pub mod LastRowLemmas

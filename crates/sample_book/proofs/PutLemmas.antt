@@ -3,7 +3,7 @@ use Rattle.std.proofs.Common.{◌≡◌, Bool, true, false, cond, refl, sym, sub
 use Rattle.std.proofs.Common.{◌++◌, nat_lt, Option, Some, None, if◌then◌else◌}
 use Rattle.std.specs.List.{IsDistinct}
 use Rattle.slo_terms.specs.Rows.{newer}
-use Rattle.sample_book.specs.declared.row.Cell.{Cell}
+use Rattle.cell_index.specs.declared.Cell.{Cell}
 use Rattle.sample_book.specs.declared.row.Row.{Row}
 use Rattle.sample_book.specs.declared.row.RowVerdict.{RowVerdict}
 use Rattle.sample_book.specs.declared.row.RowVerdict.TheVariants.{Newer, Repeated, Superseded}
@@ -12,7 +12,7 @@ use Rattle.sample_book.specs.History.{is_put}
 use Rattle.sample_book.specs.Puts.{IsPutInto, behind, in_place}
 use Rattle.sample_book.specs.Rows.{MayPutAs, cell_of, current_rows, kept_of, same_amount, same_cell}
 use Rattle.sample_book.specs.Rows.{verdict_of, verdict_on, verdict_where}
-use Rattle.sample_book.proofs.CurrentLemmas.{settle}
+use Rattle.slo_terms.proofs.CurrentLemmas.{settle}
 use Rattle.sample_book.proofs.StandingLemmas.{cell_same, put_current}
 
 pub newer_on : (kept row : Row) → is_put (verdict_on kept row) ≡ true

@@ -5,16 +5,17 @@ use Rattle.std.proofs.Common.{Some, None}
 use Rattle.std.specs.List.{find, list_any, IsDistinct}
 use Rattle.std.proofs.lemmas.List.{map-append}
 use Rattle.slo_terms.specs.Rows.{newer, first_of_each}
-use Rattle.sample_book.specs.declared.row.Cell.{Cell}
+use Rattle.cell_index.specs.declared.Cell.{Cell}
 use Rattle.sample_book.specs.declared.row.Row.{Row}
 use Rattle.sample_book.specs.declared.row.RowVerdict.{RowVerdict}
 use Rattle.sample_book.specs.declared.row.RowVerdict.TheVariants.{New, Newer, Repeated, Superseded}
 use Rattle.sample_book.specs.declared.row.RowVerdict.TheVariants.{Conflict}
 use Rattle.sample_book.specs.History.{MayComeAll, MayComeAs, is_put, room_after}
-use Rattle.sample_book.specs.Rows.{cell_of, cell_eq, same_cell, current_rows, kept_of, new_cells}
+use Rattle.sample_book.specs.Rows.{cell_of, same_cell, current_rows, kept_of, new_cells}
+use Rattle.cell_index.specs.Cells.{cell_eq}
 use Rattle.sample_book.specs.Rows.{room_for, same_amount, verdict_of, verdict_on, verdict_where}
 use Rattle.sample_book.proofs.CallerLemmas.{no_cell}
-use Rattle.sample_book.proofs.CurrentLemmas.{settle, settle-new, current-distinct}
+use Rattle.slo_terms.proofs.CurrentLemmas.{settle, settle-new, current-distinct}
 use Rattle.sample_book.proofs.StandingLemmas.{cell_laws, cell_same, list_any-append, put_current}
 
 filter-both : {A : Type 0} (p q : A → Bool) (xs : List A)

@@ -15,20 +15,23 @@ use Rattle.std.proofs.lemmas.List.{append-nil}
 use Rattle.std.proofs.lemmas.List.Elements.{filter-append}
 use Rattle.std.proofs.lemmas.Slice.Eq.{bytes_eq-Decides}
 use Rattle.slo_terms.specs.Rows.{newer, first_of_each}
-use Rattle.sample_book.specs.declared.row.Cell.{Cell}
+use Rattle.cell_index.specs.declared.Cell.{Cell}
+use Rattle.cell_index.proofs.ListLemmas.{eq-itself}
 use Rattle.sample_book.specs.declared.row.Row.{Row}
 use Rattle.sample_book.specs.declared.row.RowVerdict.TheVariants.{New, Newer, Repeated, Superseded}
 use Rattle.sample_book.specs.declared.row.RowVerdict.TheVariants.{Conflict}
 use Rattle.sample_book.specs.declared.stored.Stored.{Stored}
-use Rattle.sample_book.specs.Rows.{cell_of, cell_eq, same_cell, current_rows, same_amount}
-use Rattle.sample_book.specs.Rows.{verdict_on, verdict_where, MayPutAs, new_cells, with_cell}
+use Rattle.sample_book.specs.Rows.{cell_of, same_cell, current_rows, same_amount}
+use Rattle.cell_index.specs.Cells.{cell_eq}
+use Rattle.sample_book.specs.Rows.{verdict_on, verdict_where, MayPutAs, new_cells}
+use Rattle.cell_index.specs.Cells.{with_cell}
 use Rattle.std.specs.List.{position}
 use Rattle.std.proofs.lemmas.List.{length-map}
 use Rattle.sample_book.specs.Standing.{row_stored, rows_stored, IsInStep, MOST_CELLS}
-use Rattle.sample_book.proofs.FirstPlaces.{first, position-first}
-use Rattle.sample_book.proofs.CurrentLemmas.{settle, settle-new, adds, current-push}
-use Rattle.sample_book.proofs.CurrentLemmas.{current-of_distinct, current-distinct}
-use Rattle.sample_book.proofs.CurrentLemmas.{first_of_each-push}
+use Rattle.name_numbers.proofs.FirstPlaces.{first, position-first}
+use Rattle.slo_terms.proofs.CurrentLemmas.{settle, settle-new, adds, current-push}
+use Rattle.slo_terms.proofs.CurrentLemmas.{current-of_distinct, current-distinct}
+use Rattle.slo_terms.proofs.CurrentLemmas.{first_of_each-push}
 
 -- one cell by the test is one cell
 pub cell_same : (a b : Cell) → cell_eq a b ≡ true → a ≡ b
@@ -40,9 +43,6 @@ cell_same a b h =
     let source = (bytes_eq-Decides a.source b.source).0 q.0 in
     let minute = eqb-true a.minute b.minute q.1 in
     λ i. record { sli = sli i; source = source i; minute = minute i }
-
-pub eq-itself : (n : ℕ) → nat_eq n n ≡ true
-eq-itself n = grind (arith, nat_tests)
 
 eq-symm : (m n : ℕ) → nat_eq m n ≡ nat_eq n m
 eq-symm m n = grind (arith, nat_tests)

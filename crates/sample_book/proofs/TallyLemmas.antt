@@ -20,9 +20,11 @@ use Rattle.slice_method.specs.declared.Reading.TheVariants.{RawFailure}
 use Rattle.slo_terms.specs.Sums.{amount_at}
 use Rattle.std.proofs.lemmas.Bool.{and_parts, eqb-true}
 use Rattle.std.proofs.lemmas.Slice.Eq.{bytes_eq-Decides}
-use Rattle.sample_book.specs.Chains.{is_on, last, later}
-use Rattle.sample_book.proofs.ChainLemmas.{last-push, last-take, last-within, length-few}
-use Rattle.sample_book.proofs.StandingLemmas.{eq-itself}
+use Rattle.sample_book.specs.LastRows.{is_on}
+use Rattle.cell_index.specs.Chains.{last, later}
+use Rattle.cell_index.proofs.ChainLemmas.{last-push, last-take, last-within, length-few}
+use Rattle.cell_index.proofs.ListLemmas.{eq-itself}
+use Rattle.cell_index.proofs.ListLemmas.{take_at}
 use Rattle.sample_book.specs.declared.row.Row.{Row}
 use Rattle.sample_book.specs.declared.row.RowVerdict.{RowVerdict}
 use Rattle.sample_book.specs.Puts.{IsPutInto, behind, in_place, replaced_rows}
@@ -33,12 +35,6 @@ drop_at : {A : Type 0} (xs : List A) (n : ℕ) (x : A) → slice_get xs n ≡ So
 drop_at [] n x e = cc e
 drop_at (y ∷ ys) zero x e = let same : y ≡ x = cc e in ap (λ z. z ∷ ys) same
 drop_at (y ∷ ys) (suc n) x e = drop_at ys n x e
-
-pub take_at : {A : Type 0} (xs : List A) (n : ℕ) (x : A) → slice_get xs n ≡ Some x
-    → take (suc n) xs ≡ take n xs ++ x ∷ []
-take_at [] n x e = cc e
-take_at (y ∷ ys) zero x e = let same : y ≡ x = cc e in ap (λ z. z ∷ []) same
-take_at (y ∷ ys) (suc n) x e = ap (λ zs. y ∷ zs) (take_at ys n x e)
 
 pub found_at : {A : Type 0} (p : A → Bool) (xs : List A) (n : ℕ) (x : A) → slice_get xs n ≡ Some x
     → p x ≡ true → find p (drop n xs) ≡ Some x

@@ -1,6 +1,6 @@
 -- What a book of samples holds.
 use Rattle.std.specs.Prelude.{ℕ, Bool, List}
-use Rattle.sample_book.specs.declared.row.Cell.{Cell}
+use Rattle.cell_index.specs.declared.Cell.{Cell}
 use Rattle.sample_book.specs.declared.row.Row.{Row}
 use Rattle.sample_book.specs.declared.exclusions.Exclusion.{Exclusion}
 

@@ -4,10 +4,10 @@ use Rattle.std.specs.Prelude.{◌&&◌, ◌-◌, ◌+◌, ◌/◌, ℕ, Bool, Li
 use Rattle.std.specs.Prelude.{if◌then◌else◌, vec_capacity}
 use Rattle.slo_limits.specs.declared.TheConstants.{MINUTES_A_DAY}
 use Rattle.indexmap.specs.IndexMap.{spare}
-use Rattle.sample_book.specs.Chains.{AreLinked, group_eq}
+use Rattle.cell_index.specs.Chains.{AreLinked, group_eq}
 use Rattle.sample_book.specs.Exclusions.{AreExclusions, MOST_EXCLUSIONS, excludes}
-use Rattle.sample_book.specs.declared.chains.Chains.{Chains}
-use Rattle.sample_book.specs.declared.chains.Group.{Group}
+use Rattle.cell_index.specs.declared.Chains.{Chains}
+use Rattle.cell_index.specs.declared.Group.{Group}
 use Rattle.sample_book.specs.declared.exclusions.Exclusion.{Exclusion}
 
 -- the day on which an exclusion begins, counted from 1, or 0 where it is longer than a day

@@ -3,7 +3,7 @@ use Rattle.std.specs.Prelude.{◌≡◌, ℕ, Bool, true, false, not, List, [], 
 use Rattle.std.specs.Prelude.{if◌then◌else◌, None}
 use Rattle.std.specs.List.{list_any}
 use Rattle.std.specs.Str.{bytes_eq}
-use Rattle.sample_book.specs.declared.row.Cell.{Cell}
+use Rattle.cell_index.specs.declared.Cell.{Cell}
 use Rattle.sample_book.specs.declared.row.Row.{Row}
 use Rattle.sample_book.specs.declared.row.RowVerdict.{RowVerdict}
 use Rattle.sample_book.specs.declared.row.RowVerdict.TheVariants.{New, Newer}

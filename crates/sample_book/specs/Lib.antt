@@ -1,7 +1,4 @@
 pub mod Rows
-pub mod NameTable
-pub mod Places
-pub mod Keys
 pub mod Standing
 pub mod Stored
 pub mod Exclusions
@@ -10,5 +7,4 @@ pub mod Book
 pub mod Counting
 pub mod History
 pub mod Puts
-pub mod Extents
-pub mod Chains
+pub mod LastRows

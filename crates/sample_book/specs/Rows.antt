@@ -6,7 +6,8 @@ use Rattle.std.specs.Str.{bytes_eq}
 use Rattle.slice_method.specs.declared.Amount.{Amount}
 use Rattle.slice_method.specs.declared.Amount.TheVariants.{Counts, Value}
 use Rattle.slo_terms.specs.Rows.{current, first_of_each}
-use Rattle.sample_book.specs.declared.row.Cell.{Cell}
+use Rattle.cell_index.specs.Cells.{cell_eq}
+use Rattle.cell_index.specs.declared.Cell.{Cell}
 use Rattle.sample_book.specs.declared.row.Row.{Row}
 use Rattle.sample_book.specs.declared.row.RowVerdict.{RowVerdict}
 use Rattle.sample_book.specs.declared.row.RowVerdict.TheVariants.{New, Newer, Repeated, Superseded}
@@ -15,10 +16,6 @@ use Rattle.sample_book.specs.declared.row.RowVerdict.TheVariants.{Conflict}
 -- the cell that a row is about: an indicator, a source and a minute
 abbrev pub cell_of : Row → Cell
 cell_of row = record { sli = row.sli; source = row.source; minute = row.minute }
-
--- whether two cells are one
-abbrev pub cell_eq : Cell → Cell → Bool
-cell_eq a b = bytes_eq a.sli b.sli && (bytes_eq a.source b.source && nat_eq a.minute b.minute)
 
 -- whether two rows are of one cell
 abbrev pub same_cell : Row → Row → Bool
@@ -64,10 +61,6 @@ MayPutAs (Newer kept) room cell = Unit {0}
 MayPutAs Repeated room cell = ⊥
 MayPutAs (Superseded revision) room cell = ⊥
 MayPutAs (Conflict kept) room cell = ⊥
-
--- the cells with this one behind them, unless it is there
-abbrev pub with_cell : List Cell → Cell → List Cell
-with_cell cells cell = if list_any (cell_eq cell) cells then cells else cells ++ cell ∷ []
 
 -- the cells of these rows that are none of `cells`, each once, in the order of the rows
 abbrev pub new_cells : List Cell → List Row → List Cell

@@ -1,7 +1,7 @@
 -- Current rows, and the cells that have room for a row.
 use Rattle.std.specs.Prelude.{ℕ, ◌≤◌, List, length, map, drop, zip}
 use Rattle.std.specs.List.{IsDistinct}
-use Rattle.sample_book.specs.declared.row.Cell.{Cell}
+use Rattle.cell_index.specs.declared.Cell.{Cell}
 use Rattle.sample_book.specs.declared.row.Row.{Row}
 use Rattle.sample_book.specs.declared.stored.Stored.{Stored}
 use Rattle.sample_book.specs.Rows.{same_cell}

@@ -6,7 +6,8 @@ ghost use Rattle.slo_limits.specs.declared.TheConstants.{MAX_ACCEPTED_ROWS, MAX_
 ghost use Rattle.slo_limits.specs.declared.TheConstants.{MINUTES_A_DAY};
 ghost use Rattle.sample_book.specs.Book.{Book};
 ghost use Rattle.std.specs.List.{AllByRecursion};
-ghost use Rattle.sample_book.specs.Chains.{below, is_on, last_place};
+ghost use Rattle.cell_index.specs.Chains.{below};
+ghost use Rattle.sample_book.specs.LastRows.{is_on, last_place};
 ghost use Rattle.sample_book.specs.Counting.{HaveForm, IsSmallRow, is_of, counted_in_minute};
 ghost use Rattle.sample_book.specs.Counting.{counts_of_minute, days_with_rows, first_of};
 ghost use Rattle.sample_book.specs.Exclusions.{Excluded, HaveOwnIds, IsLive, Lifted, excludes};
@@ -19,8 +20,8 @@ use crate::batch::check_batch;
 use crate::current_rows::CurrentRows;
 use crate::exclusions::{Exclusion, Exclusions};
 use crate::row::{Row, RowVerdict};
-use crate::row_index::RowIndex;
 use crate::tally::{counts_at, first_of};
+use cell_index::CellIndex;
 use exact_fraction::{Decimal, Label, Op};
 use slice_method::{Counts, Reading};
 use std::alloc::{AllocError, Global};
@@ -30,14 +31,14 @@ use std::marker::Model;
 #[derive(Drop)]
 pub struct SampleBook {
     rows: CurrentRows,
-    index: RowIndex,
+    index: CellIndex,
     exclusions: Exclusions,
 }
 
 impl Model for SampleBook {
     ghost use Rattle.slo_limits.specs.declared.TheConstants.{MAX_ACCEPTED_ROWS};
     ghost use Rattle.sample_book.specs.Book.{Book};
-    ghost use Rattle.sample_book.specs.Chains.{IsInOrder};
+    ghost use Rattle.sample_book.specs.LastRows.{IsInOrder};
 
     ghost Value = { Book };
 
@@ -48,7 +49,7 @@ impl Model for SampleBook {
       spare = a.exclusions.spare;
     } };
 
-    // The index is of the rows, and each cell with room can get its row in it without memory.
+    // The index is of the cells of the rows, and each cell with room can get its row in it without memory.
     ghost invariant = { λ a. IsInOrder a.rows.rows a.rows.room a.index };
 }
 
@@ -62,7 +63,7 @@ impl SampleBook {
     {
         Ok(SampleBook {
             rows: CurrentRows::new(alloc),
-            index: RowIndex::new(alloc),
+            index: CellIndex::new(alloc),
             exclusions: Exclusions::new(alloc),
         })
     }
@@ -145,7 +146,7 @@ impl SampleBook {
         let before = self.rows.len();
         self.rows.put(row);
         if before < self.rows.len() {
-            self.index.push(row);
+            self.index.push(&row.cell());
         }
     }
 

@@ -5,13 +5,14 @@ ghost use Rattle.std.specs.Prelude.{IfOk, drop as drop_list, take, true};
 ghost use Rattle.std.specs.List.{list_any, position};
 ghost use Rattle.sample_book.specs.History.{MayComeAs, is_put, room_after, rows_after};
 ghost use Rattle.sample_book.specs.Puts.{IsPutInto, later_of};
-ghost use Rattle.sample_book.specs.Rows.{MayPutAs, cell_eq, cell_of, current_rows, kept_of};
+ghost use Rattle.sample_book.specs.Rows.{MayPutAs, cell_of, current_rows, kept_of};
+ghost use Rattle.cell_index.specs.Cells.{cell_eq};
 ghost use Rattle.sample_book.specs.Rows.{new_cells, room_for, verdict_of, verdict_where};
 ghost use Rattle.sample_book.specs.Standing.{IsInStep, row_stored, rows_stored};
 
-use crate::cells::Cells;
-use crate::row::{Cell, Row, RowVerdict};
+use crate::row::{Row, RowVerdict};
 use crate::stored::{SmallAmount, Stored};
+use cell_index::{Cell, Cells};
 use std::alloc::{AllocError, Global};
 use std::marker::Model;
 

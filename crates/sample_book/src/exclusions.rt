@@ -2,12 +2,12 @@
 ghost use Rattle.std.specs.Prelude.{ℕ, List, ◌||◌, ◌≡◌, ◌+◌, ◌<◌, ◌≤◌, ◌++◌, ◌∷◌, [], true, Some};
 ghost use Rattle.std.specs.Prelude.{None, OnOk, length, map, slice_get};
 ghost use Rattle.std.specs.List.{list_any};
-ghost use Rattle.sample_book.specs.Chains.{AreLinked};
+ghost use Rattle.cell_index.specs.Chains.{AreLinked};
 ghost use Rattle.sample_book.specs.Exclusions.{HaveOwnIds, excludes, exclusion_of, is_excluded};
 ghost use Rattle.sample_book.specs.Exclusions.{after_lifting};
 ghost use Rattle.sample_book.specs.ExclusionGroups.{excludes_on, group_of, group_of_kept};
 
-use crate::chains::{Chains, Group};
+use cell_index::{Chains, Group};
 use exact_fraction::Label;
 use slo_limits::MINUTES_A_DAY;
 use std::alloc::{AllocError, Global};

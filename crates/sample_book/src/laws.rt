@@ -4,7 +4,7 @@ ghost use Rattle.std.specs.Prelude.{length, slice_get, take, Some};
 ghost use Rattle.sample_book.specs.Exclusions.{is_excluded, is_excluded_in};
 ghost use Rattle.sample_book.specs.History.{Arrival, Holds, MayComeAll, changes_in, exclusions_of};
 ghost use Rattle.sample_book.specs.History.{rows_in};
-ghost use Rattle.sample_book.specs.Chains.{IsLastPlace, last_place};
+ghost use Rattle.sample_book.specs.LastRows.{IsLastPlace, last_place};
 ghost use Rattle.sample_book.specs.Counting.{counts_of_minute};
 ghost use Rattle.sample_book.specs.Puts.{IsPutInto, is_conflict, is_new, is_settled, replaced_rows};
 ghost use Rattle.sample_book.specs.Puts.{verdicts};

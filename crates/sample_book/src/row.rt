@@ -2,18 +2,10 @@
 ghost use Rattle.std.specs.Prelude.{◌≡◌};
 ghost use Rattle.sample_book.specs.Rows.{cell_of, verdict_on};
 
+use cell_index::Cell;
 use exact_fraction::Label;
 use slice_method::Amount;
 use std::cmp::Ordering;
-
-/// What a row is about: an indicator, a source and a minute.
-#[derive(Clone, Copy, PartialEq, Eq, Hash)]
-pub struct Cell {
-    pub sli: Label,
-    pub source: Label,
-    /// Minutes since 1970-01-01T00:00Z.
-    pub minute: u32,
-}
 
 /// A sample: what a source says of one minute of an indicator.
 #[derive(Clone, Copy, PartialEq, Eq)]

@@ -1,20 +1,21 @@
 // What the current rows of an indicator count for.
-ghost use Rattle.std.specs.Prelude.{◌≡◌, ◌^◌, ◌<◌, ◌≤◌, [], ◌∷◌, true, length};
+ghost use Rattle.std.specs.Prelude.{◌≡◌, ◌^◌, ◌<◌, ◌≤◌, [], ◌∷◌, true, length, map};
 ghost use Rattle.slo_limits.specs.declared.TheConstants.{MAX_ACCEPTED_ROWS};
 ghost use Rattle.slice_method.specs.Readings.{HasForm};
-ghost use Rattle.sample_book.specs.Chains.{IsIndexed};
+ghost use Rattle.cell_index.specs.Chains.{IsIndexed};
 ghost use Rattle.sample_book.specs.Counting.{HaveForm, counts_of_minute, first_of, is_of};
+ghost use Rattle.sample_book.specs.Rows.{cell_of};
 
 use crate::current_rows::CurrentRows;
 use crate::row::Row;
-use crate::row_index::RowIndex;
+use cell_index::CellIndex;
 use exact_fraction::{Decimal, Label, Op};
 use slice_method::{Counts, Reading, counts_of};
 use slo_limits::MINUTES_A_DAY;
 
 // The first row of an indicator.
-pub(crate) fn first_of(rows: &CurrentRows, index: &RowIndex, sli: Label) -> Option<Row>
-    requires { IsIndexed rows.now.rows index.now }
+pub(crate) fn first_of(rows: &CurrentRows, index: &CellIndex, sli: Label) -> Option<Row>
+    requires { IsIndexed (map cell_of rows.now.rows) index.now }
     ensures { result ≡ first_of rows.now.rows sli }
 {
     match index.first_of(sli) {
@@ -26,14 +27,14 @@ pub(crate) fn first_of(rows: &CurrentRows, index: &RowIndex, sli: Label) -> Opti
 // The sums over the rows of an indicator at a minute: only the rows of its day are looked at.
 pub(crate) fn counts_at(
     rows: &CurrentRows,
-    index: &RowIndex,
+    index: &CellIndex,
     sli: Label,
     reading: Reading,
     op: Op,
     value: Decimal,
     minute: u32,
 ) -> Counts
-    requires indexed { IsIndexed rows.now.rows index.now }
+    requires indexed { IsIndexed (map cell_of rows.now.rows) index.now }
     requires form { HaveForm reading rows.now.rows sli minute }
     requires few { length rows.now.rows ≤ MAX_ACCEPTED_ROWS }
     ensures counts { result ≡ counts_of_minute reading op value rows.now.rows sli minute }

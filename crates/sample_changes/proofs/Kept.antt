@@ -13,7 +13,7 @@ use Rattle.sample_book.specs.declared.RowVerdict.{RowVerdict}
 use Rattle.sample_book.specs.Rows.{current_rows, room_for, same_cell}
 use Rattle.sample_book.specs.History.{MayComeAll}
 use Rattle.sample_book.specs.Puts.{verdicts}
-use Rattle.sample_book.proofs.CurrentLemmas.{current-push, settle}
+use Rattle.slo_terms.proofs.CurrentLemmas.{current-push, settle}
 use Rattle.sample_book.proofs.RoomLemmas.{room-enough}
 use Rattle.sample_book.proofs.StandingLemmas.{cell_laws}
 use Rattle.object_terms.specs.declared.Object.{Object}

@@ -9,7 +9,7 @@ use Rattle.sample_book.specs.Counting.{HaveForm, is_of}
 use Rattle.sample_book.specs.History.{MayComeAll}
 use Rattle.sample_book.specs.Puts.{IsPutInto, behind, in_place}
 use Rattle.sample_book.specs.Rows.{current_rows, room_for}
-use Rattle.sample_book.specs.declared.Cell.{Cell}
+use Rattle.cell_index.specs.declared.Cell.{Cell}
 use Rattle.sample_book.specs.declared.Row.{Row}
 use Rattle.sample_book.specs.declared.RowVerdict.{RowVerdict}
 use Rattle.sample_tests.specs.Events.{HasEvents}

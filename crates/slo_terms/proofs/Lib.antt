@@ -2,3 +2,4 @@ pub mod SumLemmas
 pub mod RowLemmas
 pub mod JudgedLemmas
 pub mod RangeLemmas
+pub mod CurrentLemmas

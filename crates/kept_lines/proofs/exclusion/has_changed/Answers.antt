@@ -1,7 +1,7 @@
 use Rattle.std.proofs.Common.{◌≡◌, ◌<◌, ◌≤◌, ℕ, List, ap, sym, subst, ◌∙◌, arith, take}
 use Rattle.std.proofs.Common.{length}
 use Rattle.std.proofs.lemmas.Slice.Eq.{bytes_eq-Decides}
-use Rattle.sample_book.specs.Chains.{is_on, last_place}
+use Rattle.sample_book.specs.LastRows.{is_on, last_place}
 use Rattle.window_sums.specs.Slices.{day_of}
 use Rattle.kept_sums.specs.Sums.{Fits}
 use Rattle.kept_sums.specs.Walks.{IsOnKey, rows_until}

@@ -1,4 +1,4 @@
-use Rattle.sample_book.specs.Chains.{is_on}
+use Rattle.sample_book.specs.LastRows.{is_on}
 use Rattle.window_sums.specs.Slices.{day_of}
 use Rattle.kept_sums.specs.Walks.{IsOnKey, rows_until}
 use Rattle.kept_lines.proofs.ChangedLemmas.{NoneFrom}

@@ -3,7 +3,7 @@ use Rattle.std.proofs.Common.{arith}
 use Rattle.std.proofs.lemmas.Slice.Eq.{bytes_eq-Decides}
 use Rattle.slice_method.specs.declared.Counts.{Counts}
 use Rattle.sample_book.specs.declared.Row.{Row}
-use Rattle.sample_book.specs.Chains.{is_on, last_place}
+use Rattle.sample_book.specs.LastRows.{is_on, last_place}
 use Rattle.window_sums.specs.Shares.{IsSumOf}
 use Rattle.window_sums.specs.Slices.{day_of}
 use Rattle.kept_sums.specs.Sums.{Fits, HasItsDay, row_counts, shares_by}

@@ -1,5 +1,5 @@
 use Rattle.std.proofs.Common.{◌≡◌, ℕ}
-use Rattle.sample_book.specs.Chains.{is_on}
+use Rattle.sample_book.specs.LastRows.{is_on}
 use Rattle.window_sums.specs.Slices.{day_of, has_day}
 use Rattle.kept_sums.specs.Walks.{IsWalking, followed, rows_until}
 use Rattle.kept_sums.proofs.range.follow_between.Given as goal

@@ -2,7 +2,7 @@ use Rattle.std.proofs.Common.{◌∙◌, ◌++◌, ◌∷◌, [], ap, List}
 use Rattle.sample_book.specs.declared.row.Row.{Row}
 use Rattle.sample_book.specs.declared.row.RowVerdict.{RowVerdict}
 use Rattle.sample_book.specs.Rows.{room_for}
-use Rattle.sample_book.proofs.CellLemmas.{never_ok}
+use Rattle.cell_index.proofs.CellLemmas.{never_ok}
 use Rattle.sample_book.proofs.BatchLemmas.{judged_more, judged_none, may_come_next}
 use Rattle.sample_book.proofs.batch.judge_rows.Goals as goal
 

@@ -1,8 +1,9 @@
 use Rattle.std.proofs.Common.{◌∙◌, ◌++◌, ◌∷◌, [], ap, sym, take}
 use Rattle.std.proofs.lemmas.List.{take_more}
 use Rattle.sample_book.specs.declared.row.Row.{Row}
-use Rattle.sample_book.specs.Rows.{new_cells, with_cell}
-use Rattle.sample_book.proofs.CellLemmas.{never_ok}
+use Rattle.sample_book.specs.Rows.{new_cells}
+use Rattle.cell_index.specs.Cells.{with_cell}
+use Rattle.cell_index.proofs.CellLemmas.{never_ok}
 use Rattle.sample_book.proofs.StandingLemmas.{new_cells-step}
 use Rattle.sample_book.proofs.current_rows.add_cells.Goals as goal
 

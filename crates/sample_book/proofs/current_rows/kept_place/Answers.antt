@@ -1,7 +1,7 @@
 use Rattle.std.proofs.Common.{◌∙◌, sym}
-use Rattle.sample_book.specs.Rows.{cell_eq}
-use Rattle.sample_book.proofs.FirstPlaces.{always_none, position-first, none-first, none-take}
-use Rattle.sample_book.proofs.FirstPlaces.{first-take}
+use Rattle.cell_index.specs.Cells.{cell_eq}
+use Rattle.name_numbers.proofs.FirstPlaces.{always_none, position-first, none-first, none-take}
+use Rattle.name_numbers.proofs.FirstPlaces.{first-take}
 use Rattle.sample_book.proofs.current_rows.kept_place.Goals as goal
 
 pub returns-in_err-place-clause-absent : goal.returns-in_err-place-clause-absent

@@ -2,7 +2,7 @@ use Rattle.std.proofs.Common.{◌≡◌, ◌-◌, ◌∙◌, arith, suc, subst, 
 use Rattle.std.proofs.Common.{length}
 use Rattle.std.proofs.lemmas.Option.{slice_get_read}
 use Rattle.sample_book.specs.ExclusionGroups.{group_of_kept}
-use Rattle.sample_book.proofs.ChainLemmas.{slice_get-map}
+use Rattle.cell_index.proofs.ChainLemmas.{slice_get-map}
 use Rattle.sample_book.proofs.GroupLemmas.{IsSearching, before_smaller, place_linked}
 use Rattle.sample_book.proofs.GroupLemmas.{searched_found, searching_from, searching_on}
 use Rattle.sample_book.proofs.exclusions.one_excludes.Goals as goal

@@ -1,9 +1,12 @@
-use Rattle.std.proofs.Common.{true, ◌-◌, ◌/◌, ◌≡◌, suc, subst, arith}
+use Rattle.std.proofs.Common.{true, ◌-◌, ◌/◌, ◌≡◌, ◌∙◌, suc, map, subst, arith}
 use Rattle.slice_method.specs.Readings.{HasForm}
-use Rattle.sample_book.specs.Chains.{is_on}
+use Rattle.cell_index.proofs.ChainLemmas.{slice_get-map}
+use Rattle.sample_book.proofs.IndexLemmas.{before-on, last-on}
+use Rattle.sample_book.specs.Rows.{cell_of}
+use Rattle.sample_book.specs.LastRows.{is_on}
 use Rattle.sample_book.specs.Counting.{is_of}
 use Rattle.sample_book.specs.declared.row.Row.{Row}
-use Rattle.sample_book.proofs.ChainLemmas.{last_below}
+use Rattle.sample_book.proofs.LastRowLemmas.{last_below}
 use Rattle.sample_book.proofs.TallyLemmas.{IsCounting, all_at, counting_from, counting_on}
 use Rattle.sample_book.proofs.tally.counts_at.Goals as goal
 
@@ -11,14 +14,19 @@ pub loop-next-init : goal.loop-next-init
 loop-next-init c =
     counting_from c.args.reading c.args.op c.args.value c.args.rows.now.rows c.args.sli
     c.args.minute c.last_on_day-next.result
-    (c.last_on_day-next.ensures c.args.rows.now.rows c.requires.indexed)
+    (c.last_on_day-next.ensures (map cell_of c.args.rows.now.rows) c.requires.indexed
+    ∙ last-on c.args.sli (c.args.minute / 1440) c.args.rows.now.rows)
 
 pub loop-next-smaller : goal.loop-next-smaller
 loop-next-smaller c =
     let row = c.row.result in
     let below = last_below (is_on row.sli (row.minute / 1440)) c.args.rows.now.rows
     (c.loop-next.next - 1) c.before_on_day-next.result
-    (c.before_on_day-next.ensures c.args.rows.now.rows row c.requires.indexed c.row.ensures) in
+    (c.before_on_day-next.ensures (map cell_of c.args.rows.now.rows) (cell_of c.row.result)
+    c.requires.indexed (slice_get-map cell_of c.args.rows.now.rows (c.loop-next.next - 1)
+    c.row.result c.row.ensures)
+    ∙ before-on c.row.result.sli (c.row.result.minute / 1440) (c.loop-next.next - 1)
+    c.args.rows.now.rows) in
     omega (arith, below, c.loop-next-test.true)
 
 pub loop-next-preserved : goal.loop-next-preserved
@@ -30,8 +38,11 @@ loop-next-preserved c =
     c.share_of-counts.result
     c.row.ensures c.share_of-counts.ensures.share c.share_of-counts.ensures.part
     c.share_of-counts.ensures.few
-    (c.before_on_day-next.ensures c.args.rows.now.rows c.row.result c.requires.indexed
-    c.row.ensures)
+    (c.before_on_day-next.ensures (map cell_of c.args.rows.now.rows) (cell_of c.row.result)
+    c.requires.indexed (slice_get-map cell_of c.args.rows.now.rows (c.loop-next.next - 1)
+    c.row.result c.row.ensures)
+    ∙ before-on c.row.result.sli (c.row.result.minute / 1440) (c.loop-next.next - 1)
+    c.args.rows.now.rows)
     (subst (λ next. IsCounting c.args.reading c.args.op c.args.value c.args.rows.now.rows c.args.sli
     c.args.minute next c.loop-next.sum) whole c.loop-next.invariant)
 

@@ -5,8 +5,8 @@ use Rattle.std.proofs.lemmas.Slice.Eq.{bytes_eq-Decides}
 use Rattle.name_numbers.proofs.NumberLemmas.{position_at}
 use Rattle.name_numbers.proofs.name_table.NameTable.is_at.Goals as goal
 
-pub returns-in-Some : goal.returns-in-Some
-returns-in-Some c told =
+pub returns-in-Some-clause-number : goal.returns-in-Some-clause-number
+returns-in-Some-clause-number c told =
     let names = c.self.inside.set.keys in
     let same = (bytes_eq-Decides c.in-Some.there.now c.args.name.now).0 (sym c.eq.ensures ∙ told) in
     subst (λ (names : List (List ℕ)).

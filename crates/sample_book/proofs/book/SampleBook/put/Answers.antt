@@ -1,12 +1,14 @@
-use Rattle.std.proofs.Common.{◌∙◌, ◌++◌, ◌∷◌, [], arith, ap, sym, subst, List, length}
+use Rattle.std.proofs.Common.{map, ◌∙◌, ◌++◌, ◌∷◌, [], arith, ap, sym, subst, List, length}
+use Rattle.std.proofs.lemmas.List.{length-map, map_push}
 use Rattle.sample_book.specs.Book.{Book}
-use Rattle.sample_book.specs.Chains.{IsIndexed, IsReadyFor}
-use Rattle.sample_book.specs.declared.row.Cell.{Cell}
+use Rattle.cell_index.specs.Chains.{IsIndexed, IsReadyFor}
+use Rattle.cell_index.specs.declared.Cell.{Cell}
 use Rattle.sample_book.specs.declared.row.Row.{Row}
 use Rattle.sample_book.specs.History.{Came, Gains}
 use Rattle.sample_book.specs.Rows.{cell_of, current_rows, verdict_of}
-use Rattle.sample_book.proofs.ChainLemmas.{IsAdded, IsReplaced, indexed_same, put_added}
-use Rattle.sample_book.proofs.ChainLemmas.{put_replaced, ready_fewer}
+use Rattle.sample_book.proofs.LastRowLemmas.{IsAdded, IsReplaced, put_added}
+use Rattle.sample_book.proofs.LastRowLemmas.{put_replaced}
+use Rattle.cell_index.proofs.ChainLemmas.{ready_fewer}
 use Rattle.sample_book.proofs.HistoryLemmas.{gains-put}
 use Rattle.sample_book.proofs.book.SampleBook.put.Goals as goal
 use Rattle.sample_book.proofs.book.SampleBook.put.Goals.{After-put}
@@ -25,10 +27,11 @@ push-requires-clause-ready c =
 
 pub push-requires-clause-few : goal.push-requires-clause-few
 push-requires-clause-few c = (
-  c.self.inside.rows.rows,
+  map cell_of c.self.inside.rows.rows,
   c.self.invariant.indexed,
   omega (
     arith,
+    length-map c.self.inside.rows.rows cell_of,
     c.if-before-len.true,
     c.len-before.ensures.count,
     c.len.ensures.count,
@@ -46,8 +49,10 @@ invariant_of-self c =
     (omega (arith, c.if-before-len.true, c.len-before.ensures.count, c.len.ensures.count))
     c.put.ensures.new in
     record {
-      indexed = subst (λ (rows : List Row). IsIndexed rows c.push.new.self) (sym added.grown)
-          (c.push.ensures.indexed rows c.self.invariant.indexed);
+      indexed = subst (λ (cells : List Cell). IsIndexed cells c.push.new.self)
+          (sym (ap (map cell_of) added.grown ∙ map_push cell_of rows c.args.row.now))
+          (subst (λ (cell : Cell). IsIndexed (map cell_of rows ++ cell ∷ []) c.push.new.self)
+          c.cell.ensures (c.push.ensures.indexed (map cell_of rows) c.self.invariant.indexed));
       ready = c.push.ensures.ready (length c.put.new.self.room)
           (subst (λ n. IsReadyFor n c.self.inside.index) added.taken c.self.invariant.ready);
     }
@@ -60,7 +65,7 @@ invariant_of-self-else-before-len c =
     c.put.ensures.placed
     (omega (arith, c.if-before-len.false, c.len-before.ensures.count, c.len.ensures.count)) in
     record {
-      indexed = indexed_same rows c.put.new.self.rows c.self.inside.index kept.days kept.slis
+      indexed = subst (λ (cells : List Cell). IsIndexed cells c.self.inside.index) (sym kept.cells)
           c.self.invariant.indexed;
       ready = subst (λ (room : List Cell). IsReadyFor (length room) c.self.inside.index)
           (sym (c.put.ensures.newer kept.newer)) c.self.invariant.ready;

@@ -1,7 +1,7 @@
 use Rattle.std.proofs.Common.{◌≡◌, subst}
 use Rattle.sample_book.specs.Rows.{current_rows, same_cell}
 use Rattle.sample_book.specs.Standing.{Standing, rows_stored}
-use Rattle.sample_book.proofs.CurrentLemmas.{current-of_distinct}
+use Rattle.slo_terms.proofs.CurrentLemmas.{current-of_distinct}
 use Rattle.sample_book.proofs.StandingLemmas.{cell_laws}
 use Rattle.sample_book.proofs.current_rows.CurrentRows.are_current.Goals as goal
 

@@ -1,15 +1,16 @@
 use Rattle.std.proofs.Common.{◌≡◌, ◌∙◌, ◌++◌, ◌∷◌, [], List, ap, sym, subst, length, take, Some}
 use Rattle.std.proofs.Common.{None, is_some}
 use Rattle.std.specs.List.{IsDistinct, list_any, position}
-use Rattle.sample_book.specs.declared.row.Cell.{Cell}
+use Rattle.cell_index.specs.declared.Cell.{Cell}
 use Rattle.sample_book.specs.declared.row.Row.{Row}
 use Rattle.sample_book.specs.History.{rows_after}
-use Rattle.sample_book.specs.Rows.{cell_eq, cell_of, same_cell, verdict_of}
+use Rattle.cell_index.specs.Cells.{cell_eq}
+use Rattle.sample_book.specs.Rows.{cell_of, same_cell, verdict_of}
 use Rattle.sample_book.specs.Standing.{Standing}
 use Rattle.sample_book.proofs.ArriveLemmas.{arrive_placed, cell_added, cell_there, made_absent}
 use Rattle.sample_book.proofs.ArriveLemmas.{made_none, made_one}
-use Rattle.sample_book.proofs.CellLemmas.{always_err}
-use Rattle.sample_book.proofs.FirstPlaces.{any-position}
+use Rattle.cell_index.proofs.CellLemmas.{always_err}
+use Rattle.name_numbers.proofs.FirstPlaces.{any-position}
 use Rattle.sample_book.proofs.StandingLemmas.{RoomMade}
 use Rattle.sample_book.proofs.current_rows.CurrentRows.arrive.Goals as goal
 use Rattle.sample_book.proofs.current_rows.CurrentRows.arrive.Goals.{After-reserve, In-Err}

@@ -1,10 +1,11 @@
 use Rattle.std.proofs.Common.{◌≡◌, ◌∙◌, ap, sym, subst, Some, take, false}
 use Rattle.std.specs.List.{position, list_any}
 use Rattle.std.proofs.lemmas.Option.{slice_get_read}
-use Rattle.sample_book.specs.declared.row.Cell.{Cell}
-use Rattle.sample_book.specs.Rows.{cell_eq, cell_of, kept_of}
+use Rattle.cell_index.specs.declared.Cell.{Cell}
+use Rattle.cell_index.specs.Cells.{cell_eq}
+use Rattle.sample_book.specs.Rows.{cell_of, kept_of}
 use Rattle.sample_book.specs.Standing.{Standing, row_stored, rows_stored}
-use Rattle.sample_book.proofs.FirstPlaces.{position-first}
+use Rattle.name_numbers.proofs.FirstPlaces.{position-first}
 use Rattle.sample_book.proofs.StandingLemmas.{row_at, kept_at, none_kept, none_found}
 use Rattle.sample_book.proofs.current_rows.CurrentRows.kept.Goals as goal
 

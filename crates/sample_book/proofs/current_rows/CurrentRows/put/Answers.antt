@@ -3,9 +3,10 @@ use Rattle.std.proofs.Common.{drop, set, take, Some, false, add-one}
 use Rattle.std.specs.List.{IsDistinct, position, list_any}
 use Rattle.std.proofs.lemmas.List.{length-set, length-append}
 use Rattle.slice_method.specs.declared.Amount.{Amount}
-use Rattle.sample_book.specs.declared.row.Cell.{Cell}
+use Rattle.cell_index.specs.declared.Cell.{Cell}
 use Rattle.sample_book.specs.declared.stored.Stored.{Stored}
-use Rattle.sample_book.specs.Rows.{MayPutAs, cell_eq, cell_of, current_rows, same_cell, verdict_of}
+use Rattle.sample_book.specs.Rows.{MayPutAs, cell_of, current_rows, same_cell, verdict_of}
+use Rattle.cell_index.specs.Cells.{cell_eq}
 use Rattle.sample_book.specs.Standing.{Standing, rows_stored, standing_of}
 use Rattle.sample_book.specs.declared.row.Row.{Row}
 use Rattle.sample_book.specs.Puts.{IsPutInto}

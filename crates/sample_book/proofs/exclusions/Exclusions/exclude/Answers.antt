@@ -1,9 +1,9 @@
 use Rattle.std.proofs.Common.{rules, arith, ap, subst, sym, ◌≡◌, ◌<◌, ◌∙◌, ◌++◌, ◌∷◌, [], true}
 use Rattle.std.proofs.Common.{None, length, map}
-use Rattle.sample_book.specs.Chains.{AreLinked}
+use Rattle.cell_index.specs.Chains.{AreLinked}
 use Rattle.sample_book.specs.ExclusionGroups.{group_of_kept, room_left}
 use Rattle.sample_book.specs.Exclusions.{Kept, MOST_EXCLUSIONS, exclusion_of}
-use Rattle.sample_book.specs.declared.chains.Group.{Group}
+use Rattle.cell_index.specs.declared.Group.{Group}
 use Rattle.sample_book.proofs.GroupLemmas.{grouped_more, room_few, room_less}
 use Rattle.sample_book.proofs.IdLemmas.{exclusions_more}
 use Rattle.sample_book.proofs.exclusions.Exclusions.exclude.Goals as goal

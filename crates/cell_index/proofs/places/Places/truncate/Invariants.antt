@@ -1,0 +1,9 @@
+use Rattle.std.proofs.Common.{◌≡◌, length, take}
+use Rattle.cell_index.proofs.places.Places.truncate.Given as goal
+
+-- the first ones stay
+abbrev pub invariant-loop-self : goal.invariant-loop-self
+invariant-loop-self l = take l.count l.self ≡ take l.count l.fn.self
+
+abbrev pub decreases-loop-self : goal.decreases-loop-self
+decreases-loop-self l = length l.self

@@ -1,0 +1,5 @@
+pub mod Cells
+pub mod Chains
+pub mod Extents
+pub mod Keys
+pub mod Places
