@@ -10,9 +10,9 @@ ghost use Rattle.alert_line.specs.Cursor.{AreOver, IsAt, StandAt, rule_of};
 
 use crate::window::Window;
 use burn_core::{AlertRule, WindowPair, above, page_pairs, ticket_pairs};
-use counted_steps::Steps;
 use exact_fraction::{Decimal, Op};
 use std::sync::ledger::Ledger;
+use sum_pages::Steps;
 use window_sums::WindowSums;
 
 // A pair and its two windows.

@@ -16,12 +16,12 @@ use crate::cursor::Cursor;
 use crate::minutes::{forget_in, keep, kept_at};
 use crate::spans::{Spans, note_minute};
 use burn_core::{AlertRule, State};
-use counted_steps::Steps;
 use exact_fraction::Decimal;
 use slo_limits::RANGE_MINUTES;
 use std::alloc::{AllocError, Global};
 use std::marker::Model;
 use std::sync::ledger::Ledger;
+use sum_pages::Steps;
 use window_sums::WindowSums;
 
 // Over how many minutes that were known windows are moved on. Over more it is cheaper to sum anew.

@@ -5,9 +5,9 @@ ghost use Rattle.slo_terms.specs.Sums.{leaves_over};
 ghost use Rattle.window_sums.specs.Slices.{leaf_at, width_of};
 ghost use Rattle.alert_line.specs.Cursor.{IsOver};
 
-use counted_steps::Steps;
 use exact_fraction::Leaf;
 use std::sync::ledger::Ledger;
+use sum_pages::Steps;
 use window_sums::WindowSums;
 
 // The slices from `first` up to `end`, and the sum of their leaves.

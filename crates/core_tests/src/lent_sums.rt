@@ -2,10 +2,10 @@
 ghost use Rattle.std.specs.Prelude.{◌≡◌, ◌≤◌, ◌<◌};
 
 use crate::shop::{label, let_go, send, shop};
-use counted_steps::Steps;
 use exact_fraction::Leaf;
 use std::marker::Brand;
 use std::sync::ledger::{Blank, Ledger};
+use sum_pages::Steps;
 use window_sums::WindowSums;
 
 // The sum over [from, to) for a caller that counts no steps.

@@ -7,12 +7,12 @@ ghost use Rattle.office_derived.specs.kept_objectives.Objectives.{IsObjective};
 ghost use Rattle.office_derived.specs.Derived.{IsSound};
 ghost use Rattle.watched_objectives.specs.Sums.{samples_of};
 
-use counted_steps::Steps;
 use exact_fraction::Leaf;
 use office_derived::Derived;
 use office_history::Measure;
 use std::marker::Brand;
 use std::sync::ledger::{Blank, Ledger};
+use sum_pages::Steps;
 use watched_objectives::objective_sums;
 use window_sums::WindowSums;
 

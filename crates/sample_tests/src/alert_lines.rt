@@ -8,13 +8,13 @@ ghost use Rattle.alert_line.specs.Line.{Agrees, IsMinute, SameAlert};
 use crate::added_events::{add, method_of, start};
 use alert_line::{AlertLine, Spans};
 use burn_core::{AlertRule, State};
-use counted_steps::Steps;
 use exact_fraction::{Decimal, Op, read_decimal, read_number};
 use std::alloc::{AllocError, Global};
 use std::marker::Brand;
 use std::process::Abort;
 use std::str::SplitWhitespace;
 use std::sync::ledger::{Blank, Ledger};
+use sum_pages::Steps;
 use window_sums::WindowSums;
 
 // The first line of a block has the width of the slices and the samples, each a minute, its good

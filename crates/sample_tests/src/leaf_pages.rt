@@ -4,13 +4,12 @@ ghost use Rattle.std.specs.Int.{◌∣◌};
 ghost use Rattle.slo_terms.specs.Sums.{most_events};
 ghost use Rattle.sum_pages.specs.Pages.{HasAtMost};
 
-use counted_steps::Steps;
 use exact_fraction::Leaf;
 use std::alloc::Global;
 use std::marker::Brand;
 use std::process::Abort;
 use std::sync::ledger::{Blank, Ledger};
-use sum_pages::SumPages;
+use sum_pages::{Steps, SumPages};
 
 fn start(alloc: Global, per_hour: u32) -> SumPages
     requires { per_hour ∣ 60 }

@@ -4,13 +4,13 @@ ghost use Rattle.std.specs.Int.{◌∣◌};
 ghost use Rattle.window_sums.specs.Slices.{width_of};
 
 use crate::added_events::{NOTHING, add, counts, method_of, put, start};
-use counted_steps::Steps;
 use exact_fraction::Leaf;
 use slice_method::Method;
 use std::alloc::Global;
 use std::marker::Brand;
 use std::process::Abort;
 use std::sync::ledger::{Blank, Ledger};
+use sum_pages::Steps;
 use window_sums::WindowSums;
 
 fn sum_by<L: Ledger>(sums: &WindowSums, from: u32, to: u32, blank: Blank) -> Leaf

@@ -9,7 +9,7 @@ ghost use Rattle.sum_pages.specs.Pages.{has_day, leaf_after, leaf_at, leaf_in, s
 
 use crate::days::value_on;
 use crate::page::{HOURS_A_DAY, NO_LEAF, Page};
-use counted_steps::Steps;
+use crate::steps::Steps;
 use exact_fraction::Leaf;
 use indexmap::IndexMap;
 use std::alloc::{AllocError, Global};

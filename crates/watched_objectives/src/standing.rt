@@ -23,11 +23,11 @@ use crate::sums::{objective_sums, objective_sums_at};
 use crate::watch::Watch;
 use alert_line::{AlertLine, Spans};
 use burn_core::State;
-use counted_steps::Steps;
 use office_derived::Derived;
 use std::alloc::AllocError;
 use std::marker::Brand;
 use std::sync::ledger::{Blank, Ledger};
+use sum_pages::Steps;
 use window_sums::WindowSums;
 
 // How the alert of a line stands. No one counts the steps.

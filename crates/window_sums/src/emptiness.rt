@@ -5,9 +5,8 @@ ghost use Rattle.sum_pages.specs.Pages.{leaf_at};
 ghost use Rattle.window_sums.specs.Ranges.{slots_of};
 
 use crate::range::{HOURS_A_DAY, Unit, read};
-use counted_steps::Steps;
 use std::sync::ledger::Ledger;
-use sum_pages::SumPages;
+use sum_pages::{Steps, SumPages};
 
 // Whether no slot from `from` up to `to` has an event. First the totals of all days that the range
 // touches are looked at, which tells it of a range without data in few reads; a range whose last

@@ -1,5 +1,5 @@
 //! Sums over the slices of a range of time, kept as counts of slices and pages of their leaves.
-//! Stands on `sum_pages` for leaves, on `slice_method`, `slo_terms`, `counted_steps`, `indexmap`.
+//! Stands on `sum_pages` for leaves, on `slice_method`, `slo_terms`, `indexmap`.
 //! Promises that a sum adds the leaves of whole slices, in at most 600 reads over 400 days.
 #![tactic(auto)]
 

@@ -4,10 +4,9 @@ ghost use Rattle.slo_terms.specs.Sums.{leaves_over, most_events};
 ghost use Rattle.sum_pages.specs.Pages.{leaf_at};
 ghost use Rattle.window_sums.specs.Ranges.{plus, slots_of};
 
-use counted_steps::Steps;
 use exact_fraction::Leaf;
 use std::sync::ledger::Ledger;
-use sum_pages::SumPages;
+use sum_pages::{Steps, SumPages};
 
 pub(crate) const HOURS_A_DAY: u32 = 24;
 

@@ -19,7 +19,6 @@ use crate::day::{Day, NOTHING};
 use crate::emptiness;
 use crate::range::sum_slots;
 use crate::widths::{slices_a_day, slices_an_hour, width_of};
-use counted_steps::Steps;
 use exact_fraction::Leaf;
 use indexmap::IndexMap;
 use slice_method::{Counts, Method, leaf_of};
@@ -27,7 +26,7 @@ use slo_limits::MINUTES_A_DAY;
 use std::alloc::{AllocError, Global};
 use std::marker::Model;
 use std::sync::ledger::Ledger;
-use sum_pages::SumPages;
+use sum_pages::{Steps, SumPages};
 
 /// The counts of each slice of time, and pages of their leaves, from which sums over ranges are
 /// made. A slice of a day that isn't there has the counts (0, 0).
