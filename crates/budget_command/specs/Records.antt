@@ -1,10 +1,10 @@
 -- The rows that records stand for, and what is wrong with a record.
 use Rattle.std.specs.Prelude.{ℕ, Bool, true, false, List, [], ◌∷◌, ◌++◌, Option, Some, None, Result}
-use Rattle.std.specs.Prelude.{Ok, Err, codes, length, nat_le, nat_lt, ◌≤◌, if◌then◌else◌}
+use Rattle.std.specs.Prelude.{Ok, Err, codes, length, nat_lt, ◌≤◌, if◌then◌else◌}
 use Rattle.csv_records.specs.Records.{Fields}
-use Rattle.csv_records.specs.Columns.{five_fields}
-use Rattle.exact_fraction.specs.Digits.{number_within}
-use Rattle.exact_fraction.specs.Label.{label_of}
+use Rattle.event_fields.specs.Events.{event_of}
+use Rattle.event_fields.specs.declared.Event.{Event}
+use Rattle.event_fields.specs.declared.EventFault.{EventFault}
 use Rattle.slice_method.specs.declared.Amount.{Amount}
 use Rattle.slice_method.specs.declared.Amount.TheVariants.{Counts, Value}
 use Rattle.sample_book.specs.declared.Row.{Row}
@@ -12,72 +12,45 @@ use Rattle.sample_book.specs.declared.RowVerdict.{RowVerdict}
 use Rattle.sample_book.specs.declared.RowVerdict.TheVariants.{New, Newer, Repeated, Superseded}
 use Rattle.sample_book.specs.declared.RowVerdict.TheVariants.{Conflict}
 use Rattle.sample_book.specs.Rows.{current_rows, verdict_of}
-use Rattle.budget_command.specs.Order.{◌>>=◌}
-use Rattle.slo_limits.specs.declared.TheConstants.{MAX_AMOUNT, MAX_CELLS, MAX_MINUTE, MAX_REVISION}
+use Rattle.slo_limits.specs.declared.TheConstants.{MAX_AMOUNT, MAX_CELLS}
 use Rattle.budget_command.specs.declared.fault.RecordFault.{RecordFault}
-use Rattle.budget_command.specs.declared.fault.RecordFault.TheVariants as fault
+use Rattle.budget_command.specs.declared.fault.RecordFault.TheVariants as faults
 
 -- the one indicator of `budget`
 abbrev pub BUDGET : List ℕ
 BUDGET = codes "budget"
 
--- the revision of a text: revisions count from 1
-abbrev pub revision_of : List ℕ → Option ℕ
-revision_of text = do
-  revision ← number_within MAX_REVISION text
-  if nat_le 1 revision then Some revision else None
+-- the row of an event, under the one indicator
+abbrev pub row_of : Event → Row
+row_of event = record {
+  sli = BUDGET;
+  source = event.source;
+  minute = event.minute;
+  revision = event.revision;
+  amount = Counts event.good event.total;
+}
 
--- the good and total events of two texts: the good ones are among the total
-abbrev pub counts_of : List ℕ → List ℕ → Option Amount
-counts_of good_text total_text = do
-  good ← number_within MAX_AMOUNT good_text
-  total ← number_within MAX_AMOUNT total_text
-  if nat_le good total then Some (Counts good total) else None
-
--- what a rule gives, or its fault where it is broken; and then the rules behind it
-abbrev pub by_rule : {A B : Type 0} → RecordFault → Option A → (A → Result B RecordFault) →
-    Result B RecordFault
-by_rule fault None behind = Err fault
-by_rule fault (Some value) behind = behind value
-
--- The row that five fields stand for, or the first rule that they break: the source is a label, the
--- minute is one of the clock, the revision is from 1 to 10^9, good and total are at most 10^9, and
--- good is at most total. A number is written in digits alone.
-abbrev pub row_of : List ℕ × List ℕ × List ℕ × List ℕ × List ℕ → Result Row RecordFault
-row_of fields =
-    by_rule fault.Source (label_of fields.0) (λ source.
-    by_rule fault.Minute (number_within MAX_MINUTE fields.1) (λ minute.
-    by_rule fault.Revision (revision_of fields.2) (λ revision.
-    by_rule fault.Counts (counts_of fields.3 fields.4) (λ amount.
-    Ok (record {
-      sli = BUDGET;
-      source = source;
-      minute = minute;
-      revision = revision;
-      amount = amount;
-    })))))
+-- the row that a record stands for by itself, or the rule that its fields break
+abbrev pub row_read : Result Event EventFault → Result Row RecordFault
+row_read (Err fault) = Err (faults.Event fault)
+row_read (Ok event) = Ok (row_of event)
 
 -- A row is taken, unless the kept row of its cell has the same revision and another amount, or it
 -- would make one cell more than there may be.
 abbrev pub row_by_verdict : ℕ → RowVerdict → Row → Result Row RecordFault
-row_by_verdict cells New row = if nat_lt cells MAX_CELLS then Ok row else Err fault.Limit
+row_by_verdict cells New row = if nat_lt cells MAX_CELLS then Ok row else Err faults.Limit
 row_by_verdict cells (Newer old) row = Ok row
 row_by_verdict cells Repeated row = Ok row
 row_by_verdict cells (Superseded revision) row = Ok row
-row_by_verdict cells (Conflict kept) row = Err (fault.Conflict kept.amount)
+row_by_verdict cells (Conflict kept) row = Err (faults.Conflict kept.amount)
 
 abbrev pub of_row : List Row → Result Row RecordFault → Result Row RecordFault
 of_row current (Err fault) = Err fault
 of_row current (Ok row) = row_by_verdict (length current) (verdict_of current row) row
 
-abbrev pub of_five : List Row → Option (List ℕ × List ℕ × List ℕ × List ℕ × List ℕ) →
-    Result Row RecordFault
-of_five current None = Err fault.Fields
-of_five current (Some fields) = of_row current (row_of fields)
-
--- what a record comes to over the current rows
+-- What a record comes to over the current rows. Its good and total are at most 10^9.
 abbrev pub outcome_over : List Row → Fields → Result Row RecordFault
-outcome_over current fields = of_five current (five_fields fields)
+outcome_over current fields = of_row current (row_read (event_of MAX_AMOUNT fields))
 
 -- What a record comes to behind the rows that came before it: a row, or the first rule that it
 -- breaks, in the order: five fields, the source, the minute, the revision, the counts, no conflict

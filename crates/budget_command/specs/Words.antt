@@ -2,6 +2,7 @@
 use Rattle.std.specs.Prelude.{ℕ, List, ◌++◌, codes}
 use Rattle.std.specs.Fmt.{decimal}
 use Rattle.exact_fraction.specs.DecimalText.{decimal_text}
+use Rattle.event_fields.specs.Events.{words_of_event}
 use Rattle.slice_method.specs.declared.Amount.{Amount}
 use Rattle.slice_method.specs.declared.Amount.TheVariants.{Counts, Value}
 use Rattle.budget_command.specs.declared.fault.RecordFault.{RecordFault}
@@ -17,11 +18,7 @@ words_of_amount (Value value) = codes "conflict " ++ decimal_text value
 
 -- the words for what is wrong with a record
 abbrev pub words_of_record : RecordFault → List ℕ
-words_of_record fault.Fields = codes "fields"
-words_of_record fault.Source = codes "source"
-words_of_record fault.Minute = codes "minute"
-words_of_record fault.Revision = codes "revision"
-words_of_record fault.Counts = codes "counts"
+words_of_record (fault.Event event) = words_of_event event
 words_of_record (fault.Conflict kept) = words_of_amount kept
 words_of_record fault.Limit = codes "limit"
 

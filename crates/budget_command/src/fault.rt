@@ -2,22 +2,15 @@
 ghost use Rattle.std.specs.Prelude.{◌≡◌, IfOk, string_bytes};
 ghost use Rattle.budget_command.specs.Words.{words_of_amount, words_of_fault, words_of_record};
 
-use sample_book::Amount;
+use event_fields::{EventFault, event_words};
+use slice_method::Amount;
 use std::alloc::{AllocError, Global};
 
 /// What is wrong with a record, in the order in which the rules are tried.
 #[derive(Clone, Copy, Debug, PartialEq, Eq)]
 pub enum RecordFault {
-    /// It hasn't five fields.
-    Fields,
-    /// The source is no label.
-    Source,
-    /// The minute is none of the clock.
-    Minute,
-    /// The revision isn't from 1 to 10^9.
-    Revision,
-    /// Good or total is above 10^9, or good above total.
-    Counts,
+    /// Its fields are no event, whose good and total are at most 10^9.
+    Event(EventFault),
     /// The current row of its cell has its revision and this other amount.
     Conflict(Amount),
     /// It would make one cell more than a table of samples may have.
@@ -56,11 +49,7 @@ fn record_words(alloc: Global, fault: RecordFault) -> Result<String, AllocError>
     ensures { IfOk result (λ text. string_bytes text ≡ words_of_record fault) }
 {
     match fault {
-        RecordFault::Fields => String::from_str(alloc, "fields"),
-        RecordFault::Source => String::from_str(alloc, "source"),
-        RecordFault::Minute => String::from_str(alloc, "minute"),
-        RecordFault::Revision => String::from_str(alloc, "revision"),
-        RecordFault::Counts => String::from_str(alloc, "counts"),
+        RecordFault::Event(fault) => String::from_str(alloc, event_words(fault)),
         RecordFault::Conflict(kept) => amount_words(alloc, kept),
         RecordFault::Limit => String::from_str(alloc, "limit"),
     }

@@ -1,17 +1,15 @@
 //! `budget TARGET FROM TO`: the error budget of the samples of an input, which is CSV records.
-//! Stands on `csv_records`, `sample_book` and `burn_core`. The input's text isn't held.
+//! Stands on `event_fields`, `csv_records`, `sample_book`, `burn_core`. The text isn't held.
 //! Promises that its lines, or why the input is refused, are the definition's answer on its bytes.
 #![tactic(auto)]
 
 mod answer;
 mod fault;
-mod field_number;
 mod input;
 mod judging;
 mod laws;
 mod order;
 mod row;
-mod sources;
 mod table;
 mod text;
 

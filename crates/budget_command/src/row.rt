@@ -1,14 +1,13 @@
 //! The rows of `budget`: the good and total events of one source's minute.
-ghost use Rattle.std.specs.Prelude.{◌≡◌, IfOk, IfSome};
-ghost use Rattle.budget_command.specs.Records.{BUDGET, IsCounted, IsCountedAmount, counts_of};
-ghost use Rattle.budget_command.specs.Records.{good_of, revision_of, row_of, total_of};
+ghost use Rattle.std.specs.Prelude.{◌≡◌};
+ghost use Rattle.slo_limits.specs.declared.TheConstants.{MAX_AMOUNT};
+ghost use Rattle.event_fields.specs.Events.{IsCounted as IsCountedEvent};
+ghost use Rattle.budget_command.specs.Records.{BUDGET, IsCounted, good_of, row_of, total_of};
 
-use crate::fault::RecordFault;
-use crate::field_number::read_field;
-use crate::sources::Sources;
+use event_fields::Event;
 use exact_fraction::{Label, Leaf, read_label};
-use sample_book::{Amount, Row};
-use slo_limits::{MAX_AMOUNT, MAX_MINUTE, MAX_REVISION};
+use sample_book::Row;
+use slice_method::Amount;
 
 /// The one indicator under which the rows of an input are kept.
 pub fn indicator() -> Label
@@ -17,57 +16,23 @@ pub fn indicator() -> Label
     read_label(b"budget").unwrap()
 }
 
-// Revisions count from 1.
-fn read_revision(text: &[u8]) -> Option<u32>
-    ensures { result ≡ revision_of text.now }
+/// The row of an event. The indicator is handed in, so that it isn't read anew for each row.
+pub(crate) fn row_of(sli: Label, event: &Event) -> Row
+    requires indicator { sli ≡ BUDGET }
+    requires counted { IsCountedEvent MAX_AMOUNT event.now }
+    ensures row { result ≡ row_of event.now }
+    ensures counted { IsCounted result }
 {
-    let revision = read_field(text, MAX_REVISION)?;
-    if 1 <= revision { Some(revision) } else { None }
-}
-
-// The good events are among the total.
-fn read_counts(good: &[u8], total: &[u8]) -> Option<Amount>
-    ensures counts { result ≡ counts_of good.now total.now }
-    ensures counted { IfSome result IsCountedAmount }
-{
-    let good = read_field(good, MAX_AMOUNT)?;
-    let total = read_field(total, MAX_AMOUNT)?;
-    if good <= total {
-        Some(Amount::Counts { part: good, total })
-    } else {
-        None
-    }
-}
-
-/// The row that the fields `source,minute,revision,good,total` stand for, or the first rule that
-/// they break. The indicator is handed in, so that it isn't read anew for each row, and so are the
-/// sources that came.
-pub(crate) fn read_row(
-    sli: Label,
-    sources: &mut Sources,
-    fields: (&[u8], &[u8], &[u8], &[u8], &[u8]),
-) -> Result<Row, RecordFault>
-    requires { sli ≡ BUDGET }
-    ensures row { result ≡ row_of (
-      fields.entry.0.now,
-      fields.entry.1.now,
-      fields.entry.2.now,
-      fields.entry.3.now,
-      fields.entry.4.now,
-    ) }
-    ensures counted { IfOk result IsCounted }
-{
-    let source = sources.read(fields.0).ok_or(RecordFault::Source)?;
-    let minute = read_field(fields.1, MAX_MINUTE).ok_or(RecordFault::Minute)?;
-    let revision = read_revision(fields.2).ok_or(RecordFault::Revision)?;
-    let amount = read_counts(fields.3, fields.4).ok_or(RecordFault::Counts)?;
-    Ok(Row {
+    Row {
         sli,
-        source,
-        minute,
-        revision,
-        amount,
-    })
+        source: event.source,
+        minute: event.minute,
+        revision: event.revision,
+        amount: Amount::Counts {
+            part: event.good as u32,
+            total: event.total as u32,
+        },
+    }
 }
 
 /// The good and total events of a row.

@@ -10,12 +10,12 @@ ghost use Rattle.budget_command.specs.Tables.{AreAll, HasTaken, HasTakenRecord, 
 ghost use Rattle.budget_command.specs.Tables.{IsFit, tallies_in};
 
 use crate::fault::RecordFault;
-use crate::row::{indicator, read_row};
-use crate::sources::{PLACES, Sources};
+use crate::row::{indicator, row_of};
 use csv_records::{Record, RecordReader};
+use event_fields::{Sources, read_event};
 use exact_fraction::Label;
 use sample_book::{CurrentRows, Row, RowVerdict};
-use slo_limits::MAX_CELLS;
+use slo_limits::{MAX_AMOUNT, MAX_CELLS};
 use std::alloc::{AllocError, Global};
 
 /// Why a table doesn't take all records.
@@ -41,9 +41,9 @@ fn read_record(sli: &Label, sources: &mut Sources, fields: &Record) -> Result<Ro
     ensures read { (current : List Row) → outcome_over current fields.now ≡ of_row current result }
     ensures counted { IfOk result IsCounted }
 {
-    match fields.five() {
-        Some(five) => read_row(*sli, sources, five),
-        None => Err(RecordFault::Fields),
+    match read_event(sources, fields, u64::from(MAX_AMOUNT)) {
+        Ok(event) => Ok(row_of(*sli, &event)),
+        Err(fault) => Err(RecordFault::Event(fault)),
     }
 }
 
@@ -174,9 +174,7 @@ pub(crate) fn fill(
         result ≡ Err (TableFault.Broken at fault) → IsBroken part.now number table.old at fault }
 {
     let sli = indicator();
-    let mut sources = Sources {
-        latest: [sli; PLACES],
-    };
+    let mut sources = Sources::new();
     let mut reader = RecordReader::new(alloc, part);
     let mut record = Record::new(alloc);
     let mut next = number;

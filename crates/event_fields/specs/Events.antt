@@ -1,5 +1,5 @@
 -- The events that records stand for, and what is wrong with a record by itself.
-use Rattle.std.specs.Prelude.{ℕ, List, Option, Some, None, Result, Ok, Err, codes, nat_le}
+use Rattle.std.specs.Prelude.{◌≤◌, ℕ, List, Option, Some, None, Result, Ok, Err, codes, nat_le}
 use Rattle.std.specs.Prelude.{if◌then◌else◌}
 use Rattle.std.specs.Option.{option_and_then}
 use Rattle.csv_records.specs.Columns.{five_fields}
@@ -64,6 +64,11 @@ of_five most (Some fields) = fields_event most fields
 -- The event that a record stands for: it has five fields, and they keep their rules.
 abbrev pub event_of : ℕ → Fields → Result Event EventFault
 event_of most fields = of_five most (five_fields fields)
+
+-- the good events are among the total, which is at most so much
+pub record IsCounted (most : ℕ) (event : Event) : Type 0 where
+  pub part : event.good ≤ event.total
+  pub few : event.total ≤ most
 
 -- the word for what is wrong
 abbrev pub words_of_event : EventFault → List ℕ

@@ -1,6 +1,6 @@
 //! The event that a record stands for.
-ghost use Rattle.std.specs.Prelude.{◌≡◌, ◌≤◌};
-ghost use Rattle.event_fields.specs.Events.{counts_of, event_of, fields_event, minute_of};
+ghost use Rattle.std.specs.Prelude.{◌≡◌, ◌≤◌, IfOk, IfSome};
+ghost use Rattle.event_fields.specs.Events.{IsCounted, counts_of, event_of, fields_event, minute_of};
 ghost use Rattle.event_fields.specs.Events.{revision_of, words_of_event};
 ghost use Rattle.event_fields.specs.declared.field_number.TheConstants.{MAX_NUMBER};
 
@@ -49,7 +49,7 @@ pub fn event_words(fault: EventFault) -> &'static str
     }
 }
 
-// Revisions count from 1.
+/// Revisions count from 1.
 fn read_revision(text: &[u8]) -> Option<u32>
     ensures { result ≡ revision_of text.now }
 {
@@ -61,10 +61,11 @@ fn read_revision(text: &[u8]) -> Option<u32>
     }
 }
 
-// The good events are among the total.
+/// The good events are among the total.
 fn read_counts(good: &[u8], total: &[u8], most: u64) -> Option<(u64, u64)>
     requires { most ≤ MAX_NUMBER }
-    ensures { result ≡ counts_of most good.now total.now }
+    ensures counts { result ≡ counts_of most good.now total.now }
+    ensures counted { IfSome result (λ counts. (counts.0 ≤ counts.1) × (counts.1 ≤ most)) }
 {
     let good = read_field(good, most)?;
     let total = read_field(total, most)?;
@@ -75,7 +76,7 @@ fn read_counts(good: &[u8], total: &[u8], most: u64) -> Option<(u64, u64)>
     }
 }
 
-// A minute of the clock.
+/// A minute of the clock.
 fn read_minute(text: &[u8]) -> Option<u32>
     ensures { result ≡ minute_of text.now }
 {
@@ -83,20 +84,21 @@ fn read_minute(text: &[u8]) -> Option<u32>
     Some(minute as u32)
 }
 
-// The event that five fields stand for, or the first rule that they break.
+/// The event that five fields stand for, or the first rule that they break.
 fn read_fields(
     sources: &mut Sources,
     fields: (&[u8], &[u8], &[u8], &[u8], &[u8]),
     most: u64,
 ) -> Result<Event, EventFault>
     requires { most ≤ MAX_NUMBER }
-    ensures { result ≡ fields_event most (
+    ensures event { result ≡ fields_event most (
       fields.entry.0.now,
       fields.entry.1.now,
       fields.entry.2.now,
       fields.entry.3.now,
       fields.entry.4.now,
     ) }
+    ensures counted { IfOk result (IsCounted most) }
 {
     let source = sources.read(fields.0).ok_or(EventFault::Source)?;
     let minute = read_minute(fields.1).ok_or(EventFault::Minute)?;
@@ -115,7 +117,8 @@ fn read_fields(
 /// rule that it breaks. The sources that came are handed in.
 pub fn read_event(sources: &mut Sources, fields: &Record, most: u64) -> Result<Event, EventFault>
     requires { most ≤ MAX_NUMBER }
-    ensures { result ≡ event_of most fields.now }
+    ensures event { result ≡ event_of most fields.now }
+    ensures counted { IfOk result (IsCounted most) }
 {
     match fields.five() {
         Some(five) => read_fields(sources, five, most),

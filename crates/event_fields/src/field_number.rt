@@ -25,13 +25,14 @@ pub(crate) fn read_field(text: &[u8], most: u64) -> Option<u64>
     if value <= most { Some(value) } else { None }
 }
 
+/// Whether a text is digits alone.
 fn all_digits(text: &[u8]) -> bool
     ensures { result ≡ list_all is_ascii_digit text.now }
 {
     text.iter().all(|byte| byte.is_ascii_digit())
 }
 
-// The value of the digits, or `CAP` where it is greater.
+/// The value of the digits, or `CAP` where it is greater.
 fn capped_number(digits: &[u8]) -> u64
     ensures { result ≡ min (number_of digits.now) CAP }
 {

@@ -37,7 +37,7 @@ impl Sources {
     }
 }
 
-// Texts of a few sources mostly differ in their length, or in their first or last byte.
+/// Texts of a few sources mostly differ in their length, or in their first or last byte.
 fn place_of(text: &[u8]) -> usize
     ensures { result < PLACES }
 {
