@@ -18,9 +18,10 @@ use Rattle.catalog_terms.specs.References.{first_referrer}
 use Rattle.catalog_terms.specs.Remove.{remaining_members, unless_used, where_found}
 use Rattle.catalog_terms.specs.declared.RemoveFault.{RemoveFault}
 use Rattle.zone_calendar.specs.ZoneBytes.{zone_of}
-use Rattle.definition_verdict.specs.declared.Definition.{Definition}
-use Rattle.definition_verdict.specs.Readings.{first_read_anew}
-use Rattle.definition_verdict.specs.Verdict.{Known, known, IsDefinition}
+use Rattle.office_history.specs.Definitions.{Definition, Known, known, IsDefinition}
+use Rattle.definition_verdict.specs.declared.Definition.{Definition as Answered}
+use Rattle.definition_verdict.specs.Made.{in_words, IsDefinition as IsAnswered}
+use Rattle.office_history.specs.Readings.{first_read_anew}
 use Rattle.record_form.specs.declared.Command.{Command}
 use Rattle.record_form.specs.declared.Command.TheVariants.{Define, Remove, PutZone}
 use Rattle.record_form.specs.declared.Refusal.{Refusal}
@@ -33,7 +34,8 @@ use Rattle.office_history.specs.Batches.{when, objective_days}
 use Rattle.office_history.specs.History.{Office, with_entry, present, end_of, rows_of, rows_in}
 use Rattle.office_history.specs.History.{arrivals_of, arrivals_in, current_in, accepted_rows}
 use Rattle.office_history.specs.Catalog.{catalog_in, definitions_of, members_after, text_objects}
-use Rattle.office_history.specs.Judges.{Judges, JudgesText, refused, defined, defined_verdict}
+use Rattle.office_history.specs.Judges.{Judges, JudgesText, refused, defined}
+use Rattle.catalog_changes.specs.Judging.{defined_verdict}
 use Rattle.office_history.specs.Judges.{known_of}
 use Rattle.office_history.specs.Verdicts.{unless_refused, accepted, unless_removal, unless_sampled}
 use Rattle.office_history.specs.Verdicts.{first_row_of, remove_verdict, zone_verdict_beside}
@@ -163,22 +165,22 @@ zone_found o moment name bytes (works.Tick states told) h = absurd h
 zone_found o moment name bytes (works.Take number) h = absurd h
 
 -- what a text that is defined comes to
-pub text_judged : (known : Known) (entries : ℕ) (text : List ℕ) (made : Definition) (j : Judgement)
-    → IsDefinition known text made → j ≡ defined_verdict known entries made
+pub text_judged : (known : Known) (entries : ℕ) (text : List ℕ) (made : Answered) (j : Judgement)
+    → IsAnswered known text made → j ≡ defined_verdict known entries made
     → JudgesText known entries text j
 text_judged known entries text made j h e =
     subst (JudgesText known entries text) (sym e) (defined h)
 
-pub text_put : {E : Type 0} (known : Known) (text : List ℕ) (r : Result Definition E)
-    → IfOk r (λ made. IsDefinition known text made)
+pub text_put : {E : Type 0} (known : Known) (text : List ℕ) (r : Result Answered E)
+    → IfOk r (λ made. IsAnswered known text made)
     → IfOk r (λ made. made.catalog ≡ with_members (text_objects text) known.members)
-text_put known text (Ok made) h = (made_of_text known text made h).catalog_is
+text_put known text (Ok made) h = (made_of_text known text (in_words made) h).catalog_is
 text_put known text (Err e) h = tt
 
-pub text_counted : {E : Type 0} (known : Known) (text : List ℕ) (r : Result Definition E)
-    → IfOk r (λ made. IsDefinition known text made)
+pub text_counted : {E : Type 0} (known : Known) (text : List ℕ) (r : Result Answered E)
+    → IfOk r (λ made. IsAnswered known text made)
     → IfOk r (λ made. made.objects ≡ length (text_objects text))
-text_counted known text (Ok made) h = (made_of_text known text made h).counted
+text_counted known text (Ok made) h = (made_of_text known text (in_words made) h).counted
 text_counted known text (Err e) h = tt
 
 -- WHAT IS ACCEPTED
@@ -338,9 +340,9 @@ text_read law d text made s is =
     (kinds_of_text law (known_by d) text made is) m.same_readings)
 
 pub texts_read : {E : Type 0} → TextsHaveKinds → (d : Derived) (text : List ℕ)
-    (r : Result Definition E) → IsSound d → IfOk r (λ made. IsDefinition (known_by d) text made) →
+    (r : Result Answered E) → IsSound d → IfOk r (λ made. IsAnswered (known_by d) text made) →
     IfOk r (λ made. All (IsRead made.catalog) d.book.rows)
-texts_read law d text (Ok made) s h = text_read law d text made s h
+texts_read law d text (Ok made) s h = text_read law d text (in_words made) s h
 texts_read law d text (Err e) s h = tt
 
 pub define_sound : TextsHaveKinds → (d : Derived) (o : Office) (m : ℕ) (text : List ℕ)

@@ -17,15 +17,14 @@ use Rattle.catalog_terms.specs.Limits.{first_limit}
 use Rattle.catalog_terms.specs.Define as catalog
 use Rattle.record_form.specs.declared.Refusal.{Refusal}
 use Rattle.record_form.specs.declared.Refusal.TheVariants as refusals
-use Rattle.definition_verdict.specs.declared.Definition.{Definition}
-use Rattle.definition_verdict.specs.Documents.{objects_from, objects_next}
-use Rattle.definition_verdict.specs.Documents as definition
-use Rattle.definition_verdict.specs.Readings.{first_read_anew}
-use Rattle.definition_verdict.specs.Starts.{one_begins_too_often}
-use Rattle.definition_verdict.specs.Verdict.{Known, IsDefinition, unless, unless_many_starts}
-use Rattle.definition_verdict.specs.Verdict.{limit_name, within_limits, judged_by, has_samples}
-use Rattle.definition_verdict.specs.Verdict.{defined_over}
-use Rattle.definition_verdict.specs.Zones.{first_unknown_zone}
+use Rattle.office_history.specs.Definitions.{Definition, Known, IsDefinition, unless}
+use Rattle.office_history.specs.Definitions.{unless_many_starts, limit_name, within_limits}
+use Rattle.office_history.specs.Definitions.{judged_by, has_samples, defined_over}
+use Rattle.office_history.specs.Documents.{objects_from, objects_next}
+use Rattle.office_history.specs.Documents as definition
+use Rattle.office_history.specs.Readings.{first_read_anew}
+use Rattle.office_history.specs.Starts.{one_begins_too_often}
+use Rattle.office_history.specs.KnownZones.{first_unknown_zone}
 use Rattle.office_history.specs.Catalog.{or_none, objects_in, text_objects, members_after}
 use Rattle.catalog_changes.specs.Kinds.{HasKind, TextsHaveKinds}
 

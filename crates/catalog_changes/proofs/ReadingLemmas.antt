@@ -22,8 +22,8 @@ use Rattle.object_terms.specs.Sli.{sli_in}
 use Rattle.catalog_terms.specs.Keys.{is_key, member_of}
 use Rattle.catalog_terms.specs.Catalog.{with_member, with_members, without}
 use Rattle.catalog_terms.specs.NeedsOp.{sli_named}
-use Rattle.definition_verdict.specs.Readings.{reading_of, same_reading, is_other_reading}
-use Rattle.definition_verdict.specs.Readings.{row_read_anew, first_read_anew}
+use Rattle.office_history.specs.Readings.{reading_of, same_reading, is_other_reading, row_read_anew}
+use Rattle.office_history.specs.Readings.{first_read_anew}
 use Rattle.office_history.specs.Objectives.{reading_named}
 use Rattle.office_derived.specs.Derived.{IsRead}
 use Rattle.object_laws.specs.Kinds.{kind_of}

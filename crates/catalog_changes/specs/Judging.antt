@@ -1,6 +1,6 @@
 -- What is found out about a definition, a removal and a zone, over what is kept.
 use Rattle.std.specs.Prelude.{◌≡◌, ℕ, List, length, map, Some}
-use Rattle.definition_verdict.specs.Verdict.{Known, known}
+use Rattle.office_history.specs.Definitions.{Known, known}
 use Rattle.object_terms.specs.declared.kind.Kind.{Kind}
 use Rattle.object_terms.specs.declared.Object.{Object}
 use Rattle.catalog_terms.specs.Catalog.{with_members, without}
@@ -16,10 +16,17 @@ use Rattle.office_derived.specs.declared.Work.{Work}
 use Rattle.office_derived.specs.declared.Work.TheVariants as works
 use Rattle.office_derived.specs.declared.Judged.{Judged}
 use Rattle.office_derived.specs.declared.Judged.TheVariants as judged
+use Rattle.office_history.specs.Judges as judges
+use Rattle.definition_verdict.specs.declared.Definition.{Definition as Answered}
+use Rattle.definition_verdict.specs.Made.{in_words}
 
 -- what a definition is judged by, as it is kept
 abbrev pub known_by : Derived → Known
 known_by d = known d.catalog (map (λ kept. kept.0) d.zones.kept) d.book.rows (end_of d.origin)
+
+-- what becomes of a text for which this is answered
+abbrev pub defined_verdict : Known → ℕ → Answered → Judgement
+defined_verdict known entries made = judges.defined_verdict known entries (in_words made)
 
 -- a judgement of these, with a work of these where it is accepted; or memory ran out
 abbrev pub IsJudgedBy : (Judgement → Type 0) → (Work → Type 0) → Judged → Type 0

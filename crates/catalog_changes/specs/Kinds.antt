@@ -5,7 +5,7 @@ use Rattle.std.specs.List.{AllByRecursion}
 use Rattle.yaml_terms.specs.Text.{StandsFor}
 use Rattle.yaml_terms.specs.Tree.{Tree}
 use Rattle.object_terms.specs.declared.Object.{Object}
-use Rattle.definition_verdict.specs.Documents.{objects_in}
+use Rattle.office_history.specs.Documents.{objects_in}
 use Rattle.object_laws.specs.Kinds.{kind_of}
 
 -- the body is of the object's kind

@@ -2,8 +2,7 @@
 use Rattle.std.proofs.Common.{◌≡◌, ◌⊎◌, inl, inr, ℕ, List, ap, sym, refl, ◌∙◌}
 use Rattle.std.specs.Prelude.{Result, Ok, Err}
 use Rattle.record_form.specs.declared.Refusal.{Refusal}
-use Rattle.definition_verdict.specs.declared.Definition.{Definition}
-use Rattle.definition_verdict.specs.Verdict.{IsDefinition, IsRefused, Known}
+use Rattle.office_history.specs.Definitions.{Definition, IsDefinition, IsRefused, Known}
 use Rattle.definition_verdict.proofs.VerdictLemmas.{no_refusal, one_definition, one_refusal}
 use Rattle.check_command.specs.Answer.{IsCheckAnswer, nothing_known}
 use Rattle.check_command.specs.Lines.{check_lines}

@@ -1,9 +1,8 @@
 -- What `check` answers on the bytes of its input.
 use Rattle.std.specs.Prelude.{◌≡◌, ℕ, List, [], Result, Ok, Err}
 use Rattle.slo_limits.specs.declared.TheConstants.{MAX_MINUTE}
-use Rattle.definition_verdict.specs.declared.Definition.{Definition}
+use Rattle.office_history.specs.Definitions.{Definition, IsDefinition, IsRefused, Known, known}
 use Rattle.record_form.specs.declared.Refusal.{Refusal}
-use Rattle.definition_verdict.specs.Verdict.{IsDefinition, IsRefused, Known, known}
 use Rattle.check_command.specs.Lines.{check_lines}
 
 -- An office that keeps nothing: no members, no zone beside `UTC`, no samples, and calendars up to

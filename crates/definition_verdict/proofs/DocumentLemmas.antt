@@ -8,7 +8,7 @@ use Rattle.yaml_terms.specs.SpellingFits.{IsWritable}
 use Rattle.yaml_terms.specs.Tree.{Tree}
 use Rattle.object_terms.specs.declared.Object.{Object}
 use Rattle.object_terms.specs.declared.ObjectFault.{ObjectFault}
-use Rattle.definition_verdict.specs.Documents.{objects_from, objects_in, objects_next}
+use Rattle.office_history.specs.Documents.{objects_from, objects_in, objects_next}
 
 -- objects that are read of nodes that stand in a text are objects of documents
 origins : (before : List Object) (number : ℕ) (nodes : List Tree) (objects : List Object) →

@@ -6,7 +6,7 @@ use Rattle.yaml_terms.specs.Text.{StandsFor, without_mark}
 use Rattle.yaml_subset.proofs.FaultLemmas.{never_both, one_fault}
 use Rattle.record_form.specs.declared.YamlWord.{YamlWord}
 use Rattle.record_form.specs.declared.YamlWord.TheVariants as yaml
-use Rattle.definition_verdict.specs.Texts.{IsYamlFault}
+use Rattle.office_history.specs.Texts.{IsYamlFault}
 
 -- a text has one fault at most
 pub one_yaml_fault : (text : List ℕ) (j k : ℕ) (v w : YamlWord) → IsYamlFault text j v

@@ -20,9 +20,9 @@ use Rattle.catalog_terms.specs.Define.{is_unchanged}
 use Rattle.record_form.specs.declared.Refusal.{Refusal}
 use Rattle.record_form.specs.declared.Refusal.TheVariants.{Yaml}
 use Rattle.record_form.specs.declared.YamlWord.TheVariants as words
-use Rattle.definition_verdict.specs.declared.definition.Definition.{Definition}
-use Rattle.definition_verdict.specs.Documents.{objects_in}
-use Rattle.definition_verdict.specs.Verdict.{IsDefinition, IsRefused, Known, defined_over, no_text}
+use Rattle.office_history.specs.Definitions.{Definition, IsDefinition, IsRefused, Known}
+use Rattle.office_history.specs.Definitions.{defined_over, no_text}
+use Rattle.office_history.specs.Documents.{objects_in}
 use Rattle.definition_verdict.proofs.VerdictLemmas.{refused_documents, refused_objects}
 
 -- WHERE BYTES STOP BEING UTF-8

@@ -8,12 +8,13 @@ use Rattle.object_terms.specs.declared.Object.{Object}
 use Rattle.record_form.specs.declared.Refusal.{Refusal}
 use Rattle.record_form.specs.declared.Refusal.TheVariants.{Yaml}
 use Rattle.catalog_terms.specs.Define.{is_unchanged}
-use Rattle.definition_verdict.specs.declared.definition.Definition.{Definition}
+use Rattle.office_history.specs.Definitions.{Definition, IsDefinition, IsRefused, Known}
+use Rattle.office_history.specs.Definitions.{defined_over, definition_of, no_definition, no_text}
+use Rattle.office_history.specs.Definitions.{then_defined}
+use Rattle.definition_verdict.specs.declared.definition.Definition.{Definition as Answered}
 use Rattle.definition_verdict.specs.declared.definition.VerdictError.{VerdictError}
 use Rattle.definition_verdict.specs.declared.definition.VerdictError.TheVariants.{Refused}
-use Rattle.definition_verdict.specs.Documents.{objects_in}
-use Rattle.definition_verdict.specs.Verdict.{IsDefinition, IsRefused, Known, defined_over}
-use Rattle.definition_verdict.specs.Verdict.{definition_of, no_definition, no_text, then_defined}
+use Rattle.office_history.specs.Documents.{objects_in}
 use Rattle.definition_verdict.proofs.FaultLemmas.{no_yaml_fault, one_yaml_fault}
 
 -- what two lists of documents of one text define is the same
@@ -69,7 +70,7 @@ no_refusal known text made refusal m (no_definition {nodes = ys} q f) =
 
 -- the refusal that is answered
 pub same_refused : (a b : Refusal)
-    → ◌≡◌ {A = Result Definition VerdictError} (Err (Refused a)) (Err (Refused b)) → a ≡ b
+    → ◌≡◌ {A = Result Answered VerdictError} (Err (Refused a)) (Err (Refused b)) → a ≡ b
 same_refused a b e = cc e
 
 -- a text with a document that stands for no objects

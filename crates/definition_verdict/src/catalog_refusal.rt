@@ -1,7 +1,7 @@
 //! The faults of the catalog as refusals.
 ghost use Rattle.std.specs.Prelude.{◌≡◌};
-ghost use Rattle.definition_verdict.specs.Verdict.{catalog_refusal as catalog_refusal_def};
-ghost use Rattle.definition_verdict.specs.Verdict.{limit_name as limit_name_def};
+ghost use Rattle.office_history.specs.Definitions.{catalog_refusal as catalog_refusal_def};
+ghost use Rattle.office_history.specs.Definitions.{limit_name as limit_name_def};
 
 use catalog_terms::{CatalogFault, CatalogLimit};
 use record_form::{LimitName, Refusal};

@@ -4,8 +4,8 @@ ghost use Rattle.std.specs.List.{All};
 ghost use Rattle.object_terms.specs.declared.Object.{Object};
 ghost use Rattle.object_terms.specs.Document.{IsOfDocument};
 ghost use Rattle.catalog_terms.specs.Define.{is_unchanged};
-ghost use Rattle.definition_verdict.specs.Verdict.{IsDefinition, IsRefused, defined_over, known};
-ghost use Rattle.definition_verdict.specs.Verdict.{within_limits};
+ghost use Rattle.definition_verdict.specs.Made.{IsDefinition};
+ghost use Rattle.office_history.specs.Definitions.{IsRefused, defined_over, known, within_limits};
 
 use crate::catalog_refusal::catalog_refusal;
 use crate::documents::{DocumentsError, TextError, documents_in, objects_in};

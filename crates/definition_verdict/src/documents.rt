@@ -4,8 +4,8 @@ ghost use Rattle.std.specs.List.{AllByRecursion};
 ghost use Rattle.yaml_terms.specs.NodeView.{node_view, nodes_view};
 ghost use Rattle.yaml_terms.specs.SpellingFits.{IsWritable};
 ghost use Rattle.yaml_terms.specs.Text.{StandsFor};
-ghost use Rattle.definition_verdict.specs.Documents.{broken_document, objects_in as objects_in_def};
-ghost use Rattle.definition_verdict.specs.Texts.{IsYamlFault};
+ghost use Rattle.office_history.specs.Documents.{broken_document, objects_in as objects_in_def};
+ghost use Rattle.office_history.specs.Texts.{IsYamlFault};
 
 use object_terms::{ObjectFault, Objects, ReadError};
 use record_form::{Refusal, YamlWord};

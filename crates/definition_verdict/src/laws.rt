@@ -1,8 +1,7 @@
 //! The laws of verdicts: a text has one.
 ghost use Rattle.std.specs.Prelude.{◌≡◌, ◌⊎◌, ℕ, List};
 ghost use Rattle.record_form.specs.declared.Refusal.{Refusal};
-ghost use Rattle.definition_verdict.specs.declared.definition.Definition.{Definition};
-ghost use Rattle.definition_verdict.specs.Verdict.{IsDefinition, IsRefused, Known};
+ghost use Rattle.office_history.specs.Definitions.{Definition, IsDefinition, IsRefused, Known};
 
 /// A text has one verdict at most over what is kept: what it defines, or why it is refused, which
 /// is then the first refusal in the order.

@@ -1,6 +1,5 @@
 //! Whether the objects of a text can be defined in an office, judged in one place.
-//! Stands on the catalog and its objects, on the first rows of a book of samples, and on the
-//! refusals of `record_form`.
+//! Stands on the words of a history, on the readers of documents and objects, and on the catalog.
 //! Promises the first refusal in the order text, documents, catalog, zones, samples, limits, and
 //! one verdict a text.
 #![tactic(auto)]
@@ -14,5 +13,3 @@ mod starts;
 mod zones;
 
 pub use definition::{Definition, VerdictError, judge_definition};
-pub use readings::reading_of;
-pub use record_form::{LimitName, Outcome, Refusal, Rows};

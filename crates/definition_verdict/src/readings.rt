@@ -1,39 +1,19 @@
-//! How the amounts of an indicator's rows are read, and whose reading a text would change.
+//! Whose reading a text would change.
 ghost use Rattle.std.specs.Prelude.{◌≡◌};
 ghost use Rattle.catalog_terms.specs.NeedsOp.{sli_named as sli_named_def};
 ghost use Rattle.object_terms.specs.Sli.{sli_in as sli_in_def};
 ghost use Rattle.std.specs.Option.{option_copied};
-ghost use Rattle.definition_verdict.specs.Readings.{first_read_anew as first_read_anew_def};
-ghost use Rattle.definition_verdict.specs.Readings.{is_other_reading as is_other_reading_def};
-ghost use Rattle.definition_verdict.specs.Readings.{reading_of as reading_of_def};
-ghost use Rattle.definition_verdict.specs.Readings.{row_read_anew as row_read_anew_def};
-ghost use Rattle.definition_verdict.specs.Readings.{same_reading as same_reading_def};
+ghost use Rattle.office_history.specs.Readings.{first_read_anew as first_read_anew_def};
+ghost use Rattle.office_history.specs.Readings.{is_other_reading as is_other_reading_def};
+ghost use Rattle.office_history.specs.Readings.{row_read_anew as row_read_anew_def};
+ghost use Rattle.office_history.specs.Readings.{same_reading as same_reading_def};
 
 use exact_fraction::Label;
-use object_terms::{Events, Kind, Metric, Object, Ratio, RawType, Sli};
+use object_terms::{Kind, Object, Sli};
+use office_history::reading_of;
 use record_form::{Row, SampleBook};
 use slice_method::Reading;
 use slo_catalog::{Catalog, sli_in};
-
-/// How the amounts of an indicator's rows are read (OpenSLO v1, `ratioMetric` and
-/// `thresholdMetric`).
-pub fn reading_of(metric: &Metric) -> Reading
-    ensures { result ≡ reading_of_def metric.now }
-{
-    let Metric::Ratio(metric) = metric else {
-        return Reading::Threshold;
-    };
-    match &metric.ratio {
-        Ratio::Raw { raw_type, .. } => match raw_type {
-            RawType::Success => Reading::RawSuccess,
-            RawType::Failure => Reading::RawFailure,
-        },
-        Ratio::Counts { events, .. } => match events {
-            Events::Good(_) => Reading::Good,
-            Events::Bad(_) => Reading::Bad,
-        },
-    }
-}
 
 /// Whether two readings are one.
 fn same_reading(a: Reading, b: Reading) -> bool

@@ -1,8 +1,8 @@
 //! How often the windows of calendars begin.
 ghost use Rattle.std.specs.Prelude.{◌≡◌, ◌<◌, ◌^◌};
 ghost use Rattle.object_terms.specs.Document.{IsOfDocument};
-ghost use Rattle.definition_verdict.specs.Starts.{begins_too_often as begins_too_often_def};
-ghost use Rattle.definition_verdict.specs.Starts.{one_begins_too_often as one_begins_too_often_def};
+ghost use Rattle.office_history.specs.Starts.{begins_too_often as begins_too_often_def};
+ghost use Rattle.office_history.specs.Starts.{one_begins_too_often as one_begins_too_often_def};
 
 use object_laws::laws;
 use object_terms::Object;

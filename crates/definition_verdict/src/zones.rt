@@ -1,10 +1,10 @@
 //! The zones that the calendars of objects name.
 ghost use Rattle.std.specs.Prelude.{◌≡◌};
 ghost use Rattle.object_terms.specs.Slo.{slo_in as slo_in_def};
-ghost use Rattle.definition_verdict.specs.Zones.{first_unknown_zone as first_unknown_zone_def};
-ghost use Rattle.definition_verdict.specs.Zones.{is_among as is_among_def};
-ghost use Rattle.definition_verdict.specs.Zones.{is_known_zone as is_known_zone_def};
-ghost use Rattle.definition_verdict.specs.Zones.{unknown_zone_in};
+ghost use Rattle.office_history.specs.KnownZones.{first_unknown_zone as first_unknown_zone_def};
+ghost use Rattle.office_history.specs.KnownZones.{is_among as is_among_def};
+ghost use Rattle.office_history.specs.KnownZones.{is_known_zone as is_known_zone_def};
+ghost use Rattle.office_history.specs.KnownZones.{unknown_zone_in};
 
 use exact_fraction::ZoneName;
 use object_terms::Object;

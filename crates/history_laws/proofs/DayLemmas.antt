@@ -24,7 +24,7 @@ use Rattle.record_form.specs.declared.LimitName.TheVariants as limits
 use Rattle.record_form.specs.declared.Outcome.TheVariants.{Defined}
 use Rattle.record_form.specs.declared.Refusal.{Refusal}
 use Rattle.record_form.specs.declared.Refusal.TheVariants as refusals
-use Rattle.definition_verdict.specs.Verdict.{Known}
+use Rattle.office_history.specs.Definitions.{Known}
 use Rattle.office_history.specs.declared.Judgement.{Judgement}
 use Rattle.office_history.specs.declared.Judgement.TheVariants.{Accepted, Same}
 use Rattle.office_history.specs.Batches.{batch_fault, batch_outcome, days_of_slo, objective_days}

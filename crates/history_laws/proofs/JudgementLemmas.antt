@@ -3,12 +3,10 @@ use Rattle.std.proofs.Common.{◌≡◌, ◌∙◌, ℕ, List, length, sym, ap}
 use Rattle.record_form.specs.declared.Command.TheVariants.{Define, Remove, PutZone, Samples}
 use Rattle.record_form.specs.declared.Command.TheVariants.{Exclude, Lift, Tick, Take}
 use Rattle.record_form.specs.declared.Refusal.{Refusal}
-use Rattle.definition_verdict.specs.declared.Definition.{Definition}
-use Rattle.definition_verdict.specs.Verdict.{Known, IsDefinition, IsRefused}
+use Rattle.office_history.specs.Definitions.{Definition, Known, IsDefinition, IsRefused}
 use Rattle.office_history.specs.declared.Judgement.{Judgement}
 use Rattle.office_history.specs.declared.Judgement.TheVariants.{Refused}
-use Rattle.office_history.specs.Judges.{JudgesText, defined, refused, defined_verdict}
-use Rattle.office_history.specs.Judges.{known_of}
+use Rattle.office_history.specs.Judges.{JudgesText, defined, refused, defined_verdict, known_of}
 use Rattle.history_laws.specs.Judged.{OneJudgement}
 
 -- what is known of the verdicts on a text

@@ -21,8 +21,8 @@ use Rattle.record_form.specs.declared.Command.{Command}
 use Rattle.record_form.specs.declared.Command.TheVariants.{Define, Remove, PutZone, Samples}
 use Rattle.record_form.specs.declared.Command.TheVariants.{Exclude, Lift, Tick, Take}
 use Rattle.record_form.specs.declared.Entry.{Entry}
-use Rattle.definition_verdict.specs.Readings.{first_read_anew, is_other_reading, reading_of}
-use Rattle.definition_verdict.specs.Readings.{row_read_anew}
+use Rattle.office_history.specs.Readings.{first_read_anew, is_other_reading, reading_of}
+use Rattle.office_history.specs.Readings.{row_read_anew}
 use Rattle.office_history.specs.declared.Judgement.TheVariants.{Accepted}
 use Rattle.office_history.specs.Catalog.{catalog_in, definitions_of, members_after, text_objects}
 use Rattle.office_history.specs.History.{current_in, rows_in, rows_of}

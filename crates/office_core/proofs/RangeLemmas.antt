@@ -12,7 +12,7 @@ use Rattle.sample_book.specs.declared.Exclusion.{Exclusion}
 use Rattle.sample_book.specs.Exclusions.{exclusion_of}
 use Rattle.sample_book.specs.Puts.{verdicts}
 use Rattle.object_terms.specs.declared.Object.{Object}
-use Rattle.office_history.specs.definition_verdict.Verdict.{Known}
+use Rattle.office_history.specs.Definitions.{Known}
 use Rattle.record_form.specs.declared.fields.TheConstants.{MAX_EXCLUDED_MINUTE}
 use Rattle.record_form.specs.declared.Command.{Command}
 use Rattle.record_form.specs.declared.Command.TheVariants.{Define, Remove, PutZone, Samples}

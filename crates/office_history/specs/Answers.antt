@@ -11,17 +11,15 @@ use Rattle.object_terms.specs.declared.Object.{Object}
 use Rattle.object_terms.specs.declared.Slo.{Slo}
 use Rattle.catalog_terms.specs.Keys.{member_of}
 use Rattle.burn_core.specs.Timeline.{AreSpansOf}
-use Rattle.definition_verdict.specs.notice_box.declared.Notice.{Notice}
-use Rattle.definition_verdict.specs.record_form.declared.BudgetRow.{BudgetRow}
-use Rattle.definition_verdict.specs.record_form.declared.Outcome.{Outcome}
-use Rattle.definition_verdict.specs.record_form.declared.Outcome.TheVariants.{ObjectList}
-use Rattle.definition_verdict.specs.record_form.declared.Outcome.TheVariants.{ObjectText, Budgets}
-use Rattle.definition_verdict.specs.record_form.declared.Outcome.TheVariants.{Burn, Timeline}
-use Rattle.definition_verdict.specs.record_form.declared.Outcome.TheVariants.{Notices, Refused}
-use Rattle.definition_verdict.specs.record_form.declared.Query.{Query}
-use Rattle.definition_verdict.specs.record_form.declared.Query.TheVariants as queries
-use Rattle.definition_verdict.specs.record_form.declared.Refusal.{Refusal}
-use Rattle.definition_verdict.specs.record_form.declared.Refusal.TheVariants as refusals
+use Rattle.notice_box.specs.declared.Notice.{Notice}
+use Rattle.record_form.specs.declared.BudgetRow.{BudgetRow}
+use Rattle.record_form.specs.declared.Outcome.{Outcome}
+use Rattle.record_form.specs.declared.Outcome.TheVariants.{ObjectList, ObjectText, Budgets, Burn}
+use Rattle.record_form.specs.declared.Outcome.TheVariants.{Timeline, Notices, Refused}
+use Rattle.record_form.specs.declared.Query.{Query}
+use Rattle.record_form.specs.declared.Query.TheVariants as queries
+use Rattle.record_form.specs.declared.Refusal.{Refusal}
+use Rattle.record_form.specs.declared.Refusal.TheVariants as refusals
 use Rattle.office_history.specs.declared.measure.Measure.{Measure}
 use Rattle.office_history.specs.History.{Office, end_of}
 use Rattle.office_history.specs.Catalog.{catalog_in}

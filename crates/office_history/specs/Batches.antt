@@ -16,10 +16,10 @@ use Rattle.slo_terms.specs.Rows.{first_of_each}
 use Rattle.object_terms.specs.declared.Object.{Object}
 use Rattle.object_terms.specs.declared.Slo.{Slo}
 use Rattle.object_terms.specs.Slo.{slo_in}
-use Rattle.definition_verdict.specs.record_form.declared.Refusal.{Refusal}
-use Rattle.definition_verdict.specs.record_form.declared.Refusal.TheVariants as refusals
-use Rattle.definition_verdict.specs.record_form.declared.Outcome.{Outcome}
-use Rattle.definition_verdict.specs.record_form.declared.Outcome.TheVariants.{Sampled}
+use Rattle.record_form.specs.declared.Refusal.{Refusal}
+use Rattle.record_form.specs.declared.Refusal.TheVariants as refusals
+use Rattle.record_form.specs.declared.Outcome.{Outcome}
+use Rattle.record_form.specs.declared.Outcome.TheVariants.{Sampled}
 use Rattle.office_history.specs.Lists.{first_some}
 use Rattle.office_history.specs.Objectives.{reading_named}
 

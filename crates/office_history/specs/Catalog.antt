@@ -8,9 +8,9 @@ use Rattle.object_terms.specs.Document.{objects_of}
 use Rattle.object_terms.specs.declared.Object.{Object}
 use Rattle.object_terms.specs.declared.ObjectFault.{ObjectFault}
 use Rattle.catalog_terms.specs.Catalog.{Change, Defined, Removed, with_member, without}
-use Rattle.definition_verdict.specs.record_form.declared.Command.{Command}
-use Rattle.definition_verdict.specs.record_form.declared.Command.TheVariants.{Define, Remove}
-use Rattle.definition_verdict.specs.record_form.declared.Entry.{Entry}
+use Rattle.record_form.specs.declared.Command.{Command}
+use Rattle.record_form.specs.declared.Command.TheVariants.{Define, Remove}
+use Rattle.record_form.specs.declared.Entry.{Entry}
 
 abbrev pub or_none : Result (List Object) ObjectFault → List Object
 or_none (Ok objects) = objects

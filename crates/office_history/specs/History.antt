@@ -8,10 +8,9 @@ use Rattle.sample_book.specs.Exclusions.{Change, Excluded, Lifted}
 use Rattle.sample_book.specs.Rows.{current_rows}
 use Rattle.sample_book.specs.Puts.{verdicts}
 use Rattle.sample_book.specs.History.{Arrival, Came, Changed, exclusions_of, is_put}
-use Rattle.definition_verdict.specs.record_form.declared.Command.{Command}
-use Rattle.definition_verdict.specs.record_form.declared.Command.TheVariants.{Samples, Exclude}
-use Rattle.definition_verdict.specs.record_form.declared.Command.TheVariants.{Lift}
-use Rattle.definition_verdict.specs.record_form.declared.Entry.{Entry}
+use Rattle.record_form.specs.declared.Command.{Command}
+use Rattle.record_form.specs.declared.Command.TheVariants.{Samples, Exclude, Lift}
+use Rattle.record_form.specs.declared.Entry.{Entry}
 
 -- An office: the minute at which its history begins, and the entries that it accepted.
 pub record Office : Type 0 where

@@ -1,17 +1,14 @@
 -- Which judgement a command gets over a history.
 use Rattle.std.specs.Prelude.{◌≡◌, ℕ, cond, nat_lt, List, length, map, None}
 use Rattle.slo_limits.specs.declared.TheConstants.{MAX_DAYS}
-use Rattle.definition_verdict.specs.declared.Definition.{Definition}
-use Rattle.definition_verdict.specs.Verdict.{Known, known, IsDefinition, IsRefused}
-use Rattle.definition_verdict.specs.record_form.declared.LimitName.TheVariants as limits
-use Rattle.definition_verdict.specs.record_form.declared.Outcome.TheVariants.{Defined}
-use Rattle.definition_verdict.specs.record_form.declared.Refusal.{Refusal}
-use Rattle.definition_verdict.specs.record_form.declared.Refusal.TheVariants as refusals
-use Rattle.definition_verdict.specs.record_form.declared.Command.{Command}
-use Rattle.definition_verdict.specs.record_form.declared.Command.TheVariants.{Define, Remove}
-use Rattle.definition_verdict.specs.record_form.declared.Command.TheVariants.{PutZone, Samples}
-use Rattle.definition_verdict.specs.record_form.declared.Command.TheVariants.{Exclude, Lift, Tick}
-use Rattle.definition_verdict.specs.record_form.declared.Command.TheVariants.{Take}
+use Rattle.office_history.specs.Definitions.{Definition, Known, known, IsDefinition, IsRefused}
+use Rattle.record_form.specs.declared.LimitName.TheVariants as limits
+use Rattle.record_form.specs.declared.Outcome.TheVariants.{Defined}
+use Rattle.record_form.specs.declared.Refusal.{Refusal}
+use Rattle.record_form.specs.declared.Refusal.TheVariants as refusals
+use Rattle.record_form.specs.declared.Command.{Command}
+use Rattle.record_form.specs.declared.Command.TheVariants.{Define, Remove, PutZone, Samples}
+use Rattle.record_form.specs.declared.Command.TheVariants.{Exclude, Lift, Tick, Take}
 use Rattle.office_history.specs.declared.judgement.Judgement.{Judgement}
 use Rattle.office_history.specs.declared.judgement.Judgement.TheVariants.{Same, Refused}
 use Rattle.office_history.specs.Batches.{when, objective_days}

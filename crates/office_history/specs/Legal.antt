@@ -1,6 +1,6 @@
 -- Legal histories: each entry may follow those before it.
 use Rattle.std.specs.Prelude.{ℕ, ◌<◌, ◌≤◌, List, [], ◌∷◌, ◌++◌}
-use Rattle.definition_verdict.specs.record_form.declared.Entry.{Entry}
+use Rattle.record_form.specs.declared.Entry.{Entry}
 use Rattle.office_history.specs.declared.judgement.Judgement.TheVariants.{Accepted}
 use Rattle.office_history.specs.History.{Office, present, end_of}
 use Rattle.office_history.specs.Judges.{Judges}

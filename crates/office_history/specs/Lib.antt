@@ -9,9 +9,14 @@ pub mod Alerts
 pub mod Notices
 pub mod Batches
 pub mod Verdicts
+pub mod Readings
+pub mod KnownZones
+pub mod Starts
+pub mod Documents
+pub mod Texts
+pub mod Definitions
 pub mod Judges
 pub mod Answers
 pub mod Outcomes
 pub mod Legal
-pub use Rattle.definition_verdict.specs as definition_verdict
-pub use Rattle.definition_verdict.specs.record_form as record_form
+pub use Rattle.record_form.specs as record_form

@@ -5,12 +5,12 @@ use Rattle.std.specs.List.{flat_map, find, list_any}
 use Rattle.burn_core.specs.declared.State.{State}
 use Rattle.burn_core.specs.declared.State.TheVariants.{Quiet, NoData, Breaching}
 use Rattle.burn_core.specs.Alert.{flag_of}
-use Rattle.definition_verdict.specs.notice_box.declared.Notice.{Notice}
+use Rattle.notice_box.specs.declared.Notice.{Notice}
 use Rattle.catalog_terms.specs.declared.Binding.{Binding}
 use Rattle.object_terms.specs.declared.Object.{Object}
-use Rattle.definition_verdict.specs.record_form.declared.Command.{Command}
-use Rattle.definition_verdict.specs.record_form.declared.Command.TheVariants.{Tick, Take}
-use Rattle.definition_verdict.specs.record_form.declared.Entry.{Entry}
+use Rattle.record_form.specs.declared.Command.{Command}
+use Rattle.record_form.specs.declared.Command.TheVariants.{Tick, Take}
+use Rattle.record_form.specs.declared.Entry.{Entry}
 use Rattle.office_history.specs.Lists.{with_before, last_of}
 use Rattle.office_history.specs.History.{Office, with_entry, current_in, exclusions_in}
 use Rattle.office_history.specs.Catalog.{catalog_in}

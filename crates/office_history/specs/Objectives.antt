@@ -17,7 +17,7 @@ use Rattle.object_terms.specs.declared.objective.Objective.{Objective}
 use Rattle.object_terms.specs.Slo.{slo_in}
 use Rattle.catalog_terms.specs.Keys.{member_of}
 use Rattle.catalog_terms.specs.NeedsOp.{sli_named}
-use Rattle.definition_verdict.specs.Readings.{reading_of}
+use Rattle.office_history.specs.Readings.{reading_of}
 use Rattle.office_history.specs.declared.measure.Measure.{Measure}
 
 -- the reading of the indicator of a name, where it is there

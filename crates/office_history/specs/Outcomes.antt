@@ -1,20 +1,16 @@
 -- What an accepted command answers, and what a request answers whatever becomes of it.
 use Rattle.std.specs.Prelude.{◌≡◌, ℕ, ◌+◌, cond, nat_lt, List, length, sum_by, Some}
 use Rattle.slo_limits.specs.declared.TheConstants.{MAX_JOURNAL_BYTES}
-use Rattle.definition_verdict.specs.record_form.Records.{record_of}
-use Rattle.definition_verdict.specs.record_form.declared.Command.{Command}
-use Rattle.definition_verdict.specs.record_form.declared.Command.TheVariants.{Define, Remove}
-use Rattle.definition_verdict.specs.record_form.declared.Command.TheVariants.{PutZone, Samples}
-use Rattle.definition_verdict.specs.record_form.declared.Command.TheVariants.{Exclude, Lift, Tick}
-use Rattle.definition_verdict.specs.record_form.declared.Command.TheVariants.{Take}
-use Rattle.definition_verdict.specs.record_form.declared.Entry.{Entry}
-use Rattle.definition_verdict.specs.record_form.declared.Outcome.{Outcome}
-use Rattle.definition_verdict.specs.record_form.declared.Outcome.TheVariants.{Defined, Changed}
-use Rattle.definition_verdict.specs.record_form.declared.Outcome.TheVariants.{Ticked, Refused}
-use Rattle.definition_verdict.specs.record_form.declared.Outcome.TheVariants.{ClockRange}
-use Rattle.definition_verdict.specs.record_form.declared.Outcome.TheVariants.{JournalFull}
-use Rattle.definition_verdict.specs.record_form.declared.Request.{Request}
-use Rattle.definition_verdict.specs.record_form.declared.Request.TheVariants.{Change, Ask}
+use Rattle.record_form.specs.Records.{record_of}
+use Rattle.record_form.specs.declared.Command.{Command}
+use Rattle.record_form.specs.declared.Command.TheVariants.{Define, Remove, PutZone, Samples}
+use Rattle.record_form.specs.declared.Command.TheVariants.{Exclude, Lift, Tick, Take}
+use Rattle.record_form.specs.declared.Entry.{Entry}
+use Rattle.record_form.specs.declared.Outcome.{Outcome}
+use Rattle.record_form.specs.declared.Outcome.TheVariants.{Defined, Changed, Ticked, Refused}
+use Rattle.record_form.specs.declared.Outcome.TheVariants.{ClockRange, JournalFull}
+use Rattle.record_form.specs.declared.Request.{Request}
+use Rattle.record_form.specs.declared.Request.TheVariants.{Change, Ask}
 use Rattle.office_history.specs.declared.judgement.Judgement.{Judgement}
 use Rattle.office_history.specs.declared.judgement.Judgement.TheVariants as judgements
 use Rattle.office_history.specs.History.{Office, moment_of, end_of, rows_in}

@@ -20,11 +20,11 @@ use Rattle.catalog_terms.specs.declared.RemoveFault.{RemoveFault}
 use Rattle.catalog_terms.specs.declared.RemoveFault.TheVariants as removal
 use Rattle.catalog_terms.specs.Remove.{remaining_members}
 use Rattle.zone_calendar.specs.ZoneBytes.{zone_of}
-use Rattle.definition_verdict.specs.notice_box.declared.Notice.{Notice}
-use Rattle.definition_verdict.specs.record_form.declared.Outcome.TheVariants.{Changed}
-use Rattle.definition_verdict.specs.record_form.declared.Refusal.{Refusal}
-use Rattle.definition_verdict.specs.record_form.declared.Refusal.TheVariants as refusals
-use Rattle.definition_verdict.specs.record_form.declared.LimitName.TheVariants as limits
+use Rattle.notice_box.specs.declared.Notice.{Notice}
+use Rattle.record_form.specs.declared.Outcome.TheVariants.{Changed}
+use Rattle.record_form.specs.declared.Refusal.{Refusal}
+use Rattle.record_form.specs.declared.Refusal.TheVariants as refusals
+use Rattle.record_form.specs.declared.LimitName.TheVariants as limits
 use Rattle.office_history.specs.declared.judgement.Judgement.{Judgement}
 use Rattle.office_history.specs.declared.judgement.Judgement.TheVariants.{Accepted, Same, Refused}
 use Rattle.office_history.specs.Lists.{first_some}

@@ -5,9 +5,9 @@ use Rattle.std.specs.List.{flat_map, find}
 use Rattle.std.specs.Str.{bytes_eq}
 use Rattle.zone_calendar.specs.Zone.{ZoneText, utc_text}
 use Rattle.zone_calendar.specs.ZoneBytes.{zone_of}
-use Rattle.definition_verdict.specs.record_form.declared.Command.{Command}
-use Rattle.definition_verdict.specs.record_form.declared.Command.TheVariants.{PutZone}
-use Rattle.definition_verdict.specs.record_form.declared.Entry.{Entry}
+use Rattle.record_form.specs.declared.Command.{Command}
+use Rattle.record_form.specs.declared.Command.TheVariants.{PutZone}
+use Rattle.record_form.specs.declared.Entry.{Entry}
 
 -- the name of the zone that is always there
 abbrev pub utc : List ℕ

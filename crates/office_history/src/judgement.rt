@@ -1,6 +1,6 @@
 //! What becomes of a command.
 
-use definition_verdict::{Outcome, Refusal};
+use record_form::{Outcome, Refusal};
 
 /// What becomes of a command over a history.
 #[derive(Drop)]

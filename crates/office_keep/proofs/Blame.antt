@@ -18,7 +18,7 @@ use Rattle.object_terms.specs.declared.Slo.{Slo}
 use Rattle.catalog_terms.specs.declared.RemoveFault.{RemoveFault}
 use Rattle.catalog_terms.specs.Keys.{member_of}
 use Rattle.catalog_terms.specs.Remove.{remaining_members}
-use Rattle.definition_verdict.specs.Verdict.{Known}
+use Rattle.office_history.specs.Definitions.{Known}
 use Rattle.record_form.specs.declared.Command.{Command}
 use Rattle.record_form.specs.declared.Command.TheVariants.{Define, Remove, PutZone, Samples}
 use Rattle.record_form.specs.declared.Command.TheVariants.{Exclude, Lift, Tick, Take}

@@ -6,7 +6,7 @@ use Rattle.record_form.specs.declared.Command.{Command}
 use Rattle.record_form.specs.declared.Command.TheVariants.{Define, Remove, PutZone, Samples}
 use Rattle.record_form.specs.declared.Command.TheVariants.{Exclude, Lift, Tick, Take}
 use Rattle.record_form.specs.Ranges.{IsInRange, IsRowInRange}
-use Rattle.definition_verdict.specs.Verdict.{Known}
+use Rattle.office_history.specs.Definitions.{Known}
 use Rattle.definition_verdict.proofs.VerdictLemmas.{one_refusal, one_definition, no_refusal}
 use Rattle.office_history.specs.declared.Judgement.{Judgement}
 use Rattle.office_history.specs.declared.Judgement.TheVariants.{Refused}

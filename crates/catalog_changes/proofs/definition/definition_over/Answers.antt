@@ -1,5 +1,5 @@
 use Rattle.std.proofs.Common.{IfOk, rules}
-use Rattle.definition_verdict.specs.Verdict.{IsDefinition}
+use Rattle.definition_verdict.specs.Made.{IsDefinition}
 use Rattle.catalog_changes.specs.Judging.{known_by}
 use Rattle.catalog_changes.proofs.ChangeLemmas.{text_put, text_counted, texts_read}
 use Rattle.catalog_changes.proofs.definition.definition_over.Goals as goal

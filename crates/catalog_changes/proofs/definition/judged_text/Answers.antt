@@ -1,11 +1,13 @@
 use Rattle.std.proofs.Common.{◌≡◌, ◌∙◌, ℕ, List, Err, length, sym, ap, subst}
 use Rattle.definition_verdict.specs.declared.Definition.{Definition}
-use Rattle.definition_verdict.specs.Verdict.{IsDefinition, IsRefused}
+use Rattle.definition_verdict.specs.Made.{IsDefinition}
+use Rattle.office_history.specs.Definitions.{IsRefused}
 use Rattle.catalog_terms.specs.Catalog.{with_members}
 use Rattle.office_history.specs.Catalog.{text_objects}
 use Rattle.office_history.specs.declared.Judgement.{Judgement}
 use Rattle.office_history.specs.declared.Judgement.TheVariants.{Refused}
-use Rattle.office_history.specs.Judges.{JudgesText, refused, defined_verdict}
+use Rattle.office_history.specs.Judges.{JudgesText, refused}
+use Rattle.catalog_changes.specs.Judging.{defined_verdict}
 use Rattle.office_derived.specs.declared.Derived.{Derived}
 use Rattle.catalog_changes.specs.Judging.{known_by}
 use Rattle.catalog_changes.proofs.ChangeLemmas.{text_judged}

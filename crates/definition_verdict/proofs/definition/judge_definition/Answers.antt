@@ -5,8 +5,8 @@ use Rattle.object_terms.specs.Document.{IsOfDocument}
 use Rattle.record_form.specs.declared.Refusal.{Refusal}
 use Rattle.record_form.specs.declared.Refusal.TheVariants.{Yaml}
 use Rattle.definition_verdict.specs.declared.definition.VerdictError.TheVariants.{Refused}
-use Rattle.definition_verdict.specs.Documents.{objects_in}
-use Rattle.definition_verdict.specs.Verdict.{IsRefused, defined_over, known, no_text}
+use Rattle.office_history.specs.Documents.{objects_in}
+use Rattle.office_history.specs.Definitions.{IsRefused, defined_over, known, no_text}
 use Rattle.definition_verdict.proofs.DocumentLemmas.{all_of_documents}
 use Rattle.definition_verdict.proofs.VerdictLemmas.{refused_documents, refused_objects}
 use Rattle.definition_verdict.proofs.VerdictLemmas.{same_refused}

@@ -1,6 +1,6 @@
 use Rattle.std.proofs.Common.{◌≡◌, ◌+◌, [], drop, map}
 use Rattle.yaml_terms.specs.NodeView.{node_view}
-use Rattle.definition_verdict.specs.Documents.{objects_from}
+use Rattle.office_history.specs.Documents.{objects_from}
 use Rattle.definition_verdict.proofs.documents.objects_in.Given as goal
 
 -- the objects so far, and what the rest gives

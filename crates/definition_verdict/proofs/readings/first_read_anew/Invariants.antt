@@ -1,5 +1,5 @@
 use Rattle.std.proofs.Common.{◌≡◌, drop}
-use Rattle.definition_verdict.specs.Readings.{first_read_anew}
+use Rattle.office_history.specs.Readings.{first_read_anew}
 use Rattle.definition_verdict.proofs.readings.first_read_anew.Given as goal
 
 -- no indicator so far would be read otherwise

@@ -1,5 +1,5 @@
 use Rattle.std.proofs.Common.{◌≡◌, drop}
-use Rattle.definition_verdict.specs.Starts.{one_begins_too_often}
+use Rattle.office_history.specs.Starts.{one_begins_too_often}
 use Rattle.definition_verdict.proofs.starts.one_begins_too_often.Given as goal
 
 -- none so far begins too often

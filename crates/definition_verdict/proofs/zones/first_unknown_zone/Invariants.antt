@@ -1,5 +1,5 @@
 use Rattle.std.proofs.Common.{◌≡◌, drop}
-use Rattle.definition_verdict.specs.Zones.{first_unknown_zone}
+use Rattle.office_history.specs.KnownZones.{first_unknown_zone}
 use Rattle.definition_verdict.proofs.zones.first_unknown_zone.Given as goal
 
 -- the objects so far name no unknown zone

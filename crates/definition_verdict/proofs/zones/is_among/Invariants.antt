@@ -1,5 +1,5 @@
 use Rattle.std.proofs.Common.{◌≡◌, drop}
-use Rattle.definition_verdict.specs.Zones.{is_among}
+use Rattle.office_history.specs.KnownZones.{is_among}
 use Rattle.definition_verdict.proofs.zones.is_among.Given as goal
 
 -- none so far is that zone

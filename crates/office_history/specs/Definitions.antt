@@ -16,12 +16,11 @@ use Rattle.record_form.specs.declared.LimitName.TheVariants as limits
 use Rattle.record_form.specs.declared.Refusal.{Refusal}
 use Rattle.record_form.specs.declared.Refusal.TheVariants as refusals
 use Rattle.record_form.specs.declared.YamlWord.{YamlWord}
-use Rattle.definition_verdict.specs.Documents.{objects_in}
-use Rattle.definition_verdict.specs.Readings.{first_read_anew}
-use Rattle.definition_verdict.specs.Starts.{one_begins_too_often}
-use Rattle.definition_verdict.specs.Texts.{IsYamlFault}
-use Rattle.definition_verdict.specs.Zones.{first_unknown_zone}
-use Rattle.definition_verdict.specs.declared.definition.Definition.{Definition}
+use Rattle.office_history.specs.Documents.{objects_in}
+use Rattle.office_history.specs.Readings.{first_read_anew}
+use Rattle.office_history.specs.Starts.{one_begins_too_often}
+use Rattle.office_history.specs.Texts.{IsYamlFault}
+use Rattle.office_history.specs.KnownZones.{first_unknown_zone}
 
 -- what an office keeps, as far as a definition is judged by it
 pub record Known : Type 0 where
@@ -98,6 +97,14 @@ then_defined known (Err refusal) = Err refusal
 -- no objects, or of the objects.
 abbrev pub definition_of : Known → List Tree → Result (List Object) Refusal
 definition_of known documents = then_defined known (objects_in documents)
+
+-- What a text defines: the members of the catalog with its objects, how many documents and objects
+-- it stands for, and whether the catalog stays as it is.
+pub record Definition : Type 0 where
+  pub catalog : List Object
+  pub documents : ℕ
+  pub objects : ℕ
+  pub same : Bool
 
 -- The text stands for documents, these for objects, and they can be defined: so many they are, and
 -- these are the members then. The catalog stays as it is where each object is written as the member
