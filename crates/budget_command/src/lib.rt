@@ -7,7 +7,7 @@ mod answer;
 mod fault;
 mod input;
 mod judging;
-mod laws;
+pub mod laws;
 mod order;
 mod row;
 mod table;
@@ -15,7 +15,6 @@ mod text;
 
 pub use answer::answer_budget;
 pub use fault::{BudgetError, BudgetFault, RecordFault, budget_words};
-pub use laws::one_budget_answer;
 pub use order::{BudgetOrder, read_budget, read_order};
 
 /// The most bytes of an input: those of as many rows as there may be cells, at 33 bytes each.

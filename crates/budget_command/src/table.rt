@@ -2,9 +2,9 @@
 ghost use Rattle.std.specs.Prelude.{◌≡◌, ◌+◌, ◌++◌, ◌≤◌, ℕ, List, Err, Ok, IfNone, IfOk, IfSome};
 ghost use Rattle.std.specs.Prelude.{OnOk, length};
 ghost use Rattle.csv_records.specs.Records.{Fields, csv_records};
-ghost use Rattle.budget_command.specs.Records.{BUDGET, is_newer as is_newer_lem};
-ghost use Rattle.budget_command.specs.Records.{is_repeated as is_repeated_lem};
-ghost use Rattle.budget_command.specs.Records.{is_superseded as is_superseded_lem, outcome_over};
+ghost use Rattle.budget_command.specs.Records.{BUDGET, is_newer as is_newer_def};
+ghost use Rattle.budget_command.specs.Records.{is_repeated as is_repeated_def};
+ghost use Rattle.budget_command.specs.Records.{is_superseded as is_superseded_def, outcome_over};
 ghost use Rattle.budget_command.specs.Records.{IsCounted, of_row, row_by_verdict};
 ghost use Rattle.budget_command.specs.Tables.{AreAll, HasTaken, HasTakenRecord, IsBroken, IsEmpty};
 ghost use Rattle.budget_command.specs.Tables.{IsFit, tallies_in};
@@ -63,8 +63,9 @@ fn refusal(cells: u32, verdict: &RowVerdict) -> Option<RecordFault>
     }
 }
 
+/// Whether a row took the place of one of a lower revision.
 fn is_newer(verdict: &RowVerdict) -> bool
-    ensures { result ≡ is_newer_lem verdict.now }
+    ensures { result ≡ is_newer_def verdict.now }
 {
     match verdict {
         RowVerdict::Newer(_) => true,
@@ -72,8 +73,9 @@ fn is_newer(verdict: &RowVerdict) -> bool
     }
 }
 
+/// Whether a row says again what its cell's row says.
 fn is_repeated(verdict: &RowVerdict) -> bool
-    ensures { result ≡ is_repeated_lem verdict.now }
+    ensures { result ≡ is_repeated_def verdict.now }
 {
     match verdict {
         RowVerdict::Repeated => true,
@@ -81,8 +83,9 @@ fn is_repeated(verdict: &RowVerdict) -> bool
     }
 }
 
+/// Whether a row's cell has one of a greater revision.
 fn is_superseded(verdict: &RowVerdict) -> bool
-    ensures { result ≡ is_superseded_lem verdict.now }
+    ensures { result ≡ is_superseded_def verdict.now }
 {
     match verdict {
         RowVerdict::Superseded(_) => true,

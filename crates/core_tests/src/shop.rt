@@ -6,8 +6,9 @@ ghost use Rattle.office_core.specs.Machine.{HasRevisions};
 use exact_fraction::{Bytes, Label, read_label};
 use office_core::{Core, Verdict};
 use record_form::{Command, Listed};
-use sample_book::{Amount, Row};
+use sample_book::Row;
 use sample_stream::{ALERT_TARGETS, SHOP};
+use slice_method::Amount;
 use std::alloc::{AllocError, Global};
 use std::process::Abort;
 

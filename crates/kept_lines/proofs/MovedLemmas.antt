@@ -6,7 +6,7 @@ use Rattle.sample_book.specs.declared.Row.{Row}
 use Rattle.sample_book.specs.declared.RowVerdict.{RowVerdict}
 use Rattle.window_sums.specs.Slices.{slice_of, width_of}
 use Rattle.office_history.specs.declared.Measure.{Measure}
-use Rattle.kept_sums.specs.Replacing.{HasMoved, moves}
+use Rattle.kept_sums.specs.Replacing.{HasMoved, changes_counts}
 use Rattle.kept_sums.proofs.ListLemmas.{place_within}
 use Rattle.kept_lines.specs.Touched.{HasMovedBefore}
 
@@ -53,7 +53,7 @@ moved-next m rows verdicts width at row slice widths here is =
 -- a row that doesn't move isn't one of them
 pub moved-passes : (m : Measure) (rows : List Row) (verdicts : List RowVerdict) (at : ℕ) (row : Row)
     (verdict : RowVerdict) (slice : ℕ) → slice_get rows at ≡ Some row →
-    slice_get verdicts at ≡ Some verdict → moves m row verdict ≡ false →
+    slice_get verdicts at ≡ Some verdict → changes_counts m row verdict ≡ false →
     HasMovedBefore m rows verdicts (at + 1) slice → HasMovedBefore m rows verdicts at slice
 moved-passes m rows verdicts at row verdict slice here judged still is =
     by (split at is.moved.place is.before)
@@ -64,15 +64,15 @@ moved-passes m rows verdicts at row verdict slice here judged still is =
         let r = same_item rows at is.moved.place row is.moved.row here is.moved.here e in
         let v = same_item verdicts at is.moved.place verdict is.moved.verdict judged
         is.moved.judged e in
-        let no : true ≡ false = sym is.moved.moved ∙ ap (λ x. moves m x is.moved.verdict) r
-        ∙ ap (moves m row) v ∙ still in
+        let no : true ≡ false = sym is.moved.moved ∙ ap (λ x. changes_counts m x is.moved.verdict) r
+        ∙ ap (changes_counts m row) v ∙ still in
         cc no
 
 -- a row that moves lies in its slice
 pub moved-here : (m : Measure) (rows : List Row) (verdicts : List RowVerdict) (width at : ℕ)
     (row : Row) (verdict : RowVerdict) (slice : ℕ) → width ≡ width_of m.method →
     slice_get rows at ≡ Some row → slice_get verdicts at ≡ Some verdict →
-    moves m row verdict ≡ true → slice ≡ row.minute / width → HasMoved m rows verdicts slice
+    changes_counts m row verdict ≡ true → slice ≡ row.minute / width → HasMoved m rows verdicts slice
 moved-here m rows verdicts width at row verdict slice widths here judged is lies = record {
   place = at;
   row = row;

@@ -23,7 +23,7 @@ use Rattle.window_sums.specs.Shares as days
 use Rattle.window_sums.specs.Slices.{no_counts, slice_of, width_of}
 use Rattle.office_history.specs.declared.Measure.{Measure}
 use Rattle.office_history.specs.Counts.{slice_counts}
-use Rattle.kept_sums.specs.Replacing.{HasMoved, among, moves}
+use Rattle.kept_sums.specs.Replacing.{HasMoved, among, changes_counts}
 use Rattle.kept_sums.specs.Sums.{row_counts, shares_by}
 use Rattle.kept_sums.specs.Walks.{IsChanged, made_on}
 use Rattle.kept_sums.proofs.FollowLemmas.{standing}
@@ -117,7 +117,7 @@ put-same m made _ _ _ _ k (in_place before after kept row same) free =
 
 -- a row that comes leaves a slice as it is in which it doesn't move
 came-same : (m : Measure) (made : List (Exclusion × Bool)) (came : List Row) (row : Row) (k : ℕ) →
-    (moves m row (verdict_of (current_rows came) row) ≡ true → slice_of m.method row.minute ≢ k) →
+    (changes_counts m row (verdict_of (current_rows came) row) ≡ true → slice_of m.method row.minute ≢ k) →
     by-shares m made (current_rows came) k ≡ by-shares m made (current_rows (came ++ row ∷ [])) k
 came-same m made came row k free = by (is_put (verdict_of (current_rows came) row)) refl
   where

@@ -11,7 +11,7 @@ ghost use Rattle.kept_lines.specs.Touched.{Forgets, LAST_MINUTE};
 use crate::run::{forget_waiting, touch};
 use alert_line::AlertLine;
 use burn_core::AlertRule;
-use kept_sums::moves;
+use kept_sums::changes_counts;
 use office_history::Measure;
 use sample_book::{Row, RowVerdict, SampleBook};
 
@@ -38,7 +38,7 @@ pub fn forget_rows(
 {
     let mut waiting = None;
     for (place, row) in rows.iter().enumerate() {
-        if moves(measure, row, &verdicts[place]) {
+        if changes_counts(measure, row, &verdicts[place]) {
             waiting = Some(touch(line, rule, width, waiting, row.minute / width));
         }
     }

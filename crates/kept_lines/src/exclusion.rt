@@ -14,7 +14,7 @@ use crate::run::{Run, forget_waiting, touch};
 use crate::whole::forget_whole;
 use alert_line::AlertLine;
 use burn_core::AlertRule;
-use kept_sums::{NOTHING, row_at, row_counts, takes};
+use kept_sums::{NO_COUNTS, excludes_minute, row_at, row_counts};
 use office_history::Measure;
 use sample_book::{Exclusion, Row, SampleBook};
 use slo_limits::MINUTES_A_DAY;
@@ -31,10 +31,10 @@ fn is_changed(measure: &Measure, book: &SampleBook, value: &Exclusion, row: &Row
         → row_counts_lem measure.now (made_on book.now.exclusions value.now false) row.now
         ≡ row_counts_lem measure.now (made_on book.now.exclusions value.now true) row.now }
 {
-    if !takes(value, measure.slo, row.minute) {
+    if !excludes_minute(value, measure.slo, row.minute) {
         return false;
     }
-    row_counts(measure, book, row) != NOTHING
+    row_counts(measure, book, row) != NO_COUNTS
 }
 
 // So does a row of the minutes from `from` up to `to`.

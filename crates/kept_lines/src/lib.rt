@@ -12,7 +12,6 @@ mod whole;
 
 pub use batch::forget_rows;
 pub use exclusion::forget_exclusion;
-pub use kept_sums::kept_counts_are_those_of_the_minutes;
 pub use laws::{lines_agree_again, lines_follow_their_sums};
 pub use right::{
     lines_stay_right_over_batches, lines_stay_right_over_exclusions,

@@ -8,7 +8,7 @@ ghost use Rattle.kept_lines.specs.Touched.{LAST_MINUTE, TouchesEach};
 use crate::run::{Run, touch};
 use alert_line::AlertLine;
 use burn_core::AlertRule;
-use kept_sums::NOTHING;
+use kept_sums::NO_COUNTS;
 use slice_method::Counts;
 use window_sums::WindowSums;
 
@@ -30,7 +30,7 @@ fn touch_counted(
     ensures { TouchesEach (IsThatOne slice counts) width (reach_of rule.now) waiting result line.old
         line.new }
 {
-    if counts != NOTHING {
+    if counts != NO_COUNTS {
         return Some(touch(line, rule, width, waiting, slice));
     }
     waiting

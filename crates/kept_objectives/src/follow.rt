@@ -2,7 +2,7 @@
 ghost use Rattle.std.specs.Prelude.{◌≡◌, ◌+◌, ◌≤◌, ◌++◌, Bool, List, OnOk, length, not};
 ghost use Rattle.sample_book.specs.declared.Exclusion.{Exclusion};
 ghost use Rattle.sample_book.specs.declared.Row.{Row};
-ghost use Rattle.sample_book.specs.Puts.{verdicts as verdicts_lem};
+ghost use Rattle.sample_book.specs.Puts.{verdicts as verdicts_def};
 ghost use Rattle.sample_book.specs.Rows.{current_rows};
 ghost use Rattle.slo_limits.specs.declared.TheConstants.{MAX_ACCEPTED_ROWS};
 ghost use Rattle.kept_sums.specs.Walks.{made_on};
@@ -27,7 +27,7 @@ impl KeptSums {
         ensures spare { self.new.spare ≡ self.old.spare }
     {
         for kept in self.objectives.iter_mut() {
-            kept_sums::reserve_rows(&mut kept.sums, &kept.measure, rows)?;
+            kept_sums::reserve_batch(&mut kept.sums, &kept.measure, rows)?;
         }
         Ok(())
     }
@@ -36,7 +36,7 @@ impl KeptSums {
     /// book doesn't have them yet. No memory is taken.
     pub fn follow_rows(&mut self, book: &SampleBook, rows: &[Row], verdicts: &[RowVerdict])
         requires kept { AreKept book.now.exclusions book.now.rows self.old.kept }
-        requires verdicts { verdicts.now ≡ verdicts_lem book.now.rows rows.now }
+        requires verdicts { verdicts.now ≡ verdicts_def book.now.rows rows.now }
         requires forms { HaveForms book.now.rows self.old.kept }
         requires fit { HaveForms rows.now self.old.kept }
         requires days { HaveDays rows.now self.old.kept }
@@ -47,7 +47,7 @@ impl KeptSums {
         ensures spare { self.new.spare ≡ self.old.spare }
     {
         for kept in self.objectives.iter_mut() {
-            kept_sums::follow_rows(&mut kept.sums, &kept.measure, book, rows, verdicts);
+            kept_sums::count_batch(&mut kept.sums, &kept.measure, book, rows, verdicts);
         }
     }
 

@@ -3,7 +3,7 @@ ghost use Rattle.std.specs.Prelude.{◌≡◌, ◌≢◌, ◌≤◌, [], IfSome,
 ghost use Rattle.std.specs.List.{AllByRecursion, Contains};
 ghost use Rattle.kept_objectives.specs.declared.kept.ObjectiveSums.{ObjectiveSums};
 
-use crate::same::is_same;
+use crate::same::is_same_measure;
 use kept_sums::{Measure, WindowSums};
 use std::alloc::{AllocError, Global};
 use std::marker::Model;
@@ -80,6 +80,7 @@ pub(crate) fn likely_place(objectives: &[ObjectiveSums], measure: &Measure) -> u
     objectives.partition_point(|kept| kept.measure.slo < measure.slo)
 }
 
+/// The sums of an objective, where they are among these.
 fn found_in<'a>(objectives: &'a [ObjectiveSums], measure: &Measure) -> Option<&'a WindowSums>
     ensures some { IfSome result (λ sums. Contains objectives.now
         (record { measure = measure.now; sums = sums.now })) }
@@ -87,7 +88,7 @@ fn found_in<'a>(objectives: &'a [ObjectiveSums], measure: &Measure) -> Option<&'
         (λ (kept : ObjectiveSums). kept.measure ≢ measure.now) objectives.now }
 {
     for kept in objectives {
-        if is_same(&kept.measure, measure) {
+        if is_same_measure(&kept.measure, measure) {
             return Some(&kept.sums);
         }
     }

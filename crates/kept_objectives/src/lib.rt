@@ -13,4 +13,4 @@ mod take;
 pub use kept::{KeptSums, ObjectiveSums};
 pub use kept_sums::{Judgement, LimitName, Outcome, Refusal, Rows, sums_over};
 pub use plan::SumsPlan;
-pub use same::is_same;
+pub use same::is_same_measure;

@@ -4,7 +4,7 @@ ghost use Rattle.std.specs.List.{AllByRecursion, Contains};
 ghost use Rattle.kept_objectives.specs.declared.kept.ObjectiveSums.{ObjectiveSums};
 
 use crate::kept::{KeptSums, ObjectiveSums, likely_place};
-use crate::same::is_same;
+use crate::same::is_same_measure;
 use kept_sums::{Measure, WindowSums};
 
 impl KeptSums {
@@ -38,7 +38,7 @@ impl KeptSums {
     }
 }
 
-// The sums at a place, where they are those of an objective.
+/// The sums at a place, where they are those of an objective.
 fn sums_at<'a>(
     objectives: &'a [ObjectiveSums],
     place: usize,
@@ -50,7 +50,7 @@ fn sums_at<'a>(
 {
     match objectives.get(place) {
         Some(kept) => {
-            if is_same(&kept.measure, measure) {
+            if is_same_measure(&kept.measure, measure) {
                 Some(&kept.sums)
             } else {
                 None

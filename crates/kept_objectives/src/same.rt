@@ -6,18 +6,21 @@ use exact_fraction::Op;
 use kept_sums::Measure;
 use slice_method::{Method, Reading};
 
+/// Whether two operators are one.
 fn is_same_op(a: Op, b: Op) -> bool
     ensures { Decides result (a ≡ b) }
 {
     a == b
 }
 
+/// Whether two readings are one.
 fn is_same_reading(a: Reading, b: Reading) -> bool
     ensures { Decides result (a ≡ b) }
 {
     a == b
 }
 
+/// Whether two methods are one.
 fn is_same_method(a: Method, b: Method) -> bool
     ensures { Decides result (a ≡ b) }
 {
@@ -25,7 +28,7 @@ fn is_same_method(a: Method, b: Method) -> bool
 }
 
 /// Whether two objectives are one: the name first, in which most differ.
-pub fn is_same(a: &Measure, b: &Measure) -> bool
+pub fn is_same_measure(a: &Measure, b: &Measure) -> bool
     ensures { Decides result (a.now ≡ b.now) }
 {
     a.slo == b.slo

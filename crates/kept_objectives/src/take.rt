@@ -10,14 +10,15 @@ ghost use Rattle.kept_objectives.specs.declared.kept.ObjectiveSums.{ObjectiveSum
 
 use crate::kept::KeptSums;
 use crate::plan::SumsPlan;
-use crate::same::is_same;
+use crate::same::is_same_measure;
 use kept_sums::Measure;
 
+/// Whether an objective is among those that are wanted.
 fn is_wanted(wanted: &[Measure], measure: &Measure) -> bool
     ensures { Decides result (Contains wanted.now measure.now) }
 {
     for other in wanted {
-        if is_same(other, measure) {
+        if is_same_measure(other, measure) {
             return true;
         }
     }

@@ -26,7 +26,7 @@ use Rattle.window_sums.specs.Shares.{IsSmall, IsSumOf, Share}
 use Rattle.window_sums.specs.Slices.{CountedDays, day_of, has_day}
 use Rattle.office_history.specs.declared.Measure.{Measure}
 use Rattle.kept_sums.specs.Replacing.{FitsReplaced, HasFollowed, MayFollow, MayReplace, among}
-use Rattle.kept_sums.specs.Replacing.{moves, replaced_counts}
+use Rattle.kept_sums.specs.Replacing.{changes_counts, replaced_counts}
 use Rattle.kept_sums.specs.Sums.{Fits, HasItsDay, IsKept, row_counts, share_by, shares_by}
 use Rattle.kept_sums.proofs.ListLemmas.{all_at, all_here, all_map, all_push, all_put, place_within}
 use Rattle.kept_sums.proofs.ListLemmas.{take_all, take_at}
@@ -193,14 +193,14 @@ put_part : (a b : Bool) → (a && b) ≡ true → b ≡ true
 put_part true b e = e
 put_part false b e = cc e
 
-pub moves_own : (m : Measure) (row : Row) (verdict : RowVerdict) → moves m row verdict ≡ true
+pub moves_own : (m : Measure) (row : Row) (verdict : RowVerdict) → changes_counts m row verdict ≡ true
     → is_of m.sli row ≡ true
 moves_own m row verdict = own_part (is_of m.sli row) (is_put verdict)
 
 -- where a row stands that moves
 pub moved : (m : Measure) (made : List (Exclusion × Bool)) (row : Row) (verdict : RowVerdict)
     (sums : CountedDays) (came : List Row) → MayFollow m made row verdict sums came →
-    moves m row verdict ≡ true →
+    changes_counts m row verdict ≡ true →
     IsPutInto (current_rows came) row verdict (current_rows (came ++ row ∷ []))
 moved m made row verdict sums came may is =
     subst (λ v. IsPutInto (current_rows came) row v (current_rows (came ++ row ∷ [])))
@@ -209,7 +209,7 @@ moved m made row verdict sums came may is =
 
 pub moved_facts : (m : Measure) (made : List (Exclusion × Bool)) (row : Row) (verdict : RowVerdict)
     (sums : CountedDays) (came : List Row) → MayFollow m made row verdict sums came →
-    moves m row verdict ≡ true →
+    changes_counts m row verdict ≡ true →
     PutFacts m made row verdict (current_rows (came ++ row ∷ [])) sums
 moved_facts m made row verdict sums came may is =
     put_facts m made (current_rows came) row verdict (current_rows (came ++ row ∷ [])) sums
@@ -218,7 +218,7 @@ moved_facts m made row verdict sums came may is =
 -- a row that doesn't move leaves the sums as they are
 pub stayed : (m : Measure) (made : List (Exclusion × Bool)) (row : Row) (verdict : RowVerdict)
     (sums : CountedDays) (came : List Row) → MayFollow m made row verdict sums came →
-    moves m row verdict ≡ false →
+    changes_counts m row verdict ≡ false →
     IsKept m made (current_rows (came ++ row ∷ [])) sums
 stayed m made row verdict sums came may is = by (is_put (verdict_of (current_rows came) row)) refl
   where

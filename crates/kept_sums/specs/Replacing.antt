@@ -38,8 +38,8 @@ FitsReplaced m (Newer kept) = Fits m kept
 FitsReplaced m _ = Unit {0}
 
 -- a row of the indicator is put
-abbrev pub moves : Measure → Row → RowVerdict → Bool
-moves m row verdict = is_of m.sli row && is_put verdict
+abbrev pub changes_counts : Measure → Row → RowVerdict → Bool
+changes_counts m row verdict = is_of m.sli row && is_put verdict
 
 -- the sums may follow a row that comes over those that came
 pub record MayFollow (m : Measure) (made : List (Exclusion × Bool)) (row : Row)
@@ -67,5 +67,5 @@ pub record HasMoved (m : Measure) (rows : List Row) (verdicts : List RowVerdict)
   pub verdict : RowVerdict
   pub here : slice_get rows place ≡ Some row
   pub judged : slice_get verdicts place ≡ Some verdict
-  pub moved : moves m row verdict ≡ true
+  pub moved : changes_counts m row verdict ≡ true
   pub lies : slice_of m.method row.minute ≡ slice

@@ -6,7 +6,7 @@ ghost use Rattle.slo_limits.specs.declared.TheConstants.{MAX_ACCEPTED_ROWS};
 ghost use Rattle.window_sums.specs.Slices.{width_of};
 ghost use Rattle.kept_sums.specs.Sums.{Fits, IsKept};
 
-use crate::counting::{NOTHING, row_at, row_counts};
+use crate::counting::{NO_COUNTS, row_at, row_counts};
 use crate::exchange::exchange;
 use office_history::Measure;
 use sample_book::SampleBook;
@@ -34,7 +34,7 @@ pub fn sums_over(
         let row = row_at(book, place);
         sums.reserve(row.minute)?;
         let counts = row_counts(measure, book, &row);
-        exchange(&mut sums, row.minute, NOTHING, counts);
+        exchange(&mut sums, row.minute, NO_COUNTS, counts);
         next = book.row_before(place);
     }
     Ok(sums)

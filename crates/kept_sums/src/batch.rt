@@ -6,21 +6,21 @@ ghost use Rattle.std.specs.List.{AllByRecursion};
 ghost use Rattle.slo_limits.specs.declared.TheConstants.{MAX_ACCEPTED_ROWS};
 ghost use Rattle.sample_book.specs.declared.Exclusion.{Exclusion};
 ghost use Rattle.sample_book.specs.declared.Row.{Row};
-ghost use Rattle.sample_book.specs.Puts.{verdicts as verdicts_lem};
+ghost use Rattle.sample_book.specs.Puts.{verdicts as verdicts_def};
 ghost use Rattle.sample_book.specs.Rows.{current_rows};
 ghost use Rattle.window_sums.specs.Slices.{counts_of, has_day, slice_of};
-ghost use Rattle.kept_sums.specs.Replacing.{HasMoved, MayFollow, moves as moves_lem};
+ghost use Rattle.kept_sums.specs.Replacing.{HasMoved, MayFollow, changes_counts as changes_counts_def};
 ghost use Rattle.kept_sums.specs.Sums.{Fits, HasItsDay, IsKept};
 
-use crate::counting::{moves, replaced_counts, row_counts};
+use crate::counting::{changes_counts, replaced_counts, row_counts};
 use crate::exchange::exchange;
 use office_history::Measure;
 use sample_book::{Row, RowVerdict, SampleBook};
 use std::alloc::AllocError;
 use window_sums::WindowSums;
 
-// The sums follow a row that comes over those that came: the row whose place it takes doesn't count
-// any more, and it counts.
+/// The sums follow a row that comes over those that came: the row whose place it takes doesn't count
+/// any more, and it counts.
 fn follow_row(
     sums: &mut WindowSums,
     measure: &Measure,
@@ -34,11 +34,11 @@ fn follow_row(
         sums.old came → IsKept measure.now book.now.exclusions (current_rows (came ++ row.now ∷ []))
         sums.new }
     ensures days { (day : ℕ) → has_day sums.new day ≡ has_day sums.old day }
-    ensures touched { (slice : ℕ) → (moves_lem measure.now row.now verdict.now ≡ true
+    ensures touched { (slice : ℕ) → (changes_counts_def measure.now row.now verdict.now ≡ true
         → slice ≢ slice_of sums.old.method row.now.minute)
         → counts_of sums.new slice ≡ counts_of sums.old slice }
 {
-    if !moves(measure, row, verdict) {
+    if !changes_counts(measure, row, verdict) {
         return;
     }
     let old = replaced_counts(measure, book, verdict);
@@ -48,7 +48,7 @@ fn follow_row(
 
 /// The sums of an objective follow the rows of a batch, each of which becomes this over those
 /// before it. The book doesn't have them yet. No memory is taken.
-pub fn follow_rows(
+pub fn count_batch(
     sums: &mut WindowSums,
     measure: &Measure,
     book: &SampleBook,
@@ -56,7 +56,7 @@ pub fn follow_rows(
     verdicts: &[RowVerdict],
 )
     requires kept { IsKept measure.now book.now.exclusions book.now.rows sums.old }
-    requires verdicts { verdicts.now ≡ verdicts_lem book.now.rows rows.now }
+    requires verdicts { verdicts.now ≡ verdicts_def book.now.rows rows.now }
     requires forms { AllByRecursion (Fits measure.now) book.now.rows }
     requires fit { AllByRecursion (Fits measure.now) rows.now }
     requires days { AllByRecursion (HasItsDay measure.now sums.old) rows.now }
@@ -74,7 +74,7 @@ pub fn follow_rows(
     }
 }
 
-// The day of a row of the objective's indicator is made ready.
+/// The day of a row of the objective's indicator is made ready.
 fn reserve_row(sums: &mut WindowSums, measure: &Measure, row: &Row) -> Result<(), AllocError>
     ensures day { OnOk result (HasItsDay measure.now sums.new row.now) }
     ensures days { (other : Row) → HasItsDay measure.now sums.old other
@@ -93,7 +93,7 @@ fn reserve_row(sums: &mut WindowSums, measure: &Measure, row: &Row) -> Result<()
 /// # Errors
 ///
 /// Memory ran out.
-pub fn reserve_rows(
+pub fn reserve_batch(
     sums: &mut WindowSums,
     measure: &Measure,
     rows: &[Row],

@@ -1,10 +1,10 @@
 //! What rows count for in an objective.
 ghost use Rattle.std.specs.Prelude.{◌≡◌, ◌<◌, Some, length, slice_get, true};
 ghost use Rattle.sample_book.specs.Exclusions.{excludes};
-ghost use Rattle.sample_book.specs.History.{is_put as is_put_lem};
-ghost use Rattle.kept_sums.specs.Replacing.{FitsReplaced, moves as moves_lem};
-ghost use Rattle.kept_sums.specs.Replacing.{replaced_counts as replaced_counts_lem};
-ghost use Rattle.kept_sums.specs.Sums.{Fits, row_counts as row_counts_lem};
+ghost use Rattle.sample_book.specs.History.{is_put as is_put_def};
+ghost use Rattle.kept_sums.specs.Replacing.{FitsReplaced, changes_counts as changes_counts_def};
+ghost use Rattle.kept_sums.specs.Replacing.{replaced_counts as replaced_counts_def};
+ghost use Rattle.kept_sums.specs.Sums.{Fits, row_counts as row_counts_def};
 ghost use Rattle.kept_sums.specs.Walks.{made_on};
 
 use exact_fraction::Label;
@@ -13,7 +13,7 @@ use sample_book::{Exclusion, Row, RowVerdict, SampleBook};
 use slice_method::{Counts, counts_of};
 
 /// What a row counts for that is of another indicator, or whose minute is excluded.
-pub const NOTHING: Counts = Counts { good: 0, total: 0 };
+pub const NO_COUNTS: Counts = Counts { good: 0, total: 0 };
 
 /// The row at a place of the book.
 pub fn row_at(book: &SampleBook, place: u32) -> Row
@@ -29,28 +29,29 @@ pub fn row_at(book: &SampleBook, place: u32) -> Row
 /// What a row counts for in an objective.
 pub fn row_counts(measure: &Measure, book: &SampleBook, row: &Row) -> Counts
     requires { Fits measure.now row.now }
-    ensures { result ≡ row_counts_lem measure.now book.now.exclusions row.now }
+    ensures { result ≡ row_counts_def measure.now book.now.exclusions row.now }
 {
     if row.sli == measure.sli && !book.is_excluded(measure.slo, row.minute) {
         counts_of(measure.reading, measure.op, measure.value, row.amount)
     } else {
-        NOTHING
+        NO_COUNTS
     }
 }
 
-// What the row counts for whose place another takes.
+/// What the row counts for whose place another takes.
 pub(crate) fn replaced_counts(measure: &Measure, book: &SampleBook, verdict: &RowVerdict) -> Counts
     requires { FitsReplaced measure.now verdict.now }
-    ensures { result ≡ replaced_counts_lem measure.now book.now.exclusions verdict.now }
+    ensures { result ≡ replaced_counts_def measure.now book.now.exclusions verdict.now }
 {
     match verdict {
         RowVerdict::Newer(kept) => row_counts(measure, book, kept),
-        _ => NOTHING,
+        _ => NO_COUNTS,
     }
 }
 
+/// Whether a row of this verdict is put.
 fn is_put(verdict: &RowVerdict) -> bool
-    ensures { result ≡ is_put_lem verdict.now }
+    ensures { result ≡ is_put_def verdict.now }
 {
     match verdict {
         RowVerdict::New => true,
@@ -60,20 +61,20 @@ fn is_put(verdict: &RowVerdict) -> bool
 }
 
 /// Whether a row is of the objective's indicator and is put, where this becomes of it.
-pub fn moves(measure: &Measure, row: &Row, verdict: &RowVerdict) -> bool
-    ensures { result ≡ moves_lem measure.now row.now verdict.now }
+pub fn changes_counts(measure: &Measure, row: &Row, verdict: &RowVerdict) -> bool
+    ensures { result ≡ changes_counts_def measure.now row.now verdict.now }
 {
     row.sli == measure.sli && is_put(verdict)
 }
 
 /// Whether an exclusion takes this minute from an objective of an SLO.
-pub fn takes(value: &Exclusion, slo: Label, minute: u32) -> bool
+pub fn excludes_minute(value: &Exclusion, slo: Label, minute: u32) -> bool
     ensures { result ≡ excludes slo minute (value.now, true) }
 {
     value.slo == slo && value.from <= minute && minute < value.to
 }
 
-// What a row counts for with an exclusion beside those of the book, or without it.
+/// What a row counts for with an exclusion beside those of the book, or without it.
 pub(crate) fn counts_on(
     measure: &Measure,
     book: &SampleBook,
@@ -83,10 +84,10 @@ pub(crate) fn counts_on(
 ) -> Counts
     requires { Fits measure.now row.now }
     ensures { result
-        ≡ row_counts_lem measure.now (made_on book.now.exclusions value.now taken) row.now }
+        ≡ row_counts_def measure.now (made_on book.now.exclusions value.now taken) row.now }
 {
-    if taken && takes(value, measure.slo, row.minute) {
-        return NOTHING;
+    if taken && excludes_minute(value, measure.slo, row.minute) {
+        return NO_COUNTS;
     }
     row_counts(measure, book, row)
 }

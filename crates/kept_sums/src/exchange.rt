@@ -7,7 +7,7 @@ ghost use Rattle.kept_sums.specs.Replacing.{MayReplace, among};
 use slice_method::Counts;
 use window_sums::WindowSums;
 
-// Takes what a row counted for from the slice of a minute, and adds what another counts for.
+/// Takes what a row counted for from the slice of a minute, and adds what another counts for.
 pub(crate) fn exchange(sums: &mut WindowSums, minute: u32, old: Counts, new: Counts)
     requires day { old ≢ new → IsTrue (has_day sums.old (day_of minute)) }
     requires may { (before : List Share) × (after : List Share)

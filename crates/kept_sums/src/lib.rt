@@ -7,13 +7,12 @@ mod anew;
 mod batch;
 mod counting;
 mod exchange;
-mod laws;
+pub mod laws;
 mod range;
 
 pub use anew::sums_over;
-pub use batch::{follow_rows, reserve_rows};
-pub use counting::{NOTHING, moves, row_at, row_counts, takes};
-pub use laws::kept_counts_are_those_of_the_minutes;
+pub use batch::{count_batch, reserve_batch};
+pub use counting::{NO_COUNTS, changes_counts, excludes_minute, row_at, row_counts};
 pub use office_history::{Judgement, LimitName, Measure, Outcome, Refusal, Rows};
 pub use range::follow_exclusion;
 pub use window_sums::WindowSums;

@@ -18,14 +18,15 @@ use sample_book::{Exclusion, Row, SampleBook};
 use slo_limits::MINUTES_A_DAY;
 use window_sums::WindowSums;
 
+/// Whether a minute lies in a range.
 fn is_between(from: u32, to: u32, minute: u32) -> bool
     ensures { result ≡ (nat_le from minute && nat_lt minute to) }
 {
     from <= minute && minute < to
 }
 
-// A row of the minutes from `from` up to `to` follows an exclusion that is made (`taken`), or one
-// that is lifted. Another is passed over: whether it is excluded is asked of all exclusions.
+/// A row of the minutes from `from` up to `to` follows an exclusion that is made (`taken`), or one
+/// that is lifted. Another is passed over: whether it is excluded is asked of all exclusions.
 fn follow_on_row(
     sums: &mut WindowSums,
     measure: &Measure,
@@ -60,8 +61,8 @@ fn follow_on_row(
     exchange(sums, row.minute, old, new);
 }
 
-// The rows of the minutes from `from` up to `to`, which all lie on one day, follow an exclusion
-// that is made (`taken`), or one that is lifted.
+/// The rows of the minutes from `from` up to `to`, which all lie on one day, follow an exclusion
+/// that is made (`taken`), or one that is lifted.
 fn follow_between(
     sums: &mut WindowSums,
     measure: &Measure,
@@ -95,7 +96,7 @@ fn follow_between(
     }
 }
 
-// The rows of the range of an exclusion that is lifted count again, day by day.
+/// The rows of the range of an exclusion that is lifted count again, day by day.
 fn follow_lifting(sums: &mut WindowSums, measure: &Measure, book: &SampleBook, value: &Exclusion)
     requires some { value.now.from < value.now.to }
     requires counted { IsSumOf sums.old (shares_by
@@ -118,8 +119,8 @@ fn follow_lifting(sums: &mut WindowSums, measure: &Measure, book: &SampleBook, v
     }
 }
 
-// Nothing counts any more in the range of an exclusion that is made. A slice that lies wholly in it
-// has no counts then, so that its rows aren't looked at; those of a slice that the range cuts are.
+/// Nothing counts any more in the range of an exclusion that is made. A slice that lies wholly in it
+/// has no counts then, so that its rows aren't looked at; those of a slice that the range cuts are.
 fn follow_taking(sums: &mut WindowSums, measure: &Measure, book: &SampleBook, value: &Exclusion)
     requires some { value.now.from < value.now.to }
     requires own { bytes_eq value.now.slo measure.now.slo ≡ true }

@@ -17,8 +17,8 @@ const MOST_NAMES: usize = 4_294_967_296;
 #[derive(Drop)]
 pub struct NameTable {
     set: IndexSet<Label>,
-    // The number that was used last, and the one that came after each number last time. Names come
-    // in runs and in turns, so these are tried before a look-up; nothing rests on them.
+    /// The number that was used last, and the one that came after each number last time. Names come
+    /// in runs and in turns, so these are tried before a look-up; nothing rests on them.
     latest: u32,
     followers: Vec<u32>,
 }

@@ -63,10 +63,10 @@ fn state_at(states: &[State], place: usize) -> State
 fn is_due(before: State, now: State, flags: &Flags) -> bool
     ensures { result ≡ is_due before now flags.now }
 {
-    !is_same(before, now) && flags.of_state(now)
+    !is_same_state(before, now) && flags.of_state(now)
 }
 
-fn is_same(a: State, b: State) -> bool
+fn is_same_state(a: State, b: State) -> bool
     ensures { result ≡ same_state a b }
 {
     match a {

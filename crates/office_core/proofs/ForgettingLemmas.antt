@@ -25,7 +25,7 @@ use Rattle.kept_sums.specs.Walks.{IsChanged, made_on}
 use Rattle.watched_objectives.specs.kept_lines.Right.{IsRight}
 use Rattle.watched_objectives.specs.kept_lines.Touched.{is_near}
 use Rattle.office_derived.specs.declared.Derived.{Derived}
-use Rattle.office_derived.specs.declared.Tally.{Tally}
+use Rattle.office_derived.specs.declared.BatchTally.{BatchTally}
 use Rattle.office_derived.specs.declared.Work.{Work}
 use Rattle.office_derived.specs.declared.Work.TheVariants as works
 use Rattle.office_derived.specs.Derived.{IsNext, Reflects, command_of, entry_of}
@@ -87,7 +87,7 @@ samples d o r = λ i. record { rows = sym r.rows i; exclusions = sym r.exclusion
 
 -- A BATCH
 
-pub batch_forgets : (d : Derived) (o : Office) (m : ℕ) (rows : List Row) (tally : Tally)
+pub batch_forgets : (d : Derived) (o : Office) (m : ℕ) (rows : List Row) (tally : BatchTally)
     (becomes : Vec RowVerdict) (found : List RowVerdict) (old new : List WatchLine) →
     IsNext d o m (works.Samples rows tally becomes) → found ≡ becomes.items →
     AreRight d.origin (samples_of d.book) old → AllForget (IsMovedBy rows found) old new →

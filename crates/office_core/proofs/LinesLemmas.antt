@@ -25,7 +25,7 @@ use Rattle.kept_objectives.specs.declared.SumsPlan.{SumsPlan}
 use Rattle.kept_sums.specs.Walks.{made_on}
 use Rattle.watched_objectives.proofs.kept_lines_proofs.RightLemmas.{right-alike}
 use Rattle.office_derived.specs.declared.Derived.{Derived}
-use Rattle.office_derived.specs.declared.Tally.{Tally}
+use Rattle.office_derived.specs.declared.BatchTally.{BatchTally}
 use Rattle.office_derived.specs.declared.Work.{Work}
 use Rattle.office_derived.specs.declared.Work.TheVariants as works
 use Rattle.office_derived.specs.Derived.{IsNext, IsPlaced, Reflects, command_of, entry_of}
@@ -108,7 +108,7 @@ new_lines d d' o m work catalog kept n r' found brings changes keeps =
     (same_exclusions d d' o (entry_of m work) n.reflects r' changes) keeps
 
 -- the lines that forgot what a batch moves are those of the samples with it
-pub batch_lines : (d d' : Derived) (o : Office) (m : ℕ) (rows : List Row) (tally : Tally)
+pub batch_lines : (d d' : Derived) (o : Office) (m : ℕ) (rows : List Row) (tally : BatchTally)
     (becomes : Vec RowVerdict) (kept : List WatchLine) →
     IsNext d o m (works.Samples rows tally becomes) →
     Reflects d' (with_entry o (entry_of m (works.Samples rows tally becomes))) →
@@ -123,7 +123,7 @@ batch_lines d d' o m rows tally becomes kept n r' keeps =
     keeps
 
 -- an accepted batch has its rows in the office's range
-pub batch_placed : (d : Derived) (o : Office) (m : ℕ) (rows : List Row) (tally : Tally)
+pub batch_placed : (d : Derived) (o : Office) (m : ℕ) (rows : List Row) (tally : BatchTally)
     (becomes : Vec RowVerdict) → IsNext d o m (works.Samples rows tally becomes) →
     AllByRecursion (IsPlaced d.origin) rows
 batch_placed d o m rows tally becomes n =

@@ -6,10 +6,10 @@ use Rattle.kept_objectives.specs.record_form.declared.Outcome.{Outcome}
 use Rattle.kept_objectives.specs.record_form.declared.Outcome.TheVariants.{Sampled}
 use Rattle.kept_objectives.specs.office_history.Batches.{count, is_newer, is_repeated}
 use Rattle.kept_objectives.specs.office_history.Batches.{is_superseded}
-use Rattle.office_derived.specs.declared.tally.Tally.{Tally}
+use Rattle.office_derived.specs.declared.tally.BatchTally.{BatchTally}
 
 -- how many of these became what
-abbrev pub tally_of : List RowVerdict → Tally
+abbrev pub tally_of : List RowVerdict → BatchTally
 tally_of vs = record {
   new = count is_new vs;
   newer = count is_newer vs;
@@ -17,9 +17,9 @@ tally_of vs = record {
   superseded = count is_superseded vs;
 }
 
-abbrev pub tally_outcome : Tally → Option ℕ → Outcome
+abbrev pub tally_outcome : BatchTally → Option ℕ → Outcome
 tally_outcome tally entry = Sampled entry tally.new tally.newer tally.repeated tally.superseded
 
 -- whether a row is put
-abbrev pub changes : Tally → Bool
+abbrev pub changes : BatchTally → Bool
 changes tally = not (tally.new == 0) || not (tally.newer == 0)

@@ -6,14 +6,14 @@ use kept_objectives::Outcome;
 
 /// How many rows of a batch became what.
 #[derive(Clone, Copy, PartialEq, Eq)]
-pub struct Tally {
+pub struct BatchTally {
     pub new: u32,
     pub newer: u32,
     pub repeated: u32,
     pub superseded: u32,
 }
 
-impl Tally {
+impl BatchTally {
     /// The outcome of the batch.
     pub fn sampled(self, entry: Option<u32>) -> Outcome
         ensures { result ≡ tally_outcome self entry }

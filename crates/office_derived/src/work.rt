@@ -1,6 +1,6 @@
 //! What is found out about a command before it is done.
 
-use crate::tally::Tally;
+use crate::tally::BatchTally;
 use burn_core::State;
 use catalog_terms::Binding;
 use exact_fraction::{Bytes, Label, ZoneName};
@@ -37,7 +37,7 @@ pub enum Work {
     /// What becomes of the rows, counted and one by one.
     Samples {
         rows: Rows,
-        tally: Tally,
+        tally: BatchTally,
         verdicts: Vec<RowVerdict>,
     },
     Exclude(Exclusion),

@@ -6,8 +6,8 @@ use crate::current_rows::CurrentRows;
 use crate::row::{Row, RowVerdict};
 use std::alloc::{AllocError, Global};
 
-// What becomes of each row of a batch, each behind those before it: these are taken into rows of
-// their own.
+/// What becomes of each row of a batch, each behind those before it: these are taken into rows of
+/// their own.
 pub(crate) fn check_batch(
     kept: &CurrentRows,
     alloc: Global,
@@ -21,7 +21,7 @@ pub(crate) fn check_batch(
     found
 }
 
-// Judges the rows of a batch one after another, and takes each.
+/// Judges the rows of a batch one after another, and takes each.
 fn judge_rows(
     kept: &CurrentRows,
     earlier: &mut CurrentRows,

@@ -320,7 +320,7 @@ impl SampleBook {
     }
 }
 
-// A place, where a link is one more than it.
+/// A place, where a link is one more than it.
 fn below(link: u32) -> Option<u32>
     ensures { result ≡ below link }
 {

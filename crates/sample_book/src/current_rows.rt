@@ -16,16 +16,16 @@ use cell_index::{Cell, Cells};
 use std::alloc::{AllocError, Global};
 use std::marker::Model;
 
-// A place in the list is a `u32`.
+/// A place in the list is a `u32`.
 const MOST_CELLS: usize = 4_294_967_295;
 
 /// The current row of each cell alone, for a caller that takes rows one after another and asks for
 /// no day. Contracts see the rows, and the cells that have room for a row.
 #[derive(Drop)]
 pub struct CurrentRows {
-    // The cells with rows, and behind them those with room.
+    /// The cells with rows, and behind them those with room.
     cells: Cells,
-    // What the rows say, in the order of their cells.
+    /// What the rows say, in the order of their cells.
     stored: Vec<Stored>,
 }
 
@@ -63,7 +63,7 @@ impl CurrentRows {
         }
     }
 
-    // The row at a place that is in the list.
+    /// The row at a place that is in the list.
     pub(crate) fn row(&self, place: usize) -> Row
         requires { place < length self.now.rows }
         ensures { slice_get self.now.rows place ≡ Some result }
@@ -71,7 +71,7 @@ impl CurrentRows {
         row_stored(&self.cells.at(place), &self.stored[place])
     }
 
-    // The row that is kept of a row's cell.
+    /// The row that is kept of a row's cell.
     fn kept(&self, row: &Row) -> Option<Row>
         ensures { result ≡ kept_of self.now.rows row.now }
     {
@@ -81,14 +81,14 @@ impl CurrentRows {
         }
     }
 
-    // What becomes of an arriving row.
+    /// What becomes of an arriving row.
     pub(crate) fn check(&self, row: &Row) -> RowVerdict
         ensures { result ≡ verdict_of self.now.rows row.now }
     {
         verdict_where(self.kept(row), row)
     }
 
-    // What becomes of a row that arrives behind others, of which these are the current ones.
+    /// What becomes of a row that arrives behind others, of which these are the current ones.
     pub(crate) fn check_after(&self, others: &CurrentRows, row: &Row) -> RowVerdict
         ensures { (came : List Row) → others.now.rows ≡ current_rows came
             → result ≡ verdict_of (current_rows (self.now.rows ++ came)) row.now }
@@ -105,14 +105,14 @@ impl CurrentRows {
         self.stored.len() as u32
     }
 
-    // No cell has two rows.
+    /// No cell has two rows.
     pub(crate) fn are_current(&self)
         ensures { current_rows self.now.rows ≡ self.now.rows }
     {
         let _count = self.stored.len();
     }
 
-    // Puts a row that is new or newer, with no memory.
+    /// Puts a row that is new or newer, with no memory.
     pub(crate) fn put(&mut self, row: &Row)
         requires { MayPutAs (verdict_of self.old.rows row.now) self.old.room (cell_of row.now) }
         ensures rows { self.new.rows ≡ current_rows (self.old.rows ++ row.now ∷ []) }
@@ -133,7 +133,7 @@ impl CurrentRows {
         }
     }
 
-    // A row comes: it is put where it is new or newer.
+    /// A row comes: it is put where it is new or newer.
     pub(crate) fn take(&mut self, row: &Row)
         requires { MayComeAs (verdict_of self.old.rows row.now) self.old.room (cell_of row.now) }
         ensures rows { self.new.rows ≡ rows_after self.old.rows row.now }
@@ -169,7 +169,7 @@ impl CurrentRows {
         }
     }
 
-    // Takes the room away.
+    /// Takes the room away.
     pub(crate) fn release_room(&mut self)
         ensures rows { self.new.rows ≡ self.old.rows }
         ensures room { self.new.room ≡ [] }
@@ -177,7 +177,7 @@ impl CurrentRows {
         self.cells.truncate(self.stored.len());
     }
 
-    // Gives room to the cells of these rows that have no row, and to no others.
+    /// Gives room to the cells of these rows that have no row, and to no others.
     pub(crate) fn make_room(&mut self, rows: &[Row]) -> Result<(), AllocError>
         ensures rows { self.new.rows ≡ self.old.rows }
         ensures room { OnOk result (self.new.room ≡ room_for self.old.rows rows.now) }
@@ -196,7 +196,7 @@ impl CurrentRows {
     }
 }
 
-// Forgets the cells that have room.
+/// Forgets the cells that have room.
 fn release(cells: &mut Cells, filled: usize)
     ensures { cells.new ≡ take filled cells.old }
 {
@@ -205,6 +205,7 @@ fn release(cells: &mut Cells, filled: usize)
     }
 }
 
+/// What is stored of a row.
 fn stored_of(row: &Row) -> Stored
     ensures revision { result.revision ≡ row.now.revision }
     ensures amount { result.amount ≡ row.now.amount }
@@ -215,7 +216,7 @@ fn stored_of(row: &Row) -> Stored
     }
 }
 
-// A row comes whose cell has its row at this place.
+/// A row comes whose cell has its row at this place.
 fn renew(cells: &Cells, stored: &mut Vec<Stored>, place: usize, row: &Row) -> RowVerdict
     requires step { IsInStep cells.now stored.old.items (vec_capacity stored.old) }
     requires within { place < length stored.old.items }
@@ -233,7 +234,7 @@ fn renew(cells: &Cells, stored: &mut Vec<Stored>, place: usize, row: &Row) -> Ro
     verdict
 }
 
-// A row comes whose cell is the last one, behind those that have rows.
+/// A row comes whose cell is the last one, behind those that have rows.
 fn append(cells: &Cells, stored: &mut Vec<Stored>, row: &Row)
     requires step { IsInStep cells.now stored.old.items (vec_capacity stored.old) }
     requires last { drop_list (length stored.old.items) cells.now ≡ cell_of row.now ∷ [] }
@@ -247,7 +248,7 @@ fn append(cells: &Cells, stored: &mut Vec<Stored>, row: &Row)
     stored.extend_from_slice(&[stored_of(row)]).unwrap();
 }
 
-// Makes room behind what is stored, where each place is a `u32`.
+/// Makes room behind what is stored, where each place is a `u32`.
 fn reserve(stored: &mut Vec<Stored>, more: usize) -> Result<(), AllocError>
     ensures items { stored.new.items ≡ stored.old.items }
     ensures capacity { vec_capacity stored.old ≤ vec_capacity stored.new }
@@ -260,7 +261,7 @@ fn reserve(stored: &mut Vec<Stored>, more: usize) -> Result<(), AllocError>
     stored.reserve(more)
 }
 
-// Where a cell stands among the first cells, which have rows.
+/// Where a cell stands among the first cells, which have rows.
 fn kept_place(cells: &Cells, filled: usize, cell: &Cell) -> Option<usize>
     ensures within { IfSome result (λ place. place < filled) }
     ensures there { IfSome result (λ place. position (cell_eq cell.now) cells.now ≡ Some place) }
@@ -270,7 +271,7 @@ fn kept_place(cells: &Cells, filled: usize, cell: &Cell) -> Option<usize>
     if place < filled { Some(place) } else { None }
 }
 
-// Adds the cells of these rows that aren't there.
+/// Adds the cells of these rows that aren't there.
 fn add_cells(cells: &mut Cells, rows: &[Row]) -> Result<(), AllocError>
     ensures ok { OnOk result (cells.new ≡ cells.old ++ new_cells cells.old rows.now) }
     ensures err { take (length cells.old) cells.new ≡ cells.old }
@@ -281,6 +282,7 @@ fn add_cells(cells: &mut Cells, rows: &[Row]) -> Result<(), AllocError>
     Ok(())
 }
 
+/// What becomes of a row where one may be kept of its cell.
 fn verdict_where(kept: Option<Row>, row: &Row) -> RowVerdict
     ensures { result ≡ verdict_where kept row.now }
 {
@@ -290,7 +292,7 @@ fn verdict_where(kept: Option<Row>, row: &Row) -> RowVerdict
     }
 }
 
-// Of a kept row and a later one of its cell the one that counts.
+/// Of a kept row and a later one of its cell the one that counts.
 fn later_of(kept: Option<Row>, later: Option<Row>) -> Option<Row>
     ensures { result ≡ later_of kept later }
 {
@@ -300,6 +302,7 @@ fn later_of(kept: Option<Row>, later: Option<Row>) -> Option<Row>
     }
 }
 
+/// Of a row that is kept and one that may come later the one that counts.
 fn newer_of(kept: Row, later: Option<Row>) -> Row
     ensures { later_of (Some kept) later ≡ Some result }
 {
@@ -309,7 +312,7 @@ fn newer_of(kept: Row, later: Option<Row>) -> Row
     }
 }
 
-// Whether a row of this verdict is put.
+/// Whether a row of this verdict is put.
 fn is_put(verdict: &RowVerdict) -> bool
     ensures { result ≡ is_put verdict.now }
 {
@@ -319,6 +322,7 @@ fn is_put(verdict: &RowVerdict) -> bool
     }
 }
 
+/// The row of a cell, with what is stored for it.
 fn row_stored(cell: &Cell, stored: &Stored) -> Row
     ensures { result ≡ row_stored cell.now stored.now }
 {

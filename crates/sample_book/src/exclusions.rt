@@ -13,10 +13,10 @@ use slo_limits::MINUTES_A_DAY;
 use std::alloc::{AllocError, Global};
 use std::marker::Model;
 
-// A place in the list is a `u32`.
+/// A place in the list is a `u32`.
 const MOST_EXCLUSIONS: usize = 4_294_967_295;
 
-// To look at so many exclusions takes no longer than to look up their groups.
+/// To look at so many exclusions takes no longer than to look up their groups.
 const FEW: usize = 16;
 
 /// Maintenance that is excluded: what the rows of these minutes say doesn't count for the
@@ -32,12 +32,13 @@ pub struct Exclusion {
     pub to: u32,
 }
 
+/// The exclusions that were made, and which of them go together.
 #[derive(Drop)]
 pub(crate) struct Exclusions {
-    // Each with whether it is live, in the order in which they were made.
+    /// Each with whether it is live, in the order in which they were made.
     made: Vec<(Exclusion, bool)>,
-    // Those of an objective that begin on one day, each linked to the one before it; and those of
-    // an objective that are longer than a day.
+    /// Those of an objective that begin on one day, each linked to the one before it; and those of
+    /// an objective that are longer than a day.
     groups: Chains,
 }
 
@@ -57,6 +58,7 @@ impl Model for Exclusions {
 }
 
 impl Exclusions {
+    /// No exclusions.
     pub(crate) fn new(alloc: Global) -> Exclusions
         ensures { result.made ≡ [] }
     {
@@ -66,21 +68,21 @@ impl Exclusions {
         }
     }
 
-    // How many exclusions were made.
+    /// How many exclusions were made.
     pub(crate) fn count(&self) -> u32
         ensures { result ≡ length self.now.made }
     {
         self.made.len() as u32
     }
 
-    // No two exclusions have one id.
+    /// No two exclusions have one id.
     pub(crate) fn have_own_ids(&self)
         ensures { HaveOwnIds self.now.made }
     {
         let _count = self.made.len();
     }
 
-    // The exclusion of an id, and whether it is live.
+    /// The exclusion of an id, and whether it is live.
     pub(crate) fn find(&self, id: Label) -> Option<(Exclusion, bool)>
         ensures { result ≡ exclusion_of self.now.made id }
     {
@@ -92,14 +94,14 @@ impl Exclusions {
         None
     }
 
-    // The exclusion at a place of the list, and whether it is live.
+    /// The exclusion at a place of the list, and whether it is live.
     pub(crate) fn at(&self, place: usize) -> Option<(Exclusion, bool)>
         ensures { result ≡ slice_get self.now.made place }
     {
         self.made.get(place).copied()
     }
 
-    // Whether a live exclusion of the objective has the minute.
+    /// Whether a live exclusion of the objective has the minute.
     pub(crate) fn is_excluded(&self, slo: Label, minute: u32) -> bool
         ensures { result ≡ is_excluded self.now.made slo minute }
     {
@@ -109,6 +111,7 @@ impl Exclusions {
         is_excluded(&self.made, &self.groups, slo, minute)
     }
 
+    /// Makes room for so many exclusions.
     pub(crate) fn reserve(&mut self, places: usize) -> Result<(), AllocError>
         ensures made { self.new.made ≡ self.old.made }
         ensures spare { OnOk result (places ≤ self.new.spare) }
@@ -120,7 +123,7 @@ impl Exclusions {
         self.made.reserve(places)
     }
 
-    // Adds an exclusion, which is live, with no memory.
+    /// Adds an exclusion, which is live, with no memory.
     pub(crate) fn exclude(&mut self, value: Exclusion)
         requires spare { 0 < self.old.spare }
         requires unused { exclusion_of self.old.made value.id ≡ None }
@@ -131,7 +134,7 @@ impl Exclusions {
         self.made.extend_from_slice(&[(value, true)]).unwrap();
     }
 
-    // Lifts the exclusion of an id, with no memory.
+    /// Lifts the exclusion of an id, with no memory.
     pub(crate) fn lift(&mut self, id: Label)
         ensures made { self.new.made ≡ after_lifting self.old.made id }
         ensures minutes { (value : Exclusion) (slo : List ℕ) (minute : ℕ)
@@ -146,15 +149,15 @@ impl Exclusions {
     }
 }
 
-// Whether an exclusion is live and takes the minute from the objective.
+/// Whether an exclusion is live and takes the minute from the objective.
 fn excludes(kept: &(Exclusion, bool), slo: Label, minute: u32) -> bool
     ensures { result ≡ excludes slo minute kept.now }
 {
     kept.1 && kept.0.slo == slo && kept.0.from <= minute && minute < kept.0.to
 }
 
-// With which others an exclusion is linked: the longer ones have no day, and the days are counted
-// from 1.
+/// With which others an exclusion is linked: the longer ones have no day, and the days are counted
+/// from 1.
 fn group_of(value: &Exclusion) -> Group
     ensures { result ≡ group_of value.now }
 {
@@ -169,8 +172,8 @@ fn group_of(value: &Exclusion) -> Group
     }
 }
 
-// Whether a live exclusion of the objective has the minute: it is longer than a day, or begins on
-// the minute's day or the day before.
+/// Whether a live exclusion of the objective has the minute: it is longer than a day, or begins on
+/// the minute's day or the day before.
 fn is_excluded(made: &[(Exclusion, bool)], groups: &Chains, slo: Label, minute: u32) -> bool
     requires { AreLinked (map group_of_kept made.now) groups.now }
     ensures { result ≡ is_excluded made.now slo minute }
@@ -182,7 +185,7 @@ fn is_excluded(made: &[(Exclusion, bool)], groups: &Chains, slo: Label, minute: 
     long | before | own
 }
 
-// Whether one of a group of exclusions has the minute, from the last of the group on.
+/// Whether one of a group of exclusions has the minute, from the last of the group on.
 fn one_excludes(
     made: &[(Exclusion, bool)],
     groups: &Chains,

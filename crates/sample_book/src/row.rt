@@ -46,7 +46,7 @@ impl Row {
         }
     }
 
-    // What becomes of a row that arrives where this one is kept.
+    /// What becomes of a row that arrives where this one is kept.
     pub(crate) fn verdict_on(&self, row: &Row) -> RowVerdict
         ensures { result ≡ verdict_on self.now row.now }
     {

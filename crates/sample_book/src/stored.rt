@@ -7,6 +7,7 @@ use slice_method::Amount;
 use slo_limits::WHOLE;
 use std::marker::Model;
 
+/// An amount in two parts of four bytes.
 #[derive(Clone, Copy)]
 enum Parts {
     Events { part: u32, total: u32 },
@@ -14,7 +15,7 @@ enum Parts {
     Measured { whole: u32, billionths: u32 },
 }
 
-// An amount.
+/// An amount.
 #[derive(Clone, Copy)]
 pub(crate) struct SmallAmount {
     parts: Parts,
@@ -37,6 +38,7 @@ impl Model for SmallAmount {
 }
 
 impl SmallAmount {
+    /// The amount, kept small.
     pub(crate) fn of(amount: &Amount) -> SmallAmount
         ensures { result ≡ amount.now }
     {
@@ -53,6 +55,7 @@ impl SmallAmount {
         SmallAmount { parts }
     }
 
+    /// The amount as it came.
     pub(crate) fn amount(&self) -> Amount
         ensures { result ≡ self.now }
     {
@@ -65,7 +68,7 @@ impl SmallAmount {
     }
 }
 
-// A row without its cell.
+/// A row without its cell.
 #[derive(Clone, Copy)]
 pub(crate) struct Stored {
     pub(crate) revision: u32,

@@ -13,7 +13,7 @@ use exact_fraction::{Decimal, Label, Op};
 use slice_method::{Counts, Reading, counts_of};
 use slo_limits::MINUTES_A_DAY;
 
-// The first row of an indicator.
+/// The first row of an indicator.
 pub(crate) fn first_of(rows: &CurrentRows, index: &CellIndex, sli: Label) -> Option<Row>
     requires { IsIndexed (map cell_of rows.now.rows) index.now }
     ensures { result ≡ first_of rows.now.rows sli }
@@ -24,7 +24,7 @@ pub(crate) fn first_of(rows: &CurrentRows, index: &CellIndex, sli: Label) -> Opt
     }
 }
 
-// The sums over the rows of an indicator at a minute: only the rows of its day are looked at.
+/// The sums over the rows of an indicator at a minute: only the rows of its day are looked at.
 pub(crate) fn counts_at(
     rows: &CurrentRows,
     index: &CellIndex,
@@ -52,7 +52,7 @@ pub(crate) fn counts_at(
     sum
 }
 
-// What one row adds.
+/// What one row adds.
 fn share_of(row: Row, sli: Label, reading: Reading, op: Op, value: Decimal, minute: u32) -> Counts
     requires { is_of sli row ≡ true → row.minute ≡ minute → HasForm reading row.amount }
     ensures share { result ≡ counts_of_minute reading op value (row ∷ []) sli minute }

@@ -22,7 +22,7 @@ use Rattle.office_derived.specs.kept_objectives.declared.ObjectiveSums.{Objectiv
 use Rattle.office_derived.specs.kept_objectives.Objectives.{AreKept, HaveForms, IsObjective}
 use Rattle.office_derived.specs.kept_objectives.Objectives.{KeepsSums, measures_of}
 use Rattle.office_derived.specs.declared.Derived.{Derived}
-use Rattle.office_derived.specs.declared.Tally.{Tally}
+use Rattle.office_derived.specs.declared.BatchTally.{BatchTally}
 use Rattle.office_derived.specs.declared.Work.TheVariants as works
 use Rattle.office_derived.specs.Derived.{IsNext, IsRead, IsSound, Reflects, entry_of}
 use Rattle.office_derived.proofs.More.{rows_more}
@@ -103,7 +103,7 @@ made_anew before after value lifts slo minute =
     or_false false = refl
 
 -- the rows of an accepted batch have the forms that the objectives read
-pub batch_fits : (d : Derived) (o : Office) (m : ℕ) (rows : List Row) (tally : Tally)
+pub batch_fits : (d : Derived) (o : Office) (m : ℕ) (rows : List Row) (tally : BatchTally)
     (becomes : Vec RowVerdict) → IsSound d → IsNext d o m (works.Samples rows tally becomes) →
     HaveForms rows d.sums.kept
 batch_fits d o m rows tally becomes s n =
@@ -119,7 +119,7 @@ kept_over made made' rows rows' kept same still are =
     (subst (λ (rs : List Row). AreKept made rs kept) (sym still) are)
 
 -- the sums have followed a batch
-pub batch_followed : (d d' : Derived) (o : Office) (m : ℕ) (rows : List Row) (tally : Tally)
+pub batch_followed : (d d' : Derived) (o : Office) (m : ℕ) (rows : List Row) (tally : BatchTally)
     (becomes : Vec RowVerdict) → IsSound d → IsNext d o m (works.Samples rows tally becomes) →
     Reflects d' (with_entry o (entry_of m (works.Samples rows tally becomes))) →
     d'.catalog ≡ d.catalog → d'.book.exclusions ≡ d.book.exclusions →

@@ -29,7 +29,7 @@ use Rattle.objective_days.specs.Days.{IsWithin}
 use Rattle.record_form.specs.declared.Command.TheVariants as commands
 use Rattle.office_derived.specs.declared.Judged.{Judged}
 use Rattle.office_derived.specs.declared.Judged.TheVariants as judged
-use Rattle.office_derived.specs.declared.Tally.{Tally}
+use Rattle.office_derived.specs.declared.BatchTally.{BatchTally}
 use Rattle.office_derived.specs.declared.Work.TheVariants as works
 use Rattle.office_derived.specs.Tallies.{changes, tally_of, tally_outcome}
 use Rattle.sample_changes.specs.Judging.{faultless_verdict, rows_fault, rows_verdict}
@@ -180,17 +180,17 @@ by_days fault cells taken days b e f g h =
     ∷ when (h i) (refusals.Limit limits.Days) ∷ []))
 
 -- how many cells there are then, and how many rows were accepted
-pub batch_cells : (kept rows : List Row) (tally : Tally) → current_rows kept ≡ kept → tally
+pub batch_cells : (kept rows : List Row) (tally : BatchTally) → current_rows kept ≡ kept → tally
     ≡ tally_of (verdicts kept rows) → length (current_rows (kept ++ rows)) ≡ length kept + tally.new
 batch_cells kept rows tally current e = length-verdicts kept rows
     ∙ (λ i. length (current i) + count is_new (verdicts kept rows))
-    ∙ ap (λ (t : Tally). length kept + t.new) (sym e)
+    ∙ ap (λ (t : BatchTally). length kept + t.new) (sym e)
 
-pub batch_taken : (taken : ℕ) (kept rows : List Row) (tally : Tally)
+pub batch_taken : (taken : ℕ) (kept rows : List Row) (tally : BatchTally)
     → tally ≡ tally_of (verdicts kept rows)
     → taken + count is_put (verdicts kept rows) ≡ taken + (tally.new + tally.newer)
 batch_taken taken kept rows tally e = ap (λ n. taken + n) (count_put (verdicts kept rows))
-    ∙ ap (λ (t : Tally). taken + (t.new + t.newer)) (sym e)
+    ∙ ap (λ (t : BatchTally). taken + (t.new + t.newer)) (sym e)
 
 -- a batch without a fault
 pub batch_clean : (origin m : ℕ) (members : List Object) (kept rows : List Row)
@@ -202,7 +202,7 @@ batch_clean origin m members kept rows vs found judged is none =
 
 -- the limit of days decides on a batch that keeps all rules before it
 pub days_decide : (d : Derived) (moment : ℕ) (rows : List Row) (vs : List RowVerdict)
-    (tally : Tally) (found : Option Refusal) (passes : Bool) → vs ≡ verdicts d.book.rows rows →
+    (tally : BatchTally) (found : Option Refusal) (passes : Bool) → vs ≡ verdicts d.book.rows rows →
     tally ≡ tally_of vs → current_rows d.book.rows ≡ d.book.rows →
     found ≡ first_some (rows_faults d.origin moment d.catalog 1 rows vs) → found ≡ None →
     length d.book.rows + tally.new ≤ most.MAX_CELLS →
@@ -241,7 +241,7 @@ pub passed_by : (fault : Option Refusal) (otherwise : Judgement) → fault ≡ N
     → otherwise ≡ unless_refused fault otherwise
 passed_by fault otherwise e = ap (λ f. unless_refused f otherwise) (sym e)
 
-pub faultless_by : (vs : List RowVerdict) (tally : Tally) (n : ℕ) → tally ≡ tally_of vs
+pub faultless_by : (vs : List RowVerdict) (tally : BatchTally) (n : ℕ) → tally ≡ tally_of vs
     → cond (changes tally) (accepted n) (Same (tally_outcome tally None)) ≡ faultless_verdict vs n
 faultless_by vs tally n e =
     (λ i. cond (changes (e i)) (accepted n) (Same (tally_outcome (e i) None)))
@@ -249,7 +249,7 @@ faultless_by vs tally n e =
 
 -- what the judging comes to is what the history says
 pub comes_to : (d : Derived) (o : Office) (m : ℕ) (rows batch : List Row) (j : Judgement)
-    (tally : Tally) (each : List RowVerdict) (x : Judged) → Reflects d o → batch ≡ rows →
+    (tally : BatchTally) (each : List RowVerdict) (x : Judged) → Reflects d o → batch ≡ rows →
     length batch ≤ most.MAX_BATCH_ROWS → j ≡ rows_verdict d.origin m d.catalog d.book.rows
     d.accepted d.entries batch → tally ≡ tally_of (verdicts d.book.rows batch) →
     each ≡ verdicts d.book.rows batch → ComesTo j batch tally each x →

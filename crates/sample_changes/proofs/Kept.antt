@@ -32,7 +32,7 @@ use Rattle.office_history.specs.Catalog.{catalog_in}
 use Rattle.office_history.specs.History.{Office, accepted_rows, exclusions_in, rows_in, with_entry}
 use Rattle.office_derived.specs.kept_objectives.Objectives.{KeepsSums}
 use Rattle.office_derived.specs.declared.Derived.{Derived}
-use Rattle.office_derived.specs.declared.Tally.{Tally}
+use Rattle.office_derived.specs.declared.BatchTally.{BatchTally}
 use Rattle.office_derived.specs.declared.Work.TheVariants as works
 use Rattle.office_derived.specs.Derived.{IsNext, IsPlaced, IsRead, IsSound, Reflects, entry_of}
 use Rattle.office_derived.proofs.More.{rows_more}
@@ -71,26 +71,26 @@ each P Q f [] h = tt
 each P Q f (x ∷ xs) h = (f x h.0, each P Q f xs h.1)
 
 -- what an accepted batch keeps, over what is kept
-pub batch_keeps : (d : Derived) (o : Office) (m : ℕ) (rows : List Row) (tally : Tally)
+pub batch_keeps : (d : Derived) (o : Office) (m : ℕ) (rows : List Row) (tally : BatchTally)
     (becomes : Vec RowVerdict) → IsNext d o m (works.Samples rows tally becomes) →
     IsAccepted o.origin m (catalog_in o.history) (rows_in o.history) (length o.history) rows
 batch_keeps d o m rows tally becomes n = accepted_keeps o.origin m (catalog_in o.history)
     (rows_in o.history) (length o.history) rows (sym n.accepted)
 
 -- so many rows are accepted then
-pub samples_taken : (d : Derived) (o : Office) (m : ℕ) (rows : List Row) (tally : Tally)
+pub samples_taken : (d : Derived) (o : Office) (m : ℕ) (rows : List Row) (tally : BatchTally)
     (becomes : Vec RowVerdict) → IsNext d o m (works.Samples rows tally becomes) →
     d.accepted + (tally.new + tally.newer) ≡ accepted_rows (rows_in o.history ++ rows)
 samples_taken d o m rows tally becomes n =
-    (λ i. n.reflects.accepted i + ((ap (λ (t : Tally). t.new + t.newer) n.found.0 ∙ sym
+    (λ i. n.reflects.accepted i + ((ap (λ (t : BatchTally). t.new + t.newer) n.found.0 ∙ sym
     (count_put (verdicts (rows_in o.history) rows))) i))
     ∙ sym (accepted-more (rows_in o.history) rows)
 
-pub record Few (d : Derived) (tally : Tally) : Type 0 where
+pub record Few (d : Derived) (tally : BatchTally) : Type 0 where
   pub taken : d.accepted + (tally.new + tally.newer) ≤ most.MAX_ACCEPTED_ROWS
   pub entries : d.entries < most.MAX_ENTRIES
 
-pub samples_few : (d : Derived) (o : Office) (m : ℕ) (rows : List Row) (tally : Tally)
+pub samples_few : (d : Derived) (o : Office) (m : ℕ) (rows : List Row) (tally : BatchTally)
     (becomes : Vec RowVerdict) → IsNext d o m (works.Samples rows tally becomes) → Few d tally
 samples_few d o m rows tally becomes n =
     let keeps = batch_keeps d o m rows tally becomes n in
@@ -132,7 +132,7 @@ sound_kept d d' s few origin entries catalog notices cells taken read placed sum
 }
 
 -- the rows of an accepted batch are read, and lie in the range
-pub rows_good : (d : Derived) (o : Office) (m : ℕ) (rows : List Row) (tally : Tally)
+pub rows_good : (d : Derived) (o : Office) (m : ℕ) (rows : List Row) (tally : BatchTally)
     (becomes : Vec RowVerdict) → IsNext d o m (works.Samples rows tally becomes) →
     AllByRecursion (IsGood d.origin m d.catalog) rows
 rows_good d o m rows tally becomes n =
@@ -142,7 +142,7 @@ rows_good d o m rows tally becomes n =
     (good_rows o.origin m (catalog_in o.history) 1 rows (verdicts (rows_in o.history) rows)
     (verdicts_each (rows_in o.history) rows) (batch_keeps d o m rows tally becomes n).clean))
 
-pub samples_sound : (d d' : Derived) (o : Office) (m : ℕ) (rows : List Row) (tally : Tally)
+pub samples_sound : (d d' : Derived) (o : Office) (m : ℕ) (rows : List Row) (tally : BatchTally)
     (becomes : Vec RowVerdict) → IsSound d → IsNext d o m (works.Samples rows tally becomes) →
     Reflects d' (with_entry o (entry_of m (works.Samples rows tally becomes))) →
     d'.origin ≡ d.origin → d'.entries ≡ d.entries + 1 → d'.catalog ≡ d.catalog →

@@ -14,7 +14,7 @@ use Rattle.sample_book.specs.Puts.{verdicts, is_new}
 use Rattle.sample_book.specs.Rows.{current_rows, verdict_of}
 use Rattle.office_history.specs.History.{accepted_rows}
 use Rattle.office_history.specs.Batches.{count, is_newer, is_repeated, is_superseded}
-use Rattle.office_derived.specs.declared.Tally.{Tally}
+use Rattle.office_derived.specs.declared.BatchTally.{BatchTally}
 use Rattle.office_derived.specs.Tallies.{changes, tally_of}
 use Rattle.sample_changes.specs.Works.{tally_with}
 
@@ -101,7 +101,7 @@ count-push p vs v =
     by true = refl
     by false = refl
 
-abbrev tally : ℕ → ℕ → ℕ → ℕ → Tally
+abbrev tally : ℕ → ℕ → ℕ → ℕ → BatchTally
 tally a b c d = record { new = a; newer = b; repeated = c; superseded = d }
 
 -- one verdict more

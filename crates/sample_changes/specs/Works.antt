@@ -6,13 +6,13 @@ use Rattle.sample_book.specs.declared.RowVerdict.TheVariants.{New, Newer, Repeat
 use Rattle.sample_book.specs.declared.RowVerdict.TheVariants.{Conflict}
 use Rattle.office_history.specs.declared.Judgement.{Judgement}
 use Rattle.office_history.specs.declared.Judgement.TheVariants.{Accepted, Same, Refused}
-use Rattle.office_derived.specs.declared.Tally.{Tally}
+use Rattle.office_derived.specs.declared.BatchTally.{BatchTally}
 use Rattle.office_derived.specs.declared.Work.TheVariants as works
 use Rattle.office_derived.specs.declared.Judged.{Judged}
 use Rattle.office_derived.specs.declared.Judged.TheVariants as judged
 
 -- one row more
-abbrev pub tally_with : Tally → RowVerdict → Tally
+abbrev pub tally_with : BatchTally → RowVerdict → BatchTally
 tally_with tally New = record {
   new = tally.new + 1;
   newer = tally.newer;
@@ -40,7 +40,7 @@ tally_with tally (Superseded revision) = record {
 tally_with tally (Conflict kept) = tally
 
 -- what the judging of rows comes to: where they are accepted, the work of a copy of them
-abbrev pub ComesTo : Judgement → List Row → Tally → List RowVerdict → Judged → Type 0
+abbrev pub ComesTo : Judgement → List Row → BatchTally → List RowVerdict → Judged → Type 0
 ComesTo judgement rows tally each (judged.Ready (works.Samples copy counted becomes)) =
     (judgement ≡ Accepted) × (copy ≡ rows) × (counted ≡ tally) × (becomes.items ≡ each)
 ComesTo judgement rows tally each (judged.Ready work) = ⊥

@@ -13,8 +13,8 @@ ghost use Rattle.office_history.specs.Batches.{row_fault as row_fault_lem, rows_
 use catalog_measures::reading_named;
 use exact_fraction::Decimal;
 use record_form::{LimitName, Refusal};
-use sample_book::{Amount, Row, RowVerdict};
-use slice_method::Reading;
+use sample_book::{Row, RowVerdict};
+use slice_method::{Amount, Reading};
 use slo_catalog::Catalog;
 use slo_limits::{MAX_AMOUNT, WHOLE};
 

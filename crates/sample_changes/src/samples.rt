@@ -14,7 +14,7 @@ ghost use Rattle.office_history.specs.History.{Office, with_entry};
 ghost use Rattle.office_history.specs.Outcomes.{outcome_of};
 ghost use Rattle.office_history.specs.declared.Judgement.TheVariants as judgements;
 ghost use Rattle.office_history.specs.Verdicts.{accepted as accepted_lem};
-ghost use Rattle.office_derived.specs.declared.Tally.{Tally};
+ghost use Rattle.office_derived.specs.declared.BatchTally.{BatchTally};
 ghost use Rattle.office_derived.specs.declared.Work.TheVariants as works;
 ghost use Rattle.office_derived.specs.Tallies.{changes, tally_of as tally_of_lem, tally_outcome};
 ghost use Rattle.office_derived.specs.Derived.{HasRoom, IsJudged, IsNext, IsSound, Reflects, Stays};
@@ -25,7 +25,7 @@ ghost use Rattle.sample_changes.specs.Works.{ComesTo};
 use crate::faults::{batch_fault, limit};
 use crate::tally::tally_of;
 use objective_days::passes_days_limit;
-use office_derived::{Derived, Judged, Tally, Work, accepted};
+use office_derived::{Derived, Judged, BatchTally, Work, accepted};
 use office_history::Judgement;
 use record_form::{LimitName, Outcome, Refusal, Rows};
 use sample_book::{Row, RowVerdict, SampleBook};
@@ -48,7 +48,7 @@ fn rows_fault(
     moment: u32,
     rows: &[Row],
     verdicts: &[RowVerdict],
-    tally: Tally,
+    tally: BatchTally,
 ) -> Result<Option<Refusal>, AllocError>
     requires sound { IsSound derived.now }
     requires few { length rows.now ≤ most_rows }
@@ -85,7 +85,7 @@ fn rows_fault(
 }
 
 /// What becomes of rows that break no rule.
-fn faultless_verdict(tally: Tally, entries: u32) -> Judgement
+fn faultless_verdict(tally: BatchTally, entries: u32) -> Judgement
     ensures { result ≡ cond (changes tally) (accepted_lem entries) (judgements.Same (tally_outcome
         tally None)) }
 {
@@ -103,7 +103,7 @@ fn judgement_of(
     moment: u32,
     rows: &[Row],
     verdicts: &[RowVerdict],
-    tally: Tally,
+    tally: BatchTally,
 ) -> Result<Judgement, AllocError>
     requires sound { IsSound derived.now }
     requires few { length rows.now ≤ most_rows }
@@ -125,7 +125,7 @@ fn judgement_of(
 #[derive(Drop)]
 struct BatchFound {
     judgement: Judgement,
-    tally: Tally,
+    tally: BatchTally,
     verdicts: Vec<RowVerdict>,
 }
 
@@ -206,7 +206,7 @@ pub fn judge_samples(alloc: Global, derived: &Derived, moment: u32, rows: &Rows)
 
 /// Takes all memory that samples need. After an error nothing changes but the room.
 pub fn room_for_samples(derived: &mut Derived, rows: &Rows) -> Result<(), AllocError>
-    ensures room { (tally : Tally) (becomes : Vec RowVerdict) → OnOk result (HasRoom derived.new
+    ensures room { (tally : BatchTally) (becomes : Vec RowVerdict) → OnOk result (HasRoom derived.new
         (works.Samples rows.now tally becomes)) }
     ensures stays { Stays derived.old derived.new }
 {
@@ -257,7 +257,7 @@ pub fn apply_samples(
     derived: &mut Derived,
     moment: u32,
     rows: Rows,
-    tally: Tally,
+    tally: BatchTally,
     verdicts: Vec<RowVerdict>,
 ) -> Outcome
     requires sound { IsSound derived.old }

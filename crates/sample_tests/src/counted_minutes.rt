@@ -7,8 +7,8 @@ ghost use Rattle.sample_tests.specs.Events.{HasEvents};
 
 use crate::kept_samples::{agrees, empty_book, exclude, label, let_go, lift};
 use exact_fraction::{Decimal, Label, Op};
-use sample_book::{Amount, Row, RowVerdict, SampleBook, room_is_enough};
-use slice_method::Reading;
+use sample_book::{Row, RowVerdict, SampleBook, laws};
+use slice_method::{Amount, Reading};
 use std::process::Abort;
 
 fn events(sli: Label, source: Label, minute: u32, revision: u32, good: u32) -> Row
@@ -72,7 +72,7 @@ fn take_batch(book: &mut SampleBook, rows: &[Row]) -> bool
     ensures few { length book.new.rows ≤ length book.old.rows + length rows.now }
 {
     book.rows_are_current();
-    room_is_enough();
+    laws::room_is_enough();
     match book.make_room(rows) {
         Ok(()) => {}
         Err(_) => return false,

@@ -2,7 +2,8 @@
 ghost use Rattle.std.specs.Prelude.{◌≡◌, []};
 
 use exact_fraction::{Label, read_label};
-use sample_book::{Amount, Exclusion, Row, RowVerdict, SampleBook};
+use sample_book::{Exclusion, Row, RowVerdict, SampleBook};
+use slice_method::Amount;
 use std::alloc::{AllocError, Global};
 use std::process::Abort;
 use std::slice;

@@ -16,7 +16,7 @@ pub fn value_on<V>(days: &IndexMap<u32, V>, day: u32) -> Option<&V>
     }
 }
 
-// The value of a day that is as far behind the first one as there are others between them.
+/// The value of a day that is as far behind the first one as there are others between them.
 fn value_near<V>(days: &IndexMap<u32, V>, day: u32) -> Option<&V>
     ensures { IfSome result (λ value. lookup (nat_eq day) days.now.entries ≡ Some value.now) }
 {

@@ -8,10 +8,13 @@ use exact_fraction::Leaf;
 use std::alloc::{AllocError, Global};
 use std::marker::Model;
 
+/// The hours of a day.
 pub(crate) const HOURS_A_DAY: u32 = 24;
 
+/// The leaf of a slot without data.
 pub(crate) const NO_LEAF: Leaf = Leaf { num: 0, den: 0 };
 
+/// The leaves of a day.
 #[derive(Drop)]
 pub(crate) struct Page {
     leaves: Vec<Leaf>,
@@ -32,7 +35,7 @@ impl Model for Page {
 }
 
 impl Page {
-    // A day without data.
+    /// A day without data.
     pub(crate) fn empty(alloc: Global, per_hour: u32) -> Result<Page, AllocError>
         requires { per_hour ≤ 60 }
         ensures { IfOk result (λ page. page ≡ replicate (24 * per_hour) NO_LEAF) }
@@ -46,6 +49,7 @@ impl Page {
         })
     }
 
+    /// The leaf of a slot of the day.
     pub(crate) fn leaf(&self, place: usize) -> Leaf
         requires { place < length self.now }
         ensures { result ≡ leaf_in self.now place }
@@ -53,7 +57,7 @@ impl Page {
         self.leaves[place]
     }
 
-    // The leaves of an hour, added up.
+    /// The leaves of an hour, added up.
     pub(crate) fn hour(&self, hour: usize) -> Leaf
         requires { hour < 24 }
         ensures { result ≡ leaves_over (leaf_in self.now) (hour * (length self.now / 24))
@@ -62,14 +66,14 @@ impl Page {
         self.hours[hour]
     }
 
-    // All leaves, added up.
+    /// All leaves, added up.
     pub(crate) fn total(&self) -> Leaf
         ensures { result ≡ leaves_over (leaf_in self.now) 0 (length self.now) }
     {
         self.total
     }
 
-    // Puts a leaf at a place, and exchanges it in the totals of its hour and of the day.
+    /// Puts a leaf at a place, and exchanges it in the totals of its hour and of the day.
     pub(crate) fn set(&mut self, place: usize, per_hour: usize, value: Leaf)
         requires within { place < length self.old }
         requires hours { length self.old ≡ 24 * per_hour }
@@ -88,13 +92,14 @@ impl Page {
     }
 }
 
+/// So many leaves without data.
 fn no_leaves(alloc: Global, count: u32) -> Result<Vec<Leaf>, AllocError>
     ensures { IfOk result (λ leaves. leaves.items ≡ replicate count NO_LEAF) }
 {
     vec![in alloc; NO_LEAF; count as usize]
 }
 
-// A total that loses one leaf and gains another.
+/// A total that loses one leaf and gains another.
 fn new_total(total: Leaf, before: Leaf, after: Leaf) -> Leaf
     requires { MayExchange total before after }
     ensures { result ≡ new_total total before after }

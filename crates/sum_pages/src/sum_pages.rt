@@ -145,6 +145,7 @@ impl SumPages {
         }
     }
 
+    /// How many slots a day has.
     fn slots_a_day(&self) -> u32
         ensures value { result ≡ slots_a_day self.now }
         ensures some { 0 < result }
@@ -153,7 +154,7 @@ impl SumPages {
     }
 }
 
-// Puts a leaf at a place of a day that is there.
+/// Puts a leaf at a place of a day that is there.
 fn set_in(pages: &mut IndexMap<u32, Page>, day: u32, place: usize, per_hour: usize, value: Leaf)
     requires there { IsTrue (is_some (lookup (nat_eq day) pages.old.entries)) }
     requires within { place < length (values_of_day pages.old.entries day) }

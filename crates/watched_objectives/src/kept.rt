@@ -6,7 +6,7 @@ ghost use Rattle.std.specs.List.{AllByRecursion, Contains};
 ghost use Rattle.watched_objectives.specs.Lines.{watches_of};
 ghost use Rattle.watched_objectives.specs.declared.kept.WatchLine.{WatchLine};
 
-use crate::same::is_same;
+use crate::same::is_same_watch;
 use crate::watch::Watch;
 use alert_line::AlertLine;
 use std::alloc::{AllocError, Global};
@@ -47,7 +47,7 @@ pub(crate) fn place_of(lines: &[WatchLine], watch: &Watch) -> Option<usize>
         → AllByRecursion (λ (kept : WatchLine). kept.watch ≢ watch.now) lines.now }
 {
     for (place, kept) in lines.iter().enumerate() {
-        if is_same(&kept.watch, watch) {
+        if is_same_watch(&kept.watch, watch) {
             return Some(place);
         }
     }
@@ -59,7 +59,7 @@ pub(crate) fn is_at(lines: &[WatchLine], place: usize, watch: &Watch) -> bool
     ensures { result ≡ true → slice_get (watches_of lines.now) place ≡ Some watch.now }
 {
     match lines.get(place) {
-        Some(kept) => is_same(&kept.watch, watch),
+        Some(kept) => is_same_watch(&kept.watch, watch),
         None => false,
     }
 }

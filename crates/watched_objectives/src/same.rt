@@ -12,8 +12,8 @@ fn is_same_rule(a: &AlertRule, b: &AlertRule) -> bool
 }
 
 // Whether two alerts watch the same: the objective first, in which most differ.
-pub(crate) fn is_same(a: &Watch, b: &Watch) -> bool
+pub(crate) fn is_same_watch(a: &Watch, b: &Watch) -> bool
     ensures { Decides result (a.now ≡ b.now) }
 {
-    office_derived::is_same(a.measure(), b.measure()) && is_same_rule(a.rule(), b.rule())
+    office_derived::is_same_measure(a.measure(), b.measure()) && is_same_rule(a.rule(), b.rule())
 }

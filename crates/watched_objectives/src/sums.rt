@@ -7,7 +7,7 @@ ghost use Rattle.office_derived.specs.Derived.{IsSound};
 ghost use Rattle.office_derived.specs.kept_objectives.Objectives.{IsObjective};
 ghost use Rattle.watched_objectives.specs.Sums.{AreSums, samples_of};
 
-use kept_lines::kept_counts_are_those_of_the_minutes;
+use kept_sums::laws;
 use office_derived::Derived;
 use office_history::Measure;
 use window_sums::WindowSums;
@@ -40,7 +40,7 @@ pub(crate) fn objective_sums_at<'a>(
     ensures kept { Contains derived.now.sums.kept
         (record { measure = measure.now; sums = result.now }) }
 {
-    kept_counts_are_those_of_the_minutes();
+    laws::kept_counts_are_those_of_the_minutes();
     match derived.sums.find_at(measure, place) {
         Some(sums) => {
             // A slice has a minute at least, as sums know of themselves.

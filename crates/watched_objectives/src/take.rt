@@ -12,14 +12,14 @@ ghost use Rattle.watched_objectives.specs.Plans.{IsLinesPlan};
 
 use crate::kept::KeptLines;
 use crate::plan::LinesPlan;
-use crate::same::is_same;
+use crate::same::is_same_watch;
 use crate::watch::Watch;
 
 fn is_among(watches: &[Watch], watch: &Watch) -> bool
     ensures { Decides result (Contains watches.now watch.now) }
 {
     for other in watches {
-        if is_same(other, watch) {
+        if is_same_watch(other, watch) {
             return true;
         }
     }

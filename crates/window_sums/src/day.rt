@@ -6,8 +6,10 @@ use slice_method::Counts;
 use std::alloc::{AllocError, Global};
 use std::marker::Model;
 
-pub(crate) const NOTHING: Counts = Counts { good: 0, total: 0 };
+/// The counts of a slice without data.
+pub(crate) const NO_COUNTS: Counts = Counts { good: 0, total: 0 };
 
+/// The counts of a day's slices.
 #[derive(Drop)]
 pub(crate) struct Day {
     slices: Vec<Counts>,
@@ -23,21 +25,22 @@ impl Model for Day {
 }
 
 impl Day {
-    // A day in which nothing was counted.
+    /// A day in which nothing was counted.
     pub(crate) fn empty(alloc: Global, slices: usize) -> Result<Day, AllocError>
-        ensures { IfOk result (λ day. day ≡ replicate slices NOTHING) }
+        ensures { IfOk result (λ day. day ≡ replicate slices NO_COUNTS) }
     {
-        let slices = vec![in alloc; NOTHING; slices]?;
+        let slices = vec![in alloc; NO_COUNTS; slices]?;
         Ok(Day { slices })
     }
 
-    // The counts of all slices, in their order.
+    /// The counts of all slices, in their order.
     pub(crate) fn all(&self) -> &[Counts]
         ensures { result.now ≡ self.now }
     {
         &self.slices
     }
 
+    /// The counts of a slice of the day.
     pub(crate) fn at(&self, place: usize) -> Counts
         requires { place < length self.now }
         ensures { result ≡ slice_index_or self.now place no_counts }
@@ -45,7 +48,7 @@ impl Day {
         self.slices[place]
     }
 
-    // Takes `before` from the counts at a place, adds `after`, and answers what stands there then.
+    /// Takes `before` from the counts at a place, adds `after`, and answers what stands there then.
     pub(crate) fn exchange(&mut self, place: usize, before: Counts, after: Counts) -> Counts
         requires within { place < length self.old }
         requires may { MayExchange (slice_index_or self.old place no_counts) before after }

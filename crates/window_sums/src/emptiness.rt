@@ -8,9 +8,9 @@ use crate::range::{HOURS_A_DAY, Unit, read};
 use std::sync::ledger::Ledger;
 use sum_pages::{Steps, SumPages};
 
-// Whether no slot from `from` up to `to` has an event. First the totals of all days that the range
-// touches are looked at, which tells it of a range without data in few reads; a range whose last
-// slots have events is told after two.
+/// Whether no slot from `from` up to `to` has an event. First the totals of all days that the range
+/// touches are looked at, which tells it of a range without data in few reads; a range whose last
+/// slots have events is told after two.
 pub(crate) fn is_empty<L: Ledger>(
     pages: &SumPages,
     from: u32,
@@ -25,7 +25,7 @@ pub(crate) fn is_empty<L: Ledger>(
         || slots_are_empty(pages, from, to, steps)
 }
 
-// The same by the slots behind the last whole hour, the hours, and the slots up to a whole hour.
+/// The same by the slots behind the last whole hour, the hours, and the slots up to a whole hour.
 fn slots_are_empty<L: Ledger>(pages: &SumPages, from: u32, to: u32, steps: &mut Steps<L>) -> bool
     ensures value { result ≡ ((leaves_over (leaf_at pages.now) from (to - from)).den == 0) }
     ensures bounded { to - from ≤ 400 * (24 * pages.now.per_hour) → steps.new ≤ steps.old + 564 }
@@ -45,7 +45,7 @@ fn slots_are_empty<L: Ledger>(pages: &SumPages, from: u32, to: u32, steps: &mut 
     are_empty(pages, Unit::Slot, from, first * per_hour, steps)
 }
 
-// The same of hours: those behind the last whole day, the days, and those up to a whole day.
+/// The same of hours: those behind the last whole day, the days, and those up to a whole day.
 fn hours_are_empty<L: Ledger>(pages: &SumPages, from: u32, to: u32, steps: &mut Steps<L>) -> bool
     ensures value { result ≡ ((leaves_over (leaf_at pages.now) (from * pages.now.per_hour)
         ((to - from) * pages.now.per_hour)).den == 0) }
@@ -65,7 +65,7 @@ fn hours_are_empty<L: Ledger>(pages: &SumPages, from: u32, to: u32, steps: &mut 
     are_empty(pages, Unit::Hour, from, first * HOURS_A_DAY, steps)
 }
 
-// The same of units, each read by itself, up to the last that has an event.
+/// The same of units, each read by itself, up to the last that has an event.
 fn are_empty<L: Ledger>(
     pages: &SumPages,
     unit: Unit,

@@ -5,11 +5,10 @@
 
 mod day;
 mod emptiness;
-mod laws;
+pub mod laws;
 mod range;
 mod widths;
 mod window_sums;
 
-pub use laws::counts_of_rows_are_sound;
 pub use widths::width_of;
 pub use window_sums::WindowSums;

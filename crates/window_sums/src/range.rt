@@ -8,9 +8,10 @@ use exact_fraction::Leaf;
 use std::sync::ledger::Ledger;
 use sum_pages::{Steps, SumPages};
 
+/// The hours of a day.
 pub(crate) const HOURS_A_DAY: u32 = 24;
 
-// What is read in one step.
+/// What is read in one step.
 #[derive(Clone, Copy)]
 pub(crate) enum Unit {
     Slot,
@@ -18,8 +19,8 @@ pub(crate) enum Unit {
     Day,
 }
 
-// The leaves of the slots from `from` up to `to`: slots up to a whole hour, then hours, and slots
-// behind the last whole hour.
+/// The leaves of the slots from `from` up to `to`: slots up to a whole hour, then hours, and slots
+/// behind the last whole hour.
 pub(crate) fn sum_slots<L: Ledger>(
     pages: &SumPages,
     from: u32,
@@ -43,8 +44,8 @@ pub(crate) fn sum_slots<L: Ledger>(
     joined(before, hours, after)
 }
 
-// The leaves of the hours from `from` up to `to`: hours up to a whole day, then days, and hours
-// behind the last whole day.
+/// The leaves of the hours from `from` up to `to`: hours up to a whole day, then days, and hours
+/// behind the last whole day.
 fn sum_hours<L: Ledger>(pages: &SumPages, from: u32, to: u32, steps: &mut Steps<L>) -> Leaf
     ensures value { result ≡ leaves_over (leaf_at pages.now) (from * pages.now.per_hour)
         ((to - from) * pages.now.per_hour) }
@@ -63,7 +64,7 @@ fn sum_hours<L: Ledger>(pages: &SumPages, from: u32, to: u32, steps: &mut Steps<
     joined(before, days, after)
 }
 
-// The leaves of the units from `from` up to `to`, each read by itself.
+/// The leaves of the units from `from` up to `to`, each read by itself.
 fn sum_units<L: Ledger>(
     pages: &SumPages,
     unit: Unit,
@@ -83,7 +84,7 @@ fn sum_units<L: Ledger>(
     sum
 }
 
-// The leaves of a unit, in one step.
+/// The leaves of a unit, in one step.
 pub(crate) fn read<L: Ledger>(pages: &SumPages, unit: Unit, at: u32, steps: &mut Steps<L>) -> Leaf
     ensures value { result ≡ leaves_over (leaf_at pages.now) (at * slots_of unit pages.now.per_hour)
         (slots_of unit pages.now.per_hour) }
@@ -96,7 +97,7 @@ pub(crate) fn read<L: Ledger>(pages: &SumPages, unit: Unit, at: u32, steps: &mut
     }
 }
 
-// Three sums side by side.
+/// Three sums side by side.
 fn joined(before: Leaf, middle: Leaf, after: Leaf) -> Leaf
     requires part { before.num + middle.num + after.num ≤ before.den + middle.den + after.den }
     requires few { before.den + middle.den + after.den ≤ most_events }
@@ -108,6 +109,7 @@ fn joined(before: Leaf, middle: Leaf, after: Leaf) -> Leaf
     }
 }
 
+/// The sum of two leaves.
 fn plus(a: Leaf, b: Leaf) -> Leaf
     requires part { a.num + b.num ≤ a.den + b.den }
     requires few { a.den + b.den ≤ most_events }

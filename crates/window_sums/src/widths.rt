@@ -5,8 +5,10 @@ ghost use Rattle.window_sums.specs.Slices.{slices_a_day, width_of};
 
 use slice_method::Method;
 
+/// The minutes of an hour.
 const MINUTES_AN_HOUR: u32 = 60;
 
+/// The hours of a day.
 const HOURS_A_DAY: u32 = 24;
 
 /// How many minutes a slice of a method has: a divisor of 60.
@@ -22,7 +24,7 @@ pub fn width_of(method: &Method) -> u32
     }
 }
 
-// How many slices a day has.
+/// How many slices a day has.
 pub(crate) fn slices_a_day(method: &Method) -> u32
     requires { width_of method.now ∣ 60 }
     ensures value { result ≡ slices_a_day method.now }
@@ -31,7 +33,7 @@ pub(crate) fn slices_a_day(method: &Method) -> u32
     HOURS_A_DAY * slices_an_hour(method)
 }
 
-// How many slices an hour has.
+/// How many slices an hour has.
 pub(crate) fn slices_an_hour(method: &Method) -> u32
     requires { width_of method.now ∣ 60 }
     ensures value { result ≡ 60 / width_of method.now }

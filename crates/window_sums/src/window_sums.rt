@@ -15,7 +15,7 @@ ghost use Rattle.window_sums.specs.Slices.{new_counts};
 ghost use Rattle.window_sums.specs.Slices.{has_day, leaf_at, no_counts, slice_of, slices_a_day};
 ghost use Rattle.window_sums.specs.Slices.{width_of};
 
-use crate::day::{Day, NOTHING};
+use crate::day::{Day, NO_COUNTS};
 use crate::emptiness;
 use crate::range::sum_slots;
 use crate::widths::{slices_a_day, slices_an_hour, width_of};
@@ -86,7 +86,7 @@ impl WindowSums {
         slices_a_day(&self.method)
     }
 
-    // No work: what is kept of the counts.
+    /// No work: what is kept of the counts.
     fn counted(&self)
         ensures { AreCounted self.now }
     {
@@ -158,18 +158,18 @@ impl WindowSums {
         }
     }
 
-    // The counts of a slice.
+    /// The counts of a slice.
     fn counts(&self, slice: u32) -> Counts
         ensures { result ≡ counts_of self.now slice }
     {
         let slices = slices_a_day(&self.method);
         match self.days.get(&(slice / slices)) {
             Some(day) => day.at((slice % slices) as usize),
-            None => NOTHING,
+            None => NO_COUNTS,
         }
     }
 
-    // Takes away what was counted in a slice.
+    /// Takes away what was counted in a slice.
     fn clear_slice(&mut self, slice: u32)
         requires early { slice * width_of self.old.method ≤ 4294967295 }
         ensures method { self.new.method ≡ self.old.method }
@@ -178,14 +178,14 @@ impl WindowSums {
         ensures days { (day : ℕ) → has_day self.new day ≡ has_day self.old day }
     {
         let counts = self.counts(slice);
-        if counts == NOTHING {
+        if counts == NO_COUNTS {
             return;
         }
         self.counted();
-        self.change(slice * self.width(), counts, NOTHING);
+        self.change(slice * self.width(), counts, NO_COUNTS);
     }
 
-    // Takes away what was counted in those slices of a day that lie from the first up to the end.
+    /// Takes away what was counted in those slices of a day that lie from the first up to the end.
     fn clear_on_day(&mut self, day: u32, first: u32, end: u32)
         requires early { end * width_of self.old.method ≤ 4294967295 }
         requires day { day * slices_a_day self.old.method < end }
@@ -262,8 +262,8 @@ impl WindowSums {
     }
 }
 
-// Takes `before` from the counts at a place of a day that is there, adds `after`, and answers what
-// stands there then.
+/// Takes `before` from the counts at a place of a day that is there, adds `after`, and answers what
+/// stands there then.
 fn exchange_in(
     days: &mut IndexMap<u32, Day>,
     day: u32,

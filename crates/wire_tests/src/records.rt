@@ -2,7 +2,8 @@
 use exact_fraction::Decimal;
 use object_terms::Kind;
 use record_form::{Command, LimitName, Outcome, Refusal, YamlWord, read_record, write_record};
-use sample_book::{Amount, Exclusion, Row};
+use sample_book::{Exclusion, Row};
+use slice_method::Amount;
 use std::test::Fail;
 use yaml_terms::ProfileFault;
 

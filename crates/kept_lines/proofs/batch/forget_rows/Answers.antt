@@ -10,7 +10,7 @@ use Rattle.kept_lines.proofs.ForgetLemmas.{forgetting-begins, forgetting-ends, f
 use Rattle.kept_lines.proofs.ForgetLemmas.{forgetting-passes, touches-one}
 use Rattle.kept_lines.proofs.MovedLemmas.{moved-ends, moved-here, moved-next, moved-passes}
 use Rattle.kept_lines.proofs.MovedLemmas.{none-moved}
-use Rattle.kept_lines.proofs.batch.forget_rows.Goals.{then-moves, else-moves}
+use Rattle.kept_lines.proofs.batch.forget_rows.Goals.{then-changes_counts, else-changes_counts}
 use Rattle.kept_lines.proofs.batch.forget_rows.Goals as goal
 
 pub loop-place-init : goal.loop-place-init
@@ -46,9 +46,9 @@ loop-place-preserved c =
     let all = HasMoved m rows verdicts in
     let so_far = HasMovedBefore m rows verdicts at in
     let by_now = HasMovedBefore m rows verdicts (at + 1) in
-    elim c.if-moves.branch [
-      | then-moves w ↦
-          let is = sym c.moves.ensures ∙ w.if-moves.true in
+    elim c.if-changes_counts.branch [
+      | then-changes_counts w ↦
+          let is = sym c.changes_counts.ensures ∙ w.if-changes_counts.true in
           let more : ℕ → Type 0 = λ slice. slice ≡ row.minute / width in
           let shape = subst (λ (r : AlertRule). IsRun width (reach_of r) w.touch.result) (sym rule)
           w.touch.ensures.run in
@@ -56,7 +56,7 @@ loop-place-preserved c =
           c.loop-place.waiting w.touch.result c.loop-place.line w.touch.new.line
           (λ slice e. e) refl shape w.touch.ensures.has w.touch.ensures.own w.touch.ensures.all
           w.touch.ensures.only in
-          subst (λ waiting. IsForgetting all by_now width waiting before c.if-moves.line)
+          subst (λ waiting. IsForgetting all by_now width waiting before c.if-changes_counts.line)
           (sym w.waiting-is)
           (subst (λ (line : Line). IsForgetting all by_now width (Some w.touch.result) before line)
           (sym w.line-is)
@@ -66,9 +66,9 @@ loop-place-preserved c =
           judged is)
           (λ slice. moved-next m rows verdicts width at row slice c.requires.width here)
           step c.loop-place.invariant))
-      | else-moves w ↦
-          let still = sym c.moves.ensures ∙ w.if-moves.false in
-          subst (λ waiting. IsForgetting all by_now width waiting before c.if-moves.line)
+      | else-changes_counts w ↦
+          let still = sym c.changes_counts.ensures ∙ w.if-changes_counts.false in
+          subst (λ waiting. IsForgetting all by_now width waiting before c.if-changes_counts.line)
           (sym w.waiting-is)
           (subst (λ (line : Line). IsForgetting all by_now width c.loop-place.waiting before line)
           (sym w.line-is)

@@ -1,22 +1,22 @@
 use Rattle.std.proofs.Common.{◌≡◌, ◌++◌, ◌∷◌, [], true, ap, subst, sym, ◌∙◌}
 use Rattle.sample_book.specs.Rows.{current_rows}
 use Rattle.window_sums.specs.Shares.{IsSumOf}
-use Rattle.kept_sums.specs.Replacing.{MayReplace, among, moves}
+use Rattle.kept_sums.specs.Replacing.{MayReplace, among, changes_counts}
 use Rattle.kept_sums.specs.Sums.{HasItsDay, row_counts}
 use Rattle.kept_sums.proofs.FollowLemmas.{all_next, fits_replaced, moved, moved_facts, moves_own}
 use Rattle.kept_sums.proofs.FollowLemmas.{same_days, stayed}
 use Rattle.kept_sums.proofs.batch.follow_row.Goals as goal
 
-pub returns-then-not-moves-clause-kept : goal.returns-then-not-moves-clause-kept
-returns-then-not-moves-clause-kept c = λ came may.
+pub returns-then-not-changes_counts-clause-kept : goal.returns-then-not-changes_counts-clause-kept
+returns-then-not-changes_counts-clause-kept c = λ came may.
     stayed c.args.measure.now c.args.book.now.exclusions c.args.row.now c.args.verdict.now
-    c.args.sums.now came may (sym c.moves.ensures ∙ c.if-not-moves.true)
+    c.args.sums.now came may (sym c.changes_counts.ensures ∙ c.if-not-changes_counts.true)
 
 pub replaced_counts-old-requires : goal.replaced_counts-old-requires
 replaced_counts-old-requires c =
     let k = c.requires.may in
-    let is : moves c.args.measure.now c.args.row.now c.args.verdict.now ≡ true = sym c.moves.ensures
-    ∙ c.if-not-moves.false in
+    let is : changes_counts c.args.measure.now c.args.row.now c.args.verdict.now ≡ true = sym c.changes_counts.ensures
+    ∙ c.if-not-changes_counts.false in
     fits_replaced c.args.measure.now (current_rows k.0) c.args.row.now c.args.verdict.now
     (current_rows (k.0 ++ c.args.row.now ∷ []))
     (moved c.args.measure.now c.args.book.now.exclusions c.args.row.now c.args.verdict.now
@@ -25,13 +25,13 @@ replaced_counts-old-requires c =
 pub exchange-requires-clause-day : goal.exchange-requires-clause-day
 exchange-requires-clause-day c = λ differ.
     c.requires.may.1.day (moves_own c.args.measure.now c.args.row.now c.args.verdict.now
-    (sym c.moves.ensures ∙ c.if-not-moves.false))
+    (sym c.changes_counts.ensures ∙ c.if-not-changes_counts.false))
 
 pub exchange-requires-clause-may : goal.exchange-requires-clause-may
 exchange-requires-clause-may c =
     let k = c.requires.may in
-    let is : moves c.args.measure.now c.args.row.now c.args.verdict.now ≡ true = sym c.moves.ensures
-    ∙ c.if-not-moves.false in
+    let is : changes_counts c.args.measure.now c.args.row.now c.args.verdict.now ≡ true = sym c.changes_counts.ensures
+    ∙ c.if-not-changes_counts.false in
     let facts = moved_facts c.args.measure.now c.args.book.now.exclusions c.args.row.now
     c.args.verdict.now c.args.sums.now k.0 k.1 is in
     let minute = c.args.row.now.minute in (
@@ -48,7 +48,7 @@ pub returns-clause-kept : goal.returns-clause-kept
 returns-clause-kept c = λ came may.
     let m = c.args.measure.now in
     let row = c.args.row.now in
-    let is : moves m row c.args.verdict.now ≡ true = sym c.moves.ensures ∙ c.if-not-moves.false in
+    let is : changes_counts m row c.args.verdict.now ≡ true = sym c.changes_counts.ensures ∙ c.if-not-changes_counts.false in
     let facts = moved_facts m c.args.book.now.exclusions row c.args.verdict.now c.args.sums.now
     came may is in
     record {
@@ -66,4 +66,4 @@ returns-clause-kept c = λ came may.
 
 pub returns-clause-touched : goal.returns-clause-touched
 returns-clause-touched c = λ slice apart.
-    c.exchange.ensures.touched slice (apart (sym c.moves.ensures ∙ c.if-not-moves.false))
+    c.exchange.ensures.touched slice (apart (sym c.changes_counts.ensures ∙ c.if-not-changes_counts.false))

@@ -9,7 +9,7 @@ use Rattle.kept_objectives.proofs.Loops.{written_back}
 use Rattle.kept_objectives.proofs.kept.KeptSums.follow_rows.Goals as goal
 
 -- the sums of the objective at hand may follow the rows
-ready : (c : goal.After-follow_rows-arg-in-loop-kept-1) →
+ready : (c : goal.After-count_batch-arg-in-loop-kept-1) →
     MayFollow c.args.book.now.exclusions c.args.book.now.rows c.args.rows.now
     (slice_index_or c.loop-kept.kept-items c.loop-kept.kept-index c.kept-item.result)
 ready c =
@@ -21,17 +21,17 @@ ready c =
     (omega (arith, c.loop-kept-test.true, c.loop-kept.auto.kept-items))
     c.loop-kept.invariant.followed
 
-pub follow_rows-requires-clause-kept : goal.follow_rows-requires-clause-kept
-follow_rows-requires-clause-kept c = (ready c).kept
+pub count_batch-requires-clause-kept : goal.count_batch-requires-clause-kept
+count_batch-requires-clause-kept c = (ready c).kept
 
-pub follow_rows-requires-clause-forms : goal.follow_rows-requires-clause-forms
-follow_rows-requires-clause-forms c = (ready c).forms
+pub count_batch-requires-clause-forms : goal.count_batch-requires-clause-forms
+count_batch-requires-clause-forms c = (ready c).forms
 
-pub follow_rows-requires-clause-fit : goal.follow_rows-requires-clause-fit
-follow_rows-requires-clause-fit c = (ready c).fit
+pub count_batch-requires-clause-fit : goal.count_batch-requires-clause-fit
+count_batch-requires-clause-fit c = (ready c).fit
 
-pub follow_rows-requires-clause-days : goal.follow_rows-requires-clause-days
-follow_rows-requires-clause-days c = (ready c).days
+pub count_batch-requires-clause-days : goal.count_batch-requires-clause-days
+count_batch-requires-clause-days c = (ready c).days
 
 pub loop-kept-init : goal.loop-kept-init
 loop-kept-init c =
@@ -58,13 +58,13 @@ loop-kept-preserved c =
     omega (arith, c.loop-kept-test.true, c.loop-kept.auto.kept-items) in
     let next : ObjectiveSums = record {
       measure = (slice_index_or items at c.kept-item.result).measure;
-      sums = c.follow_rows.new.sums;
+      sums = c.count_batch.new.sums;
     } in
     record {
       followed = half_step (MayFollow made rows c.args.rows.now)
           (λ (k : ObjectiveSums). IsKept k.measure made (current_rows (rows ++ c.args.rows.now))
           k.sums)
-          at items next less c.loop-kept.invariant.followed c.follow_rows.ensures.kept;
+          at items next less c.loop-kept.invariant.followed c.count_batch.ensures.kept;
       measures = keys_set (λ (k : ObjectiveSums). k.measure) at items next c.kept-item.result refl
           ∙ c.loop-kept.invariant.measures;
     }

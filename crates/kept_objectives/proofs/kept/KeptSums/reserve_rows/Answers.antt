@@ -14,8 +14,8 @@ loop-kept-init c = record {
   measures = refl;
 }
 
-pub returns-in_err-reserve_rows-clause-kept : goal.returns-in_err-reserve_rows-clause-kept
-returns-in_err-reserve_rows-clause-kept c = λ made before known.
+pub returns-in_err-reserve_batch-clause-kept : goal.returns-in_err-reserve_batch-clause-kept
+returns-in_err-reserve_batch-clause-kept c = λ made before known.
     let items = c.loop-kept.kept-items in
     let at = c.loop-kept.kept-index in
     let value = c.deref_mut-kept-items.ensures.value in
@@ -24,7 +24,7 @@ returns-in_err-reserve_rows-clause-kept c = λ made before known.
     omega (arith, c.loop-kept-test.true, c.loop-kept.auto.kept-items) in
     let next : ObjectiveSums = record {
       measure = (slice_index_or items at c.kept-item.result).measure;
-      sums = c.reserve_rows.new.sums;
+      sums = c.reserve_batch.new.sums;
     } in
     let all = c.loop-kept.invariant.kept made before (subst (AreKept made before) same known) in
     subst (AreKept made before)
@@ -32,19 +32,19 @@ returns-in_err-reserve_rows-clause-kept c = λ made before known.
     c.self.inside.objectives.len (c.loop-kept.auto.kept-items ∙ ap length value)
     (ap length (sym value) ∙ c.deref_mut-kept-items.ensures.len)))
     (all_set (λ (k : ObjectiveSums). IsKept k.measure made before k.sums) at items next all
-    (c.reserve_rows.ensures.kept made before
+    (c.reserve_batch.ensures.kept made before
     (all_get (λ (k : ObjectiveSums). IsKept k.measure made before k.sums) at items
     c.kept-item.result less all)))
 
-pub returns-in_err-reserve_rows-clause-measures : goal.returns-in_err-reserve_rows-clause-measures
-returns-in_err-reserve_rows-clause-measures c =
+pub returns-in_err-reserve_batch-clause-measures : goal.returns-in_err-reserve_batch-clause-measures
+returns-in_err-reserve_batch-clause-measures c =
     let items = c.loop-kept.kept-items in
     let at = c.loop-kept.kept-index in
     let value = c.deref_mut-kept-items.ensures.value in
     let same = ap (λ (k : KeptObjectives). k.kept) (sym c.self.view_is) ∙ sym value in
     let next : ObjectiveSums = record {
       measure = (slice_index_or items at c.kept-item.result).measure;
-      sums = c.reserve_rows.new.sums;
+      sums = c.reserve_batch.new.sums;
     } in
     ap measures_of (written_back_at items c.self.inside.objectives.items at next
     c.self.inside.objectives.len (c.loop-kept.auto.kept-items ∙ ap length value)
@@ -60,16 +60,16 @@ loop-kept-preserved c =
     omega (arith, c.loop-kept-test.true, c.loop-kept.auto.kept-items) in
     let next : ObjectiveSums = record {
       measure = (slice_index_or items at c.kept-item.result).measure;
-      sums = c.reserve_rows.new.sums;
+      sums = c.reserve_batch.new.sums;
     } in
     record {
       days = half_step (λ (k : ObjectiveSums). Unit {0})
           (λ (k : ObjectiveSums). AllByRecursion (HasItsDay k.measure k.sums) c.args.rows.now)
-          at items next less c.loop-kept.invariant.days c.in_ok-reserve_rows.ensures.days;
+          at items next less c.loop-kept.invariant.days c.in_ok-reserve_batch.ensures.days;
       kept = λ made before known.
           let all = c.loop-kept.invariant.kept made before known in
           all_set (λ (k : ObjectiveSums). IsKept k.measure made before k.sums) at items next all
-          (c.reserve_rows.ensures.kept made before
+          (c.reserve_batch.ensures.kept made before
           (all_get (λ (k : ObjectiveSums). IsKept k.measure made before k.sums) at items
           c.kept-item.result less all));
       measures = keys_set (λ (k : ObjectiveSums). k.measure) at items next c.kept-item.result refl

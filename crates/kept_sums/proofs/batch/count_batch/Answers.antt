@@ -6,7 +6,7 @@ use Rattle.kept_sums.specs.Sums.{Fits}
 use Rattle.kept_sums.proofs.FollowLemmas.{follow_begins, follow_ends, follow_may, follow_next}
 use Rattle.kept_sums.proofs.FollowLemmas.{verdict_there}
 use Rattle.kept_sums.proofs.ListLemmas.{all_at, get_index}
-use Rattle.kept_sums.proofs.batch.follow_rows.Goals as goal
+use Rattle.kept_sums.proofs.batch.count_batch.Goals as goal
 
 pub loop-place-init : goal.loop-place-init
 loop-place-init c = record {

@@ -1,7 +1,7 @@
 use Rattle.std.proofs.Common.{◌≡◌, ℕ}
 use Rattle.window_sums.specs.Slices.{counts_of}
 use Rattle.kept_sums.specs.Replacing.{HasFollowed, HasMoved}
-use Rattle.kept_sums.proofs.batch.follow_rows.Given as goal
+use Rattle.kept_sums.proofs.batch.count_batch.Given as goal
 
 -- the sums are those of the rows of the book and of the batch so far
 abbrev pub invariant-loop-place : goal.invariant-loop-place

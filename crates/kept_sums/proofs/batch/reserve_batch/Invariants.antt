@@ -3,7 +3,7 @@ use Rattle.std.specs.List.{AllByRecursion}
 use Rattle.sample_book.specs.declared.Exclusion.{Exclusion}
 use Rattle.sample_book.specs.declared.Row.{Row}
 use Rattle.kept_sums.specs.Sums.{HasItsDay, IsKept}
-use Rattle.kept_sums.proofs.batch.reserve_rows.Given as goal
+use Rattle.kept_sums.proofs.batch.reserve_batch.Given as goal
 
 -- the days of the rows so far are there
 abbrev pub invariant-loop-row : goal.invariant-loop-row

@@ -1,6 +1,6 @@
 use Rattle.kept_sums.proofs.DaysLemmas.{days_more}
 use Rattle.kept_sums.proofs.ListLemmas.{get_index}
-use Rattle.kept_sums.proofs.batch.reserve_rows.Goals as goal
+use Rattle.kept_sums.proofs.batch.reserve_batch.Goals as goal
 
 pub returns-in_err-reserve_row-clause-kept : goal.returns-in_err-reserve_row-clause-kept
 returns-in_err-reserve_row-clause-kept c = λ made before known.
