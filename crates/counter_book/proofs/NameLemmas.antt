@@ -13,7 +13,7 @@ use Rattle.counter_book.specs.declared.reading.Moment.{Moment}
 use Rattle.counter_book.specs.declared.reading.Moves.{Moves}
 use Rattle.counter_book.specs.declared.reading.NextMove.{NextMove}
 use Rattle.counter_book.specs.declared.reading.Rise.{Rise}
-use Rattle.counter_book.specs.declared.limits.TheConstants.{MAX_PUTS}
+use Rattle.slo_limits.specs.declared.TheConstants.{MAX_PUTS}
 use Rattle.counter_book.specs.declared.reading.Standing.{Standing}
 use Rattle.counter_book.specs.declared.reading.Standing.TheVariants.{Fresh, Newer, Repeated}
 use Rattle.counter_book.specs.declared.reading.Standing.TheVariants.{Superseded, Conflict}

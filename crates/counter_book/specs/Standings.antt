@@ -1,7 +1,7 @@
 -- How a reading stands to what is kept at its moment, and whether it has room.
 use Rattle.std.specs.Prelude.{ℕ, Bool, true, false, ◌&&◌, ◌||◌, ◌==◌, nat_lt, nat_le, length}
 use Rattle.std.specs.Prelude.{Option, Some, None, if◌then◌else◌}
-use Rattle.counter_book.specs.declared.limits.TheConstants.{MAX_PUTS, MAX_READINGS}
+use Rattle.slo_limits.specs.declared.TheConstants.{MAX_PUTS, MAX_READINGS}
 use Rattle.counter_book.specs.declared.reading.Count.{Count}
 use Rattle.counter_book.specs.declared.reading.CounterReading.{CounterReading}
 use Rattle.counter_book.specs.declared.reading.Kept.{Kept}

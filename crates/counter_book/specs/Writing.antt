@@ -1,8 +1,7 @@
 -- Inside: how what a reading moves is written, and told.
 use Rattle.std.specs.Prelude.{◌≡◌, ℕ, ◌+◌, ◌≤◌, Bool, false, ◌&&◌, ◌==◌, List, length, ⊤}
 use Rattle.std.specs.Prelude.{Option, Some, None, IfSome}
-use Rattle.slo_limits.specs.declared.TheConstants.{MAX_AMOUNT}
-use Rattle.counter_book.specs.declared.limits.TheConstants.{MAX_PUTS}
+use Rattle.slo_limits.specs.declared.TheConstants.{MAX_AMOUNT, MAX_PUTS}
 use Rattle.counter_book.specs.declared.reading.Changes.{Changes}
 use Rattle.counter_book.specs.declared.reading.CounterReading.{CounterReading}
 use Rattle.counter_book.specs.declared.reading.Difference.{Difference}

@@ -7,12 +7,11 @@ ghost use Rattle.counter_book.specs.Neighbours.{AreNear};
 ghost use Rattle.counter_book.specs.Standings.{is_full_at, standing_of};
 
 use crate::difference::moves;
-use crate::limits::{MAX_PUTS, MAX_READINGS};
 use crate::reading::{
     CounterFault, CounterReading, Kept, Moment, Moves, Neighbours, Rise, Standing,
 };
 use name_numbers::NameTable;
-use slo_limits::MAX_AMOUNT;
+use slo_limits::{MAX_AMOUNT, MAX_PUTS, MAX_READINGS};
 use std::collections::BTreeMap;
 
 // How a reading stands to what is kept at its moment.

@@ -7,7 +7,6 @@ mod book;
 mod difference;
 mod judging;
 mod laws;
-mod limits;
 mod neighbours;
 mod reading;
 mod writing;
@@ -16,7 +15,6 @@ pub use book::CounterBook;
 pub use laws::{
     a_front_gives_a_front, a_reading_gives_at_most_two, what_was_given_is_the_differences,
 };
-pub use limits::{MAX_COUNTER, MAX_PUTS, MAX_READINGS};
 pub use reading::{
     Changes, Count, CounterFault, CounterReading, Difference, Kept, Moment, Moves, Neighbours,
     NextMove, Rise, Standing, Tail,

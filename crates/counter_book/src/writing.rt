@@ -9,11 +9,11 @@ ghost use Rattle.counter_book.specs.Writing.{AreNarrow, IsWritten, changes_of, g
 ghost use Rattle.counter_book.specs.Writing.{next_kept_of, own_kept_of};
 ghost use Rattle.name_numbers.specs.Names.{named_with};
 
-use crate::limits::MAX_PUTS;
 use crate::reading::{
     Changes, CounterReading, Difference, Kept, Moment, Moves, NextMove, Rise, count_of_reading,
 };
 use name_numbers::NameTable;
+use slo_limits::MAX_PUTS;
 use std::alloc::AllocError;
 use std::collections::BTreeMap;
 

@@ -4,7 +4,7 @@ ghost use Rattle.sample_book.specs.declared.Exclusion.{Exclusion};
 ghost use Rattle.sample_book.specs.declared.Row.{Row};
 ghost use Rattle.sample_book.specs.Puts.{verdicts as verdicts_def};
 ghost use Rattle.sample_book.specs.Rows.{current_rows};
-ghost use Rattle.slo_limits.specs.declared.TheConstants.{MAX_ACCEPTED_ROWS};
+ghost use Rattle.slo_limits.specs.declared.TheConstants.{MAX_SUMMED_ROWS};
 ghost use Rattle.kept_sums.specs.Walks.{made_on};
 ghost use Rattle.kept_objectives.specs.Objectives.{AreKept, HaveDays, HaveForms, measures_of};
 
@@ -40,7 +40,7 @@ impl KeptSums {
         requires forms { HaveForms book.now.rows self.old.kept }
         requires fit { HaveForms rows.now self.old.kept }
         requires days { HaveDays rows.now self.old.kept }
-        requires few { length book.now.rows + length rows.now ≤ MAX_ACCEPTED_ROWS }
+        requires few { length (current_rows (book.now.rows ++ rows.now)) ≤ MAX_SUMMED_ROWS }
         ensures kept { AreKept book.now.exclusions (current_rows (book.now.rows ++ rows.now))
             self.new.kept }
         ensures measures { measures_of self.new.kept ≡ measures_of self.old.kept }
@@ -57,7 +57,7 @@ impl KeptSums {
         requires kept { AreKept (made_on book.now.exclusions value.now (not taken)) book.now.rows
             self.old.kept }
         requires forms { HaveForms book.now.rows self.old.kept }
-        requires few { length book.now.rows ≤ MAX_ACCEPTED_ROWS }
+        requires few { length book.now.rows ≤ MAX_SUMMED_ROWS }
         ensures kept { AreKept (made_on book.now.exclusions value.now taken) book.now.rows
             self.new.kept }
         ensures measures { measures_of self.new.kept ≡ measures_of self.old.kept }

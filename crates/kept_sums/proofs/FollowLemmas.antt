@@ -1,7 +1,8 @@
 -- Sums that follow a row that comes.
 use Rattle.std.proofs.Common.{◌≡◌, ◌≢◌, ℕ, suc, ◌+◌, ◌≤◌, ◌<◌, ◌&&◌, Bool, true, false, cond, refl}
 use Rattle.std.proofs.Common.{ap, sym, subst, ◌∙◌, arith, List, [], ◌∷◌, ◌++◌, take, length}
-use Rattle.std.proofs.Common.{append_assoc, slice_get, Some, IsTrue, if◌then◌else◌}
+use Rattle.std.proofs.Common.{append_assoc, drop, slice_get, take-append-drop, Some, IsTrue}
+use Rattle.std.proofs.Common.{if◌then◌else◌}
 use Rattle.std.specs.List.{AllByRecursion}
 use Rattle.std.specs.Str.{bytes_eq}
 use Rattle.std.proofs.lemmas.List.{append-nil}
@@ -17,7 +18,7 @@ use Rattle.sample_book.specs.History.{is_put}
 use Rattle.sample_book.specs.Puts.{IsPutInto, behind, in_place, is_new}
 use Rattle.sample_book.specs.Rows.{MayPutAs, cell_of, current_rows, same_cell, verdict_of}
 use Rattle.sample_book.specs.Puts.{verdicts}
-use Rattle.sample_book.proofs.BatchLemmas.{length-current, verdicts-at}
+use Rattle.sample_book.proofs.BatchLemmas.{length-verdicts, verdicts-at}
 use Rattle.sample_book.proofs.CameLemmas.{pass-current, put-current}
 use Rattle.slo_terms.proofs.CurrentLemmas.{current-distinct}
 use Rattle.sample_book.proofs.PutLemmas.{put_placed}
@@ -60,27 +61,18 @@ pub record PutFacts (m : Measure) (made : List (Exclusion × Bool)) (row : Row)
   pub put : shares_by (row_counts m made) rows' ≡ among before row.minute
       (row_counts m made row) after
 
-length_last : (rows : List Row) (row : Row) → length (rows ++ row ∷ []) ≡ length rows + 1
-length_last [] row = refl
-length_last (r ∷ rows) row = omega (arith, length_last rows row)
-
-few_behind : (f : Row → Counts) (rows : List Row) (row : Row) (s : Share) → length rows < 4000000
-    → length (shares_by f rows ++ s ∷ []) ≤ 4000000
-few_behind f rows row s few = omega (
-  arith,
-  length_around f f rows row s [],
-  length_last rows row,
-  few,
-)
+few_behind : (f : Row → Counts) (rows : List Row) (row : Row) (s : Share)
+    → length (rows ++ row ∷ []) ≤ 4000000 → length (shares_by f rows ++ s ∷ []) ≤ 4000000
+few_behind f rows row s few = omega (arith, length_around f f rows row s [], few)
 
 few_among : (f : Row → Counts) (xs : List Row) (x : Row) (ys : List Row) (s : Share)
-    → length (xs ++ x ∷ ys) < 4000000 → length (shares_by f xs ++ s ∷ shares_by f ys) ≤ 4000000
+    → length (xs ++ x ∷ ys) ≤ 4000000 → length (shares_by f xs ++ s ∷ shares_by f ys) ≤ 4000000
 few_among f xs x ys s few = omega (arith, length_around f f xs x s ys, few)
 
 pub put_facts : (m : Measure) (made : List (Exclusion × Bool)) (rows : List Row) (row : Row)
     (verdict : RowVerdict) (rows' : List Row) (sums : CountedDays) →
     IsPutInto rows row verdict rows' → IsSumOf sums (shares_by (row_counts m made) rows) →
-    AllByRecursion (Fits m) rows → Fits m row → length rows < 4000000 →
+    AllByRecursion (Fits m) rows → Fits m row → length rows' ≤ 4000000 →
     PutFacts m made row verdict rows' sums
 put_facts m made _ _ _ _ sums (behind rows row) counted forms fits few =
     let f = row_counts m made in
@@ -120,12 +112,12 @@ put_facts m made _ _ _ _ sums (in_place before after kept row same) counted form
         small = record {
           each = all_put IsSmall (shares_by f before) (share_by f kept) _ (shares_by f after) each
               (record { part = own.part; few = own.few });
-          few = few_among f before kept after _ few;
+          few = few_among f before row after _ few;
         };
         small_then = record {
           each = all_put IsSmall (shares_by f before) (share_by f kept) (share_by f row)
               (shares_by f after) each (small_row m made row fits);
-          few = few_among f before kept after _ few;
+          few = few_among f before row after _ few;
         };
       };
       put = shares_around f before row after;
@@ -167,15 +159,10 @@ all_next P came row h p = by (is_put (verdict_of (current_rows came) row)) refl
         (current_rows (came ++ row ∷ [])) (standing came row e) h p
     by false e = subst (AllByRecursion P) (sym (pass-current came row e)) h
 
--- one row more is one cell more at most
-pub few_next : (came : List Row) (row : Row)
-    → length (current_rows (came ++ row ∷ [])) ≤ length (current_rows came) + 1
-few_next came row = by (is_new (verdict_of (current_rows came) row)) (length-current came row)
-  where
-    by : (b : Bool) → length (current_rows (came ++ row ∷ [])) ≡ length (current_rows came)
-        + cond b 1 0 → length (current_rows (came ++ row ∷ [])) ≤ length (current_rows came) + 1
-    by true e = omega (arith, e)
-    by false e = omega (arith, e)
+-- rows that come later take no cell away
+pub fewer_before : (came more : List Row)
+    → length (current_rows came) ≤ length (current_rows (came ++ more))
+fewer_before came more = omega (arith, length-verdicts came more)
 
 -- sums with the same days
 pub same_days : (m : Measure) (rows : List Row) (old new : CountedDays)
@@ -251,6 +238,23 @@ pub next_came : (came rows : List Row) (place : ℕ) (row : Row) → slice_get r
 next_came came rows place row at = append_assoc came (take place rows) (row ∷ [])
     ∙ ap (λ l. came ++ l) (sym (take_at rows place row at))
 
+-- the rows up to one of a batch have no more cells than all of them
+few_until : (before rows : List Row) (at : ℕ) (row : Row) → slice_get rows at ≡ Some row →
+    length (current_rows (before ++ rows)) ≤ 4000000 →
+    length (current_rows ((before ++ take at rows) ++ row ∷ [])) ≤ 4000000
+few_until before rows at row here few =
+    let came = (before ++ take at rows) ++ row ∷ [] in
+    let all : came ++ drop (suc at) rows ≡ before ++ rows =
+    ap (λ l. l ++ drop (suc at) rows) (next_came before rows at row here)
+    ∙ append_assoc before (take (suc at) rows) (drop (suc at) rows)
+    ∙ ap (λ l. before ++ l) (take-append-drop (suc at) rows) in
+    omega (
+      arith,
+      fewer_before came (drop (suc at) rows),
+      ap (λ l. length (current_rows l)) all,
+      few,
+    )
+
 -- the rows of a book are the current ones of themselves, and none of the batch came yet
 pub follow_begins : (m : Measure) (made : List (Exclusion × Bool)) (before rows : List Row)
     (sums : CountedDays) → current_rows before ≡ before → IsKept m made before sums →
@@ -262,12 +266,8 @@ follow_begins m made before rows sums current kept forms =
     record {
       kept = subst (λ l. IsKept m made l sums) (sym same) kept;
       forms = subst (AllByRecursion (Fits m)) (sym same) forms;
-      few = subst (λ l. length l ≤ length before + 0) (sym same) (plain (length before));
       days = λ day. refl;
     }
-  where
-    plain : (n : ℕ) → n ≤ n + 0
-    plain n = omega arith
 
 -- the next row of the batch may be followed
 pub follow_may : (m : Measure) (made : List (Exclusion × Bool)) (before rows : List Row) (at : ℕ)
@@ -275,7 +275,7 @@ pub follow_may : (m : Measure) (made : List (Exclusion × Bool)) (before rows : 
     HasFollowed m made before rows at old sums → slice_get rows at ≡ Some row →
     slice_get (verdicts before rows) at ≡ Some verdict →
     AllByRecursion (Fits m) rows → AllByRecursion (HasItsDay m old) rows →
-    length before + length rows ≤ 4000000 →
+    length (current_rows (before ++ rows)) ≤ 4000000 →
     MayFollow m made row verdict sums (before ++ take at rows)
 follow_may m made before rows at row verdict old sums so here judged fit days few = record {
   kept = so.kept;
@@ -283,7 +283,7 @@ follow_may m made before rows at row verdict old sums so here judged fit days fe
   forms = so.forms;
   fits = all_at (Fits m) rows at row here fit;
   day = all_at (HasItsDay m sums) rows at row here (same_days m rows old sums so.days days);
-  few = omega (arith, so.few, place_within rows at row here, few);
+  few = few_until before rows at row here few;
 }
   where
     same : slice_get (verdicts before rows) at
@@ -308,16 +308,11 @@ follow_next m made before rows at row old sums new so here fits kept days =
           subst (λ l. IsKept m made (current_rows l) new) (next_came before rows at row here) kept;
       forms = subst (λ l. AllByRecursion (Fits m) (current_rows l))
           (next_came before rows at row here) (all_next (Fits m) came row so.forms fits);
-      few = subst (λ l. length (current_rows l) ≤ length before + suc at)
-          (next_came before rows at row here) (more (few_next came row) so.few);
       days = λ day. days day ∙ so.days day;
     })
   where
     one : (n : ℕ) → suc n ≡ n + 1
     one n = omega arith
-
-    more : {a b : ℕ} → a ≤ b + 1 → b ≤ length before + at → a ≤ length before + suc at
-    more le few = omega (arith, le, few)
 
 -- all rows of the batch were followed
 pub follow_ends : (m : Measure) (made : List (Exclusion × Bool)) (before rows : List Row) (at : ℕ)

@@ -1,8 +1,8 @@
 -- One row's share put in the place of another of its minute.
-use Rattle.std.specs.Prelude.{◌≡◌, ℕ, ◌+◌, ◌<◌, ◌≤◌, Bool, ◌&&◌, List, ◌∷◌, ◌++◌, length, take}
+use Rattle.std.specs.Prelude.{◌≡◌, ℕ, ◌+◌, ◌≤◌, Bool, ◌&&◌, List, [], ◌∷◌, ◌++◌, length, take}
 use Rattle.std.specs.Prelude.{Some, slice_get, true}
 use Rattle.std.specs.List.{AllByRecursion}
-use Rattle.slo_limits.specs.declared.TheConstants.{MAX_ACCEPTED_ROWS}
+use Rattle.slo_limits.specs.declared.TheConstants.{MAX_SUMMED_ROWS}
 use Rattle.slice_method.specs.declared.Counts.{Counts}
 use Rattle.sample_book.specs.declared.Exclusion.{Exclusion}
 use Rattle.sample_book.specs.declared.Row.{Row}
@@ -49,14 +49,13 @@ pub record MayFollow (m : Measure) (made : List (Exclusion × Bool)) (row : Row)
   pub forms : AllByRecursion (Fits m) (current_rows came)
   pub fits : Fits m row
   pub day : HasItsDay m sums row
-  pub few : length (current_rows came) < MAX_ACCEPTED_ROWS
+  pub few : length (current_rows (came ++ row ∷ [])) ≤ MAX_SUMMED_ROWS
 
 -- the sums have followed so many rows of a batch
 pub record HasFollowed (m : Measure) (made : List (Exclusion × Bool)) (before rows : List Row)
     (at : ℕ) (old sums : CountedDays) : Type 0 where
   pub kept : IsKept m made (current_rows (before ++ take at rows)) sums
   pub forms : AllByRecursion (Fits m) (current_rows (before ++ take at rows))
-  pub few : length (current_rows (before ++ take at rows)) ≤ length before + at
   pub days : (day : ℕ) → has_day sums day ≡ has_day old day
 
 -- a row of a batch that moves lies in a slice

@@ -2,7 +2,7 @@
 ghost use Rattle.std.specs.Prelude.{◌≡◌, ◌≤◌, IfOk, length};
 ghost use Rattle.std.specs.Int.{◌∣◌};
 ghost use Rattle.std.specs.List.{AllByRecursion};
-ghost use Rattle.slo_limits.specs.declared.TheConstants.{MAX_ACCEPTED_ROWS};
+ghost use Rattle.slo_limits.specs.declared.TheConstants.{MAX_SUMMED_ROWS};
 ghost use Rattle.window_sums.specs.Slices.{width_of};
 ghost use Rattle.kept_sums.specs.Sums.{Fits, IsKept};
 
@@ -25,7 +25,7 @@ pub fn sums_over(
 ) -> Result<WindowSums, AllocError>
     requires width { width_of measure.now.method ∣ 60 }
     requires forms { AllByRecursion (Fits measure.now) book.now.rows }
-    requires few { length book.now.rows ≤ MAX_ACCEPTED_ROWS }
+    requires few { length book.now.rows ≤ MAX_SUMMED_ROWS }
     ensures { IfOk result (IsKept measure.now book.now.exclusions book.now.rows) }
 {
     let mut sums = WindowSums::new(alloc, measure.method);

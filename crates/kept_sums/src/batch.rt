@@ -3,7 +3,7 @@ ghost use Rattle.std.specs.Prelude.{true, ◌≡◌, ◌≢◌, ◌+◌, ◌≤�
 ghost use Rattle.std.specs.Prelude.{IsTrue, OnOk};
 ghost use Rattle.std.specs.Prelude.{length};
 ghost use Rattle.std.specs.List.{AllByRecursion};
-ghost use Rattle.slo_limits.specs.declared.TheConstants.{MAX_ACCEPTED_ROWS};
+ghost use Rattle.slo_limits.specs.declared.TheConstants.{MAX_SUMMED_ROWS};
 ghost use Rattle.sample_book.specs.declared.Exclusion.{Exclusion};
 ghost use Rattle.sample_book.specs.declared.Row.{Row};
 ghost use Rattle.sample_book.specs.Puts.{verdicts as verdicts_def};
@@ -60,7 +60,7 @@ pub fn count_batch(
     requires forms { AllByRecursion (Fits measure.now) book.now.rows }
     requires fit { AllByRecursion (Fits measure.now) rows.now }
     requires days { AllByRecursion (HasItsDay measure.now sums.old) rows.now }
-    requires few { length book.now.rows + length rows.now ≤ MAX_ACCEPTED_ROWS }
+    requires few { length (current_rows (book.now.rows ++ rows.now)) ≤ MAX_SUMMED_ROWS }
     ensures kept { IsKept measure.now book.now.exclusions (current_rows (book.now.rows ++ rows.now))
         sums.new }
     ensures days { (day : ℕ) → has_day sums.new day ≡ has_day sums.old day }

@@ -3,7 +3,7 @@ ghost use Rattle.std.specs.Prelude.{◌≡◌, ◌/◌, ◌≤◌, ◌<◌, ◌&
 ghost use Rattle.std.specs.Prelude.{nat_le, nat_lt, true, false};
 ghost use Rattle.std.specs.List.{AllByRecursion};
 ghost use Rattle.std.specs.Str.{bytes_eq};
-ghost use Rattle.slo_limits.specs.declared.TheConstants.{MAX_ACCEPTED_ROWS};
+ghost use Rattle.slo_limits.specs.declared.TheConstants.{MAX_SUMMED_ROWS};
 ghost use Rattle.sample_book.specs.Counting.{is_of};
 ghost use Rattle.window_sums.specs.Shares.{IsSumOf, Share};
 ghost use Rattle.window_sums.specs.Slices.{counts_of, day_of, has_day};
@@ -79,7 +79,7 @@ fn follow_between(
         (shares_by (followed measure.now book.now.exclusions value.now taken from) book.now.rows) }
     requires days { AllByRecursion (HasItsDay measure.now sums.old) book.now.rows }
     requires forms { AllByRecursion (Fits measure.now) book.now.rows }
-    requires few { length book.now.rows ≤ MAX_ACCEPTED_ROWS }
+    requires few { length book.now.rows ≤ MAX_SUMMED_ROWS }
     ensures counted { IsSumOf sums.new
         (shares_by (followed measure.now book.now.exclusions value.now taken to) book.now.rows) }
     ensures method { sums.new.method ≡ sums.old.method }
@@ -103,7 +103,7 @@ fn follow_lifting(sums: &mut WindowSums, measure: &Measure, book: &SampleBook, v
         (followed measure.now book.now.exclusions value.now false value.now.from) book.now.rows) }
     requires days { AllByRecursion (HasItsDay measure.now sums.old) book.now.rows }
     requires forms { AllByRecursion (Fits measure.now) book.now.rows }
-    requires few { length book.now.rows ≤ MAX_ACCEPTED_ROWS }
+    requires few { length book.now.rows ≤ MAX_SUMMED_ROWS }
     ensures counted { IsSumOf sums.new (shares_by
         (followed measure.now book.now.exclusions value.now false value.now.to) book.now.rows) }
     ensures method { sums.new.method ≡ sums.old.method }
@@ -129,7 +129,7 @@ fn follow_taking(sums: &mut WindowSums, measure: &Measure, book: &SampleBook, va
         (followed measure.now book.now.exclusions value.now true value.now.from) book.now.rows) }
     requires days { AllByRecursion (HasItsDay measure.now sums.old) book.now.rows }
     requires forms { AllByRecursion (Fits measure.now) book.now.rows }
-    requires few { length book.now.rows ≤ MAX_ACCEPTED_ROWS }
+    requires few { length book.now.rows ≤ MAX_SUMMED_ROWS }
     ensures counted { IsSumOf sums.new (shares_by
         (followed measure.now book.now.exclusions value.now true value.now.to) book.now.rows) }
     ensures method { sums.new.method ≡ sums.old.method }
@@ -162,7 +162,7 @@ pub fn follow_exclusion(
     requires kept { IsKept measure.now (made_on book.now.exclusions value.now (not taken))
         book.now.rows sums.old }
     requires forms { AllByRecursion (Fits measure.now) book.now.rows }
-    requires few { length book.now.rows ≤ MAX_ACCEPTED_ROWS }
+    requires few { length book.now.rows ≤ MAX_SUMMED_ROWS }
     ensures kept { IsKept measure.now (made_on book.now.exclusions value.now taken)
         book.now.rows sums.new }
     ensures days { (day : ℕ) → has_day sums.new day ≡ has_day sums.old day }

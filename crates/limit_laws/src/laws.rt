@@ -4,7 +4,11 @@ ghost use Rattle.message_heads.specs.declared.reading.TheConstants.{MAX_MESSAGE_
 ghost use Rattle.slo_limits.specs.declared.TheConstants.{MAX_ACCEPTED_ROWS, MAX_AMOUNT};
 ghost use Rattle.slo_limits.specs.declared.TheConstants.{MAX_BATCH_ROWS, MAX_BINDINGS};
 ghost use Rattle.slo_limits.specs.declared.TheConstants.{MAX_BODY_BYTES, MAX_CATALOG_BYTES};
-ghost use Rattle.slo_limits.specs.declared.TheConstants.{MAX_CELLS, MAX_DAYS, MAX_DECIMAL};
+ghost use Rattle.slo_limits.specs.declared.TheConstants.{MAX_CELLS, MAX_COUNTER, MAX_DAYS};
+ghost use Rattle.slo_limits.specs.declared.TheConstants.{MAX_DECIMAL, MAX_FEEDS_BYTES};
+ghost use Rattle.slo_limits.specs.declared.TheConstants.{MAX_FEED_BYTES, MAX_PUTS, MAX_READINGS};
+ghost use Rattle.slo_limits.specs.declared.TheConstants.{MAX_SUMMED_ROWS, MAX_UPGRADED_CELLS};
+ghost use Rattle.slo_limits.specs.declared.TheConstants.{MAX_UPGRADED_ROWS};
 ghost use Rattle.slo_limits.specs.declared.TheConstants.{MAX_ENTRIES, MAX_EXCLUSIONS};
 ghost use Rattle.slo_limits.specs.declared.TheConstants.{MAX_HEADER_FIELDS, MAX_HEAD_BYTES};
 ghost use Rattle.slo_limits.specs.declared.TheConstants.{MAX_JOURNAL_BYTES, MAX_LABEL_BYTES};
@@ -59,23 +63,37 @@ pub fn limits_of_documents()
 {}
 
 /// The numbers of samples and of what follows from them: the most rows of a batch, cells, rows
-/// that a history takes, days, exclusions, notices that wait, and notices of one answer.
+/// that a history takes, rows that are added up, cells and rows once it was upgraded, days,
+/// exclusions, notices that wait, and notices of one answer.
 pub fn limits_of_samples()
     ensures batch { MAX_BATCH_ROWS ≡ 1000 }
     ensures cells { MAX_CELLS ≡ 2000000 }
     ensures accepted { MAX_ACCEPTED_ROWS ≡ 4000000 }
+    ensures summed { MAX_SUMMED_ROWS ≡ 4000000 }
+    ensures upgraded_cells { MAX_UPGRADED_CELLS ≡ 4000000 }
+    ensures upgraded_rows { MAX_UPGRADED_ROWS ≡ 8000000 }
     ensures days { MAX_DAYS ≡ 80000 }
     ensures exclusions { MAX_EXCLUSIONS ≡ 2000 }
     ensures notices { MAX_NOTICES ≡ 100000 }
     ensures notices_in_answer { MAX_NOTICES_IN_ANSWER ≡ 1000 }
 {}
 
-/// The numbers of a history and its file: the most entries, and the most bytes of a record and of
-/// a journal.
+/// The numbers of counters: the most readings, readings that were new or newer, and the most that
+/// a counter stands at.
+pub fn limits_of_counters()
+    ensures readings { MAX_READINGS ≡ 2000000 }
+    ensures puts { MAX_PUTS ≡ 1000000000 }
+    ensures counter { MAX_COUNTER ≡ 1000000000000000000 }
+{}
+
+/// The numbers of a history and its file: the most entries, and the most bytes of a record, of a
+/// journal, of a feed and of the feeds that are read at once.
 pub fn limits_of_histories()
     ensures entries { MAX_ENTRIES ≡ 30000000 }
     ensures record_bytes { MAX_RECORD_BYTES ≡ 1100000 }
     ensures journal { MAX_JOURNAL_BYTES ≡ 268435456 }
+    ensures feed { MAX_FEED_BYTES ≡ 1048576 }
+    ensures feeds { MAX_FEEDS_BYTES ≡ 536870912 }
 {}
 
 /// The numbers of messages and sessions: the most bytes of a head, a body and a whole message,

@@ -2,7 +2,7 @@
 ghost use Rattle.std.specs.Prelude.{◌/◌, take, ℕ, List, ◌||◌, ◌≡◌, ◌≢◌, ◌+◌, ◌*◌, ◌^◌, ◌<◌, ◌≤◌};
 ghost use Rattle.std.specs.Prelude.{◌++◌, ◌∷◌, [], true, false, Some, None, OnOk, OnErr, IfOk};
 ghost use Rattle.std.specs.Prelude.{length, slice_get};
-ghost use Rattle.slo_limits.specs.declared.TheConstants.{MAX_ACCEPTED_ROWS, MAX_AMOUNT};
+ghost use Rattle.slo_limits.specs.declared.TheConstants.{MAX_AMOUNT, MAX_SUMMED_ROWS};
 ghost use Rattle.slo_limits.specs.declared.TheConstants.{MINUTES_A_DAY};
 ghost use Rattle.sample_book.specs.Book.{Book};
 ghost use Rattle.std.specs.List.{AllByRecursion};
@@ -36,7 +36,6 @@ pub struct SampleBook {
 }
 
 impl Model for SampleBook {
-    ghost use Rattle.slo_limits.specs.declared.TheConstants.{MAX_ACCEPTED_ROWS};
     ghost use Rattle.sample_book.specs.Book.{Book};
     ghost use Rattle.sample_book.specs.LastRows.{IsInOrder};
 
@@ -285,7 +284,7 @@ impl SampleBook {
         minute: u32,
     ) -> Counts
         requires form { HaveForm reading self.now.rows sli minute }
-        requires few { length self.now.rows ≤ MAX_ACCEPTED_ROWS }
+        requires few { length self.now.rows ≤ MAX_SUMMED_ROWS }
         ensures counts { result ≡ counts_of_minute reading op value self.now.rows sli minute }
         ensures part { result.good ≤ result.total }
         ensures few { AllByRecursion IsSmallRow self.now.rows
@@ -306,7 +305,7 @@ impl SampleBook {
         minute: u32,
     ) -> Counts
         requires form { HaveForm reading self.now.rows sli minute }
-        requires few { length self.now.rows ≤ MAX_ACCEPTED_ROWS }
+        requires few { length self.now.rows ≤ MAX_SUMMED_ROWS }
         ensures counts { result ≡ counted_in_minute reading op value self.now.exclusions
             self.now.rows slo sli minute }
         ensures part { result.good ≤ result.total }

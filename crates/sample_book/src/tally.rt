@@ -1,6 +1,6 @@
 // What the current rows of an indicator count for.
 ghost use Rattle.std.specs.Prelude.{◌≡◌, ◌^◌, ◌<◌, ◌≤◌, [], ◌∷◌, true, length, map};
-ghost use Rattle.slo_limits.specs.declared.TheConstants.{MAX_ACCEPTED_ROWS};
+ghost use Rattle.slo_limits.specs.declared.TheConstants.{MAX_SUMMED_ROWS};
 ghost use Rattle.slice_method.specs.Readings.{HasForm};
 ghost use Rattle.cell_index.specs.Chains.{IsIndexed};
 ghost use Rattle.sample_book.specs.Counting.{HaveForm, counts_of_minute, first_of, is_of};
@@ -36,7 +36,7 @@ pub(crate) fn counts_at(
 ) -> Counts
     requires indexed { IsIndexed (map cell_of rows.now.rows) index.now }
     requires form { HaveForm reading rows.now.rows sli minute }
-    requires few { length rows.now.rows ≤ MAX_ACCEPTED_ROWS }
+    requires few { length rows.now.rows ≤ MAX_SUMMED_ROWS }
     ensures counts { result ≡ counts_of_minute reading op value rows.now.rows sli minute }
     ensures part { result.good ≤ result.total }
 {

@@ -14,6 +14,7 @@ use Rattle.sample_book.specs.Rows.{current_rows, room_for, same_cell}
 use Rattle.sample_book.specs.History.{MayComeAll}
 use Rattle.sample_book.specs.Puts.{verdicts}
 use Rattle.slo_terms.proofs.CurrentLemmas.{current-push, settle}
+use Rattle.sample_book.proofs.BatchLemmas.{current-append}
 use Rattle.sample_book.proofs.RoomLemmas.{room-enough}
 use Rattle.sample_book.proofs.StandingLemmas.{cell_laws}
 use Rattle.object_terms.specs.declared.Object.{Object}
@@ -98,6 +99,18 @@ samples_few d o m rows tally becomes n =
       taken = omega (arith, samples_taken d o m rows tally becomes n, keeps.taken);
       entries = omega (arith, n.reflects.entries, keeps.room);
     }
+
+-- so few current rows are there then
+pub samples_summed : (d : Derived) (o : Office) (m : ℕ) (rows : List Row) (tally : BatchTally)
+    (becomes : Vec RowVerdict) → IsNext d o m (works.Samples rows tally becomes) →
+    length (current_rows (d.book.rows ++ rows)) ≤ most.MAX_SUMMED_ROWS
+samples_summed d o m rows tally becomes n =
+    omega (
+      arith,
+      ap (λ (kept : List Row). length (current_rows (kept ++ rows))) n.reflects.rows,
+      ap length (current-append (rows_in o.history) rows),
+      (batch_keeps d o m rows tally becomes n).cells,
+    )
 
 -- the room that was made is enough
 pub may_come : (d : Derived) (o : Office) (rows : List Row) → Reflects d o

@@ -25,8 +25,8 @@ pub const MAX_AMOUNT: u32 = 1_000_000_000;
 /// room for 31 years.
 pub const MAX_REVISION: u32 = 1_000_000_000;
 
-/// The most events of a sum: what as many rows as the office takes come to at the greatest amount.
-/// Burn rates and remaining budgets of such a sum fit 128 bits.
+/// The most events of a sum: what `MAX_SUMMED_ROWS` rows come to at the greatest amount. Burn rates
+/// and remaining budgets of such a sum fit 128 bits.
 pub const MAX_SUM: u64 = 4_000_000_000_000_000;
 
 /// The greatest threshold of an alert, 10,000, in billionths: a burn rate above it leaves no budget
@@ -104,6 +104,15 @@ pub const MAX_CELLS: u32 = 2_000_000;
 /// The most rows that a history takes, corrections among them.
 pub const MAX_ACCEPTED_ROWS: u32 = 4_000_000;
 
+/// The most current rows that are added up: no office has more cells, one that was upgraded neither.
+pub const MAX_SUMMED_ROWS: u32 = 4_000_000;
+
+/// The most cells that have a row in an office that was upgraded.
+pub const MAX_UPGRADED_CELLS: u32 = 4_000_000;
+
+/// The most rows that a history takes once it was upgraded, corrections among them.
+pub const MAX_UPGRADED_ROWS: u32 = 8_000_000;
+
 /// The most pairs of an objective and a day that has a row of its SLI: each is a page of sums.
 pub const MAX_DAYS: u32 = 80_000;
 
@@ -117,6 +126,17 @@ pub const MAX_NOTICES: u32 = 100_000;
 /// next are told.
 pub const MAX_NOTICES_IN_ANSWER: usize = 1_000;
 
+// Counters
+
+/// The most minutes of sources that have a reading: as many as there may be samples.
+pub const MAX_READINGS: usize = 2_000_000;
+
+/// The most readings that were new or newer: so no difference's revision passes that of a sample.
+pub const MAX_PUTS: u32 = 1_000_000_000;
+
+/// The most that a counter stands at. Ten times as much, and a digit, still fits 64 bits.
+pub const MAX_COUNTER: u64 = 1_000_000_000_000_000_000;
+
 // The history and its file
 
 /// The most entries of a history: more than the journal has room for, so that a position fits 32
@@ -128,6 +148,16 @@ pub const MAX_RECORD_BYTES: usize = 1_100_000;
 
 /// The most bytes of a journal, which is kept in memory too.
 pub const MAX_JOURNAL_BYTES: usize = 268_435_456;
+
+// Feeds: the history, read by another office
+
+/// The most bytes of a feed, but for one whose first record alone has more: as many as the body of
+/// a message.
+pub const MAX_FEED_BYTES: usize = 1_048_576;
+
+/// The most bytes of feeds that are read at once: twice those of a journal, since each record stands
+/// in its feed with what is around it.
+pub const MAX_FEEDS_BYTES: usize = 536_870_912;
 
 // Messages
 

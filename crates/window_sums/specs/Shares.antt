@@ -1,7 +1,7 @@
 -- Slices whose counts are the sums of what rows count for.
 use Rattle.std.specs.Prelude.{ℕ, ◌≤◌, ◌≡◌, List, length}
 use Rattle.std.specs.List.{AllByRecursion}
-use Rattle.slo_limits.specs.declared.TheConstants.{MAX_ACCEPTED_ROWS, MAX_AMOUNT}
+use Rattle.slo_limits.specs.declared.TheConstants.{MAX_AMOUNT, MAX_SUMMED_ROWS}
 use Rattle.slice_method.specs.declared.amount.Counts.{Counts}
 use Rattle.slice_method.specs.declared.method.Method.{Method}
 use Rattle.slo_terms.specs.Sums.{amount_at}
@@ -30,7 +30,7 @@ pub record IsSmall (share : Share) : Type 0 where
   pub part : share.counts.good ≤ share.counts.total
   pub few : share.counts.total ≤ MAX_AMOUNT
 
--- shares of at most as many rows as an office accepts
+-- shares of at most as many rows as are added up
 pub record AreSmall (shares : List Share) : Type 0 where
   pub each : AllByRecursion IsSmall shares
-  pub few : length shares ≤ MAX_ACCEPTED_ROWS
+  pub few : length shares ≤ MAX_SUMMED_ROWS

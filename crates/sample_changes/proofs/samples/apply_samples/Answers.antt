@@ -1,4 +1,5 @@
-use Rattle.std.proofs.Common.{◌+◌, ◌++◌, refl, sym, subst, arith, List, map}
+use Rattle.std.proofs.Common.{◌+◌, ◌≤◌, ◌++◌, refl, sym, subst, arith, length, List, map}
+use Rattle.slo_limits.specs.declared.TheConstants.{MAX_SUMMED_ROWS}
 use Rattle.std.proofs.lemmas.List.{append-nil}
 use Rattle.sample_book.specs.declared.Row.{Row}
 use Rattle.sample_book.specs.History.{Came, Holds, MayComeAll}
@@ -11,7 +12,7 @@ use Rattle.office_derived.specs.Derived.{Reflects, entry_of}
 use Rattle.office_derived.proofs.FormLemmas.{sound_forms}
 use Rattle.office_derived.proofs.Still.{reflects_still}
 use Rattle.sample_changes.proofs.Following.{batch_fits, batch_followed}
-use Rattle.sample_changes.proofs.Kept.{may_come, samples_few, samples_sound, samples_taken}
+use Rattle.sample_changes.proofs.Kept.{may_come, samples_few, samples_sound, samples_summed, samples_taken}
 use Rattle.sample_changes.proofs.samples.apply_samples.Goals as goal
 
 pub follow_rows-requires-clause-forms : goal.follow_rows-requires-clause-forms
@@ -23,6 +24,14 @@ follow_rows-requires-clause-fit c =
     subst (λ (rows : List Row). HaveForms rows d.sums.kept) (sym c.as_slice-batch.ensures)
     (batch_fits d c.requires.next.0 c.args.moment c.args.rows c.args.tally c.args.verdicts
     c.requires.sound c.requires.next.1)
+
+pub follow_rows-requires-clause-few : goal.follow_rows-requires-clause-few
+follow_rows-requires-clause-few c =
+    let d = c.args.derived.now in
+    subst (λ (rows : List Row). length (current_rows (d.book.rows ++ rows)) ≤ MAX_SUMMED_ROWS)
+    (sym c.as_slice-batch.ensures)
+    (samples_summed d c.requires.next.0 c.args.moment c.args.rows c.args.tally c.args.verdicts
+    c.requires.next.1)
 
 pub put_rows-requires : goal.put_rows-requires
 put_rows-requires c =
