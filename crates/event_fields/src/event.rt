@@ -1,6 +1,7 @@
 //! The event that a record stands for.
 ghost use Rattle.std.specs.Prelude.{◌≡◌, ◌≤◌, IfOk, IfSome};
-ghost use Rattle.event_fields.specs.Events.{IsCounted, counts_of, event_of, fields_event, minute_of};
+ghost use Rattle.event_fields.specs.Events.{IsCounted, counts_of, event_of, fields_event};
+ghost use Rattle.event_fields.specs.Events.{minute_of};
 ghost use Rattle.event_fields.specs.Events.{revision_of, words_of_event};
 ghost use Rattle.event_fields.specs.declared.field_number.TheConstants.{MAX_NUMBER};
 

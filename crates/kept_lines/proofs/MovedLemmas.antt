@@ -72,7 +72,8 @@ moved-passes m rows verdicts at row verdict slice here judged still is =
 pub moved-here : (m : Measure) (rows : List Row) (verdicts : List RowVerdict) (width at : ℕ)
     (row : Row) (verdict : RowVerdict) (slice : ℕ) → width ≡ width_of m.method →
     slice_get rows at ≡ Some row → slice_get verdicts at ≡ Some verdict →
-    changes_counts m row verdict ≡ true → slice ≡ row.minute / width → HasMoved m rows verdicts slice
+    changes_counts m row verdict ≡ true → slice ≡ row.minute / width
+    → HasMoved m rows verdicts slice
 moved-here m rows verdicts width at row verdict slice widths here judged is lies = record {
   place = at;
   row = row;

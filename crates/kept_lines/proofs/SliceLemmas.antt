@@ -117,7 +117,8 @@ put-same m made _ _ _ _ k (in_place before after kept row same) free =
 
 -- a row that comes leaves a slice as it is in which it doesn't move
 came-same : (m : Measure) (made : List (Exclusion × Bool)) (came : List Row) (row : Row) (k : ℕ) →
-    (changes_counts m row (verdict_of (current_rows came) row) ≡ true → slice_of m.method row.minute ≢ k) →
+    (changes_counts m row (verdict_of (current_rows came) row) ≡ true
+    → slice_of m.method row.minute ≢ k) →
     by-shares m made (current_rows came) k ≡ by-shares m made (current_rows (came ++ row ∷ [])) k
 came-same m made came row k free = by (is_put (verdict_of (current_rows came) row)) refl
   where

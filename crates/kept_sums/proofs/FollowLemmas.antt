@@ -180,7 +180,8 @@ put_part : (a b : Bool) → (a && b) ≡ true → b ≡ true
 put_part true b e = e
 put_part false b e = cc e
 
-pub moves_own : (m : Measure) (row : Row) (verdict : RowVerdict) → changes_counts m row verdict ≡ true
+pub moves_own : (m : Measure) (row : Row) (verdict : RowVerdict)
+    → changes_counts m row verdict ≡ true
     → is_of m.sli row ≡ true
 moves_own m row verdict = own_part (is_of m.sli row) (is_put verdict)
 

@@ -9,7 +9,8 @@ ghost use Rattle.sample_book.specs.declared.Row.{Row};
 ghost use Rattle.sample_book.specs.Puts.{verdicts as verdicts_def};
 ghost use Rattle.sample_book.specs.Rows.{current_rows};
 ghost use Rattle.window_sums.specs.Slices.{counts_of, has_day, slice_of};
-ghost use Rattle.kept_sums.specs.Replacing.{HasMoved, MayFollow, changes_counts as changes_counts_def};
+ghost use Rattle.kept_sums.specs.Replacing.{HasMoved, MayFollow};
+ghost use Rattle.kept_sums.specs.Replacing.{changes_counts as changes_counts_def};
 ghost use Rattle.kept_sums.specs.Sums.{Fits, HasItsDay, IsKept};
 
 use crate::counting::{changes_counts, replaced_counts, row_counts};
@@ -19,8 +20,8 @@ use sample_book::{Row, RowVerdict, SampleBook};
 use std::alloc::AllocError;
 use window_sums::WindowSums;
 
-/// The sums follow a row that comes over those that came: the row whose place it takes doesn't count
-/// any more, and it counts.
+/// The sums follow a row that comes over those that came: the row whose place it takes doesn't
+/// count any more, and it counts.
 fn follow_row(
     sums: &mut WindowSums,
     measure: &Measure,

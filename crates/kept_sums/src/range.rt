@@ -119,8 +119,9 @@ fn follow_lifting(sums: &mut WindowSums, measure: &Measure, book: &SampleBook, v
     }
 }
 
-/// Nothing counts any more in the range of an exclusion that is made. A slice that lies wholly in it
-/// has no counts then, so that its rows aren't looked at; those of a slice that the range cuts are.
+/// Nothing counts any more in the range of an exclusion that is made. A slice that lies wholly in
+/// it has no counts then, so that its rows aren't looked at; those of a slice that the range cuts
+/// are.
 fn follow_taking(sums: &mut WindowSums, measure: &Measure, book: &SampleBook, value: &Exclusion)
     requires some { value.now.from < value.now.to }
     requires own { bytes_eq value.now.slo measure.now.slo ≡ true }

@@ -1,6 +1,8 @@
 -- What the index of the rows' cells tells of the rows.
-use Rattle.std.proofs.Common.{◌≡◌, ◌∙◌, ◌/◌, ◌==◌, ◌||◌, ℕ, zero, suc, Bool, true, false, cond, refl, ap, sym}
-use Rattle.std.proofs.Common.{arith, List, [], ◌∷◌, map, filter, take, slice_get, Option, Some, None}
+use Rattle.std.proofs.Common.{◌≡◌, ◌∙◌, ◌/◌, ◌==◌, ◌||◌, ℕ, zero, suc, Bool, true, false, cond}
+use Rattle.std.proofs.Common.{refl, ap, sym}
+use Rattle.std.proofs.Common.{arith, List, [], ◌∷◌, map, filter, take, slice_get, Option, Some}
+use Rattle.std.proofs.Common.{None}
 use Rattle.std.specs.List.{find, list_any, position}
 use Rattle.std.specs.Option.{option_map}
 use Rattle.slo_terms.specs.Rows.{first_of_each}
@@ -29,7 +31,8 @@ before-of sli place rows =
     ap (last (is_cell_of sli)) (sym (map-take cell_of place rows)) ∙ last-of sli (take place rows)
 
 pub before-on : (sli : List ℕ) (day place : ℕ) (rows : List Row) →
-    last (is_cell_on sli day) (take place (map cell_of rows)) ≡ last (is_on sli day) (take place rows)
+    last (is_cell_on sli day) (take place (map cell_of rows))
+    ≡ last (is_on sli day) (take place rows)
 before-on sli day place rows =
     ap (last (is_cell_on sli day)) (sym (map-take cell_of place rows))
     ∙ last-on sli day (take place rows)

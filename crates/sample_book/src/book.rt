@@ -48,7 +48,8 @@ impl Model for SampleBook {
       spare = a.exclusions.spare;
     } };
 
-    // The index is of the cells of the rows, and each cell with room can get its row in it without memory.
+    // The index is of the cells of the rows, and each cell with room can get its row in it without
+    // memory.
     ghost invariant = { λ a. IsInOrder a.rows.rows a.rows.room a.index };
 }
 

@@ -25,7 +25,7 @@ ghost use Rattle.sample_changes.specs.Works.{ComesTo};
 use crate::faults::{batch_fault, limit};
 use crate::tally::tally_of;
 use objective_days::passes_days_limit;
-use office_derived::{Derived, Judged, BatchTally, Work, accepted};
+use office_derived::{BatchTally, Derived, Judged, Work, accepted};
 use office_history::Judgement;
 use record_form::{LimitName, Outcome, Refusal, Rows};
 use sample_book::{Row, RowVerdict, SampleBook};
@@ -206,7 +206,8 @@ pub fn judge_samples(alloc: Global, derived: &Derived, moment: u32, rows: &Rows)
 
 /// Takes all memory that samples need. After an error nothing changes but the room.
 pub fn room_for_samples(derived: &mut Derived, rows: &Rows) -> Result<(), AllocError>
-    ensures room { (tally : BatchTally) (becomes : Vec RowVerdict) → OnOk result (HasRoom derived.new
+    ensures room { (tally : BatchTally) (becomes : Vec RowVerdict)
+        → OnOk result (HasRoom derived.new
         (works.Samples rows.now tally becomes)) }
     ensures stays { Stays derived.old derived.new }
 {

@@ -104,7 +104,8 @@ pub const MAX_CELLS: u32 = 2_000_000;
 /// The most rows that a history takes, corrections among them.
 pub const MAX_ACCEPTED_ROWS: u32 = 4_000_000;
 
-/// The most current rows that are added up: no office has more cells, one that was upgraded neither.
+/// The most current rows that are added up: no office has more cells, one that was upgraded
+/// neither.
 pub const MAX_SUMMED_ROWS: u32 = 4_000_000;
 
 /// The most cells that have a row in an office that was upgraded.
@@ -155,8 +156,8 @@ pub const MAX_JOURNAL_BYTES: usize = 268_435_456;
 /// a message.
 pub const MAX_FEED_BYTES: usize = 1_048_576;
 
-/// The most bytes of feeds that are read at once: twice those of a journal, since each record stands
-/// in its feed with what is around it.
+/// The most bytes of feeds that are read at once: twice those of a journal, since each record
+/// stands in its feed with what is around it.
 pub const MAX_FEEDS_BYTES: usize = 536_870_912;
 
 // Messages

@@ -15,7 +15,8 @@ returns-then-not-changes_counts-clause-kept c = λ came may.
 pub replaced_counts-old-requires : goal.replaced_counts-old-requires
 replaced_counts-old-requires c =
     let k = c.requires.may in
-    let is : changes_counts c.args.measure.now c.args.row.now c.args.verdict.now ≡ true = sym c.changes_counts.ensures
+    let is : changes_counts c.args.measure.now c.args.row.now c.args.verdict.now ≡ true =
+    sym c.changes_counts.ensures
     ∙ c.if-not-changes_counts.false in
     fits_replaced c.args.measure.now (current_rows k.0) c.args.row.now c.args.verdict.now
     (current_rows (k.0 ++ c.args.row.now ∷ []))
@@ -30,7 +31,8 @@ exchange-requires-clause-day c = λ differ.
 pub exchange-requires-clause-may : goal.exchange-requires-clause-may
 exchange-requires-clause-may c =
     let k = c.requires.may in
-    let is : changes_counts c.args.measure.now c.args.row.now c.args.verdict.now ≡ true = sym c.changes_counts.ensures
+    let is : changes_counts c.args.measure.now c.args.row.now c.args.verdict.now ≡ true =
+    sym c.changes_counts.ensures
     ∙ c.if-not-changes_counts.false in
     let facts = moved_facts c.args.measure.now c.args.book.now.exclusions c.args.row.now
     c.args.verdict.now c.args.sums.now k.0 k.1 is in
@@ -48,7 +50,8 @@ pub returns-clause-kept : goal.returns-clause-kept
 returns-clause-kept c = λ came may.
     let m = c.args.measure.now in
     let row = c.args.row.now in
-    let is : changes_counts m row c.args.verdict.now ≡ true = sym c.changes_counts.ensures ∙ c.if-not-changes_counts.false in
+    let is : changes_counts m row c.args.verdict.now ≡ true =
+    sym c.changes_counts.ensures ∙ c.if-not-changes_counts.false in
     let facts = moved_facts m c.args.book.now.exclusions row c.args.verdict.now c.args.sums.now
     came may is in
     record {
@@ -66,4 +69,5 @@ returns-clause-kept c = λ came may.
 
 pub returns-clause-touched : goal.returns-clause-touched
 returns-clause-touched c = λ slice apart.
-    c.exchange.ensures.touched slice (apart (sym c.changes_counts.ensures ∙ c.if-not-changes_counts.false))
+    c.exchange.ensures.touched slice
+    (apart (sym c.changes_counts.ensures ∙ c.if-not-changes_counts.false))

@@ -12,7 +12,8 @@ use Rattle.office_derived.specs.Derived.{Reflects, entry_of}
 use Rattle.office_derived.proofs.FormLemmas.{sound_forms}
 use Rattle.office_derived.proofs.Still.{reflects_still}
 use Rattle.sample_changes.proofs.Following.{batch_fits, batch_followed}
-use Rattle.sample_changes.proofs.Kept.{may_come, samples_few, samples_sound, samples_summed, samples_taken}
+use Rattle.sample_changes.proofs.Kept.{may_come, samples_few, samples_sound, samples_summed}
+use Rattle.sample_changes.proofs.Kept.{samples_taken}
 use Rattle.sample_changes.proofs.samples.apply_samples.Goals as goal
 
 pub follow_rows-requires-clause-forms : goal.follow_rows-requires-clause-forms

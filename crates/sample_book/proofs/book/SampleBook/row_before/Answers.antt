@@ -1,4 +1,5 @@
-use Rattle.std.proofs.Common.{map, arith, ◌∙◌, ◌<◌, ◌≡◌, Some, ap, subst, sym, take, length, slice_get}
+use Rattle.std.proofs.Common.{map, arith, ◌∙◌, ◌<◌, ◌≡◌, Some, ap, subst, sym, take, length}
+use Rattle.std.proofs.Common.{slice_get}
 use Rattle.std.proofs.lemmas.List.{length-map}
 use Rattle.cell_index.proofs.ChainLemmas.{slice_get-map}
 use Rattle.sample_book.proofs.IndexLemmas.{before-of}
