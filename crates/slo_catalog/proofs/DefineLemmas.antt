@@ -8,7 +8,7 @@ use Rattle.catalog_terms.specs.declared.fault.DefineError.{DefineError}
 use Rattle.catalog_terms.specs.Keys.{IsSorted}
 use Rattle.catalog_terms.specs.Catalog.{Change, Defined, IsCatalog, with_members}
 use Rattle.catalog_terms.specs.References.{first_unresolved, IsLegal}
-use Rattle.slo_catalog.specs.Whole.{IsJoined, IsWhole}
+use Rattle.slo_catalog.specs.Whole.{IsJoined, CatalogIsWhole}
 use Rattle.catalog_terms.specs.NeedsOp.{first_needing_op}
 use Rattle.catalog_terms.specs.Limits.{first_limit}
 use Rattle.catalog_terms.specs.Define.{unless, reserved_fault, duplicate_fault, unresolved_fault}
@@ -81,9 +81,9 @@ joined_by old objects members r h e s legal =
 
 -- what a call gave that looked for limits
 pub within_by : (members after : List Object) (r : Result (List Object) DefineError)
-    → Defines r (within_limits members) → r ≡ Ok after → IsJoined members → IsWhole after
+    → Defines r (within_limits members) → r ≡ Ok after → IsJoined members → CatalogIsWhole after
 within_by members after r h e joined =
     let told : within_limits members ≡ Ok after =
     subst (λ x. Defines x (within_limits members)) e h in
     let n = not_refused faults.Limit (first_limit members) (Ok members) after told in
-    subst IsWhole (ap (ok_of members) n.1) (record { joined = joined; within = n.0 })
+    subst CatalogIsWhole (ap (ok_of members) n.1) (record { joined = joined; within = n.0 })

@@ -8,7 +8,7 @@ use Rattle.catalog_terms.specs.declared.fault.RemoveError.{RemoveError}
 use Rattle.catalog_terms.specs.Keys.{member_of}
 use Rattle.catalog_terms.specs.Catalog.{Change, Removed, IsCatalog, without}
 use Rattle.catalog_terms.specs.References.{first_referrer}
-use Rattle.slo_catalog.specs.Whole.{IsWhole}
+use Rattle.slo_catalog.specs.Whole.{CatalogIsWhole}
 use Rattle.catalog_terms.specs.Remove.{unless_used, where_found, remaining_members, Removes}
 use Rattle.slo_catalog.proofs.LegalLemmas.{legal_removed}
 use Rattle.slo_catalog.proofs.WholeLemmas.{ops_without, limits_without}
@@ -46,10 +46,10 @@ history_of old kind name (Ok members) h changes c =
     (sym (left_by old members kind name h).1) (removed_kept changes old kind name c)
 
 pub whole_of : (old members : List Object) (kind : Kind) (name : List ℕ)
-    → remaining_members old kind name ≡ Ok members → IsWhole old → IsWhole members
+    → remaining_members old kind name ≡ Ok members → CatalogIsWhole old → CatalogIsWhole members
 whole_of old members kind name h whole =
     let l = left_by old members kind name h in
-    subst IsWhole (sym l.1) (record {
+    subst CatalogIsWhole (sym l.1) (record {
       joined = record {
         legal = legal_removed kind name old whole.joined.legal l.0;
         ops = ops_without old kind name whole.joined.ops;
@@ -61,7 +61,7 @@ whole_of old members kind name h whole =
 pub whole_by : (old members : List Object) (kind : Kind) (name : List ℕ)
     (r : Result (List Object) RemoveError) → Removes r (remaining_members old kind name)
     → r ≡ Ok members
-    → IsWhole old → IsWhole members
+    → CatalogIsWhole old → CatalogIsWhole members
 whole_by old members kind name r h e whole =
     whole_of old members kind name
     (subst (λ x. Removes x (remaining_members old kind name)) e h) whole

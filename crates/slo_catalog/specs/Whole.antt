@@ -17,6 +17,6 @@ pub record IsJoined (members : List Object) : Type 0 where
   pub ops : HaveOps members
 
 -- That, and no limit is passed.
-pub record IsWhole (members : List Object) : Type 0 where
+pub record CatalogIsWhole (members : List Object) : Type 0 where
   pub joined : IsJoined members
   pub within : first_limit members ≡ None

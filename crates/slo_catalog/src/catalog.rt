@@ -5,7 +5,7 @@ ghost use Rattle.std.specs.Option.{option_copied};
 ghost use Rattle.object_terms.specs.Document.{IsOfDocument};
 ghost use Rattle.catalog_terms.specs.Keys.{IsSorted, member_of};
 ghost use Rattle.catalog_terms.specs.References.{IsLegal};
-ghost use Rattle.slo_catalog.specs.Whole.{IsWhole};
+ghost use Rattle.slo_catalog.specs.Whole.{CatalogIsWhole};
 
 use crate::member::Member;
 use crate::members::Members;
@@ -27,7 +27,7 @@ impl Model for Catalog {
     ghost use Rattle.std.specs.Coded.{coded_list};
     ghost use Rattle.object_terms.specs.declared.object.Object.{Object};
     ghost use Rattle.object_terms.specs.contracts.object.Object.{the_row};
-    ghost use Rattle.slo_catalog.specs.Whole.{IsWhole};
+    ghost use Rattle.slo_catalog.specs.Whole.{CatalogIsWhole};
 
     ghost Value = { List Object };
 
@@ -35,7 +35,7 @@ impl Model for Catalog {
 
     ghost view = { λ c. c.members };
 
-    ghost invariant = { λ c. IsWhole c.members };
+    ghost invariant = { λ c. CatalogIsWhole c.members };
 }
 
 impl Catalog {
@@ -50,7 +50,7 @@ impl Catalog {
 
     /// The catalog of these members, of which all holds that holds of a catalog.
     pub(crate) fn of(members: Members) -> Catalog
-        requires { IsWhole members }
+        requires { CatalogIsWhole members }
         ensures { result ≡ members }
     {
         Catalog { members }
@@ -61,7 +61,7 @@ impl Catalog {
         ensures all { result.now ≡ self.now }
         ensures sorted { IsSorted self.now }
         ensures legal { IsLegal self.now }
-        ensures whole { IsWhole self.now }
+        ensures whole { CatalogIsWhole self.now }
     {
         // Members are known to be sorted by the list that they give.
         let _ = self.members.as_slice();
@@ -71,7 +71,7 @@ impl Catalog {
     /// What holds of each catalog: its references are resolved, objectives over values have `op`
     /// and `value`, and no limit is passed.
     pub fn is_whole(&self)
-        ensures { IsWhole self.now }
+        ensures { CatalogIsWhole self.now }
     {
         // What holds of the type is known where a field is used.
         let _ = &self.members;

@@ -24,7 +24,11 @@ fn text_of(alloc: Global, member: &Member) -> Result<Vec<u8>, AllocError>
 
 /// Whether two members have the same content. They are written only where they weigh the same.
 #[tactic(auto, using(crate::proofs::FindLemmas::other_weight))]
-pub(crate) fn is_same(alloc: Global, one: &Member, other: &Member) -> Result<bool, AllocError>
+pub(crate) fn is_same_member(
+    alloc: Global,
+    one: &Member,
+    other: &Member,
+) -> Result<bool, AllocError>
     ensures { IfOk result (λ same. same ≡ is_same_def one.now other.now) }
 {
     if one.weight() != other.weight() {
@@ -43,7 +47,7 @@ fn is_other(alloc: Global, earlier: &Members, member: &Member) -> Result<bool, A
 {
     let object = member.object();
     match earlier.find(object.kind, object.name) {
-        Some(first) => Ok(!is_same(alloc, first, member)?),
+        Some(first) => Ok(!is_same_member(alloc, first, member)?),
         None => Ok(false),
     }
 }

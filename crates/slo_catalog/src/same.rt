@@ -3,7 +3,7 @@ ghost use Rattle.std.specs.Prelude.{◌≡◌, IfOk};
 ghost use Rattle.catalog_terms.specs.Keys.{member_of};
 ghost use Rattle.catalog_terms.specs.Define.{is_alike as is_alike_def, is_unchanged};
 
-use crate::duplicate::is_same;
+use crate::duplicate::is_same_member;
 use crate::member::Member;
 use crate::members::Members;
 use std::alloc::{AllocError, Global};
@@ -15,7 +15,7 @@ fn is_alike(alloc: Global, old: &Members, member: &Member) -> Result<bool, Alloc
 {
     let object = member.object();
     match old.find(object.kind, object.name) {
-        Some(kept) => is_same(alloc, kept, member),
+        Some(kept) => is_same_member(alloc, kept, member),
         None => Ok(false),
     }
 }
