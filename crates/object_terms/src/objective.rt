@@ -1,6 +1,5 @@
 //! The objectives of SLOs.
 ghost use Rattle.std.specs.Prelude.{◌≡◌, ◌<◌, ◌≤◌, [], ◌∷◌, ◌++◌, length, OnOk, OnErr};
-ghost use Rattle.object_terms.specs.Slo.{slo, objectives};
 ghost use Rattle.slo_limits.specs.declared.TheConstants.{MAX_OBJECTIVES};
 
 use crate::ranges::{SliceTarget, SliceWidth, Target};

@@ -1,7 +1,6 @@
 //! Fixed words.
 ghost use Rattle.std.specs.Prelude.{◌≡◌};
 ghost use Rattle.std.specs.Str.{bytes_eq};
-ghost use Rattle.yaml_terms.specs.Spelling.{word};
 
 /// Whether the text is that word.
 pub fn is_word(text: &[u8], word: &str) -> bool
