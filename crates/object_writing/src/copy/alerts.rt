@@ -1,6 +1,5 @@
 //! Copies of alert conditions and policies.
 ghost use Rattle.std.specs.Prelude.{◌≡◌, IfOk};
-ghost use Rattle.object_terms.specs.AlertCondition.{condition};
 
 use crate::copy::parts::{copy_optional_names, copy_optional_text, copy_text};
 use object_terms::{AlertCondition, AlertPolicy, Condition};

@@ -1,6 +1,5 @@
 //! Copies of services, data sources and targets of notifications.
 ghost use Rattle.std.specs.Prelude.{◌≡◌, IfOk};
-ghost use Rattle.object_terms.specs.Service.{service};
 
 use crate::copy::parts::{copy_optional_part, copy_optional_text, copy_text};
 use object_terms::{AlertNotificationTarget, DataSource, Service};

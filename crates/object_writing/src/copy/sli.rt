@@ -1,6 +1,5 @@
 //! Copies of indicators.
 ghost use Rattle.std.specs.Prelude.{◌≡◌, IfOk};
-ghost use Rattle.object_terms.specs.Sli.{source, sli};
 
 use crate::copy::parts::{copy_optional_part, copy_optional_text};
 use object_terms::{Events, Metric, MetricSource, Ratio, RatioMetric, Sli};

@@ -1,6 +1,5 @@
 //! Copies of SLOs.
 ghost use Rattle.std.specs.Prelude.{◌≡◌, IfOk};
-ghost use Rattle.object_terms.specs.Slo.{slo, objectives};
 
 use crate::copy::parts::{copy_optional_names, copy_optional_text};
 use object_terms::{Calendar, Objective, Objectives, Slo, TimeWindow};
