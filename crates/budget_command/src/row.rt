@@ -1,7 +1,7 @@
 //! The rows of `budget`: the good and total events of one source's minute.
-ghost use Rattle.std.specs.Prelude.{◌≡◌};
+ghost use Rattle.std.specs.Prelude.{◌≡◌, ◌≤◌};
 ghost use Rattle.slo_limits.specs.declared.TheConstants.{MAX_AMOUNT};
-ghost use Rattle.event_fields.specs.Events.{IsCounted as IsCountedEvent};
+ghost use Rattle.event_fields.specs.Events.{AreCounted};
 ghost use Rattle.budget_command.specs.Records.{BUDGET, IsCounted, good_of, row_of, total_of};
 
 use event_fields::Event;
@@ -16,10 +16,18 @@ pub fn indicator() -> Label
     read_label(b"budget").unwrap()
 }
 
+/// A number of events, as a row keeps it.
+fn events_kept(number: u64) -> u32
+    requires { number ≤ MAX_AMOUNT }
+    ensures { result ≡ number }
+{
+    number as u32
+}
+
 /// The row of an event. The indicator is handed in, so that it isn't read anew for each row.
 pub(crate) fn row_of(sli: Label, event: &Event) -> Row
     requires indicator { sli ≡ BUDGET }
-    requires counted { IsCountedEvent MAX_AMOUNT event.now }
+    requires counted { AreCounted MAX_AMOUNT event.now.good event.now.total }
     ensures row { result ≡ row_of event.now }
     ensures counted { IsCounted result }
 {
@@ -29,8 +37,8 @@ pub(crate) fn row_of(sli: Label, event: &Event) -> Row
         minute: event.minute,
         revision: event.revision,
         amount: Amount::Counts {
-            part: event.good as u32,
-            total: event.total as u32,
+            part: events_kept(event.good),
+            total: events_kept(event.total),
         },
     }
 }

@@ -153,7 +153,8 @@ group_laws = record {
 -- a group's test of a cell
 pub day-test : (sli : List ℕ) (day : ℕ) (cell : Cell)
     → group_eq (record { name = sli; day = day }) (day_group cell) ≡ is_cell_on sli day cell
-day-test sli day cell = rw (nat_list_eq_equiv.symm sli cell.sli, eq-symm day (cell.minute / 1440)) refl
+day-test sli day cell =
+    rw (nat_list_eq_equiv.symm sli cell.sli, eq-symm day (cell.minute / 1440)) refl
 
 pub sli-test : (sli : List ℕ) (cell : Cell)
     → group_eq (record { name = sli; day = 0 }) (sli_group cell) ≡ is_cell_of sli cell

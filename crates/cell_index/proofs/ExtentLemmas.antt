@@ -13,7 +13,7 @@ use Rattle.std.proofs.lemmas.List.{append-nil, map-append}
 use Rattle.std.proofs.lemmas.List.Elements.{filter-append}
 use Rattle.std.proofs.lemmas.Slice.Eq.{bytes_eq-Decides}
 use Rattle.indexmap.specs.IndexMap.{get}
-use Rattle.slo_terms.specs.Cells.{first_of_each}
+use Rattle.slo_terms.specs.Rows.{first_of_each}
 use Rattle.cell_index.specs.Chains.{day_group, last, later}
 use Rattle.cell_index.specs.Cells.{is_cell_on}
 use Rattle.cell_index.specs.Cells.{days_with_cells, is_cell_of}
@@ -111,7 +111,8 @@ length-days (cell ∷ cells) sli = by (is_cell_of sli cell) (length-days cells s
   where
     by : (b : Bool) → length (days cells sli) ≤ length cells
         → length (map (λ (cell : Cell). cell.minute / 1440)
-        (cond b (cell ∷ filter (is_cell_of sli) cells) (filter (is_cell_of sli) cells))) ≤ suc (length cells)
+        (cond b (cell ∷ filter (is_cell_of sli) cells) (filter (is_cell_of sli) cells))) ≤ suc
+        (length cells)
     by true h = omega (arith, h)
     by false h = omega (arith, h)
 
@@ -120,7 +121,8 @@ any-days : (sli : List ℕ) (day : ℕ) (cells : List Cell)
 any-days sli day [] = refl
 any-days sli day (cell ∷ cells) = by (is_cell_of sli cell) (any-days sli day cells)
   where
-    by : (b : Bool) → list_any (λ y. y == day) (days cells sli) ≡ list_any (is_cell_on sli day) cells →
+    by : (b : Bool)
+        → list_any (λ y. y == day) (days cells sli) ≡ list_any (is_cell_on sli day) cells →
         list_any (λ y. y == day) (map (λ (cell : Cell). cell.minute / 1440)
         (cond b (cell ∷ filter (is_cell_of sli) cells) (filter (is_cell_of sli) cells)))
         ≡ ((b && nat_eq (cell.minute / 1440) day) || list_any (is_cell_on sli day) cells)
@@ -145,7 +147,8 @@ days-push : (cells : List Cell) (cell : Cell) (sli : List ℕ) (n : ℕ) →
 days-push cells cell sli n is =
     ap (λ own. length (first_of_each same_day (map (λ (cell : Cell). cell.minute / 1440) own)))
     (filter-append (is_cell_of sli) cells (cell ∷ []))
-    ∙ ap (λ own. length (first_of_each same_day own)) (map-append (λ (cell : Cell). cell.minute / 1440)
+    ∙ ap (λ own. length (first_of_each same_day own))
+    (map-append (λ (cell : Cell). cell.minute / 1440)
     (filter (is_cell_of sli) cells) (filter (is_cell_of sli) (cell ∷ [])))
     ∙ by (is_cell_of sli cell)
   where
@@ -153,7 +156,8 @@ days-push cells cell sli n is =
     day = cell.minute / 1440
 
     by : (b : Bool) → length (first_of_each
-        same_day (days cells sli ++ map (λ (cell : Cell). cell.minute / 1440) (cond b (cell ∷ []) [])))
+        same_day (days cells sli ++ map (λ (cell : Cell). cell.minute / 1440)
+        (cond b (cell ∷ []) [])))
         ≡ cond b (cond (nat_lt 0 (last (is_cell_on sli day) cells)) n (suc n)) n
     by true =
         firsts-push (days cells sli) day
@@ -161,7 +165,8 @@ days-push cells cell sli n is =
         b (length (days_with_cells cells sli)) (suc (length (days_with_cells cells sli))))
         (any-days sli day cells ∙ any-is_last (is_cell_on sli day) cells)
         ∙ ap (λ m. cond (nat_lt 0 (last (is_cell_on sli day) cells)) m (suc m)) (sym is)
-    by false = ap (λ own. length (first_of_each same_day own)) (append-nil (days cells sli)) ∙ sym is
+    by false = ap (λ own. length (first_of_each same_day own)) (append-nil (days cells sli))
+        ∙ sym is
 
 -- the first place in a list, or in the item behind it
 abbrev or_behind : Option ℕ → Bool → ℕ → Option ℕ
@@ -193,8 +198,10 @@ any-of : (sli : List ℕ) (day : ℕ) (cells : List Cell) → list_any (is_cell_
 any-of sli day [] h = h
 any-of sli day (cell ∷ cells) h = by (is_cell_of sli cell) h (any-of sli day cells)
   where
-    by : (b : Bool) → ((b && nat_eq (cell.minute / 1440) day) || list_any (is_cell_on sli day) cells)
-        ≡ true → (list_any (is_cell_on sli day) cells ≡ true → list_any (is_cell_of sli) cells ≡ true)
+    by : (b : Bool)
+        → ((b && nat_eq (cell.minute / 1440) day) || list_any (is_cell_on sli day) cells)
+        ≡ true → (list_any (is_cell_on sli day) cells ≡ true
+        → list_any (is_cell_of sli) cells ≡ true)
         → (b || list_any (is_cell_of sli) cells) ≡ true
     by true h go = refl
     by false h go = go h
@@ -233,7 +240,8 @@ extent-other cells cell sli other =
     let days_stay : length (days_with_cells (cells ++ cell ∷ []) sli) ≡ count =
     days-push cells cell sli count refl ∙ ap (λ (b : Bool). cond b (cond
     (nat_lt 0 (last (is_cell_on sli (cell.minute / 1440)) cells)) count (suc count)) count) other in
-    let place_stays : position (is_cell_of sli) (cells ++ cell ∷ []) ≡ position (is_cell_of sli) cells =
+    let place_stays : position (is_cell_of sli) (cells ++ cell ∷ [])
+    ≡ position (is_cell_of sli) cells =
     position-push (is_cell_of sli) cells cell
     ∙ ap (λ (b : Bool). or_behind (position (is_cell_of sli) cells) b (length cells)) other
     ∙ by (position (is_cell_of sli) cells) in
@@ -245,7 +253,8 @@ extent-other cells cell sli other =
 
 -- a cell behind one of its indicator and day adds nothing
 extent-same : (cells : List Cell) (cell : Cell)
-    → nat_lt 0 (last (is_cell_on cell.sli (cell.minute / 1440)) cells) ≡ true → is_cell_of cell.sli cell ≡ true
+    → nat_lt 0 (last (is_cell_on cell.sli (cell.minute / 1440)) cells) ≡ true
+    → is_cell_of cell.sli cell ≡ true
     → extent_of (cells ++ cell ∷ []) cell.sli ≡ extent_of cells cell.sli
 extent-same cells cell there own =
     let sli = cell.sli in
@@ -255,19 +264,23 @@ extent-same cells cell there own =
     ∙ (λ i. cond (own i) (cond (there i) count (suc count)) count) in
     let some : list_any (is_cell_of sli) cells ≡ true = any-of sli (cell.minute / 1440) cells
     (any-is_last (is_cell_on sli (cell.minute / 1440)) cells ∙ there) in
-    let place_stays : position (is_cell_of sli) (cells ++ cell ∷ []) ≡ position (is_cell_of sli) cells =
+    let place_stays : position (is_cell_of sli) (cells ++ cell ∷ [])
+    ≡ position (is_cell_of sli) cells =
     position-push (is_cell_of sli) cells cell ∙ by (position (is_cell_of sli) cells) refl some in
     (λ i. extent (days_stay i) (place_stays i))
   where
-    by : (o : Option ℕ) → position (is_cell_of cell.sli) cells ≡ o → list_any (is_cell_of cell.sli) cells ≡ true
+    by : (o : Option ℕ) → position (is_cell_of cell.sli) cells ≡ o
+        → list_any (is_cell_of cell.sli) cells ≡ true
         → or_behind o (is_cell_of cell.sli cell) (length cells) ≡ o
     by (Some n) e some = refl
     by None e some = cc (sym some
-        ∙ none-first (is_cell_of cell.sli) cells (sym (position-first (is_cell_of cell.sli) cells) ∙ e))
+        ∙ none-first (is_cell_of cell.sli) cells
+        (sym (position-first (is_cell_of cell.sli) cells) ∙ e))
 
 -- a cell that is the first of its indicator on its day adds the day, and is the first of all where
 -- there was none
-extent-day : (cells : List Cell) (cell : Cell) → last (is_cell_on cell.sli (cell.minute / 1440)) cells ≡ 0 →
+extent-day : (cells : List Cell) (cell : Cell)
+    → last (is_cell_on cell.sli (cell.minute / 1440)) cells ≡ 0 →
     is_cell_of cell.sli cell ≡ true →
     extent_of (cells ++ cell ∷ []) cell.sli ≡ Some (grown (extent_of cells cell.sli) (length cells))
 extent-day cells cell none own =
@@ -295,13 +308,15 @@ own_cell : (cell : Cell) → is_cell_of cell.sli cell ≡ true
 own_cell cell = (bytes_eq-Decides cell.sli cell.sli).1 refl
 
 pub extents_same : (cells : List Cell) (cell : Cell) (extents : Extents) (before : ℕ)
-    → AreExtents cells extents → before ≡ last (is_cell_on cell.sli (cell.minute / 1440)) cells → 0 < before
+    → AreExtents cells extents → before ≡ last (is_cell_on cell.sli (cell.minute / 1440)) cells
+    → 0 < before
     → AreExtents (cells ++ cell ∷ []) extents
 extents_same cells cell extents before are e some =
     record { known = λ sli. are.known sli ∙ by sli (is_cell_of sli cell) refl }
   where
     there : nat_lt 0 (last (is_cell_on cell.sli (cell.minute / 1440)) cells) ≡ true
-    there = positive (last (is_cell_on cell.sli (cell.minute / 1440)) cells) (subst (λ n. 0 < n) e some)
+    there = positive (last (is_cell_on cell.sli (cell.minute / 1440)) cells)
+        (subst (λ n. 0 < n) e some)
       where
         positive : (n : ℕ) → 0 < n → nat_lt 0 n ≡ true
         positive n h = grind (arith, nat_tests, h)
@@ -314,7 +329,8 @@ extents_same cells cell extents before are e some =
     by sli false e = sym (extent-other cells cell sli e)
 
 -- so many days at most
-pub few_days : (cells : List Cell) (sli : List ℕ) (extent : Extent) → Some extent ≡ extent_of cells sli
+pub few_days : (cells : List Cell) (sli : List ℕ) (extent : Extent)
+    → Some extent ≡ extent_of cells sli
     → extent.days ≤ length cells
 few_days cells sli known is = by (position (is_cell_of sli) cells) is
   where
@@ -324,7 +340,8 @@ few_days cells sli known is = by (position (is_cell_of sli) cells) is
         omega (arith, same, length-firsts (days cells sli), length-days cells sli)
     by None e = let same : known.days ≡ 0 = cc e in omega (arith, same)
 
-pub extents_day : (cells : List Cell) (cell : Cell) (sli : List ℕ) (old new : Extents) (next : Extent) →
+pub extents_day : (cells : List Cell) (cell : Cell) (sli : List ℕ) (old new : Extents)
+    (next : Extent) →
     AreExtents cells old → cell.sli ≡ sli → last (is_cell_on sli (cell.minute / 1440)) cells ≡ 0 →
     next ≡ grown (get bytes_eq old.known sli) (length cells) →
     ((other : List ℕ) → get bytes_eq new.known other
@@ -333,7 +350,8 @@ pub extents_day : (cells : List Cell) (cell : Cell) (sli : List ℕ) (old new : 
 extents_day cells cell sli old new next are own none is updates =
     record {
       known = λ other. updates other ∙ ap (λ (sli : List ℕ). cond (bytes_eq sli other)
-          (Some next) (get bytes_eq old.known other)) (sym own) ∙ by other (is_cell_of other cell) refl;
+          (Some next) (get bytes_eq old.known other)) (sym own)
+          ∙ by other (is_cell_of other cell) refl;
     }
   where
     by : (other : List ℕ) (b : Bool) → is_cell_of other cell ≡ b
@@ -364,7 +382,8 @@ known_place cells sli known is = ap (option_map (λ (extent : Extent). extent.fi
     by (Some n) = refl
     by None = refl
 
-pub known_days : (cells : List Cell) (sli : List ℕ) (known : Extent) → Some known ≡ extent_of cells sli
+pub known_days : (cells : List Cell) (sli : List ℕ) (known : Extent)
+    → Some known ≡ extent_of cells sli
     → known.days ≡ length (days_with_cells cells sli)
 known_days cells sli known is = by (position (is_cell_of sli) cells) is
   where

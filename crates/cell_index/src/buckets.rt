@@ -12,27 +12,31 @@ ghost use Rattle.cell_index.specs.declared.cells.Key.{Key};
 use crate::cells::Key;
 use std::alloc::{AllocError, Global};
 
-// Odd factors with their bits well mixed, so that keys which differ little have buckets far apart.
+/// Odd factors with their bits well mixed, so that keys which differ little have buckets far apart.
 const SLI_FACTOR: u64 = 11_400_714_819_323_198_485;
 
+/// The factor of a source's number.
 const SOURCE_FACTOR: u64 = 14_029_467_366_897_019_727;
 
+/// The factor of a sixteen of minutes.
 const SIXTEEN_FACTOR: u64 = 15_485_863_157_411_823_079;
 
-// More blocks than this aren't made: they have a bucket for each number of a place.
+/// More blocks than this aren't made: they have a bucket for each number of a place.
 const MOST_BLOCKS: u32 = 268_435_456;
 
+/// The places of keys, by their buckets.
 #[derive(Drop)]
 pub(crate) struct Buckets {
-    // How many blocks of sixteen buckets there are.
+    /// How many blocks of sixteen buckets there are.
     pub(crate) blocks: u32,
-    // One more than the place of the last key of each bucket, or 0.
+    /// One more than the place of the last key of each bucket, or 0.
     pub(crate) lasts: Vec<u32>,
-    // Of each key one more than the place of the one before it in its bucket, or 0.
+    /// Of each key one more than the place of the one before it in its bucket, or 0.
     pub(crate) links: Vec<u32>,
 }
 
 impl Buckets {
+    /// No keys, and no buckets.
     pub(crate) fn new(alloc: Global) -> Buckets
         ensures shelved { AreIn [] result }
         ensures whole { IsWhole result }
@@ -45,7 +49,7 @@ impl Buckets {
         }
     }
 
-    // One more than the place of the last key in the bucket of this one, or 0.
+    /// One more than the place of the last key in the bucket of this one, or 0.
     pub(crate) fn last(&self, key: &Key) -> u32
         ensures { result ≡ slice_index self.now.lasts.items (bucket_of self.now.blocks key.now) }
     {
@@ -55,7 +59,7 @@ impl Buckets {
         }
     }
 
-    // Links a key that stands behind the others.
+    /// Links a key that stands behind the others.
     pub(crate) fn link(&mut self, place: usize, key: &Key)
         requires whole { IsWhole self.old }
         requires some { 0 < self.old.blocks }
@@ -72,7 +76,7 @@ impl Buckets {
         self.lasts[bucket] = place as u32 + 1;
     }
 
-    // Takes the last key out of its bucket.
+    /// Takes the last key out of its bucket.
     pub(crate) fn unlink(&mut self, place: usize, key: &Key)
         requires whole { IsWhole self.old }
         requires some { 0 < self.old.blocks }
@@ -86,7 +90,7 @@ impl Buckets {
         self.lasts[bucket] = self.links[place];
     }
 
-    // Room for the link of one key more, where there are so many.
+    /// Room for the link of one key more, where there are so many.
     fn make_link(&mut self, place: usize) -> Result<(), AllocError>
         ensures shelved { (keys : List Key) → AreIn keys self.old → AreIn keys self.new }
         ensures whole { IsWhole self.old → IsWhole self.new }
@@ -100,7 +104,7 @@ impl Buckets {
         self.links.extend_from_slice(&[0u32])
     }
 
-    // Empties the buckets, of which there are so many blocks then.
+    /// Empties the buckets, of which there are so many blocks then.
     fn reset(&mut self, blocks: u32) -> Result<(), AllocError>
         requires { blocks ≤ MOST_BLOCKS }
         ensures shelved { OnOk result (AreIn [] self.new) }
@@ -119,7 +123,7 @@ impl Buckets {
     }
 }
 
-// A number that differs between most sixteens of minutes of an indicator and a source.
+/// A number that differs between most sixteens of minutes of an indicator and a source.
 #[tactic(auto, unfolding(crate::specs::Places::spread))]
 fn spread(key: &Key) -> u32
     ensures number { result ≡ spread key.now }
@@ -131,7 +135,7 @@ fn spread(key: &Key) -> u32
     (sli.wrapping_add(source).wrapping_add(sixteen) / 4_294_967_296) as u32
 }
 
-// The bucket of a key among so many blocks.
+/// The bucket of a key among so many blocks.
 #[tactic(auto, unfolding(crate::specs::Places::bucket_of))]
 fn bucket_of(blocks: u32, key: &Key) -> usize
     ensures bucket { result ≡ bucket_of blocks key.now }
@@ -142,7 +146,7 @@ fn bucket_of(blocks: u32, key: &Key) -> usize
     (block * 16 + (spread + u64::from(key.minute % 16)) % 16) as usize
 }
 
-// Where a key stands among the keys of these buckets, from the last on.
+/// Where a key stands among the keys of these buckets, from the last on.
 pub(crate) fn place_of(keys: &[Key], buckets: &Buckets, key: &Key) -> Option<usize>
     requires { AreIn keys.now buckets.now }
     ensures { result ≡ below (last (key_eq key.now) keys.now) }
@@ -158,7 +162,7 @@ pub(crate) fn place_of(keys: &[Key], buckets: &Buckets, key: &Key) -> Option<usi
     None
 }
 
-// Shares all keys out among empty buckets.
+/// Shares all keys out among empty buckets.
 fn link_all(keys: &[Key], buckets: &mut Buckets)
     requires shelved { AreIn [] buckets.old }
     requires whole { IsWhole buckets.old }
@@ -174,7 +178,7 @@ fn link_all(keys: &[Key], buckets: &mut Buckets)
     }
 }
 
-// Makes twice as many buckets where there are no more than keys, and room for a link more.
+/// Makes twice as many buckets where there are no more than keys, and room for a link more.
 pub(crate) fn make_buckets(keys: &[Key], buckets: &mut Buckets) -> Result<(), AllocError>
     requires shelved { AreIn keys.now buckets.old }
     requires whole { IsWhole buckets.old }
@@ -193,7 +197,7 @@ pub(crate) fn make_buckets(keys: &[Key], buckets: &mut Buckets) -> Result<(), Al
     buckets.make_link(keys.len())
 }
 
-// How many blocks there are to be for so many keys and one more.
+/// How many blocks there are to be for so many keys and one more.
 fn wanted_blocks(blocks: u32, keys: usize) -> u32
     ensures some { 0 < result }
     ensures few { blocks < result → result ≤ MOST_BLOCKS }

@@ -13,7 +13,7 @@ use name_numbers::NameTable;
 use std::alloc::{AllocError, Global};
 use std::marker::Model;
 
-// A cell by the numbers of its names.
+/// A cell by the numbers of its names.
 #[derive(Clone, Copy, PartialEq, Eq, Hash)]
 pub(crate) struct Key {
     pub(crate) sli: u32,
@@ -21,13 +21,14 @@ pub(crate) struct Key {
     pub(crate) minute: u32,
 }
 
+/// Cells in the order in which they came. Contracts see the list.
 #[derive(Drop)]
 pub struct Cells {
     slis: NameTable,
     sources: NameTable,
     keys: Places,
-    // So many cells had these numbers of names when the others were forgotten last: where what was
-    // added since is forgotten again, its names are too.
+    /// So many cells had these numbers of names when the others were forgotten last: where what was
+    /// added since is forgotten again, its names are too.
     settled: usize,
     settled_slis: usize,
     settled_sources: usize,
@@ -36,7 +37,7 @@ pub struct Cells {
 impl Model for Cells {
     ghost use Rattle.std.specs.Prelude.{List, map};
     ghost use Rattle.cell_index.specs.Cells.{cell_eq, with_cell};
-ghost use Rattle.cell_index.specs.Keys.{AreKnown, cell_named};
+    ghost use Rattle.cell_index.specs.Keys.{AreKnown, cell_named};
     ghost use Rattle.cell_index.specs.declared.cell.Cell.{Cell};
 
     ghost Value = { List Cell };
@@ -48,6 +49,7 @@ ghost use Rattle.cell_index.specs.Keys.{AreKnown, cell_named};
 }
 
 impl Cells {
+    /// No cells.
     pub fn new(alloc: Global) -> Cells
         ensures { result ≡ [] }
     {
@@ -61,13 +63,14 @@ impl Cells {
         }
     }
 
+    /// How many cells there are.
     pub fn len(&self) -> usize
         ensures { result ≡ length self.now }
     {
         self.keys.len()
     }
 
-    // Where a cell stands.
+    /// Where a cell stands.
     pub fn find(&self, cell: &Cell) -> Option<usize>
         ensures { result ≡ position (cell_eq cell.now) self.now }
     {
@@ -77,7 +80,7 @@ impl Cells {
         }
     }
 
-    // The cell at a place.
+    /// The cell at a place.
     pub fn at(&self, place: usize) -> Cell
         requires { place < length self.now }
         ensures { slice_get self.now place ≡ Some result }
@@ -86,7 +89,7 @@ impl Cells {
         named_cell(&self.slis, &self.sources, &key)
     }
 
-    // Forgets the cells from a place on, with the names that only they have.
+    /// Forgets the cells from a place on, with the names that only they have.
     pub fn truncate(&mut self, count: usize)
         ensures { self.new ≡ take count self.old }
     {
@@ -106,7 +109,7 @@ impl Cells {
         self.settled_sources = sources;
     }
 
-    // Adds a cell behind the others unless it is there, and answers where it was.
+    /// Adds a cell behind the others unless it is there, and answers where it was.
     pub fn add_new(&mut self, cell: &Cell) -> Result<Option<usize>, AllocError>
         ensures ok { OnOk result (self.new ≡ with_cell self.old cell.now) }
         ensures place { IfOk result (λ place. place ≡ position (cell_eq cell.now) self.old) }
@@ -123,7 +126,7 @@ impl Cells {
     }
 }
 
-// The key of a cell whose names came.
+/// The key of a cell whose names came.
 fn key_of(slis: &NameTable, sources: &NameTable, cell: &Cell) -> Option<Key>
     ensures known { IfSome result (IsKeyOf slis.now sources.now cell.now) }
     ensures unknown { IfNone result (HasNoKey slis.now sources.now cell.now) }
@@ -137,7 +140,7 @@ fn key_of(slis: &NameTable, sources: &NameTable, cell: &Cell) -> Option<Key>
     })
 }
 
-// The key of a cell whose names get numbers where they have none.
+/// The key of a cell whose names get numbers where they have none.
 fn number_of(slis: &mut NameTable, sources: &mut NameTable, cell: &Cell) -> Result<Key, AllocError>
     ensures slis { IsGrown slis.old slis.new }
     ensures sources { IsGrown sources.old sources.new }
@@ -152,6 +155,7 @@ fn number_of(slis: &mut NameTable, sources: &mut NameTable, cell: &Cell) -> Resu
     })
 }
 
+/// The cell of a key.
 fn named_cell(slis: &NameTable, sources: &NameTable, key: &Key) -> Cell
     requires { IsNamed slis.now sources.now key.now }
     ensures { result ≡ cell_named slis.now sources.now key.now }
@@ -163,7 +167,7 @@ fn named_cell(slis: &NameTable, sources: &NameTable, key: &Key) -> Cell
     }
 }
 
-// How many of the names the first keys have, where the first of them have so many.
+/// How many of the names the first keys have, where the first of them have so many.
 fn names_of(keys: &Places, from: usize, count: usize, slis: usize, sources: usize) -> (usize, usize)
     requires settled { AreNumbered slis sources (take from keys.now) }
     requires within { count ≤ length keys.now }

@@ -8,28 +8,30 @@ use exact_fraction::Label;
 use indexmap::IndexMap;
 use std::alloc::{AllocError, Global};
 
-// A place and one more is a `u32`.
+/// A place and one more is a `u32`.
 const MOST_ITEMS: usize = 4_294_967_295;
 
-// What links items: the name of an indicator or an objective, and a day where it counts.
+/// What links items: the name of an indicator or an objective, and a day where it counts.
 #[derive(Clone, Copy, PartialEq, Eq, Hash)]
 pub struct Group {
     pub name: Label,
     pub day: u32,
 }
 
+/// Items in groups: the last one of each group, and from each the one before it.
 #[derive(Drop)]
 pub struct Chains {
-    // One more than the place of the last item of each group.
+    /// One more than the place of the last item of each group.
     pub lasts: IndexMap<Group, u32>,
-    // Where the group of the latest item is in that map: most items are of the group before them,
-    // so this is tried before a look-up. Nothing rests on it.
+    /// Where the group of the latest item is in that map: most items are of the group before them,
+    /// so this is tried before a look-up. Nothing rests on it.
     latest: usize,
-    // Of each item one more than the place of the one before it of its group, or 0.
+    /// Of each item one more than the place of the one before it of its group, or 0.
     pub links: Vec<u32>,
 }
 
 impl Chains {
+    /// No items.
     pub fn new(alloc: Global) -> Chains
         ensures linked { AreLinked [] result }
         ensures room { HasRoomFor 0 result }
@@ -41,7 +43,7 @@ impl Chains {
         }
     }
 
-    // How many items there are.
+    /// How many items there are.
     pub fn len(&self) -> u32
         requires few { length self.now.links.items ≤ MOST_ITEMS }
         ensures { result ≡ length self.now.links.items }
@@ -49,7 +51,7 @@ impl Chains {
         self.links.len() as u32
     }
 
-    // One more than the place of the last item of a group, or 0.
+    /// One more than the place of the last item of a group, or 0.
     pub fn last(&self, group: Group) -> u32
         ensures { (groups : List Group) → AreLinked groups self.now
             → result ≡ last (group_eq group) groups }
@@ -60,7 +62,7 @@ impl Chains {
         }
     }
 
-    // The same of the items before a place, for the group of the item there.
+    /// The same of the items before a place, for the group of the item there.
     pub fn before(&self, place: usize) -> u32
         requires { place < length self.now.links.items }
         ensures { (groups : List Group) (group : Group) → AreLinked groups self.now
@@ -70,6 +72,7 @@ impl Chains {
         self.links[place]
     }
 
+    /// Makes room for so many items more. The chains stay those of their items.
     pub fn reserve(&mut self, count: usize) -> Result<(), AllocError>
         ensures linked { (groups : List Group) → AreLinked groups self.old
             → AreLinked groups self.new }
@@ -80,8 +83,8 @@ impl Chains {
         self.links.reserve(count)
     }
 
-    // Adds an item behind the others, with no memory. It answers one more than the place of the
-    // item before it of its group, or 0.
+    /// Adds an item behind the others, with no memory. It answers one more than the place of the
+    /// item before it of its group, or 0.
     pub fn push(&mut self, group: Group) -> u32
         requires room { HasRoomFor 1 self.old }
         requires few { length self.old.links.items < MOST_ITEMS }
@@ -99,7 +102,7 @@ impl Chains {
     }
 }
 
-// Notes the last item of a group: where the group is in the map, and what was noted before.
+/// Notes the last item of a group: where the group is in the map, and what was noted before.
 fn exchange(lasts: &mut IndexMap<Group, u32>, guess: usize, group: Group, link: u32) -> (usize, u32)
     requires { 0 < spare lasts.old }
     ensures before { result.1 ≡ link_of (get group_eq lasts.old group) }
@@ -116,7 +119,7 @@ fn exchange(lasts: &mut IndexMap<Group, u32>, guess: usize, group: Group, link: 
     (place, link_of(before))
 }
 
-// Whether a group is at this place of the map.
+/// Whether a group is at this place of the map.
 fn is_at(lasts: &IndexMap<Group, u32>, place: usize, group: &Group) -> bool
     ensures there { result ≡ true → (link : ℕ)
         × (slice_get lasts.now.entries place ≡ Some (group.now, link))
@@ -132,6 +135,7 @@ fn is_at(lasts: &IndexMap<Group, u32>, place: usize, group: &Group) -> bool
     }
 }
 
+/// A link, or 0 where there is none.
 fn link_of(last: Option<u32>) -> u32
     ensures { result ≡ link_of last }
 {

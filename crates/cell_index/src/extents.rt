@@ -12,21 +12,23 @@ use exact_fraction::Label;
 use indexmap::IndexMap;
 use std::alloc::{AllocError, Global};
 
-// What is known of an indicator with cells.
+/// What is known of an indicator with cells.
 #[derive(Clone, Copy)]
 pub(crate) struct Extent {
-    // The place of its first cell.
+    /// The place of its first cell.
     pub(crate) first: u32,
-    // On how many days it has cells.
+    /// On how many days it has cells.
     pub(crate) days: u32,
 }
 
+/// What is known of each indicator.
 #[derive(Drop)]
 pub(crate) struct Extents {
     pub(crate) known: IndexMap<Label, Extent>,
 }
 
 impl Extents {
+    /// Of no cells.
     pub(crate) fn new(alloc: Global) -> Extents
         ensures { AreExtents [] result }
     {
@@ -35,7 +37,7 @@ impl Extents {
         }
     }
 
-    // The place of the first cell of an indicator.
+    /// The place of the first cell of an indicator.
     pub(crate) fn first_of(&self, sli: Label) -> Option<u32>
         ensures { (cells : List Cell) → AreExtents cells self.now
             → result ≡ position (is_cell_of sli) cells }
@@ -46,7 +48,7 @@ impl Extents {
         }
     }
 
-    // On how many days an indicator has cells.
+    /// On how many days an indicator has cells.
     pub(crate) fn days_of(&self, sli: Label) -> u32
         ensures { (cells : List Cell) → AreExtents cells self.now
             → result ≡ length (days_with_cells cells sli) }
@@ -57,16 +59,18 @@ impl Extents {
         }
     }
 
+    /// Makes room for so many indicators more.
     pub(crate) fn reserve(&mut self, count: usize) -> Result<(), AllocError>
-        ensures known { (cells : List Cell) → AreExtents cells self.old → AreExtents cells self.new }
+        ensures known { (cells : List Cell) → AreExtents cells self.old
+            → AreExtents cells self.new }
         ensures ready { OnOk result (count ≤ spare self.new.known) }
         ensures stays { spare self.old.known ≤ spare self.new.known }
     {
         self.known.reserve(count)
     }
 
-    // Behind the others comes a cell that is the first of its indicator on its day. It takes no
-    // memory.
+    /// Behind the others comes a cell that is the first of its indicator on its day. It takes no
+    /// memory.
     pub(crate) fn add_day(&mut self, sli: Label, place: u32)
         requires room { 0 < spare self.old.known }
         requires few { place < 4294967295 }

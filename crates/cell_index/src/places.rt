@@ -9,9 +9,10 @@ use crate::cells::Key;
 use std::alloc::{AllocError, Global};
 use std::marker::Model;
 
-// A place and one more is a `u32`.
+/// A place and one more is a `u32`.
 const MOST_KEYS: usize = 4_294_967_295;
 
+/// Keys, each once. Contracts see the list.
 #[derive(Drop)]
 pub(crate) struct Places {
     keys: Vec<Key>,
@@ -31,6 +32,7 @@ impl Model for Places {
 }
 
 impl Places {
+    /// No keys.
     pub(crate) fn new(alloc: Global) -> Places
         ensures { result ≡ [] }
     {
@@ -40,20 +42,21 @@ impl Places {
         }
     }
 
+    /// How many keys there are.
     pub(crate) fn len(&self) -> usize
         ensures { result ≡ length self.now }
     {
         self.keys.len()
     }
 
-    // Where a key stands.
+    /// Where a key stands.
     pub(crate) fn find(&self, key: &Key) -> Option<usize>
         ensures { result ≡ position (key_eq key.now) self.now }
     {
         place_of(&self.keys, &self.buckets, key)
     }
 
-    // The key at a place.
+    /// The key at a place.
     pub(crate) fn at(&self, place: usize) -> Key
         requires { place < length self.now }
         ensures { slice_get self.now place ≡ Some result }
@@ -61,7 +64,7 @@ impl Places {
         self.keys[place]
     }
 
-    // Forgets the keys from a place on.
+    /// Forgets the keys from a place on.
     pub(crate) fn truncate(&mut self, count: usize)
         ensures { self.new ≡ take count self.old }
     {
@@ -70,6 +73,7 @@ impl Places {
         }
     }
 
+    /// Forgets the last key.
     fn remove_last(&mut self)
         requires { 0 < length self.old }
         ensures { self.new ≡ take (length self.old - 1) self.old }
@@ -80,7 +84,7 @@ impl Places {
         self.keys.truncate(place);
     }
 
-    // Adds a key that isn't there behind the others.
+    /// Adds a key that isn't there behind the others.
     pub(crate) fn add(&mut self, key: &Key) -> Result<(), AllocError>
         requires { list_any (key_eq key.now) self.old ≡ false }
         ensures ok { OnOk result (self.new ≡ self.old ++ key.now ∷ []) }

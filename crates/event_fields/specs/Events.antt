@@ -66,9 +66,9 @@ abbrev pub event_of : ℕ → Fields → Result Event EventFault
 event_of most fields = of_five most (five_fields fields)
 
 -- the good events are among the total, which is at most so much
-pub record IsCounted (most : ℕ) (event : Event) : Type 0 where
-  pub part : event.good ≤ event.total
-  pub few : event.total ≤ most
+pub record AreCounted (most good total : ℕ) : Type 0 where
+  pub part : good ≤ total
+  pub few : total ≤ most
 
 -- the word for what is wrong
 abbrev pub words_of_event : EventFault → List ℕ

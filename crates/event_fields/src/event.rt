@@ -1,6 +1,6 @@
 //! The event that a record stands for.
 ghost use Rattle.std.specs.Prelude.{◌≡◌, ◌≤◌, IfOk, IfSome};
-ghost use Rattle.event_fields.specs.Events.{IsCounted, counts_of, event_of, fields_event};
+ghost use Rattle.event_fields.specs.Events.{AreCounted, counts_of, event_of, fields_event};
 ghost use Rattle.event_fields.specs.Events.{minute_of};
 ghost use Rattle.event_fields.specs.Events.{revision_of, words_of_event};
 ghost use Rattle.event_fields.specs.declared.field_number.TheConstants.{MAX_NUMBER};
@@ -66,7 +66,7 @@ fn read_revision(text: &[u8]) -> Option<u32>
 fn read_counts(good: &[u8], total: &[u8], most: u64) -> Option<(u64, u64)>
     requires { most ≤ MAX_NUMBER }
     ensures counts { result ≡ counts_of most good.now total.now }
-    ensures counted { IfSome result (λ counts. (counts.0 ≤ counts.1) × (counts.1 ≤ most)) }
+    ensures counted { IfSome result (λ counts. AreCounted most counts.0 counts.1) }
 {
     let good = read_field(good, most)?;
     let total = read_field(total, most)?;
@@ -99,7 +99,7 @@ fn read_fields(
       fields.entry.3.now,
       fields.entry.4.now,
     ) }
-    ensures counted { IfOk result (IsCounted most) }
+    ensures counted { IfOk result (λ event. AreCounted most event.good event.total) }
 {
     let source = sources.read(fields.0).ok_or(EventFault::Source)?;
     let minute = read_minute(fields.1).ok_or(EventFault::Minute)?;
@@ -119,7 +119,7 @@ fn read_fields(
 pub fn read_event(sources: &mut Sources, fields: &Record, most: u64) -> Result<Event, EventFault>
     requires { most ≤ MAX_NUMBER }
     ensures event { result ≡ event_of most fields.now }
-    ensures counted { IfOk result (IsCounted most) }
+    ensures counted { IfOk result (λ event. AreCounted most event.good event.total) }
 {
     match fields.five() {
         Some(five) => read_fields(sources, five, most),

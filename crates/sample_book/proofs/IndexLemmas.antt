@@ -37,10 +37,13 @@ before-on sli day place rows =
     ap (last (is_cell_on sli day)) (sym (map-take cell_of place rows))
     ∙ last-on sli day (take place rows)
 
+abbrev same_day : ℕ → ℕ → Bool
+same_day a b = a == b
+
 -- the days of the cells are those of the rows
 pub days-of : (sli : List ℕ) (rows : List Row)
     → days_with_cells (map cell_of rows) sli ≡ days_with_rows rows sli
-days-of sli rows = ap (first_of_each (λ a b. a == b)) (own rows)
+days-of sli rows = ap (first_of_each same_day) (own rows)
   where
     own : (rows : List Row)
         → map (λ (cell : Cell). cell.minute / 1440) (filter (is_cell_of sli) (map cell_of rows))

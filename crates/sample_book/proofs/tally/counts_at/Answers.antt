@@ -1,4 +1,5 @@
 use Rattle.std.proofs.Common.{true, ◌-◌, ◌/◌, ◌≡◌, ◌∙◌, suc, map, subst, arith}
+use Rattle.std.proofs.lemmas.List.{length-map}
 use Rattle.slice_method.specs.Readings.{HasForm}
 use Rattle.cell_index.proofs.ChainLemmas.{slice_get-map}
 use Rattle.sample_book.proofs.IndexLemmas.{before-on, last-on}
@@ -28,6 +29,18 @@ loop-next-smaller c =
     ∙ before-on c.row.result.sli (c.row.result.minute / 1440) (c.loop-next.next - 1)
     c.args.rows.now.rows) in
     omega (arith, below, c.loop-next-test.true)
+
+pub before_on_day-next-requires : goal.before_on_day-next-requires
+before_on_day-next-requires c = (
+  map cell_of c.args.rows.now.rows,
+  c.requires.indexed,
+  omega (
+    arith,
+    length-map c.args.rows.now.rows cell_of,
+    c.loop-next.invariant.within,
+    c.loop-next-test.true,
+  ),
+)
 
 pub loop-next-preserved : goal.loop-next-preserved
 loop-next-preserved c =

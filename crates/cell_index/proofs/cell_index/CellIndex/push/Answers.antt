@@ -71,7 +71,8 @@ returns-then-before-eq0-clause-indexed c cells indexed =
       days = subst (λ groups. AreLinked groups c.push-before.new.self)
           (sym (map_push day_group cells cell))
           (c.push-before.ensures.linked (map day_group cells) indexed.days);
-      slis = subst (λ groups. AreLinked groups c.push.new.self) (sym (map_push sli_group cells cell))
+      slis = subst (λ groups. AreLinked groups c.push.new.self)
+          (sym (map_push sli_group cells cell))
           (c.push.ensures.linked (map sli_group cells) indexed.slis);
       extents = c.add_day.ensures.known cells cell indexed.extents refl place
           (sym before ∙ omega (arith, c.if-before-eq0.true));
@@ -89,7 +90,8 @@ returns-else-before-eq0-clause-indexed c cells indexed =
       days = subst (λ groups. AreLinked groups c.push-before.new.self)
           (sym (map_push day_group cells cell))
           (c.push-before.ensures.linked (map day_group cells) indexed.days);
-      slis = subst (λ groups. AreLinked groups c.push.new.self) (sym (map_push sli_group cells cell))
+      slis = subst (λ groups. AreLinked groups c.push.new.self)
+          (sym (map_push sli_group cells cell))
           (c.push.ensures.linked (map sli_group cells) indexed.slis);
       extents = extents_same cells cell c.args.self.now.extents c.push-before.result
           indexed.extents before some;
