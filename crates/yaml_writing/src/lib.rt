@@ -6,10 +6,10 @@
 mod copy;
 pub mod laws;
 mod length;
-mod spelled;
+mod spelling;
 mod write;
 
 pub use copy::copy_node;
 pub use length::written_length;
-pub use spelled::spelled;
+pub use spelling::spelled;
 pub use write::{write_node, write_spelling};

@@ -16,7 +16,7 @@ ghost use Rattle.yaml_terms.specs.SpellingView.{is_quoted, text_of, is_no_text a
 ghost use Rattle.yaml_terms.specs.SpellingView.{has_lines as has_lines_def, spelling_view};
 ghost use Rattle.yaml_terms.specs.SpellingView.{fields_view, items_view};
 
-use crate::spelled::spelled;
+use crate::spelling::spelled;
 use std::alloc::AllocError;
 use yaml_terms::{FieldKey, MAX_DEPTH, Node, Spelling};
 

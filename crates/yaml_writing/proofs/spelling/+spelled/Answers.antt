@@ -11,7 +11,7 @@ use Rattle.yaml_terms.specs.declared.FieldKey.TheVariants.{Quoted as InQuotes}
 use Rattle.yaml_terms.specs.declared.Spelling.{Spelling as Written}
 use Rattle.yaml_writing.proofs.SpellingLemmas.{take_one, fields_more, items_more}
 use Rattle.yaml_terms.proofs.Failures.{no_ok}
-use Rattle.yaml_writing.proofs.spelled.+spelled.Goals as goal
+use Rattle.yaml_writing.proofs.spelling.+spelled.Goals as goal
 
 pub spelled_fields-returns : goal.spelled_fields-returns
 spelled_fields-returns t c = c.loop-entry.invariant

@@ -2,7 +2,7 @@ use Rattle.std.proofs.Common.{sym, ap, ◌∙◌, refl}
 use Rattle.yaml_terms.specs.Spelling.{word, quoted, spelled}
 use Rattle.yaml_terms.proofs.NodeLemmas.{view-Scalar}
 use Rattle.yaml_writing.proofs.SpellingLemmas.{view-Word, view-Quoted}
-use Rattle.yaml_writing.proofs.spelled.spelled_scalar.Goals as goal
+use Rattle.yaml_writing.proofs.spelling.spelled_scalar.Goals as goal
 
 pub returns-then-plain : goal.returns-then-plain
 returns-then-plain c = view-Word c.in_ok-text.text ∙ ap word c.in_ok-text.ensures

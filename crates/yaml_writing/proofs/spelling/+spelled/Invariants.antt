@@ -3,7 +3,7 @@ use Rattle.yaml_terms.specs.Tree.{trees}
 use Rattle.yaml_terms.specs.Spelling.{fields_spelled, items_spelled}
 use Rattle.yaml_terms.specs.NodeView.{node_view}
 use Rattle.yaml_terms.specs.SpellingView.{fields_view, items_view, entries_view}
-use Rattle.yaml_writing.proofs.spelled.+spelled.Given as goal
+use Rattle.yaml_writing.proofs.spelling.+spelled.Given as goal
 
 abbrev pub invariant-spelled_fields-loop-entry : goal.invariant-spelled_fields-loop-entry
 invariant-spelled_fields-loop-entry l =
