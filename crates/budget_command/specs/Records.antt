@@ -1,5 +1,5 @@
 -- The rows that records stand for, and what is wrong with a record.
-use Rattle.std.specs.Prelude.{ℕ, Bool, true, false, List, [], ◌∷◌, ◌++◌, Option, Some, None, Result}
+use Rattle.std.specs.Prelude.{ℕ, Bool, true, false, List, [], ◌∷◌, ◌++◌, Result}
 use Rattle.std.specs.Prelude.{Ok, Err, codes, length, nat_lt, ◌≤◌, if◌then◌else◌}
 use Rattle.csv_records.specs.Records.{Fields}
 use Rattle.event_fields.specs.Events.{event_of}

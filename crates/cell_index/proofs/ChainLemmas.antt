@@ -1,7 +1,7 @@
 -- Links from each cell to the one before it of its group.
-use Rattle.std.proofs.Common.{◌≡◌, ℕ, zero, suc, ◌+◌, ◌-◌, ◌/◌, ◌<◌, ◌≤◌, ◌&&◌, Bool, true}
-use Rattle.std.proofs.Common.{false, cond, nat_eq, refl, ap, sym, ◌∙◌, arith, subst, List, [], ◌∷◌}
-use Rattle.std.proofs.Common.{◌++◌, length, length-append, map, take, slice_get, Option, Some}
+use Rattle.std.proofs.Common.{◌≡◌, ℕ, zero, suc, ◌+◌, ◌-◌, ◌/◌, ◌≤◌, ◌&&◌, Bool, true}
+use Rattle.std.proofs.Common.{false, cond, nat_eq, refl, ap, sym, ◌∙◌, arith, List, [], ◌∷◌}
+use Rattle.std.proofs.Common.{◌++◌, length, map, take, slice_get, Option, Some}
 use Rattle.std.proofs.Common.{append_assoc}
 use Rattle.std.specs.Str.{bytes_eq}
 use Rattle.std.specs.Cmp.{IsEquivalence}
@@ -9,7 +9,7 @@ use Rattle.std.specs.Cmp.Lexicographic.{nat_list_eq_equiv}
 use Rattle.std.proofs.lemmas.Slice.Eq.{bytes_eq-Decides}
 use Rattle.std.proofs.lemmas.Bool.Decides.{nat_tests}
 use Rattle.std.proofs.lemmas.List.{append-nil, length-map}
-use Rattle.cell_index.specs.Chains.{AreLinked, HasRoomFor, IsIndexed}
+use Rattle.cell_index.specs.Chains.{AreLinked, HasRoomFor}
 use Rattle.cell_index.specs.Chains.{IsReadyFor, day_group, group_eq, last, later}
 use Rattle.cell_index.specs.Cells.{is_cell_on}
 use Rattle.cell_index.specs.Chains.{link_of, links_after, sli_group}

@@ -1,10 +1,10 @@
 -- One cell more: the first cell of an indicator, and the number of its days.
 use Rattle.std.proofs.Common.{◌≡◌, ℕ, zero, suc, ◌+◌, ◌/◌, ◌<◌, ◌≤◌, ◌==◌, ◌&&◌, ◌||◌, Bool, true}
 use Rattle.std.proofs.Common.{false, cond, not, nat_eq, nat_lt, refl, ap, sym, ◌∙◌, arith, subst}
-use Rattle.std.proofs.Common.{List, [], ◌∷◌, ◌++◌, length, map, filter, slice_get, Option, Some}
+use Rattle.std.proofs.Common.{List, [], ◌∷◌, ◌++◌, length, map, filter, Option, Some}
 use Rattle.std.proofs.Common.{None}
 use Rattle.std.specs.Cmp.{IsEquivalence}
-use Rattle.std.specs.List.{find, list_any, position}
+use Rattle.std.specs.List.{list_any, position}
 use Rattle.std.specs.Option.{option_map}
 use Rattle.std.specs.Str.{bytes_eq}
 use Rattle.std.proofs.lemmas.Bool.{eqb-true}
@@ -14,11 +14,10 @@ use Rattle.std.proofs.lemmas.List.Elements.{filter-append}
 use Rattle.std.proofs.lemmas.Slice.Eq.{bytes_eq-Decides}
 use Rattle.indexmap.specs.IndexMap.{get}
 use Rattle.slo_terms.specs.Rows.{first_of_each}
-use Rattle.cell_index.specs.Chains.{day_group, last, later}
+use Rattle.cell_index.specs.Chains.{last, later}
 use Rattle.cell_index.specs.Cells.{is_cell_on}
 use Rattle.cell_index.specs.Cells.{days_with_cells, is_cell_of}
 use Rattle.cell_index.specs.Extents.{AreExtents, extent_of}
-use Rattle.cell_index.specs.declared.chains.Group.{Group}
 use Rattle.cell_index.specs.declared.extents.Extent.{Extent}
 use Rattle.cell_index.specs.declared.extents.Extents.{Extents}
 use Rattle.cell_index.specs.declared.cell.Cell.{Cell}

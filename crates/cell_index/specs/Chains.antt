@@ -1,6 +1,6 @@
 -- Cells of an indicator, or of an indicator on a day, each linked to the one before it.
-use Rattle.std.specs.Prelude.{◌≡◌, ◌<◌, ◌≤◌, ◌+◌, ◌/◌, ◌&&◌, ℕ, zero, suc, Bool, true, false, cond}
-use Rattle.std.specs.Prelude.{nat_eq, List, [], ◌∷◌, ◌++◌, length, map, slice_get, Option, Some}
+use Rattle.std.specs.Prelude.{◌≡◌, ◌≤◌, ◌+◌, ◌/◌, ◌&&◌, ℕ, zero, suc, Bool, cond}
+use Rattle.std.specs.Prelude.{nat_eq, List, [], ◌∷◌, ◌++◌, length, map, Option, Some}
 use Rattle.std.specs.Prelude.{None, vec_capacity}
 use Rattle.std.specs.Str.{bytes_eq}
 use Rattle.slo_limits.specs.declared.TheConstants.{MINUTES_A_DAY}

@@ -1,8 +1,7 @@
 -- Sums that follow a row that comes.
-use Rattle.std.proofs.Common.{◌≡◌, ◌≢◌, ℕ, suc, ◌+◌, ◌≤◌, ◌<◌, ◌&&◌, Bool, true, false, cond, refl}
+use Rattle.std.proofs.Common.{◌≡◌, ℕ, suc, ◌+◌, ◌≤◌, ◌<◌, ◌&&◌, Bool, true, false, refl}
 use Rattle.std.proofs.Common.{ap, sym, subst, ◌∙◌, arith, List, [], ◌∷◌, ◌++◌, take, length}
 use Rattle.std.proofs.Common.{append_assoc, drop, slice_get, take-append-drop, Some, IsTrue}
-use Rattle.std.proofs.Common.{if◌then◌else◌}
 use Rattle.std.specs.List.{AllByRecursion}
 use Rattle.std.specs.Str.{bytes_eq}
 use Rattle.std.proofs.lemmas.List.{append-nil}
@@ -15,7 +14,7 @@ use Rattle.sample_book.specs.declared.RowVerdict.TheVariants.{New, Newer, Repeat
 use Rattle.sample_book.specs.declared.RowVerdict.TheVariants.{Conflict}
 use Rattle.sample_book.specs.Counting.{is_of}
 use Rattle.sample_book.specs.History.{is_put}
-use Rattle.sample_book.specs.Puts.{IsPutInto, behind, in_place, is_new}
+use Rattle.sample_book.specs.Puts.{IsPutInto, behind, in_place}
 use Rattle.sample_book.specs.Rows.{MayPutAs, cell_of, current_rows, same_cell, verdict_of}
 use Rattle.sample_book.specs.Puts.{verdicts}
 use Rattle.sample_book.proofs.BatchLemmas.{length-verdicts, verdicts-at}

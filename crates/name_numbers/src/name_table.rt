@@ -1,7 +1,6 @@
 // Names, numbered in the order in which they came.
-ghost use Rattle.std.specs.Prelude.{◌≡◌, ◌<◌, ◌++◌, ◌∷◌, List, ℕ, [], length, IfOk, IfSome, OnErr};
-ghost use Rattle.std.specs.Prelude.{OnOk, Some};
-ghost use Rattle.std.specs.Prelude.{None, slice_get, take, true};
+ghost use Rattle.std.specs.Prelude.{◌≡◌, ◌<◌, List, ℕ, [], length, IfOk, IfSome, OnErr, OnOk, Some};
+ghost use Rattle.std.specs.Prelude.{take, true};
 ghost use Rattle.std.specs.List.{IsDistinct, position};
 ghost use Rattle.std.specs.Str.{bytes_eq};
 ghost use Rattle.name_numbers.specs.Names.{IsGrown, IsNumber, name_at, named_with};

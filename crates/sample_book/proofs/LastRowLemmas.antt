@@ -1,9 +1,9 @@
 -- The last row that passes a test, and the index of the rows' cells once a row was put.
-use Rattle.std.proofs.Common.{◌≡◌, ◌≢◌, ℕ, zero, suc, ◌+◌, ◌-◌, ◌<◌, ◌≤◌, Bool, true, false, refl}
+use Rattle.std.proofs.Common.{◌≡◌, ◌≢◌, ◌∙◌, ℕ, zero, suc, ◌+◌, ◌-◌, ◌<◌, ◌≤◌, Bool, refl}
 use Rattle.std.proofs.Common.{ap}
-use Rattle.std.proofs.Common.{sym, arith, subst, List, [], ◌∷◌, ◌++◌, length, length-append, map}
+use Rattle.std.proofs.Common.{sym, arith, List, [], ◌∷◌, ◌++◌, length, length-append, map}
 use Rattle.std.proofs.Common.{take}
-use Rattle.std.proofs.Common.{slice_get, Option, Some}
+use Rattle.std.proofs.Common.{Some}
 use Rattle.std.specs.Prelude.{Result, Ok, Err, OnOk, OnErr}
 use Rattle.sample_book.specs.LastRows.{IsInOrder, IsLastPlace}
 use Rattle.cell_index.specs.Chains.{IsIndexed, IsReadyFor, below, last}

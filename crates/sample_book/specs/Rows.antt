@@ -1,8 +1,7 @@
 -- Rows, their cells, and how an arriving row stands to what is kept.
-use Rattle.std.specs.Prelude.{Bool, false, ◌&&◌, nat_eq, nat_lt, List, [], ◌∷◌, ◌++◌, ◌≡◌, Option}
+use Rattle.std.specs.Prelude.{Bool, false, ◌&&◌, nat_eq, nat_lt, List, ◌≡◌, Option}
 use Rattle.std.specs.Prelude.{Some, None, if◌then◌else◌, not, map, filter, slice_get}
 use Rattle.std.specs.List.{find, list_any}
-use Rattle.std.specs.Str.{bytes_eq}
 use Rattle.slice_method.specs.declared.Amount.{Amount}
 use Rattle.slice_method.specs.declared.Amount.TheVariants.{Counts, Value}
 use Rattle.slo_terms.specs.Rows.{current, first_of_each}
