@@ -1,8 +1,6 @@
 -- The last row that passes a test, and the index of the rows' cells once a row was put.
-use Rattle.std.proofs.Common.{◌≡◌, ◌≢◌, ◌∙◌, ℕ, zero, suc, ◌+◌, ◌-◌, ◌<◌, ◌≤◌, Bool, refl}
-use Rattle.std.proofs.Common.{ap}
-use Rattle.std.proofs.Common.{sym, arith, List, [], ◌∷◌, ◌++◌, length, length-append, map}
-use Rattle.std.proofs.Common.{take}
+use Rattle.std.proofs.Common.{◌≡◌, ◌≢◌, ◌∙◌, ℕ, zero, suc, ◌+◌, ◌-◌, ◌<◌, ◌≤◌, Bool, refl, ap}
+use Rattle.std.proofs.Common.{sym, arith, List, [], ◌∷◌, ◌++◌, length, length-append, map, take}
 use Rattle.std.proofs.Common.{Some}
 use Rattle.std.specs.Prelude.{Result, Ok, Err, OnOk, OnErr}
 use Rattle.sample_book.specs.LastRows.{IsInOrder, IsLastPlace}
