@@ -8,7 +8,7 @@ use Rattle.std.proofs.lemmas.Bool.{or_parts}
 use Rattle.std.proofs.lemmas.List.{take_all, take_more}
 use Rattle.cell_index.specs.Chains.{below, last, later}
 use Rattle.cell_index.specs.Keys.{key_eq}
-use Rattle.cell_index.specs.Places.{AreIn, ArePlaced, IsWhole}
+use Rattle.cell_index.specs.Places.{AreIn, ArePlaced, BlocksAreWhole}
 use Rattle.cell_index.specs.declared.buckets.Buckets.{Buckets}
 use Rattle.cell_index.specs.declared.cells.Key.{Key}
 use Rattle.cell_index.proofs.BucketLemmas.{key_same}
@@ -110,7 +110,7 @@ last_apart keys place key long read =
 
 pub placed-push : (keys : List Key) (key : Key) (before after : Buckets) →
     list_any (key_eq key) keys ≡ false → length keys < 4294967295 → ArePlaced keys before →
-    AreIn (keys ++ key ∷ []) after → IsWhole after → 0 < after.blocks →
+    AreIn (keys ++ key ∷ []) after → BlocksAreWhole after → 0 < after.blocks →
     ArePlaced (keys ++ key ∷ []) after
 placed-push keys key before after absent few placed shelved whole some = record {
   shelved = shelved;
@@ -121,7 +121,8 @@ placed-push keys key before after absent few placed shelved whole some = record 
 }
 
 pub placed-pop : (keys : List Key) (key : Key) (before after : Buckets)
-    → ArePlaced (keys ++ key ∷ []) before → AreIn keys after → IsWhole after → 0 < after.blocks
+    → ArePlaced (keys ++ key ∷ []) before → AreIn keys after → BlocksAreWhole after
+    → 0 < after.blocks
     → ArePlaced keys after
 placed-pop keys key before after placed shelved whole some = record {
   shelved = shelved;

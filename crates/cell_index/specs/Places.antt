@@ -30,8 +30,8 @@ pub record AreShelved (keys : List Key) (blocks : ℕ) (lasts links : List ℕ) 
   pub enough : length keys ≤ length links
 
 -- each block has its sixteen buckets
-abbrev pub IsWhole : Buckets → Type 0
-IsWhole buckets = length buckets.lasts.items ≡ 16 * buckets.blocks
+abbrev pub BlocksAreWhole : Buckets → Type 0
+BlocksAreWhole buckets = length buckets.lasts.items ≡ 16 * buckets.blocks
 
 -- the keys are in these buckets
 abbrev pub AreIn : List Key → Buckets → Type 0
@@ -44,7 +44,7 @@ MOST_KEYS = 4294967295
 -- each key is found by its bucket, and stands once
 pub record ArePlaced (keys : List Key) (buckets : Buckets) : Type 0 where
   pub shelved : AreIn keys buckets
-  pub whole : IsWhole buckets
+  pub whole : BlocksAreWhole buckets
   pub some : 0 < length keys → 0 < buckets.blocks
   pub once : (key : Key) → position (key_eq key) keys ≡ below (last (key_eq key) keys)
   pub few : length keys ≤ MOST_KEYS

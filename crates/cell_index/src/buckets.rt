@@ -6,7 +6,7 @@ ghost use Rattle.std.specs.Prelude.{◌≡◌, ◌<◌, ◌≤◌, ◌+◌, ◌*
 ghost use Rattle.std.specs.Prelude.{slice_index, ◌^◌, OnErr};
 ghost use Rattle.cell_index.specs.Chains.{below, last};
 ghost use Rattle.cell_index.specs.Keys.{key_eq};
-ghost use Rattle.cell_index.specs.Places.{AreIn, IsWhole, bucket_of, spread};
+ghost use Rattle.cell_index.specs.Places.{AreIn, BlocksAreWhole, bucket_of, spread};
 ghost use Rattle.cell_index.specs.declared.cells.Key.{Key};
 
 use crate::cells::Key;
@@ -39,7 +39,7 @@ impl Buckets {
     /// No keys, and no buckets.
     pub(crate) fn new(alloc: Global) -> Buckets
         ensures shelved { AreIn [] result }
-        ensures whole { IsWhole result }
+        ensures whole { BlocksAreWhole result }
         ensures none { result.blocks ≡ 0 }
     {
         Buckets {
@@ -61,13 +61,13 @@ impl Buckets {
 
     /// Links a key that stands behind the others.
     pub(crate) fn link(&mut self, place: usize, key: &Key)
-        requires whole { IsWhole self.old }
+        requires whole { BlocksAreWhole self.old }
         requires some { 0 < self.old.blocks }
         requires there { place < length self.old.links.items }
         requires few { place < 4294967295 }
         ensures shelved { (keys : List Key) → length keys ≡ place → AreIn keys self.old
             → AreIn (keys ++ key.now ∷ []) self.new }
-        ensures whole { IsWhole self.new }
+        ensures whole { BlocksAreWhole self.new }
         ensures blocks { self.new.blocks ≡ self.old.blocks }
         ensures links { length self.new.links.items ≡ length self.old.links.items }
     {
@@ -78,12 +78,12 @@ impl Buckets {
 
     /// Takes the last key out of its bucket.
     pub(crate) fn unlink(&mut self, place: usize, key: &Key)
-        requires whole { IsWhole self.old }
+        requires whole { BlocksAreWhole self.old }
         requires some { 0 < self.old.blocks }
         requires there { place < length self.old.links.items }
         ensures shelved { (keys : List Key) → length keys ≡ place
             → AreIn (keys ++ key.now ∷ []) self.old → AreIn keys self.new }
-        ensures whole { IsWhole self.new }
+        ensures whole { BlocksAreWhole self.new }
         ensures blocks { self.new.blocks ≡ self.old.blocks }
     {
         let bucket = bucket_of(self.blocks, key);
@@ -93,7 +93,7 @@ impl Buckets {
     /// Room for the link of one key more, where there are so many.
     fn make_link(&mut self, place: usize) -> Result<(), AllocError>
         ensures shelved { (keys : List Key) → AreIn keys self.old → AreIn keys self.new }
-        ensures whole { IsWhole self.old → IsWhole self.new }
+        ensures whole { BlocksAreWhole self.old → BlocksAreWhole self.new }
         ensures blocks { self.new.blocks ≡ self.old.blocks }
         ensures there { OnOk result (place ≤ length self.old.links.items
             → place < length self.new.links.items) }
@@ -108,7 +108,7 @@ impl Buckets {
     fn reset(&mut self, blocks: u32) -> Result<(), AllocError>
         requires { blocks ≤ MOST_BLOCKS }
         ensures shelved { OnOk result (AreIn [] self.new) }
-        ensures whole { IsWhole self.old → IsWhole self.new }
+        ensures whole { BlocksAreWhole self.old → BlocksAreWhole self.new }
         ensures blocks { OnOk result (self.new.blocks ≡ blocks) }
         ensures links { self.new.links.items ≡ self.old.links.items }
         ensures err { OnErr result ((keys : List Key) → AreIn keys self.old → AreIn keys self.new) }
@@ -165,12 +165,12 @@ pub(crate) fn place_of(keys: &[Key], buckets: &Buckets, key: &Key) -> Option<usi
 /// Shares all keys out among empty buckets.
 fn link_all(keys: &[Key], buckets: &mut Buckets)
     requires shelved { AreIn [] buckets.old }
-    requires whole { IsWhole buckets.old }
+    requires whole { BlocksAreWhole buckets.old }
     requires some { 0 < buckets.old.blocks }
     requires enough { length keys.now ≤ length buckets.old.links.items }
     requires few { length keys.now ≤ 4294967295 }
     ensures shelved { AreIn keys.now buckets.new }
-    ensures whole { IsWhole buckets.new }
+    ensures whole { BlocksAreWhole buckets.new }
     ensures blocks { buckets.new.blocks ≡ buckets.old.blocks }
 {
     for (place, key) in keys.iter().enumerate() {
@@ -181,10 +181,10 @@ fn link_all(keys: &[Key], buckets: &mut Buckets)
 /// Makes twice as many buckets where there are no more than keys, and room for a link more.
 pub(crate) fn make_buckets(keys: &[Key], buckets: &mut Buckets) -> Result<(), AllocError>
     requires shelved { AreIn keys.now buckets.old }
-    requires whole { IsWhole buckets.old }
+    requires whole { BlocksAreWhole buckets.old }
     requires few { length keys.now ≤ 4294967295 }
     ensures shelved { AreIn keys.now buckets.new }
-    ensures whole { IsWhole buckets.new }
+    ensures whole { BlocksAreWhole buckets.new }
     ensures some { OnOk result (0 < buckets.new.blocks) }
     ensures more { 0 < buckets.old.blocks → 0 < buckets.new.blocks }
     ensures there { OnOk result (length keys.now < length buckets.new.links.items) }

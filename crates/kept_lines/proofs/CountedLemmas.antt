@@ -20,7 +20,7 @@ use Rattle.window_sums.specs.Shares.{Share, slice_counts}
 use Rattle.window_sums.specs.Slices.{CountedDays, counts_of, no_counts, slice_of, slices_a_day}
 use Rattle.window_sums.specs.Slices.{width_of}
 use Rattle.office_history.specs.declared.Measure.{Measure}
-use Rattle.kept_sums.specs.Sums.{IsKept, row_counts, shares_by}
+use Rattle.kept_sums.specs.Sums.{SumsAreKept, row_counts, shares_by}
 use Rattle.kept_sums.specs.Walks.{IsChanged, made_on}
 use Rattle.kept_sums.proofs.DayLemmas.{counts_more}
 use Rattle.kept_sums.proofs.DaysLemmas.{none_counted}
@@ -156,7 +156,7 @@ changed_some m made value row differ none =
 
 -- a slice that an exclusion changes has counts without it
 pub changed-counts : (m : Measure) (made : List (Exclusion × Bool)) (value : Exclusion)
-    (rows : List Row) (sums : CountedDays) (k : ℕ) → IsKept m made rows sums →
+    (rows : List Row) (sums : CountedDays) (k : ℕ) → SumsAreKept m made rows sums →
     IsChanged m made value rows k → counts_of sums k ≢ no_counts
 changed-counts m made value rows sums k kept is none =
     changed_some m made value is.row is.changed
@@ -167,7 +167,7 @@ changed-counts m made value rows sums k kept is none =
 
 -- a slice with counts has a row that counts for something
 counts_found : (m : Measure) (made : List (Exclusion × Bool)) (rows : List Row)
-    (sums : CountedDays) (k : ℕ) → IsKept m made rows sums → counts_of sums k ≢ no_counts →
+    (sums : CountedDays) (k : ℕ) → SumsAreKept m made rows sums → counts_of sums k ≢ no_counts →
     Found m.method (row_counts m made) rows k
 counts_found m made rows sums k kept some = by (find m.method (row_counts m made) rows k)
   where
@@ -209,7 +209,7 @@ pub record IsRanged (m : Measure) (value : Exclusion) (width first end : ℕ) : 
 -- a slice with counts that lies wholly in the range is changed
 pub counted-changed : (m : Measure) (made : List (Exclusion × Bool)) (value : Exclusion)
     (rows : List Row) (sums : CountedDays) (width first end k : ℕ) →
-    IsRanged m value width first end → IsKept m made rows sums →
+    IsRanged m value width first end → SumsAreKept m made rows sums →
     IsCountedIn sums first end k → IsChanged m made value rows k
 counted-changed m made value rows sums width first end k range kept counted =
     let found = counts_found m made rows sums k kept counted.some in
@@ -291,7 +291,7 @@ changed-cut m made value rows width begin end k wide one is from to = record {
 -- a changed slice is cut by the start of the range or by its end, or has counts
 pub changed-parts : (m : Measure) (made : List (Exclusion × Bool)) (value : Exclusion)
     (rows : List Row) (sums : CountedDays) (width first end k : ℕ) →
-    IsRanged m value width first end → IsKept m made rows sums →
+    IsRanged m value width first end → SumsAreKept m made rows sums →
     ((minute : ℕ) → value.from ≤ minute → minute < first * width →
     minute / width ≡ value.from / width) →
     ((minute : ℕ) → end * width ≤ minute → minute < value.to →
@@ -351,7 +351,7 @@ changed-one m made value rows width k wide one is =
 -- a slice that the start cuts, or one with counts, is changed
 pub part-changed : (m : Measure) (made : List (Exclusion × Bool)) (value : Exclusion)
     (rows : List Row) (sums : CountedDays) (width first end k : ℕ) →
-    IsRanged m value width first end → IsKept m made rows sums →
+    IsRanged m value width first end → SumsAreKept m made rows sums →
     ((minute : ℕ) → value.from ≤ minute → minute < first * width →
     minute / width ≡ value.from / width) →
     IsCut m made value rows width value.from (first * width) k

@@ -5,7 +5,7 @@ ghost use Rattle.std.specs.Str.{bytes_eq};
 ghost use Rattle.sample_book.specs.declared.Row.{Row};
 ghost use Rattle.burn_core.specs.Alert.{IsRule, reach_of};
 ghost use Rattle.window_sums.specs.Slices.{day_of, width_of};
-ghost use Rattle.kept_sums.specs.Sums.{Fits, IsKept, row_counts as row_counts_lem};
+ghost use Rattle.kept_sums.specs.Sums.{RowFits, SumsAreKept, row_counts as row_counts_lem};
 ghost use Rattle.kept_sums.specs.Walks.{IsChanged, made_on};
 ghost use Rattle.kept_lines.specs.Touched.{Forgets, HasChanged, IsChangedRow, IsCut, IsRunIf};
 ghost use Rattle.kept_lines.specs.Touched.{LAST_MINUTE, TouchesEach};
@@ -23,7 +23,7 @@ use window_sums::WindowSums;
 // Whether a row counts otherwise with an exclusion than without it. Outside its range it doesn't,
 // so such a row is passed over first: whether it is excluded is asked of all exclusions.
 fn is_changed(measure: &Measure, book: &SampleBook, value: &Exclusion, row: &Row) -> bool
-    requires { Fits measure.now row.now }
+    requires { RowFits measure.now row.now }
     ensures changed { result ≡ true
         → row_counts_lem measure.now (made_on book.now.exclusions value.now false) row.now
         ≢ row_counts_lem measure.now (made_on book.now.exclusions value.now true) row.now }
@@ -46,7 +46,7 @@ fn is_changed_between(
     to: u32,
     row: &Row,
 ) -> bool
-    requires { Fits measure.now row.now }
+    requires { RowFits measure.now row.now }
     ensures changed { result ≡ true
         → IsChangedRow measure.now book.now.exclusions value.now from to row.now }
     ensures same { result ≡ false
@@ -61,7 +61,7 @@ fn is_changed_between(
 // Whether there is such a row, where these minutes all lie on one day.
 fn has_changed(measure: &Measure, book: &SampleBook, value: &Exclusion, from: u32, to: u32) -> bool
     requires one_day { (minute : ℕ) → from ≤ minute → minute < to → day_of minute ≡ day_of from }
-    requires forms { AllByRecursion (Fits measure.now) book.now.rows }
+    requires forms { AllByRecursion (RowFits measure.now) book.now.rows }
     ensures some { result ≡ true
         → HasChanged measure.now book.now.exclusions value.now book.now.rows from to }
     ensures none { result ≡ false
@@ -97,7 +97,7 @@ fn touch_cut(
     requires small { width ≤ 60 }
     requires one_day { (minute : ℕ) → from ≤ minute → minute < to → day_of minute ≡ day_of from }
     requires early { AllByRecursion (λ (row : Row). row.minute ≤ LAST_MINUTE) book.now.rows }
-    requires forms { AllByRecursion (Fits measure.now) book.now.rows }
+    requires forms { AllByRecursion (RowFits measure.now) book.now.rows }
     requires run { IsRunIf width (reach_of rule.now) waiting }
     ensures { TouchesEach (IsCut measure.now book.now.exclusions value.now book.now.rows width from
         to) width (reach_of rule.now) waiting result line.old line.new }
@@ -127,8 +127,8 @@ fn touch_range(
     requires some { 0 < width }
     requires small { width ≤ 60 }
     requires early { AllByRecursion (λ (row : Row). row.minute ≤ LAST_MINUTE) book.now.rows }
-    requires forms { AllByRecursion (Fits measure.now) book.now.rows }
-    requires kept { IsKept measure.now book.now.exclusions book.now.rows sums.now }
+    requires forms { AllByRecursion (RowFits measure.now) book.now.rows }
+    requires kept { SumsAreKept measure.now book.now.exclusions book.now.rows sums.now }
     requires own { bytes_eq value.now.slo measure.now.slo ≡ true }
     requires order { value.now.from < value.now.to }
     ensures { TouchesEach (IsChanged measure.now book.now.exclusions value.now book.now.rows) width
@@ -175,8 +175,8 @@ pub fn forget_exclusion(
     requires some { 0 < width }
     requires small { width ≤ 60 }
     requires early { AllByRecursion (λ (row : Row). row.minute ≤ LAST_MINUTE) book.now.rows }
-    requires forms { AllByRecursion (Fits measure.now) book.now.rows }
-    requires kept { IsKept measure.now book.now.exclusions book.now.rows sums.now }
+    requires forms { AllByRecursion (RowFits measure.now) book.now.rows }
+    requires kept { SumsAreKept measure.now book.now.exclusions book.now.rows sums.now }
     ensures { Forgets (IsChanged measure.now book.now.exclusions value.now book.now.rows) width
         line.old line.new }
 {

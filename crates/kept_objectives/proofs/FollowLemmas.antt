@@ -3,16 +3,16 @@ use Rattle.std.proofs.Common.{Bool, List, [], ◌∷◌}
 use Rattle.std.specs.List.{AllByRecursion}
 use Rattle.sample_book.specs.declared.Exclusion.{Exclusion}
 use Rattle.sample_book.specs.declared.Row.{Row}
-use Rattle.kept_sums.specs.Sums.{Fits, HasItsDay, IsKept}
+use Rattle.kept_sums.specs.Sums.{RowFits, HasItsDay, SumsAreKept}
 use Rattle.kept_objectives.specs.Objectives.{AreKept, HaveDays, HaveForms}
 use Rattle.kept_objectives.specs.declared.kept.ObjectiveSums.{ObjectiveSums}
 
 -- the sums of an objective may follow these rows over those of the book
 pub record MayFollow (made : List (Exclusion × Bool)) (before rows : List Row)
     (k : ObjectiveSums) : Type 0 where
-  pub kept : IsKept k.measure made before k.sums
-  pub forms : AllByRecursion (Fits k.measure) before
-  pub fit : AllByRecursion (Fits k.measure) rows
+  pub kept : SumsAreKept k.measure made before k.sums
+  pub forms : AllByRecursion (RowFits k.measure) before
+  pub fit : AllByRecursion (RowFits k.measure) rows
   pub days : AllByRecursion (HasItsDay k.measure k.sums) rows
 
 pub all_may_follow : (made : List (Exclusion × Bool)) (before rows : List Row)
@@ -27,8 +27,8 @@ all_may_follow made before rows (k ∷ kept) sums forms fit days = (
 -- the sums of an objective may follow an exclusion over the rows of the book
 pub record MayTurn (made : List (Exclusion × Bool)) (rows : List Row) (k : ObjectiveSums) : Type
     0 where
-  pub kept : IsKept k.measure made rows k.sums
-  pub forms : AllByRecursion (Fits k.measure) rows
+  pub kept : SumsAreKept k.measure made rows k.sums
+  pub forms : AllByRecursion (RowFits k.measure) rows
 
 pub all_may_turn : (made : List (Exclusion × Bool)) (rows : List Row) (kept : List ObjectiveSums) →
     AreKept made rows kept → HaveForms rows kept → AllByRecursion (MayTurn made rows) kept

@@ -6,7 +6,7 @@ use Rattle.sample_book.specs.declared.Row.{Row}
 use Rattle.object_terms.specs.declared.Object.{Object}
 use Rattle.kept_sums.specs.office_history.declared.Measure.{Measure}
 use Rattle.kept_sums.specs.office_history.Objectives.{measure_at}
-use Rattle.kept_sums.specs.Sums.{Fits, HasItsDay, IsKept}
+use Rattle.kept_sums.specs.Sums.{RowFits, HasItsDay, SumsAreKept}
 use Rattle.kept_objectives.specs.declared.kept.ObjectiveSums.{ObjectiveSums}
 
 -- objectives with their sums, and room for more
@@ -26,7 +26,7 @@ measures_of kept = map (λ (k : ObjectiveSums). k.measure) kept
 -- the sums of each objective are those of its rows
 abbrev pub AreKept : List (Exclusion × Bool) → List Row → List ObjectiveSums → Type 0
 AreKept made rows kept =
-    AllByRecursion (λ (k : ObjectiveSums). IsKept k.measure made rows k.sums) kept
+    AllByRecursion (λ (k : ObjectiveSums). SumsAreKept k.measure made rows k.sums) kept
 
 -- the days of these rows are there in the sums of each objective
 abbrev pub HaveDays : List Row → List ObjectiveSums → Type 0
@@ -36,7 +36,7 @@ HaveDays rows kept =
 -- these rows have the form that each objective reads
 abbrev pub HaveForms : List Row → List ObjectiveSums → Type 0
 HaveForms rows kept =
-    AllByRecursion (λ (k : ObjectiveSums). AllByRecursion (Fits k.measure) rows) kept
+    AllByRecursion (λ (k : ObjectiveSums). AllByRecursion (RowFits k.measure) rows) kept
 
 -- what is kept is the sums of just the objectives of the catalog
 pub record KeepsSums (members : List Object) (made : List (Exclusion × Bool)) (rows : List Row)

@@ -3,12 +3,12 @@
 //! Promises that each objective keeps the sums of its rows, and that following takes no memory.
 #![tactic(auto)]
 
+mod apply_plan;
+mod by_hint;
 mod follow;
 mod kept;
-mod near;
 mod plan;
 mod same;
-mod take;
 
 pub use kept::{KeptSums, ObjectiveSums};
 pub use kept_sums::{Judgement, LimitName, Outcome, Refusal, Rows, sums_over};

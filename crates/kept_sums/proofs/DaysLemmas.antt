@@ -17,7 +17,7 @@ use Rattle.std.proofs.lemmas.Cmp.{nat_eq_equiv}
 use Rattle.window_sums.specs.Shares.{IsSumOf, Share, slice_counts}
 use Rattle.window_sums.specs.Slices.{CountedDays, counts_of, day_of, has_day, no_counts, slice_of}
 use Rattle.office_history.specs.declared.Measure.{Measure}
-use Rattle.kept_sums.specs.Sums.{HasItsDay, IsKept, row_counts, shares_by}
+use Rattle.kept_sums.specs.Sums.{HasItsDay, SumsAreKept, row_counts, shares_by}
 use Rattle.kept_sums.specs.Walks.{IsWalking, rows_until, walked_shares}
 use Rattle.kept_sums.proofs.ListLemmas.{all_map, all_push, drop_all, drop_at, get_taken, take_all}
 use Rattle.kept_sums.proofs.ListLemmas.{take_at}
@@ -54,8 +54,9 @@ kept_days (Err fault) old new minute days same day has =
 pub kept_more : (m : Measure) (made : List (Exclusion × Bool)) (rows : List Row)
     (old new : CountedDays) → new.method ≡ old.method →
     ((slice : ℕ) → counts_of new slice ≡ counts_of old slice) →
-    ((day : ℕ) → IsTrue (has_day old day) → IsTrue (has_day new day)) → IsKept m made rows old →
-    IsKept m made rows new
+    ((day : ℕ) → IsTrue (has_day old day) → IsTrue (has_day new day))
+    → SumsAreKept m made rows old →
+    SumsAreKept m made rows new
 kept_more m made rows old new methods same more kept = record {
   method = methods ∙ kept.method;
   counted = sum_same old new (shares_by (row_counts m made) rows) methods same kept.counted;

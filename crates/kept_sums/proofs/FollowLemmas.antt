@@ -27,7 +27,7 @@ use Rattle.window_sums.specs.Slices.{CountedDays, day_of, has_day}
 use Rattle.office_history.specs.declared.Measure.{Measure}
 use Rattle.kept_sums.specs.Replacing.{FitsReplaced, HasFollowed, MayFollow, MayReplace, among}
 use Rattle.kept_sums.specs.Replacing.{changes_counts, replaced_counts}
-use Rattle.kept_sums.specs.Sums.{Fits, HasItsDay, IsKept, row_counts, share_by, shares_by}
+use Rattle.kept_sums.specs.Sums.{RowFits, HasItsDay, SumsAreKept, row_counts, share_by, shares_by}
 use Rattle.kept_sums.proofs.ListLemmas.{all_at, all_here, all_map, all_push, all_put, place_within}
 use Rattle.kept_sums.proofs.ListLemmas.{take_all, take_at}
 use Rattle.kept_sums.proofs.ReplaceLemmas.{nothing-added}
@@ -71,7 +71,7 @@ few_among f xs x ys s few = omega (arith, length_around f f xs x s ys, few)
 pub put_facts : (m : Measure) (made : List (Exclusion × Bool)) (rows : List Row) (row : Row)
     (verdict : RowVerdict) (rows' : List Row) (sums : CountedDays) →
     IsPutInto rows row verdict rows' → IsSumOf sums (shares_by (row_counts m made) rows) →
-    AllByRecursion (Fits m) rows → Fits m row → length rows' ≤ 4000000 →
+    AllByRecursion (RowFits m) rows → RowFits m row → length rows' ≤ 4000000 →
     PutFacts m made row verdict rows' sums
 put_facts m made _ _ _ _ sums (behind rows row) counted forms fits few =
     let f = row_counts m made in
@@ -102,7 +102,7 @@ put_facts m made _ _ _ _ sums (in_place before after kept row same) counted form
     let each : AllByRecursion IsSmall (shares_by f before ++ share_by f kept ∷ shares_by f after) =
     subst (AllByRecursion IsSmall) (shares_around f before kept after)
     (small_by f (before ++ kept ∷ after) (small_rows m made (before ++ kept ∷ after) forms)) in
-    let own = small_row m made kept (all_here (Fits m) before kept after forms) in
+    let own = small_row m made kept (all_here (RowFits m) before kept after forms) in
     record {
       before = shares_by f before;
       after = shares_by f after;
@@ -124,11 +124,11 @@ put_facts m made _ _ _ _ sums (in_place before after kept row same) counted form
 
 -- the row that is replaced has the form of the reading
 pub fits_replaced : (m : Measure) (rows : List Row) (row : Row) (verdict : RowVerdict)
-    (rows' : List Row) → IsPutInto rows row verdict rows' → AllByRecursion (Fits m) rows
+    (rows' : List Row) → IsPutInto rows row verdict rows' → AllByRecursion (RowFits m) rows
     → FitsReplaced m verdict
 fits_replaced m _ _ _ _ (behind rows row) forms = tt
 fits_replaced m _ _ _ _ (in_place before after kept row same) forms =
-    all_here (Fits m) before kept after forms
+    all_here (RowFits m) before kept after forms
 
 -- a row of another indicator changes no counts
 no_change : (m : Measure) (made : List (Exclusion × Bool)) (rows : List Row) (row : Row)
@@ -206,7 +206,7 @@ moved_facts m made row verdict sums came may is =
 pub stayed : (m : Measure) (made : List (Exclusion × Bool)) (row : Row) (verdict : RowVerdict)
     (sums : CountedDays) (came : List Row) → MayFollow m made row verdict sums came →
     changes_counts m row verdict ≡ false →
-    IsKept m made (current_rows (came ++ row ∷ [])) sums
+    SumsAreKept m made (current_rows (came ++ row ∷ [])) sums
 stayed m made row verdict sums came may is = by (is_put (verdict_of (current_rows came) row)) refl
   where
     other : (a b : Bool) → (a && b) ≡ false → b ≡ true → a ≡ false
@@ -214,8 +214,9 @@ stayed m made row verdict sums came may is = by (is_put (verdict_of (current_row
     other false b e t = refl
 
     by : (b : Bool) → is_put (verdict_of (current_rows came) row) ≡ b
-        → IsKept m made (current_rows (came ++ row ∷ [])) sums
-    by false e = subst (λ rows. IsKept m made rows sums) (sym (pass-current came row e)) may.kept
+        → SumsAreKept m made (current_rows (came ++ row ∷ [])) sums
+    by false e = subst (λ rows. SumsAreKept m made rows sums)
+        (sym (pass-current came row e)) may.kept
     by true e =
         let rows' = current_rows (came ++ row ∷ []) in
         let place = standing came row e in
@@ -257,15 +258,15 @@ few_until before rows at row here few =
 
 -- the rows of a book are the current ones of themselves, and none of the batch came yet
 pub follow_begins : (m : Measure) (made : List (Exclusion × Bool)) (before rows : List Row)
-    (sums : CountedDays) → current_rows before ≡ before → IsKept m made before sums →
-    AllByRecursion (Fits m) before →
+    (sums : CountedDays) → current_rows before ≡ before → SumsAreKept m made before sums →
+    AllByRecursion (RowFits m) before →
     HasFollowed m made before rows 0 sums sums
 follow_begins m made before rows sums current kept forms =
     let same : current_rows (before ++ []) ≡ before =
     ap current_rows (append-nil before) ∙ current in
     record {
-      kept = subst (λ l. IsKept m made l sums) (sym same) kept;
-      forms = subst (AllByRecursion (Fits m)) (sym same) forms;
+      kept = subst (λ l. SumsAreKept m made l sums) (sym same) kept;
+      forms = subst (AllByRecursion (RowFits m)) (sym same) forms;
       days = λ day. refl;
     }
 
@@ -274,14 +275,14 @@ pub follow_may : (m : Measure) (made : List (Exclusion × Bool)) (before rows : 
     (row : Row) (verdict : RowVerdict) (old sums : CountedDays) →
     HasFollowed m made before rows at old sums → slice_get rows at ≡ Some row →
     slice_get (verdicts before rows) at ≡ Some verdict →
-    AllByRecursion (Fits m) rows → AllByRecursion (HasItsDay m old) rows →
+    AllByRecursion (RowFits m) rows → AllByRecursion (HasItsDay m old) rows →
     length (current_rows (before ++ rows)) ≤ 4000000 →
     MayFollow m made row verdict sums (before ++ take at rows)
 follow_may m made before rows at row verdict old sums so here judged fit days few = record {
   kept = so.kept;
   comes = same (verdicts-at before rows at row here ∙ refl);
   forms = so.forms;
-  fits = all_at (Fits m) rows at row here fit;
+  fits = all_at (RowFits m) rows at row here fit;
   day = all_at (HasItsDay m sums) rows at row here (same_days m rows old sums so.days days);
   few = few_until before rows at row here few;
 }
@@ -297,17 +298,18 @@ follow_may m made before rows at row verdict old sums so here judged fit days fe
 -- one row further
 pub follow_next : (m : Measure) (made : List (Exclusion × Bool)) (before rows : List Row) (at : ℕ)
     (row : Row) (old sums new : CountedDays) →
-    HasFollowed m made before rows at old sums → slice_get rows at ≡ Some row → Fits m row →
-    IsKept m made (current_rows ((before ++ take at rows) ++ row ∷ [])) new →
+    HasFollowed m made before rows at old sums → slice_get rows at ≡ Some row → RowFits m row →
+    SumsAreKept m made (current_rows ((before ++ take at rows) ++ row ∷ [])) new →
     ((day : ℕ) → has_day new day ≡ has_day sums day) →
     HasFollowed m made before rows (at + 1) old new
 follow_next m made before rows at row old sums new so here fits kept days =
     let came = before ++ take at rows in
     subst (λ n. HasFollowed m made before rows n old new) (one at) (record {
       kept =
-          subst (λ l. IsKept m made (current_rows l) new) (next_came before rows at row here) kept;
-      forms = subst (λ l. AllByRecursion (Fits m) (current_rows l))
-          (next_came before rows at row here) (all_next (Fits m) came row so.forms fits);
+          subst (λ l. SumsAreKept m made (current_rows l) new)
+          (next_came before rows at row here) kept;
+      forms = subst (λ l. AllByRecursion (RowFits m) (current_rows l))
+          (next_came before rows at row here) (all_next (RowFits m) came row so.forms fits);
       days = λ day. days day ∙ so.days day;
     })
   where
@@ -317,9 +319,9 @@ follow_next m made before rows at row old sums new so here fits kept days =
 -- all rows of the batch were followed
 pub follow_ends : (m : Measure) (made : List (Exclusion × Bool)) (before rows : List Row) (at : ℕ)
     (old sums : CountedDays) → HasFollowed m made before rows at old sums → at ≡ length rows →
-    IsKept m made (current_rows (before ++ rows)) sums
+    SumsAreKept m made (current_rows (before ++ rows)) sums
 follow_ends m made before rows at old sums so e =
-    subst (λ l. IsKept m made (current_rows (before ++ l)) sums) (take_all rows at e) so.kept
+    subst (λ l. SumsAreKept m made (current_rows (before ++ l)) sums) (take_all rows at e) so.kept
 
 -- what is judged of a row stands at its place
 pub verdict_there : (before rows : List Row) (found : List RowVerdict) (at : ℕ) (row : Row)

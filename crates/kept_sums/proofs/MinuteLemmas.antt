@@ -19,7 +19,7 @@ use Rattle.window_sums.specs.Shares as days
 use Rattle.window_sums.specs.Slices.{CountedDays, counts_of, no_counts, slice_of, width_of}
 use Rattle.office_history.specs.declared.Measure.{Measure}
 use Rattle.office_history.specs.Counts.{slice_counts}
-use Rattle.kept_sums.specs.Sums.{IsKept, row_counts, share_by, shares_by}
+use Rattle.kept_sums.specs.Sums.{SumsAreKept, row_counts, share_by, shares_by}
 
 amount-cons : (key f : Share → ℕ) (s : Share) (shares : List Share) (k : ℕ) →
     amount_at key f (s ∷ shares) k ≡ (if key s == k then f s else 0) + amount_at key f shares k
@@ -229,7 +229,7 @@ same_slices m made rows k some = λ i. record {
 
 -- kept counts are those of the minutes
 pub kept_counts : (m : Measure) (made : List (Exclusion × Bool)) (rows : List Row)
-    (sums : CountedDays) (k : ℕ) → 0 < width_of m.method → IsKept m made rows sums →
+    (sums : CountedDays) (k : ℕ) → 0 < width_of m.method → SumsAreKept m made rows sums →
     counts_of sums k ≡ slice_counts (record { rows = rows; exclusions = made }) m k
 kept_counts m made rows sums k some kept =
     kept.counted k ∙ ap (λ method. days.slice_counts method (shares_by (row_counts m made) rows) k)

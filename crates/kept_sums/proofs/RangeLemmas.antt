@@ -22,7 +22,7 @@ use Rattle.window_sums.specs.Slices.{CountedDays, counts_of, counts_outside, day
 use Rattle.window_sums.specs.Slices.{is_whole, no_counts, slice_of, width_of}
 use Rattle.window_sums.proofs.WidthFacts.{day_of_slice}
 use Rattle.office_history.specs.declared.Measure.{Measure}
-use Rattle.kept_sums.specs.Sums.{Fits, IsKept, row_counts, shares_by}
+use Rattle.kept_sums.specs.Sums.{RowFits, SumsAreKept, row_counts, shares_by}
 use Rattle.kept_sums.specs.Walks.{IsWalking, followed, is_within, made_on, up_to}
 use Rattle.kept_sums.proofs.DayLemmas.{counts_more, other_counts_none, outside_free, same_on}
 use Rattle.kept_sums.proofs.DayLemmas.{small_within}
@@ -394,7 +394,7 @@ rest_of_day from to minute short a b = omega (arith, short, a, b)
 pub range_facts : (m : Measure) (made : List (Exclusion × Bool)) (value : Exclusion)
     (taken : Bool) (from to place : ℕ) (rows : List Row) (row : Row) (next : Option ℕ)
     (sums : CountedDays) → next ≡ Some place → slice_get rows place ≡ Some row →
-    AllByRecursion (Fits m) rows → length rows ≤ 4000000 →
+    AllByRecursion (RowFits m) rows → length rows ≤ 4000000 →
     IsWalking (is_on m.sli (day_of from)) (followed m made value taken from)
     (followed m made value taken to) rows next sums →
     WalkFacts (followed m made value taken from) (followed m made value taken to) place rows row
@@ -414,7 +414,7 @@ range_facts m made value taken from to place rows row next sums is at forms few 
 -- before the range begins the sums are those of rows that haven't followed
 pub counted_begins : (m : Measure) (made : List (Exclusion × Bool)) (value : Exclusion)
     (taken way : Bool) (rows : List Row) (sums : CountedDays) → taken ≡ way →
-    IsKept m (made_on made value (not taken)) rows sums →
+    SumsAreKept m (made_on made value (not taken)) rows sums →
     IsSumOf sums (shares_by (followed m made value way value.from) rows)
 counted_begins m made value taken way rows sums is kept =
     subst (λ t. IsSumOf sums (shares_by (followed m made value t value.from) rows)) is
@@ -425,10 +425,10 @@ counted_begins m made value taken way rows sums is kept =
 -- behind it they are those of rows that have
 pub kept_after : (m : Measure) (made : List (Exclusion × Bool)) (value : Exclusion)
     (taken way : Bool) (rows : List Row) (old new : CountedDays) → taken ≡ way →
-    IsKept m (made_on made value (not taken)) rows old →
+    SumsAreKept m (made_on made value (not taken)) rows old →
     IsSumOf new (shares_by (followed m made value way value.to) rows) →
     new.method ≡ old.method → ((day : ℕ) → has_day new day ≡ has_day old day) →
-    IsKept m (made_on made value taken) rows new
+    SumsAreKept m (made_on made value taken) rows new
 kept_after m made value taken way rows old new is kept counted methods days = record {
   method = methods ∙ kept.method;
   counted = subst (IsSumOf new) (range_ends m made value taken rows)

@@ -21,7 +21,7 @@ use Rattle.sample_book.specs.Exclusions.{is_excluded}
 use Rattle.window_sums.specs.Shares.{IsSmall, Share}
 use Rattle.window_sums.specs.Slices.{no_counts}
 use Rattle.office_history.specs.declared.Measure.{Measure}
-use Rattle.kept_sums.specs.Sums.{Fits, row_counts, share_by, shares_by}
+use Rattle.kept_sums.specs.Sums.{RowFits, row_counts, share_by, shares_by}
 
 small_amount : (reading : Reading) (op : Op) (value : ℕ) (a : Amount) (minute : ℕ) →
     HasForm reading a → readings.IsSmall a →
@@ -53,7 +53,7 @@ pub small_none : (minute : ℕ) → IsSmall (record { minute = minute; counts = 
 small_none minute = record { part = omega arith; few = omega arith }
 
 -- what a row counts for is small
-pub small_row : (m : Measure) (made : List (Exclusion × Bool)) (row : Row) → Fits m row
+pub small_row : (m : Measure) (made : List (Exclusion × Bool)) (row : Row) → RowFits m row
     → IsSmall (share_by (row_counts m made) row)
 small_row m made row fits = by (is_of m.sli row) (not (is_excluded made m.slo row.minute)) refl
   where
@@ -71,7 +71,7 @@ abbrev pub AreSmallBy : (Row → Counts) → List Row → Type 0
 AreSmallBy f rows = AllByRecursion (λ row. IsSmall (share_by f row)) rows
 
 pub small_rows : (m : Measure) (made : List (Exclusion × Bool)) (rows : List Row)
-    → AllByRecursion (Fits m) rows → AreSmallBy (row_counts m made) rows
+    → AllByRecursion (RowFits m) rows → AreSmallBy (row_counts m made) rows
 small_rows m made [] h = tt
 small_rows m made (row ∷ rows) h = (small_row m made row h.0, small_rows m made rows h.1)
 

@@ -11,7 +11,7 @@ use Rattle.sample_book.specs.declared.Row.{Row}
 use Rattle.window_sums.specs.Shares.{Share, slice_counts}
 use Rattle.window_sums.specs.Slices.{CountedDays, counts_of, slice_of}
 use Rattle.office_history.specs.declared.Measure.{Measure}
-use Rattle.kept_sums.specs.Sums.{IsKept, row_counts, share_by, shares_by}
+use Rattle.kept_sums.specs.Sums.{SumsAreKept, row_counts, share_by, shares_by}
 use Rattle.kept_sums.specs.Walks.{IsChanged, made_on}
 use Rattle.kept_sums.proofs.DayLemmas.{changed_on}
 use Rattle.kept_sums.proofs.ReplaceLemmas.{same_or_other}
@@ -96,8 +96,9 @@ unchanged m made value taken rows k free = shares-like m.method without within r
 
 -- so the sums that followed it have the counts there that they had
 pub untouched : (m : Measure) (made : List (Exclusion × Bool)) (value : Exclusion) (taken : Bool)
-    (rows : List Row) (old new : CountedDays) → IsKept m (made_on made value (not taken)) rows old →
-    IsKept m (made_on made value taken) rows new → (k : ℕ) →
+    (rows : List Row) (old new : CountedDays)
+    → SumsAreKept m (made_on made value (not taken)) rows old →
+    SumsAreKept m (made_on made value taken) rows new → (k : ℕ) →
     (IsChanged m made value rows k → ⊥) → counts_of new k ≡ counts_of old k
 untouched m made value taken rows old new before after k free =
     after.counted k

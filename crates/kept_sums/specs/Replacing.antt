@@ -14,7 +14,7 @@ use Rattle.sample_book.specs.Rows.{current_rows, verdict_of}
 use Rattle.window_sums.specs.Shares.{AreSmall, IsSumOf, Share}
 use Rattle.window_sums.specs.Slices.{CountedDays, has_day, no_counts, slice_of}
 use Rattle.office_history.specs.declared.Measure.{Measure}
-use Rattle.kept_sums.specs.Sums.{Fits, HasItsDay, IsKept, row_counts}
+use Rattle.kept_sums.specs.Sums.{RowFits, HasItsDay, SumsAreKept, row_counts}
 
 -- one share between others
 abbrev pub among : List Share → ℕ → Counts → List Share → List Share
@@ -34,7 +34,7 @@ replaced_counts m made _ = no_counts
 
 -- the row whose place is taken has the form of the reading
 abbrev pub FitsReplaced : Measure → RowVerdict → Type 0
-FitsReplaced m (Newer kept) = Fits m kept
+FitsReplaced m (Newer kept) = RowFits m kept
 FitsReplaced m _ = Unit {0}
 
 -- a row of the indicator is put
@@ -44,18 +44,18 @@ changes_counts m row verdict = is_of m.sli row && is_put verdict
 -- the sums may follow a row that comes over those that came
 pub record MayFollow (m : Measure) (made : List (Exclusion × Bool)) (row : Row)
     (verdict : RowVerdict) (sums : CountedDays) (came : List Row) : Type 0 where
-  pub kept : IsKept m made (current_rows came) sums
+  pub kept : SumsAreKept m made (current_rows came) sums
   pub comes : verdict ≡ verdict_of (current_rows came) row
-  pub forms : AllByRecursion (Fits m) (current_rows came)
-  pub fits : Fits m row
+  pub forms : AllByRecursion (RowFits m) (current_rows came)
+  pub fits : RowFits m row
   pub day : HasItsDay m sums row
   pub few : length (current_rows (came ++ row ∷ [])) ≤ MAX_SUMMED_ROWS
 
 -- the sums have followed so many rows of a batch
 pub record HasFollowed (m : Measure) (made : List (Exclusion × Bool)) (before rows : List Row)
     (at : ℕ) (old sums : CountedDays) : Type 0 where
-  pub kept : IsKept m made (current_rows (before ++ take at rows)) sums
-  pub forms : AllByRecursion (Fits m) (current_rows (before ++ take at rows))
+  pub kept : SumsAreKept m made (current_rows (before ++ take at rows)) sums
+  pub forms : AllByRecursion (RowFits m) (current_rows (before ++ take at rows))
   pub days : (day : ℕ) → has_day sums day ≡ has_day old day
 
 -- a row of a batch that moves lies in a slice

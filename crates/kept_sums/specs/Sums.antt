@@ -27,8 +27,8 @@ abbrev pub shares_by : (Row → Counts) → List Row → List Share
 shares_by f rows = map (share_by f) rows
 
 -- a row of the objective's indicator has the form of its reading, and counts at most 10^9 events
-abbrev pub Fits : Measure → Row → Type 0
-Fits m row = is_of m.sli row ≡ true → HasForm m.reading row.amount × IsSmall row.amount
+abbrev pub RowFits : Measure → Row → Type 0
+RowFits m row = is_of m.sli row ≡ true → HasForm m.reading row.amount × IsSmall row.amount
 
 -- the day of a row of the indicator is there, so that the row may count or not without memory
 abbrev pub HasItsDay : Measure → CountedDays → Row → Type 0
@@ -36,7 +36,7 @@ HasItsDay m sums row = is_of m.sli row ≡ true → IsTrue (has_day sums (day_of
 
 -- The sums of an objective over these exclusions and rows: each slice has the counts of its rows.
 -- The days of excluded rows are there too, so that a lifting takes no memory.
-pub record IsKept (m : Measure) (made : List (Exclusion × Bool)) (rows : List Row)
+pub record SumsAreKept (m : Measure) (made : List (Exclusion × Bool)) (rows : List Row)
     (sums : CountedDays) : Type 0 where
   pub method : sums.method ≡ m.method
   pub counted : IsSumOf sums (shares_by (row_counts m made) rows)

@@ -11,7 +11,7 @@ ghost use Rattle.sample_book.specs.Rows.{current_rows};
 ghost use Rattle.window_sums.specs.Slices.{counts_of, has_day, slice_of};
 ghost use Rattle.kept_sums.specs.Replacing.{HasMoved, MayFollow};
 ghost use Rattle.kept_sums.specs.Replacing.{changes_counts as changes_counts_def};
-ghost use Rattle.kept_sums.specs.Sums.{Fits, HasItsDay, IsKept};
+ghost use Rattle.kept_sums.specs.Sums.{RowFits, HasItsDay, SumsAreKept};
 
 use crate::counting::{changes_counts, replaced_counts, row_counts};
 use crate::exchange::exchange;
@@ -32,7 +32,8 @@ fn follow_row(
     requires may { (came : List Row) × MayFollow measure.now book.now.exclusions row.now verdict.now
         sums.old came }
     ensures kept { (came : List Row) → MayFollow measure.now book.now.exclusions row.now verdict.now
-        sums.old came → IsKept measure.now book.now.exclusions (current_rows (came ++ row.now ∷ []))
+        sums.old came → SumsAreKept measure.now book.now.exclusions
+        (current_rows (came ++ row.now ∷ []))
         sums.new }
     ensures days { (day : ℕ) → has_day sums.new day ≡ has_day sums.old day }
     ensures touched { (slice : ℕ) → (changes_counts_def measure.now row.now verdict.now ≡ true
@@ -56,13 +57,14 @@ pub fn count_batch(
     rows: &[Row],
     verdicts: &[RowVerdict],
 )
-    requires kept { IsKept measure.now book.now.exclusions book.now.rows sums.old }
+    requires kept { SumsAreKept measure.now book.now.exclusions book.now.rows sums.old }
     requires verdicts { verdicts.now ≡ verdicts_def book.now.rows rows.now }
-    requires forms { AllByRecursion (Fits measure.now) book.now.rows }
-    requires fit { AllByRecursion (Fits measure.now) rows.now }
+    requires forms { AllByRecursion (RowFits measure.now) book.now.rows }
+    requires fit { AllByRecursion (RowFits measure.now) rows.now }
     requires days { AllByRecursion (HasItsDay measure.now sums.old) rows.now }
     requires few { length (current_rows (book.now.rows ++ rows.now)) ≤ MAX_SUMMED_ROWS }
-    ensures kept { IsKept measure.now book.now.exclusions (current_rows (book.now.rows ++ rows.now))
+    ensures kept { SumsAreKept measure.now book.now.exclusions
+        (current_rows (book.now.rows ++ rows.now))
         sums.new }
     ensures days { (day : ℕ) → has_day sums.new day ≡ has_day sums.old day }
     // Only slices of rows that move are touched.
@@ -81,7 +83,7 @@ fn reserve_row(sums: &mut WindowSums, measure: &Measure, row: &Row) -> Result<()
     ensures days { (other : Row) → HasItsDay measure.now sums.old other
         → HasItsDay measure.now sums.new other }
     ensures kept { (made : List (Exclusion × Bool)) (rows : List Row)
-        → IsKept measure.now made rows sums.old → IsKept measure.now made rows sums.new }
+        → SumsAreKept measure.now made rows sums.old → SumsAreKept measure.now made rows sums.new }
 {
     if row.sli == measure.sli {
         return sums.reserve(row.minute);
@@ -101,7 +103,8 @@ pub fn reserve_batch(
 ) -> Result<(), AllocError>
     ensures days { OnOk result (AllByRecursion (HasItsDay measure.now sums.new) rows.now) }
     ensures kept { (made : List (Exclusion × Bool)) (before : List Row)
-        → IsKept measure.now made before sums.old → IsKept measure.now made before sums.new }
+        → SumsAreKept measure.now made before sums.old
+        → SumsAreKept measure.now made before sums.new }
 {
     for row in rows {
         reserve_row(sums, measure, row)?;

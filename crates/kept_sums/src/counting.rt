@@ -4,7 +4,7 @@ ghost use Rattle.sample_book.specs.Exclusions.{excludes};
 ghost use Rattle.sample_book.specs.History.{is_put as is_put_def};
 ghost use Rattle.kept_sums.specs.Replacing.{FitsReplaced, changes_counts as changes_counts_def};
 ghost use Rattle.kept_sums.specs.Replacing.{replaced_counts as replaced_counts_def};
-ghost use Rattle.kept_sums.specs.Sums.{Fits, row_counts as row_counts_def};
+ghost use Rattle.kept_sums.specs.Sums.{RowFits, row_counts as row_counts_def};
 ghost use Rattle.kept_sums.specs.Walks.{made_on};
 
 use exact_fraction::Label;
@@ -28,7 +28,7 @@ pub fn row_at(book: &SampleBook, place: u32) -> Row
 
 /// What a row counts for in an objective.
 pub fn row_counts(measure: &Measure, book: &SampleBook, row: &Row) -> Counts
-    requires { Fits measure.now row.now }
+    requires { RowFits measure.now row.now }
     ensures { result ≡ row_counts_def measure.now book.now.exclusions row.now }
 {
     if row.sli == measure.sli && !book.is_excluded(measure.slo, row.minute) {
@@ -82,7 +82,7 @@ pub(crate) fn counts_on(
     taken: bool,
     row: &Row,
 ) -> Counts
-    requires { Fits measure.now row.now }
+    requires { RowFits measure.now row.now }
     ensures { result
         ≡ row_counts_def measure.now (made_on book.now.exclusions value.now taken) row.now }
 {

@@ -3,16 +3,16 @@
 //! Promises that the counts of each slice stay those of the rows that are current.
 #![tactic(auto)]
 
-mod anew;
 mod batch;
 mod counting;
 mod exchange;
+mod from_rows;
 pub mod laws;
 mod range;
 
-pub use anew::sums_over;
 pub use batch::{count_batch, reserve_batch};
 pub use counting::{NO_COUNTS, changes_counts, excludes_minute, row_at, row_counts};
+pub use from_rows::sums_over;
 pub use office_history::{Judgement, LimitName, Measure, Outcome, Refusal, Rows};
 pub use range::follow_exclusion;
 pub use window_sums::WindowSums;

@@ -8,7 +8,7 @@ ghost use Rattle.sample_book.specs.Counting.{is_of};
 ghost use Rattle.window_sums.specs.Shares.{IsSumOf, Share};
 ghost use Rattle.window_sums.specs.Slices.{counts_of, day_of, has_day};
 ghost use Rattle.kept_sums.specs.Replacing.{MayReplace, among};
-ghost use Rattle.kept_sums.specs.Sums.{Fits, HasItsDay, IsKept, shares_by};
+ghost use Rattle.kept_sums.specs.Sums.{RowFits, HasItsDay, SumsAreKept, shares_by};
 ghost use Rattle.kept_sums.specs.Walks.{IsChanged, followed, made_on};
 
 use crate::counting::{counts_on, row_at};
@@ -40,7 +40,7 @@ fn follow_on_row(
     requires begun { value.now.from ≤ from }
     requires order { from ≤ to }
     requires own { is_of measure.now.sli row.now ≡ true }
-    requires fits { Fits measure.now row.now }
+    requires fits { RowFits measure.now row.now }
     requires day { IsTrue (has_day sums.old (day_of row.now.minute)) }
     requires may { (before : List Share) × (after : List Share)
         × MayReplace sums.old row.now.minute
@@ -78,7 +78,7 @@ fn follow_between(
     requires counted { IsSumOf sums.old
         (shares_by (followed measure.now book.now.exclusions value.now taken from) book.now.rows) }
     requires days { AllByRecursion (HasItsDay measure.now sums.old) book.now.rows }
-    requires forms { AllByRecursion (Fits measure.now) book.now.rows }
+    requires forms { AllByRecursion (RowFits measure.now) book.now.rows }
     requires few { length book.now.rows ≤ MAX_SUMMED_ROWS }
     ensures counted { IsSumOf sums.new
         (shares_by (followed measure.now book.now.exclusions value.now taken to) book.now.rows) }
@@ -102,7 +102,7 @@ fn follow_lifting(sums: &mut WindowSums, measure: &Measure, book: &SampleBook, v
     requires counted { IsSumOf sums.old (shares_by
         (followed measure.now book.now.exclusions value.now false value.now.from) book.now.rows) }
     requires days { AllByRecursion (HasItsDay measure.now sums.old) book.now.rows }
-    requires forms { AllByRecursion (Fits measure.now) book.now.rows }
+    requires forms { AllByRecursion (RowFits measure.now) book.now.rows }
     requires few { length book.now.rows ≤ MAX_SUMMED_ROWS }
     ensures counted { IsSumOf sums.new (shares_by
         (followed measure.now book.now.exclusions value.now false value.now.to) book.now.rows) }
@@ -129,7 +129,7 @@ fn follow_taking(sums: &mut WindowSums, measure: &Measure, book: &SampleBook, va
     requires counted { IsSumOf sums.old (shares_by
         (followed measure.now book.now.exclusions value.now true value.now.from) book.now.rows) }
     requires days { AllByRecursion (HasItsDay measure.now sums.old) book.now.rows }
-    requires forms { AllByRecursion (Fits measure.now) book.now.rows }
+    requires forms { AllByRecursion (RowFits measure.now) book.now.rows }
     requires few { length book.now.rows ≤ MAX_SUMMED_ROWS }
     ensures counted { IsSumOf sums.new (shares_by
         (followed measure.now book.now.exclusions value.now true value.now.to) book.now.rows) }
@@ -160,11 +160,11 @@ pub fn follow_exclusion(
     value: &Exclusion,
     taken: bool,
 )
-    requires kept { IsKept measure.now (made_on book.now.exclusions value.now (not taken))
+    requires kept { SumsAreKept measure.now (made_on book.now.exclusions value.now (not taken))
         book.now.rows sums.old }
-    requires forms { AllByRecursion (Fits measure.now) book.now.rows }
+    requires forms { AllByRecursion (RowFits measure.now) book.now.rows }
     requires few { length book.now.rows ≤ MAX_SUMMED_ROWS }
-    ensures kept { IsKept measure.now (made_on book.now.exclusions value.now taken)
+    ensures kept { SumsAreKept measure.now (made_on book.now.exclusions value.now taken)
         book.now.rows sums.new }
     ensures days { (day : ℕ) → has_day sums.new day ≡ has_day sums.old day }
     // Only slices of rows that count otherwise with the exclusion are touched.

@@ -36,7 +36,7 @@ pub record AreLinked (waiting : ℕ → Bool) (links : List Link) (first last : 
   pub later : (place : ℕ) → waiting place ≡ true → IsNext waiting (place + 1) (later_at links place)
 
 -- what is kept of a box
-pub record IsKept (made : List (Notice × Bool)) (links : List Link) (first last : Option ℕ)
+pub record NoticesAreKept (made : List (Notice × Bool)) (links : List Link) (first last : Option ℕ)
     (waiting : ℕ) : Type 0 where
   pub few : length made < 2 ^ 32
   pub numbered : AreNumbered 1 (notices_of made)

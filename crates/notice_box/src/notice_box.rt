@@ -28,7 +28,7 @@ pub struct NoticeBox {
 impl Model for NoticeBox {
     ghost use Rattle.std.specs.Prelude.{◌-◌, min, vec_capacity, vec_len};
     ghost use Rattle.notice_box.specs.Box.{Made};
-    ghost use Rattle.notice_box.specs.Links.{IsKept};
+    ghost use Rattle.notice_box.specs.Links.{NoticesAreKept};
 
     ghost Value = { Made };
 
@@ -38,7 +38,7 @@ impl Model for NoticeBox {
           (vec_capacity a.made - vec_len a.made) (vec_capacity a.links - vec_len a.links);
     } };
 
-    ghost invariant = { λ a. IsKept a.made.items a.links.items a.first a.last a.waiting };
+    ghost invariant = { λ a. NoticesAreKept a.made.items a.links.items a.first a.last a.waiting };
 }
 
 impl NoticeBox {

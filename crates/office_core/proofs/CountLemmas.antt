@@ -10,7 +10,7 @@ use Rattle.window_sums.specs.Shares.{slice_counts as share_counts}
 use Rattle.window_sums.specs.Slices.{CountedDays, counts_of}
 use Rattle.object_terms.specs.declared.Object.{Object}
 use Rattle.office_history.specs.declared.Measure.{Measure}
-use Rattle.kept_sums.specs.Sums.{IsKept, row_counts, shares_by}
+use Rattle.kept_sums.specs.Sums.{SumsAreKept, row_counts, shares_by}
 use Rattle.kept_objectives.specs.Objectives.{IsObjective, KeepsSums, measures_of}
 use Rattle.kept_objectives.specs.declared.ObjectiveSums.{ObjectiveSums}
 use Rattle.office_derived.specs.declared.Derived.{Derived}
@@ -20,11 +20,11 @@ use Rattle.office_core.specs.Lent.{CountTheSame}
 module _ (members : List Object) (made : List (Exclusion × Bool)) (rows : List Row) where
   kept_of : (kept : List ObjectiveSums) (m : Measure) (sums : CountedDays) →
       KeepsSums members made rows kept → Contains kept (record { measure = m; sums = sums }) →
-      IsKept m made rows sums
+      SumsAreKept m made rows sums
   kept_of kept m sums keeps there =
-      All-contains (λ (k : ObjectiveSums). IsKept k.measure made rows k.sums) kept
+      All-contains (λ (k : ObjectiveSums). SumsAreKept k.measure made rows k.sums) kept
       (record { measure = m; sums = sums })
-      (All-from_recursion (λ (k : ObjectiveSums). IsKept k.measure made rows k.sums) kept
+      (All-from_recursion (λ (k : ObjectiveSums). SumsAreKept k.measure made rows k.sums) kept
       keeps.sums) there
 
   objectives : (kept : List ObjectiveSums) →
@@ -42,7 +42,8 @@ module _ (members : List Object) (made : List (Exclusion × Bool)) (rows : List 
       (All-from_recursion (IsObjective members) (measures_of old) (objectives old keeps.only))
       there)
 
-  same_counts : (m : Measure) (a b : CountedDays) → IsKept m made rows a → IsKept m made rows b →
+  same_counts : (m : Measure) (a b : CountedDays) → SumsAreKept m made rows a
+      → SumsAreKept m made rows b →
       (slice : ℕ) → counts_of b slice ≡ counts_of a slice
   same_counts m a b of_a of_b slice =
       of_b.counted slice

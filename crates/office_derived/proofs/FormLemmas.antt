@@ -7,7 +7,7 @@ use Rattle.slice_method.specs.declared.Reading.{Reading}
 use Rattle.slice_method.specs.Readings.{HasForm}
 use Rattle.sample_book.specs.declared.Row.{Row}
 use Rattle.object_terms.specs.declared.Object.{Object}
-use Rattle.kept_objectives.specs.kept_sums.Sums.{Fits}
+use Rattle.kept_objectives.specs.kept_sums.Sums.{RowFits}
 use Rattle.kept_objectives.specs.declared.ObjectiveSums.{ObjectiveSums}
 use Rattle.kept_objectives.specs.Objectives.{IsObjective}
 use Rattle.kept_objectives.proofs.ObjectiveLemmas.{named}
@@ -17,7 +17,7 @@ use Rattle.office_derived.specs.declared.derived.Derived.{Derived}
 use Rattle.office_derived.specs.Derived.{IsRead, IsSound}
 
 fits : (members : List Object) (m : Measure) (row : Row) → IsObjective members m →
-    IsRead members row → Fits m row
+    IsRead members row → RowFits m row
 fits members m row is read own =
     let known = named members m.slo is.number m is.there in
     let same : row.sli ≡ m.sli = (bytes_eq-Decides row.sli m.sli).0 own in
@@ -28,7 +28,7 @@ fits members m row is read own =
 
 -- each row that the catalog reads has the form that an objective wants
 pub all_fit : (members : List Object) (m : Measure) (rows : List Row) → IsObjective members m →
-    AllByRecursion (IsRead members) rows → AllByRecursion (Fits m) rows
+    AllByRecursion (IsRead members) rows → AllByRecursion (RowFits m) rows
 all_fit members m [] is read = tt
 all_fit members m (row ∷ rows) is read =
     (fits members m row is read.0, all_fit members m rows is read.1)
@@ -37,14 +37,15 @@ all_fit members m (row ∷ rows) is read =
 pub all_forms : (members : List Object) (kept : List ObjectiveSums) (rows : List Row) →
     AllByRecursion (λ (k : ObjectiveSums). IsObjective members k.measure) kept →
     AllByRecursion (IsRead members) rows →
-    AllByRecursion (λ (k : ObjectiveSums). AllByRecursion (Fits k.measure) rows) kept
+    AllByRecursion (λ (k : ObjectiveSums). AllByRecursion (RowFits k.measure) rows) kept
 all_forms members [] rows only read = tt
 all_forms members (k ∷ kept) rows only read =
     (all_fit members k.measure rows only.0 read, all_forms members kept rows only.1 read)
 
 -- the rows of the book, where what is kept is sound
 pub sound_forms : (d : Derived) → IsSound d →
-    AllByRecursion (λ (k : ObjectiveSums). AllByRecursion (Fits k.measure) d.book.rows) d.sums.kept
+    AllByRecursion (λ (k : ObjectiveSums). AllByRecursion (RowFits k.measure) d.book.rows)
+    d.sums.kept
 sound_forms d s =
     all_forms d.catalog d.sums.kept d.book.rows s.sums.only
     (recursion_from_All (IsRead d.catalog) d.book.rows s.read)

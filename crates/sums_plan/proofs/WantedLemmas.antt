@@ -12,7 +12,7 @@ use Rattle.object_terms.specs.Slo.{slo_in}
 use Rattle.catalog_terms.specs.Keys.{member_of, is_key}
 use Rattle.slo_catalog.proofs.KeyLemmas.{key_parts}
 use Rattle.catalog_measures.specs.Names.{is_slo, slo_names}
-use Rattle.kept_objectives.specs.kept_sums.Sums.{Fits}
+use Rattle.kept_objectives.specs.kept_sums.Sums.{RowFits}
 use Rattle.kept_objectives.specs.Objectives.{IsObjective}
 use Rattle.office_history.specs.declared.Measure.{Measure}
 use Rattle.office_history.specs.Objectives.{measures_named, measures_of}
@@ -91,14 +91,14 @@ each_objective members m is =
 -- each row that the catalog reads has the form that each of these wants
 pub all_forms : (members : List Object) (rows : List Row) (wanted : List Measure) →
     AllByRecursion (IsObjective members) wanted → All (IsRead members) rows →
-    All (λ (m : Measure). AllByRecursion (Fits m) rows) wanted
+    All (λ (m : Measure). AllByRecursion (RowFits m) rows) wanted
 all_forms members rows wanted only read =
-    All-from_recursion (λ (m : Measure). AllByRecursion (Fits m) rows) wanted (by wanted only)
+    All-from_recursion (λ (m : Measure). AllByRecursion (RowFits m) rows) wanted (by wanted only)
   where
     read_so : AllByRecursion (IsRead members) rows
     read_so = recursion_from_All (IsRead members) rows read
 
     by : (wanted : List Measure) → AllByRecursion (IsObjective members) wanted →
-        AllByRecursion (λ (m : Measure). AllByRecursion (Fits m) rows) wanted
+        AllByRecursion (λ (m : Measure). AllByRecursion (RowFits m) rows) wanted
     by [] h = tt
     by (m ∷ ms) h = (all_fit members m rows h.0 read_so, by ms h.1)

@@ -4,7 +4,7 @@ ghost use Rattle.std.specs.Int.{◌∣◌};
 ghost use Rattle.std.specs.List.{AllByRecursion, Contains};
 ghost use Rattle.kept_objectives.specs.Objectives.{AreKept, measures_of};
 ghost use Rattle.kept_objectives.specs.Plans.{IsPlan};
-ghost use Rattle.kept_objectives.specs.kept_sums.Sums.{Fits};
+ghost use Rattle.kept_objectives.specs.kept_sums.Sums.{RowFits};
 ghost use Rattle.catalog_measures.specs.object_ranges.Measures.{IsMeasure};
 ghost use Rattle.office_derived.specs.Derived.{IsRead, IsSound};
 ghost use Rattle.office_history.specs.declared.Measure.{Measure};
@@ -27,7 +27,7 @@ fn add_sums(
 ) -> Result<(), AllocError>
     requires sound { IsSound derived.now }
     requires width { width_of measure.now.method ∣ 60 }
-    requires forms { AllByRecursion (Fits measure.now) derived.now.book.rows }
+    requires forms { AllByRecursion (RowFits measure.now) derived.now.book.rows }
     requires made { AreKept derived.now.book.exclusions derived.now.book.rows made.old.items }
     ensures made { OnOk result (AreKept derived.now.book.exclusions derived.now.book.rows
         made.new.items) }
@@ -54,7 +54,7 @@ fn sums_made(
 ) -> Result<Vec<ObjectiveSums>, AllocError>
     requires sound { IsSound derived.now }
     requires ranges { All IsMeasure wanted.now }
-    requires forms { All (λ m. AllByRecursion (Fits m) derived.now.book.rows) wanted.now }
+    requires forms { All (λ m. AllByRecursion (RowFits m) derived.now.book.rows) wanted.now }
     ensures made { IfOk result (λ made. AreKept derived.now.book.exclusions derived.now.book.rows
         made.items) }
     ensures there { IfOk result (λ made. All (HasSums derived.now.catalog made.items)

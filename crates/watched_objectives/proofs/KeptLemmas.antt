@@ -6,7 +6,7 @@ use Rattle.slice_method.specs.Leaves.{leaf}
 use Rattle.window_sums.specs.Slices.{CountedDays, counts_of}
 use Rattle.office_history.specs.declared.Measure.{Measure}
 use Rattle.office_history.specs.Counts.{Samples, slice_counts}
-use Rattle.kept_lines.specs.kept_sums.Sums.{IsKept}
+use Rattle.kept_lines.specs.kept_sums.Sums.{SumsAreKept}
 use Rattle.office_derived.specs.kept_objectives.declared.ObjectiveSums.{ObjectiveSums}
 use Rattle.office_derived.specs.kept_objectives.Objectives.{IsObjective}
 use Rattle.office_derived.proofs.kept_objectives_proofs.ListLemmas.{never_there}
@@ -19,12 +19,12 @@ entry m sums = record { measure = m; sums = sums }
 
 -- sums that are kept of an objective are those of its rows
 pub kept_there : (d : Derived) (m : Measure) (sums : CountedDays) → IsSound d →
-    Contains d.sums.kept (entry m sums) → IsKept m d.book.exclusions d.book.rows sums
+    Contains d.sums.kept (entry m sums) → SumsAreKept m d.book.exclusions d.book.rows sums
 kept_there d m sums s there =
-    All-contains (λ (k : ObjectiveSums). IsKept k.measure d.book.exclusions d.book.rows k.sums)
+    All-contains (λ (k : ObjectiveSums). SumsAreKept k.measure d.book.exclusions d.book.rows k.sums)
     d.sums.kept (entry m sums)
     (All-from_recursion
-    (λ (k : ObjectiveSums). IsKept k.measure d.book.exclusions d.book.rows k.sums)
+    (λ (k : ObjectiveSums). SumsAreKept k.measure d.book.exclusions d.book.rows k.sums)
     d.sums.kept s.sums.sums) there
 
 -- an objective of the catalog has sums that are kept
@@ -36,7 +36,7 @@ never_lacking d m s is others =
 -- and they are its sums, where each slice counts what its minutes do
 pub are_sums : (s : Samples) (m : Measure) (sums : CountedDays) →
     ((slice : ℕ) → counts_of sums slice ≡ slice_counts s m slice) →
-    IsKept m s.exclusions s.rows sums → AreSums s m sums
+    SumsAreKept m s.exclusions s.rows sums → AreSums s m sums
 are_sums s m sums counts kept = record {
   method = kept.method;
   leaves = λ slice i. leaf (kept.method i) (counts slice i);

@@ -4,7 +4,7 @@ ghost use Rattle.std.specs.List.{AllByRecursion};
 ghost use Rattle.sample_book.specs.declared.Row.{Row};
 ghost use Rattle.sample_book.specs.Puts.{verdicts as verdicts_lem};
 ghost use Rattle.window_sums.specs.Slices.{width_of as width_of_lem};
-ghost use Rattle.kept_lines.specs.kept_sums.Sums.{Fits, IsKept};
+ghost use Rattle.kept_lines.specs.kept_sums.Sums.{RowFits, SumsAreKept};
 ghost use Rattle.kept_lines.specs.Right.{IsRight};
 ghost use Rattle.kept_lines.specs.Touched.{Forgets, LAST_MINUTE};
 ghost use Rattle.office_derived.specs.Derived.{IsPlaced, IsSound};
@@ -56,8 +56,8 @@ fn forget_changed(
 )
     requires rule { line.old.rule ≡ watch.now.rule }
     requires early { AllByRecursion (λ (row : Row). row.minute ≤ LAST_MINUTE) book.now.rows }
-    requires forms { AllByRecursion (Fits watch.now.measure) book.now.rows }
-    requires kept { IsKept watch.now.measure book.now.exclusions book.now.rows sums.now }
+    requires forms { AllByRecursion (RowFits watch.now.measure) book.now.rows }
+    requires kept { SumsAreKept watch.now.measure book.now.exclusions book.now.rows sums.now }
     ensures forgets { Forgets (IsChangedBy book.now value.now watch.now)
         (width_of_lem watch.now.measure.method) line.old line.new }
     ensures right { (begin : ℕ) (taken : Bool)

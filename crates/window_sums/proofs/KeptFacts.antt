@@ -19,7 +19,7 @@ use Rattle.sum_pages.specs.DayTables.{values_of_day}
 use Rattle.sum_pages.specs.Pages as paged
 use Rattle.sum_pages.proofs.DayLemmas.{days-added, days-changed, of_day, value_at-added}
 use Rattle.sum_pages.proofs.DayLemmas.{value_at-changed, values_of-push}
-use Rattle.window_sums.specs.Slices.{AreCounted, AreSoundCounts, CountedDays, IsKept, IsPart}
+use Rattle.window_sums.specs.Slices.{AreCounted, AreSoundCounts, CountedDays, CountsAreKept, IsPart}
 use Rattle.window_sums.specs.Slices.{MayExchange, counts_after, counts_of, day_of, new_counts}
 use Rattle.window_sums.specs.Slices.{has_day, no_counts, slice_of, slices_a_day, width_of}
 use Rattle.window_sums.proofs.SoundFacts.{after-here, few-one, sound-same}
@@ -123,7 +123,7 @@ counts_of-after sums minute before after counted there k =
 
 -- the leaf of each slice after a change, by the leaf of the one that changed
 pub leaf-after : (sums : CountedDays) (pages : paged.LeafDays) (minute : ℕ)
-    (before after : Counts) → IsKept sums pages → (k : ℕ) →
+    (before after : Counts) → CountsAreKept sums pages → (k : ℕ) →
     paged.leaf_after pages (slice_of sums.method minute)
     (leaf sums.method (new_counts (counts_of sums (slice_of sums.method minute)) before after)) k
     ≡ leaf sums.method (counts_after sums minute before after k)
@@ -153,7 +153,7 @@ leaves_over-same f g same first count = λ i. record { num = num i; den = den i 
 
 -- the pages stay as few as the leaves after the change
 pub pages-few : (sums : CountedDays) (pages : paged.LeafDays) (minute : ℕ) (before after : Counts) →
-    IsKept sums pages →
+    CountsAreKept sums pages →
     AreFew (λ k. (leaf sums.method (counts_after sums minute before after k)).den) →
     AreFew (λ k. (paged.leaf_after pages (slice_of sums.method minute) (leaf sums.method
     (new_counts (counts_of sums (slice_of sums.method minute)) before after)) k).den)
@@ -166,7 +166,8 @@ pages-few sums pages minute before after kept few first count =
     count) (few first count)
 
 -- a day that the sums have is there for its leaves
-pub page-there : (sums : CountedDays) (pages : paged.LeafDays) (slice : ℕ) → IsKept sums pages →
+pub page-there : (sums : CountedDays) (pages : paged.LeafDays) (slice : ℕ)
+    → CountsAreKept sums pages →
     IsTrue (has_day sums (slice / slices_a_day sums.method)) →
     IsTrue (paged.has_day pages (slice / paged.slots_a_day pages))
 page-there sums pages slice kept there =
@@ -174,17 +175,17 @@ page-there sums pages slice kept there =
     (kept.ready (slice / slices_a_day sums.method) there)
 
 -- The sums after a change.
-pub IsKept-after : (sums : CountedDays) (pages new : paged.LeafDays) (minute : ℕ)
-    (before after : Counts) → IsKept sums pages →
+pub CountsAreKept-after : (sums : CountedDays) (pages new : paged.LeafDays) (minute : ℕ)
+    (before after : Counts) → CountsAreKept sums pages →
     IsTrue (has_day sums (slice_of sums.method minute / slices_a_day sums.method)) →
     AreSoundCounts sums.method (counts_after sums minute before after) →
     new.per_hour ≡ pages.per_hour →
     ((k : ℕ) → paged.leaf_at new k ≡ paged.leaf_after pages (slice_of sums.method minute) (leaf
     sums.method (new_counts (counts_of sums (slice_of sums.method minute)) before after)) k) →
     ((day : ℕ) → paged.has_day new day ≡ paged.has_day pages day) →
-    IsKept (sums_with sums (slice_of sums.method minute)
+    CountsAreKept (sums_with sums (slice_of sums.method minute)
     (new_counts (counts_of sums (slice_of sums.method minute)) before after)) new
-IsKept-after sums pages new minute before after kept there sound hours leaves days = record {
+CountsAreKept-after sums pages new minute before after kept there sound hours leaves days = record {
   counted = AreCounted-with sums (slice_of sums.method minute)
       (new_counts (counts_of sums (slice_of sums.method minute)) before after) kept.counted there
       (sound-same sums.method (counts_after sums minute before after)
@@ -204,10 +205,10 @@ nothing_below : {k : ℕ} → k < 0 → ⊥
 nothing_below less = omega arith
 
 -- the sums of no day
-pub IsKept-none : (method : Method) (pages : paged.LeafDays) → width_of method ∣ 60 →
+pub CountsAreKept-none : (method : Method) (pages : paged.LeafDays) → width_of method ∣ 60 →
     pages.per_hour ≡ 60 / width_of method → pages.days ≡ [] →
-    IsKept (record { method = method; days = [] }) pages
-IsKept-none method pages divides hour none = record {
+    CountsAreKept (record { method = method; days = [] }) pages
+CountsAreKept-none method pages divides hour none = record {
   counted = record {
     divides = divides;
     whole = λ k d less. absurd (nothing_below less);
@@ -249,12 +250,13 @@ AreCounted-added sums day counted = record {
 }
 
 -- The sums with one day more, which the pages have.
-pub IsKept-added : (sums : CountedDays) (pages new : paged.LeafDays) (day : ℕ) → IsKept sums pages →
+pub CountsAreKept-added : (sums : CountedDays) (pages new : paged.LeafDays) (day : ℕ)
+    → CountsAreKept sums pages →
     new.per_hour ≡ pages.per_hour →
     ((k : ℕ) → paged.leaf_at new k ≡ paged.leaf_at pages k) →
     ((other : ℕ) → paged.has_day new other ≡ (paged.has_day pages other || other == day)) →
-    IsKept (sums_added sums day) new
-IsKept-added sums pages new day kept hours leaves days = record {
+    CountsAreKept (sums_added sums day) new
+CountsAreKept-added sums pages new day kept hours leaves days = record {
   counted = AreCounted-added sums day kept.counted;
   hour = hours ∙ kept.hour;
   leaves = λ k. leaves k ∙ kept.leaves k

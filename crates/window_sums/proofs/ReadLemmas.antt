@@ -5,7 +5,7 @@ use Rattle.std.proofs.lemmas.Grind.{div_ceil_times}
 use Rattle.slo_limits.specs.declared.TheConstants.{MINUTES_A_DAY}
 use Rattle.slo_terms.specs.Sums.{leaves_over, slice_from, slices_until, sum_of_slices}
 use Rattle.sum_pages.specs.Pages as paged
-use Rattle.window_sums.specs.Slices.{CountedDays, IsKept, leaf_at, width_of}
+use Rattle.window_sums.specs.Slices.{CountedDays, CountsAreKept, leaf_at, width_of}
 use Rattle.window_sums.proofs.KeptFacts.{leaves_over-same}
 use Rattle.window_sums.proofs.WidthFacts.{slice_from-div_ceil, slices-of_days, width-some}
 
@@ -21,7 +21,8 @@ pub record AreSlots (sums : CountedDays) (pages : paged.LeafDays) (from to first
 
 -- the slots that `sum` and `is_empty` read
 pub are_slots : (sums kept : CountedDays) (pages : paged.LeafDays) (from to width first : ℕ)
-    → IsKept kept pages → kept ≡ sums → width ≡ width_of kept.method → first ≡ div_ceil from width
+    → CountsAreKept kept pages → kept ≡ sums → width ≡ width_of kept.method
+    → first ≡ div_ceil from width
     → AreSlots sums pages from to first (to / width - first)
 are_slots sums kept pages from to width first are view wide is = record {
   sum = leaves_over-same (paged.leaf_at pages) (leaf_at kept) are.leaves first (to / width - first)

@@ -114,7 +114,7 @@ pub record AreCounted (sums : CountedDays) : Type 0 where
   pub sound : AreSoundCounts sums.method (counts_of sums)
 
 -- what is kept of the sums: pages that have the leaf of each slice, and each day that is there
-pub record IsKept (sums : CountedDays) (pages : paged.LeafDays) : Type 0 where
+pub record CountsAreKept (sums : CountedDays) (pages : paged.LeafDays) : Type 0 where
   pub counted : AreCounted sums
   pub hour : pages.per_hour ≡ 60 / width_of sums.method
   pub leaves : (slice : ℕ) → paged.leaf_at pages slice ≡ leaf_at sums slice

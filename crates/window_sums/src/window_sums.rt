@@ -38,13 +38,14 @@ pub struct WindowSums {
 }
 
 impl Model for WindowSums {
-    ghost use Rattle.window_sums.specs.Slices.{CountedDays, IsKept};
+    ghost use Rattle.window_sums.specs.Slices.{CountedDays, CountsAreKept};
 
     ghost Value = { CountedDays };
 
     ghost view = { λ a. record { method = a.method; days = a.days.entries } };
 
-    ghost invariant = { λ a. IsKept (record { method = a.method; days = a.days.entries }) a.pages };
+    ghost invariant = { λ a. CountsAreKept (record { method = a.method; days = a.days.entries })
+        a.pages };
 }
 
 impl WindowSums {

@@ -3,7 +3,7 @@ use Rattle.std.proofs.Common.{length}
 use Rattle.std.proofs.lemmas.Slice.Eq.{bytes_eq-Decides}
 use Rattle.sample_book.specs.LastRows.{is_on, last_place}
 use Rattle.window_sums.specs.Slices.{day_of}
-use Rattle.kept_sums.specs.Sums.{Fits}
+use Rattle.kept_sums.specs.Sums.{RowFits}
 use Rattle.kept_sums.specs.Walks.{IsOnKey, rows_until}
 use Rattle.kept_sums.proofs.DayLemmas.{day_is, day_own}
 use Rattle.kept_sums.proofs.ListLemmas.{all_at}
@@ -31,7 +31,7 @@ row_at-row-requires c =
 
 pub is_changed_between-requires : goal.is_changed_between-requires
 is_changed_between-requires c =
-    all_at (Fits c.args.measure.now) c.args.book.now.rows c.in-Some.place c.row_at-row.result
+    all_at (RowFits c.args.measure.now) c.args.book.now.rows c.in-Some.place c.row_at-row.result
     c.row_at-row.ensures c.requires.forms
 
 pub returns-then-is_changed_between-clause-some : goal.returns-then-is_changed_between-clause-some

@@ -2,7 +2,7 @@ use Rattle.std.proofs.Common.{sym, ◌∙◌, refl, ap, ◌≡◌, ◌<◌, ◌+
 use Rattle.std.proofs.Common.{slice_get, Some}
 use Rattle.slice_method.specs.declared.Method.{Method}
 use Rattle.window_sums.specs.Slices.{slice_of}
-use Rattle.kept_sums.specs.Sums.{Fits}
+use Rattle.kept_sums.specs.Sums.{RowFits}
 use Rattle.kept_sums.proofs.FollowLemmas.{follow_begins, follow_ends, follow_may, follow_next}
 use Rattle.kept_sums.proofs.FollowLemmas.{verdict_there}
 use Rattle.kept_sums.proofs.ListLemmas.{all_at, get_index}
@@ -67,7 +67,7 @@ loop-place-preserved c =
       followed = follow_next c.args.measure.now c.args.book.now.exclusions before
           rows at row c.args.sums.now c.loop-place.sums c.follow_row.new.sums
           c.loop-place.invariant.followed here
-          (all_at (Fits c.args.measure.now) rows at row here c.requires.fit)
+          (all_at (RowFits c.args.measure.now) rows at row here c.requires.fit)
           (c.follow_row.ensures.kept (before ++ take at rows) may) c.follow_row.ensures.days;
       touched = λ slice none.
           c.follow_row.ensures.touched slice (λ is same. none (record {

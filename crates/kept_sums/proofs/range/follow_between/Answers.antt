@@ -6,7 +6,7 @@ use Rattle.sample_book.specs.declared.Row.{Row}
 use Rattle.sample_book.specs.LastRows.{is_on, last_place}
 use Rattle.window_sums.specs.Shares.{IsSumOf}
 use Rattle.window_sums.specs.Slices.{day_of}
-use Rattle.kept_sums.specs.Sums.{Fits, HasItsDay, row_counts, shares_by}
+use Rattle.kept_sums.specs.Sums.{RowFits, HasItsDay, row_counts, shares_by}
 use Rattle.kept_sums.specs.Walks.{IsOnKey, followed, made_on, rows_until}
 use Rattle.kept_sums.proofs.DayLemmas.{day_is, day_own}
 use Rattle.kept_sums.proofs.ListLemmas.{all_at}
@@ -58,7 +58,7 @@ follow_on_row-requires-clause-own c =
     c.in-Some.is c.loop-next.invariant.walking.place).1 c.row_at-row.result c.row_at-row.ensures)
 
 pub follow_on_row-requires-clause-fits : goal.follow_on_row-requires-clause-fits
-follow_on_row-requires-clause-fits c = all_at (Fits c.args.measure.now) c.args.book.now.rows
+follow_on_row-requires-clause-fits c = all_at (RowFits c.args.measure.now) c.args.book.now.rows
     c.in-Some.place c.row_at-row.result c.row_at-row.ensures c.requires.forms
 
 pub follow_on_row-requires-clause-day : goal.follow_on_row-requires-clause-day

@@ -1,7 +1,7 @@
 use Rattle.std.proofs.Common.{◌≡◌, not, Bool, true, false, refl, subst, sym, ◌∙◌, inl, inr}
 use Rattle.std.specs.Str.{bytes_eq}
 use Rattle.window_sums.specs.Shares.{IsSumOf}
-use Rattle.kept_sums.specs.Sums.{IsKept}
+use Rattle.kept_sums.specs.Sums.{SumsAreKept}
 use Rattle.kept_sums.specs.Walks.{made_on}
 use Rattle.kept_sums.proofs.DayLemmas.{none_taken}
 use Rattle.kept_sums.proofs.RangeLemmas.{counted_begins, kept_after}
@@ -51,7 +51,7 @@ follow_lifting-requires-clause-counted c =
     counted_begins c.args.measure.now c.args.book.now.exclusions c.args.value.now c.args.taken false
     c.args.book.now.rows c.args.sums.now c.if-taken.false c.requires.kept
 
-taken_kept : (c : goal.After-follow_taking) → IsKept c.args.measure.now
+taken_kept : (c : goal.After-follow_taking) → SumsAreKept c.args.measure.now
     (made_on c.args.book.now.exclusions c.args.value.now c.args.taken) c.args.book.now.rows
     c.follow_taking.new.sums
 taken_kept c =
@@ -59,7 +59,7 @@ taken_kept c =
     c.args.book.now.rows c.args.sums.now c.follow_taking.new.sums c.if-taken.true c.requires.kept
     c.follow_taking.ensures.counted c.follow_taking.ensures.method c.follow_taking.ensures.days
 
-lifted_kept : (c : goal.After-follow_lifting) → IsKept c.args.measure.now
+lifted_kept : (c : goal.After-follow_lifting) → SumsAreKept c.args.measure.now
     (made_on c.args.book.now.exclusions c.args.value.now c.args.taken) c.args.book.now.rows
     c.follow_lifting.new.sums
 lifted_kept c =

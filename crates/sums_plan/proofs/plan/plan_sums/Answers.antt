@@ -2,7 +2,7 @@ use Rattle.std.proofs.Common.{◌≡◌, ◌∙◌, All, List, subst, sym}
 use Rattle.std.specs.List.{AllByRecursion, Contains}
 use Rattle.std.proofs.lemmas.List.Elements.{All-contains}
 use Rattle.kept_objectives.specs.Objectives.{IsObjective}
-use Rattle.kept_objectives.specs.kept_sums.Sums.{Fits}
+use Rattle.kept_objectives.specs.kept_sums.Sums.{RowFits}
 use Rattle.office_history.specs.declared.Measure.{Measure}
 use Rattle.sums_plan.specs.Wanted.{HasSums, objectives_in}
 use Rattle.sums_plan.proofs.WantedLemmas.{all_forms, each_objective, only_objectives}
@@ -14,7 +14,7 @@ sums_made-requires-clause-forms c =
     let rows = c.args.derived.now.book.rows in
     let all : c.deref.result.now ≡ objectives_in members =
     c.deref.ensures.value ∙ c.in_ok-wanted.ensures.all in
-    subst (All (λ (m : Measure). AllByRecursion (Fits m) rows)) (sym all)
+    subst (All (λ (m : Measure). AllByRecursion (RowFits m) rows)) (sym all)
     (all_forms members rows (objectives_in members) (only_objectives members) c.requires.read)
 
 pub returns : goal.returns

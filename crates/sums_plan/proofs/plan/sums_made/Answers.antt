@@ -1,6 +1,6 @@
 use Rattle.std.proofs.Common.{arith, subst, sym}
 use Rattle.std.specs.List.{AllByRecursion}
-use Rattle.kept_objectives.specs.kept_sums.Sums.{Fits}
+use Rattle.kept_objectives.specs.kept_sums.Sums.{RowFits}
 use Rattle.kept_objectives.proofs.MakeLemmas.{so_far_all, so_far_next}
 use Rattle.catalog_measures.specs.object_ranges.Measures.{IsMeasure}
 use Rattle.office_history.specs.declared.Measure.{Measure}
@@ -18,7 +18,7 @@ add_sums-requires-clause-width c =
 pub add_sums-requires-clause-forms : goal.add_sums-requires-clause-forms
 add_sums-requires-clause-forms c =
     let item : Measure = c.measure-item.result in
-    subst (λ (m : Measure). AllByRecursion (Fits m) c.args.derived.now.book.rows)
+    subst (λ (m : Measure). AllByRecursion (RowFits m) c.args.derived.now.book.rows)
     (sym c.measure-item.is)
     (c.requires.forms c.loop-measure.measure-index item c.loop-measure-test.true)
 

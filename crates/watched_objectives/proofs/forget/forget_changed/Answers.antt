@@ -3,7 +3,7 @@ use Rattle.std.specs.Int.{◌∣◌}
 use Rattle.window_sums.specs.Slices.{width_of}
 use Rattle.office_history.specs.declared.Measure.{Measure}
 use Rattle.kept_lines.proofs.RightLemmas.{right-over-exclusions}
-use Rattle.kept_lines.specs.kept_sums.Sums.{IsKept}
+use Rattle.kept_lines.specs.kept_sums.Sums.{SumsAreKept}
 use Rattle.kept_lines.specs.kept_sums.Walks.{IsChanged}
 use Rattle.watched_objectives.proofs.ForgetLemmas.{forgets_same}
 use Rattle.watched_objectives.proofs.forget.forget_changed.Goals as goal
@@ -15,7 +15,7 @@ width_of-width-requires c =
 
 pub forget_exclusion-requires-clause-kept : goal.forget_exclusion-requires-clause-kept
 forget_exclusion-requires-clause-kept c =
-    subst (λ (m : Measure). IsKept m c.args.book.now.exclusions c.args.book.now.rows
+    subst (λ (m : Measure). SumsAreKept m c.args.book.now.exclusions c.args.book.now.rows
     c.args.sums.now) (sym c.measure-measure.ensures.value) c.requires.kept
 
 pub returns-clause-forgets : goal.returns-clause-forgets

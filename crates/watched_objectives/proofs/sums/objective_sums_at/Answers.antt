@@ -1,7 +1,7 @@
 use Rattle.std.proofs.Common.{◌≡◌, ◌<◌, ◌∙◌, ℕ, ap, subst}
 use Rattle.window_sums.specs.Slices.{counts_of, width_of}
 use Rattle.office_history.specs.Counts.{slice_counts}
-use Rattle.kept_lines.specs.kept_sums.Sums.{IsKept}
+use Rattle.kept_lines.specs.kept_sums.Sums.{SumsAreKept}
 use Rattle.watched_objectives.specs.Sums.{samples_of}
 use Rattle.watched_objectives.proofs.KeptLemmas.{are_sums, kept_there, never_lacking}
 use Rattle.watched_objectives.proofs.sums.objective_sums_at.Goals as goal
@@ -12,7 +12,7 @@ unreachable-requires c =
     (c.find_at.ensures.none c.in-None.is)
 
 -- the sums that are found are those of the rows
-found : (c : goal.After-width) → IsKept c.args.measure.now c.args.derived.now.book.exclusions
+found : (c : goal.After-width) → SumsAreKept c.args.measure.now c.args.derived.now.book.exclusions
     c.args.derived.now.book.rows c.in-Some.sums.now
 found c =
     kept_there c.args.derived.now c.args.measure.now c.in-Some.sums.now c.requires.sound

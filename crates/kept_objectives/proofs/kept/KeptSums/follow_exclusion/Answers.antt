@@ -1,6 +1,6 @@
 use Rattle.std.proofs.Common.{◌<◌, not, ap, subst, sym, ◌∙◌, arith, length, refl}
 use Rattle.std.proofs.Common.{slice_index_or}
-use Rattle.kept_sums.specs.Sums.{IsKept}
+use Rattle.kept_sums.specs.Sums.{SumsAreKept}
 use Rattle.kept_sums.specs.Walks.{made_on}
 use Rattle.kept_objectives.specs.Objectives.{AreKept, HaveForms, KeptObjectives}
 use Rattle.kept_objectives.specs.declared.kept.ObjectiveSums.{ObjectiveSums}
@@ -18,7 +18,7 @@ ready : (c : goal.After-follow_exclusion-arg-in-loop-kept-1) →
 ready c =
     let made = made_on c.args.book.now.exclusions c.args.value.now in
     half_get (MayTurn (made (not c.args.taken)) c.args.book.now.rows)
-    (λ (k : ObjectiveSums). IsKept k.measure (made c.args.taken) c.args.book.now.rows k.sums)
+    (λ (k : ObjectiveSums). SumsAreKept k.measure (made c.args.taken) c.args.book.now.rows k.sums)
     c.loop-kept.kept-index c.loop-kept.kept-items c.kept-item.result
     (omega (arith, c.loop-kept-test.true, c.loop-kept.auto.kept-items))
     c.loop-kept.invariant.followed
@@ -54,7 +54,8 @@ loop-kept-preserved c =
     } in
     record {
       followed = half_step (MayTurn (made (not c.args.taken)) c.args.book.now.rows)
-          (λ (k : ObjectiveSums). IsKept k.measure (made c.args.taken) c.args.book.now.rows k.sums)
+          (λ (k : ObjectiveSums). SumsAreKept k.measure
+          (made c.args.taken) c.args.book.now.rows k.sums)
           at items next less c.loop-kept.invariant.followed c.follow_exclusion.ensures.kept;
       measures = keys_set (λ (k : ObjectiveSums). k.measure) at items next c.kept-item.result refl
           ∙ c.loop-kept.invariant.measures;
@@ -70,7 +71,7 @@ returns-clause-kept c =
     (c.loop-kept.auto.kept-items ∙ ap length value)
     (ap length (sym value) ∙ c.deref_mut-kept-items.ensures.len)))
     (half_end (MayTurn (made (not c.args.taken)) c.args.book.now.rows)
-    (λ (k : ObjectiveSums). IsKept k.measure (made c.args.taken) c.args.book.now.rows k.sums)
+    (λ (k : ObjectiveSums). SumsAreKept k.measure (made c.args.taken) c.args.book.now.rows k.sums)
     c.loop-kept.kept-index items
     (omega (arith, c.loop-kept-test.false, c.loop-kept.auto.kept-items))
     c.loop-kept.invariant.followed)

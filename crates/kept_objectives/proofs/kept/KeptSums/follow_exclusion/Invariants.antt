@@ -1,5 +1,5 @@
 use Rattle.std.proofs.Common.{◌≡◌, not}
-use Rattle.kept_sums.specs.Sums.{IsKept}
+use Rattle.kept_sums.specs.Sums.{SumsAreKept}
 use Rattle.kept_sums.specs.Walks.{made_on}
 use Rattle.kept_objectives.specs.Objectives.{measures_of}
 use Rattle.kept_objectives.specs.declared.kept.ObjectiveSums.{ObjectiveSums}
@@ -11,7 +11,7 @@ use Rattle.kept_objectives.proofs.kept.KeptSums.follow_exclusion.Given as goal
 abbrev pub invariant-loop-kept : goal.invariant-loop-kept
 invariant-loop-kept l = record {
   followed : HalfDone (MayTurn (made_on l.book.exclusions l.value (not l.taken)) l.book.rows)
-      (λ (k : ObjectiveSums). IsKept k.measure (made_on l.book.exclusions l.value l.taken)
+      (λ (k : ObjectiveSums). SumsAreKept k.measure (made_on l.book.exclusions l.value l.taken)
       l.book.rows k.sums) l.kept-index l.kept-items;
   measures : measures_of l.kept-items ≡ measures_of l.initial.kept-items;
 }

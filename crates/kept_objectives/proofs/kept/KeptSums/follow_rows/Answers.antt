@@ -1,6 +1,6 @@
 use Rattle.std.proofs.Common.{◌<◌, ◌++◌, ap, subst, sym, ◌∙◌, arith, length, refl, slice_index_or}
 use Rattle.sample_book.specs.Rows.{current_rows}
-use Rattle.kept_sums.specs.Sums.{IsKept}
+use Rattle.kept_sums.specs.Sums.{SumsAreKept}
 use Rattle.kept_objectives.specs.Objectives.{AreKept, HaveDays, HaveForms, KeptObjectives}
 use Rattle.kept_objectives.specs.declared.kept.ObjectiveSums.{ObjectiveSums}
 use Rattle.kept_objectives.proofs.FollowLemmas.{MayFollow, all_may_follow}
@@ -16,7 +16,8 @@ ready c =
     let made = c.args.book.now.exclusions in
     let rows = c.args.book.now.rows in
     half_get (MayFollow made rows c.args.rows.now)
-    (λ (k : ObjectiveSums). IsKept k.measure made (current_rows (rows ++ c.args.rows.now)) k.sums)
+    (λ (k : ObjectiveSums). SumsAreKept k.measure made
+    (current_rows (rows ++ c.args.rows.now)) k.sums)
     c.loop-kept.kept-index c.loop-kept.kept-items c.kept-item.result
     (omega (arith, c.loop-kept-test.true, c.loop-kept.auto.kept-items))
     c.loop-kept.invariant.followed
@@ -62,7 +63,8 @@ loop-kept-preserved c =
     } in
     record {
       followed = half_step (MayFollow made rows c.args.rows.now)
-          (λ (k : ObjectiveSums). IsKept k.measure made (current_rows (rows ++ c.args.rows.now))
+          (λ (k : ObjectiveSums). SumsAreKept k.measure made
+          (current_rows (rows ++ c.args.rows.now))
           k.sums)
           at items next less c.loop-kept.invariant.followed c.count_batch.ensures.kept;
       measures = keys_set (λ (k : ObjectiveSums). k.measure) at items next c.kept-item.result refl
@@ -80,7 +82,7 @@ returns-clause-kept c =
     (c.loop-kept.auto.kept-items ∙ ap length value)
     (ap length (sym value) ∙ c.deref_mut-kept-items.ensures.len)))
     (half_end (MayFollow made c.args.book.now.rows c.args.rows.now)
-    (λ (k : ObjectiveSums). IsKept k.measure made after k.sums)
+    (λ (k : ObjectiveSums). SumsAreKept k.measure made after k.sums)
     c.loop-kept.kept-index items
     (omega (arith, c.loop-kept-test.false, c.loop-kept.auto.kept-items))
     c.loop-kept.invariant.followed)

@@ -1,6 +1,6 @@
 use Rattle.std.proofs.Common.{◌<◌, ap, subst, sym, ◌∙◌, arith, length, refl, slice_index_or}
 use Rattle.std.specs.List.{AllByRecursion}
-use Rattle.kept_sums.specs.Sums.{HasItsDay, IsKept}
+use Rattle.kept_sums.specs.Sums.{HasItsDay, SumsAreKept}
 use Rattle.kept_objectives.specs.Objectives.{AreKept, HaveDays, KeptObjectives, measures_of}
 use Rattle.kept_objectives.specs.declared.kept.ObjectiveSums.{ObjectiveSums}
 use Rattle.kept_objectives.proofs.Loops.{all_get, all_set, all_units, half_end, half_step}
@@ -31,9 +31,9 @@ returns-in_err-reserve_batch-clause-kept c = λ made before known.
     (sym (written_back_at items c.self.inside.objectives.items at next
     c.self.inside.objectives.len (c.loop-kept.auto.kept-items ∙ ap length value)
     (ap length (sym value) ∙ c.deref_mut-kept-items.ensures.len)))
-    (all_set (λ (k : ObjectiveSums). IsKept k.measure made before k.sums) at items next all
+    (all_set (λ (k : ObjectiveSums). SumsAreKept k.measure made before k.sums) at items next all
     (c.reserve_batch.ensures.kept made before
-    (all_get (λ (k : ObjectiveSums). IsKept k.measure made before k.sums) at items
+    (all_get (λ (k : ObjectiveSums). SumsAreKept k.measure made before k.sums) at items
     c.kept-item.result less all)))
 
 pub returns-in_err-reserve_batch-clause-measures : goal.returns-in_err-reserve_batch-clause-measures
@@ -68,9 +68,10 @@ loop-kept-preserved c =
           at items next less c.loop-kept.invariant.days c.in_ok-reserve_batch.ensures.days;
       kept = λ made before known.
           let all = c.loop-kept.invariant.kept made before known in
-          all_set (λ (k : ObjectiveSums). IsKept k.measure made before k.sums) at items next all
+          all_set (λ (k : ObjectiveSums). SumsAreKept k.measure made before k.sums) at items next
+          all
           (c.reserve_batch.ensures.kept made before
-          (all_get (λ (k : ObjectiveSums). IsKept k.measure made before k.sums) at items
+          (all_get (λ (k : ObjectiveSums). SumsAreKept k.measure made before k.sums) at items
           c.kept-item.result less all));
       measures = keys_set (λ (k : ObjectiveSums). k.measure) at items next c.kept-item.result refl
           ∙ c.loop-kept.invariant.measures;

@@ -1,7 +1,7 @@
 use Rattle.std.proofs.Common.{rules, ◌≡◌, ◌++◌, List, if◌then◌else◌, ap, subst, sym, ◌∙◌}
 use Rattle.std.specs.Prelude.{is_ok}
 use Rattle.std.specs.List.{Contains}
-use Rattle.kept_sums.specs.Sums.{IsKept}
+use Rattle.kept_sums.specs.Sums.{SumsAreKept}
 use Rattle.kept_sums.specs.office_history.declared.Measure.{Measure}
 use Rattle.kept_objectives.specs.Objectives.{AreKept, KeptObjectives, measures_of}
 use Rattle.kept_objectives.specs.declared.kept.ObjectiveSums.{ObjectiveSums}
@@ -26,7 +26,7 @@ together c =
 
 pub returns-clause-sums : goal.returns-clause-sums
 returns-clause-sums c = λ made rows old new.
-    let P = λ (k : ObjectiveSums). IsKept k.measure made rows k.sums in
+    let P = λ (k : ObjectiveSums). SumsAreKept k.measure made rows k.sums in
     each_in_order P c.retain.new.self.items _ c.sort_unstable_by_key.ensures.permutation
     (retained_each _ _ P _ c.retain.new.self.items c.retain.ensures.filtered
     (subst (AreKept made rows) (sym (together c))

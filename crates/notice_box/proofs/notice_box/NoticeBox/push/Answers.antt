@@ -2,9 +2,9 @@ use Rattle.std.proofs.Common.{rules, true, None, Bool, ◌≡◌, ◌∷◌, [],
 use Rattle.std.proofs.Common.{ℕ, List, ap, sym, subst, ◌∙◌, arith, length}
 use Rattle.notice_box.specs.Box.{Made}
 use Rattle.notice_box.specs.declared.links.Link.{Link}
-use Rattle.notice_box.specs.Links.{IsKept, if_there}
+use Rattle.notice_box.specs.Links.{NoticesAreKept, if_there}
 use Rattle.notice_box.specs.declared.notice.Notice.{Notice}
-use Rattle.notice_box.proofs.BoxLemmas.{IsKept-pushed, waiting-few}
+use Rattle.notice_box.proofs.BoxLemmas.{NoticesAreKept-pushed, waiting-few}
 use Rattle.notice_box.proofs.notice_box.NoticeBox.push.Goals as goal
 
 pub overflow_add-self : goal.overflow_add-self
@@ -28,16 +28,16 @@ invariant_of-self c =
     let links_is : c.extend_from_slice.new.self.items ≡ c.go_on-self-inside.new.links.items
     ++ link ∷ [] = search rules in
     let core =
-    IsKept-pushed inside.made.items inside.links.items c.go_on-self-inside.new.links.items
+    NoticesAreKept-pushed inside.made.items inside.links.items c.go_on-self-inside.new.links.items
     inside.first inside.last inside.waiting c.args.value c.self.invariant number (omega arith)
     c.go_on-self-inside.ensures.later c.go_on-self-inside.ensures.earlier
     c.go_on-self-inside.ensures.len in
-    subst (λ (first : Option ℕ). IsKept c.extend_from_slice-2.new.self.items
+    subst (λ (first : Option ℕ). NoticesAreKept c.extend_from_slice-2.new.self.items
     c.extend_from_slice.new.self.items first (Some (c.args.value.number - 1))
     (inside.waiting + 1)) (sym c.go_on-self-inside.ensures.first)
-    (subst (λ (made : List (Notice × Bool)). IsKept made c.extend_from_slice.new.self.items
+    (subst (λ (made : List (Notice × Bool)). NoticesAreKept made c.extend_from_slice.new.self.items
     (if_there inside.last inside.first (Some (c.args.value.number - 1)))
     (Some (c.args.value.number - 1)) (inside.waiting + 1)) (sym made_is)
-    (subst (λ (links : List Link). IsKept (inside.made.items ++ (c.args.value, true) ∷ [])
+    (subst (λ (links : List Link). NoticesAreKept (inside.made.items ++ (c.args.value, true) ∷ [])
     links (if_there inside.last inside.first (Some (c.args.value.number - 1)))
     (Some (c.args.value.number - 1)) (inside.waiting + 1)) (sym links_is) core))

@@ -1,8 +1,8 @@
 use Rattle.std.proofs.Common.{◌≡◌, ◌+◌, ◌-◌, ◌<◌, true, false, Bool, Option, ℕ, List, ap, sym}
 use Rattle.std.proofs.Common.{subst, ◌∙◌, arith, length, slice_index_or, if◌then◌else◌}
 use Rattle.notice_box.specs.Box.{Made, count_waiting, no_notice, after_taking, waits}
-use Rattle.notice_box.specs.Links.{IsKept, earlier_at, if_there, is_at, later_at, no_link}
-use Rattle.notice_box.proofs.BoxLemmas.{IsKept-taken, let_go}
+use Rattle.notice_box.specs.Links.{NoticesAreKept, earlier_at, if_there, is_at, later_at, no_link}
+use Rattle.notice_box.proofs.BoxLemmas.{NoticesAreKept-taken, let_go}
 use Rattle.notice_box.specs.declared.notice.Notice.{Notice}
 use Rattle.notice_box.proofs.ListLemmas.{count-set, taken-idle, taken-set}
 use Rattle.notice_box.proofs.notice_box.NoticeBox.take.Goals as goal
@@ -60,9 +60,9 @@ invariant_of-self c =
     let last_is : c.come_from-self-inside.result ≡ if_there l inside.last e =
     c.come_from-self-inside.ensures.last
     ∙ (λ i. if_there (link i).later inside.last (link i).earlier) in
-    let core : IsKept (let_go made place) after (if_there e inside.first l)
+    let core : NoticesAreKept (let_go made place) after (if_there e inside.first l)
     (if_there l inside.last e) (inside.waiting - 1) =
-    IsKept-taken made links after inside.first inside.last inside.waiting place
+    NoticesAreKept-taken made links after inside.first inside.last inside.waiting place
     c.self.invariant lt w
     (λ k. c.come_from-self-inside.ensures.later k ∙ c.go_on-self-inside.ensures.later k
     ∙ (λ i. if is_at (link i).earlier k then (link i).later else later_at links k))
@@ -71,11 +71,12 @@ invariant_of-self c =
     then c.link_at-link.result.earlier else x) (c.go_on-self-inside.ensures.earlier k)
     ∙ (λ i. if is_at (link i).later k then (link i).earlier else earlier_at links k))
     (c.come_from-self-inside.ensures.len ∙ c.go_on-self-inside.ensures.len) in
-    subst (λ (last : Option ℕ). IsKept c.let_go.new.made.items after c.go_on-self-inside.result last
+    subst (λ (last : Option ℕ). NoticesAreKept c.let_go.new.made.items after
+    c.go_on-self-inside.result last
     (inside.waiting - 1)) (sym last_is)
-    (subst (λ (first : Option ℕ). IsKept c.let_go.new.made.items after first
+    (subst (λ (first : Option ℕ). NoticesAreKept c.let_go.new.made.items after first
     (if_there l inside.last e) (inside.waiting - 1)) (sym first_is)
-    (subst (λ (m : List (Notice × Bool)). IsKept m after (if_there e inside.first l)
+    (subst (λ (m : List (Notice × Bool)). NoticesAreKept m after (if_there e inside.first l)
     (if_there l inside.last e) (inside.waiting - 1)) (sym c.let_go.ensures.made) core))
 
 pub returns-clause-made : goal.returns-clause-made

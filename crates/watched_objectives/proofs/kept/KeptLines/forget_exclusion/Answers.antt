@@ -2,7 +2,7 @@ use Rattle.std.proofs.Common.{◌<◌, ℕ, not, ap, subst, sym, ◌∙◌, arit
 use Rattle.std.proofs.Common.{slice_index_or}
 use Rattle.std.proofs.lemmas.List.Elements.{recursion_from_All}
 use Rattle.kept_lines.specs.Right.{IsRight}
-use Rattle.kept_lines.specs.kept_sums.Sums.{IsKept}
+use Rattle.kept_lines.specs.kept_sums.Sums.{SumsAreKept}
 use Rattle.office_history.specs.Counts.{Samples}
 use Rattle.office_history.specs.declared.Measure.{Measure}
 use Rattle.office_derived.specs.kept_objectives.Objectives.{IsObjective}
@@ -53,7 +53,8 @@ pub forget_changed-requires-clause-kept : goal.forget_changed-requires-clause-ke
 forget_changed-requires-clause-kept c =
     let d = c.args.derived.now in
     let sums = c.objective_sums-sums.result.now in
-    subst (λ (m : Measure). IsKept m d.book.exclusions d.book.rows sums) c.measure.ensures.value
+    subst (λ (m : Measure). SumsAreKept m d.book.exclusions d.book.rows sums)
+    c.measure.ensures.value
     (kept_there d c.measure.result.now sums c.requires.sound c.objective_sums-sums.ensures.kept)
 
 pub forget_changed-requires-clause-rule : goal.forget_changed-requires-clause-rule

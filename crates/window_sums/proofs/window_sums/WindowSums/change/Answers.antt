@@ -5,9 +5,10 @@ use Rattle.slo_terms.specs.Sums.{AreFew, most_events}
 use Rattle.sum_pages.specs.DayTables.{is_day_of, value_at}
 use Rattle.sum_pages.specs.Pages as paged
 use Rattle.sum_pages.proofs.DayLemmas.{days-changed}
-use Rattle.window_sums.specs.Slices.{CountedDays, IsKept, counts_after, counts_of, new_counts}
+use Rattle.window_sums.specs.Slices.{CountedDays, CountsAreKept, counts_after, counts_of}
+use Rattle.window_sums.specs.Slices.{new_counts}
 use Rattle.window_sums.specs.Slices.{has_day, no_counts, slice_of, slices_a_day, width_of}
-use Rattle.window_sums.proofs.KeptFacts.{IsChange, IsKept-after, counts_of-after, day-there}
+use Rattle.window_sums.proofs.KeptFacts.{IsChange, CountsAreKept-after, counts_of-after, day-there}
 use Rattle.window_sums.proofs.KeptFacts.{days_at, may_exchange, page-there, pages-few, place-within}
 use Rattle.window_sums.proofs.SoundFacts.{sound-after}
 use Rattle.window_sums.proofs.window_sums.WindowSums.change.Goals as goal
@@ -116,9 +117,9 @@ invariant_of-self c =
     let leaf_is = c.leaf_of.ensures.leaf
     ∙ ap (λ x. leaf (before was).method x) (counts at.After-exchange_in-counts) in
     let asked = change was in
-    subst (λ es. IsKept (record { method = (before was).method; days = es }) c.set.new.self)
+    subst (λ es. CountsAreKept (record { method = (before was).method; days = es }) c.set.new.self)
     (sym (days at.After-exchange_in-counts))
-    (IsKept-after (before was) c.self.inside.pages c.set.new.self c.args.minute c.args.before
+    (CountsAreKept-after (before was) c.self.inside.pages c.set.new.self c.args.minute c.args.before
     c.args.after c.self.invariant (there was)
     (sound-after (before was) c.args.minute c.args.before c.args.after
     c.self.invariant.counted.sound asked.part asked.events asked.leaves) c.set.ensures.per_hour

@@ -2,8 +2,8 @@ use Rattle.std.proofs.Common.{◌≡◌, ◌∷◌, [], ◌++◌, None, ap, sym,
 use Rattle.std.specs.Map.{lookup}
 use Rattle.indexmap.proofs.CallerLemmas.{insert_entry-new}
 use Rattle.sum_pages.proofs.DayLemmas.{nothing_found}
-use Rattle.window_sums.specs.Slices.{CountedDays, IsKept, day_of, no_counts}
-use Rattle.window_sums.proofs.KeptFacts.{IsKept-added}
+use Rattle.window_sums.specs.Slices.{CountedDays, CountsAreKept, day_of, no_counts}
+use Rattle.window_sums.proofs.KeptFacts.{CountsAreKept-added}
 use Rattle.window_sums.proofs.window_sums.WindowSums.reserve.Goals as goal
 
 pub invariant_of-self-2 : goal.invariant_of-self-2
@@ -20,8 +20,8 @@ invariant_of-self-2 c =
     let added = c.in_ok-insert.ensures.entries
     ∙ insert_entry-new nat_eq c.self.inside.days day c.in_ok-slices.slices absent
     ∙ ap (λ s. sums.days ++ (day, s) ∷ []) slices in
-    subst (λ es. IsKept (record { method = sums.method; days = es }) c.reserve_day.new.self)
+    subst (λ es. CountsAreKept (record { method = sums.method; days = es }) c.reserve_day.new.self)
     (sym added)
-    (IsKept-added sums c.self.inside.pages c.reserve_day.new.self
+    (CountsAreKept-added sums c.self.inside.pages c.reserve_day.new.self
     day c.self.invariant c.reserve_day.ensures.per_hour c.reserve_day.ensures.leaves
     c.in_ok-reserve_day.ensures.days)

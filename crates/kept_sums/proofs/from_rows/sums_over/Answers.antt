@@ -8,7 +8,7 @@ use Rattle.sample_book.specs.Counting.{is_of}
 use Rattle.window_sums.specs.Shares.{IsSumOf}
 use Rattle.window_sums.specs.Slices.{day_of, no_counts}
 use Rattle.kept_sums.specs.Replacing.{MayReplace, among}
-use Rattle.kept_sums.specs.Sums.{Fits, HasItsDay, row_counts}
+use Rattle.kept_sums.specs.Sums.{RowFits, HasItsDay, row_counts}
 use Rattle.kept_sums.specs.Walks.{IsWalking, rows_until}
 use Rattle.kept_sums.proofs.DayLemmas.{other_counts_none}
 use Rattle.kept_sums.proofs.DaysLemmas.{days_behind, days_down, days_here, more_days, none_counted}
@@ -16,7 +16,7 @@ use Rattle.kept_sums.proofs.DaysLemmas.{own_day, walking_same}
 use Rattle.kept_sums.proofs.ListLemmas.{all_at}
 use Rattle.kept_sums.proofs.RowLemmas.{small_rows, small_zeros}
 use Rattle.kept_sums.proofs.WalkLemmas.{walk_begins, walk_facts, walk_goes, walk_smaller}
-use Rattle.kept_sums.proofs.anew.sums_over.Goals as goal
+use Rattle.kept_sums.proofs.from_rows.sums_over.Goals as goal
 
 pub loop-next-init : goal.loop-next-init
 loop-next-init c =
@@ -33,7 +33,8 @@ loop-next-init c =
     }
 
 pub row_counts-counts-requires : goal.row_counts-counts-requires
-row_counts-counts-requires c = all_at (Fits c.args.measure.now) c.args.book.now.rows c.in-Some.place
+row_counts-counts-requires c = all_at (RowFits c.args.measure.now) c.args.book.now.rows
+    c.in-Some.place
     c.row_at-row.result c.row_at-row.ensures c.requires.forms
 
 pub exchange-requires-clause-may : goal.exchange-requires-clause-may

@@ -4,7 +4,7 @@ ghost use Rattle.std.specs.Int.{◌∣◌};
 ghost use Rattle.std.specs.List.{AllByRecursion};
 ghost use Rattle.slo_limits.specs.declared.TheConstants.{MAX_SUMMED_ROWS};
 ghost use Rattle.window_sums.specs.Slices.{width_of};
-ghost use Rattle.kept_sums.specs.Sums.{Fits, IsKept};
+ghost use Rattle.kept_sums.specs.Sums.{RowFits, SumsAreKept};
 
 use crate::counting::{NO_COUNTS, row_at, row_counts};
 use crate::exchange::exchange;
@@ -24,9 +24,9 @@ pub fn sums_over(
     book: &SampleBook,
 ) -> Result<WindowSums, AllocError>
     requires width { width_of measure.now.method ∣ 60 }
-    requires forms { AllByRecursion (Fits measure.now) book.now.rows }
+    requires forms { AllByRecursion (RowFits measure.now) book.now.rows }
     requires few { length book.now.rows ≤ MAX_SUMMED_ROWS }
-    ensures { IfOk result (IsKept measure.now book.now.exclusions book.now.rows) }
+    ensures { IfOk result (SumsAreKept measure.now book.now.exclusions book.now.rows) }
 {
     let mut sums = WindowSums::new(alloc, measure.method);
     let mut next = book.last_row(measure.sli);

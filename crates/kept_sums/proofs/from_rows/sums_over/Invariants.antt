@@ -4,7 +4,7 @@ use Rattle.sample_book.specs.Counting.{is_of}
 use Rattle.window_sums.specs.Slices.{no_counts}
 use Rattle.kept_sums.specs.Sums.{HasItsDay, row_counts}
 use Rattle.kept_sums.specs.Walks.{IsWalking, rows_until}
-use Rattle.kept_sums.proofs.anew.sums_over.Given as goal
+use Rattle.kept_sums.proofs.from_rows.sums_over.Given as goal
 
 -- the rows of the indicator behind a place count, and their days are there
 abbrev pub invariant-loop-next : goal.invariant-loop-next
