@@ -43,11 +43,14 @@ NoticesAreKept-taken made links after first last waiting place kept lt w later e
           (AreNumbered-taken 1 (1 + place) made kept.numbered);
       lengths = len ∙ kept.lengths
           ∙ sym (length-set made place ((slice_index_or made place no_notice).0, false));
-      count = omega (arith, kept.count, count-set made place (slice_index_or made place no_notice).0 w);
+      count = omega
+          (arith, kept.count, count-set made place (slice_index_or made place no_notice).0 w);
       linked = subst (AreLinked (waits (let_go made place)) after (if_there (earlier_at links place)
-          first (later_at links place)) (if_there (later_at links place) last (earlier_at links place)))
+          first (later_at links place))
+          (if_there (later_at links place) last (earlier_at links place)))
           (sym (length-set made place ((slice_index_or made place no_notice).0, false)))
-          (AreLinked-taken (waits made) (waits (let_go made place)) links after first last (length made)
+          (AreLinked-taken (waits made) (waits (let_go made place)) links after first last
+          (length made)
           place kept.linked w
           (waits-set made place ((slice_index_or made place no_notice).0, false) lt)
           (λ k other. waits-off made place ((slice_index_or made place no_notice).0, false) k other)
@@ -82,7 +85,8 @@ NoticesAreKept-pushed made links mid first last waiting notice kept next few lat
       count = omega (arith, kept.count, count-pushed made notice);
       linked = subst (λ n. AreLinked (waits new) after (if_there last first (Some n)) (Some n)
           (length new)) (sym end_is)
-          (subst (AreLinked (waits new) after (if_there last first (Some end)) (Some end)) (sym longer)
+          (subst (AreLinked (waits new) after (if_there last first (Some end)) (Some end))
+          (sym longer)
           (AreLinked-pushed (waits made) (waits new) links after first last end kept.linked
           (waits-pushed made (notice, true)) (λ k other. waits-kept made (notice, true) k other)
           (λ k lt. ap (λ (l : Link). l.later) (link-before mid link k (within k lt)) ∙ later k
