@@ -64,11 +64,16 @@ count-with_first m (piece h ms ps) = refl
 pieces_begun : (ms : List Mark) → count (pieces start ms) ≡ suc (starts ms)
 pieces_begun [] = refl
 pieces_begun (start ∷ ms) = omega (arith, pieces_begun ms)
-pieces_begun (dash n ∷ ms) = count-with_first (dash n) (pieces start ms) ∙ pieces_begun ms
-pieces_begun (key n k ∷ ms) = count-with_first (key n k) (pieces start ms) ∙ pieces_begun ms
-pieces_begun (value n x ∷ ms) = count-with_first (value n x) (pieces start ms) ∙ pieces_begun ms
-pieces_begun (header n s ∷ ms) = count-with_first (header n s) (pieces start ms) ∙ pieces_begun ms
-pieces_begun (raw l ∷ ms) = count-with_first (raw l) (pieces start ms) ∙ pieces_begun ms
+pieces_begun (dash n ∷ ms) =
+    omega (arith, count-with_first (dash n) (pieces start ms), pieces_begun ms)
+pieces_begun (key n k ∷ ms) =
+    omega (arith, count-with_first (key n k) (pieces start ms), pieces_begun ms)
+pieces_begun (value n x ∷ ms) =
+    omega (arith, count-with_first (value n x) (pieces start ms), pieces_begun ms)
+pieces_begun (header n s ∷ ms) =
+    omega (arith, count-with_first (header n s) (pieces start ms), pieces_begun ms)
+pieces_begun (raw l ∷ ms) =
+    omega (arith, count-with_first (raw l) (pieces start ms), pieces_begun ms)
 
 one_more : (done : List Child) (c : Child) → length (done ++ c ∷ []) ≤ length done + 1
 one_more done c = omega (arith, length-append done (c ∷ []))
