@@ -1,6 +1,12 @@
 //! Copies of objects.
 ghost use Rattle.std.specs.Prelude.{◌≡◌, IfOk};
 
+mod alerts;
+mod parts;
+mod service;
+mod sli;
+mod slo;
+
 use crate::copy::alerts::{copy_condition, copy_policy};
 use crate::copy::parts::{copy_optional_part, copy_optional_text};
 use crate::copy::service::{copy_data_source, copy_service, copy_target};
