@@ -10,7 +10,7 @@ use Rattle.office_history.specs.Counts.{counts_at}
 use Rattle.office_history.specs.History.{current_in, exclusions_in, rows_in}
 use Rattle.office_history.specs.Notices.{samples_in}
 use Rattle.office_history.specs.declared.Measure.{Measure}
-use Rattle.definition_verdict.specs.record_form.declared.Entry.{Entry}
+use Rattle.record_form.specs.declared.Entry.{Entry}
 use Rattle.counters_command.specs.Taking.{GivesRows}
 use Rattle.counter_laws.specs.Counted.{sums_of_differences}
 use Rattle.counter_laws.specs.Samples.{sample_of}

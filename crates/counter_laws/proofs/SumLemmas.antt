@@ -16,10 +16,11 @@ use Rattle.exact_fraction.specs.declared.Op.{Op}
 use Rattle.slice_method.specs.Readings.{counts}
 use Rattle.slice_method.specs.declared.Reading.TheVariants.{Good}
 use Rattle.sample_book.specs.Counting.{counts_of_minute, is_of}
-use Rattle.sample_book.specs.Rows.{cell_eq, cell_of, current_rows, same_cell}
-use Rattle.sample_book.specs.declared.Cell.{Cell}
+use Rattle.cell_index.specs.Cells.{cell_eq}
+use Rattle.cell_index.specs.declared.Cell.{Cell}
+use Rattle.sample_book.specs.Rows.{cell_of, current_rows, same_cell}
 use Rattle.sample_book.specs.declared.Row.{Row}
-use Rattle.sample_book.proofs.CurrentLemmas.{current-distinct}
+use Rattle.slo_terms.proofs.CurrentLemmas.{current-distinct}
 use Rattle.sample_book.proofs.StandingLemmas.{cell_laws}
 use Rattle.counter_book.specs.Book.{Book}
 use Rattle.counter_book.specs.Differences.{before_of, count_of, counts_of, difference_at}

@@ -11,7 +11,7 @@ ghost use Rattle.office_history.specs.Counts.{counts_at};
 ghost use Rattle.office_history.specs.History.{exclusions_in, rows_in};
 ghost use Rattle.office_history.specs.Notices.{samples_in};
 ghost use Rattle.office_history.specs.declared.Measure.{Measure};
-ghost use Rattle.definition_verdict.specs.record_form.declared.Entry.{Entry};
+ghost use Rattle.record_form.specs.declared.Entry.{Entry};
 ghost use Rattle.counter_book.specs.Book.{Book};
 ghost use Rattle.counter_book.specs.Laws.{HoldsReadings};
 ghost use Rattle.counter_book.specs.declared.CounterReading.{CounterReading};

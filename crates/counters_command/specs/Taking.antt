@@ -11,7 +11,7 @@ use Rattle.counter_book.specs.declared.Changes.{Changes}
 use Rattle.counter_book.specs.declared.CounterFault.TheVariants as refused
 use Rattle.counter_book.specs.declared.CounterReading.{CounterReading}
 use Rattle.counter_book.specs.declared.Difference.{Difference}
-use Rattle.counter_book.specs.declared.limits.TheConstants.{MAX_COUNTER}
+use Rattle.slo_limits.specs.declared.TheConstants.{MAX_COUNTER}
 use Rattle.counters_command.specs.declared.fault.ReadingFault.{ReadingFault}
 use Rattle.counters_command.specs.declared.fault.ReadingFault.TheVariants as fault
 use Rattle.counters_command.specs.Rows.{rows_of}

@@ -4,10 +4,11 @@ ghost use Rattle.counters_command.specs.Taking.{Breaks, TakesRecord, TakesRows, 
 
 use crate::fault::ReadingFault;
 use crate::rows::push_rows;
-use counter_book::{Changes, CounterBook, CounterFault, CounterReading, MAX_COUNTER};
+use counter_book::{Changes, CounterBook, CounterFault, CounterReading};
 use csv_records::Record;
 use event_fields::{EventFault, Sources, read_event};
 use exact_fraction::Label;
+use slo_limits::MAX_COUNTER;
 
 /// Why a record isn't taken.
 #[derive(Clone, Copy, PartialEq, Eq)]
