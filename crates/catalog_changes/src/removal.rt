@@ -3,9 +3,9 @@ ghost use Rattle.std.specs.Prelude.{◌≡◌, IfOk};
 ghost use Rattle.record_form.specs.declared.Command.TheVariants.{Remove};
 ghost use Rattle.office_history.specs.History.{Office, with_entry};
 ghost use Rattle.office_history.specs.Outcomes.{outcome_of};
-ghost use Rattle.office_history.specs.Verdicts.{accepted as accepted_lem, first_row_of};
-ghost use Rattle.office_history.specs.Verdicts.{is_sli as is_sli_lem, remove_verdict};
-ghost use Rattle.office_history.specs.Verdicts.{removal_fault as removal_fault_lem, unless_sampled};
+ghost use Rattle.office_history.specs.Verdicts.{accepted as accepted_def, first_row_of};
+ghost use Rattle.office_history.specs.Verdicts.{is_sli as is_sli_def, remove_verdict};
+ghost use Rattle.office_history.specs.Verdicts.{removal_fault as removal_fault_def, unless_sampled};
 ghost use Rattle.office_derived.specs.Derived.{HasRoom, IsJudged, IsNext, IsSound, Reflects};
 ghost use Rattle.office_derived.specs.Derived.{entry_of};
 ghost use Rattle.office_derived.specs.declared.Work.TheVariants as works;
@@ -24,7 +24,7 @@ use std::alloc::{AllocError, Global};
 use sums_plan::plan_sums;
 
 fn removal_fault(fault: RemoveFault) -> Refusal
-    ensures { result ≡ removal_fault_lem fault }
+    ensures { result ≡ removal_fault_def fault }
 {
     match fault {
         RemoveFault::NotFound => Refusal::NotFound,
@@ -33,7 +33,7 @@ fn removal_fault(fault: RemoveFault) -> Refusal
 }
 
 fn is_sli(kind: Kind) -> bool
-    ensures { result ≡ is_sli_lem kind }
+    ensures { result ≡ is_sli_def kind }
 {
     match kind {
         Kind::Sli => true,
@@ -60,7 +60,7 @@ fn first_row(book: &SampleBook, kind: Kind, name: Label) -> Option<Row>
 /// What becomes of the removal of an object that no member refers to.
 fn verdict_on(book: &SampleBook, entries: u32, kind: Kind, name: Label) -> Judgement
     ensures { result ≡ unless_sampled (first_row_of book.now.rows kind name)
-        (accepted_lem entries) }
+        (accepted_def entries) }
 {
     match first_row(book, kind, name) {
         Some(row) => Judgement::Refused(Refusal::HasSamples {

@@ -4,8 +4,8 @@ use Rattle.std.proofs.lemmas.List.Elements.{All-head, All-tail, All-cons, All-ni
 use Rattle.slice_method.specs.declared.Reading.{Reading}
 use Rattle.object_terms.specs.declared.Object.{Object}
 use Rattle.object_terms.specs.declared.Slo.{Slo}
-use Rattle.object_ranges.specs.office_history.Objectives.{measure_of, measures_named, measures_of}
-use Rattle.object_ranges.specs.office_history.Objectives.{measures_with, reading_named, slo_named}
+use Rattle.office_history.specs.Objectives.{measure_of, measures_named, measures_of}
+use Rattle.office_history.specs.Objectives.{measures_with, reading_named, slo_named}
 
 -- the objectives of an SLO that is there, over an indicator that is there
 pub measures_there : (members : List Object) (name : List ℕ) (slo : Slo) (reading : Reading) →

@@ -1,2 +1,1 @@
 pub mod Names
-pub use Rattle.object_ranges.specs as object_ranges

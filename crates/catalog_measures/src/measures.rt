@@ -5,23 +5,24 @@ ghost use Rattle.std.specs.List.{AllByRecursion};
 ghost use Rattle.std.specs.Option.{option_copied};
 ghost use Rattle.kept_objectives.specs.Objectives.{IsObjective};
 ghost use Rattle.object_ranges.specs.Measures.{IsMeasure};
-ghost use Rattle.object_ranges.specs.office_history.Objectives.{measure_at as measure_at_lem};
-ghost use Rattle.object_ranges.specs.office_history.Objectives.{measure_of as measure_of_lem};
-ghost use Rattle.object_ranges.specs.office_history.Objectives.{measures_named as named_measures};
-ghost use Rattle.object_ranges.specs.office_history.Objectives.{method_of as method_of_lem};
-ghost use Rattle.object_ranges.specs.office_history.Objectives.{slice_target as slice_target_lem};
-ghost use Rattle.object_ranges.specs.office_history.Objectives.{slice_width as slice_width_lem};
+ghost use Rattle.office_history.specs.Objectives.{measure_at as measure_at_def};
+ghost use Rattle.office_history.specs.Objectives.{measure_of as measure_of_def};
+ghost use Rattle.office_history.specs.Objectives.{measures_named as named_measures};
+ghost use Rattle.office_history.specs.Objectives.{method_of as method_of_def};
+ghost use Rattle.office_history.specs.Objectives.{slice_target as slice_target_def};
+ghost use Rattle.office_history.specs.Objectives.{slice_width as slice_width_def};
 
 use crate::bodies::{reading_named, slo_named};
 use exact_fraction::{Decimal, Label, Op};
-use object_ranges::{Measure, objectives_give_measures};
+use object_ranges::objectives_give_measures;
 use object_terms::{BudgetingMethod, Objective, Slo};
+use office_history::Measure;
 use slice_method::{Method, Reading};
 use slo_catalog::Catalog;
 use std::alloc::{AllocError, Global};
 
 fn slice_width(objective: &Objective) -> u32
-    ensures { result ≡ slice_width_lem objective.now }
+    ensures { result ≡ slice_width_def objective.now }
 {
     match objective.time_slice_window {
         Some(width) => width.minutes,
@@ -30,7 +31,7 @@ fn slice_width(objective: &Objective) -> u32
 }
 
 fn slice_target(objective: &Objective) -> Decimal
-    ensures { result ≡ slice_target_lem objective.now }
+    ensures { result ≡ slice_target_def objective.now }
 {
     match objective.time_slice_target {
         Some(target) => target.ratio,
@@ -48,7 +49,7 @@ fn value_of(objective: &Objective) -> Decimal
 }
 
 fn method_of(method: BudgetingMethod, objective: &Objective) -> Method
-    ensures { result ≡ method_of_lem method objective.now }
+    ensures { result ≡ method_of_def method objective.now }
 {
     match method {
         BudgetingMethod::Occurrences => Method::Occurrences,
@@ -63,7 +64,7 @@ fn method_of(method: BudgetingMethod, objective: &Objective) -> Method
 }
 
 fn measure_of(name: Label, slo: &Slo, reading: Reading, objective: &Objective) -> Measure
-    ensures { result ≡ measure_of_lem name slo.now reading objective.now }
+    ensures { result ≡ measure_of_def name slo.now reading objective.now }
 {
     Measure {
         slo: name,
@@ -85,7 +86,7 @@ fn objective_at(slo: &Slo, number: u32) -> Option<&Objective>
 /// The objective of this number of an SLO, from 0: none exactly where there is no such SLO or
 /// number.
 pub fn measure_at(catalog: &Catalog, name: Label, number: u32) -> Option<Measure>
-    ensures value { result ≡ measure_at_lem catalog.now name number }
+    ensures value { result ≡ measure_at_def catalog.now name number }
     ensures ranges { IfSome result IsMeasure }
     ensures objective { IfSome result (IsObjective catalog.now) }
 {
@@ -110,7 +111,7 @@ fn measures_with(
     reading: Reading,
 ) -> Result<Vec<Measure>, AllocError>
     ensures { IfOk result (λ measures. measures.items
-        ≡ map (measure_of_lem name slo.now reading) slo.now.objectives) }
+        ≡ map (measure_of_def name slo.now reading) slo.now.objectives) }
 {
     let mut measures = Vec::new(alloc);
     for objective in slo.objectives.as_slice() {

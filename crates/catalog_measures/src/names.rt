@@ -1,6 +1,6 @@
 //! The names of the SLOs.
 ghost use Rattle.std.specs.Prelude.{◌≡◌, IfOk};
-ghost use Rattle.catalog_measures.specs.Names.{is_slo as is_slo_lem, slo_names as slo_names_lem};
+ghost use Rattle.catalog_measures.specs.Names.{is_slo as is_slo_def, slo_names as slo_names_def};
 
 use exact_fraction::Label;
 use object_terms::Kind;
@@ -8,7 +8,7 @@ use slo_catalog::Catalog;
 use std::alloc::{AllocError, Global};
 
 fn is_slo(kind: Kind) -> bool
-    ensures { result ≡ is_slo_lem kind }
+    ensures { result ≡ is_slo_def kind }
 {
     match kind {
         Kind::Slo => true,
@@ -22,7 +22,7 @@ fn is_slo(kind: Kind) -> bool
 ///
 /// Memory ran out.
 pub fn slo_names(alloc: Global, catalog: &Catalog) -> Result<Vec<Label>, AllocError>
-    ensures { IfOk result (λ names. names.items ≡ slo_names_lem catalog.now) }
+    ensures { IfOk result (λ names. names.items ≡ slo_names_def catalog.now) }
 {
     let mut names = Vec::new(alloc);
     for member in catalog.members() {

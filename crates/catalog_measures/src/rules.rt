@@ -3,11 +3,11 @@ ghost use Rattle.std.specs.Prelude.{◌≡◌, IfSome, Some, option_map, unwrap_
 ghost use Rattle.burn_core.specs.Alert.{IsRule};
 ghost use Rattle.object_terms.specs.declared.AlertAfter.{AlertAfter};
 ghost use Rattle.std.specs.Option.{option_copied};
-ghost use Rattle.object_ranges.specs.office_history.Alerts.{first_condition as first_condition_lem};
-ghost use Rattle.object_ranges.specs.office_history.Alerts.{flags_named as flags_named_lem};
-ghost use Rattle.object_ranges.specs.office_history.Alerts.{flags_of as flags_of_lem};
-ghost use Rattle.object_ranges.specs.office_history.Alerts.{rule_named as rule_named_lem};
-ghost use Rattle.object_ranges.specs.office_history.Alerts.{rule_of as rule_of_lem};
+ghost use Rattle.office_history.specs.Alerts.{first_condition as first_condition_def};
+ghost use Rattle.office_history.specs.Alerts.{flags_named as flags_named_def};
+ghost use Rattle.office_history.specs.Alerts.{flags_of as flags_of_def};
+ghost use Rattle.office_history.specs.Alerts.{rule_named as rule_named_def};
+ghost use Rattle.office_history.specs.Alerts.{rule_of as rule_of_def};
 ghost use Rattle.slo_duration.specs.Minutes.{minutes_of};
 
 use crate::bodies::{condition_named, names_in, policy_named};
@@ -29,7 +29,7 @@ fn wait_of(condition: &Condition) -> u32
 }
 
 fn rule_of(condition: &Condition) -> AlertRule
-    ensures { result ≡ rule_of_lem condition.now }
+    ensures { result ≡ rule_of_def condition.now }
 {
     AlertRule::Single {
         op: condition.op.unwrap_or(Op::Gte),
@@ -40,7 +40,7 @@ fn rule_of(condition: &Condition) -> AlertRule
 }
 
 fn first_condition<'a>(catalog: &'a Catalog, policy: &AlertPolicy) -> Option<&'a AlertCondition>
-    ensures { option_copied result ≡ first_condition_lem catalog.now policy.now }
+    ensures { option_copied result ≡ first_condition_def catalog.now policy.now }
 {
     let name = names_in(&policy.conditions).get(0)?;
     condition_named(catalog, *name)
@@ -48,7 +48,7 @@ fn first_condition<'a>(catalog: &'a Catalog, policy: &AlertPolicy) -> Option<&'a
 
 /// The rule of a policy: none exactly where there is no such policy, or it has no condition.
 pub fn rule_named(catalog: &Catalog, name: Label) -> Option<AlertRule>
-    ensures value { result ≡ rule_named_lem catalog.now name }
+    ensures value { result ≡ rule_named_def catalog.now name }
     ensures ranges { IfSome result IsRule }
 {
     if name.as_str() == "workbook-page" {
@@ -64,7 +64,7 @@ pub fn rule_named(catalog: &Catalog, name: Label) -> Option<AlertRule>
 }
 
 fn flags_of(policy: &AlertPolicy) -> Flags
-    ensures { result ≡ flags_of_lem (Some policy.now) }
+    ensures { result ≡ flags_of_def (Some policy.now) }
 {
     Flags {
         breaching: policy.alert_when_breaching.unwrap_or(true),
@@ -75,7 +75,7 @@ fn flags_of(policy: &AlertPolicy) -> Flags
 
 /// Which changes a policy tells: those of a built-in one where there is no such member.
 pub fn flags_named(catalog: &Catalog, name: Label) -> Flags
-    ensures { result ≡ flags_named_lem catalog.now name }
+    ensures { result ≡ flags_named_def catalog.now name }
 {
     match policy_named(catalog, name) {
         Some(policy) => flags_of(policy),

@@ -15,7 +15,8 @@ use crate::zones::first_unknown_zone;
 use catalog_terms::DefineError;
 use exact_fraction::ZoneName;
 use object_terms::Object;
-use record_form::{LimitName, Refusal, SampleBook};
+use record_form::{LimitName, Refusal};
+use sample_book::SampleBook;
 use slo_catalog::{Catalog, Proposal, propose};
 use std::alloc::Global;
 

@@ -11,7 +11,7 @@ ghost use Rattle.office_history.specs.Readings.{same_reading as same_reading_def
 use exact_fraction::Label;
 use object_terms::{Kind, Object, Sli};
 use office_history::reading_of;
-use record_form::{Row, SampleBook};
+use sample_book::{Row, SampleBook};
 use slice_method::Reading;
 use slo_catalog::{Catalog, sli_in};
 

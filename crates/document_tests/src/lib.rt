@@ -16,15 +16,17 @@ mod expectations;
 #[cfg(test)]
 mod object_faults;
 #[cfg(test)]
-mod object_fields;
-#[cfg(test)]
 mod object_tables;
 #[cfg(test)]
-mod object_writing;
+mod object_values;
 #[cfg(test)]
 mod objective_faults;
 #[cfg(test)]
 mod openslo_examples;
+#[cfg(test)]
+mod written_nodes;
+#[cfg(test)]
+mod written_objects;
 #[cfg(test)]
 mod yaml_bytes;
 #[cfg(test)]
@@ -33,5 +35,3 @@ mod yaml_profile;
 mod yaml_tables;
 #[cfg(test)]
 mod yaml_texts;
-#[cfg(test)]
-mod yaml_writing;

@@ -8,7 +8,7 @@ use Rattle.record_form.specs.declared.Request.{Request}
 use Rattle.record_form.specs.declared.Request.TheVariants.{Change, Ask}
 use Rattle.office_history.specs.History.{Office}
 use Rattle.office_counter.specs.Steps as steps
-use Rattle.own_counter.specs.office_keep.Office as keep
+use Rattle.office_keep.specs.Office as keep
 use Rattle.own_counter.specs.Own.{Ends, performed, no_room}
 use Rattle.generate_command.specs.Tallies.{is_lack}
 

@@ -7,8 +7,9 @@ ghost use Rattle.generate_command.specs.Generated.{IsFresh, IsGenerated, IsSumme
 use crate::playing::{is_whole, play};
 use crate::summary::summary;
 use crate::tallying::Tallying;
+use office_keep::Office;
 use office_outside::{Disk, MemoryDisk, MemorySink, Plan};
-use own_counter::{Office, OwnCounter};
+use own_counter::OwnCounter;
 use sample_stream::generate;
 use std::alloc::{AllocError, Global};
 

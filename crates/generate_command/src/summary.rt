@@ -1,7 +1,7 @@
 //! The summary of a session.
 ghost use Rattle.std.specs.Prelude.{◌≡◌, IfOk, Some, string_bytes};
 ghost use Rattle.generate_command.specs.Summary.{AreBudgetLines, IsSummary};
-ghost use Rattle.generate_command.specs.Summary.{budget_lines as budget_lines_lem, summary_text};
+ghost use Rattle.generate_command.specs.Summary.{budget_lines as budget_lines_def, summary_text};
 
 use crate::tally::Tally;
 use exact_fraction::Fraction;
@@ -15,7 +15,7 @@ fn budget_lines(
     burn: Fraction,
     remaining: Fraction,
 ) -> Result<String, AllocError>
-    ensures { IfOk result (λ text. string_bytes text ≡ budget_lines_lem row.now burn remaining) }
+    ensures { IfOk result (λ text. string_bytes text ≡ budget_lines_def row.now burn remaining) }
 {
     let num = row.num;
     let den = row.den;

@@ -1,6 +1,6 @@
 //! What the requests of a session come to.
 ghost use Rattle.std.specs.Prelude.{◌≡◌};
-ghost use Rattle.generate_command.specs.Tallies.{budget_told as budget_told_lem, is_lack, is_ok};
+ghost use Rattle.generate_command.specs.Tallies.{budget_told as budget_told_def, is_lack, is_ok};
 ghost use Rattle.generate_command.specs.Tallies.{tally_with};
 
 use record_form::{BudgetRow, Outcome};
@@ -36,7 +36,7 @@ pub(crate) fn is_lack(outcome: &Outcome) -> bool
 
 /// The budget of objective 0 that was told last, where one was told before.
 fn budget_told(outcome: &Outcome, before: Option<BudgetRow>) -> Option<BudgetRow>
-    ensures { result ≡ budget_told_lem outcome.now before }
+    ensures { result ≡ budget_told_def outcome.now before }
 {
     match outcome {
         Outcome::Budgets { budgets, .. } => budgets.as_slice().first().copied(),

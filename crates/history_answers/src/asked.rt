@@ -1,12 +1,12 @@
 //! The minute that is asked about.
 ghost use Rattle.std.specs.Prelude.{◌≡◌, ◌||◌, nat_lt};
-ghost use Rattle.office_history.specs.Answers.{asked_at as asked_at_lem};
+ghost use Rattle.office_history.specs.Answers.{asked_at as asked_at_def};
 
 use office_derived::Derived;
 
 /// The minute that is given, or else the moment.
 pub(crate) fn asked_at(moment: u32, at: Option<u32>) -> u32
-    ensures { result ≡ asked_at_lem moment at }
+    ensures { result ≡ asked_at_def moment at }
 {
     match at {
         Some(at) => at,

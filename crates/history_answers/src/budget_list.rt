@@ -1,17 +1,17 @@
 //! The error budgets of an SLO.
 ghost use Rattle.std.specs.Prelude.{◌≡◌, ◌≤◌, ◌<◌, All, IfOk, Some, length};
 ghost use Rattle.std.specs.List.{AllByRecursion};
-ghost use Rattle.office_derived.specs.kept_objectives.Objectives.{IsObjective};
-ghost use Rattle.watched_objectives.specs.object_ranges.Measures.{IsMeasure};
+ghost use Rattle.kept_objectives.specs.Objectives.{IsObjective};
+ghost use Rattle.object_ranges.specs.Measures.{IsMeasure};
 ghost use Rattle.object_laws.specs.Ranges.{IsWindow};
 ghost use Rattle.record_form.specs.declared.Query.TheVariants.{Budgets};
 ghost use Rattle.office_history.specs.History.{Office, end_of};
 ghost use Rattle.office_history.specs.Catalog.{catalog_in};
-ghost use Rattle.office_history.specs.Objectives.{measures_named as measures_named_lem};
-ghost use Rattle.office_history.specs.Objectives.{slo_named as slo_named_lem};
+ghost use Rattle.office_history.specs.Objectives.{measures_named as measures_named_def};
+ghost use Rattle.office_history.specs.Objectives.{slo_named as slo_named_def};
 ghost use Rattle.office_history.specs.Answers.{Answers, AnswersBudgets};
-ghost use Rattle.office_history.specs.Answers.{budgets_from as budgets_from_lem};
-ghost use Rattle.office_history.specs.Answers.{budget_rows as budget_rows_lem};
+ghost use Rattle.office_history.specs.Answers.{budgets_from as budgets_from_def};
+ghost use Rattle.office_history.specs.Answers.{budget_rows as budget_rows_def};
 ghost use Rattle.office_derived.specs.Derived.{IsSound, Reflects};
 ghost use Rattle.watched_objectives.specs.Sums.{samples_of};
 
@@ -19,6 +19,7 @@ use crate::asked::{asked_at, is_outside};
 use crate::sums::sum_between;
 use crate::window_start::window_start;
 use burn_core::{burn, error_rate, remaining};
+use catalog_measures::{measures_named, slo_named};
 use exact_fraction::Label;
 use object_terms::Slo;
 use office_derived::Derived;
@@ -26,7 +27,6 @@ use office_history::Measure;
 use record_form::{BudgetRow, Listed, Outcome, Refusal};
 use slo_limits::{MAX_OBJECTIVES, RANGE_MINUTES};
 use std::alloc::{AllocError, Global};
-use watched_objectives::{measures_named, slo_named};
 
 // The budgets of objectives, by their numbers, counted over [from, at).
 fn budget_rows(
@@ -42,7 +42,7 @@ fn budget_rows(
     requires order { from ≤ at }
     requires few { length measures.now ≤ MAX_OBJECTIVES }
     ensures { IfOk result (λ rows. rows.items
-        ≡ budget_rows_lem (samples_of derived.now.book) from at 0 measures.now) }
+        ≡ budget_rows_def (samples_of derived.now.book) from at 0 measures.now) }
 {
     let mut rows = Vec::new(alloc);
     let mut number = 0;
@@ -71,10 +71,10 @@ fn budgets_from(
 ) -> Result<Outcome, AllocError>
     requires sound { IsSound derived.now }
     requires order { from ≤ at }
-    requires few { length (measures_named_lem derived.now.catalog name) ≤ MAX_OBJECTIVES }
+    requires few { length (measures_named_def derived.now.catalog name) ≤ MAX_OBJECTIVES }
     ensures { (o : Office) → Reflects derived.now o
         → IfOk result (λ outcome. outcome
-        ≡ budgets_from_lem o at (measures_named_lem (catalog_in o.history) name) (Some from)) }
+        ≡ budgets_from_def o at (measures_named_def (catalog_in o.history) name) (Some from)) }
 {
     let measures = measures_named(alloc, &derived.catalog, name)?;
     let rows = budget_rows(alloc, derived, measures.as_slice(), from, at)?;
@@ -96,7 +96,7 @@ fn budgets_of(
 ) -> Result<Outcome, AllocError>
     requires sound { IsSound derived.now }
     requires in_range { moment < end_of derived.now.origin }
-    requires there { slo_named_lem derived.now.catalog name ≡ Some slo.now }
+    requires there { slo_named_def derived.now.catalog name ≡ Some slo.now }
     requires few { length slo.now.objectives ≤ MAX_OBJECTIVES }
     requires window { IsWindow slo.now.time_window }
     ensures { (o : Office) → Reflects derived.now o

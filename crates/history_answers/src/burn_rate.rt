@@ -4,20 +4,20 @@ ghost use Rattle.record_form.specs.declared.Query.TheVariants as queries;
 ghost use Rattle.office_history.specs.History.{Office};
 ghost use Rattle.slo_duration.specs.Minutes.{minutes_of};
 ghost use Rattle.office_history.specs.Answers.{Answers, burn_answer};
-ghost use Rattle.office_derived.specs.kept_objectives.Objectives.{IsObjective};
-ghost use Rattle.watched_objectives.specs.object_ranges.Measures.{IsMeasure};
+ghost use Rattle.kept_objectives.specs.Objectives.{IsObjective};
+ghost use Rattle.object_ranges.specs.Measures.{IsMeasure};
 ghost use Rattle.office_derived.specs.Derived.{IsSound, Reflects};
 
 use crate::asked::{asked_at, is_outside};
 use crate::sums::sum_between;
 use burn_core::burn;
+use catalog_measures::measure_at;
 use exact_fraction::Label;
 use office_derived::Derived;
 use office_history::Measure;
 use record_form::{Outcome, Refusal};
 use slo_duration::{Duration, rolling_minutes};
 use slo_limits::MAX_LOOKBACK;
-use watched_objectives::measure_at;
 
 // A lookback lasts at least a minute and at most 30 days.
 fn is_no_lookback(minutes: u32) -> bool

@@ -2,8 +2,8 @@
 ghost use Rattle.std.specs.Prelude.{◌≡◌, ◌≤◌, ◌<◌};
 ghost use Rattle.slo_terms.specs.Sums.{most_events, sum_of_slices};
 ghost use Rattle.window_sums.specs.Slices.{leaf_at, width_of};
-ghost use Rattle.office_history.specs.Counts.{sum_between as sum_between_lem};
-ghost use Rattle.office_derived.specs.kept_objectives.Objectives.{IsObjective};
+ghost use Rattle.office_history.specs.Counts.{sum_between as sum_between_def};
+ghost use Rattle.kept_objectives.specs.Objectives.{IsObjective};
 ghost use Rattle.office_derived.specs.Derived.{IsSound};
 ghost use Rattle.watched_objectives.specs.Sums.{samples_of};
 
@@ -33,7 +33,7 @@ pub(crate) fn sum_between(derived: &Derived, measure: &Measure, from: u32, to: u
     requires sound { IsSound derived.now }
     requires objective { IsObjective derived.now.catalog measure.now }
     requires order { from ≤ to }
-    ensures value { result ≡ sum_between_lem (samples_of derived.now.book) measure.now from to }
+    ensures value { result ≡ sum_between_def (samples_of derived.now.book) measure.now from to }
     ensures part { result.num ≤ result.den }
     ensures few { result.den ≤ most_events }
 {

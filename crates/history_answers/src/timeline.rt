@@ -5,7 +5,7 @@ ghost use Rattle.record_form.specs.declared.Query.TheVariants.{Timeline};
 ghost use Rattle.office_history.specs.History.{Office, end_of};
 ghost use Rattle.office_history.specs.Answers.{Answers, AnswersTimeline};
 ghost use Rattle.office_derived.specs.Derived.{IsSound, Reflects};
-ghost use Rattle.office_history.specs.Alerts.{watched as watched_lem};
+ghost use Rattle.office_history.specs.Alerts.{watched as watched_def};
 ghost use Rattle.watched_objectives.specs.Known.{AllKnow};
 ghost use Rattle.watched_objectives.specs.Lines.{HasLines};
 ghost use Rattle.watched_objectives.specs.Watches.{IsWatched};
@@ -79,7 +79,7 @@ pub(crate) fn timeline(
         → IfOk result (Answers o moment (Timeline binding.now.slo binding.now.objective
         binding.now.policy from to)) }
     ensures learnt { IfOk result (λ outcome. KnowsGiven lines.new.kept from to outcome
-        (watched_lem derived.now.catalog binding.now)) }
+        (watched_def derived.now.catalog binding.now)) }
     ensures lines { HasLines derived.now lines.new.kept }
     ensures know { AllKnow lines.old.kept lines.new.kept }
     ensures spare { lines.new.spare ≡ lines.old.spare }

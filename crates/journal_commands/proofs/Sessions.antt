@@ -4,8 +4,8 @@ use Rattle.std.specs.Prelude.{Option, None}
 use Rattle.office_outside.specs.Disk.{All, LeavesOnly}
 use Rattle.record_form.specs.declared.Entry.{Entry}
 use Rattle.office_history.specs.History.{Office}
-use Rattle.own_counter.specs.office_keep.Files.{IsWhole, StandsFor}
-use Rattle.own_counter.specs.office_keep.Office.{OfficeOn, StandsSettled}
+use Rattle.office_keep.specs.Files.{IsWhole, StandsFor}
+use Rattle.office_keep.specs.Office.{OfficeOn, StandsSettled}
 use Rattle.office_session.specs.Sessions.{EndsSo}
 use Rattle.office_session.specs.declared.SessionEnd.{SessionEnd}
 use Rattle.office_counter.specs.Laws.{Extends, IsOwned}

@@ -7,7 +7,7 @@ use Rattle.office_outside.specs.Told.{Gained, GainedPrefix}
 use Rattle.office_session.specs.Sessions.{Reads}
 use Rattle.office_history.specs.History.{Office}
 use Rattle.slo_journal.specs.Front.{HasNoHeader, IsHeader, IsMaking}
-use Rattle.own_counter.specs.office_keep.Files.{StandsFor}
+use Rattle.office_keep.specs.Files.{StandsFor}
 use Rattle.journal_commands.specs.declared.making.InitEnd.{InitEnd}
 use Rattle.journal_commands.specs.declared.making.InitEnd.TheVariants.{Done, OriginAboveClock}
 use Rattle.journal_commands.specs.declared.making.InitEnd.TheVariants.{AlreadyThere, DiskFault}

@@ -4,10 +4,10 @@ use Rattle.office_outside.specs.Disk.{All, IsQuiet}
 use Rattle.office_outside.specs.Told.{Gained, GainedPrefix}
 use Rattle.office_session.specs.Sessions.{Reads}
 use Rattle.office_history.specs.History.{Office, end_of, moment_of}
-use Rattle.own_counter.specs.office_keep.Files.{IsWhole, StandsFor}
+use Rattle.office_keep.specs.Files.{IsWhole, StandsFor}
 use Rattle.office_report.specs.Report.{IsReport}
 use Rattle.journal_commands.specs.Making.{Bench}
-use Rattle.own_counter.specs.office_keep.Opening.{IsFoundOn}
+use Rattle.office_keep.specs.Opening.{IsFoundOn}
 use Rattle.journal_commands.specs.declared.reporting.PrintEnd.{PrintEnd}
 use Rattle.journal_commands.specs.declared.reporting.PrintEnd.TheVariants.{Done, OutOfRange}
 use Rattle.journal_commands.specs.declared.reporting.PrintEnd.TheVariants.{WriteFault, NoMemory}

@@ -1,8 +1,8 @@
 -- What a session over a journal's file does.
 use Rattle.std.specs.Prelude.{◌≡◌, ℕ, List, [], Option}
 use Rattle.office_outside.specs.Disk.{All, IsQuiet, LeavesOnly}
-use Rattle.own_counter.specs.office_keep.Files.{IsWhole, StandsFor}
-use Rattle.own_counter.specs.office_keep.Office.{OfficeOn, StandsSettled}
+use Rattle.office_keep.specs.Files.{IsWhole, StandsFor}
+use Rattle.office_keep.specs.Office.{OfficeOn, StandsSettled}
 use Rattle.office_session.specs.Sessions.{EndsSo, Scene}
 use Rattle.office_session.specs.declared.SessionEnd.{SessionEnd}
 use Rattle.office_counter.specs.Laws.{Extends, IsOwned}
@@ -10,7 +10,7 @@ use Rattle.wire_session.specs.Treats.{Treats, refusal_text}
 use Rattle.own_counter.specs.Own.{OwnAsks, OwnOn, own_on, standing_of}
 use Rattle.own_counter.specs.Requests.{AddNoOther, turns_of}
 use Rattle.own_counter.specs.Runs.{IsBetween}
-use Rattle.own_counter.specs.office_keep.Opening.{IsFoundOn, Opens}
+use Rattle.office_keep.specs.Opening.{IsFoundOn, Opens}
 use Rattle.journal_commands.specs.declared.serving.PipeEnd.{PipeEnd}
 use Rattle.journal_commands.specs.declared.serving.PipeEnd.TheVariants.{Served, Unopened}
 

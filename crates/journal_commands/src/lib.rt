@@ -9,7 +9,5 @@ mod serving;
 mod writing;
 
 pub use making::{InitEnd, make_journal};
-pub use office_session::SessionEnd;
-pub use own_counter::Unopened;
 pub use reporting::{PrintEnd, ReportEnd, print_report};
 pub use serving::{PipeEnd, run_session};

@@ -3,16 +3,16 @@ ghost use Rattle.std.specs.Prelude.{◌≡◌, ◌⊎◌, ◌≤◌, IfOk, IfErr
 ghost use Rattle.slo_limits.specs.declared.TheConstants.{MAX_MINUTE};
 ghost use Rattle.office_outside.specs.Faults.{Rose};
 ghost use Rattle.office_outside.specs.Told.{Gained, GainedPrefix};
-ghost use Rattle.own_counter.specs.office_keep.declared.KeepFault.TheVariants.{AlreadyThere};
-ghost use Rattle.own_counter.specs.office_keep.declared.KeepFault.TheVariants.{DiskFault};
-ghost use Rattle.own_counter.specs.office_keep.declared.KeepFault.TheVariants.{NoMemory};
+ghost use Rattle.office_keep.specs.declared.KeepFault.TheVariants.{AlreadyThere};
+ghost use Rattle.office_keep.specs.declared.KeepFault.TheVariants.{DiskFault};
+ghost use Rattle.office_keep.specs.declared.KeepFault.TheVariants.{NoMemory};
 ghost use Rattle.slo_journal.specs.Front.{IsMaking};
 ghost use Rattle.journal_commands.specs.Making.{IsMade, IsThere, Makes, QuietOrMaking, bench};
-ghost use Rattle.journal_commands.specs.Making.{origin_line as origin_line_lem};
+ghost use Rattle.journal_commands.specs.Making.{origin_line as origin_line_def};
 
 use crate::writing::write_out;
+use office_keep::{KeepFailed, KeepFault, Office};
 use office_outside::{Clock, Disk, Failed, Sink};
-use own_counter::{KeepFailed, KeepFault, Office};
 use std::alloc::{AllocError, Global};
 
 /// How the making of a journal ends.
@@ -34,7 +34,7 @@ pub enum InitEnd {
 
 /// The line that tells an origin.
 fn origin_line(alloc: Global, origin: u32) -> Result<String, AllocError>
-    ensures { IfOk result (λ text. string_bytes text ≡ origin_line_lem origin) }
+    ensures { IfOk result (λ text. string_bytes text ≡ origin_line_def origin) }
 {
     format!(in alloc; "origin {origin}\n")
 }

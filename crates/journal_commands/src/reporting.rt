@@ -6,9 +6,10 @@ ghost use Rattle.journal_commands.specs.Reporting.{EndsOver, IsInRange, IsOutOfR
 ghost use Rattle.journal_commands.specs.Reporting.{Reports, minute_by};
 
 use crate::writing::write_out;
+use office_core::Core;
+use office_keep::{Unopened, let_go, open_journal};
 use office_outside::{Clock, Disk, Failed, Sink};
-use office_report::{Core, report};
-use own_counter::{Unopened, let_go, open_journal};
+use office_report::report;
 use std::alloc::Global;
 
 /// How the printing of a report over an office ends.

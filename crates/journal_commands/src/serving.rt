@@ -3,12 +3,10 @@ ghost use Rattle.std.specs.Prelude.{◌≡◌, None};
 ghost use Rattle.office_outside.specs.Faults.{Rose};
 ghost use Rattle.journal_commands.specs.Serving.{EndsServing, IsServed, outside};
 
+use office_keep::{Office, Unopened, open_journal};
 use office_outside::{Clock, Disk, Sink, Source};
 use office_session::SessionEnd;
-use own_counter::{
-    Office, OwnCounter, Unopened, a_session_adds_what_is_asked, a_stop_leaves_what_was_kept,
-    open_journal,
-};
+use own_counter::{OwnCounter, a_session_adds_what_is_asked, a_stop_leaves_what_was_kept};
 use std::alloc::Global;
 use wire_session::{own_places_stay_in_a_session, session, what_is_seen_grows_in_a_session};
 

@@ -2,7 +2,7 @@
 ghost use Rattle.std.specs.Prelude.{◌≡◌, ◌<◌, ◌≤◌};
 ghost use Rattle.std.specs.List.{AllByRecursion};
 ghost use Rattle.sample_book.specs.declared.Row.{Row};
-ghost use Rattle.sample_book.specs.Puts.{verdicts as verdicts_lem};
+ghost use Rattle.sample_book.specs.Puts.{verdicts as verdicts_def};
 ghost use Rattle.burn_core.specs.Alert.{IsRule};
 ghost use Rattle.window_sums.specs.Slices.{width_of};
 ghost use Rattle.kept_sums.specs.Replacing.{HasMoved};
@@ -33,7 +33,7 @@ pub fn forget_rows(
     requires some { 0 < width }
     requires small { width ≤ 60 }
     requires early { AllByRecursion (λ (row : Row). row.minute ≤ LAST_MINUTE) rows.now }
-    requires verdicts { verdicts.now ≡ verdicts_lem book.now.rows rows.now }
+    requires verdicts { verdicts.now ≡ verdicts_def book.now.rows rows.now }
     ensures { Forgets (HasMoved measure.now rows.now verdicts.now) width line.old line.new }
 {
     let mut waiting = None;

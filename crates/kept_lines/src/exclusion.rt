@@ -5,7 +5,7 @@ ghost use Rattle.std.specs.Str.{bytes_eq};
 ghost use Rattle.sample_book.specs.declared.Row.{Row};
 ghost use Rattle.burn_core.specs.Alert.{IsRule, reach_of};
 ghost use Rattle.window_sums.specs.Slices.{day_of, width_of};
-ghost use Rattle.kept_sums.specs.Sums.{RowFits, SumsAreKept, row_counts as row_counts_lem};
+ghost use Rattle.kept_sums.specs.Sums.{RowFits, SumsAreKept, row_counts as row_counts_def};
 ghost use Rattle.kept_sums.specs.Walks.{IsChanged, made_on};
 ghost use Rattle.kept_lines.specs.Touched.{Forgets, HasChanged, IsChangedRow, IsCut, IsRunIf};
 ghost use Rattle.kept_lines.specs.Touched.{LAST_MINUTE, TouchesEach};
@@ -25,11 +25,11 @@ use window_sums::WindowSums;
 fn is_changed(measure: &Measure, book: &SampleBook, value: &Exclusion, row: &Row) -> bool
     requires { RowFits measure.now row.now }
     ensures changed { result ≡ true
-        → row_counts_lem measure.now (made_on book.now.exclusions value.now false) row.now
-        ≢ row_counts_lem measure.now (made_on book.now.exclusions value.now true) row.now }
+        → row_counts_def measure.now (made_on book.now.exclusions value.now false) row.now
+        ≢ row_counts_def measure.now (made_on book.now.exclusions value.now true) row.now }
     ensures same { result ≡ false
-        → row_counts_lem measure.now (made_on book.now.exclusions value.now false) row.now
-        ≡ row_counts_lem measure.now (made_on book.now.exclusions value.now true) row.now }
+        → row_counts_def measure.now (made_on book.now.exclusions value.now false) row.now
+        ≡ row_counts_def measure.now (made_on book.now.exclusions value.now true) row.now }
 {
     if !excludes_minute(value, measure.slo, row.minute) {
         return false;

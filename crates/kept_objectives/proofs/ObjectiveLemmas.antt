@@ -7,10 +7,10 @@ use Rattle.slice_method.specs.declared.Reading.{Reading}
 use Rattle.object_terms.specs.declared.Object.{Object}
 use Rattle.object_terms.specs.declared.Slo.{Slo}
 use Rattle.object_terms.specs.declared.objective.Objective.{Objective}
-use Rattle.kept_sums.specs.office_history.declared.Measure.{Measure}
-use Rattle.kept_sums.specs.office_history.Objectives.{measure_at, measure_of, measures_named}
-use Rattle.kept_sums.specs.office_history.Objectives.{measures_of, measures_with, reading_named}
-use Rattle.kept_sums.specs.office_history.Objectives.{slo_named}
+use Rattle.office_history.specs.declared.Measure.{Measure}
+use Rattle.office_history.specs.Objectives.{measure_at, measure_of, measures_named}
+use Rattle.office_history.specs.Objectives.{measures_of, measures_with, reading_named}
+use Rattle.office_history.specs.Objectives.{slo_named}
 use Rattle.kept_objectives.specs.Objectives.{IsObjective}
 
 -- an objective of the SLO of a name has that name, and the reading of its indicator

@@ -4,8 +4,8 @@ use Rattle.std.specs.List.{AllByRecursion, Contains}
 use Rattle.sample_book.specs.declared.Exclusion.{Exclusion}
 use Rattle.sample_book.specs.declared.Row.{Row}
 use Rattle.object_terms.specs.declared.Object.{Object}
-use Rattle.kept_sums.specs.office_history.declared.Measure.{Measure}
-use Rattle.kept_sums.specs.office_history.Objectives.{measure_at}
+use Rattle.office_history.specs.declared.Measure.{Measure}
+use Rattle.office_history.specs.Objectives.{measure_at}
 use Rattle.kept_sums.specs.Sums.{RowFits, HasItsDay, SumsAreKept}
 use Rattle.kept_objectives.specs.declared.kept.ObjectiveSums.{ObjectiveSums}
 

@@ -4,7 +4,7 @@ use Rattle.std.specs.List.{AllByRecursion, Contains}
 use Rattle.sample_book.specs.declared.Exclusion.{Exclusion}
 use Rattle.sample_book.specs.declared.Row.{Row}
 use Rattle.object_terms.specs.declared.Object.{Object}
-use Rattle.kept_sums.specs.office_history.declared.Measure.{Measure}
+use Rattle.office_history.specs.declared.Measure.{Measure}
 use Rattle.kept_objectives.specs.Objectives.{AreKept, IsObjective, measures_of}
 use Rattle.kept_objectives.specs.declared.plan.SumsPlan.{SumsPlan}
 

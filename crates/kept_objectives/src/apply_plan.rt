@@ -4,14 +4,14 @@ ghost use Rattle.std.specs.Bool.{Decides};
 ghost use Rattle.std.specs.List.{AllByRecursion, Contains};
 ghost use Rattle.sample_book.specs.declared.Exclusion.{Exclusion};
 ghost use Rattle.sample_book.specs.declared.Row.{Row};
-ghost use Rattle.kept_sums.specs.office_history.declared.Measure.{Measure};
+ghost use Rattle.office_history.specs.declared.Measure.{Measure};
 ghost use Rattle.kept_objectives.specs.Objectives.{AreKept, measures_of};
 ghost use Rattle.kept_objectives.specs.declared.kept.ObjectiveSums.{ObjectiveSums};
 
 use crate::kept::KeptSums;
 use crate::plan::SumsPlan;
 use crate::same::is_same_measure;
-use kept_sums::Measure;
+use office_history::Measure;
 
 /// Whether an objective is among those that are wanted.
 fn is_wanted(wanted: &[Measure], measure: &Measure) -> bool

@@ -5,7 +5,8 @@ ghost use Rattle.kept_objectives.specs.declared.kept.ObjectiveSums.{ObjectiveSum
 
 use crate::kept::{KeptSums, ObjectiveSums, likely_place};
 use crate::same::is_same_measure;
-use kept_sums::{Measure, WindowSums};
+use office_history::Measure;
+use window_sums::WindowSums;
 
 impl KeptSums {
     /// Where the sums of an objective are best looked for: at the place of the objective before, at

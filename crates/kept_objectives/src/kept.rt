@@ -4,9 +4,10 @@ ghost use Rattle.std.specs.List.{AllByRecursion, Contains};
 ghost use Rattle.kept_objectives.specs.declared.kept.ObjectiveSums.{ObjectiveSums};
 
 use crate::same::is_same_measure;
-use kept_sums::{Measure, WindowSums};
+use office_history::Measure;
 use std::alloc::{AllocError, Global};
 use std::marker::Model;
+use window_sums::WindowSums;
 
 /// What an objective counts, and its sums.
 #[derive(Drop)]

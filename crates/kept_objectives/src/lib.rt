@@ -11,6 +11,5 @@ mod plan;
 mod same;
 
 pub use kept::{KeptSums, ObjectiveSums};
-pub use kept_sums::{Judgement, LimitName, Outcome, Refusal, Rows, sums_over};
 pub use plan::SumsPlan;
 pub use same::is_same_measure;

@@ -1,7 +1,7 @@
 //! What becomes of the sums as a catalog takes the place of another.
 
 use crate::kept::ObjectiveSums;
-use kept_sums::Measure;
+use office_history::Measure;
 
 /// The objectives whose sums are to be kept, and the sums of those that had none.
 #[derive(Drop)]

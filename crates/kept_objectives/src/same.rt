@@ -3,7 +3,7 @@ ghost use Rattle.std.specs.Prelude.{◌≡◌};
 ghost use Rattle.std.specs.Bool.{Decides};
 
 use exact_fraction::Op;
-use kept_sums::Measure;
+use office_history::Measure;
 use slice_method::{Method, Reading};
 
 /// Whether two operators are one.

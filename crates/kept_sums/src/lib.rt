@@ -13,6 +13,4 @@ mod range;
 pub use batch::{count_batch, reserve_batch};
 pub use counting::{NO_COUNTS, changes_counts, excludes_minute, row_at, row_counts};
 pub use from_rows::sums_over;
-pub use office_history::{Judgement, LimitName, Measure, Outcome, Refusal, Rows};
 pub use range::follow_exclusion;
-pub use window_sums::WindowSums;

@@ -9,7 +9,6 @@ mod links;
 mod notice;
 mod notice_box;
 
-pub use burn_core::State;
 pub use changes::plan;
 pub use laws::takings_are_few;
 pub use notice::Notice;

@@ -2,23 +2,24 @@
 ghost use Rattle.std.specs.Prelude.{◌≡◌, ◌++◌, ◌∷◌, [], IfOk, IfSome, OnOk};
 ghost use Rattle.std.specs.Prelude.{cond, slice_get};
 ghost use Rattle.std.specs.Option.{option_copied};
-ghost use Rattle.office_history.specs.Notices.{changes as changes_lem, is_told as is_told_lem};
-ghost use Rattle.office_history.specs.Notices.{state_among as state_among_lem};
-ghost use Rattle.office_history.specs.Notices.{state_eq as state_eq_lem};
+ghost use Rattle.office_history.specs.Notices.{changes as changes_def, is_told as is_told_def};
+ghost use Rattle.office_history.specs.Notices.{state_among as state_among_def};
+ghost use Rattle.office_history.specs.Notices.{state_eq as state_eq_def};
 ghost use Rattle.notice_changes.specs.States.{AreByBinding};
 
 use burn_core::State;
+use catalog_measures::flags_named;
 use catalog_terms::Binding;
 use slo_catalog::Catalog;
 use std::alloc::{AllocError, Global};
-use watched_objectives::{flags_named, same_binding};
+use watched_objectives::same_binding;
 
 // The state before of a binding that wasn't there.
 const UNSEEN: State = State::Quiet;
 
 // The state of a binding among these; quiet where it isn't among them.
 fn state_among(states: &[(Binding, State)], binding: &Binding) -> State
-    ensures { result ≡ state_among_lem states.now binding.now }
+    ensures { result ≡ state_among_def states.now binding.now }
 {
     for kept in states {
         if same_binding(&kept.0, binding) {
@@ -37,7 +38,7 @@ fn kept_at(states: &[(Binding, State)], place: usize) -> Option<&(Binding, State
 // The state at a place among these, where it is a binding's.
 fn state_at(states: &[(Binding, State)], place: usize, binding: &Binding) -> Option<State>
     ensures { AreByBinding states.now
-        → IfSome result (λ state. state ≡ state_among_lem states.now binding.now) }
+        → IfSome result (λ state. state ≡ state_among_def states.now binding.now) }
 {
     match kept_at(states, place) {
         Some(kept) => {
@@ -54,7 +55,7 @@ fn state_at(states: &[(Binding, State)], place: usize, binding: &Binding) -> Opt
 // The state of a binding among these, in which a binding has but one. It mostly stands where it
 // stands among the new ones, so that place is looked at first.
 fn state_near(states: &[(Binding, State)], place: usize, binding: &Binding) -> State
-    ensures { AreByBinding states.now → result ≡ state_among_lem states.now binding.now }
+    ensures { AreByBinding states.now → result ≡ state_among_def states.now binding.now }
 {
     match state_at(states, place, binding) {
         Some(state) => state,
@@ -63,7 +64,7 @@ fn state_near(states: &[(Binding, State)], place: usize, binding: &Binding) -> S
 }
 
 fn state_eq(a: State, b: State) -> bool
-    ensures { result ≡ state_eq_lem a b }
+    ensures { result ≡ state_eq_def a b }
 {
     match a {
         State::Quiet => b == State::Quiet,
@@ -79,7 +80,7 @@ fn is_told(
     place: usize,
     now: &(Binding, State),
 ) -> bool
-    ensures { AreByBinding before.now → result ≡ is_told_lem catalog.now before.now now.now }
+    ensures { AreByBinding before.now → result ≡ is_told_def catalog.now before.now now.now }
 {
     !state_eq(state_near(before, place, &now.0), now.1)
         && flags_named(catalog, now.0.policy).of_state(now.1)
@@ -108,7 +109,7 @@ pub(crate) fn changes(
     now: &[(Binding, State)],
 ) -> Result<Vec<(Binding, State)>, AllocError>
     ensures { AreByBinding before.now
-        → IfOk result (λ told. told.items ≡ changes_lem catalog.now before.now now.now) }
+        → IfOk result (λ told. told.items ≡ changes_def catalog.now before.now now.now) }
 {
     let mut told = Vec::new(alloc);
     for (place, change) in now.iter().enumerate() {

@@ -4,7 +4,7 @@ ghost use Rattle.record_form.specs.declared.Command.TheVariants.{Take};
 ghost use Rattle.notice_box.specs.Box.{count_waiting, after_taking};
 ghost use Rattle.office_history.specs.History.{Office, with_entry};
 ghost use Rattle.office_history.specs.Outcomes.{outcome_of};
-ghost use Rattle.office_history.specs.Verdicts.{is_waiting as is_waiting_lem, take_verdict};
+ghost use Rattle.office_history.specs.Verdicts.{is_waiting as is_waiting_def, take_verdict};
 ghost use Rattle.office_derived.specs.declared.Work.TheVariants as works;
 ghost use Rattle.office_derived.specs.Derived.{IsJudged, IsNext, IsSound, Reflects, entry_of};
 
@@ -16,7 +16,7 @@ use record_form::{Outcome, Refusal};
 // Whether the notice of a number waits.
 fn is_waiting(notices: &NoticeBox, number: u32) -> bool
     requires { 0 < number }
-    ensures { result ≡ is_waiting_lem notices.now.made number }
+    ensures { result ≡ is_waiting_def notices.now.made number }
 {
     notices.numbered();
     match notices.notice_at(number - 1) {

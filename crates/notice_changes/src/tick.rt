@@ -4,7 +4,7 @@ ghost use Rattle.record_form.specs.declared.Command.TheVariants.{Tick};
 ghost use Rattle.slo_limits.specs.declared.TheConstants as most;
 ghost use Rattle.office_history.specs.Alerts.{states_at};
 ghost use Rattle.office_history.specs.History.{Office, end_of, with_entry};
-ghost use Rattle.office_history.specs.Notices.{changes as changes_lem, waiting};
+ghost use Rattle.office_history.specs.Notices.{changes as changes_def, waiting};
 ghost use Rattle.office_history.specs.Outcomes.{outcome_of};
 ghost use Rattle.office_history.specs.Verdicts.{tick_verdict};
 ghost use Rattle.office_derived.specs.declared.Work.TheVariants as works;
@@ -65,7 +65,7 @@ fn states_and_changes(
     ensures states { IfOk result (λ found. found.0.items
         ≡ states_at derived.now.origin derived.now.catalog (samples_of derived.now.book) moment) }
     ensures told { AreByBinding derived.now.states.items → IfOk result (λ found. found.1.items
-        ≡ changes_lem derived.now.catalog derived.now.states.items found.0.items) }
+        ≡ changes_def derived.now.catalog derived.now.states.items found.0.items) }
     ensures lines { HasLines derived.now lines.new.kept }
     ensures know { AllKnow lines.old.kept lines.new.kept }
     ensures spare { lines.new.spare ≡ lines.old.spare }

@@ -1,2 +1,1 @@
 pub mod Measures
-pub use Rattle.office_history.specs as office_history

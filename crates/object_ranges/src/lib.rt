@@ -9,4 +9,3 @@ pub use named::{
     conditions_give_rules, measures_are_in_range, named_windows_are_in_range,
     objectives_give_measures, rules_are_in_range,
 };
-pub use office_history::{Measure, reading_of};

@@ -4,9 +4,9 @@ ghost use Rattle.std.specs.Prelude.{sum_by};
 ghost use Rattle.std.specs.List.{All};
 ghost use Rattle.sample_book.specs.Rows.{current_rows};
 ghost use Rattle.slo_limits.specs.declared.TheConstants.{MAX_DAYS as most};
-ghost use Rattle.object_terms.specs.Slo.{slo_in as slo_in_lem};
+ghost use Rattle.object_terms.specs.Slo.{slo_in as slo_in_def};
 ghost use Rattle.office_history.specs.Batches.{days_of_slo, objective_days};
-ghost use Rattle.objective_days.specs.Days.{IsOnDays, IsWithin, objectives_of as objectives_of_lem};
+ghost use Rattle.objective_days.specs.Days.{IsOnDays, IsWithin, objectives_of as objectives_of_def};
 ghost use Rattle.objective_days.specs.Days.{objectives_in};
 
 use crate::days::{Days, days_of};
@@ -18,7 +18,7 @@ use std::alloc::{AllocError, Global};
 
 /// How many objectives an object has.
 fn objectives_of(object: &Object) -> usize
-    ensures { result ≡ objectives_of_lem object.now }
+    ensures { result ≡ objectives_of_def object.now }
 {
     match slo_in(&object.body) {
         Some(slo) => slo.objectives.as_slice().len(),
@@ -29,7 +29,7 @@ fn objectives_of(object: &Object) -> usize
 /// Whether the objectives are so few that no days pass the limit.
 fn has_few_objectives(members: &[Member], days: u64) -> bool
     requires { 0 < days }
-    ensures { result ≡ true → sum_by objectives_of_lem members.now * days ≤ most }
+    ensures { result ≡ true → sum_by objectives_of_def members.now * days ≤ most }
 {
     let mut left = u64::from(MAX_DAYS) / days;
     for member in members {
@@ -54,7 +54,7 @@ fn days_of_object(
     requires book { All (IsOnDays days.first days.count) book.now.rows }
     requires more { All (IsOnDays days.first days.count) more.now }
     ensures exact { IfOk result (λ pairs. pairs ≡ days_of_slo (current_rows (book.now.rows ++
-        more.now)) (slo_in_lem object.now.body)) }
+        more.now)) (slo_in_def object.now.body)) }
     ensures few { IfOk result (λ pairs. pairs ≤ 2 ^ 96) }
 {
     match slo_in(&object.body) {

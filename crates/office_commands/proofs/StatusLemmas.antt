@@ -12,7 +12,7 @@ use Rattle.office_session.specs.declared.SessionEnd.{SessionEnd}
 use Rattle.office_session.specs.declared.SessionEnd.TheVariants as session
 use Rattle.journal_commands.specs.Making.{Bench, EndsMaking, HasHeader}
 use Rattle.journal_commands.specs.Reporting.{EndsReporting, IsPrinted, IsUnprinted, OpensTo}
-use Rattle.journal_commands.specs.office_keep.Opening.{IsBad, IsFoundOn}
+use Rattle.office_keep.specs.Opening.{IsBad, IsFoundOn}
 use Rattle.journal_commands.specs.Serving.{EndsServing, Outside}
 use Rattle.journal_commands.specs.declared.InitEnd.{InitEnd}
 use Rattle.journal_commands.specs.declared.InitEnd.TheVariants as init
@@ -21,8 +21,8 @@ use Rattle.journal_commands.specs.declared.PipeEnd.TheVariants as pipe
 use Rattle.journal_commands.specs.declared.PrintEnd.TheVariants as printing
 use Rattle.journal_commands.specs.declared.ReportEnd.{ReportEnd}
 use Rattle.journal_commands.specs.declared.ReportEnd.TheVariants as report
-use Rattle.journal_commands.specs.office_keep.declared.Unopened.{Unopened}
-use Rattle.journal_commands.specs.office_keep.declared.Unopened.TheVariants as unopened
+use Rattle.office_keep.specs.declared.Unopened.{Unopened}
+use Rattle.office_keep.specs.declared.Unopened.TheVariants as unopened
 use Rattle.office_commands.specs.Counters.{SettledCounters}
 use Rattle.office_commands.specs.Generate.{EndsGenerating, PrintsSummary, SettledGenerate}
 use Rattle.office_commands.specs.Init.{SettledInit}

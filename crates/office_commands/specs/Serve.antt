@@ -1,11 +1,11 @@
 -- How `serve` ends, in statuses and lines.
 use Rattle.std.specs.Prelude.{◌≡◌, ◌≢◌, ℕ, List, Option, Some}
-use Rattle.journal_commands.specs.office_keep.Opening.{IsBad, Opens}
+use Rattle.office_keep.specs.Opening.{IsBad, Opens}
 use Rattle.office_doors.specs.declared.Visit.{Visit}
-use Rattle.serve_command.specs.office_serving.Serving.{Front, IsServed}
-use Rattle.serve_command.specs.office_serving.Workers.{Site}
-use Rattle.serve_command.specs.office_serving.declared.ServeEnd.{ServeEnd}
-use Rattle.serve_command.specs.office_serving.declared.ServeEnd.TheVariants as serving
+use Rattle.office_serving.specs.Serving.{Front, IsServed}
+use Rattle.office_serving.specs.Workers.{Site}
+use Rattle.office_serving.specs.declared.ServeEnd.{ServeEnd}
+use Rattle.office_serving.specs.declared.ServeEnd.TheVariants as serving
 use Rattle.serve_command.specs.Serves.{EndsServer}
 use Rattle.serve_command.specs.declared.ServerEnd.{ServerEnd}
 use Rattle.serve_command.specs.declared.ServerEnd.TheVariants.{Served, Unopened}

@@ -1,9 +1,9 @@
 -- How a journal that couldn't be opened ends the commands that open one, in statuses and lines.
 use Rattle.std.specs.Prelude.{◌⊎◌, ℕ, List, ◌++◌, Option, codes}
 use Rattle.std.specs.Fmt.{decimal}
-use Rattle.journal_commands.specs.office_keep.declared.Unopened.{Unopened}
-use Rattle.journal_commands.specs.office_keep.declared.Unopened.TheVariants.{NotAJournal, Damaged}
-use Rattle.journal_commands.specs.office_keep.declared.Unopened.TheVariants.{DiskFault, NoMemory}
+use Rattle.office_keep.specs.declared.Unopened.{Unopened}
+use Rattle.office_keep.specs.declared.Unopened.TheVariants.{NotAJournal, Damaged}
+use Rattle.office_keep.specs.declared.Unopened.TheVariants.{DiskFault, NoMemory}
 use Rattle.office_commands.specs.Runs.{EndsSaying, EndsWith}
 use Rattle.office_commands.specs.declared.ending.TheConstants as statuses
 

@@ -9,10 +9,10 @@ ghost use Rattle.counters_command.specs.declared.CountersEnd.TheVariants.{Refuse
 ghost use Rattle.counters_command.specs.declared.CountersFault.{CountersFault};
 ghost use Rattle.journal_commands.specs.Making.{HasHeader, origin_by};
 ghost use Rattle.journal_commands.specs.Reporting.{IsPrinted, IsUnprinted, OpensTo};
-ghost use Rattle.journal_commands.specs.office_keep.Opening.{IsBad};
-ghost use Rattle.serve_command.specs.turn_counter.Turns.{TurnAsks};
-ghost use Rattle.serve_command.specs.office_serving.Visits.{looks};
-ghost use Rattle.serve_command.specs.office_serving.Workers.{site};
+ghost use Rattle.office_keep.specs.Opening.{IsBad};
+ghost use Rattle.turn_counter.specs.Turns.{TurnAsks};
+ghost use Rattle.office_serving.specs.Visits.{looks};
+ghost use Rattle.office_serving.specs.Workers.{site};
 ghost use Rattle.office_commands.specs.Generate.{PrintsSummary};
 ghost use Rattle.office_commands.specs.Serve.{ServeStatusesSay};
 ghost use Rattle.office_commands.specs.Worlds.{RunsCounters, RunsGenerate, RunsInit, RunsPipe};

@@ -9,8 +9,9 @@ use crate::ending::{DISK_FAULT, DONE, NO_MEMORY, READ_FAULT, REFUSED, USAGE, WRI
 use crate::running::RunEnd;
 use crate::telling::{tell_as, tell_status};
 use crate::unopened::settle_unopened;
-use journal_commands::{PipeEnd, SessionEnd, run_session};
+use journal_commands::{PipeEnd, run_session};
 use office_outside::{Clock, Disk, Sink, Source};
+use office_session::SessionEnd;
 use std::alloc::Global;
 
 /// The status of a session's end, whose line the faults sink is told.

@@ -3,10 +3,10 @@ ghost use Rattle.std.specs.Prelude.{◌≡◌, ◌⊎◌, ℕ, Some, None, map, 
 ghost use Rattle.office_outside.specs.Faults.{Rose};
 ghost use Rattle.command_words.specs.Commands.{asked_of};
 ghost use Rattle.command_words.specs.declared.Asked.TheVariants.{Serve};
-ghost use Rattle.serve_command.specs.turn_counter.Turns.{TurnAsks};
-ghost use Rattle.serve_command.specs.office_serving.Serving.{front};
-ghost use Rattle.serve_command.specs.office_serving.Visits.{looks};
-ghost use Rattle.serve_command.specs.office_serving.Workers.{site};
+ghost use Rattle.turn_counter.specs.Turns.{TurnAsks};
+ghost use Rattle.office_serving.specs.Serving.{front};
+ghost use Rattle.office_serving.specs.Visits.{looks};
+ghost use Rattle.office_serving.specs.Workers.{site};
 ghost use Rattle.office_commands.specs.Serve.{RunsServe};
 ghost use Rattle.office_commands.specs.Worlds.{IsOffDisk, IsOffDoors, Runs, world};
 

@@ -1,10 +1,10 @@
 //! `serve`: opens the journal, and serves it to the visitors of doors.
 ghost use Rattle.std.specs.Prelude.{◌≡◌, ◌≢◌};
 ghost use Rattle.office_outside.specs.Faults.{Rose};
-ghost use Rattle.serve_command.specs.turn_counter.Turns.{TurnAsks};
-ghost use Rattle.serve_command.specs.office_serving.Serving.{front};
-ghost use Rattle.serve_command.specs.office_serving.Visits.{looks};
-ghost use Rattle.serve_command.specs.office_serving.Workers.{site};
+ghost use Rattle.turn_counter.specs.Turns.{TurnAsks};
+ghost use Rattle.office_serving.specs.Serving.{front};
+ghost use Rattle.office_serving.specs.Visits.{looks};
+ghost use Rattle.office_serving.specs.Workers.{site};
 ghost use Rattle.office_commands.specs.Serve.{RunsServe, SettledServer, SettledServing};
 
 use crate::ending::{DISK_FAULT, DONE, DOORS_FAULT, NO_MEMORY, USAGE, WRITE_FAULT};
@@ -13,7 +13,8 @@ use crate::telling::tell_status;
 use crate::unopened::settle_unopened;
 use office_doors::{Door, Doors};
 use office_outside::{Disk, Sink};
-use serve_command::{ServeEnd, ServerEnd, serve_journal};
+use office_serving::ServeEnd;
+use serve_command::{ServerEnd, serve_journal};
 use std::alloc::Global;
 use std::sync::Wait;
 use std::thread::Threads;

@@ -1,18 +1,18 @@
 //! A journal that couldn't be opened: how it ends the commands that open one.
 ghost use Rattle.std.specs.Prelude.{◌≡◌, IfOk, string_bytes};
-ghost use Rattle.journal_commands.specs.office_keep.declared.Unopened.TheVariants.{Damaged};
+ghost use Rattle.office_keep.specs.declared.Unopened.TheVariants.{Damaged};
 ghost use Rattle.office_commands.specs.Unopened.{SettledUnopened};
-ghost use Rattle.office_commands.specs.Unopened.{damaged_line as damaged_line_lem};
+ghost use Rattle.office_commands.specs.Unopened.{damaged_line as damaged_line_def};
 
 use crate::ending::{BAD_FILE, DISK_FAULT, NO_MEMORY};
 use crate::telling::{tell_as, tell_status};
-use journal_commands::Unopened;
+use office_keep::Unopened;
 use office_outside::Sink;
 use std::alloc::{AllocError, Global};
 
 /// The line for a file that is damaged at a place.
 fn damaged_line(alloc: Global, at: u64) -> Result<String, AllocError>
-    ensures { IfOk result (λ line. string_bytes line ≡ damaged_line_lem at) }
+    ensures { IfOk result (λ line. string_bytes line ≡ damaged_line_def at) }
 {
     format!(in alloc; "slo_office: file damaged at {at}\n")
 }

@@ -22,8 +22,8 @@ use Rattle.office_history.specs.Notices.{samples_in}
 use Rattle.kept_sums.specs.Replacing.{HasMoved}
 use Rattle.kept_sums.specs.Sums.{row_counts}
 use Rattle.kept_sums.specs.Walks.{IsChanged, made_on}
-use Rattle.watched_objectives.specs.kept_lines.Right.{IsRight}
-use Rattle.watched_objectives.specs.kept_lines.Touched.{is_near}
+use Rattle.kept_lines.specs.Right.{IsRight}
+use Rattle.kept_lines.specs.Touched.{is_near}
 use Rattle.office_derived.specs.declared.Derived.{Derived}
 use Rattle.office_derived.specs.declared.BatchTally.{BatchTally}
 use Rattle.office_derived.specs.declared.Work.{Work}

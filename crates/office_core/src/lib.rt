@@ -8,6 +8,4 @@ mod commands;
 mod lines;
 mod machine;
 
-pub use history_answers::each_query_has_one_answer;
 pub use machine::{Core, Prepared, Verdict};
-pub use sample_changes::measures_named;

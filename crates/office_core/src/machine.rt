@@ -8,14 +8,14 @@ ghost use Rattle.record_form.specs.declared.Entry.{Entry};
 ghost use Rattle.record_form.specs.declared.Outcome.TheVariants.{NoMemory};
 ghost use Rattle.record_form.specs.Records.{record_of};
 ghost use Rattle.record_form.specs.Ranges.{FitsRecord, IsEntryInRange};
-ghost use Rattle.office_history.specs.Alerts.{watched as watched_lem};
+ghost use Rattle.office_history.specs.Alerts.{watched as watched_def};
 ghost use Rattle.office_history.specs.Answers.{Answers};
 ghost use Rattle.office_history.specs.Catalog.{catalog_in};
 ghost use Rattle.office_history.specs.History.{Office, current_in, end_of, moment_of, present};
 ghost use Rattle.office_history.specs.History.{with_entry};
 ghost use Rattle.office_history.specs.Legal.{IsLegal};
 ghost use Rattle.office_history.specs.Notices.{notices_in, waiting};
-ghost use Rattle.office_history.specs.Objectives.{measure_at as measure_at_lem};
+ghost use Rattle.office_history.specs.Objectives.{measure_at as measure_at_def};
 ghost use Rattle.office_history.specs.Outcomes.{outcome_of};
 ghost use Rattle.office_derived.specs.Derived.{HasRoom, Stays, command_of, entry_of};
 ghost use Rattle.history_answers.specs.Learning.{KnowsAnswered};
@@ -33,6 +33,7 @@ use crate::commands::{apply, judge, make_room};
 use crate::lines::plan_of;
 use alert_line::AlertLine;
 use burn_core::State;
+use catalog_measures::measure_at;
 use catalog_terms::Binding;
 use exact_fraction::Label;
 use history_answers::{answer, state_of};
@@ -44,7 +45,6 @@ use record_form::{
     Command, Outcome, Query, Refusal, no_bytes_are_no_history, one_record_more, write_command,
 };
 use sample_book::SampleBook;
-use sample_changes::measure_at;
 use slo_catalog::Catalog;
 use slo_limits::RANGE_MINUTES;
 use std::alloc::{AllocError, Global};
@@ -304,9 +304,9 @@ impl Core {
     /// counts of its minutes over the whole history. Takes no memory.
     pub fn sums_of(&self, slo: Label, objective: u32) -> Option<&WindowSums>
         ensures sums { IfSome result (λ sums. LendsSums self.now
-            (measure_at_lem (catalog_in self.now.office.history) slo objective) sums.now) }
+            (measure_at_def (catalog_in self.now.office.history) slo objective) sums.now) }
         ensures none { result ≡ None
-            → measure_at_lem (catalog_in self.now.office.history) slo objective ≡ None }
+            → measure_at_def (catalog_in self.now.office.history) slo objective ≡ None }
     {
         match measure_at(&self.derived.catalog, slo, objective) {
             Some(measure) => Some(objective_sums(&self.derived, &measure)),
@@ -319,9 +319,9 @@ impl Core {
     /// sums of its objective. Takes no memory.
     pub fn line_of(&self, slo: Label, objective: u32, policy: Label) -> Option<&AlertLine>
         ensures line { IfSome result (λ line. LendsLine self.now
-            (watched_lem (catalog_in self.now.office.history)
+            (watched_def (catalog_in self.now.office.history)
             (record { slo = slo; objective = objective; policy = policy })) line.now) }
-        ensures none { result ≡ None → watched_lem (catalog_in self.now.office.history)
+        ensures none { result ≡ None → watched_def (catalog_in self.now.office.history)
             (record { slo = slo; objective = objective; policy = policy }) ≡ None }
     {
         let binding = Binding {

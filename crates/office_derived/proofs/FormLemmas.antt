@@ -7,12 +7,12 @@ use Rattle.slice_method.specs.declared.Reading.{Reading}
 use Rattle.slice_method.specs.Readings.{HasForm}
 use Rattle.sample_book.specs.declared.Row.{Row}
 use Rattle.object_terms.specs.declared.Object.{Object}
-use Rattle.kept_objectives.specs.kept_sums.Sums.{RowFits}
+use Rattle.kept_sums.specs.Sums.{RowFits}
 use Rattle.kept_objectives.specs.declared.ObjectiveSums.{ObjectiveSums}
 use Rattle.kept_objectives.specs.Objectives.{IsObjective}
 use Rattle.kept_objectives.proofs.ObjectiveLemmas.{named}
-use Rattle.kept_objectives.specs.office_history.declared.Measure.{Measure}
-use Rattle.kept_objectives.specs.office_history.Objectives.{reading_named}
+use Rattle.office_history.specs.declared.Measure.{Measure}
+use Rattle.office_history.specs.Objectives.{reading_named}
 use Rattle.office_derived.specs.declared.derived.Derived.{Derived}
 use Rattle.office_derived.specs.Derived.{IsRead, IsSound}
 

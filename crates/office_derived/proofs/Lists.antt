@@ -3,7 +3,7 @@ use Rattle.std.proofs.Common.{◌≡◌, List, [], ◌∷◌, ◌++◌, refl, ap
 use Rattle.std.specs.List.{flat_map}
 use Rattle.std.proofs.lemmas.List.{append-nil, map-append}
 use Rattle.std.proofs.lemmas.Grind.{flat_map-append}
-use Rattle.kept_objectives.specs.office_history.Lists.{with_before, last_of}
+use Rattle.office_history.specs.Lists.{with_before, last_of}
 use Rattle.std.specs.Prelude.{Some}
 
 pub map-map : {A B C : Type 0} (f : B → C) (g : A → B) (xs : List A)

@@ -8,21 +8,21 @@ use Rattle.std.proofs.lemmas.Grind.{flat_map-append, fold-append}
 use Rattle.sample_book.specs.declared.Row.{Row}
 use Rattle.sample_book.specs.History.{Arrival, Came, Changed}
 use Rattle.sample_book.specs.History as book
-use Rattle.kept_objectives.specs.record_form.declared.Command.{Command}
-use Rattle.kept_objectives.specs.record_form.declared.Command.TheVariants.{Define, Remove, PutZone}
-use Rattle.kept_objectives.specs.record_form.declared.Command.TheVariants.{Samples}
-use Rattle.kept_objectives.specs.record_form.declared.Command.TheVariants.{Exclude, Lift, Tick}
-use Rattle.kept_objectives.specs.record_form.declared.Command.TheVariants.{Take}
-use Rattle.kept_objectives.specs.record_form.declared.Entry.{Entry}
-use Rattle.kept_objectives.specs.office_history.History.{Office, with_entry, present, rows_of}
-use Rattle.kept_objectives.specs.office_history.History.{rows_in, changes_of}
-use Rattle.kept_objectives.specs.office_history.History.{changes_in, arrivals_of, arrivals_in}
-use Rattle.kept_objectives.specs.office_history.Catalog.{catalog_in, definitions_of, definitions_in}
-use Rattle.kept_objectives.specs.office_history.Catalog.{members_after}
-use Rattle.kept_objectives.specs.office_history.Zones.{zones_of, zones_in}
-use Rattle.kept_objectives.specs.office_history.Notices.{is_taking, tick_of, ticks_in, told_at}
-use Rattle.kept_objectives.specs.office_history.Notices.{told_in}
-use Rattle.kept_objectives.specs.office_history.Notices.{is_taken}
+use Rattle.record_form.specs.declared.Command.{Command}
+use Rattle.record_form.specs.declared.Command.TheVariants.{Define, Remove, PutZone}
+use Rattle.record_form.specs.declared.Command.TheVariants.{Samples}
+use Rattle.record_form.specs.declared.Command.TheVariants.{Exclude, Lift, Tick}
+use Rattle.record_form.specs.declared.Command.TheVariants.{Take}
+use Rattle.record_form.specs.declared.Entry.{Entry}
+use Rattle.office_history.specs.History.{Office, with_entry, present, rows_of}
+use Rattle.office_history.specs.History.{rows_in, changes_of}
+use Rattle.office_history.specs.History.{changes_in, arrivals_of, arrivals_in}
+use Rattle.office_history.specs.Catalog.{catalog_in, definitions_of, definitions_in}
+use Rattle.office_history.specs.Catalog.{members_after}
+use Rattle.office_history.specs.Zones.{zones_of, zones_in}
+use Rattle.office_history.specs.Notices.{is_taking, tick_of, ticks_in, told_at}
+use Rattle.office_history.specs.Notices.{told_in}
+use Rattle.office_history.specs.Notices.{is_taken}
 use Rattle.office_derived.proofs.Lists.{flat-push}
 
 -- what is made of each entry gains what is made of one more

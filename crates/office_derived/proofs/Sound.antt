@@ -7,7 +7,7 @@ use Rattle.sample_book.specs.declared.Row.{Row}
 use Rattle.object_terms.specs.declared.Object.{Object}
 use Rattle.kept_objectives.specs.declared.ObjectiveSums.{ObjectiveSums}
 use Rattle.kept_objectives.specs.Objectives.{KeepsSums}
-use Rattle.kept_objectives.specs.office_history.Notices.{waiting}
+use Rattle.office_history.specs.Notices.{waiting}
 use Rattle.office_derived.specs.declared.derived.Derived.{Derived}
 use Rattle.office_derived.specs.Derived.{IsPlaced, IsRead, IsSound, Stays}
 

@@ -7,21 +7,21 @@ use Rattle.sample_book.specs.History.{Holds}
 use Rattle.sample_book.specs.Rows.{current_rows}
 use Rattle.sample_book.specs.History as book
 use Rattle.sample_book.proofs.HistoryLemmas.{rows-held, exclusions-held}
-use Rattle.kept_objectives.specs.record_form.declared.Command.{Command}
-use Rattle.kept_objectives.specs.record_form.declared.Entry.{Entry}
+use Rattle.record_form.specs.declared.Command.{Command}
+use Rattle.record_form.specs.declared.Entry.{Entry}
 use Rattle.notice_box.specs.declared.Notice.{Notice}
-use Rattle.kept_objectives.specs.office_history.History.{Office, with_entry, present, rows_of}
-use Rattle.kept_objectives.specs.office_history.History.{rows_in, arrivals_of}
-use Rattle.kept_objectives.specs.office_history.History.{arrivals_in, accepted_rows}
-use Rattle.kept_objectives.specs.office_history.Catalog.{definitions_of, members_after}
-use Rattle.kept_objectives.specs.office_history.Zones.{zones_of}
-use Rattle.kept_objectives.specs.office_history.Notices.{is_tick, tick_of, ticks_in, last_states}
-use Rattle.kept_objectives.specs.office_history.Notices.{told_at, told_in}
-use Rattle.kept_objectives.specs.office_history.Notices.{is_taken, is_taking, notices_from}
-use Rattle.kept_objectives.specs.office_history.Notices.{notices_in}
-use Rattle.kept_objectives.specs.office_history.Notices.{states_of_tick}
-use Rattle.kept_objectives.specs.office_history.Notices.{tick_changes}
-use Rattle.kept_objectives.specs.office_history.Lists.{last_of}
+use Rattle.office_history.specs.History.{Office, with_entry, present, rows_of}
+use Rattle.office_history.specs.History.{rows_in, arrivals_of}
+use Rattle.office_history.specs.History.{arrivals_in, accepted_rows}
+use Rattle.office_history.specs.Catalog.{definitions_of, members_after}
+use Rattle.office_history.specs.Zones.{zones_of}
+use Rattle.office_history.specs.Notices.{is_tick, tick_of, ticks_in, last_states}
+use Rattle.office_history.specs.Notices.{told_at, told_in}
+use Rattle.office_history.specs.Notices.{is_taken, is_taking, notices_from}
+use Rattle.office_history.specs.Notices.{notices_in}
+use Rattle.office_history.specs.Notices.{states_of_tick}
+use Rattle.office_history.specs.Notices.{tick_changes}
+use Rattle.office_history.specs.Lists.{last_of}
 use Rattle.office_derived.specs.declared.derived.Derived.{Derived}
 use Rattle.office_derived.specs.declared.work.Work.{Work}
 use Rattle.office_derived.specs.Derived.{Reflects, command_of, entry_of}

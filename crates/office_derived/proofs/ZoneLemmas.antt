@@ -4,7 +4,7 @@ use Rattle.std.proofs.Common.{map, Option, Some, option_map, option_and_then}
 use Rattle.std.specs.List.{AllByRecursion, find}
 use Rattle.std.specs.Str.{bytes_eq}
 use Rattle.zone_calendar.specs.ZoneBytes.{zone_of}
-use Rattle.kept_objectives.specs.office_history.Zones.{bytes_named}
+use Rattle.office_history.specs.Zones.{bytes_named}
 use Rattle.office_derived.specs.Zones.{IsRead}
 use Rattle.office_derived.specs.declared.zones.KeptZone.{KeptZone}
 use Rattle.office_derived.proofs.Lists.{map-map}

@@ -13,22 +13,22 @@ use Rattle.kept_objectives.specs.Plans.{IsPlan}
 use Rattle.object_terms.specs.declared.Object.{Object}
 use Rattle.zone_calendar.specs.ZoneBytes.{zone_of}
 use Rattle.kept_objectives.specs.declared.SumsPlan.{SumsPlan}
-use Rattle.kept_objectives.specs.record_form.declared.Command.{Command}
-use Rattle.kept_objectives.specs.record_form.declared.Command.TheVariants.{Define, Remove, PutZone}
-use Rattle.kept_objectives.specs.record_form.declared.Command.TheVariants.{Samples, Exclude, Lift}
-use Rattle.kept_objectives.specs.record_form.declared.Command.TheVariants.{Tick, Take}
-use Rattle.kept_objectives.specs.record_form.declared.Entry.{Entry}
-use Rattle.kept_objectives.specs.office_history.declared.Judgement.TheVariants.{Accepted, Same}
-use Rattle.kept_objectives.specs.office_history.declared.Judgement.TheVariants.{Refused}
-use Rattle.kept_objectives.specs.office_history.History.{Office, end_of, present, rows_in}
-use Rattle.kept_objectives.specs.office_history.History.{current_in, exclusions_in, arrivals_in}
-use Rattle.kept_objectives.specs.office_history.History.{accepted_rows}
-use Rattle.kept_objectives.specs.office_history.Catalog.{catalog_in, text_objects}
-use Rattle.kept_objectives.specs.office_history.Zones.{zones_in}
-use Rattle.kept_objectives.specs.office_history.Objectives.{reading_named}
-use Rattle.kept_objectives.specs.office_history.Notices.{last_states, notices_in, tick_changes}
-use Rattle.kept_objectives.specs.office_history.Notices.{states_over, told_in, is_taken, waiting}
-use Rattle.kept_objectives.specs.office_history.Judges.{Judges}
+use Rattle.record_form.specs.declared.Command.{Command}
+use Rattle.record_form.specs.declared.Command.TheVariants.{Define, Remove, PutZone}
+use Rattle.record_form.specs.declared.Command.TheVariants.{Samples, Exclude, Lift}
+use Rattle.record_form.specs.declared.Command.TheVariants.{Tick, Take}
+use Rattle.record_form.specs.declared.Entry.{Entry}
+use Rattle.office_history.specs.declared.Judgement.TheVariants.{Accepted, Same}
+use Rattle.office_history.specs.declared.Judgement.TheVariants.{Refused}
+use Rattle.office_history.specs.History.{Office, end_of, present, rows_in}
+use Rattle.office_history.specs.History.{current_in, exclusions_in, arrivals_in}
+use Rattle.office_history.specs.History.{accepted_rows}
+use Rattle.office_history.specs.Catalog.{catalog_in, text_objects}
+use Rattle.office_history.specs.Zones.{zones_in}
+use Rattle.office_history.specs.Objectives.{reading_named}
+use Rattle.office_history.specs.Notices.{last_states, notices_in, tick_changes}
+use Rattle.office_history.specs.Notices.{states_over, told_in, is_taken, waiting}
+use Rattle.office_history.specs.Judges.{Judges}
 use Rattle.office_derived.specs.declared.derived.Derived.{Derived}
 use Rattle.office_derived.specs.declared.work.Work.{Work}
 use Rattle.office_derived.specs.declared.work.Work.TheVariants as works

@@ -2,10 +2,10 @@
 use Rattle.std.specs.Prelude.{ℕ, ◌||◌, ◌==◌, Bool, not, List, Option}
 use Rattle.sample_book.specs.declared.RowVerdict.{RowVerdict}
 use Rattle.sample_book.specs.Puts.{is_new}
-use Rattle.kept_objectives.specs.record_form.declared.Outcome.{Outcome}
-use Rattle.kept_objectives.specs.record_form.declared.Outcome.TheVariants.{Sampled}
-use Rattle.kept_objectives.specs.office_history.Batches.{count, is_newer, is_repeated}
-use Rattle.kept_objectives.specs.office_history.Batches.{is_superseded}
+use Rattle.record_form.specs.declared.Outcome.{Outcome}
+use Rattle.record_form.specs.declared.Outcome.TheVariants.{Sampled}
+use Rattle.office_history.specs.Batches.{count, is_newer, is_repeated}
+use Rattle.office_history.specs.Batches.{is_superseded}
 use Rattle.office_derived.specs.declared.tally.BatchTally.{BatchTally}
 
 -- how many of these became what

@@ -11,7 +11,6 @@ mod zones;
 
 pub use accepting::accepted;
 pub use derived::Derived;
-pub use kept_objectives::is_same_measure;
 pub use tally::BatchTally;
 pub use work::{Judged, Work};
 pub use zones::Zones;

@@ -2,7 +2,7 @@
 ghost use Rattle.std.specs.Prelude.{◌≡◌};
 ghost use Rattle.office_derived.specs.Tallies.{changes, tally_outcome};
 
-use kept_objectives::Outcome;
+use record_form::Outcome;
 
 /// How many rows of a batch became what.
 #[derive(Clone, Copy, PartialEq, Eq)]

@@ -5,7 +5,7 @@ ghost use Rattle.std.specs.Option.{option_copied};
 ghost use Rattle.zone_calendar.specs.ZoneBytes.{zone_of};
 ghost use Rattle.std.specs.List.{find};
 ghost use Rattle.std.specs.Str.{bytes_eq};
-ghost use Rattle.kept_objectives.specs.office_history.Zones.{bytes_named};
+ghost use Rattle.office_history.specs.Zones.{bytes_named};
 ghost use Rattle.office_derived.specs.declared.zones.KeptZone.{KeptZone};
 
 use exact_fraction::{Bytes, ZoneName};

@@ -3,7 +3,7 @@ use Rattle.std.specs.Prelude.{◌≡◌, ℕ, Bool, true, false, List, length, O
 use Rattle.std.specs.Prelude.{Ok, Err}
 use Rattle.yaml_terms.specs.Tree.{Tree}
 use Rattle.yaml_terms.specs.Text.{StandsFor}
-use Rattle.record_form.specs.sample_book.declared.Row.{Row}
+use Rattle.sample_book.specs.declared.Row.{Row}
 use Rattle.object_terms.specs.declared.Object.{Object}
 use Rattle.catalog_terms.specs.Define.{is_unchanged, proposed_members}
 use Rattle.catalog_terms.specs.Limits.{first_limit}

@@ -19,4 +19,3 @@ pub mod Judges
 pub mod Answers
 pub mod Outcomes
 pub mod Legal
-pub use Rattle.record_form.specs as record_form

@@ -4,8 +4,8 @@ use Rattle.std.specs.Prelude.{Bool, true, false, not, cond, ℕ, List, [], ◌�
 use Rattle.std.specs.Option.{option_or}
 use Rattle.slice_method.specs.declared.Reading.{Reading}
 use Rattle.slice_method.specs.declared.Reading.TheVariants as readings
-use Rattle.record_form.specs.sample_book.declared.Row.{Row}
-use Rattle.record_form.specs.sample_book.Counting.{first_of}
+use Rattle.sample_book.specs.declared.Row.{Row}
+use Rattle.sample_book.specs.Counting.{first_of}
 use Rattle.object_terms.specs.declared.Object.{Object}
 use Rattle.object_terms.specs.declared.Sli.{Sli}
 use Rattle.object_terms.specs.declared.Metric.{Metric}

@@ -11,4 +11,3 @@ mod readings;
 pub use judgement::Judgement;
 pub use measure::Measure;
 pub use readings::reading_of;
-pub use record_form::{LimitName, Outcome, Refusal, Rows};

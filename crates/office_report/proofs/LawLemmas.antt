@@ -18,7 +18,7 @@ use Rattle.office_history.specs.Notices.{notices_in, samples_in, states_over, wa
 use Rattle.office_history.specs.Objectives.{measures_named, slo_named}
 use Rattle.office_history.specs.Windows.{WindowBegins}
 use Rattle.office_history.specs.Zones.{zones_in}
-use Rattle.office_core.specs.history_answers.Laws.{EachQueryHasOneAnswer}
+use Rattle.history_answers.specs.Laws.{EachQueryHasOneAnswer}
 use Rattle.office_report.specs.Lines.{report_text}
 use Rattle.office_report.specs.Report.{BeginsFor, IsReport, IsWindowAt, SloWindow, slo_lines}
 use Rattle.office_report.specs.Report.{slo_names}

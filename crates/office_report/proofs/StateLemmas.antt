@@ -16,7 +16,7 @@ use Rattle.office_history.specs.Alerts.{Watch, same_binding, state_at, state_if,
 use Rattle.office_history.specs.Catalog.{catalog_in}
 use Rattle.office_history.specs.History.{Office}
 use Rattle.office_history.specs.Notices.{samples_in, states_over}
-use Rattle.office_core.specs.history_answers.States.{binding_state}
+use Rattle.history_answers.specs.States.{binding_state}
 use Rattle.office_report.specs.Bound.{with_state}
 
 same_bytes : (xs : List ℕ) → bytes_eq xs xs ≡ true

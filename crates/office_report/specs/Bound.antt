@@ -4,7 +4,7 @@ use Rattle.burn_core.specs.declared.State.{State}
 use Rattle.burn_core.specs.declared.State.TheVariants.{Quiet}
 use Rattle.catalog_terms.specs.declared.Binding.{Binding}
 use Rattle.office_history.specs.History.{Office}
-use Rattle.office_core.specs.history_answers.States.{binding_state}
+use Rattle.history_answers.specs.States.{binding_state}
 
 -- a binding with its state at a minute
 abbrev pub with_state : Office → ℕ → Binding → Binding × State

@@ -1,22 +1,23 @@
 //! The budgets of an office's SLOs at a minute.
 ghost use Rattle.std.specs.Prelude.{◌≡◌, ◌≤◌, ◌<◌, IfOk};
 ghost use Rattle.office_history.specs.History.{end_of};
-ghost use Rattle.office_report.specs.Report.{AreLines, is_slo as is_slo_lem};
-ghost use Rattle.office_report.specs.Report.{slo_names as slo_names_lem};
+ghost use Rattle.office_report.specs.Report.{AreLines, is_slo as is_slo_def};
+ghost use Rattle.office_report.specs.Report.{slo_names as slo_names_def};
 ghost use Rattle.office_report.specs.Rows.{AreRows, AreSloLines};
 
 use crate::lines::{counted_lines, unbegun_lines};
 use burn_core::State;
+use catalog_measures::measures_named;
 use catalog_terms::Binding;
 use exact_fraction::Label;
 use object_terms::Kind;
-use office_core::{Core, measures_named};
+use office_core::Core;
 use record_form::{BudgetRows, Outcome, Query};
 use slo_catalog::Catalog;
 use std::alloc::{AllocError, Global};
 
 fn is_slo(kind: Kind) -> bool
-    ensures { result ≡ is_slo_lem kind }
+    ensures { result ≡ is_slo_def kind }
 {
     match kind {
         Kind::Slo => true,
@@ -26,7 +27,7 @@ fn is_slo(kind: Kind) -> bool
 
 /// The names of the SLOs, in the catalog's order.
 pub(crate) fn slo_names(alloc: Global, catalog: &Catalog) -> Result<Vec<Label>, AllocError>
-    ensures { IfOk result (λ names. names.items ≡ slo_names_lem catalog.now) }
+    ensures { IfOk result (λ names. names.items ≡ slo_names_def catalog.now) }
 {
     let mut names = Vec::new(alloc);
     for member in catalog.members() {

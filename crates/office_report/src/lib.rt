@@ -10,5 +10,4 @@ mod reporting;
 mod states;
 
 pub use laws::a_report_is_one_text;
-pub use office_core::Core;
 pub use reporting::report;

@@ -2,12 +2,12 @@
 ghost use Rattle.std.specs.Prelude.{◌≡◌, IfOk, Some, string_bytes};
 ghost use Rattle.std.specs.List.{enumerate_from, flat_map};
 ghost use Rattle.record_form.specs.declared.BudgetRow.{BudgetRow};
-ghost use Rattle.office_report.specs.Lines.{counted_words, is_of as is_of_lem};
-ghost use Rattle.office_report.specs.Lines.{objective_lines as objective_lines_lem};
-ghost use Rattle.office_report.specs.Lines.{report_text as report_text_lem};
-ghost use Rattle.office_report.specs.Lines.{row_words as row_words_lem};
-ghost use Rattle.office_report.specs.Lines.{state_line as state_line_lem};
-ghost use Rattle.office_report.specs.Lines.{state_lines as state_lines_lem, unbegun_words};
+ghost use Rattle.office_report.specs.Lines.{counted_words, is_of as is_of_def};
+ghost use Rattle.office_report.specs.Lines.{objective_lines as objective_lines_def};
+ghost use Rattle.office_report.specs.Lines.{report_text as report_text_def};
+ghost use Rattle.office_report.specs.Lines.{row_words as row_words_def};
+ghost use Rattle.office_report.specs.Lines.{state_line as state_line_def};
+ghost use Rattle.office_report.specs.Lines.{state_lines as state_lines_def, unbegun_words};
 
 use burn_core::State;
 use catalog_terms::Binding;
@@ -32,7 +32,7 @@ fn remaining_words(
 }
 
 fn row_words(alloc: Global, row: &BudgetRow) -> Result<Vec<u8>, AllocError>
-    ensures { IfOk result (λ words. words.items ≡ row_words_lem row.now) }
+    ensures { IfOk result (λ words. words.items ≡ row_words_def row.now) }
 {
     match &row.remaining {
         Some(remaining) => remaining_words(alloc, row.num, row.den, remaining),
@@ -41,7 +41,7 @@ fn row_words(alloc: Global, row: &BudgetRow) -> Result<Vec<u8>, AllocError>
 }
 
 fn state_line(alloc: Global, binding: &Binding, state: State) -> Result<String, AllocError>
-    ensures { IfOk result (λ line. string_bytes line ≡ state_line_lem (binding.now, state)) }
+    ensures { IfOk result (λ line. string_bytes line ≡ state_line_def (binding.now, state)) }
 {
     let policy = binding.policy;
     let word = state.word();
@@ -49,7 +49,7 @@ fn state_line(alloc: Global, binding: &Binding, state: State) -> Result<String, 
 }
 
 fn is_of(binding: &Binding, name: Label, number: usize) -> bool
-    ensures { result ≡ is_of_lem name number binding.now }
+    ensures { result ≡ is_of_def name number binding.now }
 {
     binding.slo == name && binding.objective as usize == number
 }
@@ -61,7 +61,7 @@ fn state_lines(
     name: Label,
     number: usize,
 ) -> Result<Vec<u8>, AllocError>
-    ensures { IfOk result (λ lines. lines.items ≡ state_lines_lem states.now name number) }
+    ensures { IfOk result (λ lines. lines.items ≡ state_lines_def states.now name number) }
 {
     let mut lines = Vec::new(alloc);
     for (binding, state) in states {
@@ -82,7 +82,7 @@ fn objective_lines(
     words: &[u8],
 ) -> Result<Vec<u8>, AllocError>
     ensures { IfOk result (λ lines. lines.items
-        ≡ objective_lines_lem states.now name number words.now) }
+        ≡ objective_lines_def states.now name number words.now) }
 {
     let bound = state_lines(alloc, states, name, number)?;
     let mut lines = format!(in alloc; "{name} {number} ")?.into_bytes();
@@ -100,8 +100,8 @@ pub(crate) fn counted_lines(
     rows: &[BudgetRow],
 ) -> Result<Vec<u8>, AllocError>
     ensures { IfOk result (λ lines. lines.items
-        ≡ flat_map (λ (row : BudgetRow). objective_lines_lem states.now name row.objective
-        (row_words_lem row)) rows.now) }
+        ≡ flat_map (λ (row : BudgetRow). objective_lines_def states.now name row.objective
+        (row_words_def row)) rows.now) }
 {
     let mut lines = Vec::new(alloc);
     for row in rows {
@@ -120,7 +120,7 @@ pub(crate) fn unbegun_lines(
     measures: &[Measure],
 ) -> Result<Vec<u8>, AllocError>
     ensures { IfOk result (λ lines. lines.items
-        ≡ flat_map (λ p. objective_lines_lem states.now name p.0 unbegun_words)
+        ≡ flat_map (λ p. objective_lines_def states.now name p.0 unbegun_words)
         (enumerate_from 0 measures.now)) }
 {
     let mut lines = Vec::new(alloc);
@@ -142,7 +142,7 @@ pub(crate) fn report_text(
     slos: usize,
     notices: u32,
 ) -> Result<Bytes, AllocError>
-    ensures { IfOk result (λ text. text ≡ report_text_lem at entries lines.now slos notices) }
+    ensures { IfOk result (λ text. text ≡ report_text_def at entries lines.now slos notices) }
 {
     let mut text = format!(in alloc; "report at {at}, entries {entries}\n")?.into_bytes();
     let last = format!(in alloc; "slos {slos}, notices {notices}\n")?;

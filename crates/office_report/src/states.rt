@@ -3,7 +3,7 @@ ghost use Rattle.std.specs.Prelude.{◌≡◌, ◌≤◌, ◌<◌, IfOk, map, un
 ghost use Rattle.burn_core.specs.declared.State.TheVariants.{Quiet};
 ghost use Rattle.office_history.specs.History.{end_of};
 ghost use Rattle.office_history.specs.Notices.{states_over};
-ghost use Rattle.office_core.specs.history_answers.States.{binding_state};
+ghost use Rattle.history_answers.specs.States.{binding_state};
 ghost use Rattle.office_report.specs.Bound.{with_state};
 
 use burn_core::State;

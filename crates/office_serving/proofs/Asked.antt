@@ -25,7 +25,7 @@ use Rattle.office_counter.proofs.Steps.{extends_still}
 use Rattle.office_session.specs.Sessions.{Turn}
 use Rattle.turn_counter.specs.Asked.{AsksAt, AsksBehind, IsAskedByOne, front}
 use Rattle.turn_counter.specs.Seen.{entry_in, office_seen, record_if}
-use Rattle.turn_counter.specs.office_keep.Files.{IsWhole, records}
+use Rattle.office_keep.specs.Files.{IsWhole, records}
 use Rattle.turn_counter.proofs.Asked.{Does, at_later, behind_later, by_one_left, by_one_right}
 use Rattle.turn_counter.proofs.Asked.{doubt_append}
 use Rattle.turn_counter.proofs.Reading.{entry_back}

@@ -19,8 +19,8 @@ use Rattle.record_form.specs.Laws.{EntriesAreReadBack}
 use Rattle.office_history.specs.History.{Office}
 use Rattle.office_counter.specs.Laws.{Extends, IsOwned}
 use Rattle.office_counter.proofs.Steps.{extends_both, extends_still}
-use Rattle.turn_counter.specs.office_keep.Files.{IsWhole, records}
-use Rattle.turn_counter.specs.office_keep.Office.{OfficeOn, StandsSettled}
+use Rattle.office_keep.specs.Files.{IsWhole, records}
+use Rattle.office_keep.specs.Office.{OfficeOn, StandsSettled}
 use Rattle.turn_counter.specs.Holding.{NewPassesSeeAll, PassesSeeBeginnings}
 use Rattle.turn_counter.specs.Seen.{ledger_of, office_seen, standing_of}
 use Rattle.turn_counter.proofs.Asked.{Does}

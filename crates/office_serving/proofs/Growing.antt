@@ -10,7 +10,7 @@ use Rattle.wire_session.proofs.Owning.{end_extends, end_owned}
 use Rattle.turn_counter.specs.Seen.{office_seen, standing_of}
 use Rattle.turn_counter.specs.Stepping.{turn_steps}
 use Rattle.turn_counter.specs.Turns.{TurnAsks}
-use Rattle.turn_counter.specs.requests.{turns_of}
+use Rattle.own_counter.specs.Requests.{turns_of}
 use Rattle.turn_counter.proofs.Asked.{Does, does_both, does_none, session_does}
 use Rattle.turn_counter.proofs.Staying.{end_stays, stays_both, stays_still}
 use Rattle.office_serving.specs.Asked.{turns_of_chain}

@@ -9,7 +9,7 @@ use Rattle.office_session.specs.Sessions.{Turn}
 use Rattle.wire_session.specs.Treats.{Asking, Treats, refusal_text}
 use Rattle.turn_counter.specs.Asked.{IsAskedByOne, front}
 use Rattle.turn_counter.specs.Seen.{record_if}
-use Rattle.turn_counter.specs.requests.{turns_of}
+use Rattle.own_counter.specs.Requests.{turns_of}
 use Rattle.office_serving.specs.Visits.{Chain, Looks, Service, scene_at}
 
 -- the turns of the sessions over these visits, visit after visit

@@ -8,8 +8,8 @@ use Rattle.office_doors.specs.Entrances.{Entrance, Stays, left_at}
 use Rattle.office_doors.specs.declared.Visit.{Visit}
 use Rattle.office_history.specs.History.{Office}
 use Rattle.office_counter.specs.Laws.{Extends}
-use Rattle.turn_counter.specs.office_keep.Files.{IsWhole}
-use Rattle.turn_counter.specs.office_keep.Office.{OfficeOn, StandsSettled}
+use Rattle.office_keep.specs.Files.{IsWhole}
+use Rattle.office_keep.specs.Office.{OfficeOn, StandsSettled}
 use Rattle.office_serving.specs.Asked.{AddsNoOther}
 use Rattle.office_serving.specs.Visits.{HasEnded}
 use Rattle.office_serving.specs.Workers.{Site, WorkersServe}

@@ -10,6 +10,5 @@ mod visits;
 mod workers;
 
 pub use serving::{ServeEnd, serve};
-pub use turn_counter::{Unopened, open_journal};
 pub use visits::{WorkEnd, work};
 pub use workers::WORKERS;

@@ -13,12 +13,13 @@ use crate::kits::take_kits;
 use crate::ready::say_ready;
 use crate::workers::{WORKERS, run_workers};
 use office_doors::{Door, Doors, DoorsFault};
+use office_keep::Office;
 use office_outside::{Disk, Sink};
 use record_form::an_entry_is_read_back;
 use std::alloc::Global;
 use std::sync::Wait;
 use std::thread::Threads;
-use turn_counter::{DeskOffice, Office, close_desk, open_desk, what_a_pass_has_seen};
+use turn_counter::{DeskOffice, close_desk, open_desk, what_a_pass_has_seen};
 use turn_desk::{Desk, Pass};
 
 /// How the serving of an office ended.

@@ -8,4 +8,3 @@ mod laws;
 
 pub use counter::OwnCounter;
 pub use laws::{a_session_adds_what_is_asked, a_stop_leaves_what_was_kept};
-pub use office_keep::{KeepFailed, KeepFault, Office, Unopened, let_go, open_journal};

@@ -6,5 +6,3 @@ pub mod Writing
 pub mod Histories
 pub mod Laws
 pub mod Words
-pub use Rattle.notice_box.specs as notice_box
-pub use Rattle.sample_book.specs as sample_book

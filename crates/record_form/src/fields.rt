@@ -5,7 +5,7 @@ ghost use Rattle.exact_fraction.specs.Label.{is_label};
 ghost use Rattle.exact_fraction.specs.ZoneName.{is_zone_name};
 ghost use Rattle.record_form.specs.Form.{number, text, byte, reading_of_each};
 ghost use Rattle.record_form.specs.Records.{amount as amount_form, exclusion as exclusion_form};
-ghost use Rattle.record_form.specs.Records.{kind as kind_form, kind_byte as kind_byte_lem};
+ghost use Rattle.record_form.specs.Records.{kind as kind_form, kind_byte as kind_byte_def};
 ghost use Rattle.record_form.specs.Records.{kind_of_byte, label as label_form, row as row_form};
 ghost use Rattle.record_form.specs.Records.{rows as rows_form, text_within};
 ghost use Rattle.record_form.specs.Records.{zone_name as zone_name_form};
@@ -35,7 +35,7 @@ const KINDS: [Kind; 7] = [
 
 /// The kind's place among the seven.
 pub(crate) fn kind_byte(kind: Kind) -> u8
-    ensures { result ≡ kind_byte_lem kind }
+    ensures { result ≡ kind_byte_def kind }
 {
     match kind {
         Kind::DataSource => 0,

@@ -32,6 +32,5 @@ pub use outcome::{Intervals, NoticeRows, ObjectNames, Outcome};
 pub use query::{Query, Request};
 pub use reading::read_record;
 pub use refusal::Refusal;
-pub use sample_book::{Row, SampleBook};
 pub use writing::{write_command, write_record};
 pub use yaml_word::YamlWord;

@@ -3,8 +3,9 @@
 use crate::budget_row::BudgetRows;
 use crate::listed::Listed;
 use crate::refusal::Refusal;
+use burn_core::State;
 use exact_fraction::{Bytes, Fraction, Label};
-use notice_box::{Notice, State};
+use notice_box::Notice;
 use object_terms::Kind;
 
 /// Kinds and names of objects, by kind and then by name.

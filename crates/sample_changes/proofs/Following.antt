@@ -17,10 +17,10 @@ use Rattle.window_sums.specs.Slices.{no_counts}
 use Rattle.object_terms.specs.declared.Object.{Object}
 use Rattle.office_history.specs.declared.Measure.{Measure}
 use Rattle.office_history.specs.History.{Office, rows_in, with_entry}
-use Rattle.office_derived.specs.kept_sums.Sums.{row_counts, shares_by}
-use Rattle.office_derived.specs.kept_objectives.declared.ObjectiveSums.{ObjectiveSums}
-use Rattle.office_derived.specs.kept_objectives.Objectives.{AreKept, HaveForms, IsObjective}
-use Rattle.office_derived.specs.kept_objectives.Objectives.{KeepsSums, measures_of}
+use Rattle.kept_sums.specs.Sums.{row_counts, shares_by}
+use Rattle.kept_objectives.specs.declared.ObjectiveSums.{ObjectiveSums}
+use Rattle.kept_objectives.specs.Objectives.{AreKept, HaveForms, IsObjective}
+use Rattle.kept_objectives.specs.Objectives.{KeepsSums, measures_of}
 use Rattle.office_derived.specs.declared.Derived.{Derived}
 use Rattle.office_derived.specs.declared.BatchTally.{BatchTally}
 use Rattle.office_derived.specs.declared.Work.TheVariants as works

@@ -8,10 +8,10 @@ ghost use Rattle.record_form.specs.declared.Command.TheVariants as commands;
 ghost use Rattle.office_history.specs.History.{Office, with_entry};
 ghost use Rattle.office_history.specs.Objectives.{slo_named};
 ghost use Rattle.office_history.specs.Outcomes.{outcome_of};
-ghost use Rattle.office_history.specs.Verdicts.{exclude_verdict as exclude_verdict_lem};
-ghost use Rattle.office_history.specs.Verdicts.{is_range as is_range_lem};
-ghost use Rattle.office_history.specs.Verdicts.{lift_verdict as lift_verdict_lem};
-ghost use Rattle.office_history.specs.Verdicts.{new_exclusion_fault as new_exclusion_fault_lem};
+ghost use Rattle.office_history.specs.Verdicts.{exclude_verdict as exclude_verdict_def};
+ghost use Rattle.office_history.specs.Verdicts.{is_range as is_range_def};
+ghost use Rattle.office_history.specs.Verdicts.{lift_verdict as lift_verdict_def};
+ghost use Rattle.office_history.specs.Verdicts.{new_exclusion_fault as new_exclusion_fault_def};
 ghost use Rattle.office_history.specs.Verdicts.{same_content};
 ghost use Rattle.office_derived.specs.declared.Work.TheVariants as works;
 ghost use Rattle.office_derived.specs.Derived.{HasRoom, IsJudged, IsNext, IsSound, Reflects, Stays};
@@ -47,7 +47,7 @@ fn is_same_content(a: &Exclusion, b: &Exclusion) -> bool
 /// Whether an exclusion is of minutes of the office, one at least.
 fn is_range(origin: u32, value: &Exclusion) -> bool
     requires { origin ≤ MAX_MINUTE }
-    ensures { result ≡ is_range_lem origin value.now }
+    ensures { result ≡ is_range_def origin value.now }
 {
     origin <= value.from && value.from < value.to && value.to <= origin + RANGE_MINUTES
 }
@@ -60,7 +60,7 @@ fn new_exclusion_fault(
     value: &Exclusion,
 ) -> Option<Refusal>
     requires { origin ≤ MAX_MINUTE }
-    ensures { result ≡ new_exclusion_fault_lem origin catalog.now made value.now }
+    ensures { result ≡ new_exclusion_fault_def origin catalog.now made value.now }
 {
     if has_no_slo(catalog, value.slo) {
         return Some(Refusal::NoSuchSlo {
@@ -80,7 +80,7 @@ fn new_exclusion_fault(
 /// What becomes of an exclusion.
 fn exclude_verdict(derived: &Derived, value: &Exclusion) -> Judgement
     requires { IsSound derived.now }
-    ensures { result ≡ exclude_verdict_lem derived.now.origin derived.now.catalog
+    ensures { result ≡ exclude_verdict_def derived.now.origin derived.now.catalog
         derived.now.book.exclusions derived.now.entries value.now }
 {
     match derived.book.exclusion(value.id) {
@@ -149,7 +149,7 @@ pub fn apply_exclude(derived: &mut Derived, moment: u32, value: Exclusion) -> Ou
 
 /// What becomes of the lifting of an exclusion.
 fn lift_verdict(book: &SampleBook, entries: u32, id: Label) -> Judgement
-    ensures { result ≡ lift_verdict_lem book.now.exclusions entries id }
+    ensures { result ≡ lift_verdict_def book.now.exclusions entries id }
 {
     match book.exclusion(id) {
         Some((_, true)) => accepted(entries),

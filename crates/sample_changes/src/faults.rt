@@ -4,11 +4,11 @@ ghost use Rattle.slo_limits.specs.declared.TheConstants.{MAX_BATCH_ROWS};
 ghost use Rattle.slice_method.specs.declared.Amount.TheVariants as amounts;
 ghost use Rattle.record_form.specs.declared.Refusal.TheVariants as refusals;
 ghost use Rattle.office_history.specs.Lists.{first_some};
-ghost use Rattle.office_history.specs.Objectives.{reading_named as reading_named_lem};
-ghost use Rattle.office_history.specs.Batches.{amount_fault as amount_fault_lem};
-ghost use Rattle.office_history.specs.Batches.{conflict_fault as conflict_fault_lem};
-ghost use Rattle.office_history.specs.Batches.{form_fault as form_fault_lem};
-ghost use Rattle.office_history.specs.Batches.{row_fault as row_fault_lem, rows_faults, when};
+ghost use Rattle.office_history.specs.Objectives.{reading_named as reading_named_def};
+ghost use Rattle.office_history.specs.Batches.{amount_fault as amount_fault_def};
+ghost use Rattle.office_history.specs.Batches.{conflict_fault as conflict_fault_def};
+ghost use Rattle.office_history.specs.Batches.{form_fault as form_fault_def};
+ghost use Rattle.office_history.specs.Batches.{row_fault as row_fault_def, rows_faults, when};
 
 use catalog_measures::reading_named;
 use exact_fraction::Decimal;
@@ -38,7 +38,7 @@ fn counts_where(broken: bool, number: u32) -> Option<Refusal>
 
 /// What a part of a total breaks under a reading.
 fn part_fault(reading: Reading, part: u32, total: u32, number: u32) -> Option<Refusal>
-    ensures { result ≡ amount_fault_lem reading (amounts.Counts part total) number }
+    ensures { result ≡ amount_fault_def reading (amounts.Counts part total) number }
 {
     let broken = total < part || MAX_AMOUNT < total;
     match reading {
@@ -52,7 +52,7 @@ fn part_fault(reading: Reading, part: u32, total: u32, number: u32) -> Option<Re
 
 /// What a value breaks under a reading.
 fn value_fault(reading: Reading, value: Decimal, number: u32) -> Option<Refusal>
-    ensures { result ≡ amount_fault_lem reading (amounts.Value value) number }
+    ensures { result ≡ amount_fault_def reading (amounts.Value value) number }
 {
     let broken = WHOLE < value.billionths();
     match reading {
@@ -66,7 +66,7 @@ fn value_fault(reading: Reading, value: Decimal, number: u32) -> Option<Refusal>
 
 /// What an amount breaks under a reading.
 fn amount_fault(reading: Reading, amount: Amount, number: u32) -> Option<Refusal>
-    ensures { result ≡ amount_fault_lem reading amount number }
+    ensures { result ≡ amount_fault_def reading amount number }
 {
     match amount {
         Amount::Counts { part, total } => part_fault(reading, part, total, number),
@@ -76,7 +76,7 @@ fn amount_fault(reading: Reading, amount: Amount, number: u32) -> Option<Refusal
 
 /// What a row breaks by itself.
 fn form_fault(catalog: &Catalog, row: &Row, number: u32) -> Option<Refusal>
-    ensures { result ≡ form_fault_lem (reading_named_lem catalog.now row.now.sli) row.now number }
+    ensures { result ≡ form_fault_def (reading_named_def catalog.now row.now.sli) row.now number }
 {
     match reading_named(catalog, row.sli) {
         Some(reading) => amount_fault(reading, row.amount, number),
@@ -89,7 +89,7 @@ fn form_fault(catalog: &Catalog, row: &Row, number: u32) -> Option<Refusal>
 
 /// What a row breaks that is in conflict.
 fn conflict_fault(verdict: &RowVerdict, number: u32) -> Option<Refusal>
-    ensures { result ≡ conflict_fault_lem verdict.now number }
+    ensures { result ≡ conflict_fault_def verdict.now number }
 {
     match verdict {
         RowVerdict::Conflict(kept) => Some(Refusal::RowConflict {
@@ -110,7 +110,7 @@ fn row_fault(
     verdict: &RowVerdict,
     number: u32,
 ) -> Option<Refusal>
-    ensures { result ≡ row_fault_lem origin moment catalog.now row.now verdict.now number }
+    ensures { result ≡ row_fault_def origin moment catalog.now row.now verdict.now number }
 {
     if let Some(fault) = form_fault(catalog, row, number) {
         return Some(fault);

@@ -9,7 +9,6 @@ mod laws;
 mod samples;
 mod tally;
 
-pub use catalog_measures::{measure_at, measures_named};
 pub use exclusions::{apply_exclude, apply_lift, judge_exclude, judge_lift, room_for_exclude};
 pub use laws::{a_batch_acts_once, a_lifting_acts_once, an_exclusion_acts_once};
 pub use samples::{apply_samples, judge_samples, room_for_samples};

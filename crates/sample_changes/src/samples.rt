@@ -7,19 +7,19 @@ ghost use Rattle.slo_limits.specs.declared.TheConstants.{MAX_MINUTE, RANGE_MINUT
 ghost use Rattle.sample_book.specs.declared.RowVerdict.{RowVerdict};
 ghost use Rattle.sample_book.specs.Rows.{cell_of, current_rows, verdict_of};
 ghost use Rattle.sample_book.specs.History.{Came, Arrival, Gains, Holds, MayComeAll, MayComeAs};
-ghost use Rattle.sample_book.specs.History.{is_put as is_put_lem, room_after};
-ghost use Rattle.sample_book.specs.Puts.{verdicts as verdicts_lem};
+ghost use Rattle.sample_book.specs.History.{is_put as is_put_def, room_after};
+ghost use Rattle.sample_book.specs.Puts.{verdicts as verdicts_def};
 ghost use Rattle.record_form.specs.declared.Command.TheVariants as commands;
 ghost use Rattle.office_history.specs.History.{Office, with_entry};
 ghost use Rattle.office_history.specs.Outcomes.{outcome_of};
 ghost use Rattle.office_history.specs.declared.Judgement.TheVariants as judgements;
-ghost use Rattle.office_history.specs.Verdicts.{accepted as accepted_lem};
+ghost use Rattle.office_history.specs.Verdicts.{accepted as accepted_def};
 ghost use Rattle.office_derived.specs.declared.BatchTally.{BatchTally};
 ghost use Rattle.office_derived.specs.declared.Work.TheVariants as works;
-ghost use Rattle.office_derived.specs.Tallies.{changes, tally_of as tally_of_lem, tally_outcome};
+ghost use Rattle.office_derived.specs.Tallies.{changes, tally_of as tally_of_def, tally_outcome};
 ghost use Rattle.office_derived.specs.Derived.{HasRoom, IsJudged, IsNext, IsSound, Reflects, Stays};
 ghost use Rattle.office_derived.specs.Derived.{entry_of};
-ghost use Rattle.sample_changes.specs.Judging.{rows_fault as rows_fault_lem, rows_verdict};
+ghost use Rattle.sample_changes.specs.Judging.{rows_fault as rows_fault_def, rows_verdict};
 ghost use Rattle.sample_changes.specs.Works.{ComesTo};
 
 use crate::faults::{batch_fault, limit};
@@ -52,10 +52,10 @@ fn rows_fault(
 ) -> Result<Option<Refusal>, AllocError>
     requires sound { IsSound derived.now }
     requires few { length rows.now ≤ most_rows }
-    requires judged { verdicts.now ≡ verdicts_lem derived.now.book.rows rows.now }
-    requires counted { tally ≡ tally_of_lem verdicts.now }
+    requires judged { verdicts.now ≡ verdicts_def derived.now.book.rows rows.now }
+    requires counted { tally ≡ tally_of_def verdicts.now }
     requires small { tally.new + tally.newer ≤ most_rows }
-    ensures { IfOk result (λ fault. fault ≡ rows_fault_lem derived.now.origin moment
+    ensures { IfOk result (λ fault. fault ≡ rows_fault_def derived.now.origin moment
         derived.now.catalog derived.now.book.rows derived.now.accepted rows.now) }
 {
     derived.book.rows_are_current();
@@ -86,7 +86,7 @@ fn rows_fault(
 
 /// What becomes of rows that break no rule.
 fn faultless_verdict(tally: BatchTally, entries: u32) -> Judgement
-    ensures { result ≡ cond (changes tally) (accepted_lem entries) (judgements.Same (tally_outcome
+    ensures { result ≡ cond (changes tally) (accepted_def entries) (judgements.Same (tally_outcome
         tally None)) }
 {
     if tally.changes() {
@@ -107,8 +107,8 @@ fn judgement_of(
 ) -> Result<Judgement, AllocError>
     requires sound { IsSound derived.now }
     requires few { length rows.now ≤ most_rows }
-    requires judged { verdicts.now ≡ verdicts_lem derived.now.book.rows rows.now }
-    requires counted { tally ≡ tally_of_lem verdicts.now }
+    requires judged { verdicts.now ≡ verdicts_def derived.now.book.rows rows.now }
+    requires counted { tally ≡ tally_of_def verdicts.now }
     requires small { tally.new + tally.newer ≤ most_rows }
     ensures { IfOk result (λ judgement. judgement ≡ rows_verdict derived.now.origin moment
         derived.now.catalog derived.now.book.rows derived.now.accepted derived.now.entries
@@ -141,9 +141,9 @@ fn rows_judgement(
     ensures judged { IfOk result (λ found. found.judgement ≡ rows_verdict derived.now.origin moment
         derived.now.catalog derived.now.book.rows derived.now.accepted derived.now.entries
         rows.now) }
-    ensures counted { IfOk result (λ found. found.tally ≡ tally_of_lem (verdicts_lem
+    ensures counted { IfOk result (λ found. found.tally ≡ tally_of_def (verdicts_def
         derived.now.book.rows rows.now)) }
-    ensures each { IfOk result (λ found. found.verdicts.items ≡ verdicts_lem
+    ensures each { IfOk result (λ found. found.verdicts.items ≡ verdicts_def
         derived.now.book.rows rows.now) }
 {
     let verdicts = derived.book.check_batch(alloc, rows)?;
@@ -217,7 +217,7 @@ pub fn room_for_samples(derived: &mut Derived, rows: &Rows) -> Result<(), AllocE
 }
 
 fn is_put(verdict: &RowVerdict) -> bool
-    ensures { result ≡ is_put_lem verdict.now }
+    ensures { result ≡ is_put_def verdict.now }
 {
     match verdict {
         RowVerdict::New => true,
@@ -229,7 +229,7 @@ fn is_put(verdict: &RowVerdict) -> bool
 /// Puts a row that is new or newer, and passes over another.
 fn put_row(book: &mut SampleBook, row: &Row)
     requires { MayComeAs (verdict_of book.old.rows row.now) book.old.room (cell_of row.now) }
-    ensures rows { book.new.rows ≡ cond (is_put_lem (verdict_of book.old.rows row.now))
+    ensures rows { book.new.rows ≡ cond (is_put_def (verdict_of book.old.rows row.now))
         (current_rows (book.old.rows ++ row.now ∷ [])) book.old.rows }
     ensures room { book.new.room ≡ room_after (verdict_of book.old.rows row.now) book.old.room }
     ensures exclusions { book.new.exclusions ≡ book.old.exclusions }

@@ -1,8 +1,8 @@
 //! What becomes of the rows of a batch, counted.
 ghost use Rattle.std.specs.Prelude.{◌≡◌, ◌+◌, ◌<◌, ◌≤◌, ◌^◌, length};
 ghost use Rattle.slo_limits.specs.declared.TheConstants.{MAX_BATCH_ROWS};
-ghost use Rattle.office_derived.specs.Tallies.{tally_of as tally_of_lem};
-ghost use Rattle.sample_changes.specs.Works.{tally_with as tally_with_lem};
+ghost use Rattle.office_derived.specs.Tallies.{tally_of as tally_of_def};
+ghost use Rattle.sample_changes.specs.Works.{tally_with as tally_with_def};
 
 use office_derived::BatchTally;
 use sample_book::RowVerdict;
@@ -10,7 +10,7 @@ use sample_book::RowVerdict;
 /// One row more.
 fn tally_with(tally: BatchTally, verdict: &RowVerdict) -> BatchTally
     requires { tally.new + tally.newer + tally.repeated + tally.superseded < 2 ^ 31 }
-    ensures { result ≡ tally_with_lem tally verdict.now }
+    ensures { result ≡ tally_with_def tally verdict.now }
 {
     match verdict {
         RowVerdict::New => BatchTally {
@@ -44,7 +44,7 @@ fn tally_with(tally: BatchTally, verdict: &RowVerdict) -> BatchTally
 /// How many rows became what.
 pub(crate) fn tally_of(verdicts: &[RowVerdict]) -> BatchTally
     requires { length verdicts.now ≤ MAX_BATCH_ROWS }
-    ensures all { result ≡ tally_of_lem verdicts.now }
+    ensures all { result ≡ tally_of_def verdicts.now }
     ensures few { result.new + result.newer ≤ MAX_BATCH_ROWS }
 {
     let mut tally = BatchTally {

@@ -2,7 +2,7 @@
 ghost use Rattle.std.specs.Prelude.{◌≡◌, ◌++◌, ◌+◌, ◌≤◌, [], OnOk, OnErr, codes, length};
 ghost use Rattle.office_outside.specs.Faults.{HasCause};
 ghost use Rattle.office_outside.specs.Told.{Gained, GainedPrefix};
-ghost use Rattle.sample_stream.specs.Batches.{batch_of as batch_of_lem, corrections};
+ghost use Rattle.sample_stream.specs.Batches.{batch_of as batch_of_def, corrections};
 ghost use Rattle.sample_stream.specs.Stream.{batches, definitions, documents, head_of};
 ghost use Rattle.sample_stream.specs.Stream.{last_requests, questions, samples, stream_of};
 
@@ -95,7 +95,7 @@ fn write_samples<K: Sink>(batch: Batch, output: &mut K) -> Result<(), Failed>
 /// The batch of this number, from 0 on.
 fn batch_of(number: u32) -> Batch
     requires { number ≤ MAX_NUMBER }
-    ensures { result ≡ batch_of_lem number }
+    ensures { result ≡ batch_of_def number }
 {
     Batch {
         first: 1000 * number,

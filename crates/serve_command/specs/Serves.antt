@@ -1,7 +1,7 @@
 -- What the serving of a journal's file to visitors does.
 use Rattle.std.specs.Prelude.{◌≡◌, ℕ, List, Option}
 use Rattle.office_outside.specs.Disk.{IsQuiet}
-use Rattle.office_serving.specs.office_keep.Opening.{IsFoundOn, Opens}
+use Rattle.office_keep.specs.Opening.{IsFoundOn, Opens}
 use Rattle.office_doors.specs.declared.Visit.{Visit}
 use Rattle.office_serving.specs.Serving.{Front, IsServed}
 use Rattle.office_serving.specs.Workers.{Site}

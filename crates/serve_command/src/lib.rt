@@ -5,5 +5,4 @@
 
 mod serving;
 
-pub use office_serving::ServeEnd;
 pub use serving::{ServerEnd, serve_journal};

@@ -1,16 +1,17 @@
 //! The serving of a journal's file over doors.
 ghost use Rattle.std.specs.Prelude.{◌≡◌};
 ghost use Rattle.office_outside.specs.Faults.{Rose};
-ghost use Rattle.office_serving.specs.office_keep.declared.Unopened.TheVariants.{DiskFault};
-ghost use Rattle.office_serving.specs.turn_counter.Turns.{TurnAsks};
+ghost use Rattle.office_keep.specs.declared.Unopened.TheVariants.{DiskFault};
+ghost use Rattle.turn_counter.specs.Turns.{TurnAsks};
 ghost use Rattle.office_serving.specs.Serving.{front};
 ghost use Rattle.office_serving.specs.Visits.{looks};
 ghost use Rattle.office_serving.specs.Workers.{site};
 ghost use Rattle.serve_command.specs.Serves.{EndsServer};
 
 use office_doors::{Door, Doors};
+use office_keep::{Unopened, open_journal};
 use office_outside::{Disk, Sink};
-use office_serving::{ServeEnd, Unopened, open_journal, serve};
+use office_serving::{ServeEnd, serve};
 use std::alloc::Global;
 use std::sync::Wait;
 use std::thread::Threads;

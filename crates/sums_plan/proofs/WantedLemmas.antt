@@ -12,7 +12,7 @@ use Rattle.object_terms.specs.Slo.{slo_in}
 use Rattle.catalog_terms.specs.Keys.{member_of, is_key}
 use Rattle.slo_catalog.proofs.KeyLemmas.{key_parts}
 use Rattle.catalog_measures.specs.Names.{is_slo, slo_names}
-use Rattle.kept_objectives.specs.kept_sums.Sums.{RowFits}
+use Rattle.kept_sums.specs.Sums.{RowFits}
 use Rattle.kept_objectives.specs.Objectives.{IsObjective}
 use Rattle.office_history.specs.declared.Measure.{Measure}
 use Rattle.office_history.specs.Objectives.{measures_named, measures_of}

@@ -1,2 +1,1 @@
 pub mod Wanted
-pub use Rattle.catalog_measures.specs.object_ranges as object_ranges

@@ -1,7 +1,7 @@
 //! The objectives of a catalog.
 ghost use Rattle.std.specs.Prelude.{◌≡◌, All, IfOk, OnOk, ◌++◌};
-ghost use Rattle.catalog_measures.specs.object_ranges.Measures.{IsMeasure};
-ghost use Rattle.office_history.specs.Objectives.{measures_named as measures_named_lem};
+ghost use Rattle.object_ranges.specs.Measures.{IsMeasure};
+ghost use Rattle.office_history.specs.Objectives.{measures_named as measures_named_def};
 ghost use Rattle.sums_plan.specs.Wanted.{objectives_in};
 
 use catalog_measures::{measures_named, slo_names};
@@ -19,7 +19,7 @@ fn add_objectives(
 ) -> Result<(), AllocError>
     requires ranges { All IsMeasure wanted.old.items }
     ensures all { OnOk result (wanted.new.items
-        ≡ wanted.old.items ++ measures_named_lem catalog.now name) }
+        ≡ wanted.old.items ++ measures_named_def catalog.now name) }
     ensures ranges { OnOk result (All IsMeasure wanted.new.items) }
 {
     let measures = measures_named(alloc, catalog, name)?;

@@ -30,8 +30,8 @@ use Rattle.office_session.specs.Sessions.{EndsSo, Scene, Turn}
 use Rattle.office_session.specs.declared.SessionEnd.{SessionEnd}
 use Rattle.own_counter.specs.Own.{places_with}
 use Rattle.own_counter.specs.Requests.{IsAsked, turns_of}
-use Rattle.own_counter.specs.office_keep.Office as keep
-use Rattle.own_counter.specs.office_keep.Office.{Changes, OfficeOn, entry_at}
+use Rattle.office_keep.specs.Office as keep
+use Rattle.office_keep.specs.Office.{Changes, OfficeOn, entry_at}
 use Rattle.wire_session.specs.Treats.{Treats, asked, at_once, unread}
 use Rattle.turn_counter.specs.Asked.{AsksAt, AsksBehind, IsAskedByOne, MakesAsked, front}
 use Rattle.turn_counter.specs.Seen.{entry_in, ledger_of, office_seen, record_if, standing_of}

@@ -13,8 +13,8 @@ use Rattle.record_form.specs.declared.Request.TheVariants.{Change, Ask}
 use Rattle.record_form.specs.Records.{record_of}
 use Rattle.office_history.specs.History.{Office}
 use Rattle.office_counter.specs.Steps.{place_of, with_made, with_others}
-use Rattle.own_counter.specs.office_keep.Office as keep
-use Rattle.own_counter.specs.office_keep.Office.{Asks, Changes, IsSettled, OfficeOn, Performs}
+use Rattle.office_keep.specs.Office as keep
+use Rattle.office_keep.specs.Office.{Asks, Changes, IsSettled, OfficeOn, Performs}
 use Rattle.turn_counter.specs.Seen.{ledger_of, record_if, root_of}
 
 -- The history goes on by the entry in doubt, if at all, and by the one that was added.

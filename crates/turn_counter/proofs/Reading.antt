@@ -15,7 +15,7 @@ use Rattle.record_form.specs.Ranges.{FitsRecord}
 use Rattle.record_form.specs.Records.{entry, record_of, whole}
 use Rattle.office_history.specs.History.{Office}
 use Rattle.office_counter.specs.Laws.{Extends}
-use Rattle.own_counter.specs.office_keep.Files.{IsWhole, records}
+use Rattle.office_keep.specs.Files.{IsWhole, records}
 use Rattle.turn_counter.specs.Seen.{entry_in, entry_or_tick, office_seen, origin_in, root_of}
 
 pub entry_back : EntriesAreReadBack → (e : Entry) → FitsRecord e → entry_in (record_of e) ≡ e

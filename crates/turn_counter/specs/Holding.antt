@@ -12,7 +12,7 @@ use Rattle.record_form.specs.declared.Request.TheVariants.{Change, Ask}
 use Rattle.office_history.specs.History.{Office, moment_of}
 use Rattle.office_counter.specs.Laws.{Extends}
 use Rattle.office_counter.specs.Steps.{Standing, Step, entry_of}
-use Rattle.own_counter.specs.office_keep.Files.{IsWhole, records}
+use Rattle.office_keep.specs.Files.{IsWhole, records}
 use Rattle.turn_counter.specs.Seen.{office_seen, root_of}
 
 -- The pass is one of the same desk, and over the same origin. It stands for as many of the passes

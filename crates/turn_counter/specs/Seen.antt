@@ -9,8 +9,8 @@ use Rattle.record_form.specs.Records.{record_of}
 use Rattle.record_form.specs.Records.{entry_of as entry_of_record}
 use Rattle.office_history.specs.History.{Office}
 use Rattle.office_counter.specs.Steps.{Standing}
-use Rattle.own_counter.specs.office_keep.Files.{records}
-use Rattle.own_counter.specs.office_keep.Office.{OfficeOn}
+use Rattle.office_keep.specs.Files.{records}
+use Rattle.office_keep.specs.Office.{OfficeOn}
 
 -- the origin's four bytes, the highest first, and the origin of four bytes
 abbrev pub root_of : ℕ → List ℕ

@@ -7,9 +7,9 @@ use Rattle.office_outside.specs.Disk.{All, LeavesOnly}
 use Rattle.record_form.specs.declared.Outcome.{Outcome}
 use Rattle.record_form.specs.declared.Request.{Request}
 use Rattle.office_counter.specs.Laws.{Extends}
-use Rattle.own_counter.specs.office_keep.Files.{IsWhole}
-use Rattle.own_counter.specs.office_keep.Office.{IsBlamed, LeavesBy, OfficeOn, Performs, SettlesBy}
-use Rattle.own_counter.specs.office_keep.Office.{StandsSettled}
+use Rattle.office_keep.specs.Files.{IsWhole}
+use Rattle.office_keep.specs.Office.{IsBlamed, LeavesBy, OfficeOn, Performs, SettlesBy}
+use Rattle.office_keep.specs.Office.{StandsSettled}
 use Rattle.own_counter.specs.Own.{places_with}
 use Rattle.turn_counter.specs.Seen.{ledger_of, office_seen}
 

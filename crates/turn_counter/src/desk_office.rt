@@ -6,8 +6,8 @@ ghost use Rattle.turn_desk.specs.Sources.{Accounts, AreAll, own_of, raised_of};
 ghost use Rattle.turn_desk.specs.declared.Opening.{Opening};
 ghost use Rattle.turn_counter.specs.Seen.{ledger_of};
 
+use office_keep::Office;
 use office_outside::Disk;
-use own_counter::Office;
 use std::alloc::Global;
 use std::marker::Model;
 use std::sync::Wait;
@@ -20,7 +20,7 @@ pub struct DeskOffice<D: Disk + Drop> {
 }
 
 impl<D: Disk + Drop> Model for DeskOffice<D> {
-    ghost use Rattle.own_counter.specs.office_keep.Office.{OfficeOn};
+    ghost use Rattle.office_keep.specs.Office.{OfficeOn};
 
     ghost Value = { OfficeOn D };
 

@@ -8,4 +8,3 @@ mod PlanLemmas
 mod StateLemmas
 mod TakeLemmas
 pub mod WatchLemmas
-pub use Rattle.kept_lines.proofs as kept_lines_proofs

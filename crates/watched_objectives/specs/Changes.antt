@@ -8,8 +8,8 @@ use Rattle.sample_book.specs.Rows.{current_rows}
 use Rattle.window_sums.specs.Slices.{width_of}
 use Rattle.office_history.specs.Alerts.{Watch}
 use Rattle.office_history.specs.Counts.{Samples}
-use Rattle.kept_lines.specs.kept_sums.Replacing.{HasMoved}
-use Rattle.kept_lines.specs.kept_sums.Walks.{IsChanged, made_on}
+use Rattle.kept_sums.specs.Replacing.{HasMoved}
+use Rattle.kept_sums.specs.Walks.{IsChanged, made_on}
 use Rattle.kept_lines.specs.Touched.{Forgets}
 use Rattle.watched_objectives.specs.Known.{EachBecomes}
 use Rattle.watched_objectives.specs.declared.kept.WatchLine.{WatchLine}

@@ -6,6 +6,3 @@ pub mod States
 pub mod Sums
 pub mod Watches
 pub mod Changes
-pub use Rattle.catalog_measures.specs as catalog_measures
-pub use Rattle.kept_lines.specs as kept_lines
-pub use Rattle.catalog_measures.specs.object_ranges as object_ranges

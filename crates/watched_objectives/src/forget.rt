@@ -2,9 +2,9 @@
 ghost use Rattle.std.specs.Prelude.{◌≡◌, ◌≤◌, ℕ, Bool, not};
 ghost use Rattle.std.specs.List.{AllByRecursion};
 ghost use Rattle.sample_book.specs.declared.Row.{Row};
-ghost use Rattle.sample_book.specs.Puts.{verdicts as verdicts_lem};
-ghost use Rattle.window_sums.specs.Slices.{width_of as width_of_lem};
-ghost use Rattle.kept_lines.specs.kept_sums.Sums.{RowFits, SumsAreKept};
+ghost use Rattle.sample_book.specs.Puts.{verdicts as verdicts_def};
+ghost use Rattle.window_sums.specs.Slices.{width_of as width_of_def};
+ghost use Rattle.kept_sums.specs.Sums.{RowFits, SumsAreKept};
 ghost use Rattle.kept_lines.specs.Right.{IsRight};
 ghost use Rattle.kept_lines.specs.Touched.{Forgets, LAST_MINUTE};
 ghost use Rattle.office_derived.specs.Derived.{IsPlaced, IsSound};
@@ -31,10 +31,10 @@ fn forget_moved(
     verdicts: &[RowVerdict],
 )
     requires rule { line.old.rule ≡ watch.now.rule }
-    requires verdicts { verdicts.now ≡ verdicts_lem book.now.rows rows.now }
+    requires verdicts { verdicts.now ≡ verdicts_def book.now.rows rows.now }
     requires early { AllByRecursion (λ (row : Row). row.minute ≤ LAST_MINUTE) rows.now }
     ensures forgets { Forgets (IsMovedBy rows.now verdicts.now watch.now)
-        (width_of_lem watch.now.measure.method) line.old line.new }
+        (width_of_def watch.now.measure.method) line.old line.new }
     ensures right { (begin : ℕ) → IsRight begin (samples_of book.now) watch.now line.old
         → IsRight begin (samples_with book.now rows.now) watch.now line.new }
 {
@@ -59,7 +59,7 @@ fn forget_changed(
     requires forms { AllByRecursion (RowFits watch.now.measure) book.now.rows }
     requires kept { SumsAreKept watch.now.measure book.now.exclusions book.now.rows sums.now }
     ensures forgets { Forgets (IsChangedBy book.now value.now watch.now)
-        (width_of_lem watch.now.measure.method) line.old line.new }
+        (width_of_def watch.now.measure.method) line.old line.new }
     ensures right { (begin : ℕ) (taken : Bool)
         → IsRight begin (samples_on book.now value.now (not taken)) watch.now line.old
         → IsRight begin (samples_on book.now value.now taken) watch.now line.new }
@@ -75,7 +75,7 @@ impl KeptLines {
     pub fn forget_rows(&mut self, derived: &Derived, rows: &[Row], verdicts: &[RowVerdict])
         requires sound { IsSound derived.now }
         requires lines { HasLines derived.now self.old.kept }
-        requires verdicts { verdicts.now ≡ verdicts_lem derived.now.book.rows rows.now }
+        requires verdicts { verdicts.now ≡ verdicts_def derived.now.book.rows rows.now }
         requires placed { AllByRecursion (IsPlaced derived.now.origin) rows.now }
         ensures lines { KeepsLines derived.now.origin derived.now.catalog
             (samples_with derived.now.book rows.now) self.new.kept }

@@ -14,7 +14,6 @@ mod sums;
 mod take;
 mod watch;
 
-pub use catalog_measures::{flags_named, measure_at, measures_named, slo_named};
 pub use kept::{KeptLines, WatchLine};
 pub use plan::{LinesPlan, plan_lines};
 pub use states::states_over;

@@ -1,8 +1,8 @@
 // What a walk over bindings keeps from one binding to the next.
 ghost use Rattle.std.specs.Prelude.{◌≡◌, IfSome};
-ghost use Rattle.office_history.specs.Alerts.{watch_of as watch_of_lem};
-ghost use Rattle.office_history.specs.Objectives.{measure_at as measure_at_lem};
-ghost use Rattle.watched_objectives.specs.Near.{IsSeen, is_of as is_of_lem};
+ghost use Rattle.office_history.specs.Alerts.{watch_of as watch_of_def};
+ghost use Rattle.office_history.specs.Objectives.{measure_at as measure_at_def};
+ghost use Rattle.watched_objectives.specs.Near.{IsSeen, is_of as is_of_def};
 
 use crate::watch::{Watch, with_rule};
 use catalog_measures::measure_at;
@@ -29,7 +29,7 @@ pub(crate) struct Seen {
 }
 
 fn is_of(seen: &Seen, binding: &Binding) -> bool
-    ensures { result ≡ is_of_lem seen.now binding.now }
+    ensures { result ≡ is_of_def seen.now binding.now }
 {
     seen.slo == binding.slo && seen.objective == binding.objective
 }
@@ -38,7 +38,7 @@ fn is_of(seen: &Seen, binding: &Binding) -> bool
 fn look_up(catalog: &Catalog, binding: &Binding) -> Seen
     ensures seen { IsSeen catalog.now result }
     ensures value { result.measure
-        ≡ measure_at_lem catalog.now binding.now.slo binding.now.objective }
+        ≡ measure_at_def catalog.now binding.now.slo binding.now.objective }
 {
     Seen {
         slo: binding.slo,
@@ -52,7 +52,7 @@ pub(crate) fn seen_near(catalog: &Catalog, binding: &Binding, before: Option<See
     requires before { IfSome before (IsSeen catalog.now) }
     ensures seen { IsSeen catalog.now result }
     ensures value { result.measure
-        ≡ measure_at_lem catalog.now binding.now.slo binding.now.objective }
+        ≡ measure_at_def catalog.now binding.now.slo binding.now.objective }
 {
     match before {
         Some(seen) => {
@@ -70,8 +70,8 @@ pub(crate) fn seen_near(catalog: &Catalog, binding: &Binding, before: Option<See
 pub(crate) fn watch_seen(catalog: &Catalog, binding: &Binding, seen: &Seen) -> Option<Watch>
     requires seen { IsSeen catalog.now seen.now }
     requires value { seen.now.measure
-        ≡ measure_at_lem catalog.now binding.now.slo binding.now.objective }
-    ensures { result ≡ watch_of_lem catalog.now binding.now }
+        ≡ measure_at_def catalog.now binding.now.slo binding.now.objective }
+    ensures { result ≡ watch_of_def catalog.now binding.now }
 {
     match seen.measure {
         Some(measure) => with_rule(catalog, measure, binding.policy),

@@ -2,10 +2,10 @@
 ghost use Rattle.std.specs.Prelude.{◌≡◌, ◌<◌, ◌≤◌, ◌+◌, IfOk, map};
 ghost use Rattle.std.specs.List.{Contains};
 ghost use Rattle.slo_limits.specs.declared.TheConstants.{RANGE_MINUTES};
-ghost use Rattle.office_history.specs.Alerts.{state_if, states_at, watch_of as watch_of_lem};
-ghost use Rattle.office_history.specs.Objectives.{measure_at as measure_at_lem};
+ghost use Rattle.office_history.specs.Alerts.{state_if, states_at, watch_of as watch_of_def};
+ghost use Rattle.office_history.specs.Objectives.{measure_at as measure_at_def};
 ghost use Rattle.office_derived.specs.Derived.{IsSound};
-ghost use Rattle.catalog_terms.specs.Bindings.{bindings as bindings_lem};
+ghost use Rattle.catalog_terms.specs.Bindings.{bindings as bindings_def};
 ghost use Rattle.watched_objectives.specs.Sums.{samples_of};
 ghost use Rattle.watched_objectives.specs.Known.{AllKnow};
 ghost use Rattle.watched_objectives.specs.Lines.{HasLines, watches_of};
@@ -31,14 +31,14 @@ fn state_of_binding(
 ) -> (State, Hint)
     requires sound { IsSound derived.now }
     requires lines { HasLines derived.now lines.old.kept }
-    requires among { Contains (bindings_lem derived.now.catalog) binding.now }
+    requires among { Contains (bindings_def derived.now.catalog) binding.now }
     requires begun { derived.now.origin ≤ minute }
     requires in_range { minute < derived.now.origin + RANGE_MINUTES }
     requires seen { IsSeen derived.now.catalog seen.now }
     requires measure { seen.now.measure
-        ≡ measure_at_lem derived.now.catalog binding.now.slo binding.now.objective }
+        ≡ measure_at_def derived.now.catalog binding.now.slo binding.now.objective }
     ensures value { result.0 ≡ state_if derived.now.origin (samples_of derived.now.book) minute
-        (watch_of_lem derived.now.catalog binding.now) }
+        (watch_of_def derived.now.catalog binding.now) }
     ensures lines { HasLines derived.now lines.new.kept }
     ensures watches { watches_of lines.new.kept ≡ watches_of lines.old.kept }
     ensures know { AllKnow lines.old.kept lines.new.kept }
@@ -60,7 +60,7 @@ fn states_of(
 ) -> Result<Vec<(Binding, State)>, AllocError>
     requires sound { IsSound derived.now }
     requires lines { HasLines derived.now lines.old.kept }
-    requires bindings { bindings.now ≡ bindings_lem derived.now.catalog }
+    requires bindings { bindings.now ≡ bindings_def derived.now.catalog }
     requires begun { derived.now.origin ≤ minute }
     requires in_range { minute < derived.now.origin + RANGE_MINUTES }
     ensures value { IfOk result (λ states. states.items

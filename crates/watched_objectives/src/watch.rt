@@ -3,14 +3,14 @@ ghost use Rattle.std.specs.Prelude.{◌≡◌, IfSome, Some};
 ghost use Rattle.std.specs.List.{list_any};
 ghost use Rattle.std.specs.Str.{bytes_eq};
 ghost use Rattle.burn_core.specs.Alert.{IsRule};
-ghost use Rattle.office_derived.specs.kept_objectives.Objectives.{IsObjective};
-ghost use Rattle.catalog_measures.specs.object_ranges.Measures.{IsMeasure};
-ghost use Rattle.office_history.specs.Alerts.{same_binding as same_binding_lem};
-ghost use Rattle.office_history.specs.Alerts.{rule_named as rule_named_lem, watch_with};
-ghost use Rattle.office_history.specs.Alerts.{watch_of as watch_of_lem, watched as watched_lem};
+ghost use Rattle.kept_objectives.specs.Objectives.{IsObjective};
+ghost use Rattle.object_ranges.specs.Measures.{IsMeasure};
+ghost use Rattle.office_history.specs.Alerts.{same_binding as same_binding_def};
+ghost use Rattle.office_history.specs.Alerts.{rule_named as rule_named_def, watch_with};
+ghost use Rattle.office_history.specs.Alerts.{watch_of as watch_of_def, watched as watched_def};
 ghost use Rattle.catalog_terms.specs.References.{names_in};
-ghost use Rattle.watched_objectives.specs.Watches.{IsWatched, has_both as has_both_lem};
-ghost use Rattle.watched_objectives.specs.Watches.{is_bound_in as is_bound_in_lem};
+ghost use Rattle.watched_objectives.specs.Watches.{IsWatched, has_both as has_both_def};
+ghost use Rattle.watched_objectives.specs.Watches.{is_bound_in as is_bound_in_def};
 
 use burn_core::AlertRule;
 use catalog_measures::{measure_at, rule_named};
@@ -61,7 +61,7 @@ impl Watch {
 
 /// What a binding watches: none where its objective isn't there, or its policy has no condition.
 pub fn watch_of(catalog: &Catalog, binding: &Binding) -> Option<Watch>
-    ensures value { result ≡ watch_of_lem catalog.now binding.now }
+    ensures value { result ≡ watch_of_def catalog.now binding.now }
     ensures objective { IfSome result (λ watch. IsObjective catalog.now watch.measure) }
 {
     let measure = measure_at(catalog, binding.slo, binding.objective)?;
@@ -72,7 +72,7 @@ pub fn watch_of(catalog: &Catalog, binding: &Binding) -> Option<Watch>
 // An objective with the rule of a policy: none where the policy has no condition.
 pub(crate) fn with_rule(catalog: &Catalog, measure: Measure, policy: Label) -> Option<Watch>
     requires { IsMeasure measure }
-    ensures { result ≡ watch_with (Some measure) (rule_named_lem catalog.now policy) }
+    ensures { result ≡ watch_with (Some measure) (rule_named_def catalog.now policy) }
 {
     let rule = rule_named(catalog, policy)?;
     Some(Watch { measure, rule })
@@ -80,7 +80,7 @@ pub(crate) fn with_rule(catalog: &Catalog, measure: Measure, policy: Label) -> O
 
 /// Whether two bindings are of one SLO, objective and policy.
 pub fn same_binding(a: &Binding, b: &Binding) -> bool
-    ensures { result ≡ same_binding_lem a.now b.now }
+    ensures { result ≡ same_binding_def a.now b.now }
 {
     a.slo == b.slo && a.objective == b.objective && a.policy == b.policy
 }
@@ -97,7 +97,7 @@ fn lists(names: &Option<Names>, policy: Label) -> bool
 
 // Whether an SLO has the objective of a binding, and lists its policy.
 fn has_both(slo: &Slo, binding: &Binding) -> bool
-    ensures { result ≡ has_both_lem binding.now slo.now }
+    ensures { result ≡ has_both_def binding.now slo.now }
 {
     (binding.objective as usize) < slo.objectives.as_slice().len()
         && lists(&slo.alert_policies, binding.policy)
@@ -105,7 +105,7 @@ fn has_both(slo: &Slo, binding: &Binding) -> bool
 
 // Whether an object is the SLO of a binding, with its objective and its policy.
 fn is_bound_in(object: &Object, binding: &Binding) -> bool
-    ensures { result ≡ is_bound_in_lem binding.now object.now }
+    ensures { result ≡ is_bound_in_def binding.now object.now }
 {
     match &object.body {
         Body::Slo(slo) => binding.slo == object.name && has_both(slo, binding),
@@ -114,7 +114,7 @@ fn is_bound_in(object: &Object, binding: &Binding) -> bool
 }
 
 fn is_bound(catalog: &Catalog, binding: &Binding) -> bool
-    ensures { result ≡ list_any (is_bound_in_lem binding.now) catalog.now }
+    ensures { result ≡ list_any (is_bound_in_def binding.now) catalog.now }
 {
     let members = catalog.members();
     members
@@ -125,7 +125,7 @@ fn is_bound(catalog: &Catalog, binding: &Binding) -> bool
 /// What a binding of the catalog watches: none exactly where it is no binding of the catalog.
 /// Takes no memory.
 pub fn watched(catalog: &Catalog, binding: &Binding) -> Option<Watch>
-    ensures value { result ≡ watched_lem catalog.now binding.now }
+    ensures value { result ≡ watched_def catalog.now binding.now }
     ensures objective { IfSome result (λ found. IsObjective catalog.now found.measure) }
     ensures watched { IfSome result (IsWatched catalog.now) }
 {

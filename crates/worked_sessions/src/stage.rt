@@ -164,8 +164,8 @@ impl Stage {
         self.out.push('\n')
     }
 
-    /// Sends a request line, or the bytes that stand behind `raw`, where `\` is a line's end, or the
-    /// sample stream of a number.
+    /// Sends a request line, or the bytes that stand behind `raw`, where `\` is a line's end, or
+    /// the sample stream of a number.
     fn send(&mut self, text: &str) -> Result<(), AllocError> {
         if let Some(bytes) = text.strip_prefix("raw ") {
             return push_raw(&mut self.input, bytes);

@@ -1,7 +1,7 @@
 //! Reading a civil moment.
 ghost use Rattle.std.specs.Prelude.{◌≡◌, ◌<◌, ◌+◌, ◌++◌, length, true, false, IfSome, IfNone, Some};
 ghost use Rattle.std.specs.Prelude.{OnOk, OnErr};
-ghost use Rattle.zone_calendar.specs.CivilText.{civil_text, two_digits as two_digits_lem, parts_of};
+ghost use Rattle.zone_calendar.specs.CivilText.{civil_text, two_digits as two_digits_def, parts_of};
 ghost use Rattle.zone_calendar.specs.CivilText.{two_at, has_form, parts_in, is_moment};
 ghost use Rattle.zone_calendar.specs.declared.civil.Civil.{Civil};
 
@@ -60,7 +60,7 @@ pub fn write_civil(out: &mut Vec<u8>, moment: Civil) -> Result<(), AllocError>
 /// Appends a number in two digits.
 fn write_two(out: &mut Vec<u8>, number: u8) -> Result<(), AllocError>
     requires { number < 100 }
-    ensures { OnOk result (out.new.items ≡ out.old.items ++ two_digits_lem number) }
+    ensures { OnOk result (out.new.items ≡ out.old.items ++ two_digits_def number) }
 {
     out.push(b'0' + number / 10)?;
     Ok(out.push(b'0' + number % 10)?)

@@ -5,8 +5,8 @@ use Rattle.object_laws.specs.Ranges.{IsObjective}
 use Rattle.object_terms.specs.declared.Objective.{Objective}
 use Rattle.object_terms.specs.declared.Slo.{Slo}
 use Rattle.sample_book.proofs.TallyLemmas.{all_at}
-use Rattle.object_ranges.specs.office_history.declared.Measure.{Measure}
-use Rattle.object_ranges.specs.office_history.Objectives.{measure_at, measure_of}
+use Rattle.office_history.specs.declared.Measure.{Measure}
+use Rattle.office_history.specs.Objectives.{measure_at, measure_of}
 use Rattle.kept_objectives.proofs.ObjectiveLemmas.{objective_at}
 use Rattle.catalog_measures.proofs.CatalogLemmas.{measures_there}
 use Rattle.catalog_measures.proofs.measures.measure_at.Goals as goal

@@ -1,5 +1,5 @@
 use Rattle.std.proofs.Common.{◌≡◌, ◌++◌, drop, map}
-use Rattle.object_ranges.specs.office_history.Objectives.{measure_of}
+use Rattle.office_history.specs.Objectives.{measure_of}
 use Rattle.catalog_measures.proofs.measures.measures_with.Given as goal
 
 -- the objectives so far and those that are left are all of them

@@ -1,7 +1,7 @@
 use Rattle.std.proofs.Common.{rules, ◌≡◌, ◌∙◌, ℕ, length, ap, subst, string_bytes}
 use Rattle.std.proofs.lemmas.Result.{IfOk-weaker}
 use Rattle.office_history.specs.History.{Office, current_in}
-use Rattle.own_counter.specs.office_keep.Office.{OfficeOn}
+use Rattle.office_keep.specs.Office.{OfficeOn}
 use Rattle.generate_command.specs.Summary.{IsSummary}
 use Rattle.generate_command.proofs.generating.sum_up.Goals as goal
 

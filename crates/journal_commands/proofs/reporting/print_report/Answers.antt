@@ -1,7 +1,7 @@
 use Rattle.std.proofs.Common.{refl, subst, sym}
 use Rattle.office_outside.specs.Disk.{All, IsQuiet}
 use Rattle.office_history.specs.History.{Office}
-use Rattle.own_counter.specs.office_keep.Files.{StandsFor}
+use Rattle.office_keep.specs.Files.{StandsFor}
 use Rattle.journal_commands.specs.Making.{Bench, bench}
 use Rattle.journal_commands.specs.Reporting.{EndsOver}
 use Rattle.journal_commands.proofs.Sessions.{as_opened}

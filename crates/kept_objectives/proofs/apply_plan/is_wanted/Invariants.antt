@@ -1,6 +1,6 @@
 use Rattle.std.proofs.Common.{◌≢◌, take}
 use Rattle.std.specs.List.{AllByRecursion}
-use Rattle.kept_sums.specs.office_history.declared.Measure.{Measure}
+use Rattle.office_history.specs.declared.Measure.{Measure}
 use Rattle.kept_objectives.proofs.apply_plan.is_wanted.Given as goal
 
 -- the objectives so far are others

@@ -1,10 +1,10 @@
 use Rattle.std.proofs.Common.{◌∙◌, ap, inr, refl, subst}
 use Rattle.std.specs.Prelude.{Some}
 use Rattle.command_words.specs.declared.Asked.TheVariants.{Answer}
-use Rattle.serve_command.specs.turn_counter.Turns.{TurnAsks}
-use Rattle.serve_command.specs.office_serving.Serving.{front}
-use Rattle.serve_command.specs.office_serving.Visits.{looks}
-use Rattle.serve_command.specs.office_serving.Workers.{site}
+use Rattle.turn_counter.specs.Turns.{TurnAsks}
+use Rattle.office_serving.specs.Serving.{front}
+use Rattle.office_serving.specs.Visits.{looks}
+use Rattle.office_serving.specs.Workers.{site}
 use Rattle.office_commands.specs.Serve.{RunsServe}
 use Rattle.office_commands.proofs.WorldLemmas.{done_as, port_asked}
 use Rattle.office_commands.proofs.running.run.Goals as goal

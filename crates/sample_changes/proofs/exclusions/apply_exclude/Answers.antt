@@ -1,5 +1,5 @@
 use Rattle.std.proofs.Common.{refl, true}
-use Rattle.office_derived.specs.kept_sums.Walks.{made_on}
+use Rattle.kept_sums.specs.Walks.{made_on}
 use Rattle.office_history.specs.History.{arrivals_in}
 use Rattle.office_derived.specs.declared.Work.TheVariants as works
 use Rattle.office_derived.proofs.FormLemmas.{sound_forms}

@@ -1,7 +1,7 @@
 use Rattle.std.proofs.Common.{All, sym, subst}
 use Rattle.turn_desk.specs.Histories.{Extends}
 use Rattle.turn_desk.specs.Sources.{Accounts, own_of, raised_of}
-use Rattle.own_counter.specs.office_keep.Office.{OfficeOn}
+use Rattle.office_keep.specs.Office.{OfficeOn}
 use Rattle.turn_counter.specs.Seen.{ledger_of}
 use Rattle.turn_counter.proofs.desk_office.close_desk.Goals as goal
 

@@ -3,8 +3,8 @@ use Rattle.std.specs.Int.{◌∣◌}
 use Rattle.window_sums.specs.Slices.{width_of}
 use Rattle.office_history.specs.declared.Measure.{Measure}
 use Rattle.kept_lines.proofs.RightLemmas.{right-over-exclusions}
-use Rattle.kept_lines.specs.kept_sums.Sums.{SumsAreKept}
-use Rattle.kept_lines.specs.kept_sums.Walks.{IsChanged}
+use Rattle.kept_sums.specs.Sums.{SumsAreKept}
+use Rattle.kept_sums.specs.Walks.{IsChanged}
 use Rattle.watched_objectives.proofs.ForgetLemmas.{forgets_same}
 use Rattle.watched_objectives.proofs.forget.forget_changed.Goals as goal
 

@@ -2,7 +2,7 @@ use Rattle.std.proofs.Common.{subst, sym}
 use Rattle.std.specs.Int.{◌∣◌}
 use Rattle.window_sums.specs.Slices.{width_of}
 use Rattle.office_history.specs.declared.Measure.{Measure}
-use Rattle.kept_lines.specs.kept_sums.Replacing.{HasMoved}
+use Rattle.kept_sums.specs.Replacing.{HasMoved}
 use Rattle.watched_objectives.proofs.ForgetLemmas.{forgets_same, moved_right}
 use Rattle.watched_objectives.proofs.forget.forget_moved.Goals as goal
 

@@ -1,7 +1,7 @@
 use Rattle.std.proofs.Common.{◌≡◌, ◌<◌, ◌∙◌, ℕ, ap, subst}
 use Rattle.window_sums.specs.Slices.{counts_of, width_of}
 use Rattle.office_history.specs.Counts.{slice_counts}
-use Rattle.kept_lines.specs.kept_sums.Sums.{SumsAreKept}
+use Rattle.kept_sums.specs.Sums.{SumsAreKept}
 use Rattle.watched_objectives.specs.Sums.{samples_of}
 use Rattle.watched_objectives.proofs.KeptLemmas.{are_sums, kept_there, never_lacking}
 use Rattle.watched_objectives.proofs.sums.objective_sums_at.Goals as goal

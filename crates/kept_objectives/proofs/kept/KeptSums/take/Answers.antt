@@ -2,7 +2,7 @@ use Rattle.std.proofs.Common.{rules, ◌≡◌, ◌++◌, List, if◌then◌else
 use Rattle.std.specs.Prelude.{is_ok}
 use Rattle.std.specs.List.{Contains}
 use Rattle.kept_sums.specs.Sums.{SumsAreKept}
-use Rattle.kept_sums.specs.office_history.declared.Measure.{Measure}
+use Rattle.office_history.specs.declared.Measure.{Measure}
 use Rattle.kept_objectives.specs.Objectives.{AreKept, KeptObjectives, measures_of}
 use Rattle.kept_objectives.specs.declared.kept.ObjectiveSums.{ObjectiveSums}
 use Rattle.kept_objectives.proofs.ListLemmas.{all_append}

@@ -2,7 +2,7 @@ use Rattle.std.proofs.Common.{◌∙◌, sym, ap, Some, option_map}
 use Rattle.std.specs.Option.{option_copied}
 use Rattle.std.specs.List.{find}
 use Rattle.std.specs.Str.{bytes_eq}
-use Rattle.kept_objectives.specs.office_history.Zones.{bytes_named}
+use Rattle.office_history.specs.Zones.{bytes_named}
 use Rattle.office_derived.specs.Zones.{KeptZones}
 use Rattle.office_derived.specs.declared.zones.KeptZone.{KeptZone}
 use Rattle.office_derived.proofs.ZoneLemmas.{bytes_found}

@@ -3,7 +3,7 @@ use Rattle.std.specs.Option.{option_copied}
 use Rattle.std.specs.List.{find}
 use Rattle.std.specs.Str.{bytes_eq}
 use Rattle.zone_calendar.specs.ZoneBytes.{zone_of}
-use Rattle.kept_objectives.specs.office_history.Zones.{bytes_named}
+use Rattle.office_history.specs.Zones.{bytes_named}
 use Rattle.office_derived.specs.Zones.{KeptZones}
 use Rattle.office_derived.specs.declared.zones.KeptZone.{KeptZone}
 use Rattle.office_derived.proofs.ZoneLemmas.{zone_found}

@@ -1,7 +1,7 @@
 use Rattle.std.proofs.Common.{subst}
 use Rattle.std.specs.Prelude.{is_some}
 use Rattle.turn_desk.specs.Ledgers.{GoesOn}
-use Rattle.own_counter.specs.office_keep.Office.{OfficeOn}
+use Rattle.office_keep.specs.Office.{OfficeOn}
 use Rattle.turn_counter.specs.Seen.{ledger_of}
 use Rattle.turn_counter.proofs.Going.{goes_on}
 use Rattle.turn_counter.proofs.asking.AskingCallDeskOffice.act.Goals as goal

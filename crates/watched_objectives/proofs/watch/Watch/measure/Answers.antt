@@ -1,5 +1,5 @@
 use Rattle.std.proofs.Common.{subst}
-use Rattle.catalog_measures.specs.object_ranges.Measures.{IsMeasure}
+use Rattle.object_ranges.specs.Measures.{IsMeasure}
 use Rattle.office_history.specs.Alerts.{Watch}
 use Rattle.watched_objectives.proofs.watch.Watch.measure.Goals as goal
 
