@@ -5,12 +5,11 @@
 
 mod bits;
 mod cursor;
-mod laws;
+pub mod laws;
 mod line;
 mod minutes;
 mod spans;
 mod window;
 
-pub use laws::marked_lines_agree;
 pub use line::AlertLine;
 pub use spans::Spans;

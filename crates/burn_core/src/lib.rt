@@ -5,11 +5,7 @@
 
 mod alert;
 mod budget;
-mod laws;
+pub mod laws;
 
 pub use alert::{AlertRule, Flags, State, WindowPair, page_pairs, ticket_pairs};
 pub use budget::{above, burn, error_rate, remaining};
-pub use laws::{
-    active_means_it_held, burn_times_allowance_is_error, one_slice_decides_nearby,
-    remaining_and_burn_are_one,
-};

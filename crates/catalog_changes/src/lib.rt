@@ -8,13 +8,12 @@ mod copies;
 mod days;
 mod definition;
 mod kinds;
-mod laws;
+pub mod laws;
 mod plans;
 mod removal;
 mod zone;
 
 pub use definition::{apply_define, judge_define};
-pub use laws::{a_history_begins_legally, a_zone_acts_once};
 pub use plans::room_for_plan;
 pub use removal::{apply_remove, judge_remove};
 pub use zone::{apply_put_zone, judge_put_zone, room_for_put_zone};

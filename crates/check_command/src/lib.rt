@@ -6,8 +6,7 @@
 
 mod answer;
 mod fault;
-mod laws;
+pub mod laws;
 
 pub use answer::{answer_check, too_large_text};
 pub use fault::{CheckError, check_words};
-pub use laws::one_check_answer;

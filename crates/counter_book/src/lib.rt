@@ -6,15 +6,12 @@
 mod book;
 mod difference;
 mod judging;
-mod laws;
+pub mod laws;
 mod neighbours;
 mod reading;
 mod writing;
 
 pub use book::CounterBook;
-pub use laws::{
-    a_front_gives_a_front, a_reading_gives_at_most_two, what_was_given_is_the_differences,
-};
 pub use reading::{
     Changes, Count, CounterFault, CounterReading, Difference, Kept, Moment, Moves, Neighbours,
     NextMove, Rise, Standing, Tail,

@@ -4,9 +4,8 @@
 #![tactic(auto)]
 
 mod counting;
-mod laws;
+pub mod laws;
 
 pub use counting::{
     the_counts_are_the_sums_of_the_differences, what_counters_wrote_counts_for_the_differences,
 };
-pub use laws::the_samples_are_the_differences;

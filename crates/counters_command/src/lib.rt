@@ -5,16 +5,12 @@
 
 mod fault;
 mod input;
-mod laws;
+pub mod laws;
 mod rows;
 mod running;
 mod taking;
 
 pub use fault::{CountersEnd, CountersFault, ReadingFault, counters_words};
-pub use laws::{
-    a_front_gives_a_front, records_have_one_text, the_rows_are_the_differences,
-    what_is_done_is_the_differences,
-};
 pub use running::write_rows;
 
 /// The most bytes of an input: those of as many readings as a book has, at 33 bytes each.

@@ -7,7 +7,7 @@ mod answering;
 mod asked;
 mod budget_list;
 mod burn_rate;
-mod laws;
+pub mod laws;
 mod notice_list;
 mod object_list;
 mod sums;
@@ -15,5 +15,4 @@ mod timeline;
 mod window_start;
 
 pub use answering::answer;
-pub use laws::each_query_has_one_answer;
 pub use timeline::state_of;

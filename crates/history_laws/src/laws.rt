@@ -4,9 +4,6 @@ ghost use Rattle.history_laws.specs.Kept.{CurrentRowsAreRead, DaysAreFew, RowsAr
 ghost use Rattle.history_laws.specs.Once.{BatchActsOnce, BatchBringsNothing};
 ghost use Rattle.history_laws.specs.Once.{ChangesActOnce, NoneStandsTwice};
 
-use catalog_changes::{a_history_begins_legally, a_zone_acts_once};
-use notice_changes::a_taking_acts_once;
-use sample_changes::{a_lifting_acts_once, an_exclusion_acts_once};
 use yaml_writing::laws;
 
 /// A command has one judgement at most over an office at a moment.
@@ -51,16 +48,16 @@ pub fn each_change_acts_once()
     ensures { ChangesActOnce }
 {
     a_batch_acts_once();
-    a_zone_acts_once();
-    an_exclusion_acts_once();
-    a_lifting_acts_once();
-    a_taking_acts_once();
+    catalog_changes::laws::a_zone_acts_once();
+    sample_changes::laws::an_exclusion_acts_once();
+    sample_changes::laws::a_lifting_acts_once();
+    notice_changes::laws::a_taking_acts_once();
 }
 
 /// No batch, zone, exclusion, lifting or taking is an entry of a legal history twice.
 pub fn no_change_stands_twice()
     ensures { NoneStandsTwice }
 {
-    a_history_begins_legally();
+    catalog_changes::laws::a_history_begins_legally();
     each_change_acts_once();
 }

@@ -6,9 +6,9 @@ ghost use Rattle.journal_commands.specs.Serving.{EndsServing, IsServed, outside}
 use office_keep::{Office, Unopened, open_journal};
 use office_outside::{Clock, Disk, Sink, Source};
 use office_session::SessionEnd;
-use own_counter::{OwnCounter, a_session_adds_what_is_asked, a_stop_leaves_what_was_kept};
+use own_counter::OwnCounter;
 use std::alloc::Global;
-use wire_session::{own_places_stay_in_a_session, session, what_is_seen_grows_in_a_session};
+use wire_session::session;
 
 /// How the serving of a journal ends.
 #[derive(Clone, Copy, Debug, Drop, PartialEq, Eq)]
@@ -38,10 +38,10 @@ fn serve<D: Disk + Drop, S: Source, K: Sink, C: Clock>(
 {
     office.disk_stands();
     let mut counter = OwnCounter::new(alloc, office);
-    a_stop_leaves_what_was_kept::<D>();
-    a_session_adds_what_is_asked::<D>();
-    own_places_stay_in_a_session::<OwnCounter<D>>();
-    what_is_seen_grows_in_a_session::<OwnCounter<D>>();
+    own_counter::laws::a_stop_leaves_what_was_kept::<D>();
+    own_counter::laws::a_session_adds_what_is_asked::<D>();
+    wire_session::laws::own_places_stay_in_a_session::<OwnCounter<D>>();
+    wire_session::laws::what_is_seen_grows_in_a_session::<OwnCounter<D>>();
     let end = session(alloc, &mut counter, input, output, clock);
     let office = counter.give_back();
     office.disk_stands();

@@ -5,14 +5,13 @@
 
 mod batch;
 mod exclusion;
-mod laws;
+pub mod laws;
 mod right;
 mod run;
 mod whole;
 
 pub use batch::forget_rows;
 pub use exclusion::forget_exclusion;
-pub use laws::{lines_agree_again, lines_follow_their_sums};
 pub use right::{
     lines_stay_right_over_batches, lines_stay_right_over_exclusions,
     lines_stay_right_where_minutes_are_alike, right_lines_agree,

@@ -3,9 +3,4 @@
 //! Promises that no limit moves without a law that is refused: all else names them, and moves too.
 #![tactic(auto)]
 
-mod laws;
-
-pub use laws::{
-    limits_of_documents, limits_of_histories, limits_of_messages, limits_of_minutes,
-    limits_of_numbers, limits_of_samples,
-};
+pub mod laws;

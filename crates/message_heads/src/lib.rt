@@ -5,15 +5,12 @@
 
 mod fields;
 mod first_refused;
-mod laws;
+pub mod laws;
 mod message;
 mod reading;
 mod start;
 mod target;
 
-pub use laws::{
-    a_message_begins_one_stream, at_most_one_decision, decided_is_not_passed, heard_is_kept,
-};
 pub use message::{Heard, Hearing, Message};
 pub use reading::{MAX_MESSAGE_BYTES, hear, read_request};
 pub use target::target_of;

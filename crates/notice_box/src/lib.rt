@@ -4,12 +4,11 @@
 #![tactic(auto)]
 
 mod changes;
-mod laws;
+pub mod laws;
 mod links;
 mod notice;
 mod notice_box;
 
 pub use changes::plan;
-pub use laws::takings_are_few;
 pub use notice::Notice;
 pub use notice_box::{NoticeBox, UnknownNotice};

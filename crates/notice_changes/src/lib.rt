@@ -4,13 +4,10 @@
 #![tactic(auto)]
 
 mod changes;
-mod laws;
+pub mod laws;
 mod take;
 mod telling;
 mod tick;
 
-pub use laws::{
-    a_taking_acts_once, an_accepted_tick_tells_few, notices_are_in_order, notices_stay,
-};
 pub use take::{apply_take, judge_take};
 pub use tick::{apply_tick, judge_tick, room_for_tick};

@@ -9,7 +9,7 @@ mod ending;
 mod generate;
 mod init;
 mod input;
-mod laws;
+pub mod laws;
 mod pipe;
 mod report;
 mod running;
@@ -19,9 +19,5 @@ mod unopened;
 
 pub use ending::DISK_FAULT;
 pub use generate::GenerateEnd;
-pub use laws::{
-    statuses_of_counters, statuses_of_generate, statuses_of_init, statuses_of_pipe,
-    statuses_of_report, statuses_of_serve,
-};
 pub use running::{RunEnd, run};
 pub use telling::run_out_of_memory;

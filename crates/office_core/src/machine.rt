@@ -39,11 +39,8 @@ use exact_fraction::Label;
 use history_answers::{answer, state_of};
 use kept_objectives::KeptSums;
 use notice_box::NoticeBox;
-use notice_changes::an_accepted_tick_tells_few;
 use office_derived::{Derived, Judged, Work, Zones};
-use record_form::{
-    Command, Outcome, Query, Refusal, no_bytes_are_no_history, one_record_more, write_command,
-};
+use record_form::{Command, Outcome, Query, Refusal, write_command};
 use sample_book::SampleBook;
 use slo_catalog::Catalog;
 use slo_limits::RANGE_MINUTES;
@@ -127,7 +124,7 @@ impl Core {
             ≡ record { origin = origin; history = [] }) }
         ensures pending { IfOk result (λ core. core.pending ≡ None) }
     {
-        no_bytes_are_no_history();
+        record_form::laws::no_bytes_are_no_history();
         let book = SampleBook::new(alloc)?;
         Ok(Core {
             records: Vec::new(alloc),
@@ -251,7 +248,7 @@ impl Core {
         let Some(Pending { moment, work, plan }) = self.pending.take() else {
             unreachable!()
         };
-        one_record_more();
+        record_form::laws::one_record_more();
         self.records.extend_from_slice(value.bytes()).unwrap();
         apply(&mut self.derived, &mut self.lines, moment, work, plan)
     }
@@ -358,7 +355,7 @@ fn judge_and_make_room(
     ensures sums { CountTheSame derived.old.sums.kept derived.new.sums.kept }
     ensures know { AllKnow lines.old.kept lines.new.kept }
 {
-    an_accepted_tick_tells_few();
+    notice_changes::laws::an_accepted_tick_tells_few();
     match judge(alloc, derived, lines, moment, command) {
         Judged::Same(outcome) => (Verdict::Same(outcome), None),
         Judged::Refused(refusal) => (Verdict::Refused(refusal), None),

@@ -4,7 +4,6 @@
 #![tactic(auto)]
 
 mod counter;
-mod laws;
+pub mod laws;
 
 pub use counter::Counter;
-pub use laws::{own_places_stay, steps_extend, what_it_comes_to_is_the_outcome};

@@ -1,7 +1,7 @@
 //! Laws of histories and of the files that stand for them.
 ghost use Rattle.office_keep.specs.Laws.{OneDamage, OneHistory, OneJudgement};
 
-use record_form::no_record_begins_another;
+use record_form::laws;
 
 /// A command has one judgement at a moment, so an entry that is refused, or changes nothing, is in
 /// no legal history.
@@ -13,7 +13,7 @@ pub fn one_judgement()
 pub fn one_history()
     ensures { OneHistory }
 {
-    no_record_begins_another();
+    laws::no_record_begins_another();
 }
 
 /// A file is damaged at one place at most.

@@ -4,13 +4,12 @@
 #![tactic(auto)]
 
 mod fault;
-mod laws;
+pub mod laws;
 mod office;
 mod opening;
 mod steps;
 mod unopened;
 
 pub use fault::{KeepFailed, KeepFault};
-pub use laws::{one_damage, one_history, one_judgement};
 pub use office::{Office, let_go};
 pub use unopened::{OpenFailed, Unopened, open_journal};

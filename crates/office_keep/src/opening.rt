@@ -13,11 +13,10 @@ ghost use Rattle.office_keep.specs.declared.fault.KeepFault.TheVariants.{Already
 ghost use Rattle.office_keep.specs.declared.fault.KeepFault.TheVariants.{DiskFault, NotAJournal};
 ghost use Rattle.slo_limits.specs.declared.TheConstants.{MAX_JOURNAL_BYTES};
 
-use crate::KeepFault;
-use crate::laws::one_judgement;
+use crate::{KeepFault, laws};
 use office_core::{Core, Verdict};
 use office_outside::Disk;
-use record_form::{no_record_begins_another, read_record};
+use record_form::read_record;
 use slo_journal::{Scan, ScanFault};
 use std::alloc::{AllocError, Global};
 
@@ -29,7 +28,7 @@ fn take_in(alloc: Global, core: &mut Core, bytes: &[u8]) -> Result<bool, AllocEr
     ensures refused { result ≡ Ok false
         → (e : Entry) → IsRecord bytes.now e → MayFollow core.old.office e → ⊥ }
 {
-    one_judgement();
+    laws::one_judgement();
     let Some(entry) = read_record(alloc, bytes)? else {
         return Ok(false);
     };
@@ -89,7 +88,7 @@ fn step<D: Disk + Drop>(
     match scan.next(out) {
         Ok(true) => {
             core.is_legal();
-            no_record_begins_another();
+            record_form::laws::no_record_begins_another();
             match take_in(alloc, core, out) {
                 Ok(true) => Ok(true),
                 Ok(false) => Err(KeepFault::Damaged { at }),

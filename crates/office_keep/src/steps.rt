@@ -16,7 +16,7 @@ ghost use Rattle.office_keep.specs.Steps.{IsKept, KeepsOffice, Writes, entry_in,
 
 use office_core::{Core, Prepared, Verdict};
 use office_outside::{Disk, Failed};
-use record_form::{Command, Outcome, records_have_sizes};
+use record_form::{Command, Outcome, laws};
 use slo_journal::{AppendFault, Journal, frame_of};
 use std::alloc::Global;
 
@@ -142,7 +142,7 @@ fn write<D: Disk + Drop>(
     ensures cause { IsBlamed (D.faults journal.old.disk) (D.faults journal.new.disk) result.0 }
 {
     core.is_legal();
-    records_have_sizes();
+    laws::records_have_sizes();
     let Ok(frame) = frame_of(alloc, value.bytes()) else {
         drop(value);
         return (Outcome::NoMemory, None);

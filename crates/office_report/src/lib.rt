@@ -4,10 +4,9 @@
 #![tactic(auto)]
 
 mod budgets;
-mod laws;
+pub mod laws;
 mod lines;
 mod reporting;
 mod states;
 
-pub use laws::a_report_is_one_text;
 pub use reporting::report;

@@ -15,11 +15,10 @@ use crate::workers::{WORKERS, run_workers};
 use office_doors::{Door, Doors, DoorsFault};
 use office_keep::Office;
 use office_outside::{Disk, Sink};
-use record_form::an_entry_is_read_back;
 use std::alloc::Global;
 use std::sync::Wait;
 use std::thread::Threads;
-use turn_counter::{DeskOffice, close_desk, open_desk, what_a_pass_has_seen};
+use turn_counter::{DeskOffice, close_desk, open_desk};
 use turn_desk::{Desk, Pass};
 
 /// How the serving of an office ended.
@@ -141,8 +140,8 @@ pub fn serve<R: Wait + Threads + Sync, D: Disk + Send + Drop, S: Doors, K: Sink>
     ensures doors { result.0 ≡ ServeEnd.DoorsFault →
         Rose (S.faults doors.old) (S.faults doors.new) }
 {
-    what_a_pass_has_seen();
-    an_entry_is_read_back();
+    turn_counter::laws::what_a_pass_has_seen();
+    record_form::laws::an_entry_is_read_back();
     office.disk_stands();
     office.core().is_legal();
     match open_desk(alloc, office, WORKERS) {

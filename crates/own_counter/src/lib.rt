@@ -4,7 +4,6 @@
 #![tactic(auto)]
 
 mod counter;
-mod laws;
+pub mod laws;
 
 pub use counter::OwnCounter;
-pub use laws::{a_session_adds_what_is_asked, a_stop_leaves_what_was_kept};

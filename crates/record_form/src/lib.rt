@@ -8,7 +8,7 @@ mod command;
 mod cursor;
 mod entry;
 mod fields;
-mod laws;
+pub mod laws;
 mod limit_name;
 mod listed;
 mod outcome;
@@ -22,10 +22,6 @@ pub use budget_row::{BudgetRow, BudgetRows};
 pub use command::{Command, Rows};
 pub use entry::Entry;
 pub use fields::MAX_EXCLUDED_MINUTE;
-pub use laws::{
-    a_history_is_read_back, an_entry_is_read_back, no_bytes_are_no_history,
-    no_record_begins_another, one_record_more, records_have_sizes,
-};
 pub use limit_name::LimitName;
 pub use listed::Listed;
 pub use outcome::{Intervals, NoticeRows, ObjectNames, Outcome};

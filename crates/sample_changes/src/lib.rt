@@ -5,10 +5,9 @@
 
 mod exclusions;
 mod faults;
-mod laws;
+pub mod laws;
 mod samples;
 mod tally;
 
 pub use exclusions::{apply_exclude, apply_lift, judge_exclude, judge_lift, room_for_exclude};
-pub use laws::{a_batch_acts_once, a_lifting_acts_once, an_exclusion_acts_once};
 pub use samples::{apply_samples, judge_samples, room_for_samples};

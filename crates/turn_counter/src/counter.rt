@@ -7,7 +7,7 @@ use crate::asking::Asking;
 use crate::desk_office::DeskOffice;
 use office_counter::Counter;
 use office_outside::Disk;
-use record_form::{Outcome, Request, an_entry_is_read_back};
+use record_form::{Outcome, Request, laws};
 use std::alloc::Global;
 use std::marker::Model;
 use std::sync::Wait;
@@ -66,7 +66,7 @@ impl<D: Disk + Drop, R: Wait> Counter for TurnCounter<'_, D, R> {
 
     fn ask(&mut self, alloc: Global, reading: u32, request: &Request) -> Outcome {
         let mut call = Asking::new(alloc, reading, request);
-        an_entry_is_read_back();
+        laws::an_entry_is_read_back();
         let (outcome, _place) = self.desk.with_turn(self.rt, &mut self.pass, &mut call);
         outcome
     }

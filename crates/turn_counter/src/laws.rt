@@ -11,7 +11,7 @@ ghost use Rattle.turn_counter.specs.Holding.{QueriesOwnNothing, StaysAtDesk};
 ghost use Rattle.turn_counter.specs.Turns.{TurnAsks};
 
 use office_outside::Disk;
-use record_form::an_entry_is_read_back;
+use record_form::laws;
 
 /// After each turn of a session, and when it has ended, the pass by which it asked is one of the
 /// same desk.
@@ -31,7 +31,7 @@ pub fn what_a_pass_has_seen()
     ensures beginnings { PassesSeeBeginnings }
     ensures all { NewPassesSeeAll }
 {
-    an_entry_is_read_back();
+    laws::an_entry_is_read_back();
 }
 
 /// The place of an own entry holds the very entry that the asking made, whatever others add later.
@@ -49,5 +49,5 @@ pub fn a_pass_makes_what_is_asked<D: Disk + Drop>()
         → MakesAsked (turns_of (Treats (TurnAsks D.images D.moment D.images_since D.faults)) refusal
         end old new ends) old.handler new.handler }
 {
-    an_entry_is_read_back();
+    laws::an_entry_is_read_back();
 }

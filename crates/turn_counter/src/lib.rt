@@ -6,11 +6,8 @@
 mod asking;
 mod counter;
 mod desk_office;
-mod laws;
+pub mod laws;
 
 pub use asking::Asking;
 pub use counter::TurnCounter;
 pub use desk_office::{DeskOffice, close_desk, open_desk};
-pub use laws::{
-    a_pass_makes_what_is_asked, a_pass_stays_at_its_desk, an_own_entry_stays, what_a_pass_has_seen,
-};

@@ -7,7 +7,7 @@ mod bodies;
 mod immediate;
 mod in_json;
 mod inline_bytes;
-mod laws;
+pub mod laws;
 mod refusals;
 mod rendering;
 mod reply;
@@ -16,7 +16,6 @@ mod writing;
 
 pub use immediate::{bad_message, immediate_reply};
 pub use inline_bytes::InlineBytes;
-pub use laws::answers_have_their_statuses;
 pub use rendering::render;
 pub use reply::{Form, Reply, SmallBody};
 pub use writing::write_reply;

@@ -7,7 +7,7 @@ mod cuts;
 mod exclusion;
 mod find;
 mod keys;
-mod laws;
+pub mod laws;
 mod method;
 mod place;
 mod query;
@@ -18,5 +18,4 @@ mod samples;
 mod table;
 
 pub use find::Routes;
-pub use laws::{a_message_stands_for_one_answer, a_message_stands_for_something};
 pub use routed::Routed;

@@ -5,9 +5,8 @@
 
 mod clerk;
 mod kit;
-mod laws;
+pub mod laws;
 mod serving;
 
 pub use kit::SessionKit;
-pub use laws::{own_places_stay_in_a_session, what_is_seen_grows_in_a_session};
 pub use serving::{session, session_with};

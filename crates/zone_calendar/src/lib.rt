@@ -6,7 +6,7 @@
 mod calendar;
 mod civil;
 mod civil_text;
-mod laws;
+pub mod laws;
 mod read;
 mod windows;
 mod zone;
@@ -14,11 +14,6 @@ mod zone;
 pub use calendar::{StartsFault, has_too_many_starts, is_calendar_step, starts};
 pub use civil::Civil;
 pub use civil_text::{read_civil, write_civil};
-pub use laws::{
-    a_clock_is_less_than_26_hours_from_utc, a_minute_has_one_last_start,
-    an_uncounted_start_is_at_the_horizon_or_after, starts_are_one_list,
-    the_last_start_is_that_of_the_list,
-};
 pub use read::{ZoneFault, read_zone};
 pub use windows::{last_start, window_at};
 pub use zone::Zone;

@@ -6,8 +6,7 @@ ghost use Rattle.zone_calendar.specs.Starts.{IsCalendarStep, is_counted, start_a
 ghost use Rattle.zone_calendar.specs.Window.{IsWindow, IsLastAmong, IsLastStart};
 
 use crate::calendar::{count_starts, start};
-use crate::laws::a_clock_is_less_than_26_hours_from_utc;
-use crate::{Civil, Zone};
+use crate::{Civil, Zone, laws};
 use slo_duration::Duration;
 
 /// The starts that are looked at: those of the last numbers that may have begun. A zone moves a
@@ -68,7 +67,7 @@ pub fn last_start(
     requires horizon { horizon < 2 ^ 27 }
     ensures { IsLastStart zone.now first.now step horizon minute result }
 {
-    a_clock_is_less_than_26_hours_from_utc(zone);
+    laws::a_clock_is_less_than_26_hours_from_utc(zone);
     let end = horizon.min(minute.saturating_add(1));
     let count = count_starts(first, step, end, MOST_DAYS);
     last_among(zone, first, step, end, count, minute)
