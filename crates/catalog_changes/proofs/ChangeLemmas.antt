@@ -49,9 +49,9 @@ use Rattle.office_derived.specs.declared.Judged.{Judged}
 use Rattle.office_derived.specs.declared.Judged.TheVariants as judged
 use Rattle.office_history.specs.Notices.{waiting}
 use Rattle.office_derived.specs.Zones.{KeptZones}
-use Rattle.kept_objectives.specs.declared.SumsPlan.{SumsPlan}
-use Rattle.kept_objectives.specs.Objectives.{KeepsSums, KeptObjectives}
-use Rattle.kept_objectives.specs.Plans.{IsPlan}
+use Rattle.kept_sums.specs.declared.SumsPlan.{SumsPlan}
+use Rattle.kept_sums.specs.Objectives.{KeepsSums, KeptObjectives}
+use Rattle.kept_sums.specs.Plans.{IsPlan}
 use Rattle.office_derived.specs.Derived.{HasPlan, IsRead, IsPlaced, IsSound, Reflects, IsNext}
 use Rattle.office_derived.specs.Derived.{IsFound, IsJudged, command_of, entry_of}
 use Rattle.office_derived.proofs.More.{catalog_more}

@@ -5,10 +5,10 @@ use Rattle.std.proofs.lemmas.List.Elements.{All-contains, All-from_recursion}
 use Rattle.sample_book.specs.declared.Exclusion.{Exclusion}
 use Rattle.sample_book.specs.declared.Row.{Row}
 use Rattle.object_terms.specs.declared.Object.{Object}
-use Rattle.kept_objectives.specs.declared.ObjectiveSums.{ObjectiveSums}
-use Rattle.kept_objectives.specs.declared.SumsPlan.{SumsPlan}
-use Rattle.kept_objectives.specs.Objectives.{AreKept, IsObjective, KeepsSums, measures_of}
-use Rattle.kept_objectives.specs.Plans.{IsPlan}
+use Rattle.kept_sums.specs.declared.ObjectiveSums.{ObjectiveSums}
+use Rattle.kept_sums.specs.declared.SumsPlan.{SumsPlan}
+use Rattle.kept_sums.specs.Objectives.{AreKept, IsObjective, KeepsSums, measures_of}
+use Rattle.kept_sums.specs.Plans.{IsPlan}
 use Rattle.office_history.specs.declared.Measure.{Measure}
 
 -- what is wanted is an objective of the catalog that comes

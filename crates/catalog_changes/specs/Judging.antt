@@ -5,8 +5,8 @@ use Rattle.object_terms.specs.declared.kind.Kind.{Kind}
 use Rattle.object_terms.specs.declared.Object.{Object}
 use Rattle.catalog_terms.specs.Catalog.{with_members, without}
 use Rattle.zone_calendar.specs.ZoneBytes.{zone_of}
-use Rattle.kept_objectives.specs.declared.SumsPlan.{SumsPlan}
-use Rattle.kept_objectives.specs.Plans.{IsPlan}
+use Rattle.kept_sums.specs.declared.SumsPlan.{SumsPlan}
+use Rattle.kept_sums.specs.Plans.{IsPlan}
 use Rattle.office_history.specs.declared.Judgement.{Judgement}
 use Rattle.office_history.specs.declared.Judgement.TheVariants.{Accepted, Same, Refused}
 use Rattle.office_history.specs.History.{end_of}

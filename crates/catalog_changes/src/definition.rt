@@ -21,7 +21,7 @@ use crate::days::passes_days;
 use crate::kinds::texts_have_bodies_of_their_kinds;
 use definition_verdict::{Definition, VerdictError, judge_definition};
 use exact_fraction::Bytes;
-use kept_objectives::SumsPlan;
+use kept_sums::SumsPlan;
 use office_derived::{Derived, Judged, Work, accepted};
 use office_history::Judgement;
 use record_form::{LimitName, Outcome, Refusal};

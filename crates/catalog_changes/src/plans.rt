@@ -5,7 +5,7 @@ ghost use Rattle.object_terms.specs.declared.Object.{Object};
 ghost use Rattle.office_derived.specs.Derived.{HasRoom, Stays};
 ghost use Rattle.office_derived.specs.declared.Work.TheVariants as works;
 
-use kept_objectives::SumsPlan;
+use kept_sums::SumsPlan;
 use office_derived::Derived;
 use std::alloc::AllocError;
 

@@ -13,7 +13,7 @@ ghost use Rattle.catalog_changes.specs.Judging.{IsJudgedBy, IsRemoval};
 
 use catalog_terms::{RemoveError, RemoveFault};
 use exact_fraction::Label;
-use kept_objectives::SumsPlan;
+use kept_sums::SumsPlan;
 use object_terms::Kind;
 use office_derived::{Derived, Judged, Work, accepted};
 use office_history::Judgement;

@@ -3,7 +3,7 @@ ghost use Rattle.std.specs.Prelude.{◌≡◌, ◌++◌, ◌∷◌, [], All, IfO
 ghost use Rattle.std.specs.Prelude.{unwrap_or};
 ghost use Rattle.std.specs.List.{AllByRecursion};
 ghost use Rattle.std.specs.Option.{option_copied};
-ghost use Rattle.kept_objectives.specs.Objectives.{IsObjective};
+ghost use Rattle.kept_sums.specs.Objectives.{IsObjective};
 ghost use Rattle.object_ranges.specs.Measures.{IsMeasure};
 ghost use Rattle.office_history.specs.Objectives.{measure_at as measure_at_def};
 ghost use Rattle.office_history.specs.Objectives.{measure_of as measure_of_def};

@@ -4,7 +4,7 @@ ghost use Rattle.record_form.specs.declared.Query.TheVariants as queries;
 ghost use Rattle.office_history.specs.History.{Office};
 ghost use Rattle.slo_duration.specs.Minutes.{minutes_of};
 ghost use Rattle.office_history.specs.Answers.{Answers, burn_answer};
-ghost use Rattle.kept_objectives.specs.Objectives.{IsObjective};
+ghost use Rattle.kept_sums.specs.Objectives.{IsObjective};
 ghost use Rattle.object_ranges.specs.Measures.{IsMeasure};
 ghost use Rattle.office_derived.specs.Derived.{IsSound, Reflects};
 

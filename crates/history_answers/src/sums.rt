@@ -3,7 +3,7 @@ ghost use Rattle.std.specs.Prelude.{◌≡◌, ◌≤◌, ◌<◌};
 ghost use Rattle.slo_terms.specs.Sums.{most_events, sum_of_slices};
 ghost use Rattle.window_sums.specs.Slices.{leaf_at, width_of};
 ghost use Rattle.office_history.specs.Counts.{sum_between as sum_between_def};
-ghost use Rattle.kept_objectives.specs.Objectives.{IsObjective};
+ghost use Rattle.kept_sums.specs.Objectives.{IsObjective};
 ghost use Rattle.office_derived.specs.Derived.{IsSound};
 ghost use Rattle.watched_objectives.specs.Sums.{samples_of};
 

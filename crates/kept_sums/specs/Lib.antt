@@ -1,3 +1,5 @@
-pub mod Sums
+pub mod Objectives
+pub mod Plans
 pub mod Replacing
+pub mod Sums
 pub mod Walks

@@ -1,7 +1,6 @@
 //! The rows of a batch, followed by the sums of an objective.
 ghost use Rattle.std.specs.Prelude.{true, ◌≡◌, ◌≢◌, ◌+◌, ◌≤◌, ◌<◌, ◌++◌, ◌∷◌, [], ℕ, Bool, List};
-ghost use Rattle.std.specs.Prelude.{IsTrue, OnOk};
-ghost use Rattle.std.specs.Prelude.{length};
+ghost use Rattle.std.specs.Prelude.{IsTrue, OnOk, length};
 ghost use Rattle.std.specs.List.{AllByRecursion};
 ghost use Rattle.slo_limits.specs.declared.TheConstants.{MAX_SUMMED_ROWS};
 ghost use Rattle.sample_book.specs.declared.Exclusion.{Exclusion};
@@ -50,7 +49,7 @@ fn follow_row(
 
 /// The sums of an objective follow the rows of a batch, each of which becomes this over those
 /// before it. The book doesn't have them yet. No memory is taken.
-pub fn count_batch(
+pub(crate) fn count_batch(
     sums: &mut WindowSums,
     measure: &Measure,
     book: &SampleBook,
@@ -96,7 +95,7 @@ fn reserve_row(sums: &mut WindowSums, measure: &Measure, row: &Row) -> Result<()
 /// # Errors
 ///
 /// Memory ran out.
-pub fn reserve_batch(
+pub(crate) fn reserve_batch(
     sums: &mut WindowSums,
     measure: &Measure,
     rows: &[Row],

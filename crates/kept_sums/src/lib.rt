@@ -1,16 +1,24 @@
-//! The sums of each objective, kept while rows and exclusions come.
+//! The sums of each objective of a catalog, kept while rows, exclusions and definitions come.
 //! Stands on `window_sums` for sums, `sample_book` for rows, `office_history` for what is measured.
-//! Promises that the counts of each slice stay those of the rows that are current.
+//! Promises that the counts of each slice stay those of the rows that are current, and that
+//! following them takes no memory.
 #![tactic(auto)]
 
+mod apply_plan;
 mod batch;
+mod by_hint;
 mod counting;
 mod exchange;
+mod follow;
 mod from_rows;
+mod kept;
 pub mod laws;
+mod plan;
 mod range;
+mod same;
 
-pub use batch::{count_batch, reserve_batch};
 pub use counting::{NO_COUNTS, changes_counts, excludes_minute, row_at, row_counts};
 pub use from_rows::sums_over;
-pub use range::follow_exclusion;
+pub use kept::{KeptSums, ObjectiveSums};
+pub use plan::SumsPlan;
+pub use same::is_same_measure;

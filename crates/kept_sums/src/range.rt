@@ -153,7 +153,7 @@ fn follow_taking(sums: &mut WindowSums, measure: &Measure, book: &SampleBook, va
 /// The sums of an objective follow an exclusion that is made (`taken`), or one that is lifted. The
 /// book is the one without it. Only rows of the days of its range are looked at: at a lifting all
 /// of them, else those of the slices that the range cuts. No memory is taken.
-pub fn follow_exclusion(
+pub(crate) fn follow_exclusion(
     sums: &mut WindowSums,
     measure: &Measure,
     book: &SampleBook,

@@ -11,8 +11,8 @@ use Rattle.window_sums.specs.Slices.{CountedDays, counts_of}
 use Rattle.object_terms.specs.declared.Object.{Object}
 use Rattle.office_history.specs.declared.Measure.{Measure}
 use Rattle.kept_sums.specs.Sums.{SumsAreKept, row_counts, shares_by}
-use Rattle.kept_objectives.specs.Objectives.{IsObjective, KeepsSums, measures_of}
-use Rattle.kept_objectives.specs.declared.ObjectiveSums.{ObjectiveSums}
+use Rattle.kept_sums.specs.Objectives.{IsObjective, KeepsSums, measures_of}
+use Rattle.kept_sums.specs.declared.ObjectiveSums.{ObjectiveSums}
 use Rattle.office_derived.specs.declared.Derived.{Derived}
 use Rattle.office_derived.specs.Derived.{Stays}
 use Rattle.office_core.specs.Lent.{CountTheSame}

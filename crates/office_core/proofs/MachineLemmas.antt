@@ -20,8 +20,8 @@ use Rattle.office_history.specs.History.{Office, with_entry, arrivals_in, presen
 use Rattle.office_history.specs.Judges.{Judges}
 use Rattle.office_history.specs.Notices.{waiting}
 use Rattle.office_history.specs.Legal.{IsLegal, MayFollow, empty, followed}
-use Rattle.kept_objectives.specs.declared.ObjectiveSums.{ObjectiveSums}
-use Rattle.kept_objectives.specs.Objectives.{KeepsSums}
+use Rattle.kept_sums.specs.declared.ObjectiveSums.{ObjectiveSums}
+use Rattle.kept_sums.specs.Objectives.{KeepsSums}
 use Rattle.office_derived.specs.declared.Derived.{Derived}
 use Rattle.office_derived.specs.Derived.{HasRoom, IsFound, IsNext, IsPlaced, IsRead, IsSound}
 use Rattle.office_derived.specs.Derived.{Reflects, Stays, command_of, entry_of}

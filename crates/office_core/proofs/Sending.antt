@@ -27,9 +27,9 @@ use Rattle.sample_book.proofs.book.SampleBook.TheSendSync as book
 use Rattle.notice_box.proofs.notice_box.NoticeBox.TheSendSync as notices
 use Rattle.zone_calendar.proofs.zone.Zone.TheSendSync as zone
 use Rattle.exact_fraction.proofs.text.Bytes.TheSendSync as bytes
-use Rattle.kept_objectives.specs.contracts.kept.ObjectiveSums as objective
-use Rattle.kept_objectives.specs.contracts.plan.SumsPlan as plan
-use Rattle.kept_objectives.proofs.kept.KeptSums.TheSendSync as sums
+use Rattle.kept_sums.specs.contracts.kept.ObjectiveSums as objective
+use Rattle.kept_sums.specs.contracts.plan.SumsPlan as plan
+use Rattle.kept_sums.proofs.kept.KeptSums.TheSendSync as sums
 use Rattle.window_sums.proofs.window_sums.WindowSums.TheSendSync as window
 use Rattle.alert_line.proofs.line.AlertLine.TheSendSync as line
 use Rattle.watched_objectives.specs.contracts.kept.WatchLine as watch_line

@@ -8,8 +8,8 @@ use Rattle.office_history.specs.Alerts.{Watch}
 use Rattle.office_history.specs.Counts.{slice_counts}
 use Rattle.office_history.specs.History.{Office}
 use Rattle.office_history.specs.Notices.{samples_in}
-use Rattle.kept_objectives.specs.Objectives.{measures_of}
-use Rattle.kept_objectives.specs.declared.ObjectiveSums.{ObjectiveSums}
+use Rattle.kept_sums.specs.Objectives.{measures_of}
+use Rattle.kept_sums.specs.declared.ObjectiveSums.{ObjectiveSums}
 use Rattle.watched_objectives.specs.Known.{IsLineOf}
 use Rattle.office_core.specs.Seen.{Machine}
 

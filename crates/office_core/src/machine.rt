@@ -37,7 +37,7 @@ use catalog_measures::measure_at;
 use catalog_terms::Binding;
 use exact_fraction::Label;
 use history_answers::{answer, state_of};
-use kept_objectives::KeptSums;
+use kept_sums::KeptSums;
 use notice_box::NoticeBox;
 use office_derived::{Derived, Judged, Work, Zones};
 use record_form::{Command, Outcome, Query, Refusal, write_command};

@@ -8,9 +8,9 @@ use Rattle.slice_method.specs.Readings.{HasForm}
 use Rattle.sample_book.specs.declared.Row.{Row}
 use Rattle.object_terms.specs.declared.Object.{Object}
 use Rattle.kept_sums.specs.Sums.{RowFits}
-use Rattle.kept_objectives.specs.declared.ObjectiveSums.{ObjectiveSums}
-use Rattle.kept_objectives.specs.Objectives.{IsObjective}
-use Rattle.kept_objectives.proofs.ObjectiveLemmas.{named}
+use Rattle.kept_sums.specs.declared.ObjectiveSums.{ObjectiveSums}
+use Rattle.kept_sums.specs.Objectives.{IsObjective}
+use Rattle.kept_sums.proofs.ObjectiveLemmas.{named}
 use Rattle.office_history.specs.declared.Measure.{Measure}
 use Rattle.office_history.specs.Objectives.{reading_named}
 use Rattle.office_derived.specs.declared.derived.Derived.{Derived}

@@ -5,8 +5,8 @@ use Rattle.slo_limits.specs.declared.TheConstants as most
 use Rattle.sample_book.specs.declared.Exclusion.{Exclusion}
 use Rattle.sample_book.specs.declared.Row.{Row}
 use Rattle.object_terms.specs.declared.Object.{Object}
-use Rattle.kept_objectives.specs.declared.ObjectiveSums.{ObjectiveSums}
-use Rattle.kept_objectives.specs.Objectives.{KeepsSums}
+use Rattle.kept_sums.specs.declared.ObjectiveSums.{ObjectiveSums}
+use Rattle.kept_sums.specs.Objectives.{KeepsSums}
 use Rattle.office_history.specs.Notices.{waiting}
 use Rattle.office_derived.specs.declared.derived.Derived.{Derived}
 use Rattle.office_derived.specs.Derived.{IsPlaced, IsRead, IsSound, Stays}

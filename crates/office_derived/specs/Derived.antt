@@ -8,21 +8,18 @@ use Rattle.sample_book.specs.declared.Row.{Row}
 use Rattle.sample_book.specs.Rows.{room_for}
 use Rattle.sample_book.specs.History.{Holds}
 use Rattle.sample_book.specs.Puts.{verdicts}
-use Rattle.kept_objectives.specs.Objectives.{HaveDays, KeepsSums}
-use Rattle.kept_objectives.specs.Plans.{IsPlan}
+use Rattle.kept_sums.specs.Objectives.{HaveDays, KeepsSums}
+use Rattle.kept_sums.specs.Plans.{IsPlan}
 use Rattle.object_terms.specs.declared.Object.{Object}
 use Rattle.zone_calendar.specs.ZoneBytes.{zone_of}
-use Rattle.kept_objectives.specs.declared.SumsPlan.{SumsPlan}
+use Rattle.kept_sums.specs.declared.SumsPlan.{SumsPlan}
 use Rattle.record_form.specs.declared.Command.{Command}
-use Rattle.record_form.specs.declared.Command.TheVariants.{Define, Remove, PutZone}
-use Rattle.record_form.specs.declared.Command.TheVariants.{Samples, Exclude, Lift}
-use Rattle.record_form.specs.declared.Command.TheVariants.{Tick, Take}
+use Rattle.record_form.specs.declared.Command.TheVariants.{Define, Remove, PutZone, Samples}
+use Rattle.record_form.specs.declared.Command.TheVariants.{Exclude, Lift, Tick, Take}
 use Rattle.record_form.specs.declared.Entry.{Entry}
-use Rattle.office_history.specs.declared.Judgement.TheVariants.{Accepted, Same}
-use Rattle.office_history.specs.declared.Judgement.TheVariants.{Refused}
-use Rattle.office_history.specs.History.{Office, end_of, present, rows_in}
-use Rattle.office_history.specs.History.{current_in, exclusions_in, arrivals_in}
-use Rattle.office_history.specs.History.{accepted_rows}
+use Rattle.office_history.specs.declared.Judgement.TheVariants.{Accepted, Same, Refused}
+use Rattle.office_history.specs.History.{Office, end_of, present, rows_in, current_in}
+use Rattle.office_history.specs.History.{exclusions_in, arrivals_in, accepted_rows}
 use Rattle.office_history.specs.Catalog.{catalog_in, text_objects}
 use Rattle.office_history.specs.Zones.{zones_in}
 use Rattle.office_history.specs.Objectives.{reading_named}

@@ -3,7 +3,7 @@
 use crate::zones::Zones;
 use burn_core::State;
 use catalog_terms::Binding;
-use kept_objectives::KeptSums;
+use kept_sums::KeptSums;
 use notice_box::NoticeBox;
 use sample_book::SampleBook;
 use slo_catalog::Catalog;

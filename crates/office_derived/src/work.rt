@@ -4,7 +4,7 @@ use crate::tally::BatchTally;
 use burn_core::State;
 use catalog_terms::Binding;
 use exact_fraction::{Bytes, Label, ZoneName};
-use kept_objectives::SumsPlan;
+use kept_sums::SumsPlan;
 use object_terms::Kind;
 use record_form::{Outcome, Refusal, Rows};
 use sample_book::{Exclusion, RowVerdict};

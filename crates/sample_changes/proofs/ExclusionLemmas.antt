@@ -12,7 +12,7 @@ use Rattle.office_history.specs.History.{rows_of, with_entry}
 use Rattle.office_history.specs.Zones.{zones_of}
 use Rattle.office_derived.specs.declared.Derived.{Derived}
 use Rattle.office_derived.specs.declared.Work.{Work}
-use Rattle.kept_objectives.specs.Objectives.{AreKept, KeptObjectives, measures_of}
+use Rattle.kept_sums.specs.Objectives.{AreKept, KeptObjectives, measures_of}
 use Rattle.office_derived.specs.Derived.{IsNext, IsSound, Reflects, command_of, entry_of}
 use Rattle.office_derived.proofs.Still.{IsStill, reflects_still}
 use Rattle.sample_changes.proofs.Following.{change_followed}

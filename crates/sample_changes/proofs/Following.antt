@@ -18,9 +18,8 @@ use Rattle.object_terms.specs.declared.Object.{Object}
 use Rattle.office_history.specs.declared.Measure.{Measure}
 use Rattle.office_history.specs.History.{Office, rows_in, with_entry}
 use Rattle.kept_sums.specs.Sums.{row_counts, shares_by}
-use Rattle.kept_objectives.specs.declared.ObjectiveSums.{ObjectiveSums}
-use Rattle.kept_objectives.specs.Objectives.{AreKept, HaveForms, IsObjective}
-use Rattle.kept_objectives.specs.Objectives.{KeepsSums, measures_of}
+use Rattle.kept_sums.specs.declared.ObjectiveSums.{ObjectiveSums}
+use Rattle.kept_sums.specs.Objectives.{AreKept, HaveForms, IsObjective, KeepsSums, measures_of}
 use Rattle.office_derived.specs.declared.Derived.{Derived}
 use Rattle.office_derived.specs.declared.BatchTally.{BatchTally}
 use Rattle.office_derived.specs.declared.Work.TheVariants as works

@@ -31,7 +31,7 @@ use Rattle.office_history.specs.Verdicts.{accepted, exclude_verdict_beside, lift
 use Rattle.office_history.specs.Verdicts.{new_exclusion_fault, same_content, unless_refused}
 use Rattle.office_history.specs.Catalog.{catalog_in}
 use Rattle.office_history.specs.History.{Office, accepted_rows, exclusions_in, rows_in, with_entry}
-use Rattle.kept_objectives.specs.Objectives.{KeepsSums}
+use Rattle.kept_sums.specs.Objectives.{KeepsSums}
 use Rattle.office_derived.specs.declared.Derived.{Derived}
 use Rattle.office_derived.specs.declared.BatchTally.{BatchTally}
 use Rattle.office_derived.specs.declared.Work.TheVariants as works

@@ -13,12 +13,12 @@ use Rattle.catalog_terms.specs.Keys.{member_of, is_key}
 use Rattle.slo_catalog.proofs.KeyLemmas.{key_parts}
 use Rattle.catalog_measures.specs.Names.{is_slo, slo_names}
 use Rattle.kept_sums.specs.Sums.{RowFits}
-use Rattle.kept_objectives.specs.Objectives.{IsObjective}
+use Rattle.kept_sums.specs.Objectives.{IsObjective}
 use Rattle.office_history.specs.declared.Measure.{Measure}
 use Rattle.office_history.specs.Objectives.{measures_named, measures_of}
 use Rattle.office_derived.specs.Derived.{IsRead}
-use Rattle.kept_objectives.proofs.ListLemmas.{all_flat, flat_contains}
-use Rattle.kept_objectives.proofs.ObjectiveLemmas.{all_objectives, objective_among}
+use Rattle.kept_sums.proofs.KeyLemmas.{all_flat, flat_contains}
+use Rattle.kept_sums.proofs.ObjectiveLemmas.{all_objectives, objective_among}
 use Rattle.office_derived.proofs.FormLemmas.{all_fit}
 use Rattle.sums_plan.specs.Wanted.{objectives_in}
 

@@ -3,8 +3,8 @@ use Rattle.std.specs.Prelude.{List, ◌⊎◌}
 use Rattle.std.specs.List.{Contains, flat_map}
 use Rattle.object_terms.specs.declared.Object.{Object}
 use Rattle.catalog_measures.specs.Names.{slo_names}
-use Rattle.kept_objectives.specs.declared.ObjectiveSums.{ObjectiveSums}
-use Rattle.kept_objectives.specs.Objectives.{IsObjective, measures_of}
+use Rattle.kept_sums.specs.declared.ObjectiveSums.{ObjectiveSums}
+use Rattle.kept_sums.specs.Objectives.{IsObjective, measures_of}
 use Rattle.office_history.specs.declared.Measure.{Measure}
 use Rattle.office_history.specs.Objectives.{measures_named}
 

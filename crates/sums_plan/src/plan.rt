@@ -2,8 +2,8 @@
 ghost use Rattle.std.specs.Prelude.{◌≡◌, ◌≤◌, ℕ, List, All, IfOk, OnOk, length};
 ghost use Rattle.std.specs.Int.{◌∣◌};
 ghost use Rattle.std.specs.List.{AllByRecursion, Contains};
-ghost use Rattle.kept_objectives.specs.Objectives.{AreKept, measures_of};
-ghost use Rattle.kept_objectives.specs.Plans.{IsPlan};
+ghost use Rattle.kept_sums.specs.Objectives.{AreKept, measures_of};
+ghost use Rattle.kept_sums.specs.Plans.{IsPlan};
 ghost use Rattle.kept_sums.specs.Sums.{RowFits};
 ghost use Rattle.object_ranges.specs.Measures.{IsMeasure};
 ghost use Rattle.office_derived.specs.Derived.{IsRead, IsSound};
@@ -12,8 +12,7 @@ ghost use Rattle.window_sums.specs.Slices.{width_of};
 ghost use Rattle.sums_plan.specs.Wanted.{HasSums};
 
 use crate::objectives::objectives_of;
-use kept_objectives::{ObjectiveSums, SumsPlan};
-use kept_sums::sums_over;
+use kept_sums::{ObjectiveSums, SumsPlan, sums_over};
 use office_derived::Derived;
 use office_history::Measure;
 use slo_catalog::Catalog;

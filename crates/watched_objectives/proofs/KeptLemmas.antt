@@ -7,9 +7,9 @@ use Rattle.window_sums.specs.Slices.{CountedDays, counts_of}
 use Rattle.office_history.specs.declared.Measure.{Measure}
 use Rattle.office_history.specs.Counts.{Samples, slice_counts}
 use Rattle.kept_sums.specs.Sums.{SumsAreKept}
-use Rattle.kept_objectives.specs.declared.ObjectiveSums.{ObjectiveSums}
-use Rattle.kept_objectives.specs.Objectives.{IsObjective}
-use Rattle.kept_objectives.proofs.ListLemmas.{never_there}
+use Rattle.kept_sums.specs.declared.ObjectiveSums.{ObjectiveSums}
+use Rattle.kept_sums.specs.Objectives.{IsObjective}
+use Rattle.kept_sums.proofs.KeyLemmas.{never_there}
 use Rattle.office_derived.specs.declared.Derived.{Derived}
 use Rattle.office_derived.specs.Derived.{IsSound}
 use Rattle.watched_objectives.specs.Sums.{AreSums}

@@ -21,10 +21,10 @@ use Rattle.office_history.specs.Alerts.{Watch, holds_at, is_watch_active, rule_n
 use Rattle.office_history.specs.Alerts.{watch_with}
 use Rattle.office_history.specs.Counts.{Samples}
 use Rattle.office_history.specs.Objectives.{measure_at}
-use Rattle.kept_objectives.specs.Objectives.{IsObjective}
-use Rattle.kept_objectives.proofs.ListLemmas.{never_there}
-use Rattle.kept_objectives.proofs.Loops.{all_set, keys_set}
-use Rattle.kept_objectives.proofs.ObjectiveLemmas.{objective_at}
+use Rattle.kept_sums.specs.Objectives.{IsObjective}
+use Rattle.kept_sums.proofs.KeyLemmas.{never_there}
+use Rattle.kept_sums.proofs.Loops.{all_set, keys_set}
+use Rattle.kept_sums.proofs.ObjectiveLemmas.{objective_at}
 use Rattle.kept_lines.specs.Right.{IsRight}
 use Rattle.watched_objectives.specs.Sums.{AreSums}
 use Rattle.watched_objectives.specs.Watches.{IsWatched}

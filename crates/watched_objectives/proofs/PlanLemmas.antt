@@ -8,7 +8,7 @@ use Rattle.object_terms.specs.declared.Object.{Object}
 use Rattle.catalog_terms.specs.declared.Binding.{Binding}
 use Rattle.catalog_terms.specs.Bindings.{bindings}
 use Rattle.office_history.specs.Alerts.{Watch, watch_of}
-use Rattle.kept_objectives.proofs.ListLemmas.{all_append, flat_contains}
+use Rattle.kept_sums.proofs.KeyLemmas.{all_append, flat_contains}
 use Rattle.watched_objectives.specs.Watches.{IsWatched}
 use Rattle.watched_objectives.specs.Lines.{AreWatched, watches_of}
 use Rattle.watched_objectives.specs.Plans.{HasLine, one_watch, watches_at, watches_in}

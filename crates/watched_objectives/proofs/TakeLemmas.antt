@@ -8,7 +8,7 @@ use Rattle.object_terms.specs.declared.Object.{Object}
 use Rattle.alert_line.specs.Line.{Line, knowledge}
 use Rattle.office_history.specs.Alerts.{Watch, holds_at}
 use Rattle.office_history.specs.Counts.{Samples}
-use Rattle.kept_objectives.proofs.TakeLemmas.{wanted_each, wanted_left}
+use Rattle.kept_sums.proofs.TakeLemmas.{wanted_each, wanted_left}
 use Rattle.watched_objectives.specs.Watches.{IsWatched}
 use Rattle.watched_objectives.specs.Known.{IsLineOf}
 use Rattle.watched_objectives.specs.Lines.{AreRight, KeepsLines, watches_of}

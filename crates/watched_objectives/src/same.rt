@@ -15,5 +15,5 @@ fn is_same_rule(a: &AlertRule, b: &AlertRule) -> bool
 pub(crate) fn is_same_watch(a: &Watch, b: &Watch) -> bool
     ensures { Decides result (a.now ≡ b.now) }
 {
-    kept_objectives::is_same_measure(a.measure(), b.measure()) && is_same_rule(a.rule(), b.rule())
+    kept_sums::is_same_measure(a.measure(), b.measure()) && is_same_rule(a.rule(), b.rule())
 }

@@ -4,7 +4,7 @@ ghost use Rattle.std.specs.List.{Contains};
 ghost use Rattle.window_sums.specs.Slices.{counts_of};
 ghost use Rattle.office_history.specs.Counts.{slice_counts};
 ghost use Rattle.office_derived.specs.Derived.{IsSound};
-ghost use Rattle.kept_objectives.specs.Objectives.{IsObjective};
+ghost use Rattle.kept_sums.specs.Objectives.{IsObjective};
 ghost use Rattle.watched_objectives.specs.Sums.{AreSums, samples_of};
 
 use kept_sums::laws;

@@ -7,7 +7,7 @@ use Rattle.object_terms.specs.declared.Slo.{Slo}
 use Rattle.sample_book.proofs.TallyLemmas.{all_at}
 use Rattle.office_history.specs.declared.Measure.{Measure}
 use Rattle.office_history.specs.Objectives.{measure_at, measure_of}
-use Rattle.kept_objectives.proofs.ObjectiveLemmas.{objective_at}
+use Rattle.kept_sums.proofs.ObjectiveLemmas.{objective_at}
 use Rattle.catalog_measures.proofs.CatalogLemmas.{measures_there}
 use Rattle.catalog_measures.proofs.measures.measure_at.Goals as goal
 

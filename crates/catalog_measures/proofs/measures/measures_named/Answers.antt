@@ -3,11 +3,10 @@ use Rattle.std.specs.List.{AllByRecursion}
 use Rattle.std.proofs.lemmas.List.Elements.{recursion_from_All}
 use Rattle.object_ranges.specs.Measures.{IsMeasure}
 use Rattle.object_laws.specs.Ranges as ranges
-use Rattle.office_history.specs.Objectives.{measure_of, measures_named, reading_named}
-use Rattle.office_history.specs.Objectives.{slo_named}
+use Rattle.office_history.specs.Objectives.{measure_of, measures_named, reading_named, slo_named}
 use Rattle.object_terms.specs.declared.Slo.{Slo}
-use Rattle.kept_objectives.specs.Objectives.{IsObjective}
-use Rattle.kept_objectives.proofs.ObjectiveLemmas.{all_objectives}
+use Rattle.kept_sums.specs.Objectives.{IsObjective}
+use Rattle.kept_sums.proofs.ObjectiveLemmas.{all_objectives}
 use Rattle.catalog_measures.proofs.CatalogLemmas.{all_made, measures_there}
 use Rattle.catalog_measures.proofs.measures.measures_named.Goals as goal
 

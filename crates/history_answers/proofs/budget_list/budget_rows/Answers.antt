@@ -1,6 +1,6 @@
 use Rattle.std.proofs.Common.{subst, sym}
 use Rattle.std.proofs.lemmas.List.Elements.{All-from_recursion}
-use Rattle.kept_objectives.specs.Objectives.{IsObjective}
+use Rattle.kept_sums.specs.Objectives.{IsObjective}
 use Rattle.history_answers.proofs.budget_list.budget_rows.Goals as goal
 
 pub sum_between-sum-requires-clause-objective : goal.sum_between-sum-requires-clause-objective

@@ -1,6 +1,6 @@
 use Rattle.std.proofs.Common.{◌++◌, ◌∷◌, [], refl, sym, subst, true, List}
 use Rattle.sample_book.specs.declared.Row.{Row}
-use Rattle.kept_objectives.specs.Objectives.{HaveForms}
+use Rattle.kept_sums.specs.Objectives.{HaveForms}
 use Rattle.office_history.specs.History.{arrivals_in}
 use Rattle.office_derived.specs.declared.Work.TheVariants as works
 use Rattle.office_derived.proofs.FormLemmas.{sound_forms}

@@ -4,7 +4,7 @@ use Rattle.std.proofs.lemmas.List.{append-nil}
 use Rattle.sample_book.specs.declared.Row.{Row}
 use Rattle.sample_book.specs.History.{Came, Holds, MayComeAll}
 use Rattle.sample_book.specs.Rows.{current_rows}
-use Rattle.kept_objectives.specs.Objectives.{AreKept, HaveForms}
+use Rattle.kept_sums.specs.Objectives.{AreKept, HaveForms}
 use Rattle.office_history.specs.History.{arrivals_in, with_entry}
 use Rattle.office_derived.specs.declared.Derived.{Derived}
 use Rattle.office_derived.specs.declared.Work.TheVariants as works

@@ -1,7 +1,7 @@
 use Rattle.std.proofs.Common.{◌≡◌, ◌∙◌, All, List, subst, sym}
 use Rattle.std.specs.List.{AllByRecursion, Contains}
 use Rattle.std.proofs.lemmas.List.Elements.{All-contains}
-use Rattle.kept_objectives.specs.Objectives.{IsObjective}
+use Rattle.kept_sums.specs.Objectives.{IsObjective}
 use Rattle.kept_sums.specs.Sums.{RowFits}
 use Rattle.office_history.specs.declared.Measure.{Measure}
 use Rattle.sums_plan.specs.Wanted.{HasSums, objectives_in}

@@ -1,5 +1,5 @@
 use Rattle.std.proofs.Common.{All, take}
-use Rattle.kept_objectives.specs.Objectives.{AreKept}
+use Rattle.kept_sums.specs.Objectives.{AreKept}
 use Rattle.sums_plan.specs.Wanted.{HasSums}
 use Rattle.sums_plan.proofs.plan.sums_made.Given as goal
 

@@ -1,5 +1,5 @@
 use Rattle.std.specs.List.{Contains}
-use Rattle.kept_objectives.proofs.MakeLemmas.{still_there, there_made}
+use Rattle.kept_sums.proofs.MakeLemmas.{still_there, there_made}
 use Rattle.watched_objectives.specs.Lines.{watches_of}
 use Rattle.watched_objectives.specs.declared.kept.WatchLine.{WatchLine}
 use Rattle.watched_objectives.proofs.plan.add_line.Goals as goal

@@ -1,5 +1,5 @@
 use Rattle.std.proofs.Common.{arith}
-use Rattle.kept_objectives.proofs.MakeLemmas.{so_far_all, so_far_next}
+use Rattle.kept_sums.proofs.MakeLemmas.{so_far_all, so_far_next}
 use Rattle.watched_objectives.specs.Plans.{HasLine}
 use Rattle.watched_objectives.proofs.plan.lines_made.Goals as goal
 

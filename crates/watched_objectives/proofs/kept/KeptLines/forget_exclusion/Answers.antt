@@ -1,14 +1,12 @@
-use Rattle.std.proofs.Common.{◌<◌, ℕ, not, ap, subst, sym, ◌∙◌, arith, length, refl}
-use Rattle.std.proofs.Common.{slice_index_or}
+use Rattle.std.proofs.Common.{◌<◌, ℕ, not, ap, subst, sym, ◌∙◌, arith, length, refl, slice_index_or}
 use Rattle.std.proofs.lemmas.List.Elements.{recursion_from_All}
 use Rattle.kept_lines.specs.Right.{IsRight}
 use Rattle.kept_sums.specs.Sums.{SumsAreKept}
 use Rattle.office_history.specs.Counts.{Samples}
 use Rattle.office_history.specs.declared.Measure.{Measure}
-use Rattle.kept_objectives.specs.Objectives.{IsObjective}
-use Rattle.kept_objectives.proofs.Loops.{all_get, all_set, half_end, half_get}
-use Rattle.kept_objectives.proofs.Loops.{half_step, keys_set}
-use Rattle.kept_objectives.proofs.Loops.{written_back}
+use Rattle.kept_sums.specs.Objectives.{IsObjective}
+use Rattle.kept_sums.proofs.Loops.{all_get, all_set, half_end, half_get, half_step, keys_set}
+use Rattle.kept_sums.proofs.Loops.{written_back}
 use Rattle.office_derived.specs.Derived.{IsPlaced, IsRead}
 use Rattle.office_derived.proofs.FormLemmas.{all_fit}
 use Rattle.watched_objectives.specs.Changes.{IsChangedBy, samples_on}

@@ -1,7 +1,7 @@
 use Rattle.std.proofs.Common.{◌≡◌, not}
 use Rattle.std.specs.List.{AllByRecursion}
 use Rattle.kept_lines.specs.Right.{IsRight}
-use Rattle.kept_objectives.proofs.Loops.{HalfDone}
+use Rattle.kept_sums.proofs.Loops.{HalfDone}
 use Rattle.watched_objectives.specs.Changes.{IsChangedBy, samples_on}
 use Rattle.watched_objectives.specs.Lines.{watches_of}
 use Rattle.watched_objectives.specs.Watches.{IsWatched}

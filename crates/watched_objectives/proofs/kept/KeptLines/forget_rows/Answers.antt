@@ -1,9 +1,7 @@
-use Rattle.std.proofs.Common.{◌<◌, ℕ, ap, subst, sym, ◌∙◌, arith, length, refl}
-use Rattle.std.proofs.Common.{slice_index_or}
+use Rattle.std.proofs.Common.{◌<◌, ℕ, ap, subst, sym, ◌∙◌, arith, length, refl, slice_index_or}
 use Rattle.kept_lines.specs.Right.{IsRight}
 use Rattle.office_history.specs.Counts.{Samples}
-use Rattle.kept_objectives.proofs.Loops.{half_end, half_get, half_step}
-use Rattle.kept_objectives.proofs.Loops.{keys_set, written_back}
+use Rattle.kept_sums.proofs.Loops.{half_end, half_get, half_step, keys_set, written_back}
 use Rattle.watched_objectives.specs.Changes.{IsMovedBy, samples_with}
 use Rattle.watched_objectives.specs.Lines.{AreRight, LinesKept, watches_of}
 use Rattle.watched_objectives.specs.Sums.{samples_of}

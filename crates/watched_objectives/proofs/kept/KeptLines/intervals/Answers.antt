@@ -3,7 +3,7 @@ use Rattle.std.proofs.Common.{length, subst, sym}
 use Rattle.slo_limits.specs.declared.TheConstants.{RANGE_MINUTES}
 use Rattle.burn_core.specs.Timeline.{AreSpansOf}
 use Rattle.office_history.specs.declared.Measure.{Measure}
-use Rattle.kept_objectives.specs.Objectives.{IsObjective}
+use Rattle.kept_sums.specs.Objectives.{IsObjective}
 use Rattle.kept_lines.specs.Right.{IsRight}
 use Rattle.watched_objectives.specs.Lines.{LinesKept}
 use Rattle.watched_objectives.specs.Sums.{AreSums, samples_of}

@@ -1,7 +1,7 @@
 use Rattle.std.proofs.Common.{◌≡◌, ◌∙◌, ◌<◌, ap, arith, length, subst, sym}
 use Rattle.kept_lines.specs.Right.{IsRight}
 use Rattle.office_history.specs.declared.Measure.{Measure}
-use Rattle.kept_objectives.specs.Objectives.{IsObjective}
+use Rattle.kept_sums.specs.Objectives.{IsObjective}
 use Rattle.watched_objectives.specs.Lines.{LinesKept}
 use Rattle.watched_objectives.specs.Sums.{AreSums, samples_of}
 use Rattle.watched_objectives.proofs.KnownLemmas.{know_there}

@@ -2,9 +2,8 @@ use Rattle.std.proofs.Common.{rules, ◌≡◌, ◌++◌, List, if◌then◌else
 use Rattle.std.specs.Prelude.{is_ok}
 use Rattle.std.specs.List.{Contains}
 use Rattle.kept_lines.specs.Right.{IsRight}
-use Rattle.kept_objectives.proofs.ListLemmas.{all_append}
-use Rattle.kept_objectives.proofs.TakeLemmas.{one_of_both, retained_each}
-use Rattle.kept_objectives.proofs.TakeLemmas.{retained_there, retained_wanted}
+use Rattle.kept_sums.proofs.KeyLemmas.{all_append}
+use Rattle.kept_sums.proofs.TakeLemmas.{one_of_both, retained_each, retained_there, retained_wanted}
 use Rattle.watched_objectives.specs.Known.{IsLineOf}
 use Rattle.watched_objectives.specs.Lines.{AreRight, LinesKept, watches_of}
 use Rattle.watched_objectives.specs.declared.kept.WatchLine.{WatchLine}

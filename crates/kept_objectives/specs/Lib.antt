@@ -1,2 +1,0 @@
-pub mod Objectives
-pub mod Plans
