@@ -22,22 +22,20 @@ use Rattle.office_history.specs.Notices.{samples_in}
 use Rattle.kept_sums.specs.Replacing.{HasMoved}
 use Rattle.kept_sums.specs.Sums.{row_counts}
 use Rattle.kept_sums.specs.Walks.{IsChanged, made_on}
-use Rattle.kept_lines.specs.Right.{IsRight}
-use Rattle.kept_lines.specs.Touched.{is_near}
+use Rattle.line_forgetting.specs.Right.{IsRight}
+use Rattle.line_forgetting.specs.Touched.{is_near}
 use Rattle.office_derived.specs.declared.Derived.{Derived}
 use Rattle.office_derived.specs.declared.BatchTally.{BatchTally}
 use Rattle.office_derived.specs.declared.Work.{Work}
 use Rattle.office_derived.specs.declared.Work.TheVariants as works
 use Rattle.office_derived.specs.Derived.{IsNext, Reflects, command_of, entry_of}
 use Rattle.sample_changes.proofs.Following.{made_anew}
-use Rattle.watched_objectives.specs.Changes.{AllForget, ForgetsNear, IsChangedBy}
-use Rattle.watched_objectives.specs.Changes.{IsMovedBy}
+use Rattle.watched_objectives.specs.Changes.{AllForget, ForgetsNear, IsChangedBy, IsMovedBy}
 use Rattle.watched_objectives.specs.Known.{IsLineOf}
 use Rattle.watched_objectives.specs.Lines.{AreRight}
 use Rattle.watched_objectives.specs.Sums.{samples_of}
 use Rattle.watched_objectives.specs.declared.WatchLine.{WatchLine}
-use Rattle.watched_objectives.proofs.KnownLemmas.{line_again, of_line}
-use Rattle.watched_objectives.proofs.KnownLemmas.{one_line}
+use Rattle.watched_objectives.proofs.KnownLemmas.{line_again, of_line, one_line}
 use Rattle.office_core.specs.Forgetting.{ForgetsOnlyNear, IsTouched, brought, counted}
 use Rattle.office_core.proofs.LinesLemmas.{same_rows}
 use Rattle.office_core.proofs.TouchedLemmas.{changed_minute}

@@ -13,7 +13,7 @@ use Rattle.office_history.specs.Counts.{Samples, slice_counts}
 use Rattle.office_history.specs.History.{Office}
 use Rattle.office_history.specs.Notices.{samples_in}
 use Rattle.office_history.specs.Objectives.{measure_at}
-use Rattle.kept_lines.specs.Right.{IsRight}
+use Rattle.line_forgetting.specs.Right.{IsRight}
 use Rattle.kept_sums.specs.declared.ObjectiveSums.{ObjectiveSums}
 use Rattle.office_derived.specs.declared.Derived.{Derived}
 use Rattle.office_derived.specs.Derived.{Reflects}

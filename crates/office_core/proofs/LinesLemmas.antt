@@ -23,7 +23,7 @@ use Rattle.office_history.specs.History.{rows_in, rows_of, with_entry}
 use Rattle.office_history.specs.Verdicts.{accepted, lift_verdict_of}
 use Rattle.kept_sums.specs.declared.SumsPlan.{SumsPlan}
 use Rattle.kept_sums.specs.Walks.{made_on}
-use Rattle.kept_lines.proofs.RightLemmas.{right-alike}
+use Rattle.line_forgetting.proofs.RightLemmas.{right-alike}
 use Rattle.office_derived.specs.declared.Derived.{Derived}
 use Rattle.office_derived.specs.declared.BatchTally.{BatchTally}
 use Rattle.office_derived.specs.declared.Work.{Work}

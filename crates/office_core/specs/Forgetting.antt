@@ -11,7 +11,7 @@ use Rattle.office_history.specs.Counts.{counts_at}
 use Rattle.office_history.specs.History.{Office, current_in, rows_of, with_entry}
 use Rattle.office_history.specs.Notices.{samples_in}
 use Rattle.kept_sums.specs.Replacing.{HasMoved}
-use Rattle.kept_lines.specs.Touched.{IsApart}
+use Rattle.line_forgetting.specs.Touched.{IsApart}
 use Rattle.watched_objectives.specs.Known.{IsLineOf}
 use Rattle.watched_objectives.specs.declared.WatchLine.{WatchLine}
 

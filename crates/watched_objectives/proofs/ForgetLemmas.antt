@@ -11,9 +11,9 @@ use Rattle.sample_book.specs.declared.RowVerdict.{RowVerdict}
 use Rattle.window_sums.specs.Slices.{width_of}
 use Rattle.alert_line.specs.Line.{Line}
 use Rattle.object_terms.specs.declared.Object.{Object}
-use Rattle.kept_lines.specs.Right.{IsRight}
-use Rattle.kept_lines.specs.Touched.{Forgets, LAST_MINUTE}
-use Rattle.kept_lines.proofs.RightLemmas.{right-over-batches}
+use Rattle.line_forgetting.specs.Right.{IsRight}
+use Rattle.line_forgetting.specs.Touched.{Forgets, LAST_MINUTE}
+use Rattle.line_forgetting.proofs.RightLemmas.{right-over-batches}
 use Rattle.office_history.specs.declared.Measure.{Measure}
 use Rattle.office_history.specs.Alerts.{Watch}
 use Rattle.office_history.specs.Counts.{Samples}

@@ -25,7 +25,7 @@ use Rattle.kept_sums.specs.Objectives.{IsObjective}
 use Rattle.kept_sums.proofs.KeyLemmas.{never_there}
 use Rattle.kept_sums.proofs.Loops.{all_set, keys_set}
 use Rattle.kept_sums.proofs.ObjectiveLemmas.{objective_at}
-use Rattle.kept_lines.specs.Right.{IsRight}
+use Rattle.line_forgetting.specs.Right.{IsRight}
 use Rattle.watched_objectives.specs.Sums.{AreSums}
 use Rattle.watched_objectives.specs.Watches.{IsWatched}
 use Rattle.watched_objectives.specs.Lines.{AreRight, KeepsLines, watches_of}

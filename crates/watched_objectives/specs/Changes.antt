@@ -10,7 +10,7 @@ use Rattle.office_history.specs.Alerts.{Watch}
 use Rattle.office_history.specs.Counts.{Samples}
 use Rattle.kept_sums.specs.Replacing.{HasMoved}
 use Rattle.kept_sums.specs.Walks.{IsChanged, made_on}
-use Rattle.kept_lines.specs.Touched.{Forgets}
+use Rattle.line_forgetting.specs.Touched.{Forgets}
 use Rattle.watched_objectives.specs.Known.{EachBecomes}
 use Rattle.watched_objectives.specs.declared.kept.WatchLine.{WatchLine}
 

@@ -2,7 +2,7 @@
 use Rattle.std.specs.Prelude.{ℕ, List, map}
 use Rattle.std.specs.List.{AllByRecursion, Contains}
 use Rattle.object_terms.specs.declared.Object.{Object}
-use Rattle.kept_lines.specs.Right.{IsRight}
+use Rattle.line_forgetting.specs.Right.{IsRight}
 use Rattle.office_history.specs.Alerts.{Watch}
 use Rattle.office_history.specs.Counts.{Samples}
 use Rattle.watched_objectives.specs.Sums.{samples_of}

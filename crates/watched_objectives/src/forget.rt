@@ -5,8 +5,8 @@ ghost use Rattle.sample_book.specs.declared.Row.{Row};
 ghost use Rattle.sample_book.specs.Puts.{verdicts as verdicts_def};
 ghost use Rattle.window_sums.specs.Slices.{width_of as width_of_def};
 ghost use Rattle.kept_sums.specs.Sums.{RowFits, SumsAreKept};
-ghost use Rattle.kept_lines.specs.Right.{IsRight};
-ghost use Rattle.kept_lines.specs.Touched.{Forgets, LAST_MINUTE};
+ghost use Rattle.line_forgetting.specs.Right.{IsRight};
+ghost use Rattle.line_forgetting.specs.Touched.{Forgets, LAST_MINUTE};
 ghost use Rattle.office_derived.specs.Derived.{IsPlaced, IsSound};
 ghost use Rattle.watched_objectives.specs.Changes.{AllForget, IsChangedBy, IsMovedBy, samples_on};
 ghost use Rattle.watched_objectives.specs.Changes.{samples_with};
@@ -41,7 +41,7 @@ fn forget_moved(
     let measure = watch.measure();
     let width = width_of(&measure.method);
     book.rows_are_current();
-    kept_lines::forget_rows(line, watch.rule(), measure, width, book, rows, verdicts);
+    line_forgetting::forget_rows(line, watch.rule(), measure, width, book, rows, verdicts);
 }
 
 // A line forgets what is near the slices of the rows that count otherwise with an exclusion than
@@ -66,7 +66,7 @@ fn forget_changed(
 {
     let measure = watch.measure();
     let width = width_of(&measure.method);
-    kept_lines::forget_exclusion(line, watch.rule(), measure, width, book, sums, value);
+    line_forgetting::forget_exclusion(line, watch.rule(), measure, width, book, sums, value);
 }
 
 impl KeptLines {

@@ -10,7 +10,7 @@ ghost use Rattle.alert_line.specs.Line.{Agrees, IsMinute, SameAlert, active_on, 
 ghost use Rattle.alert_line.specs.Line.{knowledge};
 ghost use Rattle.office_history.specs.Alerts.{is_watch_active, state_at};
 ghost use Rattle.office_derived.specs.Derived.{IsSound};
-ghost use Rattle.kept_lines.specs.Right.{IsRight};
+ghost use Rattle.line_forgetting.specs.Right.{IsRight};
 ghost use Rattle.watched_objectives.specs.Known.{AllKnow, IsLineOf, LineKnows};
 ghost use Rattle.watched_objectives.specs.Lines.{HasLines, watches_of};
 ghost use Rattle.watched_objectives.specs.Sums.{AreSums, samples_of};

@@ -2,7 +2,7 @@ use Rattle.std.proofs.Common.{subst, sym}
 use Rattle.std.specs.Int.{◌∣◌}
 use Rattle.window_sums.specs.Slices.{width_of}
 use Rattle.office_history.specs.declared.Measure.{Measure}
-use Rattle.kept_lines.proofs.RightLemmas.{right-over-exclusions}
+use Rattle.line_forgetting.proofs.RightLemmas.{right-over-exclusions}
 use Rattle.kept_sums.specs.Sums.{SumsAreKept}
 use Rattle.kept_sums.specs.Walks.{IsChanged}
 use Rattle.watched_objectives.proofs.ForgetLemmas.{forgets_same}

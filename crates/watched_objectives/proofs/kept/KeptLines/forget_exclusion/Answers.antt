@@ -1,6 +1,6 @@
 use Rattle.std.proofs.Common.{◌<◌, ℕ, not, ap, subst, sym, ◌∙◌, arith, length, refl, slice_index_or}
 use Rattle.std.proofs.lemmas.List.Elements.{recursion_from_All}
-use Rattle.kept_lines.specs.Right.{IsRight}
+use Rattle.line_forgetting.specs.Right.{IsRight}
 use Rattle.kept_sums.specs.Sums.{SumsAreKept}
 use Rattle.office_history.specs.Counts.{Samples}
 use Rattle.office_history.specs.declared.Measure.{Measure}

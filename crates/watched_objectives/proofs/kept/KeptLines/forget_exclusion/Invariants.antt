@@ -1,6 +1,6 @@
 use Rattle.std.proofs.Common.{◌≡◌, not}
 use Rattle.std.specs.List.{AllByRecursion}
-use Rattle.kept_lines.specs.Right.{IsRight}
+use Rattle.line_forgetting.specs.Right.{IsRight}
 use Rattle.kept_sums.proofs.Loops.{HalfDone}
 use Rattle.watched_objectives.specs.Changes.{IsChangedBy, samples_on}
 use Rattle.watched_objectives.specs.Lines.{watches_of}

@@ -1,5 +1,5 @@
 use Rattle.std.proofs.Common.{◌<◌, ℕ, ap, subst, sym, ◌∙◌, arith, length, refl, slice_index_or}
-use Rattle.kept_lines.specs.Right.{IsRight}
+use Rattle.line_forgetting.specs.Right.{IsRight}
 use Rattle.office_history.specs.Counts.{Samples}
 use Rattle.kept_sums.proofs.Loops.{half_end, half_get, half_step, keys_set, written_back}
 use Rattle.watched_objectives.specs.Changes.{IsMovedBy, samples_with}

@@ -1,5 +1,5 @@
 use Rattle.std.proofs.Common.{◌≡◌}
-use Rattle.kept_lines.specs.Right.{IsRight}
+use Rattle.line_forgetting.specs.Right.{IsRight}
 use Rattle.kept_sums.proofs.Loops.{HalfDone}
 use Rattle.watched_objectives.specs.Changes.{IsMovedBy, samples_with}
 use Rattle.watched_objectives.specs.Lines.{watches_of}

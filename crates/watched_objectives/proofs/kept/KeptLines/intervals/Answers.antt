@@ -4,7 +4,7 @@ use Rattle.slo_limits.specs.declared.TheConstants.{RANGE_MINUTES}
 use Rattle.burn_core.specs.Timeline.{AreSpansOf}
 use Rattle.office_history.specs.declared.Measure.{Measure}
 use Rattle.kept_sums.specs.Objectives.{IsObjective}
-use Rattle.kept_lines.specs.Right.{IsRight}
+use Rattle.line_forgetting.specs.Right.{IsRight}
 use Rattle.watched_objectives.specs.Lines.{LinesKept}
 use Rattle.watched_objectives.specs.Sums.{AreSums, samples_of}
 use Rattle.watched_objectives.proofs.KnownLemmas.{if_ok, know_there, knows_put, learnt_each}

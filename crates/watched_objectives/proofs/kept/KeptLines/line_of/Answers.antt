@@ -1,5 +1,5 @@
 use Rattle.std.proofs.Common.{◌≡◌, ◌∙◌, ap, slice_index_or, subst, sym}
-use Rattle.kept_lines.specs.Right.{IsRight}
+use Rattle.line_forgetting.specs.Right.{IsRight}
 use Rattle.watched_objectives.specs.Known.{IsLineOf}
 use Rattle.watched_objectives.specs.Lines.{LinesKept}
 use Rattle.watched_objectives.specs.Sums.{samples_of}

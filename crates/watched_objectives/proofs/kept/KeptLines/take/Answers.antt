@@ -1,7 +1,7 @@
 use Rattle.std.proofs.Common.{rules, ◌≡◌, ◌++◌, List, if◌then◌else◌, ap, subst, sym, ◌∙◌}
 use Rattle.std.specs.Prelude.{is_ok}
 use Rattle.std.specs.List.{Contains}
-use Rattle.kept_lines.specs.Right.{IsRight}
+use Rattle.line_forgetting.specs.Right.{IsRight}
 use Rattle.kept_sums.proofs.KeyLemmas.{all_append}
 use Rattle.kept_sums.proofs.TakeLemmas.{one_of_both, retained_each, retained_there, retained_wanted}
 use Rattle.watched_objectives.specs.Known.{IsLineOf}

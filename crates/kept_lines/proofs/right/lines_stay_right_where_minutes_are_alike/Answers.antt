@@ -1,5 +1,0 @@
-use Rattle.kept_lines.proofs.RightLemmas.{right-alike}
-use Rattle.kept_lines.proofs.right.lines_stay_right_where_minutes_are_alike.Goals as goal
-
-pub returns : goal.returns
-returns c = right-alike

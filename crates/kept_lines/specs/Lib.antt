@@ -1,3 +1,0 @@
-pub mod Touched
-pub mod Following
-pub mod Right

@@ -1,0 +1,10 @@
+pub mod ChangedLemmas
+pub mod CountedLemmas
+pub mod EachLemmas
+pub mod FollowingLemmas
+pub mod ForgetLemmas
+pub mod MovedLemmas
+pub mod NearLemmas
+pub mod RightLemmas
+pub mod RunLemmas
+pub mod SliceLemmas

@@ -1,0 +1,3 @@
+pub mod Following
+pub mod Right
+pub mod Touched
