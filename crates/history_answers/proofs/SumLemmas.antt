@@ -4,7 +4,7 @@ use Rattle.slo_terms.specs.Sums.{sum_of_slices}
 use Rattle.window_sums.specs.Slices.{CountedDays, leaf_at, width_of}
 use Rattle.office_history.specs.declared.Measure.{Measure}
 use Rattle.office_history.specs.Counts.{Samples, sum_between}
-use Rattle.watched_objectives.specs.Sums.{AreSums}
+use Rattle.kept_lines.specs.Sums.{AreSums}
 
 pub seen_sum : (s : Samples) (m : Measure) (sums : CountedDays) (from to : ℕ) → AreSums s m sums →
     sum_of_slices (width_of sums.method) (leaf_at sums) from to ≡ sum_between s m from to

@@ -16,7 +16,7 @@ use Rattle.office_history.specs.Notices.{samples_in}
 use Rattle.office_history.specs.Answers.{AnswersTimeline, is_timeline}
 use Rattle.office_derived.specs.declared.Derived.{Derived}
 use Rattle.office_derived.specs.Derived.{Reflects}
-use Rattle.watched_objectives.specs.Sums.{samples_of}
+use Rattle.kept_lines.specs.Sums.{samples_of}
 use Rattle.history_answers.specs.States.{binding_state}
 
 -- the samples of the book are the history's

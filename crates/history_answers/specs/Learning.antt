@@ -6,8 +6,8 @@ use Rattle.record_form.specs.declared.Outcome.TheVariants as outcomes
 use Rattle.record_form.specs.declared.Query.{Query}
 use Rattle.record_form.specs.declared.Query.TheVariants as queries
 use Rattle.office_history.specs.Alerts.{Watch, watched}
-use Rattle.watched_objectives.specs.Known.{LineKnows}
-use Rattle.watched_objectives.specs.declared.WatchLine.{WatchLine}
+use Rattle.kept_lines.specs.Known.{LineKnows}
+use Rattle.kept_lines.specs.declared.WatchLine.{WatchLine}
 
 -- where a timeline of [from, to) was given, the line of what is watched knows each of its minutes
 abbrev pub KnowsGiven : List WatchLine → ℕ → ℕ → Outcome → Option Watch → Type 0

@@ -3,8 +3,8 @@ ghost use Rattle.std.specs.Prelude.{◌≡◌, ◌≤◌, ◌<◌, ◌⊎◌, If
 ghost use Rattle.office_history.specs.History.{Office, end_of};
 ghost use Rattle.office_history.specs.Answers.{Answers};
 ghost use Rattle.office_derived.specs.Derived.{IsSound, Reflects};
-ghost use Rattle.watched_objectives.specs.Known.{AllKnow};
-ghost use Rattle.watched_objectives.specs.Lines.{HasLines};
+ghost use Rattle.kept_lines.specs.Known.{AllKnow};
+ghost use Rattle.kept_lines.specs.Lines.{HasLines};
 ghost use Rattle.history_answers.specs.Learning.{KnowsAnswered};
 
 use crate::budget_list::budget_list;
@@ -13,10 +13,10 @@ use crate::notice_list::notice_list;
 use crate::object_list::{object_list, object_text};
 use crate::timeline::timeline;
 use catalog_terms::Binding;
+use kept_lines::KeptLines;
 use office_derived::Derived;
 use record_form::{Outcome, Query};
 use std::alloc::{AllocError, Global};
-use watched_objectives::KeptLines;
 
 fn answered(
     alloc: Global,

@@ -13,7 +13,7 @@ ghost use Rattle.office_history.specs.Answers.{Answers, AnswersBudgets};
 ghost use Rattle.office_history.specs.Answers.{budgets_from as budgets_from_def};
 ghost use Rattle.office_history.specs.Answers.{budget_rows as budget_rows_def};
 ghost use Rattle.office_derived.specs.Derived.{IsSound, Reflects};
-ghost use Rattle.watched_objectives.specs.Sums.{samples_of};
+ghost use Rattle.kept_lines.specs.Sums.{samples_of};
 
 use crate::asked::{asked_at, is_outside};
 use crate::sums::sum_between;

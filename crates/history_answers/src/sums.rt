@@ -5,15 +5,15 @@ ghost use Rattle.window_sums.specs.Slices.{leaf_at, width_of};
 ghost use Rattle.office_history.specs.Counts.{sum_between as sum_between_def};
 ghost use Rattle.kept_sums.specs.Objectives.{IsObjective};
 ghost use Rattle.office_derived.specs.Derived.{IsSound};
-ghost use Rattle.watched_objectives.specs.Sums.{samples_of};
+ghost use Rattle.kept_lines.specs.Sums.{samples_of};
 
 use exact_fraction::Leaf;
+use kept_lines::objective_sums;
 use office_derived::Derived;
 use office_history::Measure;
 use std::marker::Brand;
 use std::sync::ledger::{Blank, Ledger};
 use sum_pages::Steps;
-use watched_objectives::objective_sums;
 use window_sums::WindowSums;
 
 // The sum over [from, to). No one counts the steps.

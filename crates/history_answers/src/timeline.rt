@@ -6,20 +6,20 @@ ghost use Rattle.office_history.specs.History.{Office, end_of};
 ghost use Rattle.office_history.specs.Answers.{Answers, AnswersTimeline};
 ghost use Rattle.office_derived.specs.Derived.{IsSound, Reflects};
 ghost use Rattle.office_history.specs.Alerts.{watched as watched_def};
-ghost use Rattle.watched_objectives.specs.Known.{AllKnow};
-ghost use Rattle.watched_objectives.specs.Lines.{HasLines};
-ghost use Rattle.watched_objectives.specs.Watches.{IsWatched};
+ghost use Rattle.kept_lines.specs.Known.{AllKnow};
+ghost use Rattle.kept_lines.specs.Lines.{HasLines};
+ghost use Rattle.kept_lines.specs.Watches.{IsWatched};
 ghost use Rattle.history_answers.specs.Learning.{KnowsGiven};
 ghost use Rattle.history_answers.specs.States.{binding_state};
 
 use burn_core::State;
 use catalog_terms::Binding;
 use exact_fraction::Label;
+use kept_lines::{KeptLines, Watch, watched};
 use office_derived::Derived;
 use record_form::{Listed, Outcome, Refusal};
 use slo_limits::MAX_TIMELINE;
 use std::alloc::AllocError;
-use watched_objectives::{KeptLines, Watch, watched};
 
 // Whether [from, to) lies between the origin and the moment, and is short enough.
 fn is_timeline(derived: &Derived, moment: u32, from: u32, to: u32) -> bool

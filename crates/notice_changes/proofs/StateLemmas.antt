@@ -10,7 +10,7 @@ use Rattle.burn_core.specs.declared.State.TheVariants.{Quiet}
 use Rattle.catalog_terms.specs.declared.Binding.{Binding}
 use Rattle.office_history.specs.Alerts.{same_binding}
 use Rattle.office_history.specs.Notices.{state_among}
-use Rattle.watched_objectives.proofs.WatchLemmas.{one_binding}
+use Rattle.kept_lines.proofs.WatchLemmas.{one_binding}
 use Rattle.notice_changes.specs.States.{AreByBinding}
 
 -- the first of them, where the test of it gives this

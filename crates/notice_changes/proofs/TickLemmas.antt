@@ -41,7 +41,7 @@ use Rattle.office_derived.proofs.More.{rows_more, changes_more, events_more, zon
 use Rattle.office_derived.proofs.More.{catalog_more, present_more, told_more, ticks_more}
 use Rattle.office_derived.proofs.Sound.{sound_still}
 use Rattle.office_derived.proofs.Still.{taken_still}
-use Rattle.watched_objectives.specs.Sums.{samples_of}
+use Rattle.kept_lines.specs.Sums.{samples_of}
 use Rattle.notice_changes.specs.States.{AreByBinding}
 use Rattle.notice_changes.specs.Works.{TellsFew, new_notices}
 use Rattle.notice_changes.proofs.BoxLemmas.{length_new, length_numbered, numbered_more}

@@ -1,6 +1,5 @@
 //! Which changes of states a tick tells.
-ghost use Rattle.std.specs.Prelude.{◌≡◌, ◌++◌, ◌∷◌, [], IfOk, IfSome, OnOk};
-ghost use Rattle.std.specs.Prelude.{cond, slice_get};
+ghost use Rattle.std.specs.Prelude.{◌≡◌, ◌++◌, ◌∷◌, [], IfOk, IfSome, OnOk, cond, slice_get};
 ghost use Rattle.std.specs.Option.{option_copied};
 ghost use Rattle.office_history.specs.Notices.{changes as changes_def, is_told as is_told_def};
 ghost use Rattle.office_history.specs.Notices.{state_among as state_among_def};
@@ -10,9 +9,9 @@ ghost use Rattle.notice_changes.specs.States.{AreByBinding};
 use burn_core::State;
 use catalog_measures::flags_named;
 use catalog_terms::Binding;
+use kept_lines::same_binding;
 use slo_catalog::Catalog;
 use std::alloc::{AllocError, Global};
-use watched_objectives::same_binding;
 
 // The state before of a binding that wasn't there.
 const UNSEEN: State = State::Quiet;

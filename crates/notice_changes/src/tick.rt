@@ -10,22 +10,22 @@ ghost use Rattle.office_history.specs.Verdicts.{tick_verdict};
 ghost use Rattle.office_derived.specs.declared.Work.TheVariants as works;
 ghost use Rattle.office_derived.specs.Derived.{HasRoom, IsJudged, IsNext, IsSound, Reflects, Stays};
 ghost use Rattle.office_derived.specs.Derived.{entry_of};
-ghost use Rattle.watched_objectives.specs.Known.{AllKnow};
-ghost use Rattle.watched_objectives.specs.Lines.{HasLines};
-ghost use Rattle.watched_objectives.specs.Sums.{samples_of};
+ghost use Rattle.kept_lines.specs.Known.{AllKnow};
+ghost use Rattle.kept_lines.specs.Lines.{HasLines};
+ghost use Rattle.kept_lines.specs.Sums.{samples_of};
 ghost use Rattle.notice_changes.specs.States.{AreByBinding};
 
 use crate::changes::changes;
 use crate::telling::tell;
 use burn_core::State;
 use catalog_terms::Binding;
+use kept_lines::{KeptLines, states_over};
 use notice_box::NoticeBox;
 use office_derived::{Derived, Judged, Work, accepted};
 use office_history::Judgement;
 use record_form::{LimitName, Outcome, Refusal};
 use slo_limits::MAX_NOTICES;
 use std::alloc::{AllocError, Global};
-use watched_objectives::{KeptLines, states_over};
 
 // Bindings with their states.
 type States = Vec<(Binding, State)>;

@@ -30,12 +30,12 @@ use Rattle.office_derived.specs.declared.Work.{Work}
 use Rattle.office_derived.specs.declared.Work.TheVariants as works
 use Rattle.office_derived.specs.Derived.{IsNext, Reflects, command_of, entry_of}
 use Rattle.sample_changes.proofs.Following.{made_anew}
-use Rattle.watched_objectives.specs.Changes.{AllForget, ForgetsNear, IsChangedBy, IsMovedBy}
-use Rattle.watched_objectives.specs.Known.{IsLineOf}
-use Rattle.watched_objectives.specs.Lines.{AreRight}
-use Rattle.watched_objectives.specs.Sums.{samples_of}
-use Rattle.watched_objectives.specs.declared.WatchLine.{WatchLine}
-use Rattle.watched_objectives.proofs.KnownLemmas.{line_again, of_line, one_line}
+use Rattle.kept_lines.specs.Changes.{AllForget, ForgetsNear, IsChangedBy, IsMovedBy}
+use Rattle.kept_lines.specs.Known.{IsLineOf}
+use Rattle.kept_lines.specs.Lines.{AreRight}
+use Rattle.kept_lines.specs.Sums.{samples_of}
+use Rattle.kept_lines.specs.declared.WatchLine.{WatchLine}
+use Rattle.kept_lines.proofs.KnownLemmas.{line_again, of_line, one_line}
 use Rattle.office_core.specs.Forgetting.{ForgetsOnlyNear, IsTouched, brought, counted}
 use Rattle.office_core.proofs.LinesLemmas.{same_rows}
 use Rattle.office_core.proofs.TouchedLemmas.{changed_minute}

@@ -17,9 +17,9 @@ use Rattle.line_forgetting.specs.Right.{IsRight}
 use Rattle.kept_sums.specs.declared.ObjectiveSums.{ObjectiveSums}
 use Rattle.office_derived.specs.declared.Derived.{Derived}
 use Rattle.office_derived.specs.Derived.{Reflects}
-use Rattle.watched_objectives.specs.Known.{IsLineOf}
-use Rattle.watched_objectives.specs.Sums.{AreSums, samples_of}
-use Rattle.watched_objectives.specs.declared.WatchLine.{WatchLine}
+use Rattle.kept_lines.specs.Known.{IsLineOf}
+use Rattle.kept_lines.specs.Sums.{AreSums, samples_of}
+use Rattle.kept_lines.specs.declared.WatchLine.{WatchLine}
 use Rattle.office_core.specs.Lent.{LendsLine, LendsSums}
 use Rattle.office_core.specs.Seen.{Machine}
 

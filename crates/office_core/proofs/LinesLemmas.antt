@@ -33,9 +33,9 @@ use Rattle.office_derived.proofs.More.{catalog_more, changes_more, rows_more}
 use Rattle.sample_changes.proofs.Following.{made_anew}
 use Rattle.sample_changes.proofs.GoodRows.{IsGood}
 use Rattle.sample_changes.proofs.Kept.{each, rows_good}
-use Rattle.watched_objectives.specs.declared.WatchLine.{WatchLine}
-use Rattle.watched_objectives.specs.Lines.{AreRight, HasLines, KeepsLines}
-use Rattle.watched_objectives.specs.Sums.{samples_of}
+use Rattle.kept_lines.specs.declared.WatchLine.{WatchLine}
+use Rattle.kept_lines.specs.Lines.{AreRight, HasLines, KeepsLines}
+use Rattle.kept_lines.specs.Sums.{samples_of}
 
 module _ (d d' : Derived) (o : Office) (e : Entry) (r : Reflects d o)
     (r' : Reflects d' (with_entry o e)) where

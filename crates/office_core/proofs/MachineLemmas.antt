@@ -30,11 +30,11 @@ use Rattle.office_core.specs.declared.machine.Pending.{Pending}
 use Rattle.office_history.specs.Counts.{Samples}
 use Rattle.office_derived.specs.declared.Work.{Work}
 use Rattle.office_derived.specs.declared.Work.TheVariants as works
-use Rattle.watched_objectives.specs.Sums.{samples_of}
-use Rattle.watched_objectives.specs.Lines.{HasLines, KeepsLines, LinesKept}
-use Rattle.watched_objectives.specs.Plans.{IsLinesPlan}
-use Rattle.watched_objectives.specs.declared.LinesPlan.{LinesPlan}
-use Rattle.watched_objectives.specs.declared.WatchLine.{WatchLine}
+use Rattle.kept_lines.specs.Sums.{samples_of}
+use Rattle.kept_lines.specs.Lines.{HasLines, KeepsLines, LinesKept}
+use Rattle.kept_lines.specs.Plans.{IsLinesPlan}
+use Rattle.kept_lines.specs.declared.LinesPlan.{LinesPlan}
+use Rattle.kept_lines.specs.declared.WatchLine.{WatchLine}
 use Rattle.office_core.specs.Forgetting.{ForgetsOnlyNear}
 use Rattle.office_core.specs.Machine.{HasLinesPlan, IsKept, IsReady, IsReadyIf, office_of}
 use Rattle.office_core.specs.Machine.{pending_of}

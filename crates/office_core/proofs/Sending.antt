@@ -32,10 +32,10 @@ use Rattle.kept_sums.specs.contracts.plan.SumsPlan as plan
 use Rattle.kept_sums.proofs.kept.KeptSums.TheSendSync as sums
 use Rattle.window_sums.proofs.window_sums.WindowSums.TheSendSync as window
 use Rattle.alert_line.proofs.line.AlertLine.TheSendSync as line
-use Rattle.watched_objectives.specs.contracts.kept.WatchLine as watch_line
-use Rattle.watched_objectives.specs.contracts.plan.LinesPlan as lines_plan
-use Rattle.watched_objectives.proofs.kept.KeptLines.TheSendSync as lines
-use Rattle.watched_objectives.proofs.watch.Watch.TheSendSync as watch
+use Rattle.kept_lines.specs.contracts.kept.WatchLine as watch_line
+use Rattle.kept_lines.specs.contracts.plan.LinesPlan as lines_plan
+use Rattle.kept_lines.proofs.kept.KeptLines.TheSendSync as lines
+use Rattle.kept_lines.proofs.watch.Watch.TheSendSync as watch
 
 pub text_send : IsSend text.the_row
 text_send = search (sendable, crosses, maps.crosses) depth 40

@@ -12,8 +12,8 @@ use Rattle.office_history.specs.History.{Office, current_in, rows_of, with_entry
 use Rattle.office_history.specs.Notices.{samples_in}
 use Rattle.kept_sums.specs.Replacing.{HasMoved}
 use Rattle.line_forgetting.specs.Touched.{IsApart}
-use Rattle.watched_objectives.specs.Known.{IsLineOf}
-use Rattle.watched_objectives.specs.declared.WatchLine.{WatchLine}
+use Rattle.kept_lines.specs.Known.{IsLineOf}
+use Rattle.kept_lines.specs.declared.WatchLine.{WatchLine}
 
 -- An entry touches a slice of an objective: the slice has a minute whose counts the entry changes,
 -- or the minute of a new or a newer row of the objective's indicator that the entry brings.

@@ -10,7 +10,7 @@ use Rattle.office_history.specs.History.{Office}
 use Rattle.office_history.specs.Notices.{samples_in}
 use Rattle.kept_sums.specs.Objectives.{measures_of}
 use Rattle.kept_sums.specs.declared.ObjectiveSums.{ObjectiveSums}
-use Rattle.watched_objectives.specs.Known.{IsLineOf}
+use Rattle.kept_lines.specs.Known.{IsLineOf}
 use Rattle.office_core.specs.Seen.{Machine}
 
 -- sums of an objective over a whole history: of its method, and each slice has the counts of its

@@ -17,9 +17,9 @@ use Rattle.office_derived.specs.declared.Derived.{Derived}
 use Rattle.office_derived.specs.Derived.{HasRoom, IsNext, IsSound, Reflects, entry_of}
 use Rattle.office_derived.specs.declared.Work.{Work}
 use Rattle.office_derived.specs.declared.Work.TheVariants as works
-use Rattle.watched_objectives.specs.Lines.{HasLines, LinesKept}
-use Rattle.watched_objectives.specs.Plans.{IsLinesPlan}
-use Rattle.watched_objectives.specs.declared.LinesPlan.{LinesPlan}
+use Rattle.kept_lines.specs.Lines.{HasLines, LinesKept}
+use Rattle.kept_lines.specs.Plans.{IsLinesPlan}
+use Rattle.kept_lines.specs.declared.LinesPlan.{LinesPlan}
 use Rattle.object_terms.specs.declared.Object.{Object}
 use Rattle.office_core.specs.declared.machine.Pending.{Pending}
 use Rattle.office_core.specs.declared.machine.Verdict.{Verdict}

@@ -4,8 +4,8 @@ ghost use Rattle.office_history.specs.History.{Office, with_entry, end_of};
 ghost use Rattle.office_history.specs.Outcomes.{outcome_of};
 ghost use Rattle.office_derived.specs.Derived.{HasRoom, IsJudged, IsNext, IsSound, Reflects, Stays};
 ghost use Rattle.office_derived.specs.Derived.{command_of, entry_of};
-ghost use Rattle.watched_objectives.specs.Known.{AllKnow};
-ghost use Rattle.watched_objectives.specs.Lines.{HasLines};
+ghost use Rattle.kept_lines.specs.Known.{AllKnow};
+ghost use Rattle.kept_lines.specs.Lines.{HasLines};
 ghost use Rattle.notice_changes.specs.Works.{TellsFew};
 ghost use Rattle.office_core.specs.Forgetting.{ForgetsOnlyNear};
 ghost use Rattle.office_core.specs.Machine.{HasLinesPlan};
@@ -15,6 +15,7 @@ use catalog_changes::{
     apply_define, apply_put_zone, apply_remove, judge_define, judge_put_zone, judge_remove,
     room_for_plan, room_for_put_zone,
 };
+use kept_lines::{KeptLines, LinesPlan};
 use notice_changes::{apply_take, apply_tick, judge_take, judge_tick, room_for_tick};
 use office_derived::{Derived, Judged, Work};
 use record_form::{Command, Outcome};
@@ -23,7 +24,6 @@ use sample_changes::{
     room_for_samples,
 };
 use std::alloc::{AllocError, Global};
-use watched_objectives::{KeptLines, LinesPlan};
 
 /// What becomes of a command at a moment. The lines may learn.
 pub(crate) fn judge(

@@ -5,18 +5,18 @@ ghost use Rattle.office_history.specs.Outcomes.{outcome_of};
 ghost use Rattle.record_form.specs.declared.Command.TheVariants.{Lift};
 ghost use Rattle.office_derived.specs.declared.Work.TheVariants as works;
 ghost use Rattle.office_derived.specs.Derived.{IsNext, IsSound, Reflects, entry_of};
-ghost use Rattle.watched_objectives.specs.Lines.{HasLines};
-ghost use Rattle.watched_objectives.specs.Plans.{IsLinesPlan};
+ghost use Rattle.kept_lines.specs.Lines.{HasLines};
+ghost use Rattle.kept_lines.specs.Plans.{IsLinesPlan};
 ghost use Rattle.office_core.specs.Forgetting.{ForgetsOnlyNear};
 ghost use Rattle.office_core.specs.Machine.{HasLinesPlan};
 
 use exact_fraction::Label;
+use kept_lines::{KeptLines, LinesPlan, plan_lines};
 use office_derived::{Derived, Work};
 use record_form::Outcome;
 use sample_changes::apply_lift;
 use slo_catalog::Catalog;
 use std::alloc::{AllocError, Global};
-use watched_objectives::{KeptLines, LinesPlan, plan_lines};
 
 // The lines of a catalog that comes, and room for those that are new.
 fn lines_for(

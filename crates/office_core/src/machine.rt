@@ -20,8 +20,8 @@ ghost use Rattle.office_history.specs.Outcomes.{outcome_of};
 ghost use Rattle.office_derived.specs.Derived.{HasRoom, Stays, command_of, entry_of};
 ghost use Rattle.history_answers.specs.Learning.{KnowsAnswered};
 ghost use Rattle.history_answers.specs.States.{binding_state};
-ghost use Rattle.watched_objectives.specs.Known.{AllKnow};
-ghost use Rattle.watched_objectives.specs.Lines.{HasLines};
+ghost use Rattle.kept_lines.specs.Known.{AllKnow};
+ghost use Rattle.kept_lines.specs.Lines.{HasLines};
 ghost use Rattle.notice_changes.specs.Works.{TellsFew};
 ghost use Rattle.office_core.specs.Forgetting.{ForgetsOnlyNear};
 ghost use Rattle.office_core.specs.Lent.{CountTheSame, LendsLine, LendsSums};
@@ -37,6 +37,7 @@ use catalog_measures::measure_at;
 use catalog_terms::Binding;
 use exact_fraction::Label;
 use history_answers::{answer, state_of};
+use kept_lines::{KeptLines, LinesPlan, objective_sums, watched};
 use kept_sums::KeptSums;
 use notice_box::NoticeBox;
 use office_derived::{Derived, Judged, Work, Zones};
@@ -46,7 +47,6 @@ use slo_catalog::Catalog;
 use slo_limits::RANGE_MINUTES;
 use std::alloc::{AllocError, Global};
 use std::marker::Model;
-use watched_objectives::{KeptLines, LinesPlan, objective_sums, watched};
 use window_sums::WindowSums;
 
 /// An entry for which room was made.

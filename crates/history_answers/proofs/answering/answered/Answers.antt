@@ -1,4 +1,4 @@
-use Rattle.watched_objectives.proofs.KnownLemmas.{all_know}
+use Rattle.kept_lines.proofs.KnownLemmas.{all_know}
 use Rattle.history_answers.proofs.answering.answered.Goals as goal
 
 pub returns-in-Objects-clause-know : goal.returns-in-Objects-clause-know

@@ -1,6 +1,6 @@
 use Rattle.std.proofs.Common.{◌≡◌, ◌++◌, drop}
 use Rattle.office_history.specs.Answers.{budget_rows}
-use Rattle.watched_objectives.specs.Sums.{samples_of}
+use Rattle.kept_lines.specs.Sums.{samples_of}
 use Rattle.history_answers.proofs.budget_list.budget_rows.Given as goal
 
 pub record SoFar (P Q : Type 0) : Type 0 where

@@ -1,5 +1,5 @@
 use Rattle.std.proofs.Common.{◌∙◌}
-use Rattle.watched_objectives.specs.Sums.{samples_of}
+use Rattle.kept_lines.specs.Sums.{samples_of}
 use Rattle.history_answers.proofs.SumLemmas.{seen_sum}
 use Rattle.history_answers.proofs.sums.sum_between.Goals as goal
 

@@ -1,5 +1,5 @@
 use Rattle.history_answers.proofs.TimelineLemmas.{one_state}
-use Rattle.watched_objectives.proofs.KnownLemmas.{all_know}
+use Rattle.kept_lines.proofs.KnownLemmas.{all_know}
 use Rattle.history_answers.proofs.timeline.state_of.Goals as goal
 
 pub returns-in-Some-clause-state : goal.returns-in-Some-clause-state

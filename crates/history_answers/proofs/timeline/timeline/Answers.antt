@@ -3,7 +3,7 @@ use Rattle.office_history.specs.Alerts.{Watch}
 use Rattle.office_history.specs.Answers.{AnswersTimeline}
 use Rattle.history_answers.specs.Learning.{KnowsGiven}
 use Rattle.history_answers.proofs.TimelineLemmas.{answers_binding}
-use Rattle.watched_objectives.proofs.KnownLemmas.{all_know}
+use Rattle.kept_lines.proofs.KnownLemmas.{all_know}
 use Rattle.history_answers.proofs.timeline.timeline.Goals as goal
 
 pub returns-in-Some-clause-answer : goal.returns-in-Some-clause-answer

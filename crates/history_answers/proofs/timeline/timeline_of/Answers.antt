@@ -1,8 +1,8 @@
 use Rattle.std.proofs.Common.{◌≡◌, ◌∙◌, ℕ, true, List, subst, sym}
 use Rattle.burn_core.specs.Timeline.{AreSpansOf}
 use Rattle.office_history.specs.Alerts.{is_watch_active}
-use Rattle.watched_objectives.specs.Sums.{samples_of}
-use Rattle.watched_objectives.proofs.KnownLemmas.{all_know, know_on, knows_still}
+use Rattle.kept_lines.specs.Sums.{samples_of}
+use Rattle.kept_lines.proofs.KnownLemmas.{all_know, know_on, knows_still}
 use Rattle.history_answers.proofs.TimelineLemmas.{answers}
 use Rattle.history_answers.proofs.timeline.timeline_of.Goals as goal
 

@@ -5,10 +5,10 @@ use Rattle.sample_book.specs.Rows.{current_rows}
 use Rattle.office_derived.specs.declared.Work.{Work}
 use Rattle.office_derived.specs.declared.Work.TheVariants as works
 use Rattle.office_derived.specs.Derived.{IsNext, IsPlaced, entry_of}
-use Rattle.watched_objectives.specs.declared.LinesPlan.{LinesPlan}
-use Rattle.watched_objectives.specs.Changes.{AllForget, IsMovedBy}
-use Rattle.watched_objectives.specs.Lines.{KeepsLines}
-use Rattle.watched_objectives.specs.Sums.{samples_of}
+use Rattle.kept_lines.specs.declared.LinesPlan.{LinesPlan}
+use Rattle.kept_lines.specs.Changes.{AllForget, IsMovedBy}
+use Rattle.kept_lines.specs.Lines.{KeepsLines}
+use Rattle.kept_lines.specs.Sums.{samples_of}
 use Rattle.office_core.specs.Forgetting.{ForgetsOnlyNear}
 use Rattle.office_core.specs.Machine.{HasLinesFor, HasLinesPlan}
 use Rattle.office_core.proofs.ForgettingLemmas.{batch_forgets, exclusion_forgets, forgets_none}

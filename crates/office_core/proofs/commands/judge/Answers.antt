@@ -1,7 +1,7 @@
 use Rattle.std.proofs.Common.{sym, subst}
 use Rattle.record_form.specs.declared.Command.{Command}
 use Rattle.office_derived.specs.Derived.{IsJudged}
-use Rattle.watched_objectives.proofs.KnownLemmas.{all_know}
+use Rattle.kept_lines.proofs.KnownLemmas.{all_know}
 use Rattle.office_core.proofs.commands.judge.Goals as goal
 
 pub returns-in-Exclude-clause-judged : goal.returns-in-Exclude-clause-judged

@@ -6,9 +6,9 @@ use Rattle.record_form.specs.Records.{record_of}
 use Rattle.office_history.specs.declared.Judgement.TheVariants.{Accepted}
 use Rattle.office_history.specs.Judges.{Judges}
 use Rattle.office_derived.specs.Derived.{IsJudged}
-use Rattle.watched_objectives.specs.declared.WatchLine.{WatchLine}
-use Rattle.watched_objectives.specs.Known.{AllKnow}
-use Rattle.watched_objectives.specs.Lines.{HasLines}
+use Rattle.kept_lines.specs.declared.WatchLine.{WatchLine}
+use Rattle.kept_lines.specs.Known.{AllKnow}
+use Rattle.kept_lines.specs.Lines.{HasLines}
 use Rattle.office_core.specs.declared.machine.Pending.{Pending}
 use Rattle.office_core.specs.Machine.{office_of}
 use Rattle.office_core.proofs.CountLemmas.{count_same, count_stays}

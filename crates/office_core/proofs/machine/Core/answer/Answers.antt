@@ -3,7 +3,7 @@ use Rattle.object_terms.specs.declared.Object.{Object}
 use Rattle.office_history.specs.Catalog.{catalog_in}
 use Rattle.office_history.specs.History.{present}
 use Rattle.history_answers.specs.Learning.{KnowsAnswered}
-use Rattle.watched_objectives.specs.Known.{AllKnow}
+use Rattle.kept_lines.specs.Known.{AllKnow}
 use Rattle.office_core.specs.Seen.{Machine}
 use Rattle.office_core.specs.Machine.{office_of}
 use Rattle.office_core.proofs.MachineLemmas.{begun}

@@ -1,5 +1,5 @@
 use Rattle.std.proofs.Common.{subst}
-use Rattle.watched_objectives.specs.Known.{AllKnow}
+use Rattle.kept_lines.specs.Known.{AllKnow}
 use Rattle.office_core.specs.Seen.{Machine}
 use Rattle.office_core.proofs.machine.Core.state_of.Goals as goal
 

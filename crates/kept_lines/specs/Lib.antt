@@ -1,0 +1,8 @@
+pub mod Changes
+pub mod Known
+pub mod Lines
+pub mod Near
+pub mod Plans
+pub mod States
+pub mod Sums
+pub mod Watches

@@ -1,4 +1,0 @@
-use Rattle.watched_objectives.proofs.kept.KeptLines.state_near.Given as goal
-
-abbrev pub ghosts-state_of_line : goal.ghosts-state_of_line
-ghosts-state_of_line a = record { name = a.blank.name; parts = a.blank.parts }

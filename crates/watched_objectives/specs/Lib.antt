@@ -1,8 +1,0 @@
-pub mod Known
-pub mod Lines
-pub mod Near
-pub mod Plans
-pub mod States
-pub mod Sums
-pub mod Watches
-pub mod Changes
