@@ -4,7 +4,7 @@ ghost use Rattle.std.specs.Prelude.{unwrap_or};
 ghost use Rattle.std.specs.List.{AllByRecursion};
 ghost use Rattle.std.specs.Option.{option_copied};
 ghost use Rattle.kept_sums.specs.Objectives.{IsObjective};
-ghost use Rattle.object_ranges.specs.Measures.{IsMeasure};
+ghost use Rattle.catalog_measures.specs.Measures.{IsMeasure};
 ghost use Rattle.office_history.specs.Objectives.{measure_at as measure_at_def};
 ghost use Rattle.office_history.specs.Objectives.{measure_of as measure_of_def};
 ghost use Rattle.office_history.specs.Objectives.{measures_named as named_measures};
@@ -13,8 +13,8 @@ ghost use Rattle.office_history.specs.Objectives.{slice_target as slice_target_d
 ghost use Rattle.office_history.specs.Objectives.{slice_width as slice_width_def};
 
 use crate::bodies::{reading_named, slo_named};
+use crate::laws;
 use exact_fraction::{Decimal, Label, Op};
-use object_ranges::objectives_give_measures;
 use object_terms::{BudgetingMethod, Objective, Slo};
 use office_history::Measure;
 use slice_method::{Method, Reading};
@@ -93,7 +93,7 @@ pub fn measure_at(catalog: &Catalog, name: Label, number: u32) -> Option<Measure
     let slo = slo_named(catalog, name)?;
     let reading = reading_named(catalog, slo.indicator)?;
     let objective = objective_at(slo, number)?;
-    objectives_give_measures();
+    laws::objectives_give_measures();
     Some(measure_of(name, slo, reading, objective))
 }
 
@@ -141,7 +141,7 @@ pub fn measures_named(
     let Some(reading) = reading_named(catalog, slo.indicator) else {
         return Ok(Vec::new(alloc));
     };
-    objectives_give_measures();
+    laws::objectives_give_measures();
     let measures = measures_with(alloc, name, slo, reading)?;
     Ok(measures)
 }

@@ -6,14 +6,13 @@ ghost use Rattle.std.specs.Option.{option_copied};
 ghost use Rattle.office_history.specs.Alerts.{first_condition as first_condition_def};
 ghost use Rattle.office_history.specs.Alerts.{flags_named as flags_named_def};
 ghost use Rattle.office_history.specs.Alerts.{flags_of as flags_of_def};
-ghost use Rattle.office_history.specs.Alerts.{rule_named as rule_named_def};
-ghost use Rattle.office_history.specs.Alerts.{rule_of as rule_of_def};
+ghost use Rattle.office_history.specs.Alerts.{rule_named as rule_named_def, rule_of as rule_of_def};
 ghost use Rattle.slo_duration.specs.Minutes.{minutes_of};
 
 use crate::bodies::{condition_named, names_in, policy_named};
+use crate::laws;
 use burn_core::{AlertRule, Flags};
 use exact_fraction::{Label, Op};
-use object_ranges::conditions_give_rules;
 use object_terms::{AlertCondition, AlertPolicy, Condition};
 use slo_catalog::Catalog;
 use slo_duration::rolling_minutes;
@@ -59,7 +58,7 @@ pub fn rule_named(catalog: &Catalog, name: Label) -> Option<AlertRule>
     }
     let policy = policy_named(catalog, name)?;
     let condition = first_condition(catalog, policy)?;
-    conditions_give_rules();
+    laws::conditions_give_rules();
     Some(rule_of(&condition.condition))
 }
 

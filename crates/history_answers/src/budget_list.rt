@@ -2,7 +2,7 @@
 ghost use Rattle.std.specs.Prelude.{◌≡◌, ◌≤◌, ◌<◌, All, IfOk, Some, length};
 ghost use Rattle.std.specs.List.{AllByRecursion};
 ghost use Rattle.kept_sums.specs.Objectives.{IsObjective};
-ghost use Rattle.object_ranges.specs.Measures.{IsMeasure};
+ghost use Rattle.catalog_measures.specs.Measures.{IsMeasure};
 ghost use Rattle.object_laws.specs.Ranges.{IsWindow};
 ghost use Rattle.record_form.specs.declared.Query.TheVariants.{Budgets};
 ghost use Rattle.office_history.specs.History.{Office, end_of};

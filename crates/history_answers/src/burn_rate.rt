@@ -5,7 +5,7 @@ ghost use Rattle.office_history.specs.History.{Office};
 ghost use Rattle.slo_duration.specs.Minutes.{minutes_of};
 ghost use Rattle.office_history.specs.Answers.{Answers, burn_answer};
 ghost use Rattle.kept_sums.specs.Objectives.{IsObjective};
-ghost use Rattle.object_ranges.specs.Measures.{IsMeasure};
+ghost use Rattle.catalog_measures.specs.Measures.{IsMeasure};
 ghost use Rattle.office_derived.specs.Derived.{IsSound, Reflects};
 
 use crate::asked::{asked_at, is_outside};

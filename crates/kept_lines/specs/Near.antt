@@ -3,7 +3,7 @@ use Rattle.std.specs.Prelude.{◌≡◌, ◌==◌, ◌&&◌, Bool, List, IfSome}
 use Rattle.std.specs.Str.{bytes_eq}
 use Rattle.object_terms.specs.declared.Object.{Object}
 use Rattle.catalog_terms.specs.declared.Binding.{Binding}
-use Rattle.object_ranges.specs.Measures.{IsMeasure}
+use Rattle.catalog_measures.specs.Measures.{IsMeasure}
 use Rattle.office_history.specs.Objectives.{measure_at}
 use Rattle.kept_lines.specs.declared.near.Seen.{Seen}
 

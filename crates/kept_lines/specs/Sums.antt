@@ -2,7 +2,7 @@
 use Rattle.std.specs.Prelude.{◌≡◌, ℕ}
 use Rattle.sample_book.specs.Book.{Book}
 use Rattle.window_sums.specs.Slices.{CountedDays, leaf_at as leaf_of_days}
-use Rattle.object_ranges.specs.Measures.{IsMeasure}
+use Rattle.catalog_measures.specs.Measures.{IsMeasure}
 use Rattle.office_history.specs.declared.Measure.{Measure}
 use Rattle.burn_core.specs.Alert.{IsRule}
 use Rattle.office_history.specs.Counts.{Samples, leaf_at}

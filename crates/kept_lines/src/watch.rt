@@ -4,7 +4,7 @@ ghost use Rattle.std.specs.List.{list_any};
 ghost use Rattle.std.specs.Str.{bytes_eq};
 ghost use Rattle.burn_core.specs.Alert.{IsRule};
 ghost use Rattle.kept_sums.specs.Objectives.{IsObjective};
-ghost use Rattle.object_ranges.specs.Measures.{IsMeasure};
+ghost use Rattle.catalog_measures.specs.Measures.{IsMeasure};
 ghost use Rattle.office_history.specs.Alerts.{same_binding as same_binding_def};
 ghost use Rattle.office_history.specs.Alerts.{rule_named as rule_named_def, watch_with};
 ghost use Rattle.office_history.specs.Alerts.{watch_of as watch_of_def, watched as watched_def};

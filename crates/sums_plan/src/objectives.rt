@@ -1,6 +1,6 @@
 //! The objectives of a catalog.
 ghost use Rattle.std.specs.Prelude.{◌≡◌, All, IfOk, OnOk, ◌++◌};
-ghost use Rattle.object_ranges.specs.Measures.{IsMeasure};
+ghost use Rattle.catalog_measures.specs.Measures.{IsMeasure};
 ghost use Rattle.office_history.specs.Objectives.{measures_named as measures_named_def};
 ghost use Rattle.sums_plan.specs.Wanted.{objectives_in};
 

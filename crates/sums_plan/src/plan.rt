@@ -5,7 +5,7 @@ ghost use Rattle.std.specs.List.{AllByRecursion, Contains};
 ghost use Rattle.kept_sums.specs.Objectives.{AreKept, measures_of};
 ghost use Rattle.kept_sums.specs.Plans.{IsPlan};
 ghost use Rattle.kept_sums.specs.Sums.{RowFits};
-ghost use Rattle.object_ranges.specs.Measures.{IsMeasure};
+ghost use Rattle.catalog_measures.specs.Measures.{IsMeasure};
 ghost use Rattle.office_derived.specs.Derived.{IsRead, IsSound};
 ghost use Rattle.office_history.specs.declared.Measure.{Measure};
 ghost use Rattle.window_sums.specs.Slices.{width_of};

@@ -1,6 +1,6 @@
 use Rattle.std.proofs.Common.{◌≡◌, ◌∙◌, ap, List, option_map, slice_get, subst, sym, Some}
 use Rattle.std.proofs.lemmas.Option.{slice_get-map}
-use Rattle.object_ranges.specs.Measures.{IsMeasure}
+use Rattle.catalog_measures.specs.Measures.{IsMeasure}
 use Rattle.object_laws.specs.Ranges.{IsObjective}
 use Rattle.object_terms.specs.declared.Objective.{Objective}
 use Rattle.object_terms.specs.declared.Slo.{Slo}

@@ -1,7 +1,7 @@
 use Rattle.std.proofs.Common.{◌≡◌, ◌∙◌, subst, sym, All, Some}
 use Rattle.std.specs.List.{AllByRecursion}
 use Rattle.std.proofs.lemmas.List.Elements.{recursion_from_All}
-use Rattle.object_ranges.specs.Measures.{IsMeasure}
+use Rattle.catalog_measures.specs.Measures.{IsMeasure}
 use Rattle.object_laws.specs.Ranges as ranges
 use Rattle.office_history.specs.Objectives.{measure_of, measures_named, reading_named, slo_named}
 use Rattle.object_terms.specs.declared.Slo.{Slo}

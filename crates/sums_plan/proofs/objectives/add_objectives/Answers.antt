@@ -1,6 +1,6 @@
 use Rattle.std.proofs.Common.{◌≡◌, ◌∙◌, ◌++◌, All, List, ap, subst, sym}
 use Rattle.std.proofs.lemmas.List.Elements.{All-append}
-use Rattle.object_ranges.specs.Measures.{IsMeasure}
+use Rattle.catalog_measures.specs.Measures.{IsMeasure}
 use Rattle.office_history.specs.declared.Measure.{Measure}
 use Rattle.sums_plan.proofs.objectives.add_objectives.Goals as goal
 

@@ -1,6 +1,6 @@
 use Rattle.std.proofs.Common.{◌≡◌, ◌++◌, All, drop}
 use Rattle.std.specs.List.{flat_map}
-use Rattle.object_ranges.specs.Measures.{IsMeasure}
+use Rattle.catalog_measures.specs.Measures.{IsMeasure}
 use Rattle.office_history.specs.Objectives.{measures_named}
 use Rattle.sums_plan.proofs.objectives.objectives_of.Given as goal
 

@@ -2,7 +2,7 @@ use Rattle.std.proofs.Common.{arith, subst, sym}
 use Rattle.std.specs.List.{AllByRecursion}
 use Rattle.kept_sums.specs.Sums.{RowFits}
 use Rattle.kept_sums.proofs.MakeLemmas.{so_far_all, so_far_next}
-use Rattle.object_ranges.specs.Measures.{IsMeasure}
+use Rattle.catalog_measures.specs.Measures.{IsMeasure}
 use Rattle.office_history.specs.declared.Measure.{Measure}
 use Rattle.sums_plan.specs.Wanted.{HasSums}
 use Rattle.sums_plan.proofs.plan.sums_made.Goals as goal

@@ -1,5 +1,5 @@
 use Rattle.std.proofs.Common.{subst}
-use Rattle.object_ranges.specs.Measures.{IsMeasure}
+use Rattle.catalog_measures.specs.Measures.{IsMeasure}
 use Rattle.office_history.specs.Alerts.{Watch}
 use Rattle.kept_lines.proofs.watch.Watch.measure.Goals as goal
 

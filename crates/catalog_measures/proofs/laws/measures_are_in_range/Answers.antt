@@ -1,5 +1,5 @@
-use Rattle.object_ranges.proofs.ByName.{measures}
-use Rattle.object_ranges.proofs.named.measures_are_in_range.Goals as goal
+use Rattle.catalog_measures.proofs.ByName.{measures}
+use Rattle.catalog_measures.proofs.laws.measures_are_in_range.Goals as goal
 
 pub returns-clause-target : goal.returns-clause-target
 returns-clause-target c = λ members slo number m all e.

@@ -14,7 +14,7 @@ ghost use Rattle.object_terms.specs.declared.objective.Objective.{Objective};
 ghost use Rattle.object_terms.specs.declared.alert_condition.Condition.{Condition};
 ghost use Rattle.object_terms.specs.Document.{IsOfDocument};
 ghost use Rattle.window_sums.specs.Slices.{width_of};
-ghost use Rattle.object_ranges.specs.Measures.{HasSliceTarget, IsMeasure};
+ghost use Rattle.catalog_measures.specs.Measures.{HasSliceTarget, IsMeasure};
 ghost use Rattle.object_laws.specs.Ranges.{IsObjective, IsWindow};
 
 use object_laws::laws;

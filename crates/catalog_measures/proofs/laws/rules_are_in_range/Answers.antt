@@ -1,5 +1,5 @@
-use Rattle.object_ranges.proofs.ByName.{rules}
-use Rattle.object_ranges.proofs.named.rules_are_in_range.Goals as goal
+use Rattle.catalog_measures.proofs.ByName.{rules}
+use Rattle.catalog_measures.proofs.laws.rules_are_in_range.Goals as goal
 
 pub returns-clause-rule : goal.returns-clause-rule
 returns-clause-rule c = λ members policy rule e. (rules members policy rule e).rule

@@ -37,7 +37,7 @@ use Rattle.slo_duration.specs.Minutes.{minutes_of}
 use Rattle.office_history.specs.Objectives.{reading_named, method_of, measure_of, slo_named}
 use Rattle.office_history.specs.Objectives.{measures_with, measures_of, measure_at}
 use Rattle.object_laws.specs.Ranges.{IsObjective, HasObjectives, IsWindow}
-use Rattle.object_ranges.specs.Measures.{HasSliceTarget, IsMeasure, IsSliceTarget, IsWidth}
+use Rattle.catalog_measures.specs.Measures.{HasSliceTarget, IsMeasure, IsSliceTarget, IsWidth}
 use Rattle.object_laws.proofs.RangeTables.{IsSlo}
 use Rattle.object_laws.proofs.RangeDocuments.{ReadsBack, slos}
 

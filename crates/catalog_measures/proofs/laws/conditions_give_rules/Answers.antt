@@ -1,5 +1,5 @@
-use Rattle.object_ranges.proofs.ByName.{condition_rule}
-use Rattle.object_ranges.proofs.named.conditions_give_rules.Goals as goal
+use Rattle.catalog_measures.proofs.ByName.{condition_rule}
+use Rattle.catalog_measures.proofs.laws.conditions_give_rules.Goals as goal
 
 pub returns-clause-rule : goal.returns-clause-rule
 returns-clause-rule c = λ condition. (condition_rule condition).rule
