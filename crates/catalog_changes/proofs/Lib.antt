@@ -1,6 +1,8 @@
-pub mod KindLemmas
-pub mod DefineLemmas
-pub mod ReadingLemmas
-pub mod PlanLemmas
 pub mod ChangeLemmas
+pub mod DefineLemmas
+pub mod KindLemmas
 pub mod LegalLemmas
+pub mod PlanLemmas
+pub mod ReadingLemmas
+mod SumsPlanLemmas
+mod WantedLemmas

@@ -1,3 +1,4 @@
 pub mod Judging
 pub mod Kinds
 pub mod Laws
+pub mod Wanted

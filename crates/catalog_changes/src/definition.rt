@@ -19,6 +19,7 @@ ghost use Rattle.catalog_changes.specs.Judging.{IsJudgedBy, IsPlanOver, IsTextWo
 use crate::copies::copy_of;
 use crate::days::passes_days;
 use crate::kinds::texts_have_bodies_of_their_kinds;
+use crate::sums_plan::plan_sums;
 use definition_verdict::{Definition, VerdictError, judge_definition};
 use exact_fraction::Bytes;
 use kept_sums::SumsPlan;
@@ -28,7 +29,6 @@ use record_form::{LimitName, Outcome, Refusal};
 use slo_catalog::Catalog;
 use slo_limits::RANGE_MINUTES;
 use std::alloc::{AllocError, Global};
-use sums_plan::plan_sums;
 
 /// What a text defines over what is kept.
 fn definition_over(

@@ -9,8 +9,10 @@ mod days;
 mod definition;
 mod kinds;
 pub mod laws;
+mod objectives;
 mod plans;
 mod removal;
+mod sums_plan;
 mod zone;
 
 pub use definition::{apply_define, judge_define};

@@ -11,6 +11,7 @@ ghost use Rattle.office_derived.specs.Derived.{entry_of};
 ghost use Rattle.office_derived.specs.declared.Work.TheVariants as works;
 ghost use Rattle.catalog_changes.specs.Judging.{IsJudgedBy, IsRemoval};
 
+use crate::sums_plan::plan_sums;
 use catalog_terms::{RemoveError, RemoveFault};
 use exact_fraction::Label;
 use kept_sums::SumsPlan;
@@ -21,7 +22,6 @@ use record_form::{Outcome, Refusal};
 use sample_book::{Row, SampleBook};
 use slo_catalog::{Catalog, remove};
 use std::alloc::{AllocError, Global};
-use sums_plan::plan_sums;
 
 fn removal_fault(fault: RemoveFault) -> Refusal
     ensures { result ≡ removal_fault_def fault }

@@ -2,7 +2,7 @@
 ghost use Rattle.std.specs.Prelude.{◌≡◌, All, IfOk, OnOk, ◌++◌};
 ghost use Rattle.catalog_measures.specs.Measures.{IsMeasure};
 ghost use Rattle.office_history.specs.Objectives.{measures_named as measures_named_def};
-ghost use Rattle.sums_plan.specs.Wanted.{objectives_in};
+ghost use Rattle.catalog_changes.specs.Wanted.{objectives_in};
 
 use catalog_measures::{measures_named, slo_names};
 use exact_fraction::Label;

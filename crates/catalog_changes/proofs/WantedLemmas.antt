@@ -20,7 +20,7 @@ use Rattle.office_derived.specs.Derived.{IsRead}
 use Rattle.kept_sums.proofs.KeyLemmas.{all_flat, flat_contains}
 use Rattle.kept_sums.proofs.ObjectiveLemmas.{all_objectives, objective_among}
 use Rattle.office_derived.proofs.FormLemmas.{all_fit}
-use Rattle.sums_plan.specs.Wanted.{objectives_in}
+use Rattle.catalog_changes.specs.Wanted.{objectives_in}
 
 -- NAMES
 

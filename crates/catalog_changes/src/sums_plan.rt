@@ -9,7 +9,7 @@ ghost use Rattle.catalog_measures.specs.Measures.{IsMeasure};
 ghost use Rattle.office_derived.specs.Derived.{IsRead, IsSound};
 ghost use Rattle.office_history.specs.declared.Measure.{Measure};
 ghost use Rattle.window_sums.specs.Slices.{width_of};
-ghost use Rattle.sums_plan.specs.Wanted.{HasSums};
+ghost use Rattle.catalog_changes.specs.Wanted.{HasSums};
 
 use crate::objectives::objectives_of;
 use kept_sums::{ObjectiveSums, SumsPlan, sums_over};
@@ -74,7 +74,7 @@ fn sums_made(
 /// # Errors
 ///
 /// Memory ran out.
-pub fn plan_sums(
+pub(crate) fn plan_sums(
     alloc: Global,
     derived: &Derived,
     catalog: &Catalog,

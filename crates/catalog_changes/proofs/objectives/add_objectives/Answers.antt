@@ -2,7 +2,7 @@ use Rattle.std.proofs.Common.{◌≡◌, ◌∙◌, ◌++◌, All, List, ap, sub
 use Rattle.std.proofs.lemmas.List.Elements.{All-append}
 use Rattle.catalog_measures.specs.Measures.{IsMeasure}
 use Rattle.office_history.specs.declared.Measure.{Measure}
-use Rattle.sums_plan.proofs.objectives.add_objectives.Goals as goal
+use Rattle.catalog_changes.proofs.objectives.add_objectives.Goals as goal
 
 pub returns-clause-ranges : goal.returns-clause-ranges
 returns-clause-ranges c =

@@ -4,9 +4,9 @@ use Rattle.std.proofs.lemmas.List.Elements.{All-contains}
 use Rattle.kept_sums.specs.Objectives.{IsObjective}
 use Rattle.kept_sums.specs.Sums.{RowFits}
 use Rattle.office_history.specs.declared.Measure.{Measure}
-use Rattle.sums_plan.specs.Wanted.{HasSums, objectives_in}
-use Rattle.sums_plan.proofs.WantedLemmas.{all_forms, each_objective, only_objectives}
-use Rattle.sums_plan.proofs.plan.plan_sums.Goals as goal
+use Rattle.catalog_changes.specs.Wanted.{HasSums, objectives_in}
+use Rattle.catalog_changes.proofs.WantedLemmas.{all_forms, each_objective, only_objectives}
+use Rattle.catalog_changes.proofs.sums_plan.plan_sums.Goals as goal
 
 pub sums_made-requires-clause-forms : goal.sums_made-requires-clause-forms
 sums_made-requires-clause-forms c =

@@ -1,7 +1,7 @@
 use Rattle.std.proofs.Common.{All, take}
 use Rattle.kept_sums.specs.Objectives.{AreKept}
-use Rattle.sums_plan.specs.Wanted.{HasSums}
-use Rattle.sums_plan.proofs.plan.sums_made.Given as goal
+use Rattle.catalog_changes.specs.Wanted.{HasSums}
+use Rattle.catalog_changes.proofs.sums_plan.sums_made.Given as goal
 
 -- the sums that are made so far are those of the objectives so far
 abbrev pub invariant-loop-measure : goal.invariant-loop-measure

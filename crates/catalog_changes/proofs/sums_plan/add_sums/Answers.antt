@@ -1,7 +1,7 @@
 use Rattle.kept_sums.specs.Objectives.{IsObjective}
 use Rattle.kept_sums.specs.declared.ObjectiveSums.{ObjectiveSums}
 use Rattle.kept_sums.proofs.MakeLemmas.{still_there, there_made}
-use Rattle.sums_plan.proofs.plan.add_sums.Goals as goal
+use Rattle.catalog_changes.proofs.sums_plan.add_sums.Goals as goal
 
 pub returns-clause-there : goal.returns-clause-there
 returns-clause-there c =

@@ -4,8 +4,8 @@ use Rattle.kept_sums.specs.Sums.{RowFits}
 use Rattle.kept_sums.proofs.MakeLemmas.{so_far_all, so_far_next}
 use Rattle.catalog_measures.specs.Measures.{IsMeasure}
 use Rattle.office_history.specs.declared.Measure.{Measure}
-use Rattle.sums_plan.specs.Wanted.{HasSums}
-use Rattle.sums_plan.proofs.plan.sums_made.Goals as goal
+use Rattle.catalog_changes.specs.Wanted.{HasSums}
+use Rattle.catalog_changes.proofs.sums_plan.sums_made.Goals as goal
 
 pub add_sums-requires-clause-width : goal.add_sums-requires-clause-width
 add_sums-requires-clause-width c =

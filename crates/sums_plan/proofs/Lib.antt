@@ -1,2 +1,0 @@
-mod WantedLemmas
-mod PlanLemmas
