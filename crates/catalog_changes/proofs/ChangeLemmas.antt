@@ -52,7 +52,7 @@ use Rattle.office_derived.specs.Zones.{KeptZones}
 use Rattle.kept_sums.specs.declared.SumsPlan.{SumsPlan}
 use Rattle.kept_sums.specs.Objectives.{KeepsSums, KeptObjectives}
 use Rattle.kept_sums.specs.Plans.{IsPlan}
-use Rattle.office_derived.specs.Derived.{HasPlan, IsRead, IsPlaced, IsSound, Reflects, IsNext}
+use Rattle.office_derived.specs.Derived.{HasPlan, RowIsRead, IsPlaced, IsSound, Reflects, IsNext}
 use Rattle.office_derived.specs.Derived.{IsFound, IsJudged, command_of, entry_of}
 use Rattle.office_derived.proofs.More.{catalog_more}
 use Rattle.office_derived.proofs.Still.{IsStill, reflects_still}
@@ -267,7 +267,7 @@ accepted_zone zones entries name bytes e =
 pub sound_with : (d d' : Derived) → IsSound d → d.entries < most.MAX_ENTRIES →
     d'.origin ≡ d.origin → d'.entries ≡ d.entries + 1 → d'.book.rows ≡ d.book.rows →
     d'.accepted ≡ d.accepted → d'.notices.made ≡ d.notices.made →
-    All (IsRead d'.catalog) d.book.rows →
+    All (RowIsRead d'.catalog) d.book.rows →
     KeepsSums d'.catalog d'.book.exclusions d'.book.rows d'.sums.kept → IsSound d'
 sound_with d d' s few origin entries rows puts notices read sums = record {
   origin = subst (λ n. n ≤ most.MAX_MINUTE) (sym origin) s.origin;
@@ -280,7 +280,7 @@ sound_with d d' s few origin entries rows puts notices read sums = record {
   made =
       subst (λ (made : List (Notice × Bool)). length made ≤ waiting made + d'.entries)
       (sym notices) (let whole = s.made in omega (arith, entries, whole));
-  read = subst (All (IsRead d'.catalog)) (sym rows) read;
+  read = subst (All (RowIsRead d'.catalog)) (sym rows) read;
   placed =
       subst (λ (p : ℕ × List Row). All (IsPlaced p.0) p.1) (λ i. (sym origin i, sym rows i))
       s.placed;
@@ -332,16 +332,16 @@ define_reflects d o m text catalog applied plan sums n =
 
 -- each row is read as before by the catalog of a text that is defined
 pub text_read : TextsHaveKinds → (d : Derived) (text : List ℕ) (made : Definition) → IsSound d →
-    IsDefinition (known_by d) text made → All (IsRead made.catalog) d.book.rows
+    IsDefinition (known_by d) text made → All (RowIsRead made.catalog) d.book.rows
 text_read law d text made s is =
     let m = made_of_text (known_by d) text made is in
-    subst (λ (members : List Object). All (IsRead members) d.book.rows) (sym m.catalog_is)
+    subst (λ (members : List Object). All (RowIsRead members) d.book.rows) (sym m.catalog_is)
     (define_read d.catalog d.book.rows (text_objects text) s.read
     (kinds_of_text law (known_by d) text made is) m.same_readings)
 
 pub texts_read : {E : Type 0} → TextsHaveKinds → (d : Derived) (text : List ℕ)
     (r : Result Answered E) → IsSound d → IfOk r (λ made. IsAnswered (known_by d) text made) →
-    IfOk r (λ made. All (IsRead made.catalog) d.book.rows)
+    IfOk r (λ made. All (RowIsRead made.catalog) d.book.rows)
 texts_read law d text (Ok made) s h = text_read law d text (in_words made) s h
 texts_read law d text (Err e) s h = tt
 
@@ -360,8 +360,8 @@ define_sound law d o m text catalog applied plan sums s n keeps =
     ∙ ap (with_members (text_objects text)) (sym r.catalog) in
     let anew : first_read_anew d.catalog d.book.rows (text_objects text) ≡ None =
     (λ i. first_read_anew (r.catalog i) (r.rows i) (text_objects text)) ∙ made.same_readings in
-    let read : All (IsRead catalog) d.book.rows =
-    subst (λ (members : List Object). All (IsRead members) d.book.rows) (sym is)
+    let read : All (RowIsRead catalog) d.book.rows =
+    subst (λ (members : List Object). All (RowIsRead members) d.book.rows) (sym is)
     (define_read d.catalog d.book.rows (text_objects text) s.read
     (kinds_of_text law (known_of o) text a.made a.is) anew) in
     sound_with d (with_catalog d m catalog sums) s
@@ -384,7 +384,7 @@ remove_reflects d o m kind name catalog plan sums n =
 -- each row is read as before without an object that has no rows
 pub removal_read : (d : Derived) (kind : Kind) (name : List ℕ) → IsSound d →
     first_row_of d.book.rows kind name ≡ None →
-    All (IsRead (without kind name d.catalog)) d.book.rows
+    All (RowIsRead (without kind name d.catalog)) d.book.rows
 removal_read d kind name s none =
     remove_read d.catalog d.book.rows kind name s.read
     (λ sli. sym (ap (λ (k : Kind). first_row_of d.book.rows k name) sli) ∙ none)
@@ -411,9 +411,9 @@ pub left_read : (d : Derived) (kind : Kind) (name : List ℕ) (catalog : List Ob
     (j : Judgement) →
     IsSound d → remaining_members d.catalog kind name ≡ Ok catalog →
     j ≡ unless_sampled (first_row_of d.book.rows kind name) (accepted d.entries) → j ≡ Accepted →
-    All (IsRead catalog) d.book.rows
+    All (RowIsRead catalog) d.book.rows
 left_read d kind name catalog j s left verdict is =
-    subst (λ (members : List Object). All (IsRead members) d.book.rows)
+    subst (λ (members : List Object). All (RowIsRead members) d.book.rows)
     (what_is_left d.catalog catalog kind name left)
     (removal_read d kind name s
     (no_first_row (first_row_of d.book.rows kind name) (accepted d.entries) (sym is ∙ verdict)))
@@ -432,8 +432,8 @@ remove_sound d o m kind name catalog plan sums s n keeps =
     ∙ ap (without kind name) (sym r.catalog) in
     let none : first_row_of d.book.rows kind name ≡ None =
     ap (λ (rows : List Row). first_row_of rows kind name) r.rows ∙ a.no_rows in
-    let read : All (IsRead catalog) d.book.rows =
-    subst (λ (members : List Object). All (IsRead members) d.book.rows) (sym is)
+    let read : All (RowIsRead catalog) d.book.rows =
+    subst (λ (members : List Object). All (RowIsRead members) d.book.rows) (sym is)
     (removal_read d kind name s none) in
     sound_with d (with_catalog d m catalog sums) s
     (let few = a.fits in omega (arith, few, r.entries)) refl refl refl refl refl read

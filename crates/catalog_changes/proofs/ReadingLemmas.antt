@@ -25,7 +25,7 @@ use Rattle.catalog_terms.specs.NeedsOp.{sli_named}
 use Rattle.office_history.specs.Readings.{reading_of, same_reading, is_other_reading, row_read_anew}
 use Rattle.office_history.specs.Readings.{first_read_anew}
 use Rattle.office_history.specs.Objectives.{reading_named}
-use Rattle.office_derived.specs.Derived.{IsRead}
+use Rattle.office_derived.specs.Derived.{RowIsRead}
 use Rattle.object_laws.specs.Kinds.{kind_of}
 use Rattle.catalog_changes.specs.Kinds.{HasKind}
 use Rattle.slo_catalog.proofs.KeyLemmas.{key_parts}
@@ -147,17 +147,17 @@ has_first (x ∷ xs) (suc k) d below =
     }
 
 -- each row is read as before, where its indicator has the reading that it had
-pub still_read : (old new : List Object) (rows : List Row) → All (IsRead old) rows →
+pub still_read : (old new : List Object) (rows : List Row) → All (RowIsRead old) rows →
     ((sli : List ℕ) (r : Reading) → HasFirst rows sli → reading_named old sli ≡ Some r
-    → reading_named new sli ≡ Some r) → All (IsRead new) rows
+    → reading_named new sli ≡ Some r) → All (RowIsRead new) rows
 still_read old new rows read keeps k d below =
     let h = read k d below in
     (h.0, keeps (slice_index_or rows k d).sli h.0 (has_first rows k d below) h.1, h.2, h.3)
 
 pub define_read : (old : List Object) (rows : List Row) (objects : List Object) →
-    All (IsRead old) rows →
+    All (RowIsRead old) rows →
     AllByRecursion HasKind objects → first_read_anew old rows objects ≡ None →
-    All (IsRead (with_members objects old)) rows
+    All (RowIsRead (with_members objects old)) rows
 define_read old rows objects read bodies anew =
     still_read old (with_members objects old) rows read (λ sli r first reading.
     put_readings old rows sli first.row r objects old first.is reading bodies anew reading)
@@ -174,8 +174,8 @@ apart_keys kind name sli other o key = by (is_key kinds.Sli sli o) refl
         absurd (other (sym removed.0 ∙ read.0) (sym removed.1 ∙ read.1))
 
 pub remove_read : (old : List Object) (rows : List Row) (kind : Kind) (name : List ℕ) →
-    All (IsRead old) rows →
-    (kind ≡ kinds.Sli → first_of rows name ≡ None) → All (IsRead (without kind name old)) rows
+    All (RowIsRead old) rows →
+    (kind ≡ kinds.Sli → first_of rows name ≡ None) → All (RowIsRead (without kind name old)) rows
 unfolding reading_found
 remove_read old rows kind name read none =
     still_read old (without kind name old) rows read

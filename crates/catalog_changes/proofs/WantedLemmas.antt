@@ -16,7 +16,7 @@ use Rattle.kept_sums.specs.Sums.{RowFits}
 use Rattle.kept_sums.specs.Objectives.{IsObjective}
 use Rattle.office_history.specs.declared.Measure.{Measure}
 use Rattle.office_history.specs.Objectives.{measures_named, measures_of}
-use Rattle.office_derived.specs.Derived.{IsRead}
+use Rattle.office_derived.specs.Derived.{RowIsRead}
 use Rattle.kept_sums.proofs.KeyLemmas.{all_flat, flat_contains}
 use Rattle.kept_sums.proofs.ObjectiveLemmas.{all_objectives, objective_among}
 use Rattle.office_derived.proofs.FormLemmas.{all_fit}
@@ -90,13 +90,13 @@ each_objective members m is =
 
 -- each row that the catalog reads has the form that each of these wants
 pub all_forms : (members : List Object) (rows : List Row) (wanted : List Measure) →
-    AllByRecursion (IsObjective members) wanted → All (IsRead members) rows →
+    AllByRecursion (IsObjective members) wanted → All (RowIsRead members) rows →
     All (λ (m : Measure). AllByRecursion (RowFits m) rows) wanted
 all_forms members rows wanted only read =
     All-from_recursion (λ (m : Measure). AllByRecursion (RowFits m) rows) wanted (by wanted only)
   where
-    read_so : AllByRecursion (IsRead members) rows
-    read_so = recursion_from_All (IsRead members) rows read
+    read_so : AllByRecursion (RowIsRead members) rows
+    read_so = recursion_from_All (RowIsRead members) rows read
 
     by : (wanted : List Measure) → AllByRecursion (IsObjective members) wanted →
         AllByRecursion (λ (m : Measure). AllByRecursion (RowFits m) rows) wanted

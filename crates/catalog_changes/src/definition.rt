@@ -11,7 +11,7 @@ ghost use Rattle.office_history.specs.History.{Office, with_entry};
 ghost use Rattle.office_history.specs.Judges.{JudgesText};
 ghost use Rattle.catalog_changes.specs.Judging.{defined_verdict};
 ghost use Rattle.office_history.specs.Outcomes.{outcome_of};
-ghost use Rattle.office_derived.specs.Derived.{HasRoom, IsJudged, IsNext, IsRead, IsSound};
+ghost use Rattle.office_derived.specs.Derived.{HasRoom, IsJudged, IsNext, IsSound, RowIsRead};
 ghost use Rattle.office_derived.specs.Derived.{Reflects, entry_of};
 ghost use Rattle.office_derived.specs.declared.Work.TheVariants as works;
 ghost use Rattle.catalog_changes.specs.Judging.{IsJudgedBy, IsPlanOver, IsTextWork, known_by};
@@ -41,7 +41,7 @@ fn definition_over(
     ensures catalog { IfOk result
         (λ made. made.catalog ≡ with_members (text_objects text.now) derived.now.catalog) }
     ensures objects { IfOk result (λ made. made.objects ≡ length (text_objects text.now)) }
-    ensures read { IfOk result (λ made. All (IsRead made.catalog) derived.now.book.rows) }
+    ensures read { IfOk result (λ made. All (RowIsRead made.catalog) derived.now.book.rows) }
     ensures refused { (refusal : Refusal) → result ≡ Err (VerdictError.Refused refusal) →
         IsRefused (known_by derived.now) text.now refusal }
 {
@@ -94,7 +94,7 @@ fn text_and_plan(
     catalog: &Catalog,
 ) -> Result<(Bytes, SumsPlan), AllocError>
     requires sound { IsSound derived.now }
-    requires read { All (IsRead catalog.now) derived.now.book.rows }
+    requires read { All (RowIsRead catalog.now) derived.now.book.rows }
     ensures text { IfOk result (λ found. found.0 ≡ text.now) }
     ensures plan { IfOk result (λ found. IsPlanOver derived.now catalog.now found.1) }
 {

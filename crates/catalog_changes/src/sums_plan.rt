@@ -6,7 +6,7 @@ ghost use Rattle.kept_sums.specs.Objectives.{AreKept, measures_of};
 ghost use Rattle.kept_sums.specs.Plans.{IsPlan};
 ghost use Rattle.kept_sums.specs.Sums.{RowFits};
 ghost use Rattle.catalog_measures.specs.Measures.{IsMeasure};
-ghost use Rattle.office_derived.specs.Derived.{IsRead, IsSound};
+ghost use Rattle.office_derived.specs.Derived.{IsSound, RowIsRead};
 ghost use Rattle.office_history.specs.declared.Measure.{Measure};
 ghost use Rattle.window_sums.specs.Slices.{width_of};
 ghost use Rattle.catalog_changes.specs.Wanted.{HasSums};
@@ -80,7 +80,7 @@ pub(crate) fn plan_sums(
     catalog: &Catalog,
 ) -> Result<SumsPlan, AllocError>
     requires sound { IsSound derived.now }
-    requires read { All (IsRead catalog.now) derived.now.book.rows }
+    requires read { All (RowIsRead catalog.now) derived.now.book.rows }
     ensures { IfOk result (IsPlan derived.now.catalog catalog.now derived.now.book.exclusions
         derived.now.book.rows) }
 {

@@ -26,7 +26,7 @@ use Rattle.office_history.specs.Judges.{Judges}
 use Rattle.office_history.specs.Legal.{IsLegal, office}
 use Rattle.office_history.specs.Notices.{is_taken, is_taking}
 use Rattle.office_history.specs.Verdicts.{accepted, samples_fault, unless_refused}
-use Rattle.office_derived.specs.Derived.{IsRead}
+use Rattle.office_derived.specs.Derived.{RowIsRead}
 use Rattle.sample_changes.specs.Once as samples
 use Rattle.sample_changes.proofs.OnceBatches.{batch_once}
 use Rattle.catalog_changes.specs.Laws.{BeginsLegally, EachMayFollow, ZoneActsOnce}
@@ -57,9 +57,9 @@ rows_there P (x ∷ before) after e h =
 pub batch_acts_once : RowsAreRead → DaysAreFew → BatchActsOnce
 batch_acts_once read few origin h before after e rows moment legal split is later =
     batch_once origin h before after e rows moment legal split is later
-    (subst (λ (c : Command). AllByRecursion (IsRead (catalog_in h)) (rows_of c)) is
-    (rows_there (IsRead (catalog_in h)) before after e
-    (subst (λ (es : List Entry). AllByRecursion (IsRead (catalog_in h)) (rows_in es)) split
+    (subst (λ (c : Command). AllByRecursion (RowIsRead (catalog_in h)) (rows_of c)) is
+    (rows_there (RowIsRead (catalog_in h)) before after e
+    (subst (λ (es : List Entry). AllByRecursion (RowIsRead (catalog_in h)) (rows_in es)) split
     (read origin h legal))))
     (few origin h legal)
 

@@ -29,7 +29,7 @@ use Rattle.office_history.specs.History.{current_in, rows_in, rows_of}
 use Rattle.office_history.specs.Judges.{Judges, known_of}
 use Rattle.office_history.specs.Legal.{empty, followed, office}
 use Rattle.office_history.specs.Verdicts.{first_row_of}
-use Rattle.office_derived.specs.Derived.{IsRead}
+use Rattle.office_derived.specs.Derived.{RowIsRead}
 use Rattle.office_derived.proofs.More.{catalog_more, rows_more}
 use Rattle.objective_days.proofs.Current.{any-current}
 use Rattle.sample_changes.proofs.GoodRows.{IsGood, good_rows}
@@ -104,7 +104,7 @@ none_anew old came (o ∷ os) h =
 
 -- each row is read
 abbrev AreRead : List Object → List Row → Type 0
-AreRead members rows = AllByRecursion (IsRead members) rows
+AreRead members rows = AllByRecursion (RowIsRead members) rows
 
 joined : {A : Type 0} (P : A → Type 0) (a b : List A) → AllByRecursion P a → AllByRecursion P b →
     AllByRecursion P (a ++ b)
@@ -129,29 +129,29 @@ read_after law origin h m (Define text) read v =
     let objects = text_objects text in
     let a = accepted_text known (length h) text Accepted v refl in
     let made = made_of_text known text a.made a.is in
-    let old = All-from_recursion (IsRead (catalog_in h)) (rows_in h) read in
+    let old = All-from_recursion (RowIsRead (catalog_in h)) (rows_in h) read in
     let anew = none_anew (catalog_in h) (rows_in h) objects made.same_readings in
     let new = define_read (catalog_in h) (rows_in h) objects old
     (kinds_of_text law known text a.made a.is) anew in
     subst (λ (members : List Object). AreRead members (rows_in h ++ []))
     (sym (changes_put objects (catalog_in h)))
     (same_read (with_members objects (catalog_in h)) (rows_in h)
-    (recursion_from_All (IsRead (with_members objects (catalog_in h))) (rows_in h) new))
+    (recursion_from_All (RowIsRead (with_members objects (catalog_in h))) (rows_in h) new))
 read_after law origin h m (Remove kind name) read v =
     let a = accepted_removal (catalog_in h) (current_in h) (length h) kind name v in
-    let old = All-from_recursion (IsRead (catalog_in h)) (rows_in h) read in
+    let old = All-from_recursion (RowIsRead (catalog_in h)) (rows_in h) read in
     let new = remove_read (catalog_in h) (rows_in h) kind name old
     (λ sli. none_came (rows_in h) name
     (sym (ap (λ (k : Kind). first_row_of (current_in h) k name) sli) ∙ a.no_rows)) in
     same_read (without kind name (catalog_in h)) (rows_in h)
-    (recursion_from_All (IsRead (without kind name (catalog_in h))) (rows_in h) new)
+    (recursion_from_All (RowIsRead (without kind name (catalog_in h))) (rows_in h) new)
 read_after law origin h m (Samples rows) read v =
     let came = rows_in h in
     let keeps = accepted_keeps origin m (catalog_in h) came (length h) rows (sym v) in
     let good = good_rows origin m (catalog_in h) 1 rows (verdicts came rows)
     (verdicts_each came rows) keeps.clean in
-    joined (IsRead (catalog_in h)) came rows read
-    (each (IsGood origin m (catalog_in h)) (IsRead (catalog_in h)) (λ row g. g.read) rows good)
+    joined (RowIsRead (catalog_in h)) came rows read
+    (each (IsGood origin m (catalog_in h)) (RowIsRead (catalog_in h)) (λ row g. g.read) rows good)
 read_after law origin h m (PutZone name bytes) read v = same_read (catalog_in h) (rows_in h) read
 read_after law origin h m (Exclude value) read v = same_read (catalog_in h) (rows_in h) read
 read_after law origin h m (Lift id) read v = same_read (catalog_in h) (rows_in h) read
@@ -169,4 +169,4 @@ rows_are_read law origin _ (followed {h = h} e legal may) =
 
 pub current_rows_are_read : TextsHaveKinds → CurrentRowsAreRead
 current_rows_are_read law origin h legal =
-    all_current (IsRead (catalog_in h)) [] (rows_in h) tt (rows_are_read law origin h legal)
+    all_current (RowIsRead (catalog_in h)) [] (rows_in h) tt (rows_are_read law origin h legal)

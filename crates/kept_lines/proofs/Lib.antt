@@ -1,9 +1,9 @@
 mod BindingLemmas
+mod BindingWalkLemmas
 pub mod ForgetLemmas
 mod KeptLemmas
 pub mod KnownLemmas
 pub mod LineLemmas
-mod NearLemmas
 mod PlanLemmas
 mod StateLemmas
 mod TakeLemmas

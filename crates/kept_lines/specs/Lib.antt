@@ -1,7 +1,7 @@
+pub mod BindingWalk
 pub mod Changes
 pub mod Known
 pub mod Lines
-pub mod Near
 pub mod Plans
 pub mod States
 pub mod Sums

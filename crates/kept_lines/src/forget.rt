@@ -41,7 +41,7 @@ fn forget_moved(
     let measure = watch.measure();
     let width = width_of(&measure.method);
     book.rows_are_current();
-    line_forgetting::forget_rows(line, watch.rule(), measure, width, book, rows, verdicts);
+    line_forgetting::forget_near_batch(line, watch.rule(), measure, width, book, rows, verdicts);
 }
 
 // A line forgets what is near the slices of the rows that count otherwise with an exclusion than
@@ -66,7 +66,7 @@ fn forget_changed(
 {
     let measure = watch.measure();
     let width = width_of(&measure.method);
-    line_forgetting::forget_exclusion(line, watch.rule(), measure, width, book, sums, value);
+    line_forgetting::forget_near_exclusion(line, watch.rule(), measure, width, book, sums, value);
 }
 
 impl KeptLines {

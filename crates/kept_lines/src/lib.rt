@@ -3,15 +3,15 @@
 //! Promises of each slice the leaf that the history gives it, and of each binding its state.
 #![tactic(auto)]
 
+mod apply_plan;
+mod binding_walk;
 mod forget;
 mod kept;
-mod near;
+mod line_answers;
 mod plan;
 mod same;
-mod standing;
 mod states;
 mod sums;
-mod take;
 mod watch;
 
 pub use kept::{KeptLines, WatchLine};

@@ -9,11 +9,11 @@ ghost use Rattle.catalog_terms.specs.Bindings.{bindings as bindings_def};
 ghost use Rattle.kept_lines.specs.Sums.{samples_of};
 ghost use Rattle.kept_lines.specs.Known.{AllKnow};
 ghost use Rattle.kept_lines.specs.Lines.{HasLines, watches_of};
-ghost use Rattle.kept_lines.specs.Near.{IsSeen};
+ghost use Rattle.kept_lines.specs.BindingWalk.{IsSeen};
 ghost use Rattle.kept_lines.specs.States.{with_state};
 
+use crate::binding_walk::{AT_THE_BEGIN, Hint, Seen, seen_near, watch_seen};
 use crate::kept::KeptLines;
-use crate::near::{AT_THE_BEGIN, Hint, Seen, seen_near, watch_seen};
 use burn_core::State;
 use catalog_terms::Binding;
 use office_derived::Derived;

@@ -3,7 +3,7 @@ use Rattle.std.proofs.Common.{◌≡◌, ◌⊎◌, ℕ, Option, Some, None, inl
 use Rattle.alert_line.specs.Line.{Line}
 use Rattle.line_forgetting.specs.Touched.{Forgets, ForgetsOnly, IsClear, IsInIf, IsInRun, IsRun}
 use Rattle.line_forgetting.specs.Touched.{IsRunIf, TouchesEach}
-use Rattle.line_forgetting.specs.declared.run.Run.{Run}
+use Rattle.line_forgetting.specs.declared.run.SliceRun.{SliceRun}
 use Rattle.line_forgetting.proofs.ForgetLemmas.{clear-stays, only-none, only-trans}
 
 -- to forget near some slices is to forget near these and others at most
@@ -13,11 +13,11 @@ only-more few all width a b wider only =
     only-trans few all width a a b wider (only-none all width a) only
 
 -- the slices of a run, and more
-abbrev or_more : (ℕ → Type 0) → Option Run → ℕ → Type 0
+abbrev or_more : (ℕ → Type 0) → Option SliceRun → ℕ → Type 0
 or_more more run slice = IsInIf run slice ⊎ more slice
 
 -- none is touched
-pub each-none : (more : ℕ → Type 0) (width reach : ℕ) (run : Option Run) (line : Line) →
+pub each-none : (more : ℕ → Type 0) (width reach : ℕ) (run : Option SliceRun) (line : Line) →
     ((slice : ℕ) → more slice → ⊥) → IsRunIf width reach run →
     TouchesEach more width reach run run line line
 each-none more width reach run line none runs = record {
@@ -32,7 +32,7 @@ each-none more width reach run line none runs = record {
     by slice (inr b) = absurd (none slice b)
 
 -- one is: it joins the run that waits, or what is near that is forgotten
-pub each-one : (more : ℕ → Type 0) (width reach at : ℕ) (run : Option Run) (next : Run)
+pub each-one : (more : ℕ → Type 0) (width reach at : ℕ) (run : Option SliceRun) (next : SliceRun)
     (line after : Line) → ((slice : ℕ) → more slice → slice ≡ at) → more at →
     IsRun width reach next → IsInRun next.first next.last at →
     ((other : ℕ) → IsInRun next.first next.last other → IsInIf run other ⊎ (other ≡ at)) →
@@ -57,7 +57,7 @@ each-one more width reach at run next line after one is shape has own all only =
     by slice (inr b) = inl (subst (IsInRun next.first next.last) (sym (one slice b)) has)
 
 -- some are, and then others
-pub each-then : (some more all : ℕ → Type 0) (width reach : ℕ) (run mid next : Option Run)
+pub each-then : (some more all : ℕ → Type 0) (width reach : ℕ) (run mid next : Option SliceRun)
     (line half after : Line) → ((slice : ℕ) → some slice → all slice) →
     ((slice : ℕ) → more slice → all slice) → ((slice : ℕ) → all slice → some slice ⊎ more slice) →
     TouchesEach some width reach run mid line half →
@@ -96,7 +96,7 @@ each-then some more all width reach run mid next line half after first second pa
     by slice (inr b) = tell slice (parts slice b)
 
 -- the same slices in other words
-pub each-same : (some all : ℕ → Type 0) (width reach : ℕ) (run next : Option Run)
+pub each-same : (some all : ℕ → Type 0) (width reach : ℕ) (run next : Option SliceRun)
     (line after : Line) → ((slice : ℕ) → some slice → all slice) →
     ((slice : ℕ) → all slice → some slice) → TouchesEach some width reach run next line after →
     TouchesEach all width reach run next line after
@@ -116,7 +116,7 @@ each-same some all width reach run next line after to from one = record {
     back slice (inr b) = inr (from slice b)
 
 -- all are passed, and what is near the run that waits is forgotten
-pub each-ends : (touched : ℕ → Type 0) (width reach : ℕ) (next : Option Run)
+pub each-ends : (touched : ℕ → Type 0) (width reach : ℕ) (next : Option SliceRun)
     (line half after : Line) → TouchesEach touched width reach None next line half →
     Forgets (IsInIf next) width half after → Forgets touched width line after
 each-ends touched width reach next line half after one last = record {

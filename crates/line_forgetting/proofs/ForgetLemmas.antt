@@ -6,7 +6,7 @@ use Rattle.burn_core.specs.Alert.{reach_of}
 use Rattle.alert_line.specs.Line.{Line}
 use Rattle.line_forgetting.specs.Touched.{Forgets, ForgetsOnly, IsClear, IsForgetting, IsInIf}
 use Rattle.line_forgetting.specs.Touched.{IsInRun, IsRun, Touches, is_near}
-use Rattle.line_forgetting.specs.declared.run.Run.{Run}
+use Rattle.line_forgetting.specs.declared.run.SliceRun.{SliceRun}
 
 -- to forget nothing
 pub only-none : (touched : ℕ → Type 0) (width : ℕ) (line : Line) →
@@ -54,7 +54,7 @@ forgetting-begins touched so_far width line none = record {
 }
 
 -- more is passed, in which nothing is touched
-pub forgetting-passes : (touched so_far by_now : ℕ → Type 0) (width : ℕ) (run : Option Run)
+pub forgetting-passes : (touched so_far by_now : ℕ → Type 0) (width : ℕ) (run : Option SliceRun)
     (before line : Line) → ((slice : ℕ) → by_now slice → so_far slice) →
     IsForgetting touched so_far width run before line →
     IsForgetting touched by_now width run before line
@@ -66,7 +66,8 @@ forgetting-passes touched so_far by_now width run before line less so = record {
 }
 
 -- some slices more are touched
-pub forgetting-goes : (touched so_far by_now more : ℕ → Type 0) (width : ℕ) (run next : Option Run)
+pub forgetting-goes : (touched so_far by_now more : ℕ → Type 0) (width : ℕ)
+    (run next : Option SliceRun)
     (before line after : Line) → ((slice : ℕ) → more slice → touched slice) →
     ((slice : ℕ) → by_now slice → so_far slice ⊎ more slice) →
     Touches more width (reach_of before.rule) run next line after →
@@ -95,7 +96,7 @@ forgetting-goes touched so_far by_now more width run next before line after own 
     by slice (inr b) = inl (step.has slice b)
 
 -- all is passed, and what is near the run that waits is forgotten
-pub forgetting-ends : (touched so_far : ℕ → Type 0) (width : ℕ) (run : Option Run)
+pub forgetting-ends : (touched so_far : ℕ → Type 0) (width : ℕ) (run : Option SliceRun)
     (before line after : Line) → ((slice : ℕ) → touched slice → so_far slice) →
     IsForgetting touched so_far width run before line → Forgets (IsInIf run) width line after →
     Forgets touched width before after
@@ -117,7 +118,7 @@ forgets-none touched width line none = record {
 }
 
 -- One slice is touched: it joins the run that waits, or what is near that is forgotten.
-pub touches-one : (more : ℕ → Type 0) (width reach at : ℕ) (run : Option Run) (next : Run)
+pub touches-one : (more : ℕ → Type 0) (width reach at : ℕ) (run : Option SliceRun) (next : SliceRun)
     (line after : Line) → ((slice : ℕ) → more slice → slice ≡ at) → more at →
     IsRun width reach next → IsInRun next.first next.last at →
     ((other : ℕ) → IsInRun next.first next.last other → IsInIf run other ⊎ (other ≡ at)) →

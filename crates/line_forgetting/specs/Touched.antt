@@ -13,7 +13,7 @@ use Rattle.office_history.specs.declared.Measure.{Measure}
 use Rattle.kept_sums.specs.Replacing.{HasMoved}
 use Rattle.kept_sums.specs.Sums.{row_counts}
 use Rattle.kept_sums.specs.Walks.{made_on}
-use Rattle.line_forgetting.specs.declared.run.Run.{Run}
+use Rattle.line_forgetting.specs.declared.run.SliceRun.{SliceRun}
 use Rattle.alert_line.specs.Line.{Agrees, Line, SameAlert, knowledge}
 
 -- A minute is near a slice [l, l + width) where its condition may look at it: it lies in
@@ -64,7 +64,7 @@ LinesAgreeAgain =
     Agrees line old → Agrees line new
 
 -- a slice of a run, if there is one
-abbrev pub IsInIf : Option Run → ℕ → Type 0
+abbrev pub IsInIf : Option SliceRun → ℕ → Type 0
 IsInIf None slice = ⊥
 IsInIf (Some run) slice = IsInRun run.first run.last slice
 
@@ -73,13 +73,13 @@ abbrev pub LAST_MINUTE : ℕ
 LAST_MINUTE = MAX_MINUTE + RANGE_MINUTES
 
 -- A run of slices of the office's minutes. Where it has several, the minutes near them have no gap.
-pub record IsRun (width reach : ℕ) (run : Run) : Type 0 where
+pub record IsRun (width reach : ℕ) (run : SliceRun) : Type 0 where
   pub order : run.first ≤ run.last
   pub early : run.last * width ≤ LAST_MINUTE
   pub joined : run.first < run.last → 2 * width ≤ reach + 1
 
 -- such a run, if there is one
-abbrev pub IsRunIf : ℕ → ℕ → Option Run → Type 0
+abbrev pub IsRunIf : ℕ → ℕ → Option SliceRun → Type 0
 IsRunIf width reach None = Unit {0}
 IsRunIf width reach (Some run) = IsRun width reach run
 
@@ -140,7 +140,7 @@ pub record IsThatOne (at : ℕ) (counts : Counts) (slice : ℕ) : Type 0 where
 
 -- Some slices more are touched: they are in the run that waits then. So is what was in the one
 -- before it, or nothing is known near that any more.
-pub record Touches (more : ℕ → Type 0) (width reach : ℕ) (run next : Option Run)
+pub record Touches (more : ℕ → Type 0) (width reach : ℕ) (run next : Option SliceRun)
     (line after : Line) : Type 0 where
   pub runs : IsRunIf width reach next
   pub has : (slice : ℕ) → more slice → IsInIf next slice
@@ -150,7 +150,7 @@ pub record Touches (more : ℕ → Type 0) (width reach : ℕ) (run next : Optio
 
 -- Some slices more are touched, one after the other: what is near them, or near the run that
 -- waited, isn't known any more, but for the run that waits then.
-pub record TouchesEach (more : ℕ → Type 0) (width reach : ℕ) (run next : Option Run)
+pub record TouchesEach (more : ℕ → Type 0) (width reach : ℕ) (run next : Option SliceRun)
     (line after : Line) : Type 0 where
   pub runs : IsRunIf width reach next
   pub own : (slice : ℕ) → IsInIf next slice → IsInIf run slice ⊎ more slice
@@ -160,7 +160,7 @@ pub record TouchesEach (more : ℕ → Type 0) (width reach : ℕ) (run next : O
 
 -- On the way: what is near the slices so far is forgotten, but for the run that waits, and nothing
 -- that is near no touched slice.
-pub record IsForgetting (touched so_far : ℕ → Type 0) (width : ℕ) (run : Option Run)
+pub record IsForgetting (touched so_far : ℕ → Type 0) (width : ℕ) (run : Option SliceRun)
     (before line : Line) : Type 0 where
   pub only : ForgetsOnly touched width before line
   pub runs : IsRunIf width (reach_of before.rule) run

@@ -18,7 +18,7 @@ use sample_book::{Row, RowVerdict, SampleBook};
 /// A line of the objective forgets what is near the slices of the rows that move, and nothing else,
 /// before its sums follow the batch. Marks are merged: what is near neighbouring slices is
 /// forgotten at once. `width` is that of the objective's slices.
-pub fn forget_rows(
+pub fn forget_near_batch(
     line: &mut AlertLine,
     rule: &AlertRule,
     measure: &Measure,

@@ -10,7 +10,7 @@ ghost use Rattle.kept_sums.specs.Walks.{IsChanged, made_on};
 ghost use Rattle.line_forgetting.specs.Touched.{Forgets, HasChanged, IsChangedRow, IsCut, IsRunIf};
 ghost use Rattle.line_forgetting.specs.Touched.{LAST_MINUTE, TouchesEach};
 
-use crate::run::{Run, forget_waiting, touch};
+use crate::run::{SliceRun, forget_waiting, touch};
 use crate::whole::forget_whole;
 use alert_line::AlertLine;
 use burn_core::AlertRule;
@@ -87,10 +87,10 @@ fn touch_cut(
     width: u32,
     book: &SampleBook,
     value: &Exclusion,
-    waiting: Option<Run>,
+    waiting: Option<SliceRun>,
     from: u32,
     to: u32,
-) -> Option<Run>
+) -> Option<SliceRun>
     requires rule { line.old.rule ≡ rule.now }
     requires ranges { IsRule rule.now }
     requires some { 0 < width }
@@ -120,7 +120,7 @@ fn touch_range(
     book: &SampleBook,
     sums: &WindowSums,
     value: &Exclusion,
-) -> Option<Run>
+) -> Option<SliceRun>
     requires rule { line.old.rule ≡ rule.now }
     requires ranges { IsRule rule.now }
     requires width { width ≡ width_of measure.now.method }
@@ -160,7 +160,7 @@ fn touch_range(
 /// range is looked up in the sums; only the rows of the slices that the range cuts are looked at.
 /// Marks are merged: what is near neighbouring slices is forgotten at once. `width` is that of the
 /// objective's slices.
-pub fn forget_exclusion(
+pub fn forget_near_exclusion(
     line: &mut AlertLine,
     rule: &AlertRule,
     measure: &Measure,

@@ -6,13 +6,13 @@
 mod batch;
 mod exclusion;
 pub mod laws;
-mod right;
+mod right_lines;
 mod run;
 mod whole;
 
-pub use batch::forget_rows;
-pub use exclusion::forget_exclusion;
-pub use right::{
+pub use batch::forget_near_batch;
+pub use exclusion::forget_near_exclusion;
+pub use right_lines::{
     lines_stay_right_over_batches, lines_stay_right_over_exclusions,
     lines_stay_right_where_minutes_are_alike, right_lines_agree,
 };

@@ -9,13 +9,13 @@ use burn_core::AlertRule;
 
 // The slices from the first to the last.
 #[derive(Clone, Copy)]
-pub(crate) struct Run {
+pub(crate) struct SliceRun {
     pub(crate) first: u32,
     pub(crate) last: u32,
 }
 
 // Forgets what is near the slices of a run.
-fn forget_run(line: &mut AlertLine, rule: &AlertRule, width: u32, run: Run)
+fn forget_run(line: &mut AlertLine, rule: &AlertRule, width: u32, run: SliceRun)
     requires rule { line.old.rule ≡ rule.now }
     requires ranges { IsRule rule.now }
     requires some { 0 < width }
@@ -30,7 +30,12 @@ fn forget_run(line: &mut AlertLine, rule: &AlertRule, width: u32, run: Run)
 }
 
 // Forgets what is near the slices of the run that waits, if one does.
-pub(crate) fn forget_waiting(line: &mut AlertLine, rule: &AlertRule, width: u32, run: Option<Run>)
+pub(crate) fn forget_waiting(
+    line: &mut AlertLine,
+    rule: &AlertRule,
+    width: u32,
+    run: Option<SliceRun>,
+)
     requires rule { line.old.rule ≡ rule.now }
     requires ranges { IsRule rule.now }
     requires some { 0 < width }
@@ -45,7 +50,7 @@ pub(crate) fn forget_waiting(line: &mut AlertLine, rule: &AlertRule, width: u32,
 }
 
 // A run with one slice more, where that is in it or beside it, and no gap comes of it.
-fn joined(run: Option<Run>, rule: &AlertRule, width: u32, slice: u32) -> Option<Run>
+fn joined(run: Option<SliceRun>, rule: &AlertRule, width: u32, slice: u32) -> Option<SliceRun>
     requires small { width ≤ 60 }
     requires ranges { IsRule rule.now }
     requires early { slice * width ≤ LAST_MINUTE }
@@ -65,13 +70,13 @@ fn joined(run: Option<Run>, rule: &AlertRule, width: u32, slice: u32) -> Option<
         return None;
     }
     if slice == run.last + 1 {
-        return Some(Run {
+        return Some(SliceRun {
             first: run.first,
             last: slice,
         });
     }
     if slice + 1 == run.first {
-        return Some(Run {
+        return Some(SliceRun {
             first: slice,
             last: run.last,
         });
@@ -85,9 +90,9 @@ pub(crate) fn touch(
     line: &mut AlertLine,
     rule: &AlertRule,
     width: u32,
-    waiting: Option<Run>,
+    waiting: Option<SliceRun>,
     slice: u32,
-) -> Run
+) -> SliceRun
     requires rule { line.old.rule ≡ rule.now }
     requires ranges { IsRule rule.now }
     requires some { 0 < width }
@@ -106,7 +111,7 @@ pub(crate) fn touch(
         return run;
     }
     forget_waiting(line, rule, width, waiting);
-    Run {
+    SliceRun {
         first: slice,
         last: slice,
     }

@@ -5,7 +5,7 @@ ghost use Rattle.window_sums.specs.Slices.{no_counts, slices_a_day};
 ghost use Rattle.line_forgetting.specs.Touched.{IsCountedIn, IsCountedOn, IsRunIf, IsThatOne};
 ghost use Rattle.line_forgetting.specs.Touched.{LAST_MINUTE, TouchesEach};
 
-use crate::run::{Run, touch};
+use crate::run::{SliceRun, touch};
 use alert_line::AlertLine;
 use burn_core::AlertRule;
 use kept_sums::NO_COUNTS;
@@ -17,10 +17,10 @@ fn touch_counted(
     line: &mut AlertLine,
     rule: &AlertRule,
     width: u32,
-    waiting: Option<Run>,
+    waiting: Option<SliceRun>,
     slice: u32,
     counts: Counts,
-) -> Option<Run>
+) -> Option<SliceRun>
     requires rule { line.old.rule ≡ rule.now }
     requires ranges { IsRule rule.now }
     requires some { 0 < width }
@@ -42,11 +42,11 @@ fn forget_on_day(
     rule: &AlertRule,
     width: u32,
     sums: &WindowSums,
-    waiting: Option<Run>,
+    waiting: Option<SliceRun>,
     day: u32,
     first: u32,
     end: u32,
-) -> Option<Run>
+) -> Option<SliceRun>
     requires rule { line.old.rule ≡ rule.now }
     requires ranges { IsRule rule.now }
     requires some { 0 < width }
@@ -76,10 +76,10 @@ pub(crate) fn forget_whole(
     rule: &AlertRule,
     width: u32,
     sums: &WindowSums,
-    waiting: Option<Run>,
+    waiting: Option<SliceRun>,
     first: u32,
     end: u32,
-) -> Option<Run>
+) -> Option<SliceRun>
     requires rule { line.old.rule ≡ rule.now }
     requires ranges { IsRule rule.now }
     requires some { 0 < width }

@@ -5,8 +5,8 @@
 
 mod changes;
 pub mod laws;
+mod notices;
 mod take;
-mod telling;
 mod tick;
 
 pub use take::{apply_take, judge_take};

@@ -16,7 +16,7 @@ ghost use Rattle.kept_lines.specs.Sums.{samples_of};
 ghost use Rattle.notice_changes.specs.States.{AreByBinding};
 
 use crate::changes::changes;
-use crate::telling::tell;
+use crate::notices::tell;
 use burn_core::State;
 use catalog_terms::Binding;
 use kept_lines::{KeptLines, states_over};

@@ -23,7 +23,7 @@ use Rattle.office_history.specs.Legal.{IsLegal, MayFollow, empty, followed}
 use Rattle.kept_sums.specs.declared.ObjectiveSums.{ObjectiveSums}
 use Rattle.kept_sums.specs.Objectives.{KeepsSums}
 use Rattle.office_derived.specs.declared.Derived.{Derived}
-use Rattle.office_derived.specs.Derived.{HasRoom, IsFound, IsNext, IsPlaced, IsRead, IsSound}
+use Rattle.office_derived.specs.Derived.{HasRoom, IsFound, IsNext, IsPlaced, IsSound, RowIsRead}
 use Rattle.office_derived.specs.Derived.{Reflects, Stays, command_of, entry_of}
 use Rattle.office_derived.proofs.Sound.{sound_stays}
 use Rattle.office_core.specs.declared.machine.Pending.{Pending}
@@ -36,7 +36,7 @@ use Rattle.kept_lines.specs.Plans.{IsLinesPlan}
 use Rattle.kept_lines.specs.declared.LinesPlan.{LinesPlan}
 use Rattle.kept_lines.specs.declared.WatchLine.{WatchLine}
 use Rattle.office_core.specs.Forgetting.{ForgetsOnlyNear}
-use Rattle.office_core.specs.Machine.{HasLinesPlan, IsKept, IsReady, IsReadyIf, office_of}
+use Rattle.office_core.specs.Machine.{HasLinesPlan, IsReady, IsReadyIf, MachineIsKept, office_of}
 use Rattle.office_core.specs.Machine.{pending_of}
 
 -- the office of the bytes with one record more
@@ -63,7 +63,7 @@ follows_next : (d : Derived) (o : Office) (p : Pending) → IsNext d o p.moment 
 follows_next d o p n = record { in_range = n.in_range; later = n.later; accepted = n.accepted }
 
 pub committed : (d d' : Derived) (lines : LinesKept) (bytes bytes' piece : List ℕ) (spare : ℕ)
-    (kept : Option Pending) (p : Pending) (e : Entry) → IsKept d lines bytes spare kept →
+    (kept : Option Pending) (p : Pending) (e : Entry) → MachineIsKept d lines bytes spare kept →
     Some p ≡ kept →
     pending_of kept ≡ Some e → piece ≡ record_of e → bytes' ≡ bytes ++ piece →
     ((o : Office) → IsNext d o p.moment p.work
@@ -86,7 +86,7 @@ committed d d' lines bytes bytes' piece spare kept p e k is pending piece-is add
 -- and what the lines forget is what its entry allows
 pub forgotten : (d : Derived) (lines : LinesKept) (bytes : List ℕ) (spare : ℕ)
     (kept : Option Pending) (p : Pending) (e : Entry) (new : List WatchLine) →
-    IsKept d lines bytes spare kept → Some p ≡ kept → pending_of kept ≡ Some e →
+    MachineIsKept d lines bytes spare kept → Some p ≡ kept → pending_of kept ≡ Some e →
     ((o : Office) → IsNext d o p.moment p.work →
     ForgetsOnlyNear o (entry_of p.moment p.work) lines.kept new) →
     ForgetsOnlyNear (office_of d bytes) e lines.kept new
@@ -100,7 +100,7 @@ forgotten d lines bytes spare kept p e new k is pending forgets =
 pub kept_next : OneRecordMore → (d d' : Derived)
     (lines : LinesKept) (bytes bytes' : List ℕ) (spare : ℕ) (pending : Option Pending) (e : Entry) →
     IsCommitted d d' bytes bytes' e → IsSound d' →
-    HasLines d' lines.kept → pending ≡ None → IsKept d' lines bytes' spare pending
+    HasLines d' lines.kept → pending ≡ None → MachineIsKept d' lines bytes' spare pending
 kept_next law d d' lines bytes bytes' spare pending e k sound right none =
     let one = law bytes e k.records k.fits in
     let next = office_next law d d' bytes bytes' e k.records k.fits k.bytes k.reflects in
@@ -130,7 +130,8 @@ present_fits a (e ∷ h) few all =
     present_fits (max a e.moment) h (omega (arith, few, all.0.moment)) all.1
 
 pub readable : (d : Derived) (lines : LinesKept)
-    (bytes : List ℕ) (spare : ℕ) (pending : Option Pending) → IsKept d lines bytes spare pending
+    (bytes : List ℕ) (spare : ℕ) (pending : Option Pending)
+    → MachineIsKept d lines bytes spare pending
     → present (office_of d bytes) ≤ most.MAX_MINUTE
 readable d lines bytes spare pending k =
     present_fits d.origin (history_of bytes) (omega (arith, k.sound.origin)) k.records.fit
@@ -229,8 +230,9 @@ ready_learnt d lines lines' o spare (Some p) same ready = record {
 
 -- lines that know more are kept as well
 pub lines_learnt : (d : Derived) (lines lines' : LinesKept) (bytes : List ℕ) (spare : ℕ)
-    (pending : Option Pending) → IsKept d lines bytes spare pending → HasLines d lines'.kept →
-    lines'.spare ≡ lines.spare → IsKept d lines' bytes spare pending
+    (pending : Option Pending) → MachineIsKept d lines bytes spare pending
+    → HasLines d lines'.kept →
+    lines'.spare ≡ lines.spare → MachineIsKept d lines' bytes spare pending
 lines_learnt d lines lines' bytes spare pending k right same = record {
   records = k.records;
   sound = k.sound;
@@ -243,11 +245,11 @@ lines_learnt d lines lines' bytes spare pending k right same = record {
 -- the machine whose derived part got room, with nothing pending
 pub kept_stays : (d d' : Derived) (lines lines' : LinesKept) (bytes bytes' : List ℕ)
     (spare spare' : ℕ) (pending pending' : Option Pending) →
-    IsKept d lines bytes spare pending → Stays d d' →
+    MachineIsKept d lines bytes spare pending → Stays d d' →
     HasLines d lines'.kept → bytes' ≡ bytes → pending' ≡ None →
-    IsKept d' lines' bytes' spare' pending'
+    MachineIsKept d' lines' bytes' spare' pending'
 kept_stays d d' lines lines' bytes bytes' spare spare' pending pending' k s right is none =
-    subst (λ (bs : List ℕ). IsKept d' lines' bs spare' pending') (sym is) (record {
+    subst (λ (bs : List ℕ). MachineIsKept d' lines' bs spare' pending') (sym is) (record {
       records = k.records;
       sound = sound_stays d d' s k.sound;
       reflects = subst (Reflects d') (office_stays d d' bytes s)
@@ -260,13 +262,14 @@ kept_stays d d' lines lines' bytes bytes' spare spare' pending pending' k s righ
 -- the machine with a command that was accepted and found room
 pub kept_ready : (d d' : Derived) (lines lines' : LinesKept)
     (bytes bytes' : List ℕ) (spare spare' : ℕ) (pending pending' : Option Pending) (p : Pending) →
-    IsKept d lines bytes spare pending → Stays d d' →
+    MachineIsKept d lines bytes spare pending → Stays d d' →
     HasLines d lines'.kept → HasLinesPlan d lines' p.work p.plan → bytes' ≡ bytes →
     pending' ≡ Some p → present (office_of d bytes) ≤ p.moment →
     p.moment < end_of d.origin → Judges (office_of d bytes) p.moment (command_of p.work) Accepted →
     IsFound (office_of d bytes) p.moment p.work →
     HasRoom d' p.work → FitsRecord (entry_of p.moment p.work) →
-    length (record_of (entry_of p.moment p.work)) ≤ spare' → IsKept d' lines' bytes' spare' pending'
+    length (record_of (entry_of p.moment p.work)) ≤ spare'
+    → MachineIsKept d' lines' bytes' spare' pending'
 kept_ready d d' lines lines' bytes bytes' spare spare' pending pending' p k s right planned is some
     later in_range accepted found room fits few =
     let reflects : Reflects d' (office_of d bytes) =
@@ -286,7 +289,7 @@ kept_ready d d' lines lines' bytes bytes' spare spare' pending pending' p k s ri
       bytes = few;
       plan = plan_stays d d' lines' p.work p.plan s planned;
     } in
-    subst (λ (bs : List ℕ). IsKept d' lines' bs spare' pending') (sym is) (record {
+    subst (λ (bs : List ℕ). MachineIsKept d' lines' bs spare' pending') (sym is) (record {
       records = k.records;
       sound = sound_stays d d' s k.sound;
       reflects = subst (Reflects d') same reflects;
@@ -345,11 +348,11 @@ pub kept_new : NoBytesAreNoHistory →
     d.origin ≤ most.MAX_MINUTE → d.entries ≡ 0 → d.present ≡ d.origin → d.catalog ≡ [] →
     d.zones.kept ≡ [] →
     Holds [] d.book.rows d.book.exclusions → d.sums.kept ≡ [] → d.accepted ≡ 0 →
-    d.notices.made ≡ [] → d.states.items ≡ [] → IsKept d lines bytes spare None
+    d.notices.made ≡ [] → d.states.items ≡ [] → MachineIsKept d lines bytes spare None
 kept_new law d lines bytes spare no_lines is origin entries now catalog zones held sums accepted
     notices states =
     let rows : d.book.rows ≡ [] = rows-held [] d.book.rows d.book.exclusions held in
-    subst (λ (bs : List ℕ). IsKept d lines bs spare None) (sym is) (record {
+    subst (λ (bs : List ℕ). MachineIsKept d lines bs spare None) (sym is) (record {
       records = law.0;
       sound = record {
         origin = omega (arith, origin);
@@ -358,7 +361,7 @@ kept_new law d lines bytes spare no_lines is origin entries now catalog zones he
         accepted = omega (arith, accepted);
         few_waiting = omega (arith, ap waiting notices);
         made = omega (arith, ap length notices);
-        read = none_of (IsRead d.catalog) d.book.rows rows;
+        read = none_of (RowIsRead d.catalog) d.book.rows rows;
         placed = none_of (IsPlaced d.origin) d.book.rows rows;
         sums = none_kept d.catalog d.book.exclusions d.book.rows d.sums.kept catalog sums;
       };

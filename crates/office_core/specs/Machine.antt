@@ -60,7 +60,7 @@ IsReadyIf d lines o spare None = Unit {0}
 IsReadyIf d lines o spare (Some p) = IsReady d lines o spare p
 
 -- what the machine keeps is what its history says
-pub record IsKept (d : Derived) (lines : LinesKept) (bytes : List ℕ) (spare : ℕ)
+pub record MachineIsKept (d : Derived) (lines : LinesKept) (bytes : List ℕ) (spare : ℕ)
     (pending : Option Pending) : Type 0 where
   pub records : AreRecords bytes
   pub sound : IsSound d

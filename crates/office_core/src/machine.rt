@@ -25,7 +25,7 @@ ghost use Rattle.kept_lines.specs.Lines.{HasLines};
 ghost use Rattle.notice_changes.specs.Works.{TellsFew};
 ghost use Rattle.office_core.specs.Forgetting.{ForgetsOnlyNear};
 ghost use Rattle.office_core.specs.Lent.{CountTheSame, LendsLine, LendsSums};
-ghost use Rattle.office_core.specs.Machine.{HasLinesPlan, HasRevisions, IsKept, IsPending};
+ghost use Rattle.office_core.specs.Machine.{HasLinesPlan, HasRevisions, IsPending, MachineIsKept};
 ghost use Rattle.office_core.specs.Machine.{IsVerdict, office_of, pending_of};
 ghost use Rattle.office_core.specs.declared.machine.Pending.{Pending};
 
@@ -100,7 +100,7 @@ pub struct Core {
 
 impl Model for Core {
     ghost use Rattle.std.specs.Prelude.{◌-◌, vec_capacity, vec_len};
-    ghost use Rattle.office_core.specs.Machine.{IsKept, office_of, pending_of};
+    ghost use Rattle.office_core.specs.Machine.{MachineIsKept, office_of, pending_of};
     ghost use Rattle.office_core.specs.Seen.{Machine};
 
     ghost Value = { Machine };
@@ -112,7 +112,7 @@ impl Model for Core {
       lines = a.lines.kept;
     } };
 
-    ghost invariant = { λ a. IsKept a.derived a.lines a.records.items
+    ghost invariant = { λ a. MachineIsKept a.derived a.lines a.records.items
         (vec_capacity a.records - vec_len a.records) a.pending };
 }
 
@@ -341,12 +341,12 @@ fn judge_and_make_room(
     command: &Command,
 ) -> (Verdict, Option<Pending>)
     requires kept { (spare : ℕ) × (pending : Option Pending)
-        × IsKept derived.old lines.old records.old.items spare pending }
+        × MachineIsKept derived.old lines.old records.old.items spare pending }
     requires later { present (office_of derived.old records.old.items) ≤ moment }
     requires in_range { moment < end_of derived.old.origin }
     requires readable { moment ≤ MAX_MINUTE }
     requires revisions { HasRevisions command.now }
-    ensures kept { IsKept derived.new lines.new records.new.items
+    ensures kept { MachineIsKept derived.new lines.new records.new.items
         (vec_capacity records.new - vec_len records.new) result.1 }
     ensures office { office_of derived.new records.new.items
         ≡ office_of derived.old records.old.items }

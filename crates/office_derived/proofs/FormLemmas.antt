@@ -14,10 +14,10 @@ use Rattle.kept_sums.proofs.ObjectiveLemmas.{named}
 use Rattle.office_history.specs.declared.Measure.{Measure}
 use Rattle.office_history.specs.Objectives.{reading_named}
 use Rattle.office_derived.specs.declared.derived.Derived.{Derived}
-use Rattle.office_derived.specs.Derived.{IsRead, IsSound}
+use Rattle.office_derived.specs.Derived.{IsSound, RowIsRead}
 
 fits : (members : List Object) (m : Measure) (row : Row) → IsObjective members m →
-    IsRead members row → RowFits m row
+    RowIsRead members row → RowFits m row
 fits members m row is read own =
     let known = named members m.slo is.number m is.there in
     let same : row.sli ≡ m.sli = (bytes_eq-Decides row.sli m.sli).0 own in
@@ -28,7 +28,7 @@ fits members m row is read own =
 
 -- each row that the catalog reads has the form that an objective wants
 pub all_fit : (members : List Object) (m : Measure) (rows : List Row) → IsObjective members m →
-    AllByRecursion (IsRead members) rows → AllByRecursion (RowFits m) rows
+    AllByRecursion (RowIsRead members) rows → AllByRecursion (RowFits m) rows
 all_fit members m [] is read = tt
 all_fit members m (row ∷ rows) is read =
     (fits members m row is read.0, all_fit members m rows is read.1)
@@ -36,7 +36,7 @@ all_fit members m (row ∷ rows) is read =
 -- and so for all objectives whose sums are kept
 pub all_forms : (members : List Object) (kept : List ObjectiveSums) (rows : List Row) →
     AllByRecursion (λ (k : ObjectiveSums). IsObjective members k.measure) kept →
-    AllByRecursion (IsRead members) rows →
+    AllByRecursion (RowIsRead members) rows →
     AllByRecursion (λ (k : ObjectiveSums). AllByRecursion (RowFits k.measure) rows) kept
 all_forms members [] rows only read = tt
 all_forms members (k ∷ kept) rows only read =
@@ -48,4 +48,4 @@ pub sound_forms : (d : Derived) → IsSound d →
     d.sums.kept
 sound_forms d s =
     all_forms d.catalog d.sums.kept d.book.rows s.sums.only
-    (recursion_from_All (IsRead d.catalog) d.book.rows s.read)
+    (recursion_from_All (RowIsRead d.catalog) d.book.rows s.read)

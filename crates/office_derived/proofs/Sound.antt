@@ -9,7 +9,7 @@ use Rattle.kept_sums.specs.declared.ObjectiveSums.{ObjectiveSums}
 use Rattle.kept_sums.specs.Objectives.{KeepsSums}
 use Rattle.office_history.specs.Notices.{waiting}
 use Rattle.office_derived.specs.declared.derived.Derived.{Derived}
-use Rattle.office_derived.specs.Derived.{IsPlaced, IsRead, IsSound, Stays}
+use Rattle.office_derived.specs.Derived.{IsPlaced, IsSound, RowIsRead, Stays}
 
 -- what the sums of the objectives rest on
 record Sampled : Type 0 where
@@ -65,8 +65,8 @@ sound_still d d' s origin catalog made rows kept accepted entries few all = reco
   accepted = omega (arith, accepted, s.accepted);
   few_waiting = few;
   made = all;
-  read = subst (λ (rs : List Row). All (IsRead d'.catalog) rs) (sym rows)
-      (subst (λ (os : List Object). All (IsRead os) d.book.rows) (sym catalog) s.read);
+  read = subst (λ (rs : List Row). All (RowIsRead d'.catalog) rs) (sym rows)
+      (subst (λ (os : List Object). All (RowIsRead os) d.book.rows) (sym catalog) s.read);
   placed = subst (λ (rs : List Row). All (IsPlaced d'.origin) rs) (sym rows)
       (subst (λ n. All (IsPlaced n) d.book.rows) (sym origin) s.placed);
   sums = sums_still d d' catalog made rows kept s.sums;
@@ -81,8 +81,8 @@ sound_stays a b s k = record {
   accepted = omega (arith, s.accepted, k.accepted);
   few_waiting = omega (arith, ap waiting s.notices, k.few_waiting);
   made = omega (arith, ap length s.notices, ap waiting s.notices, s.entries, k.made);
-  read = subst (λ (rs : List Row). All (IsRead b.catalog) rs) (sym s.rows)
-      (subst (λ (os : List Object). All (IsRead os) a.book.rows) (sym s.catalog) k.read);
+  read = subst (λ (rs : List Row). All (RowIsRead b.catalog) rs) (sym s.rows)
+      (subst (λ (os : List Object). All (RowIsRead os) a.book.rows) (sym s.catalog) k.read);
   placed = subst (λ (rs : List Row). All (IsPlaced b.origin) rs) (sym s.rows)
       (subst (λ n. All (IsPlaced n) a.book.rows) (sym s.origin) k.placed);
   sums = s.sums k.sums;

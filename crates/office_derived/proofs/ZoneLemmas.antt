@@ -5,7 +5,7 @@ use Rattle.std.specs.List.{AllByRecursion, find}
 use Rattle.std.specs.Str.{bytes_eq}
 use Rattle.zone_calendar.specs.ZoneBytes.{zone_of}
 use Rattle.office_history.specs.Zones.{bytes_named}
-use Rattle.office_derived.specs.Zones.{IsRead}
+use Rattle.office_derived.specs.Zones.{ZoneIsRead}
 use Rattle.office_derived.specs.declared.zones.KeptZone.{KeptZone}
 use Rattle.office_derived.proofs.Lists.{map-map}
 
@@ -32,13 +32,14 @@ bytes_found (z ∷ zs) name = by (bytes_eq z.name name) (bytes_found zs name)
 
 -- and they are that zone
 pub zone_found : (zones : List KeptZone) (name : List ℕ) →
-    AllByRecursion (λ (k : KeptZone). IsRead k.bytes k.zone) zones →
+    AllByRecursion (λ (k : KeptZone). ZoneIsRead k.bytes k.zone) zones →
     option_map (λ (k : KeptZone). k.zone) (first_named zones name)
     ≡ option_and_then zone_of (bytes_named (named_bytes zones) name)
 zone_found zones name all = by_found zones all
     ∙ ap (option_and_then zone_of) (bytes_found zones name)
   where
-    by_found : (zs : List KeptZone) → AllByRecursion (λ (k : KeptZone). IsRead k.bytes k.zone) zs →
+    by_found : (zs : List KeptZone)
+        → AllByRecursion (λ (k : KeptZone). ZoneIsRead k.bytes k.zone) zs →
         option_map (λ (k : KeptZone). k.zone) (first_named zs name)
         ≡ option_and_then zone_of (option_map (λ (k : KeptZone). k.bytes) (first_named zs name))
     by_found [] all = refl

@@ -34,8 +34,8 @@ use Rattle.office_derived.specs.declared.work.Judged.TheVariants as judged
 use Rattle.office_derived.specs.Tallies.{tally_of}
 
 -- the row's indicator is a member, and reads its amount, which counts at most 10^9 events
-abbrev pub IsRead : List Object → Row → Type 0
-IsRead members row = (reading : Reading) × (reading_named members row.sli ≡ Some reading)
+abbrev pub RowIsRead : List Object → Row → Type 0
+RowIsRead members row = (reading : Reading) × (reading_named members row.sli ≡ Some reading)
     × HasForm reading row.amount × IsSmall row.amount
 
 -- the row's minute lies in the office's range
@@ -50,7 +50,7 @@ pub record IsSound (d : Derived) : Type 0 where
   pub accepted : d.accepted ≤ most.MAX_ACCEPTED_ROWS
   pub few_waiting : waiting d.notices.made ≤ most.MAX_NOTICES
   pub made : length d.notices.made ≤ waiting d.notices.made + d.entries
-  pub read : All (IsRead d.catalog) d.book.rows
+  pub read : All (RowIsRead d.catalog) d.book.rows
   pub placed : All (IsPlaced d.origin) d.book.rows
   pub sums : KeepsSums d.catalog d.book.exclusions d.book.rows d.sums.kept
 

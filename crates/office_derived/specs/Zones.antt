@@ -9,5 +9,5 @@ pub record KeptZones : Type 0 where
   pub spare : ℕ
 
 -- a zone is the one that its bytes are
-abbrev pub IsRead : List ℕ → ZoneText → Type 0
-IsRead bytes zone = zone_of bytes ≡ Some zone
+abbrev pub ZoneIsRead : List ℕ → ZoneText → Type 0
+ZoneIsRead bytes zone = zone_of bytes ≡ Some zone

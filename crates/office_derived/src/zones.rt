@@ -30,7 +30,7 @@ pub struct Zones {
 impl Model for Zones {
     ghost use Rattle.std.specs.Prelude.{◌-◌, ◌≡◌, List, Some, map, vec_capacity, vec_len};
     ghost use Rattle.std.specs.List.{AllByRecursion};
-    ghost use Rattle.office_derived.specs.Zones.{KeptZones, IsRead};
+    ghost use Rattle.office_derived.specs.Zones.{KeptZones, ZoneIsRead};
     ghost use Rattle.office_derived.specs.declared.zones.KeptZone.{KeptZone};
 
     ghost Value = { KeptZones };
@@ -40,7 +40,7 @@ impl Model for Zones {
       spare = vec_capacity a.kept - vec_len a.kept;
     } };
 
-    ghost invariant = { λ a. AllByRecursion (λ (k : KeptZone). IsRead k.bytes k.zone)
+    ghost invariant = { λ a. AllByRecursion (λ (k : KeptZone). ZoneIsRead k.bytes k.zone)
         a.kept.items };
 }
 

@@ -23,7 +23,7 @@ use Rattle.kept_sums.specs.Objectives.{AreKept, HaveForms, IsObjective, KeepsSum
 use Rattle.office_derived.specs.declared.Derived.{Derived}
 use Rattle.office_derived.specs.declared.BatchTally.{BatchTally}
 use Rattle.office_derived.specs.declared.Work.TheVariants as works
-use Rattle.office_derived.specs.Derived.{IsNext, IsRead, IsSound, Reflects, entry_of}
+use Rattle.office_derived.specs.Derived.{IsNext, IsSound, Reflects, RowIsRead, entry_of}
 use Rattle.office_derived.proofs.More.{rows_more}
 use Rattle.office_derived.proofs.FormLemmas.{all_forms}
 use Rattle.sample_changes.proofs.GoodRows.{IsGood}
@@ -107,7 +107,7 @@ pub batch_fits : (d : Derived) (o : Office) (m : ℕ) (rows : List Row) (tally :
     HaveForms rows d.sums.kept
 batch_fits d o m rows tally becomes s n =
     all_forms d.catalog d.sums.kept rows s.sums.only
-    (each (IsGood d.origin m d.catalog) (IsRead d.catalog) (λ row g. g.read) rows
+    (each (IsGood d.origin m d.catalog) (RowIsRead d.catalog) (λ row g. g.read) rows
     (rows_good d o m rows tally becomes n))
 
 pub kept_over : (made made' : List (Exclusion × Bool)) (rows rows' : List Row)

@@ -22,12 +22,12 @@ use Rattle.office_history.specs.Lists.{first_some}
 use Rattle.office_history.specs.Objectives.{reading_named}
 use Rattle.office_history.specs.Batches.{when, amount_fault, form_fault, conflict_fault, row_fault}
 use Rattle.office_history.specs.Batches.{rows_faults}
-use Rattle.office_derived.specs.Derived.{IsRead}
+use Rattle.office_derived.specs.Derived.{RowIsRead}
 
 -- A row that breaks no rule of its own: it is read, and its minute is over and not
 -- before the origin.
 pub record IsGood (origin moment : ℕ) (members : List Object) (row : Row) : Type 0 where
-  pub read : IsRead members row
+  pub read : RowIsRead members row
   pub begun : origin ≤ row.minute
   pub over : row.minute < moment
 
@@ -74,7 +74,7 @@ has_form RawFailure (amounts.Value measured) number h = record {
 }
 
 is_read : (members : List Object) (row : Row) (o : Option Reading) (number : ℕ)
-    → reading_named members row.sli ≡ o → form_fault o row number ≡ None → IsRead members row
+    → reading_named members row.sli ≡ o → form_fault o row number ≡ None → RowIsRead members row
 is_read members row None number e h = cc h
 is_read members row (Some reading) number e h =
     let f = has_form reading row.amount number h in (reading, e, f.form, f.small)

@@ -35,7 +35,7 @@ use Rattle.kept_sums.specs.Objectives.{KeepsSums}
 use Rattle.office_derived.specs.declared.Derived.{Derived}
 use Rattle.office_derived.specs.declared.BatchTally.{BatchTally}
 use Rattle.office_derived.specs.declared.Work.TheVariants as works
-use Rattle.office_derived.specs.Derived.{IsNext, IsPlaced, IsRead, IsSound, Reflects, entry_of}
+use Rattle.office_derived.specs.Derived.{IsNext, IsPlaced, IsSound, Reflects, RowIsRead, entry_of}
 use Rattle.office_derived.proofs.More.{rows_more}
 use Rattle.sample_changes.proofs.GoodRows.{IsGood, good_rows}
 use Rattle.sample_changes.proofs.Judged.{IsAccepted, accepted_keeps}
@@ -125,7 +125,7 @@ pub sound_kept : (d d' : Derived) → IsSound d → d.entries < most.MAX_ENTRIES
     d'.origin ≡ d.origin → d'.entries ≡ d.entries + 1 → d'.catalog ≡ d.catalog →
     d'.notices.made ≡ d.notices.made → length d'.book.rows ≤ most.MAX_CELLS →
     d'.accepted ≤ most.MAX_ACCEPTED_ROWS →
-    AllByRecursion (IsRead d.catalog) d'.book.rows →
+    AllByRecursion (RowIsRead d.catalog) d'.book.rows →
     AllByRecursion (IsPlaced d.origin) d'.book.rows →
     KeepsSums d'.catalog d'.book.exclusions d'.book.rows d'.sums.kept → IsSound d'
 sound_kept d d' s few origin entries catalog notices cells taken read placed sums = record {
@@ -137,8 +137,8 @@ sound_kept d d' s few origin entries catalog notices cells taken read placed sum
       (sym notices) s.few_waiting;
   made = subst (λ (made : List (Notice × Bool)). length made ≤ waiting made + d'.entries)
       (sym notices) (omega (arith, s.made, entries));
-  read = subst (λ (members : List Object). All (IsRead members) d'.book.rows) (sym catalog)
-      (All-from_recursion (IsRead d.catalog) d'.book.rows read);
+  read = subst (λ (members : List Object). All (RowIsRead members) d'.book.rows) (sym catalog)
+      (All-from_recursion (RowIsRead d.catalog) d'.book.rows read);
   placed = subst (λ (n : ℕ). All (IsPlaced n) d'.book.rows) (sym origin)
       (All-from_recursion (IsPlaced d.origin) d'.book.rows placed);
   sums = sums;
@@ -174,10 +174,10 @@ samples_sound d d' o m rows tally becomes s n r' origin entries catalog notices 
     notices
     (omega (arith, ap length is, keeps.cells))
     (omega (arith, r'.accepted ∙ ap accepted_rows (rows_more o.history e), keeps.taken))
-    (subst (AllByRecursion (IsRead d.catalog)) (sym is)
-    (all_current (IsRead d.catalog) came rows (subst (AllByRecursion (IsRead d.catalog))
-    n.reflects.rows (recursion_from_All (IsRead d.catalog) d.book.rows s.read))
-    (each (IsGood d.origin m d.catalog) (IsRead d.catalog) (λ row g. g.read) rows good)))
+    (subst (AllByRecursion (RowIsRead d.catalog)) (sym is)
+    (all_current (RowIsRead d.catalog) came rows (subst (AllByRecursion (RowIsRead d.catalog))
+    n.reflects.rows (recursion_from_All (RowIsRead d.catalog) d.book.rows s.read))
+    (each (IsGood d.origin m d.catalog) (RowIsRead d.catalog) (λ row g. g.read) rows good)))
     (subst (AllByRecursion (IsPlaced d.origin)) (sym is)
     (all_current (IsPlaced d.origin) came rows (subst (AllByRecursion (IsPlaced d.origin))
     n.reflects.rows (recursion_from_All (IsPlaced d.origin) d.book.rows s.placed))
@@ -192,8 +192,8 @@ pub sound_still : (d d' : Derived) → IsSound d → d.entries < most.MAX_ENTRIE
 sound_still d d' s few origin entries catalog notices rows taken sums =
     sound_kept d d' s few origin entries catalog notices (omega (arith, ap length rows, s.cells))
     (omega (arith, taken, s.accepted))
-    (subst (AllByRecursion (IsRead d.catalog)) (sym rows)
-    (recursion_from_All (IsRead d.catalog) d.book.rows s.read))
+    (subst (AllByRecursion (RowIsRead d.catalog)) (sym rows)
+    (recursion_from_All (RowIsRead d.catalog) d.book.rows s.read))
     (subst (AllByRecursion (IsPlaced d.origin)) (sym rows)
     (recursion_from_All (IsPlaced d.origin) d.book.rows s.placed))
     sums

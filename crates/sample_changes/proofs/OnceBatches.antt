@@ -41,7 +41,7 @@ use Rattle.office_history.specs.Judges.{Judges}
 use Rattle.office_history.specs.Legal.{IsLegal, empty, followed, office}
 use Rattle.office_history.specs.Objectives.{reading_named}
 use Rattle.office_history.specs.Verdicts.{accepted, samples_verdict, unless_refused}
-use Rattle.office_derived.specs.Derived.{IsRead}
+use Rattle.office_derived.specs.Derived.{RowIsRead}
 use Rattle.office_derived.proofs.More.{present_more, rows_more}
 use Rattle.sample_changes.specs.Once.{BatchActsOnce}
 use Rattle.sample_changes.proofs.GoodRows.{clean_row, first_parts}
@@ -283,7 +283,7 @@ no_form_fault RawFailure (amounts.Value measured) number form small =
     ap (λ b. when b (refusals.Counts number)) (le-ltb WHOLE measured form)
 
 no_row_fault : (origin m : ℕ) (members : List Object) (row : Row) (v : RowVerdict) (number : ℕ)
-    → IsRead members row → IsOver origin m row → is_settled v ≡ true
+    → RowIsRead members row → IsOver origin m row → is_settled v ≡ true
     → row_fault origin m members row v number ≡ None
 no_row_fault origin m members row v number read over settled =
     λ i. first_some (
@@ -304,7 +304,8 @@ no_row_fault origin m members row v number read over settled =
     late a b h = grind (arith, nat_tests, h)
 
 no_faults : (origin m : ℕ) (members : List Object)
-    (number : ℕ) (rows : List Row) (vs : List RowVerdict) → AllByRecursion (IsRead members) rows →
+    (number : ℕ) (rows : List Row) (vs : List RowVerdict)
+    → AllByRecursion (RowIsRead members) rows →
     AllByRecursion (IsOver origin m) rows →
     AllByRecursion (λ (v : RowVerdict). is_settled v ≡ true) vs →
     first_some (rows_faults origin m members number rows vs) ≡ None
@@ -316,7 +317,7 @@ no_faults origin m members number (row ∷ rows) (v ∷ vs) read over settled =
     ∙ no_faults origin m members (number + 1) rows vs read.1 over.1 settled.1
 
 same_again : (origin m : ℕ) (members : List Object) (came : List Row) (n : ℕ) (rows : List Row) →
-    HasCome origin m came rows → IsWithin came → AllByRecursion (IsRead members) rows →
+    HasCome origin m came rows → IsWithin came → AllByRecursion (RowIsRead members) rows →
     objective_days members (current_rows came) ≤ most.MAX_DAYS →
     samples_verdict origin m members came n rows ≡ Same (batch_outcome (verdicts came rows) None)
 same_again origin m members came n rows h w read days =

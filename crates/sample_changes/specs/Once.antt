@@ -17,7 +17,7 @@ use Rattle.office_history.specs.Catalog.{catalog_in}
 use Rattle.office_history.specs.History.{present, rows_in, current_in, changes_in}
 use Rattle.office_history.specs.Judges.{Judges}
 use Rattle.office_history.specs.Legal.{IsLegal, office}
-use Rattle.office_derived.specs.Derived.{IsRead}
+use Rattle.office_derived.specs.Derived.{RowIsRead}
 
 -- the id of an exclusion was lifted
 abbrev pub is_lifted : List Entry → List ℕ → Bool
@@ -43,7 +43,7 @@ abbrev pub BatchActsOnce : Type 0
 BatchActsOnce =
     (origin : ℕ) (h before after : List Entry) (e : Entry) (rows : List Row) (moment : ℕ) →
     IsLegal origin h → h ≡ before ++ e ∷ after → e.command ≡ Samples rows →
-    present (office origin h) ≤ moment → AllByRecursion (IsRead (catalog_in h)) rows →
+    present (office origin h) ≤ moment → AllByRecursion (RowIsRead (catalog_in h)) rows →
     objective_days (catalog_in h) (current_in h) ≤ MAX_DAYS →
     Judges (office origin h) moment (Samples rows)
     (Same (batch_outcome (verdicts (rows_in h) rows) None))

@@ -14,14 +14,16 @@ width_of-width-requires c =
 pub returns-clause-forgets : goal.returns-clause-forgets
 returns-clause-forgets c =
     forgets_same (λ m. HasMoved m c.args.rows.now c.args.verdicts.now) c.args.watch.now
-    c.measure-measure.result.now c.width_of-width.result c.args.line.now c.forget_rows.new.line
-    c.measure-measure.ensures.value c.width_of-width.ensures.value c.forget_rows.ensures
+    c.measure-measure.result.now c.width_of-width.result c.args.line.now
+    c.forget_near_batch.new.line
+    c.measure-measure.ensures.value c.width_of-width.ensures.value c.forget_near_batch.ensures
 
 pub returns-clause-right : goal.returns-clause-right
 returns-clause-right c = λ begin.
     moved_right begin c.args.book.now c.args.rows.now c.args.verdicts.now c.args.watch.now
-    c.args.line.now c.forget_rows.new.line c.measure-measure.ensures.ranges.width.some
+    c.args.line.now c.forget_near_batch.new.line c.measure-measure.ensures.ranges.width.some
     c.requires.verdicts c.rows_are_current.ensures
     (forgets_same (λ m. HasMoved m c.args.rows.now c.args.verdicts.now) c.args.watch.now
-    c.measure-measure.result.now c.width_of-width.result c.args.line.now c.forget_rows.new.line
-    c.measure-measure.ensures.value c.width_of-width.ensures.value c.forget_rows.ensures)
+    c.measure-measure.result.now c.width_of-width.result c.args.line.now
+    c.forget_near_batch.new.line
+    c.measure-measure.ensures.value c.width_of-width.ensures.value c.forget_near_batch.ensures)

@@ -1,7 +1,7 @@
 use Rattle.std.proofs.Common.{◌≡◌, ◌++◌, IfSome, drop, map}
 use Rattle.kept_lines.specs.Known.{AllKnow}
 use Rattle.kept_lines.specs.Lines.{HasLines, watches_of}
-use Rattle.kept_lines.specs.Near.{IsSeen}
+use Rattle.kept_lines.specs.BindingWalk.{IsSeen}
 use Rattle.kept_lines.specs.States.{with_state}
 use Rattle.kept_lines.proofs.states.states_of.Given as goal
 

@@ -7,7 +7,7 @@ use Rattle.office_history.specs.declared.Measure.{Measure}
 use Rattle.kept_sums.specs.Objectives.{IsObjective}
 use Rattle.kept_sums.proofs.Loops.{all_get, all_set, half_end, half_get, half_step, keys_set}
 use Rattle.kept_sums.proofs.Loops.{written_back}
-use Rattle.office_derived.specs.Derived.{IsPlaced, IsRead}
+use Rattle.office_derived.specs.Derived.{IsPlaced, RowIsRead}
 use Rattle.office_derived.proofs.FormLemmas.{all_fit}
 use Rattle.kept_lines.specs.Changes.{IsChangedBy, samples_on}
 use Rattle.kept_lines.specs.Lines.{AreRight, AreWatched, LinesKept, watches_of}
@@ -74,7 +74,7 @@ forget_changed-requires-clause-forms c =
     c.loop-kept.kept-items c.kept-item.result
     (omega (arith, c.loop-kept-test.true, c.loop-kept.auto.kept-items))
     c.loop-kept.invariant.watched))
-    (recursion_from_All (IsRead d.catalog) d.book.rows c.requires.sound.read)
+    (recursion_from_All (RowIsRead d.catalog) d.book.rows c.requires.sound.read)
 
 pub loop-kept-init : goal.loop-kept-init
 loop-kept-init c =

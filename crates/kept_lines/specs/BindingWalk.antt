@@ -5,7 +5,7 @@ use Rattle.object_terms.specs.declared.Object.{Object}
 use Rattle.catalog_terms.specs.declared.Binding.{Binding}
 use Rattle.catalog_measures.specs.Measures.{IsMeasure}
 use Rattle.office_history.specs.Objectives.{measure_at}
-use Rattle.kept_lines.specs.declared.near.Seen.{Seen}
+use Rattle.kept_lines.specs.declared.binding_walk.Seen.{Seen}
 
 -- an objective has the measure that the catalog gives it
 pub record IsSeen (members : List Object) (seen : Seen) : Type 0 where

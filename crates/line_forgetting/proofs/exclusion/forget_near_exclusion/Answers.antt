@@ -5,7 +5,7 @@ use Rattle.kept_sums.specs.Walks.{IsChanged}
 use Rattle.line_forgetting.proofs.ChangedLemmas.{none-empty, none-of_another}
 use Rattle.line_forgetting.proofs.EachLemmas.{each-ends}
 use Rattle.line_forgetting.proofs.ForgetLemmas.{forgets-none}
-use Rattle.line_forgetting.proofs.exclusion.forget_exclusion.Goals as goal
+use Rattle.line_forgetting.proofs.exclusion.forget_near_exclusion.Goals as goal
 
 pub returns-then-ne : goal.returns-then-ne
 returns-then-ne c =

@@ -1,5 +1,5 @@
 use Rattle.line_forgetting.proofs.RightLemmas.{agree-right, right-agree}
-use Rattle.line_forgetting.proofs.right.right_lines_agree.Goals as goal
+use Rattle.line_forgetting.proofs.right_lines.right_lines_agree.Goals as goal
 
 pub returns-clause-agree : goal.returns-clause-agree
 returns-clause-agree c = right-agree

@@ -10,8 +10,9 @@ use Rattle.line_forgetting.proofs.ForgetLemmas.{forgetting-begins, forgetting-en
 use Rattle.line_forgetting.proofs.ForgetLemmas.{forgetting-passes, touches-one}
 use Rattle.line_forgetting.proofs.MovedLemmas.{moved-ends, moved-here, moved-next, moved-passes}
 use Rattle.line_forgetting.proofs.MovedLemmas.{none-moved}
-use Rattle.line_forgetting.proofs.batch.forget_rows.Goals.{then-changes_counts, else-changes_counts}
-use Rattle.line_forgetting.proofs.batch.forget_rows.Goals as goal
+use Rattle.line_forgetting.proofs.batch.forget_near_batch.Goals.{then-changes_counts}
+use Rattle.line_forgetting.proofs.batch.forget_near_batch.Goals.{else-changes_counts}
+use Rattle.line_forgetting.proofs.batch.forget_near_batch.Goals as goal
 
 pub loop-place-init : goal.loop-place-init
 loop-place-init c =

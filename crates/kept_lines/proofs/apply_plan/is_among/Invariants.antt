@@ -1,7 +1,7 @@
 use Rattle.std.proofs.Common.{◌≢◌, take}
 use Rattle.std.specs.List.{AllByRecursion}
 use Rattle.office_history.specs.Alerts.{Watch}
-use Rattle.kept_lines.proofs.take.is_among.Given as goal
+use Rattle.kept_lines.proofs.apply_plan.is_among.Given as goal
 
 -- the alerts so far are others
 abbrev pub invariant-loop-other : goal.invariant-loop-other

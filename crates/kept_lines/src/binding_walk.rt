@@ -2,7 +2,7 @@
 ghost use Rattle.std.specs.Prelude.{◌≡◌, IfSome};
 ghost use Rattle.office_history.specs.Alerts.{watch_of as watch_of_def};
 ghost use Rattle.office_history.specs.Objectives.{measure_at as measure_at_def};
-ghost use Rattle.kept_lines.specs.Near.{IsSeen, is_of as is_of_def};
+ghost use Rattle.kept_lines.specs.BindingWalk.{IsSeen, is_of as is_of_def};
 
 use crate::watch::{Watch, with_rule};
 use catalog_measures::measure_at;

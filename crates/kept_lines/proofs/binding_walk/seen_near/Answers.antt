@@ -1,8 +1,8 @@
 use Rattle.std.proofs.Common.{Option, IfSome, subst, sym, ◌∙◌}
-use Rattle.kept_lines.specs.Near.{IsSeen}
-use Rattle.kept_lines.specs.declared.near.Seen.{Seen}
-use Rattle.kept_lines.proofs.NearLemmas.{seen_of}
-use Rattle.kept_lines.proofs.near.seen_near.Goals as goal
+use Rattle.kept_lines.specs.BindingWalk.{IsSeen}
+use Rattle.kept_lines.specs.declared.binding_walk.Seen.{Seen}
+use Rattle.kept_lines.proofs.BindingWalkLemmas.{seen_of}
+use Rattle.kept_lines.proofs.binding_walk.seen_near.Goals as goal
 
 pub returns-then-is_of-clause-value : goal.returns-then-is_of-clause-value
 returns-then-is_of-clause-value c =

@@ -6,8 +6,8 @@ use Rattle.std.proofs.lemmas.Slice.Eq.{bytes_eq-Decides}
 use Rattle.object_terms.specs.declared.Object.{Object}
 use Rattle.catalog_terms.specs.declared.Binding.{Binding}
 use Rattle.office_history.specs.Objectives.{measure_at}
-use Rattle.kept_lines.specs.Near.{IsSeen, is_of}
-use Rattle.kept_lines.specs.declared.near.Seen.{Seen}
+use Rattle.kept_lines.specs.BindingWalk.{IsSeen, is_of}
+use Rattle.kept_lines.specs.declared.binding_walk.Seen.{Seen}
 
 both : (a b : Bool) → a && b ≡ true → (a ≡ true) × (b ≡ true)
 both true true h = (refl, refl)

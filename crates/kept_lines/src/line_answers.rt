@@ -17,8 +17,8 @@ ghost use Rattle.kept_lines.specs.Sums.{AreSums, samples_of};
 ghost use Rattle.kept_lines.specs.Watches.{IsWatched};
 ghost use Rattle.kept_lines.specs.declared.kept.WatchLine.{WatchLine};
 
+use crate::binding_walk::{AT_THE_BEGIN, Hint};
 use crate::kept::{KeptLines, is_at, place_of};
-use crate::near::{AT_THE_BEGIN, Hint};
 use crate::sums::{objective_sums, objective_sums_at};
 use crate::watch::Watch;
 use alert_line::{AlertLine, Spans};

@@ -1,5 +1,5 @@
 use Rattle.line_forgetting.proofs.RightLemmas.{right-over-batches}
-use Rattle.line_forgetting.proofs.right.lines_stay_right_over_batches.Goals as goal
+use Rattle.line_forgetting.proofs.right_lines.lines_stay_right_over_batches.Goals as goal
 
 pub returns : goal.returns
 returns c = right-over-batches

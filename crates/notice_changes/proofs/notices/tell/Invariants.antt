@@ -1,6 +1,6 @@
 use Rattle.std.proofs.Common.{◌≡◌, ◌≤◌, ◌+◌, ◌<◌, ◌^◌, ◌++◌, drop, length}
 use Rattle.notice_changes.specs.Works.{new_notices}
-use Rattle.notice_changes.proofs.telling.tell.Given as goal
+use Rattle.notice_changes.proofs.notices.tell.Given as goal
 
 -- the notices so far and those of the changes that are left are those of all
 abbrev pub invariant-loop-change : goal.invariant-loop-change
