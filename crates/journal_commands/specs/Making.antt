@@ -4,6 +4,7 @@ use Rattle.std.specs.Prelude.{Option, Some, None}
 use Rattle.std.specs.Fmt.{decimal}
 use Rattle.office_outside.specs.Disk.{All, IsQuiet}
 use Rattle.office_outside.specs.Told.{Gained, GainedPrefix}
+use Rattle.office_outside.specs.Senses.{DiskSenses}
 use Rattle.office_session.specs.Sessions.{Reads}
 use Rattle.office_history.specs.History.{Office}
 use Rattle.slo_journal.specs.Front.{HasNoHeader, IsHeader, IsMaking}
@@ -31,16 +32,14 @@ abbrev pub HasHeader : List ℕ → Type 0
 HasHeader file = (origin : ℕ) × IsHeader origin (take 13 file)
 
 -- The file had no header where the disk tells it, and each image now stands for the new office.
-pub record IsMade {D : Type 0} (content : D → Option (List ℕ)) (images : D → List ℕ → Type 0)
-    (origin : ℕ) (old new : D) : Type 0 where
-  pub none_before : (file : List ℕ) → content old ≡ Some file → HasNoHeader file
-  pub stands : All (StandsFor (new_office origin)) (images new)
+pub record IsMade {D : Type 0} (S : DiskSenses D) (origin : ℕ) (old new : D) : Type 0 where
+  pub none_before : (file : List ℕ) → S.content old ≡ Some file → HasNoHeader file
+  pub stands : All (StandsFor (new_office origin)) (S.images new)
 
 -- A header stood in the file, where the disk tells it, and no image came up.
-pub record IsThere {D : Type 0} (content : D → Option (List ℕ)) (images : D → List ℕ → Type 0)
-    (moment : D → ℕ) (since : D → ℕ → List ℕ → Type 0) (old new : D) : Type 0 where
-  pub header : (file : List ℕ) → content old ≡ Some file → HasHeader file
-  pub quiet : IsQuiet images moment since old new
+pub record IsThere {D : Type 0} (S : DiskSenses D) (old new : D) : Type 0 where
+  pub header : (file : List ℕ) → S.content old ≡ Some file → HasHeader file
+  pub quiet : IsQuiet S old new
 
 -- What the making of a journal speaks to, at one moment: the disk, the clock's readings to come,
 -- and the bytes that the output holds.
@@ -54,38 +53,32 @@ bench disk to_come held = record { disk = disk; to_come = to_come; held = held }
 
 -- What each end says, where the clock gave this reading. An origin above it is refused, and the
 -- disk isn't touched. The output gains the origin's line, and nothing else.
-abbrev pub EndsMaking : {D : Type 0} → (D → Option (List ℕ)) → (D → List ℕ → Type 0) → (D → ℕ) →
-    (D → ℕ → List ℕ → Type 0) → ℕ → ℕ → InitEnd → Bench D → Bench D → Type 0
-EndsMaking content images moment since origin reading Done old new =
-    (origin ≤ reading) × IsMade content images origin old.disk new.disk
+abbrev pub EndsMaking : {D : Type 0} → DiskSenses D → ℕ → ℕ → InitEnd → Bench D → Bench D → Type 0
+EndsMaking S origin reading Done old new =
+    (origin ≤ reading) × IsMade S origin old.disk new.disk
     × Gained (origin_line origin) old.held new.held
-EndsMaking content images moment since origin reading OriginAboveClock old new =
+EndsMaking S origin reading OriginAboveClock old new =
     (reading < origin) × (new.disk ≡ old.disk) × (new.held ≡ old.held)
-EndsMaking content images moment since origin reading AlreadyThere old new =
-    (origin ≤ reading) × IsThere content images moment since old.disk new.disk
-    × (new.held ≡ old.held)
-EndsMaking content images moment since origin reading DiskFault old new =
+EndsMaking S origin reading AlreadyThere old new =
+    (origin ≤ reading) × IsThere S old.disk new.disk × (new.held ≡ old.held)
+EndsMaking S origin reading DiskFault old new =
     (origin ≤ reading) × (new.held ≡ old.held)
-EndsMaking content images moment since origin reading WriteFault old new =
-    (origin ≤ reading) × IsMade content images origin old.disk new.disk
+EndsMaking S origin reading WriteFault old new =
+    (origin ≤ reading) × IsMade S origin old.disk new.disk
     × GainedPrefix (origin_line origin) old.held new.held
-EndsMaking content images moment since origin reading NoMemory old new =
+EndsMaking S origin reading NoMemory old new =
     (origin ≤ reading) × (new.disk ≡ old.disk) × (new.held ≡ old.held)
 
 -- No image came up; or the file had no header, and from some moment on each image has none, or
 -- stands for the origin and no records.
-abbrev pub QuietOrMaking : {D : Type 0} → (D → Option (List ℕ)) → (D → List ℕ → Type 0) →
-    (D → ℕ) → (D → ℕ → List ℕ → Type 0) → ℕ → D → D → Type 0
-QuietOrMaking content images moment since origin old new =
-    IsQuiet images moment since old new ⊎ IsMaking content images moment since origin old new
+abbrev pub QuietOrMaking : {D : Type 0} → DiskSenses D → ℕ → D → D → Type 0
+QuietOrMaking S origin old new = IsQuiet S old new ⊎ IsMaking S origin old new
 
 -- A journal is made, or not: the clock gave one reading, and by it and by how it ended this is so.
-pub record Makes {D : Type 0} (content : D → Option (List ℕ)) (images : D → List ℕ → Type 0)
-    (moment : D → ℕ) (since : D → ℕ → List ℕ → Type 0) (asked : Option ℕ) (end : InitEnd)
+pub record Makes {D : Type 0} (S : DiskSenses D) (asked : Option ℕ) (end : InitEnd)
     (old new : Bench D) : Type 0 where
   pub reading : ℕ
   pub reads : Reads reading old.to_come new.to_come
-  pub ends : EndsMaking content images moment since (origin_by asked reading) reading end old new
+  pub ends : EndsMaking S (origin_by asked reading) reading end old new
   -- at each moment, however it ended; a journal that was there is left as it was
-  pub moments : QuietOrMaking content images moment since (origin_by asked reading) old.disk
-      new.disk
+  pub moments : QuietOrMaking S (origin_by asked reading) old.disk new.disk

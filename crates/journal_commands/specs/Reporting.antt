@@ -2,6 +2,7 @@
 use Rattle.std.specs.Prelude.{◌≡◌, ◌⊎◌, ◌<◌, ◌≤◌, ℕ, List, Option, Some, None}
 use Rattle.office_outside.specs.Disk.{All, IsQuiet}
 use Rattle.office_outside.specs.Told.{Gained, GainedPrefix}
+use Rattle.office_outside.specs.Senses.{DiskSenses}
 use Rattle.office_session.specs.Sessions.{Reads}
 use Rattle.office_history.specs.History.{Office, end_of, moment_of}
 use Rattle.office_keep.specs.Files.{IsWhole, StandsFor}
@@ -54,30 +55,29 @@ EndsOver asked reading NoMemory old new o = new ≡ old
 
 -- The file was opened: where the disk tells it, it stands for an office that is whole, as does each
 -- image of the disk that is handed back. Of this office this is so.
-pub record OpensTo {D : Type 0} (content : D → Option (List ℕ)) (images : D → List ℕ → Type 0)
-    (Is : Office → Type 0) (old new : D) : Type 0 where
+pub record OpensTo {D : Type 0} (S : DiskSenses D) (Is : Office → Type 0) (old new : D) :
+    Type 0 where
   pub office : Office
   pub whole : IsWhole office
-  pub read : (file : List ℕ) → content old ≡ Some file → StandsFor office file
-  pub stands : All (StandsFor office) (images new)
+  pub read : (file : List ℕ) → S.content old ≡ Some file → StandsFor office file
+  pub stands : All (StandsFor office) (S.images new)
   pub so : Is office
 
 -- What each end says, where the clock gave this reading. Where the file wasn't opened, the output
 -- gained nothing.
-abbrev pub EndsReporting : {D : Type 0} → (D → Option (List ℕ)) → (D → List ℕ → Type 0) →
-    Option ℕ → ℕ → ReportEnd → Bench D → Bench D → Type 0
-EndsReporting content images asked reading (Opened end) old new =
-    OpensTo content images (EndsOver asked reading end old.held new.held) old.disk new.disk
-EndsReporting content images asked reading (Unopened why) old new =
-    IsFoundOn content why old.disk × (new.held ≡ old.held)
+abbrev pub EndsReporting : {D : Type 0} → DiskSenses D → Option ℕ → ℕ → ReportEnd → Bench D →
+    Bench D → Type 0
+EndsReporting S asked reading (Opened end) old new =
+    OpensTo S (EndsOver asked reading end old.held new.held) old.disk new.disk
+EndsReporting S asked reading (Unopened why) old new =
+    IsFoundOn S why old.disk × (new.held ≡ old.held)
 
 -- A report is printed, or not: the clock gave one reading, and by it and by how it ended this is
 -- so.
-pub record Reports {D : Type 0} (content : D → Option (List ℕ)) (images : D → List ℕ → Type 0)
-    (moment : D → ℕ) (since : D → ℕ → List ℕ → Type 0) (asked : Option ℕ) (end : ReportEnd)
+pub record Reports {D : Type 0} (S : DiskSenses D) (asked : Option ℕ) (end : ReportEnd)
     (old new : Bench D) : Type 0 where
   pub reading : ℕ
   pub reads : Reads reading old.to_come new.to_come
-  pub ends : EndsReporting content images asked reading end old new
+  pub ends : EndsReporting S asked reading end old new
   -- no image came up, however it ended
-  pub quiet : IsQuiet images moment since old.disk new.disk
+  pub quiet : IsQuiet S old.disk new.disk

@@ -1,6 +1,7 @@
 -- What a session over a journal's file does.
 use Rattle.std.specs.Prelude.{◌≡◌, ℕ, List, [], Option}
 use Rattle.office_outside.specs.Disk.{All, IsQuiet, LeavesOnly}
+use Rattle.office_outside.specs.Senses.{DiskSenses}
 use Rattle.office_keep.specs.Files.{IsWhole, StandsFor}
 use Rattle.office_keep.specs.Office.{OfficeOn, StandsSettled}
 use Rattle.office_session.specs.Sessions.{EndsSo, Scene}
@@ -34,28 +35,25 @@ with_counter sides counter =
 -- change that was acknowledged once. Each image of the disk
 -- that is handed back stands for the last history, or for it with the one entry in doubt, and at
 -- each moment a stop left a history between the first and the last, or one with one entry more.
-pub record IsServed {D : Type 0} (images : D → List ℕ → Type 0) (moment : D → ℕ)
-    (since : D → ℕ → List ℕ → Type 0) (faults : D → ℕ) (office : OfficeOn D) (end : SessionEnd)
+pub record IsServed {D : Type 0} (S : DiskSenses D) (office : OfficeOn D) (end : SessionEnd)
     (old new : Outside) (disk : D) : Type 0 where
   pub last : OwnOn D
-  pub ends : EndsSo (Treats (OwnAsks images moment since faults)) refusal_text end
+  pub ends : EndsSo (Treats (OwnAsks S)) refusal_text end
       (with_counter old (own_on office [])) (with_counter new last)
   pub handed_back : disk ≡ last.kept.disk
   pub whole : IsWhole last.kept.office
   pub grows : Extends office.office last.kept.office
-  pub no_other : AddNoOther (turns_of (Treats (OwnAsks images moment since faults)) refusal_text
+  pub no_other : AddNoOther (turns_of (Treats (OwnAsks S)) refusal_text
       end (with_counter old (own_on office [])) (with_counter new last) ends) office last.kept
-  pub owned : IsOwned (standing_of faults last)
-  pub stood : All (StandsFor office.office) (images office.disk)
-  pub stands : All (StandsSettled last.kept.office last.kept.doubt) (images disk)
-  pub moments : LeavesOnly moment since office.disk disk (IsBetween office.office last.kept.office)
+  pub owned : IsOwned (standing_of S last)
+  pub stood : All (StandsFor office.office) (S.images office.disk)
+  pub stands : All (StandsSettled last.kept.office last.kept.doubt) (S.images disk)
+  pub moments : LeavesOnly S office.disk disk (IsBetween office.office last.kept.office)
 
 -- What each end says: a session was served over the office that was opened, or nothing was touched
 -- but the disk, on which no image came up.
-abbrev pub EndsServing : {D : Type 0} → (D → Option (List ℕ)) → (D → List ℕ → Type 0) → (D → ℕ) →
-    (D → ℕ → List ℕ → Type 0) → (D → ℕ) → PipeEnd → Outside → Outside → D → D → Type 0
-EndsServing content images moment since faults (Served end) old new before after =
-    Opens content images moment since
-    (λ office. IsServed images moment since faults office end old new after) before
-EndsServing content images moment since faults (Unopened why) old new before after =
-    IsFoundOn content why before × IsQuiet images moment since before after × (new ≡ old)
+abbrev pub EndsServing : {D : Type 0} → DiskSenses D → PipeEnd → Outside → Outside → D → D → Type 0
+EndsServing S (Served end) old new before after =
+    Opens S (λ office. IsServed S office end old new after) before
+EndsServing S (Unopened why) old new before after =
+    IsFoundOn S why before × IsQuiet S before after × (new ≡ old)

@@ -1,7 +1,7 @@
 //! The making of a journal.
 ghost use Rattle.std.specs.Prelude.{◌≡◌, ◌⊎◌, ◌≤◌, IfOk, IfErr, string_bytes};
 ghost use Rattle.slo_limits.specs.declared.TheConstants.{MAX_MINUTE};
-ghost use Rattle.office_outside.specs.Faults.{Rose};
+ghost use Rattle.office_outside.specs.Faults.{Rose, RoseBy};
 ghost use Rattle.office_outside.specs.Told.{Gained, GainedPrefix};
 ghost use Rattle.office_keep.specs.declared.KeepFault.TheVariants.{AlreadyThere};
 ghost use Rattle.office_keep.specs.declared.KeepFault.TheVariants.{DiskFault};
@@ -56,20 +56,17 @@ fn end_of_fault(fault: KeepFault) -> InitEnd
 /// Makes the journal, and hands the disk back.
 fn make_on<D: Disk + Drop>(alloc: Global, disk: D, origin: u32) -> Result<D, KeepFailed<D>>
     requires origin { origin ≤ MAX_MINUTE }
-    ensures made { IfOk result (λ new. IsMade D.content D.images origin disk new) }
-    ensures moments { IfOk result (λ new.
-        IsMaking D.content D.images D.moment D.images_since origin disk new) }
-    ensures there { IfErr result (λ e. e.fault ≡ AlreadyThere →
-        IsThere D.content D.images D.moment D.images_since disk e.disk) }
+    ensures made { IfOk result (λ new. IsMade D.senses origin disk new) }
+    ensures moments { IfOk result (λ new. IsMaking D.senses origin disk new) }
+    ensures there { IfErr result (λ e. e.fault ≡ AlreadyThere → IsThere D.senses disk e.disk) }
     ensures fault { IfErr result (λ e. e.fault ≡ DiskFault →
-        QuietOrMaking D.content D.images D.moment D.images_since origin disk e.disk) }
+        QuietOrMaking D.senses origin disk e.disk) }
     ensures no_memory { IfErr result (λ e. e.fault ≡ NoMemory → e.disk ≡ disk) }
     ensures others { IfErr result (λ e. (e.fault ≡ DiskFault)
         ⊎ ((e.fault ≡ AlreadyThere) ⊎ (e.fault ≡ NoMemory))) }
-    ensures cause { IfErr result (λ e. e.fault ≡ DiskFault →
-        Rose (D.faults disk) (D.faults e.disk)) }
-    ensures later { IfOk result (λ new. D.faults disk ≤ D.faults new) }
-    ensures later_err { IfErr result (λ e. D.faults disk ≤ D.faults e.disk) }
+    ensures cause { IfErr result (λ e. e.fault ≡ DiskFault → RoseBy D.senses.faults disk e.disk) }
+    ensures later { IfOk result (λ new. D.senses.faults disk ≤ D.senses.faults new) }
+    ensures later_err { IfErr result (λ e. D.senses.faults disk ≤ D.senses.faults e.disk) }
 {
     match Office::create(alloc, disk, origin) {
         Ok(office) => {
@@ -105,13 +102,13 @@ pub fn make_journal<D: Disk + Drop, C: Clock, K: Sink>(
     clock: &mut C,
     output: &mut K,
 ) -> (InitEnd, D)
-    ensures makes { Makes D.content D.images D.moment D.images_since origin result.0
+    ensures makes { Makes D.senses origin result.0
         (bench disk (C.to_come clock.old) (K.held output.old))
         (bench result.1 (C.to_come clock.new) (K.held output.new)) }
-    ensures disk { result.0 ≡ InitEnd.DiskFault → Rose (D.faults disk) (D.faults result.1) }
+    ensures disk { result.0 ≡ InitEnd.DiskFault → RoseBy D.senses.faults disk result.1 }
     ensures write { result.0 ≡ InitEnd.WriteFault →
         Rose (K.faults output.old) (K.faults output.new) }
-    ensures later { D.faults disk ≤ D.faults result.1 }
+    ensures later { D.senses.faults disk ≤ D.senses.faults result.1 }
     ensures later_output { K.faults output.old ≤ K.faults output.new }
 {
     let reading = clock.minute();

@@ -1,6 +1,6 @@
 //! The printing of a report over a journal's file.
 ghost use Rattle.std.specs.Prelude.{◌≡◌, ◌≤◌, true, false};
-ghost use Rattle.office_outside.specs.Faults.{Rose};
+ghost use Rattle.office_outside.specs.Faults.{Rose, RoseBy};
 ghost use Rattle.journal_commands.specs.Making.{bench};
 ghost use Rattle.journal_commands.specs.Reporting.{EndsOver, IsInRange, IsOutOfRange};
 ghost use Rattle.journal_commands.specs.Reporting.{Reports, minute_by};
@@ -90,14 +90,14 @@ pub fn print_report<D: Disk + Drop, C: Clock, K: Sink>(
     clock: &mut C,
     output: &mut K,
 ) -> (ReportEnd, D)
-    ensures reports { Reports D.content D.images D.moment D.images_since at result.0
+    ensures reports { Reports D.senses at result.0
         (bench disk (C.to_come clock.old) (K.held output.old))
         (bench result.1 (C.to_come clock.new) (K.held output.new)) }
     ensures disk { result.0 ≡ ReportEnd.Unopened Unopened.DiskFault →
-        Rose (D.faults disk) (D.faults result.1) }
+        RoseBy D.senses.faults disk result.1 }
     ensures write { result.0 ≡ ReportEnd.Opened PrintEnd.WriteFault →
         Rose (K.faults output.old) (K.faults output.new) }
-    ensures later { D.faults disk ≤ D.faults result.1 }
+    ensures later { D.senses.faults disk ≤ D.senses.faults result.1 }
     ensures later_output { K.faults output.old ≤ K.faults output.new }
 {
     let reading = clock.minute();

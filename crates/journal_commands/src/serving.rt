@@ -1,6 +1,6 @@
 //! The serving of a session over a journal's file.
 ghost use Rattle.std.specs.Prelude.{◌≡◌, None};
-ghost use Rattle.office_outside.specs.Faults.{Rose};
+ghost use Rattle.office_outside.specs.Faults.{Rose, RoseBy};
 ghost use Rattle.journal_commands.specs.Serving.{EndsServing, IsServed, outside};
 
 use office_keep::{Office, Unopened, open_journal};
@@ -28,7 +28,7 @@ fn serve<D: Disk + Drop, S: Source, K: Sink, C: Clock>(
     clock: &mut C,
 ) -> (SessionEnd, D)
     requires { office.doubt ≡ None }
-    ensures served { IsServed D.images D.moment D.images_since D.faults office
+    ensures served { IsServed D.senses office
         result.0 (outside (S.left input.old) (C.to_come clock.old) (K.held output.old))
         (outside (S.left input.new) (C.to_come clock.new) (K.held output.new)) result.1 }
     ensures read { result.0 ≡ SessionEnd.ReadFault →
@@ -57,14 +57,13 @@ pub fn run_session<D: Disk + Drop, S: Source, K: Sink, C: Clock>(
     output: &mut K,
     clock: &mut C,
 ) -> (PipeEnd, D)
-    ensures ends { EndsServing D.content D.images D.moment D.images_since
-        D.faults result.0
+    ensures ends { EndsServing D.senses result.0
         (outside (S.left input.old) (C.to_come clock.old) (K.held output.old))
         (outside (S.left input.new) (C.to_come clock.new) (K.held output.new)) disk result.1 }
     ensures untouched { (why : Unopened) → result.0 ≡ PipeEnd.Unopened why →
         (input.new ≡ input.old) × (output.new ≡ output.old) × (clock.new ≡ clock.old) }
     ensures disk { result.0 ≡ PipeEnd.Unopened Unopened.DiskFault →
-        Rose (D.faults disk) (D.faults result.1) }
+        RoseBy D.senses.faults disk result.1 }
     ensures read { result.0 ≡ PipeEnd.Served SessionEnd.ReadFault →
         Rose (S.faults input.old) (S.faults input.new) }
     ensures write { result.0 ≡ PipeEnd.Served SessionEnd.WriteFault →

@@ -263,15 +263,13 @@ impl Blank {
 impl Disk for Blank {
     ghost use Rattle.std.specs.Prelude.{None};
 
-    ghost content = { λ _. None };
-
-    ghost images = { λ _ _. ⊥ };
-
-    ghost moment = { λ _. 0 };
-
-    ghost images_since = { λ _ _ _. ⊥ };
-
-    ghost faults = { λ disk. disk.faults };
+    ghost senses = { record {
+      content = λ _. None;
+      images = λ _ _. ⊥;
+      moment = λ _. 0;
+      images_since = λ _ _ _. ⊥;
+      faults = λ disk. disk.faults;
+    } };
 
     ghost counts_now = { λ _ _ _ _ none. none };
 

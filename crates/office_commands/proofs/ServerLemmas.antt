@@ -14,6 +14,7 @@ use Rattle.office_commands.specs.Serve.{SettledServer, SettledServing}
 use Rattle.office_commands.specs.declared.ending.TheConstants.{BAD_FILE, DONE, REFUSED}
 use Rattle.office_commands.proofs.StatusLemmas.{unopened_bad, unopened_not_done}
 use Rattle.office_commands.proofs.StatusLemmas.{unopened_not_refused}
+use Rattle.office_outside.specs.Senses.{DiskSenses}
 
 module _ (status : ℕ) (said said_after : Option (List ℕ)) (tellings tellings_after : ℕ) where
   serving_bad : (end : ServeEnd) →
@@ -32,27 +33,23 @@ module _ (status : ℕ) (said said_after : Option (List ℕ)) (tellings tellings
   server_unrefused (server.Unopened why) s e =
       unopened_not_refused status said said_after tellings tellings_after why s e
 
-module _ {D A I O C : Type 0} (content : D → Option (List ℕ)) (images : D → List ℕ → Type 0)
-    (moment : D → ℕ) (since : D → ℕ → List ℕ → Type 0) (site : Site A I O C)
-    (port status : ℕ)
+module _ {D A I O C : Type 0} (S : DiskSenses D) (site : Site A I O C) (port status : ℕ)
     (said said_after : Option (List ℕ)) (tellings tellings_after : ℕ)
     (old new : Front A (Visit I O C)) (before after : D) where
   pub server_bad : (end : ServerEnd) →
       SettledServer end status said said_after tellings tellings_after →
-      EndsServer content images moment since site port end old new before after →
-      status ≡ BAD_FILE → (file : List ℕ) → content before ≡ Some file → IsBad file
+      EndsServer S site port end old new before after →
+      status ≡ BAD_FILE → (file : List ℕ) → S.content before ≡ Some file → IsBad file
   server_bad (server.Served end) s ends e file read =
       absurd (serving_bad status said said_after tellings tellings_after end s e)
   server_bad (server.Unopened why) s ends e file read =
-      unopened_bad status said said_after tellings tellings_after content before why s ends.0 e
+      unopened_bad status said said_after tellings tellings_after S before why s ends.0 e
       file read
 
   pub server_done : (end : ServerEnd) →
       SettledServer end status said said_after tellings tellings_after →
-      EndsServer content images moment since site port end old new before after →
-      status ≡ DONE →
-      Opens content images moment since
-      (λ office. IsServed images site port office serving.Done old new after) before
+      EndsServer S site port end old new before after → status ≡ DONE →
+      Opens S (λ office. IsServed S site port office serving.Done old new after) before
   server_done (server.Served serving.Done) s ends e = ends
   server_done (server.Served serving.WriteFault) s ends e = absurd (omega (arith, s.0, e))
   server_done (server.Served serving.DoorsFault) s ends e = absurd (omega (arith, s.0, e))

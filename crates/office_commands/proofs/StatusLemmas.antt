@@ -2,6 +2,7 @@
 use Rattle.std.proofs.Common.{◌≡◌, ◌<◌, ◌≤◌, ℕ, List, arith, inl, inr, subst}
 use Rattle.std.specs.Prelude.{Option, Some}
 use Rattle.office_outside.specs.Told.{Gained}
+use Rattle.office_outside.specs.Senses.{DiskSenses}
 use Rattle.counters_command.specs.Answer.{EndsCounters, EndsOver}
 use Rattle.counters_command.specs.Laws.{GainsDifferences}
 use Rattle.counters_command.proofs.LawLemmas.{done-is}
@@ -85,13 +86,11 @@ generate_done number status generate.WriteFault said said_after told told_after 
 generate_done number status generate.NoMemory said said_after told told_after held held_after
     writes writes_after s ends e = absurd (omega (arith, s.0, e))
 
-module _ {D : Type 0} (content : D → Option (List ℕ)) (images : D → List ℕ → Type 0)
-    (moment : D → ℕ) (since : D → ℕ → List ℕ → Type 0) (status origin reading : ℕ)
+module _ {D : Type 0} (S : DiskSenses D) (status origin reading : ℕ)
     (old new : Option (List ℕ)) (before now : ℕ) (first last : Bench D) where
   pub init_bad : (end : InitEnd) → SettledInit end status old new before now →
-      EndsMaking content images moment since origin reading end first last →
-      status ≡ BAD_FILE → (file : List ℕ) → content first.disk ≡ Some file →
-      HasHeader file
+      EndsMaking S origin reading end first last →
+      status ≡ BAD_FILE → (file : List ℕ) → S.content first.disk ≡ Some file → HasHeader file
   init_bad init.Done s ends e file read = absurd (omega (arith, s.0, e))
   init_bad init.OriginAboveClock s ends e file read = absurd (omega (arith, s.0, e))
   init_bad init.AlreadyThere s ends e file read = ends.1.header file read
@@ -100,8 +99,7 @@ module _ {D : Type 0} (content : D → Option (List ℕ)) (images : D → List �
   init_bad init.NoMemory s ends e file read = absurd (omega (arith, s.0, e))
 
   pub init_refused : (end : InitEnd) → SettledInit end status old new before now →
-      EndsMaking content images moment since origin reading end first last →
-      status ≡ REFUSED → reading < origin
+      EndsMaking S origin reading end first last → status ≡ REFUSED → reading < origin
   init_refused init.Done s ends e = absurd (omega (arith, s.0, e))
   init_refused init.OriginAboveClock s ends e = ends.0
   init_refused init.AlreadyThere s ends e = absurd (omega (arith, s.0, e))
@@ -110,8 +108,7 @@ module _ {D : Type 0} (content : D → Option (List ℕ)) (images : D → List �
   init_refused init.NoMemory s ends e = absurd (omega (arith, s.0, e))
 
   pub init_taken : (end : InitEnd) → SettledInit end status old new before now →
-      EndsMaking content images moment since origin reading end first last →
-      (status ≡ REFUSED → ⊥) → origin ≤ reading
+      EndsMaking S origin reading end first last → (status ≡ REFUSED → ⊥) → origin ≤ reading
   init_taken init.Done s ends e = ends.0
   init_taken init.OriginAboveClock s ends e = absurd (e s.0)
   init_taken init.AlreadyThere s ends e = ends.0
@@ -129,13 +126,13 @@ module _ (status : ℕ) (old new : Option (List ℕ)) (before now : ℕ) where
   session_bad session.NoMemory s e = omega (arith, s.0, e)
 
 module _ (status : ℕ) (old new : Option (List ℕ)) (before now : ℕ) where
-  pub unopened_bad : {D : Type 0} (content : D → Option (List ℕ)) (disk : D) (why : Unopened) →
-      SettledUnopened why status old new before now → IsFoundOn content why disk →
-      status ≡ BAD_FILE → (file : List ℕ) → content disk ≡ Some file → IsBad file
-  unopened_bad content disk unopened.NotAJournal s found e file read = inl (found file read)
-  unopened_bad content disk (unopened.Damaged at) s found e file read = inr (at, found file read)
-  unopened_bad content disk unopened.DiskFault s found e file read = absurd (omega (arith, s.0, e))
-  unopened_bad content disk unopened.NoMemory s found e file read = absurd (omega (arith, s.0, e))
+  pub unopened_bad : {D : Type 0} (S : DiskSenses D) (disk : D) (why : Unopened) →
+      SettledUnopened why status old new before now → IsFoundOn S why disk →
+      status ≡ BAD_FILE → (file : List ℕ) → S.content disk ≡ Some file → IsBad file
+  unopened_bad S disk unopened.NotAJournal s found e file read = inl (found file read)
+  unopened_bad S disk (unopened.Damaged at) s found e file read = inr (at, found file read)
+  unopened_bad S disk unopened.DiskFault s found e file read = absurd (omega (arith, s.0, e))
+  unopened_bad S disk unopened.NoMemory s found e file read = absurd (omega (arith, s.0, e))
 
   pub unopened_not_done : (why : Unopened) → SettledUnopened why status old new before now →
       status ≡ DONE → ⊥
@@ -153,25 +150,21 @@ module _ (status : ℕ) (old new : Option (List ℕ)) (before now : ℕ) where
   unopened_not_refused unopened.DiskFault s e = omega (arith, s.0, e)
   unopened_not_refused unopened.NoMemory s e = omega (arith, s.0, e)
 
-module _ {D : Type 0} (content : D → Option (List ℕ)) (images : D → List ℕ → Type 0)
-    (moment : D → ℕ) (since : D → ℕ → List ℕ → Type 0) (faults : D → ℕ) (status : ℕ)
+module _ {D : Type 0} (S : DiskSenses D) (status : ℕ)
     (old new : Option (List ℕ)) (before now : ℕ) (first last : Outside) (disk after : D) where
   pub pipe_bad : (end : PipeEnd) → SettledPipe end status old new before now →
-      EndsServing content images moment since faults end first last disk after →
-      status ≡ BAD_FILE → (file : List ℕ) → content disk ≡ Some file →
-      IsBad file
+      EndsServing S end first last disk after →
+      status ≡ BAD_FILE → (file : List ℕ) → S.content disk ≡ Some file → IsBad file
   pipe_bad (pipe.Served end) s ends e file read =
       absurd (session_bad status old new before now end s e)
   pipe_bad (pipe.Unopened why) s ends e file read =
-      unopened_bad status old new before now content disk why s ends.0 e file read
+      unopened_bad status old new before now S disk why s ends.0 e file read
 
-module _ {D : Type 0} (content : D → Option (List ℕ)) (images : D → List ℕ → Type 0)
-    (asked : Option ℕ) (reading status : ℕ) (old new : Option (List ℕ)) (before now : ℕ)
-    (first last : Bench D) where
+module _ {D : Type 0} (S : DiskSenses D) (asked : Option ℕ) (reading status : ℕ)
+    (old new : Option (List ℕ)) (before now : ℕ) (first last : Bench D) where
   pub report_bad : (end : ReportEnd) → SettledReport end status old new before now →
-      EndsReporting content images asked reading end first last →
-      status ≡ BAD_FILE → (file : List ℕ) → content first.disk ≡ Some file →
-      IsBad file
+      EndsReporting S asked reading end first last →
+      status ≡ BAD_FILE → (file : List ℕ) → S.content first.disk ≡ Some file → IsBad file
   report_bad (report.Opened printing.Done) s ends e file read = absurd (omega (arith, s.0, e))
   report_bad (report.Opened printing.OutOfRange) s ends e file read =
       absurd (omega (arith, s.0, e))
@@ -179,11 +172,11 @@ module _ {D : Type 0} (content : D → Option (List ℕ)) (images : D → List �
       absurd (omega (arith, s.0, e))
   report_bad (report.Opened printing.NoMemory) s ends e file read = absurd (omega (arith, s.0, e))
   report_bad (report.Unopened why) s ends e file read =
-      unopened_bad status old new before now content first.disk why s ends.0 e file read
+      unopened_bad status old new before now S first.disk why s ends.0 e file read
 
   pub report_refused : (end : ReportEnd) → SettledReport end status old new before now →
-      EndsReporting content images asked reading end first last → status ≡ REFUSED →
-      OpensTo content images (IsUnprinted asked reading first.held last.held) first.disk last.disk
+      EndsReporting S asked reading end first last → status ≡ REFUSED →
+      OpensTo S (IsUnprinted asked reading first.held last.held) first.disk last.disk
   report_refused (report.Opened printing.Done) s ends e = absurd (omega (arith, s.0, e))
   report_refused (report.Opened printing.OutOfRange) s ends e = ends
   report_refused (report.Opened printing.WriteFault) s ends e = absurd (omega (arith, s.0, e))
@@ -192,9 +185,8 @@ module _ {D : Type 0} (content : D → Option (List ℕ)) (images : D → List �
       absurd (unopened_not_refused status old new before now why s e)
 
   pub report_done : (end : ReportEnd) → SettledReport end status old new before now →
-      EndsReporting content images asked reading end first last → status ≡ DONE →
-      OpensTo content images (IsPrinted Gained asked reading first.held last.held)
-      first.disk last.disk
+      EndsReporting S asked reading end first last → status ≡ DONE →
+      OpensTo S (IsPrinted Gained asked reading first.held last.held) first.disk last.disk
   report_done (report.Opened printing.Done) s ends e = ends
   report_done (report.Opened printing.OutOfRange) s ends e = absurd (omega (arith, s.0, e))
   report_done (report.Opened printing.WriteFault) s ends e = absurd (omega (arith, s.0, e))

@@ -12,6 +12,7 @@ use Rattle.serve_command.specs.declared.ServerEnd.TheVariants.{Served, Unopened}
 use Rattle.office_commands.specs.Runs.{EndsWith}
 use Rattle.office_commands.specs.Unopened.{SettledUnopened}
 use Rattle.office_commands.specs.declared.ending.TheConstants as statuses
+use Rattle.office_outside.specs.Senses.{DiskSenses}
 
 -- Each end of a serving has its status, and the faults sink tells its line; where it is done, it
 -- tells nothing.
@@ -32,34 +33,28 @@ SettledServer (Unopened why) status old new before now =
 
 -- A run of `serve` at a port, by how the serving of the journal ended: what the faults sink was
 -- told, and what became of the doors, the output and the disk.
-pub record RunsServe {D A I O C : Type 0} (content : D → Option (List ℕ))
-    (images : D → List ℕ → Type 0) (moment : D → ℕ) (since : D → ℕ → List ℕ → Type 0)
-    (site : Site A I O C) (port status : ℕ) (said said_after : Option (List ℕ))
-    (tellings tellings_after : ℕ) (old new : Front A (Visit I O C)) (before after : D) :
-    Type 0 where
+pub record RunsServe {D A I O C : Type 0} (S : DiskSenses D) (site : Site A I O C) (port status : ℕ)
+    (said said_after : Option (List ℕ)) (tellings tellings_after : ℕ)
+    (old new : Front A (Visit I O C)) (before after : D) : Type 0 where
   pub end : ServerEnd
   pub settled : SettledServer end status said said_after tellings tellings_after
-  pub serves : EndsServer content images moment since site port end old new before after
+  pub serves : EndsServer S site port end old new before after
 
 -- What the status of a run of `serve` says: BAD_FILE only where the file has no header, or is
 -- damaged; DONE only where the office for which the file stands was served until each door had
 -- handed out all its visits. It is never REFUSED.
-pub record SaysServeStatus {D A I O C : Type 0} (content : D → Option (List ℕ))
-    (images : D → List ℕ → Type 0) (moment : D → ℕ) (since : D → ℕ → List ℕ → Type 0)
-    (site : Site A I O C) (port status : ℕ) (old new : Front A (Visit I O C)) (before after : D) :
-    Type 0 where
-  pub bad_file : status ≡ statuses.BAD_FILE → (file : List ℕ) → content before ≡ Some file →
+pub record SaysServeStatus {D A I O C : Type 0} (S : DiskSenses D) (site : Site A I O C)
+    (port status : ℕ) (old new : Front A (Visit I O C)) (before after : D) : Type 0 where
+  pub bad_file : status ≡ statuses.BAD_FILE → (file : List ℕ) → S.content before ≡ Some file →
       IsBad file
-  pub done : status ≡ statuses.DONE → Opens content images moment since
-      (λ office. IsServed images site port office serving.Done old new after) before
+  pub done : status ≡ statuses.DONE →
+      Opens S (λ office. IsServed S site port office serving.Done old new after) before
   pub unrefused : status ≢ statuses.REFUSED
 
 -- Each run of `serve` ends with a status that says so.
-abbrev pub ServeStatusesSay : {D A I O C : Type 0} → (D → Option (List ℕ)) → (D → List ℕ → Type 0)
-    → (D → ℕ) → (D → ℕ → List ℕ → Type 0) → Site A I O C → Type 0
-ServeStatusesSay {D} {A} {I} {O} {C} content images moment since site =
+abbrev pub ServeStatusesSay : {D A I O C : Type 0} → DiskSenses D → Site A I O C → Type 0
+ServeStatusesSay {D} {A} {I} {O} {C} S site =
     (port status : ℕ) (said said_after : Option (List ℕ)) (tellings tellings_after : ℕ)
     (old new : Front A (Visit I O C)) (before after : D) →
-    RunsServe content images moment since site port status said said_after tellings tellings_after
-    old new before after →
-    SaysServeStatus content images moment since site port status old new before after
+    RunsServe S site port status said said_after tellings tellings_after old new before after →
+    SaysServeStatus S site port status old new before after

@@ -2,6 +2,7 @@
 use Rattle.std.specs.Prelude.{◌≡◌, ◌≢◌, ◌⊎◌, ℕ, List, Option, Some, None}
 use Rattle.office_outside.specs.Faults.{Rose}
 use Rattle.office_outside.specs.Told.{HasNothingLeft}
+use Rattle.office_outside.specs.Senses.{DiskSenses}
 use Rattle.budget_command.specs.Input.{TakesAtMost}
 use Rattle.journal_commands.specs.Making.{Makes, bench}
 use Rattle.journal_commands.specs.Reporting.{Reports}
@@ -122,32 +123,28 @@ pub record RunsCounters {D : Type 0} (sli : List ℕ) (status : ℕ) (before aft
   pub untouched : after.disk ≡ before.disk
 
 -- A run of `init`, by how the making of the journal ended. The input isn't touched.
-pub record RunsInit {D : Type 0} (content : D → Option (List ℕ)) (images : D → List ℕ → Type 0)
-    (moment : D → ℕ) (since : D → ℕ → List ℕ → Type 0) (origin : Option ℕ) (status : ℕ)
+pub record RunsInit {D : Type 0} (S : DiskSenses D) (origin : Option ℕ) (status : ℕ)
     (before after : World D) : Type 0 where
   pub end : InitEnd
   pub settled : SettledInit end status before.said after.said before.tellings after.tellings
-  pub makes : Makes content images moment since origin end
+  pub makes : Makes S origin end
       (bench before.disk before.to_come before.held) (bench after.disk after.to_come after.held)
   pub untaken : after.left ≡ before.left
 
 -- A run of `pipe`, by how the serving of the journal ended.
-pub record RunsPipe {D : Type 0} (content : D → Option (List ℕ)) (images : D → List ℕ → Type 0)
-    (moment : D → ℕ) (since : D → ℕ → List ℕ → Type 0) (faults : D → ℕ) (status : ℕ)
-    (before after : World D) : Type 0 where
+pub record RunsPipe {D : Type 0} (S : DiskSenses D) (status : ℕ) (before after : World D) :
+    Type 0 where
   pub end : PipeEnd
   pub settled : SettledPipe end status before.said after.said before.tellings after.tellings
-  pub serves : EndsServing content images moment since faults end
-      (outside before.left before.to_come before.held)
+  pub serves : EndsServing S end (outside before.left before.to_come before.held)
       (outside after.left after.to_come after.held) before.disk after.disk
 
 -- A run of `report`, by how the printing of the report ended. The input isn't touched.
-pub record RunsReport {D : Type 0} (content : D → Option (List ℕ)) (images : D → List ℕ → Type 0)
-    (moment : D → ℕ) (since : D → ℕ → List ℕ → Type 0) (at : Option ℕ) (status : ℕ)
+pub record RunsReport {D : Type 0} (S : DiskSenses D) (at : Option ℕ) (status : ℕ)
     (before after : World D) : Type 0 where
   pub end : ReportEnd
   pub settled : SettledReport end status before.said after.said before.tellings after.tellings
-  pub reports : Reports content images moment since at end
+  pub reports : Reports S at end
       (bench before.disk before.to_come before.held) (bench after.disk after.to_come after.held)
   pub untaken : after.left ≡ before.left
 
@@ -158,30 +155,20 @@ pub record IsUnheard {D : Type 0} (before after : World D) : Type 0 where
   pub to_come : after.to_come ≡ before.to_come
 
 -- What a run does that has read its words, by what they ask for.
-abbrev pub Does : {D : Type 0} → (D → Option (List ℕ)) → (D → List ℕ → Type 0) → (D → ℕ) →
-    (D → ℕ → List ℕ → Type 0) → (D → ℕ) → Option Asked → ℕ → World D → World D → Type 0
-Does content images moment since faults None status before after = RunsNothing status before after
-Does content images moment since faults (Some (Answer command)) status before after =
-    RunsAnswer command status before after
-Does content images moment since faults (Some (Generate number)) status before after =
-    RunsGenerate number status before after
-Does content images moment since faults (Some (Counters order)) status before after =
-    RunsCounters order.sli status before after
-Does content images moment since faults (Some (Init origin)) status before after =
-    RunsInit content images moment since origin status before after
-Does content images moment since faults (Some Pipe) status before after =
-    RunsPipe content images moment since faults status before after
-Does content images moment since faults (Some (Report at)) status before after =
-    RunsReport content images moment since at status before after
-Does content images moment since faults (Some (Serve port)) status before after =
-    IsUnheard before after
+abbrev pub Does : {D : Type 0} → DiskSenses D → Option Asked → ℕ → World D → World D → Type 0
+Does S None status before after = RunsNothing status before after
+Does S (Some (Answer command)) status before after = RunsAnswer command status before after
+Does S (Some (Generate number)) status before after = RunsGenerate number status before after
+Does S (Some (Counters order)) status before after = RunsCounters order.sli status before after
+Does S (Some (Init origin)) status before after = RunsInit S origin status before after
+Does S (Some Pipe) status before after = RunsPipe S status before after
+Does S (Some (Report at)) status before after = RunsReport S at status before after
+Does S (Some (Serve port)) status before after = IsUnheard before after
 
 -- What a run does: what its words ask for, or memory ran out while they were read.
-abbrev pub Runs : {D : Type 0} → (D → Option (List ℕ)) → (D → List ℕ → Type 0) → (D → ℕ) →
-    (D → ℕ → List ℕ → Type 0) → (D → ℕ) → Option Asked → ℕ → World D → World D → Type 0
-Runs content images moment since faults asked status before after =
-    RunsOutOfMemory status before after
-    ⊎ Does content images moment since faults asked status before after
+abbrev pub Runs : {D : Type 0} → DiskSenses D → Option Asked → ℕ → World D → World D → Type 0
+Runs S asked status before after =
+    RunsOutOfMemory status before after ⊎ Does S asked status before after
 
 -- The clock and the disk belong to `init`, `pipe` and `report`.
 abbrev pub IsOffDisk : Option Asked → Type 0

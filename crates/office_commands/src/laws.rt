@@ -48,54 +48,46 @@ pub fn statuses_of_generate<D: Disk + Drop>()
 /// `init` ends with the status of a bad file only where a header stands in the file, and with that
 /// of a refusal exactly where the origin that was asked for is above the clock's reading.
 pub fn statuses_of_init<D: Disk + Drop>()
-    ensures bad_file { (origin : Option ℕ) (status : ℕ) (before after : World D) →
-        RunsInit D.content D.images D.moment D.images_since origin status before after →
-        status ≡ BAD_FILE → (file : List ℕ) → D.content before.disk ≡ Some file →
-        HasHeader file }
-    ensures refused { (origin : Option ℕ) (status : ℕ) (before after : World D) →
-        RunsInit D.content D.images D.moment D.images_since origin status before after →
-        status ≡ REFUSED → (reading : ℕ) × Reads reading before.to_come after.to_come
-        × (reading < origin_by origin reading) }
-    ensures taken { (origin : Option ℕ) (status : ℕ) (before after : World D) →
-        RunsInit D.content D.images D.moment D.images_since origin status before after →
-        status ≢ REFUSED → (reading : ℕ) × Reads reading before.to_come after.to_come
-        × (origin_by origin reading ≤ reading) }
+    ensures bad_file { (origin : Option ℕ) (status : ℕ) (before after : World D)
+        → RunsInit D.senses origin status before after → status ≡ BAD_FILE → (file : List ℕ)
+        → D.senses.content before.disk ≡ Some file → HasHeader file }
+    ensures refused { (origin : Option ℕ) (status : ℕ) (before after : World D)
+        → RunsInit D.senses origin status before after → status ≡ REFUSED → (reading : ℕ)
+        × Reads reading before.to_come after.to_come × (reading < origin_by origin reading) }
+    ensures taken { (origin : Option ℕ) (status : ℕ) (before after : World D)
+        → RunsInit D.senses origin status before after → status ≢ REFUSED → (reading : ℕ)
+        × Reads reading before.to_come after.to_come × (origin_by origin reading ≤ reading) }
 {}
 
 /// `pipe` ends with the status of a bad file only where the file has no header, or is damaged.
 pub fn statuses_of_pipe<D: Disk + Drop>()
-    ensures { (status : ℕ) (before after : World D) →
-        RunsPipe D.content D.images D.moment D.images_since D.faults status before after →
-        status ≡ BAD_FILE → (file : List ℕ) → D.content before.disk ≡ Some file →
-        IsBad file }
+    ensures { (status : ℕ) (before after : World D) → RunsPipe D.senses status before after
+        → status ≡ BAD_FILE → (file : List ℕ) → D.senses.content before.disk ≡ Some file
+        → IsBad file }
 {}
 
 /// `report` ends with the status of a bad file only where the file has no header, or is damaged. It
 /// ends with that of a refusal only where its minute is out of the range of the office for which
 /// the file stands, and is done only where this minute is in range and the report was printed.
 pub fn statuses_of_report<D: Disk + Drop>()
-    ensures bad_file { (at : Option ℕ) (status : ℕ) (before after : World D) →
-        RunsReport D.content D.images D.moment D.images_since at status before after →
-        status ≡ BAD_FILE → (file : List ℕ) → D.content before.disk ≡ Some file →
-        IsBad file }
-    ensures refused { (at : Option ℕ) (status : ℕ) (before after : World D) →
-        RunsReport D.content D.images D.moment D.images_since at status before after →
-        status ≡ REFUSED → (reading : ℕ) × Reads reading before.to_come after.to_come
-        × OpensTo D.content D.images (IsUnprinted at reading before.held after.held)
-        before.disk after.disk }
-    ensures done { (at : Option ℕ) (status : ℕ) (before after : World D) →
-        RunsReport D.content D.images D.moment D.images_since at status before after →
-        status ≡ DONE → (reading : ℕ) × Reads reading before.to_come after.to_come
-        × OpensTo D.content D.images (IsPrinted Gained at reading before.held after.held)
-        before.disk after.disk }
+    ensures bad_file { (at : Option ℕ) (status : ℕ) (before after : World D)
+        → RunsReport D.senses at status before after → status ≡ BAD_FILE → (file : List ℕ)
+        → D.senses.content before.disk ≡ Some file → IsBad file }
+    ensures refused { (at : Option ℕ) (status : ℕ) (before after : World D)
+        → RunsReport D.senses at status before after → status ≡ REFUSED → (reading : ℕ)
+        × Reads reading before.to_come after.to_come
+        × OpensTo D.senses (IsUnprinted at reading before.held after.held) before.disk after.disk }
+    ensures done { (at : Option ℕ) (status : ℕ) (before after : World D)
+        → RunsReport D.senses at status before after → status ≡ DONE → (reading : ℕ)
+        × Reads reading before.to_come after.to_come × OpensTo D.senses
+        (IsPrinted Gained at reading before.held after.held) before.disk after.disk }
 {}
 
 /// `serve` ends with the status of a bad file only where the file has no header, or is damaged, and
 /// is done only where the office for which the file stands was served until each door had handed
 /// out all its visits. It refuses nothing.
 pub fn statuses_of_serve<D: Disk + Drop, S: Doors>()
-    ensures { ServeStatusesSay D.content D.images D.moment D.images_since
-        (site (TurnAsks D.images D.moment D.images_since D.faults)
+    ensures { ServeStatusesSay D.senses (site (TurnAsks D.senses)
         (looks S.One.In.left S.One.In.faults S.One.Out.held S.One.Out.faults S.One.Time.to_come)
         (λ d. S.One.told d) (λ d. S.One.faults d)) }
 {}

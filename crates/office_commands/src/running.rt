@@ -1,6 +1,6 @@
 //! The top call.
 ghost use Rattle.std.specs.Prelude.{◌≡◌, ◌⊎◌, ℕ, Some, None, map, string_bytes};
-ghost use Rattle.office_outside.specs.Faults.{Rose};
+ghost use Rattle.office_outside.specs.Faults.{Rose, RoseBy};
 ghost use Rattle.command_words.specs.Commands.{asked_of};
 ghost use Rattle.command_words.specs.declared.Asked.TheVariants.{Serve};
 ghost use Rattle.turn_counter.specs.Turns.{TurnAsks};
@@ -67,8 +67,7 @@ pub fn run<
     doors: &mut A,
 ) -> RunEnd<D>
     // What it does, by what the words ask for.
-    ensures runs { Runs D.content D.images D.moment D.images_since
-        D.faults (asked_of (map string_bytes words.now)) result.status
+    ensures runs { Runs D.senses (asked_of (map string_bytes words.now)) result.status
         (world (S.left input.old) (S.faults input.old) (K.held output.old) (K.faults output.old)
         (E.held faults.old) (E.faults faults.old) (C.to_come clock.old) disk)
         (world (S.left input.new) (S.faults input.new) (K.held output.new) (K.faults output.new)
@@ -78,8 +77,7 @@ pub fn run<
     // want of memory may come before.
     ensures serves { (port : ℕ) → asked_of (map string_bytes words.now) ≡ Some (Serve port)
         → ((result.status ≡ NO_MEMORY) × (doors.new ≡ doors.old) × (result.disk ≡ disk))
-        ⊎ RunsServe D.content D.images D.moment D.images_since
-        (site (TurnAsks D.images D.moment D.images_since D.faults)
+        ⊎ RunsServe D.senses (site (TurnAsks D.senses)
         (looks A.One.In.left A.One.In.faults A.One.Out.held A.One.Out.faults A.One.Time.to_come)
         (λ d. A.One.told d) (λ d. A.One.faults d)) port result.status (E.held faults.old)
         (E.held faults.new) (E.faults faults.old) (E.faults faults.new)
@@ -105,7 +103,7 @@ pub fn run<
     ensures read { result.status ≡ READ_FAULT → Rose (S.faults input.old) (S.faults input.new) }
     ensures write { result.status ≡ WRITE_FAULT →
         Rose (K.faults output.old) (K.faults output.new) }
-    ensures disk { result.status ≡ DISK_FAULT → Rose (D.faults disk) (D.faults result.disk) }
+    ensures disk { result.status ≡ DISK_FAULT → RoseBy D.senses.faults disk result.disk }
     ensures doors { result.status ≡ DOORS_FAULT → Rose (A.faults doors.old) (A.faults doors.new) }
 {
     let alloc = rt.alloc();

@@ -1,6 +1,6 @@
 //! `serve`: opens the journal, and serves it to the visitors of doors.
 ghost use Rattle.std.specs.Prelude.{◌≡◌, ◌≢◌};
-ghost use Rattle.office_outside.specs.Faults.{Rose};
+ghost use Rattle.office_outside.specs.Faults.{Rose, RoseBy};
 ghost use Rattle.turn_counter.specs.Turns.{TurnAsks};
 ghost use Rattle.office_serving.specs.Serving.{front};
 ghost use Rattle.office_serving.specs.Visits.{looks};
@@ -53,8 +53,7 @@ pub fn run_serve<R: Wait + Threads + Sync, K: Sink, E: Sink, D: Disk + Send + Dr
     disk: D,
     doors: &mut S,
 ) -> RunEnd<D>
-    ensures served { RunsServe D.content D.images D.moment D.images_since
-        (site (TurnAsks D.images D.moment D.images_since D.faults)
+    ensures served { RunsServe D.senses (site (TurnAsks D.senses)
         (looks S.One.In.left S.One.In.faults S.One.Out.held S.One.Out.faults S.One.Time.to_come)
         (λ d. S.One.told d) (λ d. S.One.faults d)) port result.status (E.held faults.old)
         (E.held faults.new) (E.faults faults.old) (E.faults faults.new)
@@ -63,7 +62,7 @@ pub fn run_serve<R: Wait + Threads + Sync, K: Sink, E: Sink, D: Disk + Send + Dr
     ensures silent { result.status ≡ DONE → E.held faults.new ≡ E.held faults.old }
     ensures write { result.status ≡ WRITE_FAULT →
         Rose (K.faults output.old) (K.faults output.new) }
-    ensures disk { result.status ≡ DISK_FAULT → Rose (D.faults disk) (D.faults result.disk) }
+    ensures disk { result.status ≡ DISK_FAULT → RoseBy D.senses.faults disk result.disk }
     ensures doors { result.status ≡ DOORS_FAULT → Rose (S.faults doors.old) (S.faults doors.new) }
     ensures usable { result.status ≢ USAGE }
 {

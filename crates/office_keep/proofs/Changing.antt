@@ -4,6 +4,7 @@ use Rattle.std.proofs.Common.{Some, None}
 use Rattle.std.proofs.Common.{true, sym, ap, ◌∙◌, subst, arith}
 use Rattle.std.proofs.lemmas.Bool.Decides.{nat_tests}
 use Rattle.office_outside.specs.Disk.{All, IsQuiet, LeavesOnly}
+use Rattle.office_outside.specs.Senses.{DiskSenses}
 use Rattle.record_form.specs.declared.Command.{Command}
 use Rattle.record_form.specs.declared.Entry.{Entry}
 use Rattle.record_form.specs.declared.Outcome.{Outcome}
@@ -17,7 +18,7 @@ use Rattle.office_keep.specs.Office.{done, in_doubt, not_kept, not_settled, past
 use Rattle.office_keep.specs.Office.{unsettled, written}
 use Rattle.office_keep.proofs.Adding.{Made}
 use Rattle.office_keep.proofs.Histories.{present_in_range}
-use Rattle.office_keep.proofs.Runs.{leaves_weaker}
+use Rattle.office_outside.proofs.Moments.{leaves_weaker}
 
 is_below : (a b : ℕ) → a < b → nat_lt a b ≡ true
 is_below a b less = grind (arith, nat_tests)
@@ -113,14 +114,13 @@ module _ {D : Type 0} (old mid : OfficeOn D) (reading : ℕ) (command : Command)
         (inr (accepts, s))
 
     -- from the end of the settling on
-    pub settled_from : (images : D → List ℕ → Type 0) (moment : D → ℕ)
-        (since : D → ℕ → List ℕ → Type 0) (outcome : Outcome) (place : Option ℕ) →
-        IsQuiet images moment since old.disk mid.disk →
-        All (StandsSettled mid.office mid.doubt) (images mid.disk) →
+    pub settled_from : {S : DiskSenses D} (outcome : Outcome) (place : Option ℕ) →
+        IsQuiet S old.disk mid.disk →
+        All (StandsSettled mid.office mid.doubt) (S.images mid.disk) →
         Changes mid reading command outcome place new →
-        LeavesOnly moment since mid.disk new.disk (Leaves mid reading command new) →
-        SettledFrom images moment since old reading command new
-    settled_from images moment since outcome place quiet stood changes run =
+        LeavesOnly S mid.disk new.disk (Leaves mid reading command new) →
+        SettledFrom S old reading command new
+    settled_from outcome place quiet stood changes run =
         let made = made_in outcome place changes in
         record {
           settled = mid.office;
@@ -132,6 +132,5 @@ module _ {D : Type 0} (old mid : OfficeOn D) (reading : ℕ) (command : Command)
           stands = λ file image.
               let s = stood file image in
               subst (λ (o : Office). StandsFor o file) (still s.0 s.1) s.2;
-          after = leaves_weaker moment since mid.disk new.disk (Leaves mid reading command new)
-              (WithOrWithout mid.office reading command) run stands_after;
+          after = leaves_weaker run stands_after;
         }

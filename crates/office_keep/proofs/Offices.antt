@@ -3,6 +3,7 @@ use Rattle.std.proofs.Common.{◌≡◌, inl, inr, ⊎_elim, ℕ, List, [], ◌�
 use Rattle.std.proofs.Common.{None}
 use Rattle.std.proofs.Common.{Bool, Result, refl, sym, ap, ◌∙◌, subst}
 use Rattle.office_outside.specs.Disk.{All}
+use Rattle.office_outside.specs.Senses.{DiskSenses}
 use Rattle.record_form.specs.declared.Entry.{Entry}
 use Rattle.record_form.specs.Records.{record_of}
 use Rattle.office_history.specs.History.{Office, with_entry}
@@ -29,38 +30,39 @@ by_entry o e file d = ⊎_elim
     ))
     (by_gate o.origin (records o.history) (record_of e) file d)
 
-module _ {D : Type 0} (images : D → List ℕ → Type 0) where
+-- facts by cases don't say whose senses they are about, so each lemma is told
+module _ {D : Type 0} (S : DiskSenses D) where
   pub doubted_of : (m : Machine) (doubt : Option (List ℕ)) (journal : JournalOn D)
-      (bytes : List ℕ) → IsKept images m doubt journal → doubt ≡ Some bytes →
-      IsDoubted images m bytes journal
+      (bytes : List ℕ) → IsKept S m doubt journal → doubt ≡ Some bytes →
+      IsDoubted S m bytes journal
   doubted_of m doubt journal bytes k some =
-      subst (λ (d : Option (List ℕ)). IsKept images m d journal) some k
+      subst (λ (d : Option (List ℕ)). IsKept S m d journal) some k
 
   pub kept_of : (m : Machine) (doubt : Option (List ℕ)) (journal : JournalOn D) (o : Office) →
-      doubt ≡ None → m.office ≡ o → KeepsOffice images o journal → IsKept images m doubt journal
+      doubt ≡ None → m.office ≡ o → KeepsOffice S o journal → IsKept S m doubt journal
   kept_of m doubt journal o none same k =
-      subst (λ (d : Option (List ℕ)). IsKept images m d journal) (sym none)
-      (subst (λ (p : Office). KeepsOffice images p journal) (sym same) k)
+      subst (λ (d : Option (List ℕ)). IsKept S m d journal) (sym none)
+      (subst (λ (p : Office). KeepsOffice S p journal) (sym same) k)
 
   -- with one entry more
   pub keeps_more : (o : Office) (e : Entry) (journal : JournalOn D) →
-      Keeps images o.origin (records o.history ++ record_of e ∷ []) journal →
-      KeepsOffice images (with_entry o e) journal
+      Keeps S o.origin (records o.history ++ record_of e ∷ []) journal →
+      KeepsOffice S (with_entry o e) journal
   keeps_more o e journal k =
-      subst (λ (l : List (List ℕ)). Keeps images o.origin l journal)
+      subst (λ (l : List (List ℕ)). Keeps S o.origin l journal)
       (sym (records_more o.history e)) k
 
   -- what the images stand for now
   pub stands_now : (m : Machine) (doubt : Option (List ℕ)) (journal : JournalOn D) →
-      IsKept images m doubt journal →
-      All (StandsSettled m.office (entry_in doubt m.pending)) (images journal.disk)
+      IsKept S m doubt journal →
+      All (StandsSettled m.office (entry_in doubt m.pending)) (S.images journal.disk)
   stands_now m None journal k = λ file image. (m.office, refl, k.each file image)
   stands_now m (Some bytes) journal k = λ file image.
       subst (λ (d : Option Entry). StandsSettled m.office d file) (sym k.pending)
       (by_entry m.office k.entry file (k.doubts.each file image))
 
   pub stands_in_doubt : (m : Machine) (doubt : Option (List ℕ)) (journal : JournalOn D)
-      (bytes : List ℕ) → doubt ≡ Some bytes → (d : IsDoubted images m bytes journal) →
+      (bytes : List ℕ) → doubt ≡ Some bytes → (d : IsDoubted S m bytes journal) →
       (file : List ℕ) →
       StandsInDoubt m.office.origin (records m.office.history) (record_of d.entry) file →
       StandsSettled m.office (entry_in doubt m.pending) file
@@ -71,16 +73,16 @@ module _ {D : Type 0} (images : D → List ℕ → Type 0) where
 
   pub appended : (o : Office) (frame r : List ℕ) (result known : Result Prim.Unit AppendFault)
       (journal : JournalOn D) → frame ≡ r → result ≡ known →
-      Appended images o.origin (records o.history) frame result journal →
-      Appended images o.origin (records o.history) r known journal
+      Appended S o.origin (records o.history) frame result journal →
+      Appended S o.origin (records o.history) r known journal
   appended o frame r result known journal same is after =
-      subst (λ x. Appended images o.origin (records o.history) r x journal) is
-      (subst (λ (x : List ℕ). Appended images o.origin (records o.history) x result journal)
+      subst (λ x. Appended S o.origin (records o.history) r x journal) is
+      (subst (λ (x : List ℕ). Appended S o.origin (records o.history) x result journal)
       same after)
 
   pub settled_as : (o : Office) (r : List ℕ) (result known : Result Bool DiskFault)
       (journal : JournalOn D) → result ≡ known →
-      Settled images o.origin (records o.history) r result journal →
-      Settled images o.origin (records o.history) r known journal
+      Settled S o.origin (records o.history) r result journal →
+      Settled S o.origin (records o.history) r known journal
   settled_as o r result known journal is after =
-      subst (λ x. Settled images o.origin (records o.history) r x journal) is after
+      subst (λ x. Settled S o.origin (records o.history) r x journal) is after

@@ -1,6 +1,7 @@
 -- A request by its kind.
 use Rattle.std.proofs.Common.{◌≡◌, ◌⊎◌, inl, ℕ, List, Option, ⊎_elim, refl, sym, subst, arith}
 use Rattle.office_outside.specs.Disk.{LeavesOnly}
+use Rattle.office_outside.specs.Senses.{DiskSenses}
 use Rattle.record_form.specs.declared.Command.{Command}
 use Rattle.record_form.specs.declared.Outcome.{Outcome}
 use Rattle.record_form.specs.declared.Outcome.TheVariants.{NoMemory}
@@ -12,7 +13,7 @@ use Rattle.office_history.specs.History.{Office}
 use Rattle.office_keep.specs.Office.{Changes, IsBlamed, Leaves, LeavesBy, OfficeOn, Performs}
 use Rattle.office_keep.specs.Office.{SettlesBy, StandsSettled, unsettled}
 use Rattle.office_keep.proofs.Blame.{answer_no_fault}
-use Rattle.office_keep.proofs.Runs.{quiet_still}
+use Rattle.office_outside.proofs.Moments.{quiet_still}
 
 -- what stood there is among what a stop may leave
 pub stays_by : {D : Type 0} (old new : OfficeOn D) (reading : ℕ) (request : Request)
@@ -22,20 +23,17 @@ stays_by old new reading (Ask query) file stood = stood
 stays_by old new reading (Change command) file stood = unsettled stood
 
 -- where nothing is done nothing is settled
-pub settles_nothing : {D : Type 0} (images : D → List ℕ → Type 0) (moment : D → ℕ)
-    (since : D → ℕ → List ℕ → Type 0) (o : OfficeOn D) (reading : ℕ) (request : Request) →
-    SettlesBy images moment since o reading request o
-settles_nothing images moment since o reading (Ask query) = refl
-settles_nothing images moment since o reading (Change command) =
-    inl (record { office = refl; doubt = refl }, quiet_still moment since images o.disk)
+pub settles_nothing : {D : Type 0} (S : DiskSenses D) (o : OfficeOn D) (reading : ℕ)
+    (request : Request) → SettlesBy S o reading request o
+settles_nothing S o reading (Ask query) = refl
+settles_nothing S o reading (Change command) =
+    inl (record { office = refl; doubt = refl }, quiet_still)
 
-pub settles_change : {D : Type 0} (images : D → List ℕ → Type 0) (moment : D → ℕ)
-    (since : D → ℕ → List ℕ → Type 0) (old new : OfficeOn D) (reading : ℕ) (request : Request)
-    (command : Command) → request ≡ Change command →
-    SettlesBy images moment since old reading (Change command) new →
-    SettlesBy images moment since old reading request new
-settles_change images moment since old new reading request command is settles =
-    subst (λ (r : Request). SettlesBy images moment since old reading r new) (sym is) settles
+pub settles_change : {D : Type 0} (S : DiskSenses D) (old new : OfficeOn D) (reading : ℕ)
+    (request : Request) (command : Command) → request ≡ Change command →
+    SettlesBy S old reading (Change command) new → SettlesBy S old reading request new
+settles_change S old new reading request command is settles =
+    subst (λ (r : Request). SettlesBy S old reading r new) (sym is) settles
 
 pub performs_change : {D : Type 0} (old new : OfficeOn D) (reading : ℕ) (request : Request)
     (command : Command) (outcome : Outcome) (place : Option ℕ) → request ≡ Change command →
@@ -43,13 +41,12 @@ pub performs_change : {D : Type 0} (old new : OfficeOn D) (reading : ℕ) (reque
 performs_change old new reading request command outcome place is changes =
     subst (λ (r : Request). Performs old reading r outcome place new) (sym is) changes
 
-pub leaves_change : {D : Type 0} (moment : D → ℕ) (since : D → ℕ → List ℕ → Type 0)
-    (old new : OfficeOn D) (reading : ℕ) (request : Request) (command : Command) →
-    request ≡ Change command →
-    LeavesOnly moment since old.disk new.disk (Leaves old reading command new) →
-    LeavesOnly moment since old.disk new.disk (LeavesBy old reading request new)
-leaves_change moment since old new reading request command is leaves =
-    subst (λ (r : Request). LeavesOnly moment since old.disk new.disk (LeavesBy old reading r new))
+pub leaves_change : {D : Type 0} {S : DiskSenses D} (old new : OfficeOn D) (reading : ℕ)
+    (request : Request) (command : Command) → request ≡ Change command →
+    LeavesOnly S old.disk new.disk (Leaves old reading command new) →
+    LeavesOnly S old.disk new.disk (LeavesBy old reading request new)
+leaves_change {S} old new reading request command is leaves =
+    subst (λ (r : Request). LeavesOnly S old.disk new.disk (LeavesBy old reading r new))
     (sym is) leaves
 
 -- an answer blames no disk

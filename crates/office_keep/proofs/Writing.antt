@@ -4,6 +4,7 @@ use Rattle.std.proofs.Common.{Bool, true, false, Result, sym, ap, ◌∙◌, sub
 use Rattle.std.proofs.lemmas.Bool.Decides.{nat_tests}
 use Rattle.slo_limits.specs.declared.TheConstants.{MAX_JOURNAL_BYTES}
 use Rattle.office_outside.specs.Disk.{LeavesOnly}
+use Rattle.office_outside.specs.Senses.{DiskSenses}
 use Rattle.record_form.specs.declared.Entry.{Entry}
 use Rattle.record_form.specs.declared.Outcome.{Outcome}
 use Rattle.record_form.specs.declared.Outcome.TheVariants.{JournalFull}
@@ -33,12 +34,11 @@ pub full_known : (tail : ℕ) (r : List ℕ) (result known : Result Prim.Unit Ap
 full_known tail r result known is full = subst (λ x. FullExactly tail r x) is full
 
 -- the same images, told of the record
-pub as_record : {D : Type 0} (moment : D → ℕ) (since : D → ℕ → List ℕ → Type 0) (old new : D)
-    (origin : ℕ) (rs : List (List ℕ)) (frame r : List ℕ) → frame ≡ r →
-    LeavesOnly moment since old new (WithOrWithout origin rs frame) →
-    LeavesOnly moment since old new (WithOrWithout origin rs r)
-as_record moment since old new origin rs frame r same leaves =
-    subst (λ (x : List ℕ). LeavesOnly moment since old new (WithOrWithout origin rs x)) same leaves
+pub as_record : {D : Type 0} {S : DiskSenses D} {old new : D} {origin : ℕ} {rs : List (List ℕ)}
+    {frame r : List ℕ} → frame ≡ r → LeavesOnly S old new (WithOrWithout origin rs frame) →
+    LeavesOnly S old new (WithOrWithout origin rs r)
+as_record {S} {old} {new} {origin} {rs} same leaves =
+    subst (λ (x : List ℕ). LeavesOnly S old new (WithOrWithout origin rs x)) same leaves
 
 module _ (o : Office) (e : Entry) (tail : ℕ) (frame : List ℕ)
     (place : tail ≡ files.tail_of (records o.history)) (same : frame ≡ record_of e) where

@@ -2,6 +2,7 @@
 use Rattle.std.specs.Prelude.{◌≡◌, ◌⊎◌, ℕ, ◌≤◌, true, false, nat_lt, List, Option, Some, None}
 use Rattle.office_outside.specs.Disk.{All, IsQuiet, LeavesOnly}
 use Rattle.office_outside.specs.Faults.{Rose}
+use Rattle.office_outside.specs.Senses.{DiskSenses}
 use Rattle.record_form.specs.declared.Command.{Command}
 use Rattle.record_form.specs.declared.Entry.{Entry}
 use Rattle.record_form.specs.declared.Outcome.{Outcome}
@@ -124,26 +125,24 @@ Performs old reading (Change command) outcome place new =
 -- Up to some moment of the call, the end of the settling, no image came up. There each image of the
 -- disk stands for the settled office, and from there on a stop leaves this office, or it with the
 -- change's entry.
-pub record SettledFrom {D : Type 0} (images : D → List ℕ → Type 0) (moment : D → ℕ)
-    (since : D → ℕ → List ℕ → Type 0) (old : OfficeOn D) (reading : ℕ) (command : Command)
-    (new : OfficeOn D) : Type 0 where
+pub record SettledFrom {D : Type 0} (S : DiskSenses D) (old : OfficeOn D) (reading : ℕ)
+    (command : Command) (new : OfficeOn D) : Type 0 where
   pub settled : Office
   pub made : Option Entry
   pub is_settled : IsSettled old.office old.doubt settled
   pub ended : new.office ≡ with_made settled made
   pub between : D
-  pub before : IsQuiet images moment since old.disk between
-  pub stands : All (StandsFor settled) (images between)
-  pub after : LeavesOnly moment since between new.disk (WithOrWithout settled reading command)
+  pub before : IsQuiet S old.disk between
+  pub stands : All (StandsFor settled) (S.images between)
+  pub after : LeavesOnly S between new.disk (WithOrWithout settled reading command)
 
 -- A query settles nothing; a change settles, or leaves what was in doubt, and then no image came
 -- up.
-abbrev pub SettlesBy : {D : Type 0} → (D → List ℕ → Type 0) → (D → ℕ)
-    → (D → ℕ → List ℕ → Type 0) → OfficeOn D → ℕ → Request → OfficeOn D → Type 0
-SettlesBy images moment since old reading (Ask query) new = new ≡ old
-SettlesBy images moment since old reading (Change command) new =
-    (IsAsBefore old new × IsQuiet images moment since old.disk new.disk)
-    ⊎ SettledFrom images moment since old reading command new
+abbrev pub SettlesBy : {D : Type 0} → DiskSenses D → OfficeOn D → ℕ → Request → OfficeOn D
+    → Type 0
+SettlesBy S old reading (Ask query) new = new ≡ old
+SettlesBy S old reading (Change command) new =
+    (IsAsBefore old new × IsQuiet S old.disk new.disk) ⊎ SettledFrom S old reading command new
 
 -- the disk is blamed only where its count rose
 pub record IsBlamed (before now : ℕ) (outcome : Outcome) : Type 0 where

@@ -1,6 +1,7 @@
 -- What the opening of a journal's file by a command finds.
-use Rattle.std.specs.Prelude.{◌≡◌, ◌⊎◌, ℕ, List, Option, Some, None}
+use Rattle.std.specs.Prelude.{◌≡◌, ◌⊎◌, ℕ, List, Some, None}
 use Rattle.office_outside.specs.Disk.{IsQuiet, OnlyAsRead}
+use Rattle.office_outside.specs.Senses.{DiskSenses}
 use Rattle.slo_journal.specs.Front.{HasNoHeader}
 use Rattle.office_keep.specs.Files.{IsDamagedAt, IsWhole, StandsFor}
 use Rattle.office_keep.specs.Office.{OfficeOn}
@@ -20,24 +21,22 @@ IsFound DiskFault file = Unit {0}
 IsFound NoMemory file = Unit {0}
 
 -- So the file on this disk was found, where the disk tells it.
-abbrev pub IsFoundOn : {D : Type 0} → (D → Option (List ℕ)) → Unopened → D → Type 0
-IsFoundOn content why disk = (file : List ℕ) → content disk ≡ Some file → IsFound why file
+abbrev pub IsFoundOn : {D : Type 0} → DiskSenses D → Unopened → D → Type 0
+IsFoundOn S why disk = (file : List ℕ) → S.content disk ≡ Some file → IsFound why file
 
 -- The file was opened: where the disk tells it, it stands for this office, which is whole, with
 -- nothing in doubt. No image came up till then, and a stop leaves just what was read.
-pub record IsOpened {D : Type 0} (content : D → Option (List ℕ)) (images : D → List ℕ → Type 0)
-    (moment : D → ℕ) (since : D → ℕ → List ℕ → Type 0) (before : D) (office : OfficeOn D) :
+pub record IsOpened {D : Type 0} (S : DiskSenses D) (before : D) (office : OfficeOn D) :
     Type 0 where
   pub none : office.doubt ≡ None
   pub whole : IsWhole office.office
-  pub read : (file : List ℕ) → content before ≡ Some file → StandsFor office.office file
-  pub quiet : IsQuiet images moment since before office.disk
-  pub only : OnlyAsRead (content before) (images office.disk)
+  pub read : (file : List ℕ) → S.content before ≡ Some file → StandsFor office.office file
+  pub quiet : IsQuiet S before office.disk
+  pub only : OnlyAsRead (S.content before) (S.images office.disk)
 
 -- The file was opened, and of the office over it this is so.
-pub record Opens {D : Type 0} (content : D → Option (List ℕ)) (images : D → List ℕ → Type 0)
-    (moment : D → ℕ) (since : D → ℕ → List ℕ → Type 0) (Is : OfficeOn D → Type 0) (before : D) :
+pub record Opens {D : Type 0} (S : DiskSenses D) (Is : OfficeOn D → Type 0) (before : D) :
     Type 0 where
   pub office : OfficeOn D
-  pub opened : IsOpened content images moment since before office
+  pub opened : IsOpened S before office
   pub so : Is office

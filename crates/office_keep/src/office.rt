@@ -3,7 +3,7 @@ ghost use Rattle.std.specs.Prelude.{◌≡◌, ◌≤◌, ◌⊎◌, [], List, �
 ghost use Rattle.std.specs.Prelude.{length, take};
 ghost use Rattle.slo_limits.specs.declared.TheConstants.{MAX_MINUTE};
 ghost use Rattle.office_outside.specs.Disk.{All, IsQuiet, LeavesOnly, OnlyAsRead};
-ghost use Rattle.office_outside.specs.Faults.{Rose};
+ghost use Rattle.office_outside.specs.Faults.{RoseBy};
 ghost use Rattle.office_counter.specs.Steps.{HasRevisionsIn};
 ghost use Rattle.slo_journal.specs.Front.{HasNoHeader, IsHeader, IsMaking};
 ghost use Rattle.office_keep.specs.Files.{IsDamagedAt, IsWhole, StandsFor};
@@ -43,7 +43,7 @@ impl<D: Disk + Drop> Model for Office<D> {
     ghost view = { λ o. office_on o.core o.doubt o.journal };
 
     // Each image of the disk stands for the history, or for it with the entry in doubt.
-    ghost invariant = { λ o. IsKept D.images o.core o.doubt o.journal };
+    ghost invariant = { λ o. IsKept D.senses o.core o.doubt o.journal };
 }
 
 impl<D: Disk + Drop> Office<D> {
@@ -53,25 +53,23 @@ impl<D: Disk + Drop> Office<D> {
         requires origin { origin ≤ MAX_MINUTE }
         ensures made { IfOk result (λ office.
             (office.office ≡ record { origin = origin; history = [] }) × (office.doubt ≡ None)) }
-        ensures none_before { IfOk result (λ _. (file : List ℕ) → D.content disk ≡ Some file
+        ensures none_before { IfOk result (λ _. (file : List ℕ) → D.senses.content disk ≡ Some file
             → HasNoHeader file) }
-        ensures moments { IfOk result (λ office.
-            IsMaking D.content D.images D.moment D.images_since origin disk office.disk) }
+        ensures moments { IfOk result (λ office. IsMaking D.senses origin disk office.disk) }
         ensures already_there { IfErr result (λ e. e.fault ≡ AlreadyThere
-            → (file : List ℕ) → D.content disk ≡ Some file
+            → (file : List ℕ) → D.senses.content disk ≡ Some file
             → (o : ℕ) × IsHeader o (take 13 file)) }
         ensures untouched { IfErr result (λ e. e.fault ≡ AlreadyThere
-            → IsQuiet D.images D.moment D.images_since disk e.disk) }
-        ensures fault { IfErr result (λ e. e.fault ≡ DiskFault
-            → IsQuiet D.images D.moment D.images_since disk e.disk
-            ⊎ IsMaking D.content D.images D.moment D.images_since origin disk e.disk) }
+            → IsQuiet D.senses disk e.disk) }
+        ensures fault { IfErr result (λ e. e.fault ≡ DiskFault → IsQuiet D.senses disk e.disk
+            ⊎ IsMaking D.senses origin disk e.disk) }
         ensures no_memory { IfErr result (λ e. e.fault ≡ NoMemory → e.disk ≡ disk) }
         ensures others { IfErr result (λ e.
             (e.fault ≡ DiskFault) ⊎ ((e.fault ≡ AlreadyThere) ⊎ (e.fault ≡ NoMemory))) }
         ensures cause { IfErr result (λ e. e.fault ≡ DiskFault
-            → Rose (D.faults disk) (D.faults e.disk)) }
-        ensures later { IfOk result (λ office. D.faults disk ≤ D.faults office.disk) }
-        ensures later_err { IfErr result (λ e. D.faults disk ≤ D.faults e.disk) }
+            → RoseBy D.senses.faults disk e.disk) }
+        ensures later { IfOk result (λ office. D.senses.faults disk ≤ D.senses.faults office.disk) }
+        ensures later_err { IfErr result (λ e. D.senses.faults disk ≤ D.senses.faults e.disk) }
     {
         let Ok(core) = Core::new(alloc, origin) else {
             return Err(KeepFailed {
@@ -100,23 +98,21 @@ impl<D: Disk + Drop> Office<D> {
     pub fn open(alloc: Global, disk: D) -> Result<Office<D>, KeepFailed<D>>
         ensures settled { IfOk result (λ office. office.doubt ≡ None) }
         ensures whole { IfOk result (λ office. IsWhole office.office) }
-        ensures stands { IfOk result (λ office. (file : List ℕ) → D.content disk ≡ Some file
+        ensures stands { IfOk result (λ office. (file : List ℕ) → D.senses.content disk ≡ Some file
             → StandsFor office.office file) }
         ensures damaged { IfErr result (λ e. (at : ℕ) → e.fault ≡ Damaged at
-            → (file : List ℕ) → D.content disk ≡ Some file → IsDamagedAt at file) }
+            → (file : List ℕ) → D.senses.content disk ≡ Some file → IsDamagedAt at file) }
         ensures not_a_journal { IfErr result (λ e. e.fault ≡ NotAJournal
-            → (file : List ℕ) → D.content disk ≡ Some file → HasNoHeader file) }
+            → (file : List ℕ) → D.senses.content disk ≡ Some file → HasNoHeader file) }
         ensures others { IfErr result (λ e. e.fault ≡ AlreadyThere → ⊥) }
-        ensures quiet { IfOk result (λ office.
-            IsQuiet D.images D.moment D.images_since disk office.disk) }
+        ensures quiet { IfOk result (λ office. IsQuiet D.senses disk office.disk) }
         ensures only { IfOk result (λ office.
-            OnlyAsRead (D.content disk) (D.images office.disk)) }
-        ensures quiet_err { IfErr result (λ e.
-            IsQuiet D.images D.moment D.images_since disk e.disk) }
+            OnlyAsRead (D.senses.content disk) (D.senses.images office.disk)) }
+        ensures quiet_err { IfErr result (λ e. IsQuiet D.senses disk e.disk) }
         ensures cause { IfErr result (λ e. e.fault ≡ DiskFault
-            → Rose (D.faults disk) (D.faults e.disk)) }
-        ensures later { IfOk result (λ office. D.faults disk ≤ D.faults office.disk) }
-        ensures later_err { IfErr result (λ e. D.faults disk ≤ D.faults e.disk) }
+            → RoseBy D.senses.faults disk e.disk) }
+        ensures later { IfOk result (λ office. D.senses.faults disk ≤ D.senses.faults office.disk) }
+        ensures later_err { IfErr result (λ e. D.senses.faults disk ≤ D.senses.faults e.disk) }
     {
         let mut scan = match open(alloc, disk) {
             Ok(scan) => scan,
@@ -165,7 +161,7 @@ impl<D: Disk + Drop> Office<D> {
     /// history is legal. No work.
     pub fn disk_stands(&self)
         ensures stands { All (StandsSettled self.now.office self.now.doubt)
-            (D.images self.now.disk) }
+            (D.senses.images self.now.disk) }
         ensures whole { IsWhole self.now.office }
     {
         self.core.is_legal();
@@ -210,14 +206,14 @@ impl<D: Disk + Drop> Office<D> {
         requires revisions { HasRevisionsIn request.now }
         ensures ended { (place : Option ℕ)
             × Performs self.old reading request.now result place self.new }
-        ensures any_moment { LeavesOnly D.moment D.images_since self.old.disk self.new.disk
+        ensures any_moment { LeavesOnly D.senses self.old.disk self.new.disk
             (LeavesBy self.old reading request.now self.new) }
         ensures stands { All (StandsSettled self.new.office self.new.doubt)
-            (D.images self.new.disk) }
+            (D.senses.images self.new.disk) }
         ensures whole { IsWhole self.new.office }
-        ensures after_settling { SettlesBy D.images D.moment D.images_since self.old reading
-            request.now self.new }
-        ensures cause { IsBlamed (D.faults self.old.disk) (D.faults self.new.disk) result }
+        ensures after_settling { SettlesBy D.senses self.old reading request.now self.new }
+        ensures cause { IsBlamed (D.senses.faults self.old.disk) (D.senses.faults self.new.disk)
+            result }
     {
         let (outcome, _place) = self.act(alloc, reading, request);
         outcome
@@ -229,14 +225,14 @@ impl<D: Disk + Drop> Office<D> {
         requires reading { reading ≤ MAX_MINUTE }
         requires revisions { HasRevisionsIn request.now }
         ensures ended { Performs self.old reading request.now result.0 result.1 self.new }
-        ensures any_moment { LeavesOnly D.moment D.images_since self.old.disk self.new.disk
+        ensures any_moment { LeavesOnly D.senses self.old.disk self.new.disk
             (LeavesBy self.old reading request.now self.new) }
         ensures stands { All (StandsSettled self.new.office self.new.doubt)
-            (D.images self.new.disk) }
+            (D.senses.images self.new.disk) }
         ensures whole { IsWhole self.new.office }
-        ensures after_settling { SettlesBy D.images D.moment D.images_since self.old reading
-            request.now self.new }
-        ensures cause { IsBlamed (D.faults self.old.disk) (D.faults self.new.disk) result.0 }
+        ensures after_settling { SettlesBy D.senses self.old reading request.now self.new }
+        ensures cause { IsBlamed (D.senses.faults self.old.disk) (D.senses.faults self.new.disk)
+            result.0 }
     {
         let done = self.do_in_range(alloc, reading, request);
         self.disk_stands();
@@ -253,11 +249,11 @@ impl<D: Disk + Drop> Office<D> {
         requires reading { reading ≤ MAX_MINUTE }
         requires revisions { HasRevisionsIn request.now }
         ensures ended { Performs self.old reading request.now result.0 result.1 self.new }
-        ensures any_moment { LeavesOnly D.moment D.images_since self.old.disk self.new.disk
+        ensures any_moment { LeavesOnly D.senses self.old.disk self.new.disk
             (LeavesBy self.old reading request.now self.new) }
-        ensures after_settling { SettlesBy D.images D.moment D.images_since self.old reading
-            request.now self.new }
-        ensures cause { IsBlamed (D.faults self.old.disk) (D.faults self.new.disk) result.0 }
+        ensures after_settling { SettlesBy D.senses self.old reading request.now self.new }
+        ensures cause { IsBlamed (D.senses.faults self.old.disk) (D.senses.faults self.new.disk)
+            result.0 }
     {
         self.core.is_legal();
         let moment = self.core.moment(reading);

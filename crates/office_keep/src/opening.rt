@@ -2,7 +2,7 @@
 ghost use Rattle.std.specs.Prelude.{◌≡◌, ◌<◌, ◌≤◌, List, ℕ, OnOk, IfOk, IsErrOf, Ok, Err, Some};
 ghost use Rattle.std.specs.Prelude.{true, false};
 ghost use Rattle.office_outside.specs.Disk.{IsQuiet};
-ghost use Rattle.office_outside.specs.Faults.{Rose};
+ghost use Rattle.office_outside.specs.Faults.{RoseBy};
 ghost use Rattle.record_form.specs.declared.Entry.{Entry};
 ghost use Rattle.record_form.specs.Ranges.{IsRecord};
 ghost use Rattle.office_history.specs.History.{with_entry};
@@ -62,13 +62,12 @@ fn step<D: Disk + Drop>(
     scan: &mut Scan<D>,
     out: &mut Vec<u8>,
 ) -> Result<bool, KeepFault>
-    ensures walks { IfOk result (λ _. (file : List ℕ) → D.content scan.old.disk ≡ Some file
-        → WalksOver core.old.office scan.old.at file
-        → WalksOver core.new.office scan.new.at file) }
-    ensures ended { result ≡ Ok false → (file : List ℕ) → D.content scan.old.disk ≡ Some file
+    ensures walks { IfOk result (λ _. (file : List ℕ) → D.senses.content scan.old.disk ≡ Some file
+        → WalksOver core.old.office scan.old.at file → WalksOver core.new.office scan.new.at file) }
+    ensures ended { result ≡ Ok false → (file : List ℕ) → D.senses.content scan.old.disk ≡ Some file
         → WalksOver core.old.office scan.old.at file → StandsFor core.new.office file }
     ensures damaged { (at : ℕ) → result ≡ Err (Damaged at)
-        → (file : List ℕ) → D.content scan.old.disk ≡ Some file
+        → (file : List ℕ) → D.senses.content scan.old.disk ≡ Some file
         → WalksOver core.old.office scan.old.at file → IsDamagedAt at file }
     ensures place { IfOk result (λ _. scan.old.at ≡ tail_of (records core.old.office.history)
         → scan.new.at ≡ tail_of (records core.new.office.history)) }
@@ -77,11 +76,10 @@ fn step<D: Disk + Drop>(
     ensures progress { result ≡ Ok true → scan.old.at < scan.new.at }
     ensures origin { (scan.new.origin ≡ scan.old.origin)
         × (core.new.office.origin ≡ core.old.office.origin) }
-    ensures content { D.content scan.new.disk ≡ D.content scan.old.disk }
-    ensures quiet { IsQuiet D.images D.moment D.images_since scan.old.disk scan.new.disk }
-    ensures cause { IsErrOf result DiskFault
-        → Rose (D.faults scan.old.disk) (D.faults scan.new.disk) }
-    ensures later { D.faults scan.old.disk ≤ D.faults scan.new.disk }
+    ensures content { D.senses.content scan.new.disk ≡ D.senses.content scan.old.disk }
+    ensures quiet { IsQuiet D.senses scan.old.disk scan.new.disk }
+    ensures cause { IsErrOf result DiskFault → RoseBy D.senses.faults scan.old.disk scan.new.disk }
+    ensures later { D.senses.faults scan.old.disk ≤ D.senses.faults scan.new.disk }
     ensures others { (result ≡ Err NotAJournal → ⊥) × (result ≡ Err AlreadyThere → ⊥) }
 {
     let at = scan.at();
@@ -108,21 +106,20 @@ pub(crate) fn load<D: Disk + Drop>(
     core: &mut Core,
     scan: &mut Scan<D>,
 ) -> Result<(), KeepFault>
-    ensures stands { OnOk result ((file : List ℕ) → D.content scan.old.disk ≡ Some file
+    ensures stands { OnOk result ((file : List ℕ) → D.senses.content scan.old.disk ≡ Some file
         → WalksOver core.old.office scan.old.at file → StandsFor core.new.office file) }
     ensures damaged { (at : ℕ) → result ≡ Err (Damaged at)
-        → (file : List ℕ) → D.content scan.old.disk ≡ Some file
+        → (file : List ℕ) → D.senses.content scan.old.disk ≡ Some file
         → WalksOver core.old.office scan.old.at file → IsDamagedAt at file }
     ensures place { OnOk result (scan.old.at ≡ tail_of (records core.old.office.history)
         → scan.new.at ≡ tail_of (records core.new.office.history)) }
     ensures within { OnOk result (scan.new.at < MAX_JOURNAL_BYTES) }
     ensures origin { (scan.new.origin ≡ scan.old.origin)
         × (core.new.office.origin ≡ core.old.office.origin) }
-    ensures content { D.content scan.new.disk ≡ D.content scan.old.disk }
-    ensures quiet { IsQuiet D.images D.moment D.images_since scan.old.disk scan.new.disk }
-    ensures cause { IsErrOf result DiskFault
-        → Rose (D.faults scan.old.disk) (D.faults scan.new.disk) }
-    ensures later { D.faults scan.old.disk ≤ D.faults scan.new.disk }
+    ensures content { D.senses.content scan.new.disk ≡ D.senses.content scan.old.disk }
+    ensures quiet { IsQuiet D.senses scan.old.disk scan.new.disk }
+    ensures cause { IsErrOf result DiskFault → RoseBy D.senses.faults scan.old.disk scan.new.disk }
+    ensures later { D.senses.faults scan.old.disk ≤ D.senses.faults scan.new.disk }
     ensures others { (result ≡ Err NotAJournal → ⊥) × (result ≡ Err AlreadyThere → ⊥) }
 {
     let mut out = Vec::new(alloc);

@@ -2,7 +2,7 @@
 ghost use Rattle.std.specs.Prelude.{◌≡◌, ◌≤◌, Option, Some, None, OnOk, OnErr};
 ghost use Rattle.slo_limits.specs.declared.TheConstants.{MAX_MINUTE};
 ghost use Rattle.office_outside.specs.Disk.{IsQuiet, LeavesOnly};
-ghost use Rattle.office_outside.specs.Faults.{HasCause};
+ghost use Rattle.office_outside.specs.Faults.{HasCauseBy};
 ghost use Rattle.record_form.specs.declared.Entry.{Entry};
 ghost use Rattle.record_form.specs.declared.Request.TheVariants.{Change};
 ghost use Rattle.record_form.specs.Ranges.{FitsRecord};
@@ -29,20 +29,20 @@ pub(crate) fn change<D: Disk + Drop>(
     reading: u32,
     command: &Command,
 ) -> (Outcome, Option<u32>)
-    requires kept { IsKept D.images core.old doubt.old journal.old }
+    requires kept { IsKept D.senses core.old doubt.old journal.old }
     requires reading { reading ≤ MAX_MINUTE }
     requires timely { IsTimely core.old.office reading }
     requires revisions { HasRevisions command.now }
-    ensures kept { IsKept D.images core.new doubt.new journal.new }
+    ensures kept { IsKept D.senses core.new doubt.new journal.new }
     ensures ended { Changes (office_on core.old doubt.old journal.old) reading command.now
         result.0 result.1 (office_on core.new doubt.new journal.new) }
-    ensures any_moment { LeavesOnly D.moment D.images_since journal.old.disk journal.new.disk
+    ensures any_moment { LeavesOnly D.senses journal.old.disk journal.new.disk
         (Leaves (office_on core.old doubt.old journal.old) reading command.now
         (office_on core.new doubt.new journal.new)) }
-    ensures after_settling { SettlesBy D.images D.moment D.images_since
-        (office_on core.old doubt.old journal.old) reading (Change command.now)
-        (office_on core.new doubt.new journal.new) }
-    ensures cause { IsBlamed (D.faults journal.old.disk) (D.faults journal.new.disk) result.0 }
+    ensures after_settling { SettlesBy D.senses (office_on core.old doubt.old journal.old) reading
+        (Change command.now) (office_on core.new doubt.new journal.new) }
+    ensures cause { IsBlamed (D.senses.faults journal.old.disk) (D.senses.faults journal.new.disk)
+        result.0 }
 {
     let Ok(()) = settle(core, journal, doubt) else {
         return (Outcome::DiskFault, None);
@@ -57,16 +57,16 @@ fn settle<D: Disk + Drop>(
     journal: &mut Journal<D>,
     doubt: &mut Option<Prepared>,
 ) -> Result<(), Failed>
-    requires kept { IsKept D.images core.old doubt.old journal.old }
-    ensures kept { IsKept D.images core.new doubt.new journal.new }
+    requires kept { IsKept D.senses core.old doubt.old journal.old }
+    ensures kept { IsKept D.senses core.new doubt.new journal.new }
     ensures settled { OnOk result (IsUnmoved (office_on core.old doubt.old journal.old)
         (office_on core.new doubt.new journal.new)) }
     ensures stays { OnErr result (IsAsBefore (office_on core.old doubt.old journal.old)
         (office_on core.new doubt.new journal.new)) }
-    ensures any_moment { LeavesOnly D.moment D.images_since journal.old.disk journal.new.disk
+    ensures any_moment { LeavesOnly D.senses journal.old.disk journal.new.disk
         (StandsSettled core.old.office (entry_in doubt.old core.old.pending)) }
-    ensures quiet { IsQuiet D.images D.moment D.images_since journal.old.disk journal.new.disk }
-    ensures cause { HasCause (D.faults journal.old.disk) (D.faults journal.new.disk) result }
+    ensures quiet { IsQuiet D.senses journal.old.disk journal.new.disk }
+    ensures cause { HasCauseBy D.senses.faults journal.old.disk journal.new.disk result }
 {
     match doubt.take() {
         None => Ok(()),
@@ -96,18 +96,19 @@ fn add<D: Disk + Drop>(
     reading: u32,
     command: &Command,
 ) -> (Outcome, Option<u32>)
-    requires kept { KeepsOffice D.images core.old.office journal.old }
+    requires kept { KeepsOffice D.senses core.old.office journal.old }
     requires none { doubt.old ≡ None }
     requires reading { reading ≤ MAX_MINUTE }
     requires timely { IsTimely core.old.office reading }
     requires revisions { HasRevisions command.now }
-    ensures kept { IsKept D.images core.new doubt.new journal.new }
+    ensures kept { IsKept D.senses core.new doubt.new journal.new }
     ensures ended { Changes (office_on core.old doubt.old journal.old) reading command.now
         result.0 result.1 (office_on core.new doubt.new journal.new) }
-    ensures any_moment { LeavesOnly D.moment D.images_since journal.old.disk journal.new.disk
+    ensures any_moment { LeavesOnly D.senses journal.old.disk journal.new.disk
         (Leaves (office_on core.old doubt.old journal.old) reading command.now
         (office_on core.new doubt.new journal.new)) }
-    ensures cause { IsBlamed (D.faults journal.old.disk) (D.faults journal.new.disk) result.0 }
+    ensures cause { IsBlamed (D.senses.faults journal.old.disk) (D.senses.faults journal.new.disk)
+        result.0 }
 {
     core.is_legal();
     let moment = core.moment(reading);
@@ -127,19 +128,19 @@ fn write<D: Disk + Drop>(
     doubt: &mut Option<Prepared>,
     value: Prepared,
 ) -> (Outcome, Option<u32>)
-    requires kept { KeepsOffice D.images core.old.office journal.old }
+    requires kept { KeepsOffice D.senses core.old.office journal.old }
     requires none { doubt.old ≡ None }
     requires pending { (e : Entry) × (core.old.pending ≡ Some e) × (value ≡ record_of e) }
-    ensures kept { IsKept D.images core.new doubt.new journal.new }
+    ensures kept { IsKept D.senses core.new doubt.new journal.new }
     ensures fits { (e : Entry) → core.old.pending ≡ Some e → FitsRecord e }
     ensures ended { (e : Entry) → core.old.pending ≡ Some e
         → Writes core.old.office e result.0 result.1
         core.new.office (entry_in doubt.new core.new.pending) }
     ensures any_moment { (e : Entry) → core.old.pending ≡ Some e
-        → LeavesOnly D.moment D.images_since journal.old.disk journal.new.disk
-        (WithOrWithout core.old.office.origin (records core.old.office.history)
-        (record_of e)) }
-    ensures cause { IsBlamed (D.faults journal.old.disk) (D.faults journal.new.disk) result.0 }
+        → LeavesOnly D.senses journal.old.disk journal.new.disk
+        (WithOrWithout core.old.office.origin (records core.old.office.history) (record_of e)) }
+    ensures cause { IsBlamed (D.senses.faults journal.old.disk) (D.senses.faults journal.new.disk)
+        result.0 }
 {
     core.is_legal();
     laws::records_have_sizes();

@@ -1,7 +1,7 @@
 //! The opening of a journal's file by a command.
 ghost use Rattle.std.specs.Prelude.{◌≡◌, ◌≤◌, ℕ, IfErr, IfOk};
 ghost use Rattle.office_outside.specs.Disk.{IsQuiet};
-ghost use Rattle.office_outside.specs.Faults.{Rose};
+ghost use Rattle.office_outside.specs.Faults.{RoseBy};
 ghost use Rattle.office_keep.specs.declared.fault.KeepFault.TheVariants.{AlreadyThere, Damaged};
 ghost use Rattle.office_keep.specs.declared.fault.KeepFault.TheVariants.{DiskFault, NotAJournal};
 ghost use Rattle.office_keep.specs.Opening.{IsFoundOn, IsOpened};
@@ -50,14 +50,13 @@ fn why_unopened(fault: KeepFault) -> Unopened
 
 /// Opens the journal on a disk. It writes nothing.
 pub fn open_journal<D: Disk + Drop>(alloc: Global, disk: D) -> Result<Office<D>, OpenFailed<D>>
-    ensures opened { IfOk result (λ office.
-        IsOpened D.content D.images D.moment D.images_since disk office) }
-    ensures found { IfErr result (λ e. IsFoundOn D.content e.why disk) }
-    ensures quiet { IfErr result (λ e. IsQuiet D.images D.moment D.images_since disk e.disk) }
+    ensures opened { IfOk result (λ office. IsOpened D.senses disk office) }
+    ensures found { IfErr result (λ e. IsFoundOn D.senses e.why disk) }
+    ensures quiet { IfErr result (λ e. IsQuiet D.senses disk e.disk) }
     ensures cause { IfErr result (λ e. e.why ≡ Unopened.DiskFault →
-        Rose (D.faults disk) (D.faults e.disk)) }
-    ensures later { IfOk result (λ office. D.faults disk ≤ D.faults office.disk) }
-    ensures later_err { IfErr result (λ e. D.faults disk ≤ D.faults e.disk) }
+        RoseBy D.senses.faults disk e.disk) }
+    ensures later { IfOk result (λ office. D.senses.faults disk ≤ D.senses.faults office.disk) }
+    ensures later_err { IfErr result (λ e. D.senses.faults disk ≤ D.senses.faults e.disk) }
 {
     match Office::open(alloc, disk) {
         Ok(office) => Ok(office),

@@ -11,6 +11,7 @@ use Rattle.std.proofs.lemmas.List.Sums.{fold-append}
 use Rattle.office_outside.specs.Disk.{Torn, Follows, Elapses, file_after_write}
 use Rattle.office_outside.specs.DiskCalls.{State, after, at_first, IsImage, LeftSince, Left}
 use Rattle.office_outside.specs.DiskCalls.{Reaches, state_after}
+use Rattle.office_outside.specs.Senses.{DiskSenses}
 use Rattle.office_outside.specs.declared.memory_disk.DiskCall.{DiskCall}
 use Rattle.office_outside.specs.declared.memory_disk.DiskCall.TheVariants.{Looked, Wrote, Synced}
 
@@ -145,12 +146,23 @@ padded_write old at piece end ends padded pads new is =
 abbrev pub OneMore : List DiskCall → List DiskCall → Type 0
 OneMore calls later = (later ≡ calls) ⊎ ((call : DiskCall) × (later ≡ calls ++ call ∷ []))
 
-elapses_same : (first : List ℕ) (calls : List DiskCall) → Elapses (length calls) (length calls)
+-- time goes on, seen by what stands in for a disk
+pub record Passes (before now : ℕ) (past since : ℕ → List ℕ → Type 0) (images : List ℕ → Type 0)
+    : Type 0 where
+  pub later : before ≤ now
+  pub nothing_else : (t : ℕ) (c : List ℕ) → t ≤ before → since t c → past t c ⊎ images c
+
+pub elapses : {D : Type 0} (S : DiskSenses D) (old new : D)
+    → Passes (S.moment old) (S.moment new) (S.images_since old) (S.images_since new) (S.images new)
+    → Elapses S old new
+elapses S old new p = record { later = p.later; nothing_else = p.nothing_else }
+
+elapses_same : (first : List ℕ) (calls : List DiskCall) → Passes (length calls) (length calls)
     (LeftSince first calls) (LeftSince first calls) (IsImage (state_after first calls))
 elapses_same first calls = record { later = omega arith; nothing_else = λ t c le left. inl left }
 
 elapses_push : (first : List ℕ) (calls : List DiskCall) (call : DiskCall)
-    → Elapses (length calls) (length (calls ++ call ∷ [])) (LeftSince first calls)
+    → Passes (length calls) (length (calls ++ call ∷ [])) (LeftSince first calls)
     (LeftSince first (calls ++ call ∷ [])) (IsImage (state_after first (calls ++ call ∷ [])))
 elapses_push first calls call = record {
   later = omega (arith, length-append calls (call ∷ []));
@@ -172,13 +184,13 @@ elapses_push first calls call = record {
 
 -- time goes on by a call
 pub elapses_more : (first : List ℕ) (calls later : List DiskCall) → OneMore calls later
-    → Elapses (length calls) (length later) (LeftSince first calls) (LeftSince first later)
+    → Passes (length calls) (length later) (LeftSince first calls) (LeftSince first later)
     (IsImage (state_after first later))
 elapses_more first calls later (inl same) =
-    subst (λ (l : List DiskCall). Elapses (length calls) (length l) (LeftSince first calls)
+    subst (λ (l : List DiskCall). Passes (length calls) (length l) (LeftSince first calls)
     (LeftSince first l) (IsImage (state_after first l))) (sym same) (elapses_same first calls)
 elapses_more first calls later (inr more) =
-    subst (λ (l : List DiskCall). Elapses (length calls) (length l)
+    subst (λ (l : List DiskCall). Passes (length calls) (length l)
     (LeftSince first calls) (LeftSince first l) (IsImage (state_after first l))) (sym more.1)
     (elapses_push first calls more.0)
 

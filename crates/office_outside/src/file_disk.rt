@@ -51,15 +51,13 @@ impl<R: Files<File = File> + Drop> FileDisk<R> {
 }
 
 impl<R: Files<File = File> + Drop> Disk for FileDisk<R> {
-    ghost content = { λ _. None };
-
-    ghost images = { λ _ _. ⊥ };
-
-    ghost moment = { λ _. 0 };
-
-    ghost images_since = { λ _ _ _. ⊥ };
-
-    ghost faults = { λ f. f.faults };
+    ghost senses = { record {
+      content = λ _. None;
+      images = λ _ _. ⊥;
+      moment = λ _. 0;
+      images_since = λ _ _ _. ⊥;
+      faults = λ f. f.faults;
+    } };
 
     ghost counts_now = { λ _ _ _ _ none. none };
 

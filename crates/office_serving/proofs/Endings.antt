@@ -7,6 +7,7 @@ use Rattle.atomic_table.specs.Seated.{TableId}
 use Rattle.slo_limits.specs.declared.TheConstants.{MAX_MINUTE}
 use Rattle.office_outside.specs.Disk as disks
 use Rattle.office_outside.specs.Told.{Gained, GainedPrefix}
+use Rattle.office_outside.specs.Senses.{DiskSenses}
 use Rattle.turn_desk.specs.Histories.{Distinct}
 use Rattle.turn_desk.specs.Histories.{Extends as Begins}
 use Rattle.turn_desk.specs.Passes.{PassState, newcomer}
@@ -170,21 +171,21 @@ at_desk start passes go =
     all_more (λ p. GoesOn start p) (λ p. p.desk ≡ start.desk) passes (λ p goes. goes.stays.desk) go
 
 -- an office before its first visit
-pub not_served : {D A I O C : Type 0} (images : D → List ℕ → Type 0) (site : Site A I O C)
+pub not_served : {D A I O C : Type 0} (S : DiskSenses D) (site : Site A I O C)
     (port : ℕ) (office back : OfficeOn D) (entrance : Option (Entrance A (Visit I O C)))
     (ports : List ℕ) (held : Option (List ℕ)) (disk : D) → back ≡ office → disk ≡ back.disk
     → IsWhole office.office
-    → disks.All (StandsSettled office.office office.doubt) (images office.disk)
-    → IsServed images site port office NoMemory (front entrance ports held)
+    → disks.All (StandsSettled office.office office.doubt) (S.images office.disk)
+    → IsServed S site port office NoMemory (front entrance ports held)
     (front entrance ports held) disk
-not_served {D} images site port office back entrance ports held disk same handed whole stands =
+not_served {D} S site port office back entrance ports held disk same handed whole stands =
     let is : disk ≡ office.disk = handed ∙ ap (λ (o : OfficeOn D). o.disk) same in
     record {
       last = office;
       handed_back = is;
       grows = extends_still office.office;
       whole = whole;
-      stands = subst (λ (d : D). disks.All (StandsSettled office.office office.doubt) (images d))
+      stands = subst (λ (d : D). disks.All (StandsSettled office.office office.doubt) (S.images d))
           (sym is) stands;
       ends = record {
         entrance = moves_still Stays (λ e. refl) entrance;
@@ -196,11 +197,10 @@ not_served {D} images site port office back entrance ports held disk same handed
 
 -- what the closing of the desk says of the passes, told of the office
 module _ {D A I O C : Type 0} (beginnings : PassesSeeBeginnings) (all : NewPassesSeeAll)
-    (back : EntriesAreReadBack)
-    (images : D → List ℕ → Type 0) (faults : D → ℕ) (site : Site A I O C) (port : ℕ)
+    (back : EntriesAreReadBack) (S : DiskSenses D) (site : Site A I O C) (port : ℕ)
     (first last : OfficeOn D) (desk : TableId) (passes : List PassState) where
   abbrev pub begin : PassState
-  begin = newcomer desk (ledger_of faults first) WORKERS
+  begin = newcomer desk (ledger_of S first) WORKERS
 
   abbrev AllGo : Type 0
   AllGo = All (λ p. GoesOn begin p) passes
@@ -214,11 +214,11 @@ module _ {D A I O C : Type 0} (beginnings : PassesSeeBeginnings) (all : NewPasse
   -- each entry is accounted for, if the passes are all that the desk was opened for
   abbrev pub AllAccount : Type 0
   AllAccount = (opening : Opening) → AreAll opening passes
-      → Accounts opening (own_of passes) (raised_of passes) (ledger_of faults last).history
+      → Accounts opening (own_of passes) (raised_of passes) (ledger_of S last).history
 
   extended : IsWhole last.office → last.office.origin ≤ MAX_MINUTE
-      → All (λ p. p.root ≡ (ledger_of faults last).root) passes
-      → All (λ p. Begins p.seen (ledger_of faults last).history) passes
+      → All (λ p. p.root ≡ (ledger_of S last).root) passes
+      → All (λ p. Begins p.seen (ledger_of S last).history) passes
       → All (λ p. Extends (office_seen p) last.office) passes
   extended whole low roots seen k d lt =
       beginnings (slice_index_or passes k d) last.office whole low (roots k d lt) (seen k d lt)
@@ -226,7 +226,7 @@ module _ {D A I O C : Type 0} (beginnings : PassesSeeBeginnings) (all : NewPasse
   sees_first : IsWhole first.office → first.office.origin ≤ MAX_MINUTE
       → office_seen begin ≡ first.office
   sees_first whole low =
-      all desk (ledger_of faults first) WORKERS first.office whole low refl refl
+      all desk (ledger_of S first) WORKERS first.office whole low refl refl
 
   grows : office_seen begin ≡ first.office → 0 < length passes → AllGo
       → All (λ p. Extends (office_seen p) last.office) passes
@@ -285,14 +285,14 @@ module _ {D A I O C : Type 0} (beginnings : PassesSeeBeginnings) (all : NewPasse
   pub served : (end : ServeEnd) (old new : Front A (Visit I O C)) (disk : D)
       → IsWhole first.office → first.office.origin ≤ MAX_MINUTE → IsWhole last.office
       → last.office.origin ≤ MAX_MINUTE → disk ≡ last.disk
-      → disks.All (StandsSettled last.office last.doubt) (images last.disk)
+      → disks.All (StandsSettled last.office last.doubt) (S.images last.disk)
       → length passes ≡ WORKERS → AllGo
-      → All (λ p. p.root ≡ (ledger_of faults last).root) passes
-      → All (λ p. Begins p.seen (ledger_of faults last).history) passes
+      → All (λ p. p.root ≡ (ledger_of S last).root) passes
+      → All (λ p. Begins p.seen (ledger_of S last).history) passes
       → Distinct (flat_map (λ p. p.own) passes) → AllAccount → ChainsDo
       → EndsServing site port (λ o d. WorksEach site begin o d passes)
       (All (λ p. p ≡ begin) passes) end old new
-      → IsServed images site port first end old new disk
+      → IsServed S site port first end old new disk
   served end old new disk was_whole was_low whole low handed stands count go roots seen apart
       account does ends =
       let is = sees_first was_whole was_low in
@@ -302,7 +302,7 @@ module _ {D A I O C : Type 0} (beginnings : PassesSeeBeginnings) (all : NewPasse
         handed_back = handed;
         grows = grows is (omega (arith, count)) go extends;
         whole = whole;
-        stands = subst (λ (d : D). disks.All (StandsSettled last.office last.doubt) (images d))
+        stands = subst (λ (d : D). disks.All (StandsSettled last.office last.doubt) (S.images d))
             (sym handed) stands;
         ends = ends_more site port (λ o d. WorksEach site begin o d passes)
             (WorkersServe site first.office first.doubt last.office)

@@ -1,5 +1,5 @@
 -- What a pass has seen grows through visits.
-use Rattle.std.proofs.Common.{ℕ, List, [], ◌∷◌, sym, subst}
+use Rattle.std.proofs.Common.{List, [], ◌∷◌, sym, subst}
 use Rattle.turn_desk.specs.Passes.{PassState}
 use Rattle.office_doors.specs.declared.Visit.{Visit}
 use Rattle.office_counter.specs.Laws.{Extends}
@@ -16,6 +16,7 @@ use Rattle.turn_counter.proofs.Staying.{end_stays, stays_both, stays_still}
 use Rattle.office_serving.specs.Asked.{turns_of_chain}
 use Rattle.office_serving.specs.Visits.{Chain, Looks, Service, ServesVisit, scene_at}
 use Rattle.office_serving.specs.Workers.{GoesOn}
+use Rattle.office_outside.specs.Senses.{DiskSenses}
 
 pub goes_still : (p : PassState) → GoesOn p p
 goes_still p = record {
@@ -31,24 +32,20 @@ goes_both a b c first second = record {
   owned = λ owned. second.owned (first.owned owned);
 }
 
-module _ {D I O C : Type 0} (images : D → List ℕ → Type 0) (moment : D → ℕ)
-    (images_since : D → ℕ → List ℕ → Type 0) (faults : D → ℕ) (look : Looks I O C) where
+module _ {D I O C : Type 0} (S : DiskSenses D) (look : Looks I O C) where
   visit_goes : (visit given : Visit I O C) (old new : PassState)
-      → ServesVisit (TurnAsks images moment images_since faults) look visit given old new
-      → GoesOn old new
+      → ServesVisit (TurnAsks S) look visit given old new → GoesOn old new
   visit_goes visit given old new serves = record {
-    stays = end_stays images moment images_since faults refusal_text serves.end
+    stays = end_stays S refusal_text serves.end
         (scene_at look visit old) (scene_at look given new) serves.ends;
-    seen = end_extends (TurnAsks images moment images_since faults) standing_of
-        (turn_steps images moment images_since faults) serves.end (scene_at look visit old)
-        (scene_at look given new) serves.ends;
-    owned = end_owned (TurnAsks images moment images_since faults) standing_of
-        (turn_steps images moment images_since faults) serves.end (scene_at look visit old)
-        (scene_at look given new) serves.ends;
+    seen = end_extends (TurnAsks S) standing_of (turn_steps S) serves.end
+        (scene_at look visit old) (scene_at look given new) serves.ends;
+    owned = end_owned (TurnAsks S) standing_of (turn_steps S) serves.end
+        (scene_at look visit old) (scene_at look given new) serves.ends;
   }
 
   pub chain_goes : (old : PassState) (services : List (Service (Visit I O C))) (new : PassState)
-      → Chain (TurnAsks images moment images_since faults) look old services new → GoesOn old new
+      → Chain (TurnAsks S) look old services new → GoesOn old new
   chain_goes old [] new chain = subst (λ (p : PassState). GoesOn old p) (sym chain) (goes_still old)
   chain_goes old (s ∷ ss) new (mid, served, rest) =
       goes_both old mid new (visit_goes s.visit s.given old mid served) (chain_goes mid ss new rest)
@@ -56,15 +53,14 @@ module _ {D I O C : Type 0} (images : D → List ℕ → Type 0) (moment : D →
   -- a worker's pass makes what the messages of its visits ask for
   pub chain_does : EntriesAreReadBack → (old : PassState)
       (services : List (Service (Visit I O C))) (new : PassState)
-      (chain : Chain (TurnAsks images moment images_since faults) look old services new)
-      → Does (turns_of_chain (TurnAsks images moment images_since faults) look old services new
-      chain) old new
+      (chain : Chain (TurnAsks S) look old services new)
+      → Does (turns_of_chain (TurnAsks S) look old services new chain) old new
   chain_does back old [] new same =
       subst (λ (p : PassState). Does [] old p) (sym same) (does_none old)
   chain_does back old (s ∷ ss) new (mid, serves, rest) =
-      does_both (turns_of (Treats (TurnAsks images moment images_since faults)) refusal_text
-      serves.end (scene_at look s.visit old) (scene_at look s.given mid) serves.ends)
-      (turns_of_chain (TurnAsks images moment images_since faults) look mid ss new rest) old mid new
-      (session_does back images moment images_since faults refusal_text serves.end
+      does_both (turns_of (Treats (TurnAsks S)) refusal_text serves.end
       (scene_at look s.visit old) (scene_at look s.given mid) serves.ends)
+      (turns_of_chain (TurnAsks S) look mid ss new rest) old mid new
+      (session_does back S refusal_text serves.end (scene_at look s.visit old)
+      (scene_at look s.given mid) serves.ends)
       (chain_does back mid ss new rest)

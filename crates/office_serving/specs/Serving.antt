@@ -3,6 +3,7 @@ use Rattle.std.specs.Prelude.{◌≡◌, ◌⊎◌, ℕ, ◌+◌, List, [], ◌�
 use Rattle.std.specs.Prelude.{Option, is_some, true}
 use Rattle.office_outside.specs.Disk as disks
 use Rattle.office_outside.specs.Told.{Gained, GainedPrefix}
+use Rattle.office_outside.specs.Senses.{DiskSenses}
 use Rattle.office_doors.specs.Books.{Book, HasAllBack, IsFresh, Moves, Tells}
 use Rattle.office_doors.specs.Entrances.{Entrance, Stays, left_at}
 use Rattle.office_doors.specs.declared.Visit.{Visit}
@@ -106,13 +107,13 @@ EndsServing site port Serve IfIdle NoMemory old new =
 -- An office was served at a port, and its disk is handed back: the history extends the one that was
 -- handed in, and is legal. Each image of the disk stands for it, or for it with the one entry in
 -- doubt. Where nobody worked, nothing was added but what was in doubt.
-pub record IsServed {D A I O C : Type 0} (images : D → List ℕ → Type 0) (site : Site A I O C)
+pub record IsServed {D A I O C : Type 0} (S : DiskSenses D) (site : Site A I O C)
     (port : ℕ) (office : OfficeOn D) (end : ServeEnd) (old new : Front A (Visit I O C)) (disk : D) :
     Type 0 where
   pub last : OfficeOn D
   pub handed_back : disk ≡ last.disk
   pub grows : Extends office.office last.office
   pub whole : IsWhole last.office
-  pub stands : disks.All (StandsSettled last.office last.doubt) (images disk)
+  pub stands : disks.All (StandsSettled last.office last.doubt) (S.images disk)
   pub ends : EndsServing site port (WorkersServe site office.office office.doubt last.office)
       (AddsNoOther [] office.office office.doubt last.office) end old new

@@ -83,12 +83,11 @@ fn serve_at<R: Wait + Threads + Sync, D: Disk + Send + Drop, S: Doors, K: Sink>(
     ensures count { length passes.new.items ≡ WORKERS }
     ensures goes_on { (v : PassState) → All (λ p. p ≡ v) passes.old.items
         → All (λ p. GoesOn v p) passes.new.items }
-    ensures ends { (v : PassState) → All (λ p. p ≡ v) passes.old.items → EndsServing
-        (site (TurnAsks D.images D.moment D.images_since D.faults)
+    ensures ends { (v : PassState) → All (λ p. p ≡ v) passes.old.items
+        → EndsServing (site (TurnAsks D.senses)
         (looks S.One.In.left S.One.In.faults S.One.Out.held S.One.Out.faults S.One.Time.to_come)
         (λ d. S.One.told d) (λ d. S.One.faults d)) port
-        (λ opened closed. WorksEach
-        (site (TurnAsks D.images D.moment D.images_since D.faults)
+        (λ opened closed. WorksEach (site (TurnAsks D.senses)
         (looks S.One.In.left S.One.In.faults S.One.Out.held S.One.Out.faults S.One.Time.to_come)
         (λ d. S.One.told d) (λ d. S.One.faults d)) v opened closed passes.new.items)
         (All (λ p. p ≡ v) passes.new.items) result
@@ -130,7 +129,7 @@ pub fn serve<R: Wait + Threads + Sync, D: Disk + Send + Drop, S: Doors, K: Sink>
     port: u16,
     ready: &mut K,
 ) -> (ServeEnd, D)
-    ensures served { IsServed D.images (site (TurnAsks D.images D.moment D.images_since D.faults)
+    ensures served { IsServed D.senses (site (TurnAsks D.senses)
         (looks S.One.In.left S.One.In.faults S.One.Out.held S.One.Out.faults S.One.Time.to_come)
         (λ d. S.One.told d) (λ d. S.One.faults d)) port office result.0
         (front (S.told doors.old) (S.ports doors.old) (K.held ready.old))

@@ -61,7 +61,7 @@ impl<'a, D: Disk + Drop, A: Door + Drop, R: Wait> Worker<'a, D, A, R> {
 
     /// Serves the visits of its door.
     fn serve_door(&mut self)
-        ensures { Worked (site (TurnAsks D.images D.moment D.images_since D.faults)
+        ensures { Worked (site (TurnAsks D.senses)
             (looks A.In.left A.In.faults A.Out.held A.Out.faults A.Time.to_come)
             (λ d. A.told d) (λ d. A.faults d)) self.old.counter self.new.counter self.old.door
             self.new.door self.new.end }
@@ -85,14 +85,14 @@ fn run_all<R: Wait + Threads + Sync, D: Disk + Send + Drop, A: Door + Send + Dro
 )
     ensures same { length workers.new ≡ length workers.old }
     ensures worked { (k : ℕ) (d : _) → k < length workers.old →
-        Worked (site (TurnAsks D.images D.moment D.images_since D.faults)
+        Worked (site (TurnAsks D.senses)
         (looks A.In.left A.In.faults A.Out.held A.Out.faults A.Time.to_come)
         (λ d. A.told d) (λ d. A.faults d)) (slice_index_or workers.old k d).counter
         (slice_index_or workers.new k d).counter (slice_index_or workers.old k d).door
         (slice_index_or workers.new k d).door (slice_index_or workers.new k d).end }
 {
     let step = |_: usize, worker: &mut Worker<'_, D, A, R>|
-        ensures { Worked (site (TurnAsks D.images D.moment D.images_since D.faults)
+        ensures { Worked (site (TurnAsks D.senses)
             (looks A.In.left A.In.faults A.Out.held A.Out.faults A.Time.to_come)
             (λ d. A.told d) (λ d. A.faults d)) worker.old.counter worker.new.counter
             worker.old.door worker.new.door worker.new.end }
@@ -200,7 +200,7 @@ pub(crate) fn run_workers<'a, R: Wait + Threads + Sync, D: Disk + Send + Drop, S
     requires room { length opened.items ≤ vec_capacity workers }
     requires open { Tells (HasRoom (length opened.items)) (S.told doors.old) }
     ensures ran { (v : PassState) → All (λ p. p ≡ v) passes.old.items → RanWorkers
-        (site (TurnAsks D.images D.moment D.images_since D.faults)
+        (site (TurnAsks D.senses)
         (looks S.One.In.left S.One.In.faults S.One.Out.held S.One.Out.faults S.One.Time.to_come)
         (λ d. S.One.told d) (λ d. S.One.faults d)) v opened.items (S.told doors.old)
         (S.told doors.new) passes.new.items result }

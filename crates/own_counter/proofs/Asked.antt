@@ -26,6 +26,7 @@ use Rattle.wire_session.specs.Treats.{Treats, asked, at_once, unread}
 use Rattle.own_counter.specs.Own.{Ends, performed, no_room, OwnAsks, OwnOn}
 use Rattle.own_counter.specs.Requests.{AddNoOther, AddsAsked, AreAsked, IsAsked, IsUntouched}
 use Rattle.own_counter.specs.Requests.{doubted, turns_of}
+use Rattle.office_outside.specs.Senses.{DiskSenses}
 
 asked_later : (o : Office) (es : List Entry) (turn : Turn) (turns : List Turn)
     → AreAsked o es turns → AreAsked o es (turn ∷ turns)
@@ -103,8 +104,7 @@ did_nothing : {D : Type 0} (turn : Turn) (old new : OfficeOn D) → new ≡ old 
 did_nothing {D} turn old new same =
     untouched (ap (λ (k : OfficeOn D). k.office) same) (ap (λ (k : OfficeOn D). k.doubt) same)
 
-module _ {D : Type 0} (images : D → List ℕ → Type 0) (moment : D → ℕ)
-    (since : D → ℕ → List ℕ → Type 0) (faults : D → ℕ) where
+module _ {D : Type 0} (S : DiskSenses D) where
   did_ends : (turn : Turn) (request : Request) (old new : OfficeOn D) (outcome : Outcome)
       (place : Option ℕ) → StandsFor turn.said (Ok request)
       → Ends old turn.reading request outcome place new → TurnDid turn old new
@@ -116,7 +116,7 @@ module _ {D : Type 0} (images : D → List ℕ → Type 0) (moment : D → ℕ)
       did_nothing turn old new same
 
   did_turn : (turn : Turn) (last : Bool) (old new : OwnOn D)
-      → Treats (OwnAsks images moment since faults) old turn.said last turn.reading turn.answer new
+      → Treats (OwnAsks S) old turn.said last turn.reading turn.answer new
       → TurnDid turn old.kept new.kept
   did_turn turn last old new (asked request outcome stands asks tells) =
       did_ends turn request old.kept new.kept outcome asks.place stands asks.ended
@@ -215,18 +215,17 @@ module _ {D : Type 0} (turn : Turn) (turns : List Turn) (old mid new : OfficeOn 
   turn_then did (inl same) = untouched_then did same.office same.doubt
   turn_then did (inr more) = then_more did more
 
-module _ {D : Type 0} (images : D → List ℕ → Type 0) (moment : D → ℕ)
-    (since : D → ℕ → List ℕ → Type 0) (faults : D → ℕ) where
+module _ {D : Type 0} (S : DiskSenses D) where
   -- turns, and then perhaps one more
   trace_adds : (count : ℕ) (old : OwnOn D) (turns : List Turn) (mid : OwnOn D)
       (behind : List Turn) (new : OwnOn D)
-      → Trace (Treats (OwnAsks images moment since faults)) count old turns mid
+      → Trace (Treats (OwnAsks S)) count old turns mid
       → AddNoOther behind mid.kept new.kept → AddNoOther (turns ++ behind) old.kept new.kept
   trace_adds count old [] mid behind new same more =
       subst (λ (o : OwnOn D). AddNoOther behind o.kept new.kept) same more
   trace_adds count old (t ∷ ts) mid behind new (next, open_yet, treated, rest) more =
       turn_then t (ts ++ behind) old.kept next.kept new.kept
-      (did_turn images moment since faults t false old next treated)
+      (did_turn S t false old next treated)
       (trace_adds (count + 1) next ts mid behind new rest more)
 
   still : (o p : OwnOn D) → p ≡ o → AddNoOther [] o.kept p.kept
@@ -236,7 +235,7 @@ module _ {D : Type 0} (images : D → List ℕ → Type 0) (moment : D → ℕ)
   })
 
   pub turns_add : (count : ℕ) (old : OwnOn D) (turns : List Turn) (new : OwnOn D)
-      → Trace (Treats (OwnAsks images moment since faults)) count old turns new
+      → Trace (Treats (OwnAsks S)) count old turns new
       → AddNoOther turns old.kept new.kept
   turns_add count old turns new trace =
       subst (λ (l : List Turn). AddNoOther l old.kept new.kept) (append-nil turns)
@@ -244,15 +243,15 @@ module _ {D : Type 0} (images : D → List ℕ → Type 0) (moment : D → ℕ)
 
   -- one turn more
   one_adds : (turn : Turn) (last : Bool) (old new : OwnOn D)
-      → Treats (OwnAsks images moment since faults) old turn.said last turn.reading turn.answer new
+      → Treats (OwnAsks S) old turn.said last turn.reading turn.answer new
       → AddNoOther (turn ∷ []) old.kept new.kept
   one_adds turn last old new treated =
       turn_then turn [] old.kept new.kept new.kept
-      (did_turn images moment since faults turn last old new treated) (still new new refl)
+      (did_turn S turn last old new treated) (still new new refl)
 
   pub end_adds : (refusal : OwnOn D → ℕ → List ℕ) (end : SessionEnd) (old new : Scene (OwnOn D))
-      → (ends : EndsSo (Treats (OwnAsks images moment since faults)) refusal end old new)
-      → AddNoOther (turns_of (Treats (OwnAsks images moment since faults)) refusal end old new ends)
+      → (ends : EndsSo (Treats (OwnAsks S)) refusal end old new)
+      → AddNoOther (turns_of (Treats (OwnAsks S)) refusal end old new ends)
       old.handler.kept new.handler.kept
   end_adds refusal Done old new (inl t) =
       trace_adds 0 old.handler t.turns t.mid.handler (t.one.turn ∷ []) new.handler t.before.trace

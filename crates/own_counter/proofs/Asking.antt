@@ -1,6 +1,8 @@
 -- One asking of an office of one's own, as its calls tell it.
-use Rattle.std.proofs.Common.{ℕ, List, None, arith, inl, refl}
-use Rattle.office_outside.specs.Disk.{All, LeavesOnly}
+use Rattle.std.proofs.Common.{ℕ, List, None, arith, refl}
+use Rattle.office_outside.specs.Disk.{All, OnlyNow}
+use Rattle.office_outside.specs.Senses.{DiskSenses}
+use Rattle.office_outside.proofs.Moments.{leaves_still}
 use Rattle.record_form.specs.declared.Request.{Request}
 use Rattle.record_form.specs.declared.Request.TheVariants.{Change, Ask}
 use Rattle.record_form.specs.declared.Outcome.TheVariants.{NoMemory}
@@ -8,18 +10,6 @@ use Rattle.office_keep.specs.Files.{IsWhole}
 use Rattle.office_keep.specs.Office.{IsBlamed, LeavesBy, OfficeOn, StandsSettled, unsettled}
 use Rattle.office_keep.proofs.Performing.{settles_nothing}
 use Rattle.own_counter.specs.Own.{no_room, OwnAsks, own_on}
-
--- a disk that is left alone
-pub stays : {D : Type 0} (images : D → List ℕ → Type 0) (moment : D → ℕ)
-    (since : D → ℕ → List ℕ → Type 0)
-    (only_now : (disk : D) (c : List ℕ) → since disk (moment disk) c → images disk c) (disk : D)
-    (P : List ℕ → Type 0)
-    → All P (images disk) → LeavesOnly moment since disk disk P
-stays images moment since only_now disk P all = record {
-  later = omega arith;
-  each = λ c left. all c (only_now disk c left);
-  before = λ t c le left. inl left;
-}
 
 left_by : {D : Type 0} (o : OfficeOn D) (reading : ℕ) (request : Request) (file : List ℕ)
     → StandsSettled o.office o.doubt file
@@ -31,20 +21,18 @@ blames_nothing : (count : ℕ) → IsBlamed count count NoMemory
 blames_nothing count = record { later = omega arith; rose = λ told. cc told }
 
 -- where there is no memory for a place, nothing is done
-pub asks_without_room : {D : Type 0} (images : D → List ℕ → Type 0) (moment : D → ℕ)
-    (since : D → ℕ → List ℕ → Type 0) (faults : D → ℕ)
-    (only_now : (disk : D) (c : List ℕ) → since disk (moment disk) c → images disk c)
-    (o : OfficeOn D) (own : List ℕ) (reading : ℕ) (request : Request)
-    → All (StandsSettled o.office o.doubt) (images o.disk) → IsWhole o.office
-    → OwnAsks images moment since faults (own_on o own) reading request NoMemory (own_on o own)
-asks_without_room images moment since faults only_now o own reading request stands whole = record {
+pub asks_without_room : {D : Type 0} (S : DiskSenses D) → OnlyNow S
+    → (o : OfficeOn D) (own : List ℕ) (reading : ℕ) (request : Request)
+    → All (StandsSettled o.office o.doubt) (S.images o.disk) → IsWhole o.office
+    → OwnAsks S (own_on o own) reading request NoMemory (own_on o own)
+asks_without_room S only_now o own reading request stands whole = record {
   place = None;
   ended = no_room refl refl refl;
   places = refl;
-  any_moment = stays images moment since only_now o.disk (LeavesBy o reading request o)
+  any_moment = leaves_still {S = S} only_now
       (λ file image. left_by o reading request file (stands file image));
   stands = stands;
   whole = whole;
-  after_settling = settles_nothing images moment since o reading request;
-  cause = blames_nothing (faults o.disk);
+  after_settling = settles_nothing S o reading request;
+  cause = blames_nothing (S.faults o.disk);
 }

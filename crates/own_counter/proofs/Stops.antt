@@ -1,5 +1,5 @@
 -- What a stop may leave in the course of a session.
-use Rattle.std.proofs.Common.{◌≡◌, ◌⊎◌, ℕ, List, [], ◌∷◌, Bool, Option, Some, None, arith}
+use Rattle.std.proofs.Common.{◌≡◌, ◌⊎◌, ℕ, List, [], ◌∷◌, Bool, Option, Some, None}
 use Rattle.std.proofs.Common.{sym, ap, subst, inl, inr}
 use Rattle.message_heads.specs.Streams.{Said}
 use Rattle.record_form.specs.declared.Command.{Command}
@@ -7,7 +7,9 @@ use Rattle.record_form.specs.declared.Entry.{Entry}
 use Rattle.record_form.specs.declared.Outcome.{Outcome}
 use Rattle.record_form.specs.declared.Request.{Request}
 use Rattle.record_form.specs.declared.Request.TheVariants.{Change, Ask}
-use Rattle.office_outside.specs.Disk.{All, LeavesOnly}
+use Rattle.office_outside.specs.Disk.{All, LeavesOnly, OnlyNow}
+use Rattle.office_outside.specs.Senses.{DiskSenses}
+use Rattle.office_outside.proofs.Moments.{leaves_still, leaves_then, leaves_weaker}
 use Rattle.office_history.specs.History.{Office, with_entry}
 use Rattle.office_counter.specs.Laws.{Extends}
 use Rattle.office_counter.specs.Steps.{with_made}
@@ -21,7 +23,6 @@ use Rattle.office_session.specs.declared.SessionEnd.{SessionEnd}
 use Rattle.own_counter.specs.Own.{OwnAsks, OwnOn}
 use Rattle.own_counter.specs.Runs.{IsBetween}
 use Rattle.own_counter.specs.Stepping.{own_steps, settled_others}
-use Rattle.own_counter.proofs.Asking.{stays}
 use Rattle.wire_session.specs.Treats.{Treats, asked, at_once, unread}
 use Rattle.wire_session.proofs.Keeping.{trace_keeps, end_keeps}
 
@@ -98,45 +99,21 @@ left_between old reading (Ask query) new file more stands =
 left_between old reading (Change command) new file more leaves =
     change_between old reading command new file more leaves
 
-leaves_weaker : {D : Type 0} (moment : D → ℕ) (since : D → ℕ → List ℕ → Type 0) (old new : D)
-    (P Q : List ℕ → Type 0)
-    → ((c : List ℕ) → P c → Q c) → LeavesOnly moment since old new P
-    → LeavesOnly moment since old new Q
-leaves_weaker moment since old new P Q weaker leaves = record {
-  later = leaves.later;
-  each = λ c left. weaker c (leaves.each c left);
-  before = λ t c le left. elim (leaves.before t c le left)
-      [ inl past ↦ inl past | inr now ↦ inr (weaker c now) ];
-}
-
-leaves_both : {D : Type 0} (moment : D → ℕ) (since : D → ℕ → List ℕ → Type 0) (a b c : D)
-    (P : List ℕ → Type 0)
-    → LeavesOnly moment since a b P → LeavesOnly moment since b c P → LeavesOnly moment since a c P
-leaves_both moment since a b c P first second = record {
-  later = omega (arith, first.later, second.later);
-  each = λ file left. elim (second.before (moment a) file first.later left)
-      [ inl past ↦ first.each file past | inr now ↦ now ];
-  before = λ t file le left. elim (second.before t file (omega (arith, first.later, le)) left)
-      [ inl past ↦ first.before t file le past | inr now ↦ inr now ];
-}
-
-module _ {D : Type 0} (images : D → List ℕ → Type 0) (moment : D → ℕ)
-    (since : D → ℕ → List ℕ → Type 0) (faults : D → ℕ)
-    (only_now : (disk : D) (c : List ℕ) → since disk (moment disk) c → images disk c) where
+module _ {D : Type 0} (S : DiskSenses D) (only_now : OnlyNow S) where
   -- what a part of a session leaves, at each moment and at its end
   record IsKept (old new : OwnOn D) : Type 0 where
-    pub moments : LeavesOnly moment since old.kept.disk new.kept.disk
+    pub moments : LeavesOnly S old.kept.disk new.kept.disk
         (IsBetween old.kept.office new.kept.office)
-    pub now : All (StandsSettled new.kept.office new.kept.doubt) (images new.kept.disk)
+    pub now : All (StandsSettled new.kept.office new.kept.doubt) (S.images new.kept.disk)
     pub more : Extends old.kept.office new.kept.office
 
   abbrev Keeps : OwnOn D → OwnOn D → Type 0
   Keeps old new =
-      All (StandsSettled old.kept.office old.kept.doubt) (images old.kept.disk) → IsKept old new
+      All (StandsSettled old.kept.office old.kept.doubt) (S.images old.kept.disk) → IsKept old new
 
   keeps_still : (o : OwnOn D) → Keeps o o
   keeps_still o stands = record {
-    moments = stays images moment since only_now o.kept.disk (IsBetween o.kept.office o.kept.office)
+    moments = leaves_still {S = S} only_now
         (λ file image. settled_between o.kept.office o.kept.office o.kept.doubt file
         (extends_still o.kept.office) (stands file image));
     now = stands;
@@ -148,35 +125,28 @@ module _ {D : Type 0} (images : D → List ℕ → Type 0) (moment : D → ℕ)
       let one = first stands in
       let two = second one.now in
       record {
-        moments = leaves_both moment since a.kept.disk b.kept.disk c.kept.disk
-            (IsBetween a.kept.office c.kept.office)
-            (leaves_weaker moment since a.kept.disk b.kept.disk _ _
-            (λ file. between_longer a.kept.office b.kept.office c.kept.office file two.more)
-            one.moments)
-            (leaves_weaker moment since b.kept.disk c.kept.disk _ _
-            (λ file. between_earlier a.kept.office b.kept.office c.kept.office file one.more)
-            two.moments);
+        moments = leaves_then one.moments (leaves_weaker two.moments
+            (λ file. between_earlier a.kept.office b.kept.office c.kept.office file one.more))
+            (λ file. between_longer a.kept.office b.kept.office c.kept.office file two.more);
         now = two.now;
         more = extends_both a.kept.office b.kept.office c.kept.office one.more two.more;
       }
 
   asking_keeps : (old : OwnOn D) (reading : ℕ) (request : Request) (outcome : Outcome)
-      (new : OwnOn D)
-      → OwnAsks images moment since faults old reading request outcome new → Keeps old new
+      (new : OwnOn D) → OwnAsks S old reading request outcome new → Keeps old new
   asking_keeps old reading request outcome new asks stands =
       let more : Extends old.kept.office new.kept.office =
       step_extends _ reading request outcome _
-      (own_steps images moment since faults old reading request outcome new asks) in
+      (own_steps S old reading request outcome new asks) in
       record {
-        moments = leaves_weaker moment since old.kept.disk new.kept.disk _ _
-            (λ file. left_between old.kept reading request new.kept file more) asks.any_moment;
+        moments = leaves_weaker asks.any_moment
+            (λ file. left_between old.kept reading request new.kept file more);
         now = asks.stands;
         more = more;
       }
 
   turn_keeps : (old : OwnOn D) (said : Said) (last : Bool) (reading : ℕ) (text : List ℕ)
-      (new : OwnOn D)
-      → Treats (OwnAsks images moment since faults) old said last reading text new → Keeps old new
+      (new : OwnOn D) → Treats (OwnAsks S) old said last reading text new → Keeps old new
   turn_keeps old said last reading text new (asked request outcome for asks answer) =
       asking_keeps old reading request outcome new asks
   turn_keeps old said last reading text new (at_once reason for answer same) =
@@ -185,22 +155,19 @@ module _ {D : Type 0} (images : D → List ℕ → Type 0) (moment : D → ℕ)
       subst (λ (o : OwnOn D). Keeps old o) (sym same) (keeps_still old)
 
   pub turns_leave : (count : ℕ) (old : OwnOn D) (turns : List Turn) (new : OwnOn D)
-      → Trace (Treats (OwnAsks images moment since faults)) count old turns new
-      → All (StandsSettled old.kept.office old.kept.doubt) (images old.kept.disk)
-      → LeavesOnly moment since old.kept.disk new.kept.disk
-      (IsBetween old.kept.office new.kept.office)
+      → Trace (Treats (OwnAsks S)) count old turns new
+      → All (StandsSettled old.kept.office old.kept.doubt) (S.images old.kept.disk)
+      → LeavesOnly S old.kept.disk new.kept.disk (IsBetween old.kept.office new.kept.office)
   turns_leave count old turns new trace stands =
-      (trace_keeps (Treats
-      (OwnAsks images moment since faults)) Keeps keeps_still keeps_both turn_keeps
+      (trace_keeps (Treats (OwnAsks S)) Keeps keeps_still keeps_both turn_keeps
       count old turns new trace stands).moments
 
   pub end_leaves : (refusal : OwnOn D → ℕ → List ℕ) (end : SessionEnd) (old new : Scene (OwnOn D))
-      → EndsSo (Treats (OwnAsks images moment since faults)) refusal end old new
+      → EndsSo (Treats (OwnAsks S)) refusal end old new
       → All (StandsSettled old.handler.kept.office old.handler.kept.doubt)
-      (images old.handler.kept.disk)
-      → LeavesOnly moment since old.handler.kept.disk new.handler.kept.disk
+      (S.images old.handler.kept.disk)
+      → LeavesOnly S old.handler.kept.disk new.handler.kept.disk
       (IsBetween old.handler.kept.office new.handler.kept.office)
   end_leaves refusal end old new ends stands =
-      (end_keeps (Treats
-      (OwnAsks images moment since faults)) Keeps keeps_still keeps_both turn_keeps
+      (end_keeps (Treats (OwnAsks S)) Keeps keeps_still keeps_both turn_keeps
       refusal end old new ends stands).moments

@@ -1,6 +1,7 @@
 -- An office of one's own, and what one asking does to it.
 use Rattle.std.specs.Prelude.{◌≡◌, ℕ, List, [], ◌∷◌, ◌++◌, Option, Some, None}
 use Rattle.office_outside.specs.Disk.{All, LeavesOnly}
+use Rattle.office_outside.specs.Senses.{DiskSenses}
 use Rattle.record_form.specs.declared.Outcome.{Outcome}
 use Rattle.record_form.specs.declared.Outcome.TheVariants.{NoMemory}
 use Rattle.record_form.specs.declared.Request.{Request}
@@ -19,8 +20,8 @@ abbrev pub own_on : {D : Type 0} → OfficeOn D → List ℕ → OwnOn D
 own_on kept own = record { kept = kept; own = own }
 
 -- nobody else's entries lie in between: what is seen is the office itself
-abbrev pub standing_of : {D : Type 0} → (D → ℕ) → OwnOn D → Standing
-standing_of faults c = record { office = c.kept.office; own = c.own; faults = faults c.kept.disk }
+abbrev pub standing_of : {D : Type 0} → DiskSenses D → OwnOn D → Standing
+standing_of S c = record { office = c.kept.office; own = c.own; faults = S.faults c.kept.disk }
 
 -- the own places, and that of an entry that was added
 abbrev pub places_with : Option ℕ → List ℕ → List ℕ
@@ -38,15 +39,14 @@ pub data Ends {D : Type 0} (old : OfficeOn D) (reading : ℕ) (request : Request
 
 -- What one asking does: how it ended, what a stop may leave while it runs and at its end, and when
 -- the disk is blamed.
-pub record OwnAsks {D : Type 0} (images : D → List ℕ → Type 0) (moment : D → ℕ)
-    (images_since : D → ℕ → List ℕ → Type 0) (faults : D → ℕ) (old : OwnOn D) (reading : ℕ)
+pub record OwnAsks {D : Type 0} (S : DiskSenses D) (old : OwnOn D) (reading : ℕ)
     (request : Request) (outcome : Outcome) (new : OwnOn D) : Type 0 where
   pub place : Option ℕ
   pub ended : Ends old.kept reading request outcome place new.kept
   pub places : new.own ≡ places_with place old.own
-  pub any_moment : LeavesOnly moment images_since old.kept.disk new.kept.disk
+  pub any_moment : LeavesOnly S old.kept.disk new.kept.disk
       (LeavesBy old.kept reading request new.kept)
-  pub stands : All (StandsSettled new.kept.office new.kept.doubt) (images new.kept.disk)
+  pub stands : All (StandsSettled new.kept.office new.kept.doubt) (S.images new.kept.disk)
   pub whole : IsWhole new.kept.office
-  pub after_settling : SettlesBy images moment images_since old.kept reading request new.kept
-  pub cause : IsBlamed (faults old.kept.disk) (faults new.kept.disk) outcome
+  pub after_settling : SettlesBy S old.kept reading request new.kept
+  pub cause : IsBlamed (S.faults old.kept.disk) (S.faults new.kept.disk) outcome

@@ -14,6 +14,7 @@ use Rattle.office_counter.specs.Steps as steps
 use Rattle.office_keep.specs.Office as keep
 use Rattle.own_counter.specs.Own.{Ends, performed, no_room, OwnAsks, OwnOn, places_with}
 use Rattle.own_counter.specs.Own.{standing_of}
+use Rattle.office_outside.specs.Senses.{DiskSenses}
 
 -- an office with nobody's entries behind it
 with_none : (o : Office) → o ≡ steps.with_others o []
@@ -46,7 +47,7 @@ at_point : (o point : Office) (reading : ℕ) (request : Request) (outcome : Out
 at_point o point reading request outcome before now (others, is) does =
     (others, subst (λ (p : Office). steps.Does p reading request outcome before now) is does)
 
-module _ {D : Type 0} (faults : D → ℕ) (old new : OwnOn D) (reading : ℕ) (outcome : Outcome) where
+module _ {D : Type 0} (S : DiskSenses D) (old new : OwnOn D) (reading : ℕ) (outcome : Outcome) where
   own_still : (place : Option ℕ) → new.own ≡ places_with place old.own → place ≡ None →
       new.own ≡ old.own
   own_still place places none = places ∙ ap (λ (p : Option ℕ). places_with p old.own) none
@@ -54,14 +55,14 @@ module _ {D : Type 0} (faults : D → ℕ) (old new : OwnOn D) (reading : ℕ) (
   does_query : (query : Query) (place : Option ℕ)
       → keep.Asks old.kept reading query outcome place new.kept
       → new.own ≡ places_with place old.own
-      → DoesBehind old.kept.office reading (Ask query) outcome (standing_of faults old)
-      (standing_of faults new)
+      → DoesBehind old.kept.office reading (Ask query) outcome (standing_of S old)
+      (standing_of S new)
   does_query query place asks places =
       let same : new.kept.office ≡ old.kept.office =
       ap (λ (k : keep.OfficeOn D). k.office) asks.stays in
       let own : new.own ≡ old.own = own_still place places asks.no_place in
-      at_point old.kept.office old.kept.office reading (Ask query) outcome (standing_of faults old)
-      (standing_of faults new)
+      at_point old.kept.office old.kept.office reading (Ask query) outcome (standing_of S old)
+      (standing_of S new)
       ([], with_none old.kept.office)
       (elim asks.told
       [ inl came ↦ steps.acts None came same own | inr told ↦ steps.lacks told same own ])
@@ -69,40 +70,40 @@ module _ {D : Type 0} (faults : D → ℕ) (old new : OwnOn D) (reading : ℕ) (
   does_change : (command : Command) (place : Option ℕ)
       → keep.Changes old.kept reading command outcome place new.kept
       → new.own ≡ places_with place old.own
-      → keep.IsBlamed (faults old.kept.disk) (faults new.kept.disk) outcome
-      → DoesBehind old.kept.office reading (Change command) outcome (standing_of faults old)
-      (standing_of faults new)
+      → keep.IsBlamed (S.faults old.kept.disk) (S.faults new.kept.disk) outcome
+      → DoesBehind old.kept.office reading (Change command) outcome (standing_of S old)
+      (standing_of S new)
   does_change command place (keep.past at_end told same none) places cause =
       at_point old.kept.office old.kept.office reading (Change command) outcome
-      (standing_of faults old) (standing_of faults new)
+      (standing_of S old) (standing_of S new)
       ([], with_none old.kept.office)
       (steps.acts None (steps.past at_end told refl) (ap (λ (k : keep.OfficeOn D). k.office) same)
       (own_still place places none))
   does_change command place (keep.refused_memory told timely unmoved none) places
       cause =
       at_point old.kept.office new.kept.office reading (Change command) outcome
-      (standing_of faults old) (standing_of faults new)
+      (standing_of S old) (standing_of S new)
       (settled_others old.kept.office old.kept.doubt new.kept.office unmoved.settled)
       (steps.lacks told refl (own_still place places none))
   does_change command place (keep.not_settled told timely before none) places cause =
       at_point old.kept.office new.kept.office reading (Change command) outcome
-      (standing_of faults old) (standing_of faults new)
+      (standing_of S old) (standing_of S new)
       ([], before.office ∙ with_none old.kept.office)
       (steps.fails told tt timely (cause.rose told) refl (own_still place places none))
   does_change command place (keep.not_kept told timely unmoved none) places cause =
       at_point old.kept.office new.kept.office reading (Change command) outcome
-      (standing_of faults old) (standing_of faults new)
+      (standing_of S old) (standing_of S new)
       (settled_others old.kept.office old.kept.doubt new.kept.office unmoved.settled)
       (steps.fails told tt timely (cause.rose told) refl (own_still place places none))
   does_change command place (keep.in_doubt told timely doubt none) places cause =
       at_point old.kept.office new.kept.office reading (Change command) outcome
-      (standing_of faults old) (standing_of faults new)
+      (standing_of S old) (standing_of S new)
       (settled_others old.kept.office old.kept.doubt new.kept.office doubt.settled)
       (steps.fails told tt timely (cause.rose told) refl (own_still place places none))
   does_change command place (keep.done settled made is timely came now none at) places
       cause =
-      at_point old.kept.office settled reading (Change command) outcome (standing_of faults old)
-      (standing_of faults new)
+      at_point old.kept.office settled reading (Change command) outcome (standing_of S old)
+      (standing_of S new)
       (settled_others old.kept.office old.kept.doubt settled is)
       (steps.acts made came now
       (places ∙ ap (λ (p : Option ℕ). places_with p old.own) at ∙ noted_own settled made old.own))
@@ -110,34 +111,32 @@ module _ {D : Type 0} (faults : D → ℕ) (old new : OwnOn D) (reading : ℕ) (
   does_nothing : (request : Request) (place : Option ℕ) → outcome ≡ NoMemory → place ≡ None
       → new.kept ≡ old.kept
       → new.own ≡ places_with place old.own
-      → DoesBehind old.kept.office reading request outcome (standing_of faults old)
-      (standing_of faults new)
+      → DoesBehind old.kept.office reading request outcome (standing_of S old)
+      (standing_of S new)
   does_nothing request place told none same places =
-      at_point old.kept.office old.kept.office reading request outcome (standing_of faults old)
-      (standing_of faults new)
+      at_point old.kept.office old.kept.office reading request outcome (standing_of S old)
+      (standing_of S new)
       ([], with_none old.kept.office)
       (steps.lacks told (ap (λ (k : keep.OfficeOn D). k.office) same) (own_still place places none))
 
   does_own : (request : Request) (place : Option ℕ)
       → Ends old.kept reading request outcome place new.kept
       → new.own ≡ places_with place old.own
-      → keep.IsBlamed (faults old.kept.disk) (faults new.kept.disk) outcome
-      → DoesBehind old.kept.office reading request outcome (standing_of faults old)
-      (standing_of faults new)
+      → keep.IsBlamed (S.faults old.kept.disk) (S.faults new.kept.disk) outcome
+      → DoesBehind old.kept.office reading request outcome (standing_of S old)
+      (standing_of S new)
   does_own (Ask query) place (performed ended) places cause = does_query query place ended places
   does_own (Change command) place (performed ended) places cause =
       does_change command place ended places cause
   does_own request place (no_room told none same) places cause =
       does_nothing request place told none same places
 
-pub own_steps : {D : Type 0} (images : D → List ℕ → Type 0) (moment : D → ℕ)
-    (images_since : D → ℕ → List ℕ → Type 0)
-    (faults : D → ℕ) (old : OwnOn D) (reading : ℕ) (request : Request) (outcome : Outcome)
-    (new : OwnOn D)
-    → OwnAsks images moment images_since faults old reading request outcome new
-    → steps.Step (standing_of faults old) reading request outcome (standing_of faults new)
-own_steps images moment images_since faults old reading request outcome new asked =
+pub own_steps : {D : Type 0} (S : DiskSenses D) (old : OwnOn D) (reading : ℕ)
+    (request : Request) (outcome : Outcome) (new : OwnOn D)
+    → OwnAsks S old reading request outcome new
+    → steps.Step (standing_of S old) reading request outcome (standing_of S new)
+own_steps S old reading request outcome new asked =
     let does =
-    does_own faults old new reading outcome request asked.place asked.ended asked.places
+    does_own S old new reading outcome request asked.place asked.ended asked.places
     asked.cause in
     record { others = does.0; later = asked.cause.later; legal = asked.whole.legal; does = does.1 }

@@ -73,8 +73,7 @@ fn ask_alone<D: Disk + Drop>(
 ) -> Outcome
     requires reading { reading ≤ MAX_MINUTE }
     requires revisions { HasRevisionsIn request.now }
-    ensures { OwnAsks D.images D.moment D.images_since D.faults
-        (own_on office.old own.old.items) reading request.now result
+    ensures { OwnAsks D.senses (own_on office.old own.old.items) reading request.now result
         (own_on office.new own.new.items) }
 {
     if own.reserve(1).is_err() {
@@ -90,13 +89,13 @@ impl<D: Disk + Drop> Counter for OwnCounter<D> {
     ghost use Rattle.own_counter.specs.Own.{OwnAsks, standing_of};
     ghost use Rattle.own_counter.specs.Stepping.{own_steps};
 
-    ghost asks = { OwnAsks D.images D.moment D.images_since D.faults };
+    ghost asks = { OwnAsks D.senses };
 
-    ghost standing = { λ c. standing_of D.faults c };
+    ghost standing = { λ c. standing_of D.senses c };
 
     fn ask(&mut self, alloc: Global, reading: u32, request: &Request) -> Outcome {
         ask_alone(alloc, &mut self.office, &mut self.own, reading, request)
     }
 
-    ghost steps = { own_steps D.images D.moment D.images_since D.faults };
+    ghost steps = { own_steps D.senses };
 }

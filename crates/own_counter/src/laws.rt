@@ -16,15 +16,15 @@ use office_outside::Disk;
 /// office, as `Office::disk_stands` says of each.
 pub fn a_stop_leaves_what_was_kept<D: Disk + Drop>()
     ensures turns { (count : ℕ) (old : OwnOn D) (turns : List Turn) (new : OwnOn D)
-        → Trace (Treats (OwnAsks D.images D.moment D.images_since D.faults)) count old turns new
-        → All (StandsSettled old.kept.office old.kept.doubt) (D.images old.kept.disk)
-        → LeavesOnly D.moment D.images_since old.kept.disk new.kept.disk
+        → Trace (Treats (OwnAsks D.senses)) count old turns new
+        → All (StandsSettled old.kept.office old.kept.doubt) (D.senses.images old.kept.disk)
+        → LeavesOnly D.senses old.kept.disk new.kept.disk
         (IsBetween old.kept.office new.kept.office) }
     ensures end { (refusal : OwnOn D → ℕ → List ℕ) (end : SessionEnd) (old new : Scene (OwnOn D))
-        → EndsSo (Treats (OwnAsks D.images D.moment D.images_since D.faults)) refusal end old new
+        → EndsSo (Treats (OwnAsks D.senses)) refusal end old new
         → All (StandsSettled old.handler.kept.office old.handler.kept.doubt)
-        (D.images old.handler.kept.disk)
-        → LeavesOnly D.moment D.images_since old.handler.kept.disk new.handler.kept.disk
+        (D.senses.images old.handler.kept.disk)
+        → LeavesOnly D.senses old.handler.kept.disk new.handler.kept.disk
         (IsBetween old.handler.kept.office new.handler.kept.office) }
 {}
 
@@ -33,11 +33,10 @@ pub fn a_stop_leaves_what_was_kept<D: Disk + Drop>()
 /// one in doubt, is that of a change which the message of one of its turns asks for.
 pub fn a_session_adds_what_is_asked<D: Disk + Drop>()
     ensures turns { (count : ℕ) (old : OwnOn D) (turns : List Turn) (new : OwnOn D)
-        → Trace (Treats (OwnAsks D.images D.moment D.images_since D.faults)) count old turns new
+        → Trace (Treats (OwnAsks D.senses)) count old turns new
         → AddNoOther turns old.kept new.kept }
     ensures end { (refusal : OwnOn D → ℕ → List ℕ) (end : SessionEnd) (old new : Scene (OwnOn D))
-        → (ends : EndsSo (Treats (OwnAsks D.images D.moment D.images_since D.faults)) refusal end
-        old new) → AddNoOther (turns_of
-        (Treats (OwnAsks D.images D.moment D.images_since D.faults)) refusal end old new ends)
+        → (ends : EndsSo (Treats (OwnAsks D.senses)) refusal end old new)
+        → AddNoOther (turns_of (Treats (OwnAsks D.senses)) refusal end old new ends)
         old.handler.kept new.handler.kept }
 {}

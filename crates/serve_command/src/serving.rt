@@ -1,6 +1,6 @@
 //! The serving of a journal's file over doors.
 ghost use Rattle.std.specs.Prelude.{◌≡◌};
-ghost use Rattle.office_outside.specs.Faults.{Rose};
+ghost use Rattle.office_outside.specs.Faults.{Rose, RoseBy};
 ghost use Rattle.office_keep.specs.declared.Unopened.TheVariants.{DiskFault};
 ghost use Rattle.turn_counter.specs.Turns.{TurnAsks};
 ghost use Rattle.office_serving.specs.Serving.{front};
@@ -35,14 +35,12 @@ pub fn serve_journal<R: Wait + Threads + Sync, D: Disk + Send + Drop, S: Doors, 
     port: u16,
     ready: &mut K,
 ) -> (ServerEnd, D)
-    ensures ends { EndsServer D.content D.images D.moment D.images_since
-        (site (TurnAsks D.images D.moment D.images_since D.faults)
+    ensures ends { EndsServer D.senses (site (TurnAsks D.senses)
         (looks S.One.In.left S.One.In.faults S.One.Out.held S.One.Out.faults S.One.Time.to_come)
         (λ d. S.One.told d) (λ d. S.One.faults d)) port result.0
         (front (S.told doors.old) (S.ports doors.old) (K.held ready.old))
         (front (S.told doors.new) (S.ports doors.new) (K.held ready.new)) disk result.1 }
-    ensures disk { result.0 ≡ ServerEnd.Unopened DiskFault →
-        Rose (D.faults disk) (D.faults result.1) }
+    ensures disk { result.0 ≡ ServerEnd.Unopened DiskFault → RoseBy D.senses.faults disk result.1 }
     ensures write { result.0 ≡ ServerEnd.Served ServeEnd.WriteFault →
         Rose (K.faults ready.old) (K.faults ready.new) }
     ensures doors { result.0 ≡ ServerEnd.Served ServeEnd.DoorsFault →

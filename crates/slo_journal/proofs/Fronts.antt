@@ -6,6 +6,7 @@ use Rattle.std.specs.declared.option.Option.{Option}
 use Rattle.std.specs.Prelude.{IfSome, Some}
 use Rattle.office_outside.specs.Disk.{Torn, Follows, OnlyAsRead, IsWritten, file_after_write, All}
 use Rattle.office_outside.specs.Disk.{Always}
+use Rattle.office_outside.specs.Senses.{DiskSenses}
 use Rattle.std.proofs.lemmas.Bool.{cases_eq}
 use Rattle.std.proofs.lemmas.List.{take_all}
 use Rattle.slo_journal.proofs.Files.{head_same}
@@ -137,18 +138,12 @@ raised_stands o h images range same all c image =
     let r = subst (λ (l : List ℕ). Raised l c) same (all c image) in
     first_stands o 1 r.0 c range (λ e. absurd (cc e)) r.1
 
-pub founding : {D : Type 0} (images : D → List ℕ → Type 0) (moment : D → ℕ)
-    (since : D → ℕ → List ℕ → Type 0) (d0 d1 d2 : D) (o : ℕ) (h : List ℕ) → o ≤ MAX_MINUTE
-    → h ≡ header_of o
-    → Always images moment since d0 d1 Closed → Always images moment since d1 d2 (AnyGate h)
-    → Always images moment since d0 d2 (NoneOrWhole o)
-founding images moment since d0 d1 d2 o h range same first second =
-    behind images moment since d0 d1 d2 (NoneOrWhole o) (NoneOrWhole o)
-    (weaker images moment since d0 d1 Closed (NoneOrWhole o) first
-    (λ c s. inl (closed_has_none c s)))
-    (weaker images moment since d1 d2 (AnyGate h) (NoneOrWhole o) second
-    (λ c a. by_header o h c range same a))
-    (λ c p. p)
+pub founding : {D : Type 0} {S : DiskSenses D} {d0 d1 d2 : D} (o : ℕ) (h : List ℕ) → o ≤ MAX_MINUTE
+    → h ≡ header_of o → Always S d0 d1 Closed → Always S d1 d2 (AnyGate h)
+    → Always S d0 d2 (NoneOrWhole o)
+founding o h range same first second =
+    behind first (weaker second (λ c a. by_header o h c range same a))
+    (λ c s. inl (closed_has_none c s))
 
 -- what a sync leaves of a file whose front was read
 pub front_of_images : (front : Front) (content : Option (List ℕ)) (images : List ℕ → Type 0)

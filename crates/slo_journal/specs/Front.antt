@@ -1,7 +1,8 @@
 -- The front of a file, and what stands there while a journal is made.
 use Rattle.std.specs.Prelude.{◌≡◌, ◌≢◌, ◌⊎◌, ⊤, ℕ, ◌≤◌, List, [], ◌∷◌, ◌++◌, take, drop, codes}
-use Rattle.std.specs.Prelude.{Option, Some}
+use Rattle.std.specs.Prelude.{Some}
 use Rattle.office_outside.specs.Disk.{Always, IsQuiet}
+use Rattle.office_outside.specs.Senses.{DiskSenses}
 use Rattle.slo_limits.specs.declared.TheConstants.{MAX_MINUTE}
 use Rattle.slo_journal.specs.File.{four, Closed, Stands}
 use Rattle.slo_journal.specs.declared.header.Front.{Front}
@@ -55,9 +56,8 @@ NoneOrWhole origin file = HasNoHeader file ⊎ Stands origin [] file
 -- The file had no header, where the disk tells it: no journal is touched. Up to some moment of the
 -- call no image came up; from it on each image has no header, or stands for the origin and no
 -- records.
-pub record IsMaking {D : Type 0} (content : D → Option (List ℕ)) (images : D → List ℕ → Type 0)
-    (moment : D → ℕ) (since : D → ℕ → List ℕ → Type 0) (origin : ℕ) (old new : D) : Type 0 where
-  pub none_before : (file : List ℕ) → content old ≡ Some file → HasNoHeader file
+pub record IsMaking {D : Type 0} (S : DiskSenses D) (origin : ℕ) (old new : D) : Type 0 where
+  pub none_before : (file : List ℕ) → S.content old ≡ Some file → HasNoHeader file
   pub between : D
-  pub before : IsQuiet images moment since old between
-  pub after : Always images moment since between new (NoneOrWhole origin)
+  pub before : IsQuiet S old between
+  pub after : Always S between new (NoneOrWhole origin)

@@ -4,6 +4,7 @@ use Rattle.std.specs.Prelude.{◌≡◌, ◌⊎◌, ℕ, ◌+◌, ◌<◌, ◌�
 use Rattle.std.specs.Prelude.{None, Bool, true, false, Result, Ok, Err}
 use Rattle.office_outside.specs.Disk.{All}
 use Rattle.office_outside.specs.Faults.{Rose}
+use Rattle.office_outside.specs.Senses.{DiskSenses}
 use Rattle.slo_journal.specs.File.{Stands, StandsInDoubt, tail_of}
 use Rattle.slo_journal.specs.declared.fault.AppendFault.{AppendFault}
 use Rattle.slo_journal.specs.declared.fault.AppendFault.TheVariants.{JournalFull, NotKept, InDoubt}
@@ -28,26 +29,26 @@ WithOrWithout origin records r bytes = Stands origin records bytes
     ⊎ Stands origin (records ++ r ∷ []) bytes
 
 -- nothing is in doubt, and each image of the disk stands for these records
-pub record Keeps {D : Type 0} (images : D → List ℕ → Type 0) (origin : ℕ) (records : List (List ℕ))
+pub record Keeps {D : Type 0} (S : DiskSenses D) (origin : ℕ) (records : List (List ℕ))
     (journal : JournalOn D) : Type 0 where
   pub tail : journal.tail ≡ tail_of records
   pub none : journal.doubt ≡ None
-  pub each : All (Stands origin records) (images journal.disk)
+  pub each : All (Stands origin records) (S.images journal.disk)
 
 -- this record is in doubt: each image stands for these records, or for them and this one more
-pub record Doubts {D : Type 0} (images : D → List ℕ → Type 0) (origin : ℕ) (records : List (List ℕ))
+pub record Doubts {D : Type 0} (S : DiskSenses D) (origin : ℕ) (records : List (List ℕ))
     (r : List ℕ) (journal : JournalOn D) : Type 0 where
   pub tail : journal.tail ≡ tail_of records
   pub doubt : journal.doubt ≡ Some (tail_of (records ++ r ∷ []))
-  pub each : All (StandsInDoubt origin records r) (images journal.disk)
+  pub each : All (StandsInDoubt origin records r) (S.images journal.disk)
 
 -- what stands after an append follows from how it ended
-abbrev pub Appended : {D : Type 0} → (D → List ℕ → Type 0) → ℕ → List (List ℕ) → List ℕ
+abbrev pub Appended : {D : Type 0} → DiskSenses D → ℕ → List (List ℕ) → List ℕ
     → Result Prim.Unit AppendFault → JournalOn D → Type 0
-Appended images o rs r (Ok x) journal = Keeps images o (rs ++ r ∷ []) journal
-Appended images o rs r (Err (JournalFull tail needed)) journal = Keeps images o rs journal
-Appended images o rs r (Err NotKept) journal = Keeps images o rs journal
-Appended images o rs r (Err InDoubt) journal = Doubts images o rs r journal
+Appended S o rs r (Ok x) journal = Keeps S o (rs ++ r ∷ []) journal
+Appended S o rs r (Err (JournalFull tail needed)) journal = Keeps S o rs journal
+Appended S o rs r (Err NotKept) journal = Keeps S o rs journal
+Appended S o rs r (Err InDoubt) journal = Doubts S o rs r journal
 
 -- how many bytes a journal takes with one more record: its gate, length and bytes, and
 -- the closed gate
@@ -77,11 +78,11 @@ pub record HasDiskCause (before now : ℕ) (result : Result Prim.Unit AppendFaul
   pub in_doubt : result ≡ Err InDoubt → Rose before now
 
 -- what stands after a settling follows from how it ended
-abbrev pub Settled : {D : Type 0} → (D → List ℕ → Type 0) → ℕ → List (List ℕ) → List ℕ
+abbrev pub Settled : {D : Type 0} → DiskSenses D → ℕ → List (List ℕ) → List ℕ
     → Result Bool DiskFault → JournalOn D → Type 0
-Settled images o rs r (Ok true) journal = Keeps images o (rs ++ r ∷ []) journal
-Settled images o rs r (Ok false) journal = Keeps images o rs journal
-Settled images o rs r (Err fault) journal = Doubts images o rs r journal
+Settled S o rs r (Ok true) journal = Keeps S o (rs ++ r ∷ []) journal
+Settled S o rs r (Ok false) journal = Keeps S o rs journal
+Settled S o rs r (Err fault) journal = Doubts S o rs r journal
 
 -- where the journal stands after a settling
 abbrev pub Settles : {D : Type 0} → Result Bool DiskFault → JournalOn D → JournalOn D → Type 0

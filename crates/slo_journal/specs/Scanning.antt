@@ -1,7 +1,8 @@
 -- What stands in a file from a place on, and what a scan finds there.
 use Rattle.std.specs.Prelude.{◌≡◌, ◌≢◌, ℕ, ◌+◌, ◌-◌, ◌≤◌, List, [], ◌∷◌, ◌++◌, length, take, drop}
-use Rattle.std.specs.Prelude.{⊤, Bool, true, false, Option, Some, Result, Ok, Err}
+use Rattle.std.specs.Prelude.{⊤, Bool, true, false, Some, Result, Ok, Err}
 use Rattle.office_outside.specs.Disk.{OnlyAsRead}
+use Rattle.office_outside.specs.Senses.{DiskSenses}
 use Rattle.slo_limits.specs.declared.TheConstants.{MAX_JOURNAL_BYTES, MAX_MINUTE, MAX_RECORD_BYTES}
 use Rattle.slo_journal.specs.File.{four, IsRecord, Closed}
 use Rattle.slo_journal.specs.Front.{IsHeader}
@@ -52,13 +53,12 @@ IsNext bytes at (Err DiskFault) out = ⊤
 IsNext bytes at (Err NoMemory) out = ⊤
 
 -- where the disk tells, a header stands at the front of its file, and each image now is this file
-pub record HasBegun {D : Type 0} (content : D → Option (List ℕ)) (images : D → List ℕ → Type 0)
-    (old : D) (scan : ScanOn D) : Type 0 where
+pub record HasBegun {D : Type 0} (S : DiskSenses D) (old : D) (scan : ScanOn D) : Type 0 where
   pub at : scan.at ≡ 13
   pub range : scan.origin ≤ MAX_MINUTE
-  pub header : (file : List ℕ) → content old ≡ Some file → IsHeader scan.origin (take 13 file)
-  pub same : content scan.disk ≡ content old
-  pub only : OnlyAsRead (content old) (images scan.disk)
+  pub header : (file : List ℕ) → S.content old ≡ Some file → IsHeader scan.origin (take 13 file)
+  pub same : S.content scan.disk ≡ S.content old
+  pub only : OnlyAsRead (S.content old) (S.images scan.disk)
 
 -- these bytes stand in the file from a place on
 abbrev pub StandsAt : ℕ → List ℕ → List ℕ → Type 0

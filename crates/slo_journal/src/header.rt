@@ -2,7 +2,7 @@
 ghost use Rattle.std.specs.Prelude.{◌≡◌, ◌+◌, ◌<◌, ◌≤◌, List, ℕ, length, take, OnOk, IfOk, IfSome};
 ghost use Rattle.std.specs.Prelude.{Some, None, true, false, codes};
 ghost use Rattle.office_outside.specs.Disk.{OnlyAsRead, IsQuiet};
-ghost use Rattle.office_outside.specs.Faults.{HasCause};
+ghost use Rattle.office_outside.specs.Faults.{HasCauseBy};
 ghost use Rattle.slo_journal.specs.File.{four};
 ghost use Rattle.slo_journal.specs.Front.{IsHeader, IsFront, header_of};
 ghost use Rattle.slo_journal.specs.declared.header.Front.TheVariants.{Header};
@@ -27,13 +27,13 @@ pub enum Front {
 
 /// Syncs, and looks at the front of the file.
 pub fn look_at_front<D: Disk>(disk: &mut D) -> Result<Front, Failed>
-    ensures front { IfOk result (λ front. (file : List ℕ) → D.content disk.old ≡ Some file
+    ensures front { IfOk result (λ front. (file : List ℕ) → D.senses.content disk.old ≡ Some file
         → IsFront front file) }
     ensures range { (origin : ℕ) → result ≡ Ok (Header origin) → origin ≤ MAX_MINUTE }
-    ensures content { D.content disk.new ≡ D.content disk.old }
-    ensures only { OnOk result (OnlyAsRead (D.content disk.old) (D.images disk.new)) }
-    ensures quiet { IsQuiet D.images D.moment D.images_since disk.old disk.new }
-    ensures cause { HasCause (D.faults disk.old) (D.faults disk.new) result }
+    ensures content { D.senses.content disk.new ≡ D.senses.content disk.old }
+    ensures only { OnOk result (OnlyAsRead (D.senses.content disk.old) (D.senses.images disk.new)) }
+    ensures quiet { IsQuiet D.senses disk.old disk.new }
+    ensures cause { HasCauseBy D.senses.faults disk.old disk.new result }
 {
     disk.sync()?;
     let mut bytes = [0; SIZE];

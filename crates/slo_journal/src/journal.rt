@@ -1,7 +1,7 @@
 //! Records behind gates, each on the disk before it is acknowledged.
 ghost use Rattle.std.specs.Prelude.{◌≡◌, ◌⊎◌, ◌+◌, ◌^◌, ◌<◌, ◌≤◌, ◌++◌, ◌∷◌, [], List, ℕ, length};
 ghost use Rattle.std.specs.Prelude.{OnOk, IfOk, None, Some, is_some, true, drop};
-ghost use Rattle.office_outside.specs.Faults.{HasCause};
+ghost use Rattle.office_outside.specs.Faults.{HasCauseBy};
 ghost use Rattle.office_outside.specs.Disk.{LeavesOnly, OnlyAsRead, All, Always, IsQuiet};
 ghost use Rattle.slo_journal.specs.File.{Stands, StandsInDoubt, Parts, Staged, Opened, EitherGate};
 ghost use Rattle.slo_journal.specs.File.{frame_of, tail_of, has_open_gate};
@@ -61,14 +61,14 @@ impl<D: Disk + Drop> Journal<D> {
     /// stop leaves a file that has it. It takes no memory.
     pub fn append(&mut self, value: &Frame) -> Result<(), AppendFault>
         requires nothing_in_doubt { self.old.doubt ≡ None }
-        ensures leaves { (o : ℕ) (rs : List (List ℕ)) → Keeps D.images o rs self.old
-            → Appended D.images o rs value.now result self.new }
-        ensures any_moment { (o : ℕ) (rs : List (List ℕ)) → Keeps D.images o rs self.old
-            → LeavesOnly D.moment D.images_since self.old.disk self.new.disk
-            (WithOrWithout o rs value.now) }
+        ensures leaves { (o : ℕ) (rs : List (List ℕ)) → Keeps D.senses o rs self.old
+            → Appended D.senses o rs value.now result self.new }
+        ensures any_moment { (o : ℕ) (rs : List (List ℕ)) → Keeps D.senses o rs self.old
+            → LeavesOnly D.senses self.old.disk self.new.disk (WithOrWithout o rs value.now) }
         ensures moves { Moves value.now result self.old self.new }
         ensures full { FullExactly self.old.tail value.now result }
-        ensures cause { HasDiskCause (D.faults self.old.disk) (D.faults self.new.disk) result }
+        ensures cause { HasDiskCause (D.senses.faults self.old.disk) (D.senses.faults self.new.disk)
+            result }
     {
         let frame = value.bytes();
         let needed = self.tail + 1 + frame.len() as u64;
@@ -100,17 +100,17 @@ impl<D: Disk + Drop> Journal<D> {
     /// is open. After a fault it is still in doubt. It takes no memory.
     pub fn settle(&mut self) -> Result<bool, DiskFault>
         requires in_doubt { is_some self.old.doubt ≡ true }
-        ensures leaves { (o : ℕ) (rs : List (List ℕ)) (r : List ℕ) → Doubts D.images o rs r self.old
-            → Settled D.images o rs r result self.new }
+        ensures leaves { (o : ℕ) (rs : List (List ℕ)) (r : List ℕ) → Doubts D.senses o rs r self.old
+            → Settled D.senses o rs r result self.new }
         ensures any_moment { (o : ℕ) (rs : List (List ℕ)) (r : List ℕ)
-            → Doubts D.images o rs r self.old
-            → LeavesOnly D.moment D.images_since self.old.disk self.new.disk
-            (StandsInDoubt o rs r) }
-        ensures quiet { IsQuiet D.images D.moment D.images_since self.old.disk self.new.disk }
-        ensures gate { IfOk result (λ kept. (file : List ℕ) → D.content self.old.disk ≡ Some file
+            → Doubts D.senses o rs r self.old
+            → LeavesOnly D.senses self.old.disk self.new.disk (StandsInDoubt o rs r) }
+        ensures quiet { IsQuiet D.senses self.old.disk self.new.disk }
+        ensures gate { IfOk result (λ kept. (file : List ℕ)
+            → D.senses.content self.old.disk ≡ Some file
             → kept ≡ has_open_gate (drop self.old.tail file)) }
         ensures settles { Settles result self.old self.new }
-        ensures cause { HasCause (D.faults self.old.disk) (D.faults self.new.disk) result }
+        ensures cause { HasCauseBy D.senses.faults self.old.disk self.new.disk result }
     {
         let Some(end) = self.doubt else {
             return Ok(false);
@@ -146,12 +146,12 @@ impl<D: Disk + Drop> Journal<D> {
 fn stage<D: Disk>(disk: &mut D, tail: u64, frame: &[u8]) -> Result<(), Failed>
     requires room { tail + length frame.now < 2 ^ 62 }
     ensures stays { (o : ℕ) (rs : List (List ℕ)) → tail ≡ tail_of rs
-        → All (Stands o rs) (D.images disk.old)
-        → Always D.images D.moment D.images_since disk.old disk.new (Stands o rs) }
+        → All (Stands o rs) (D.senses.images disk.old)
+        → Always D.senses disk.old disk.new (Stands o rs) }
     ensures staged { OnOk result ((o : ℕ) (rs : List (List ℕ)) (r : List ℕ) → tail ≡ tail_of rs
-        → frame.now ≡ frame_of r → All (Stands o rs) (D.images disk.old)
-        → All (Parts (Staged r) o rs) (D.images disk.new)) }
-    ensures cause { HasCause (D.faults disk.old) (D.faults disk.new) result }
+        → frame.now ≡ frame_of r → All (Stands o rs) (D.senses.images disk.old)
+        → All (Parts (Staged r) o rs) (D.senses.images disk.new)) }
+    ensures cause { HasCauseBy D.senses.faults disk.old disk.new result }
 {
     disk.write_at(tail + 1, frame)?;
     disk.sync()
@@ -160,12 +160,12 @@ fn stage<D: Disk>(disk: &mut D, tail: u64, frame: &[u8]) -> Result<(), Failed>
 /// Opens the gate, and syncs.
 fn open_gate<D: Disk>(disk: &mut D, tail: u64) -> Result<(), Failed>
     ensures either { (o : ℕ) (rs : List (List ℕ)) (r : List ℕ) → tail ≡ tail_of rs
-        → All (Parts (EitherGate r) o rs) (D.images disk.old)
-        → Always D.images D.moment D.images_since disk.old disk.new (Parts (EitherGate r) o rs) }
+        → All (Parts (EitherGate r) o rs) (D.senses.images disk.old)
+        → Always D.senses disk.old disk.new (Parts (EitherGate r) o rs) }
     ensures opened { OnOk result ((o : ℕ) (rs : List (List ℕ)) (r : List ℕ) → tail ≡ tail_of rs
-        → All (Parts (EitherGate r) o rs) (D.images disk.old)
-        → All (Parts (Opened r) o rs) (D.images disk.new)) }
-    ensures cause { HasCause (D.faults disk.old) (D.faults disk.new) result }
+        → All (Parts (EitherGate r) o rs) (D.senses.images disk.old)
+        → All (Parts (Opened r) o rs) (D.senses.images disk.new)) }
+    ensures cause { HasCauseBy D.senses.faults disk.old disk.new result }
 {
     disk.write_at(tail, &[1])?;
     disk.sync()
@@ -173,12 +173,12 @@ fn open_gate<D: Disk>(disk: &mut D, tail: u64) -> Result<(), Failed>
 
 /// Syncs, and looks whether the gate at a place is open.
 fn look<D: Disk>(disk: &mut D, at: u64) -> Result<bool, Failed>
-    ensures gate { IfOk result (λ is_open. (file : List ℕ) → D.content disk.old ≡ Some file
+    ensures gate { IfOk result (λ is_open. (file : List ℕ) → D.senses.content disk.old ≡ Some file
         → is_open ≡ has_open_gate (drop at file)) }
-    ensures only { OnOk result (OnlyAsRead (D.content disk.old) (D.images disk.new)) }
-    ensures quiet { IsQuiet D.images D.moment D.images_since disk.old disk.new }
-    ensures content { D.content disk.new ≡ D.content disk.old }
-    ensures cause { HasCause (D.faults disk.old) (D.faults disk.new) result }
+    ensures only { OnOk result (OnlyAsRead (D.senses.content disk.old) (D.senses.images disk.new)) }
+    ensures quiet { IsQuiet D.senses disk.old disk.new }
+    ensures content { D.senses.content disk.new ≡ D.senses.content disk.old }
+    ensures cause { HasCauseBy D.senses.faults disk.old disk.new result }
 {
     disk.sync()?;
     let mut gate = [0];

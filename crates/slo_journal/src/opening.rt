@@ -1,7 +1,7 @@
 //! The opening of a journal's file.
 ghost use Rattle.std.specs.Prelude.{◌≡◌, ◌≤◌, List, ℕ, Some, IfOk, IfErr};
 ghost use Rattle.office_outside.specs.Disk.{IsQuiet};
-ghost use Rattle.office_outside.specs.Faults.{Rose};
+ghost use Rattle.office_outside.specs.Faults.{RoseBy};
 ghost use Rattle.slo_journal.specs.Front.{HasNoHeader};
 ghost use Rattle.slo_journal.specs.Scanning.{HasBegun};
 ghost use Rattle.slo_journal.specs.declared.fault.OpenFault.TheVariants.{DiskFault, NotAJournal};
@@ -20,15 +20,14 @@ pub struct OpenFailed<D: Disk + Drop> {
 
 /// Begins to read a journal's file, at its first record. It writes nothing and takes no memory.
 pub fn open<D: Disk + Drop>(alloc: Global, disk: D) -> Result<Scan<D>, OpenFailed<D>>
-    ensures begun { IfOk result (λ scan. HasBegun D.content D.images disk scan) }
-    ensures quiet { IfOk result (λ scan. IsQuiet D.images D.moment D.images_since disk scan.disk) }
-    ensures later { IfOk result (λ scan. D.faults disk ≤ D.faults scan.disk) }
+    ensures begun { IfOk result (λ scan. HasBegun D.senses disk scan) }
+    ensures quiet { IfOk result (λ scan. IsQuiet D.senses disk scan.disk) }
+    ensures later { IfOk result (λ scan. D.senses.faults disk ≤ D.senses.faults scan.disk) }
     ensures not_a_journal { IfErr result (λ e. e.fault ≡ NotAJournal → (file : List ℕ)
-        → D.content disk ≡ Some file → HasNoHeader file) }
-    ensures cause { IfErr result (λ e. e.fault ≡ DiskFault
-        → Rose (D.faults disk) (D.faults e.disk)) }
-    ensures quiet_err { IfErr result (λ e. IsQuiet D.images D.moment D.images_since disk e.disk) }
-    ensures later_err { IfErr result (λ e. D.faults disk ≤ D.faults e.disk) }
+        → D.senses.content disk ≡ Some file → HasNoHeader file) }
+    ensures cause { IfErr result (λ e. e.fault ≡ DiskFault → RoseBy D.senses.faults disk e.disk) }
+    ensures quiet_err { IfErr result (λ e. IsQuiet D.senses disk e.disk) }
+    ensures later_err { IfErr result (λ e. D.senses.faults disk ≤ D.senses.faults e.disk) }
 {
     let mut disk = disk;
     match look_at_front(&mut disk) {

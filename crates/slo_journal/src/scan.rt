@@ -2,7 +2,7 @@
 ghost use Rattle.std.specs.Prelude.{◌≡◌, ◌+◌, ◌-◌, ◌<◌, ◌≤◌, [], List, ℕ, length, take, drop, OnOk};
 ghost use Rattle.std.specs.Prelude.{OnErr, IfErr, IfOk, IsErrOf, None, Some, true, false, Ok, Err};
 ghost use Rattle.office_outside.specs.Disk.{IsQuiet, OnlyAsRead};
-ghost use Rattle.office_outside.specs.Faults.{Rose};
+ghost use Rattle.office_outside.specs.Faults.{RoseBy};
 ghost use Rattle.slo_limits.specs.declared.TheConstants.{MAX_JOURNAL_BYTES, MAX_RECORD_BYTES};
 ghost use Rattle.slo_journal.specs.File.{IsRecord};
 ghost use Rattle.slo_journal.specs.Scanning.{seen_from, StandsAt, IsHead, IsNext};
@@ -44,7 +44,7 @@ impl<D: Disk + Drop> Model for Scan<D> {
     // Where the disk tells, the window's bytes are those of the file.
     ghost invariant = { λ s. (s.at ≤ MAX_JOURNAL_BYTES)
         × (s.window.start + length s.window.bytes.items ≤ MAX_JOURNAL_BYTES)
-        × ((file : List ℕ) → D.content s.disk ≡ Some file
+        × ((file : List ℕ) → D.senses.content s.disk ≡ Some file
         → StandsAt s.window.start s.window.bytes.items file) };
 }
 
@@ -79,7 +79,7 @@ impl<D: Disk + Drop> Scan<D> {
     /// Puts the next record into `out`, or answers false at the closed gate. After that and after a
     /// refusal `out` is empty, and the scan is where it was.
     pub fn next(&mut self, out: &mut Vec<u8>) -> Result<bool, ScanFault>
-        ensures next { (file : List ℕ) → D.content self.old.disk ≡ Some file
+        ensures next { (file : List ℕ) → D.senses.content self.old.disk ≡ Some file
             → IsNext (seen_from self.old.at file) self.old.at result out.new.items }
         ensures moves { result ≡ Ok true → (self.new.at ≡ self.old.at + 5 + length out.new.items)
             × IsRecord out.new.items }
@@ -88,11 +88,11 @@ impl<D: Disk + Drop> Scan<D> {
         ensures within { result ≡ Ok false → self.new.at < MAX_JOURNAL_BYTES }
         ensures bound { self.new.at ≤ MAX_JOURNAL_BYTES }
         ensures origin { self.new.origin ≡ self.old.origin }
-        ensures content { D.content self.new.disk ≡ D.content self.old.disk }
-        ensures quiet { IsQuiet D.images D.moment D.images_since self.old.disk self.new.disk }
+        ensures content { D.senses.content self.new.disk ≡ D.senses.content self.old.disk }
+        ensures quiet { IsQuiet D.senses self.old.disk self.new.disk }
         ensures cause { IsErrOf result DiskFault
-            → Rose (D.faults self.old.disk) (D.faults self.new.disk) }
-        ensures later { D.faults self.old.disk ≤ D.faults self.new.disk }
+            → RoseBy D.senses.faults self.old.disk self.new.disk }
+        ensures later { D.senses.faults self.old.disk ≤ D.senses.faults self.new.disk }
     {
         out.clear();
         match peek(&mut self.disk, &mut self.window, self.at)? {
@@ -116,17 +116,16 @@ impl<D: Disk + Drop> Scan<D> {
         ensures place { IfOk result (λ journal. (journal.tail ≡ self.at)
             × (journal.doubt ≡ None)) }
         ensures content { IfOk result (λ journal.
-            D.content journal.disk ≡ D.content self.disk) }
+            D.senses.content journal.disk ≡ D.senses.content self.disk) }
         ensures only { IfOk result (λ journal.
-            OnlyAsRead (D.content self.disk) (D.images journal.disk)) }
-        ensures quiet { IfOk result (λ journal.
-            IsQuiet D.images D.moment D.images_since self.disk journal.disk) }
-        ensures later { IfOk result (λ journal. D.faults self.disk ≤ D.faults journal.disk) }
+            OnlyAsRead (D.senses.content self.disk) (D.senses.images journal.disk)) }
+        ensures quiet { IfOk result (λ journal. IsQuiet D.senses self.disk journal.disk) }
+        ensures later { IfOk result (λ journal. D.senses.faults self.disk
+            ≤ D.senses.faults journal.disk) }
         ensures fault { IfErr result (λ e. e.fault ≡ OpenFault.DiskFault) }
-        ensures quiet_err { IfErr result (λ e.
-            IsQuiet D.images D.moment D.images_since self.disk e.disk) }
-        ensures cause { IfErr result (λ e. Rose (D.faults self.disk) (D.faults e.disk)) }
-        ensures later_err { IfErr result (λ e. D.faults self.disk ≤ D.faults e.disk) }
+        ensures quiet_err { IfErr result (λ e. IsQuiet D.senses self.disk e.disk) }
+        ensures cause { IfErr result (λ e. RoseBy D.senses.faults self.disk e.disk) }
+        ensures later_err { IfErr result (λ e. D.senses.faults self.disk ≤ D.senses.faults e.disk) }
     {
         let at = self.at;
         let mut disk = self.disk;
@@ -163,19 +162,19 @@ fn peek<D: Disk>(disk: &mut D, window: &mut Window, at: u64) -> Result<Head, Sca
     requires at { at ≤ MAX_JOURNAL_BYTES }
     requires within { window.old.start + length window.old.bytes.items ≤ MAX_JOURNAL_BYTES }
     ensures within { window.new.start + length window.new.bytes.items ≤ MAX_JOURNAL_BYTES }
-    ensures holds { (file : List ℕ) → D.content disk.old ≡ Some file
+    ensures holds { (file : List ℕ) → D.senses.content disk.old ≡ Some file
         → StandsAt window.old.start window.old.bytes.items file
         → StandsAt window.new.start window.new.bytes.items file }
-    ensures head { IfOk result (λ head. (file : List ℕ) → D.content disk.old ≡ Some file
+    ensures head { IfOk result (λ head. (file : List ℕ) → D.senses.content disk.old ≡ Some file
         → StandsAt window.old.start window.old.bytes.items file
         → IsHead (take 5 (seen_from at file)) head) }
     ensures size { IfOk result (λ head. (count : ℕ) → head ≡ Opens count → (1 ≤ count)
         × (count ≤ MAX_RECORD_BYTES)) }
     ensures shut { result ≡ Ok Shut → at < MAX_JOURNAL_BYTES }
-    ensures content { D.content disk.new ≡ D.content disk.old }
-    ensures quiet { IsQuiet D.images D.moment D.images_since disk.old disk.new }
-    ensures cause { IsErrOf result DiskFault → Rose (D.faults disk.old) (D.faults disk.new) }
-    ensures later { D.faults disk.old ≤ D.faults disk.new }
+    ensures content { D.senses.content disk.new ≡ D.senses.content disk.old }
+    ensures quiet { IsQuiet D.senses disk.old disk.new }
+    ensures cause { IsErrOf result DiskFault → RoseBy D.senses.faults disk.old disk.new }
+    ensures later { D.senses.faults disk.old ≤ D.senses.faults disk.new }
     ensures damaged { (place : ℕ) → result ≡ Err (Damaged place) → ⊥ }
 {
     reach(disk, window, at, HEAD)?;
@@ -215,23 +214,23 @@ fn fill<D: Disk>(
     requires within { window.old.start + length window.old.bytes.items ≤ MAX_JOURNAL_BYTES }
     requires empty { out.old.items ≡ [] }
     ensures within { window.new.start + length window.new.bytes.items ≤ MAX_JOURNAL_BYTES }
-    ensures holds { (file : List ℕ) → D.content disk.old ≡ Some file
+    ensures holds { (file : List ℕ) → D.senses.content disk.old ≡ Some file
         → StandsAt window.old.start window.old.bytes.items file
         → StandsAt window.new.start window.new.bytes.items file }
     ensures whole { result ≡ Ok true → (length out.new.items ≡ count)
         × (at + 5 + count ≤ MAX_JOURNAL_BYTES)
-        × ((file : List ℕ) → D.content disk.old ≡ Some file
+        × ((file : List ℕ) → D.senses.content disk.old ≡ Some file
         → StandsAt window.old.start window.old.bytes.items file
         → out.new.items ≡ take count (drop 5 (seen_from at file))) }
     ensures short { result ≡ Ok false → (out.new.items ≡ [])
-        × ((file : List ℕ) → D.content disk.old ≡ Some file
+        × ((file : List ℕ) → D.senses.content disk.old ≡ Some file
         → StandsAt window.old.start window.old.bytes.items file
         → length (seen_from at file) < 5 + count) }
     ensures err { OnErr result (out.new.items ≡ []) }
-    ensures content { D.content disk.new ≡ D.content disk.old }
-    ensures quiet { IsQuiet D.images D.moment D.images_since disk.old disk.new }
-    ensures cause { IsErrOf result DiskFault → Rose (D.faults disk.old) (D.faults disk.new) }
-    ensures later { D.faults disk.old ≤ D.faults disk.new }
+    ensures content { D.senses.content disk.new ≡ D.senses.content disk.old }
+    ensures quiet { IsQuiet D.senses disk.old disk.new }
+    ensures cause { IsErrOf result DiskFault → RoseBy D.senses.faults disk.old disk.new }
+    ensures later { D.senses.faults disk.old ≤ D.senses.faults disk.new }
     ensures damaged { (place : ℕ) → result ≡ Err (Damaged place) → ⊥ }
 {
     let size = HEAD + count as usize;

@@ -2,7 +2,7 @@
 ghost use Rattle.std.specs.Prelude.{◌≡◌, ◌+◌, ◌-◌, ◌≤◌, ◌<◌, List, ℕ, [], length, take, drop, OnOk};
 ghost use Rattle.std.specs.Prelude.{OnErr, IsErrOf, Some, Err};
 ghost use Rattle.office_outside.specs.Disk.{IsQuiet};
-ghost use Rattle.office_outside.specs.Faults.{Rose};
+ghost use Rattle.office_outside.specs.Faults.{RoseBy};
 ghost use Rattle.slo_limits.specs.declared.TheConstants.{MAX_JOURNAL_BYTES, MAX_RECORD_BYTES};
 ghost use Rattle.slo_journal.specs.Scanning.{seen_from, StandsAt};
 ghost use Rattle.slo_journal.specs.declared.fault.ScanFault.TheVariants.{DiskFault, Damaged};
@@ -57,18 +57,18 @@ pub fn reach<D: Disk>(
     requires need { need ≤ MAX_RECORD_BYTES + 5 }
     requires within { window.old.start + length window.old.bytes.items ≤ MAX_JOURNAL_BYTES }
     ensures within { window.new.start + length window.new.bytes.items ≤ MAX_JOURNAL_BYTES }
-    ensures holds { (file : List ℕ) → D.content disk.old ≡ Some file
+    ensures holds { (file : List ℕ) → D.senses.content disk.old ≡ Some file
         → StandsAt window.old.start window.old.bytes.items file
         → StandsAt window.new.start window.new.bytes.items file }
     ensures starts { OnOk result (window.new.start ≤ at) }
-    ensures seen { OnOk result ((file : List ℕ) → D.content disk.old ≡ Some file
+    ensures seen { OnOk result ((file : List ℕ) → D.senses.content disk.old ≡ Some file
         → StandsAt window.old.start window.old.bytes.items file
         → take need (drop (at - window.new.start) window.new.bytes.items)
         ≡ take need (seen_from at file)) }
-    ensures content { D.content disk.new ≡ D.content disk.old }
-    ensures quiet { IsQuiet D.images D.moment D.images_since disk.old disk.new }
-    ensures cause { IsErrOf result DiskFault → Rose (D.faults disk.old) (D.faults disk.new) }
-    ensures later { D.faults disk.old ≤ D.faults disk.new }
+    ensures content { D.senses.content disk.new ≡ D.senses.content disk.old }
+    ensures quiet { IsQuiet D.senses disk.old disk.new }
+    ensures cause { IsErrOf result DiskFault → RoseBy D.senses.faults disk.old disk.new }
+    ensures later { D.senses.faults disk.old ≤ D.senses.faults disk.new }
     ensures damaged { (place : ℕ) → result ≡ Err (Damaged place) → ⊥ }
 {
     let end = at + need as u64;
@@ -92,12 +92,12 @@ fn refill<D: Disk>(disk: &mut D, window: &mut Window, at: u64, size: usize) -> R
     ensures start { window.new.start ≡ at }
     ensures few { length window.new.bytes.items ≤ size }
     ensures empty { OnErr result (window.new.bytes.items ≡ []) }
-    ensures bytes { OnOk result ((file : List ℕ) → D.content disk.old ≡ Some file
+    ensures bytes { OnOk result ((file : List ℕ) → D.senses.content disk.old ≡ Some file
         → window.new.bytes.items ≡ take size (drop at file)) }
-    ensures content { D.content disk.new ≡ D.content disk.old }
-    ensures quiet { IsQuiet D.images D.moment D.images_since disk.old disk.new }
-    ensures cause { IsErrOf result DiskFault → Rose (D.faults disk.old) (D.faults disk.new) }
-    ensures later { D.faults disk.old ≤ D.faults disk.new }
+    ensures content { D.senses.content disk.new ≡ D.senses.content disk.old }
+    ensures quiet { IsQuiet D.senses disk.old disk.new }
+    ensures cause { IsErrOf result DiskFault → RoseBy D.senses.faults disk.old disk.new }
+    ensures later { D.senses.faults disk.old ≤ D.senses.faults disk.new }
     ensures damaged { (place : ℕ) → result ≡ Err (Damaged place) → ⊥ }
 {
     window.start = at;

@@ -40,6 +40,7 @@ use Rattle.turn_counter.specs.Turns.{TurnAsks}
 use Rattle.turn_counter.proofs.Holding.{at_seam, made_is}
 use Rattle.turn_counter.proofs.Reading.{entry_back}
 use Rattle.turn_counter.proofs.Turning.{end_does}
+use Rattle.office_outside.specs.Senses.{DiskSenses}
 
 -- an entry that stands there stands there once there are more
 get_more : {X : Type 0} (xs ys : List X) (p : ℕ) (x : X) → slice_get xs p ≡ Some x
@@ -171,19 +172,19 @@ module _ {D : Type 0} (t : Turn) (command : Command)
       made_at settled made outcome p come grows (sym is ∙ at) claims
 
   -- nothing was left in doubt where nothing is, and where the same is in doubt behind the same
-  module _ (faults : D → ℕ) where
+  module _ (S : DiskSenses D) where
     abbrev Left : ℕ → List ℕ → Type 0
-    Left p bytes = HasDoubt (left_in_doubt (ledger_of faults taken) (ledger_of faults put)) p bytes
+    Left p bytes = HasDoubt (left_in_doubt (ledger_of S taken) (ledger_of S put)) p bytes
 
     none_left : (p : ℕ) (bytes : List ℕ) → put.doubt ≡ None → Left p bytes → ⊥
     none_left p bytes none left =
-        let is = left_is (ledger_of faults taken) (ledger_of faults put) p bytes left in
+        let is = left_is (ledger_of S taken) (ledger_of S put) p bytes left in
         cc (sym (ap record_if none) ∙ is.1)
 
     same_left : (p : ℕ) (bytes : List ℕ) → put.office ≡ taken.office → put.doubt ≡ taken.doubt
         → Left p bytes → ⊥
     same_left p bytes office doubt left =
-        let is = left_is (ledger_of faults taken) (ledger_of faults put) p bytes left in
+        let is = left_is (ledger_of S taken) (ledger_of S put) p bytes left in
         is.2 (ap (λ (o : Office). length (map record_of o.history)) office) (ap record_if doubt)
 
     -- the entry that a change left in doubt
@@ -191,7 +192,7 @@ module _ {D : Type 0} (t : Turn) (command : Command)
         → keep.IsInDoubt taken t.reading command put → claim ≡ Some (length put.office.history)
         → Left p bytes → AsksBehind (t ∷ []) (claim ∷ []) put.office p bytes
     doubt_asked back p bytes doubt claims left =
-        let is = left_is (ledger_of faults taken) (ledger_of faults put) p bytes left in
+        let is = left_is (ledger_of S taken) (ledger_of S put) p bytes left in
         let e = entry_at put.office t.reading command in
         let spelled : record_of e ≡ bytes = same_bytes (sym (ap record_if doubt.doubt) ∙ is.1) in
         let read : entry_in bytes ≡ e =
@@ -292,17 +293,16 @@ does_nothing t old new same = subst (λ (p : PassState). Does (t ∷ []) old p) 
   },
 )
 
-module _ {D : Type 0} (back : EntriesAreReadBack) (images : D → List ℕ → Type 0) (moment : D → ℕ)
-    (images_since : D → ℕ → List ℕ → Type 0) (faults : D → ℕ) where
+module _ {D : Type 0} (back : EntriesAreReadBack) (S : DiskSenses D) where
   abbrev Asks : PassState → ℕ → Request → Outcome → PassState → Type 0
-  Asks = TurnAsks images moment images_since faults
+  Asks = TurnAsks S
 
   asks_extend : (old : PassState) (reading : ℕ) (request : Request) (outcome : Outcome)
       (new : PassState) → Asks old reading request outcome new
       → Extends (office_seen old) (office_seen new)
   asks_extend old reading request outcome new asks =
       step_extends (standing_of old) reading request outcome (standing_of new)
-      (turn_steps images moment images_since faults old reading request outcome new asks)
+      (turn_steps S old reading request outcome new asks)
 
   change_does : (t : Turn) (command : Command)
       → ((o : Office) → IsAsked t o (entry_at o t.reading command))
@@ -323,10 +323,10 @@ module _ {D : Type 0} (back : EntriesAreReadBack) (images : D → List ℕ → T
           raised = λ p bytes had. ⊎_elim (λ older. inl older)
               (λ left. inr (subst (λ (o : Office). AsksBehind (t ∷ []) (claim ∷ []) o p bytes)
               (sym a.seen)
-              (raised_asked t command ask a.taken a.put claim faults back outcome a.place p bytes
+              (raised_asked t command ask a.taken a.put claim S back outcome a.place p bytes
               a.acts.ended (λ none. ap (λ (q : Option ℕ). claimed q behind) none) left)))
-              (doubt_append old.raised (left_in_doubt (ledger_of faults a.taken)
-              (ledger_of faults a.put)) p bytes
+              (doubt_append old.raised (left_in_doubt (ledger_of S a.taken)
+              (ledger_of S a.put)) p bytes
               (subst (λ (l : List Doubt). HasDoubt l p bytes) a.raised had));
         },
       )
@@ -342,12 +342,12 @@ module _ {D : Type 0} (back : EntriesAreReadBack) (images : D → List ℕ → T
       own = λ p had. inl (subst (λ (l : List ℕ). Has l p)
           (a.own ∙ ap (λ (place : Option ℕ). places_with place old.own) a.acts.ended.no_place) had);
       raised = λ p bytes had. ⊎_elim (λ older. inl older)
-          (λ left. absurd (let is = left_is (ledger_of faults a.taken) (ledger_of faults a.put) p
+          (λ left. absurd (let is = left_is (ledger_of S a.taken) (ledger_of S a.put) p
           bytes left in is.2
           (ap (λ (k : OfficeOn D). length (map record_of k.office.history)) a.acts.ended.stays)
           (ap (λ (k : OfficeOn D). record_if k.doubt) a.acts.ended.stays)))
-          (doubt_append old.raised (left_in_doubt (ledger_of faults a.taken)
-          (ledger_of faults a.put)) p bytes
+          (doubt_append old.raised (left_in_doubt (ledger_of S a.taken)
+          (ledger_of S a.put)) p bytes
           (subst (λ (l : List Doubt). HasDoubt l p bytes) a.raised had));
     },
   )

@@ -16,6 +16,7 @@ use Rattle.office_counter.specs.Steps.{place_of, with_made, with_others}
 use Rattle.office_keep.specs.Office as keep
 use Rattle.office_keep.specs.Office.{Asks, Changes, IsSettled, OfficeOn, Performs}
 use Rattle.turn_counter.specs.Seen.{ledger_of, record_if, root_of}
+use Rattle.office_outside.specs.Senses.{DiskSenses}
 
 -- The history goes on by the entry in doubt, if at all, and by the one that was added.
 pub record Went {D : Type 0} (old new : OfficeOn D) (place : Option ℕ) : Type 0 where
@@ -119,11 +120,11 @@ settles doubt (e ∷ []) may = ap record_if may
 settles doubt (e ∷ f ∷ more) may = absurd may
 
 -- what a request does to an office is what a turn may do
-pub goes_on : {D : Type 0} (faults : D → ℕ) (old new : OfficeOn D) (reading : ℕ)
+pub goes_on : {D : Type 0} (S : DiskSenses D) (old new : OfficeOn D) (reading : ℕ)
     (request : Request) (outcome : Outcome) (place : Option ℕ)
     → Performs old reading request outcome place new
-    → GoesOn (ledger_of faults old) (ledger_of faults new) (is_some place)
-goes_on faults old new reading request outcome place performs =
+    → GoesOn (ledger_of S old) (ledger_of S new) (is_some place)
+goes_on S old new reading request outcome place performs =
     let w = went_on old new place reading request outcome performs in
     record {
       settled = map record_of w.settled;

@@ -8,6 +8,7 @@ use Rattle.wire_session.specs.Treats.{Treats, asked, at_once, unread}
 use Rattle.wire_session.proofs.Keeping.{end_keeps, trace_keeps}
 use Rattle.turn_counter.specs.Holding.{StaysAtDesk}
 use Rattle.turn_counter.specs.Turns.{TurnAsks}
+use Rattle.office_outside.specs.Senses.{DiskSenses}
 
 pub stays_still : (p : PassState) → StaysAtDesk p p
 stays_still p =
@@ -22,12 +23,10 @@ stays_both a b c first second = record {
   has_split = second.has_split ∙ first.has_split;
 }
 
-module _ {D : Type 0} (images : D → List ℕ → Type 0) (moment : D → ℕ)
-    (images_since : D → ℕ → List ℕ → Type 0) (faults : D → ℕ) where
+module _ {D : Type 0} (S : DiskSenses D) where
   turn_stays : (old : PassState) (said : Said) (last : Bool) (reading : ℕ) (text : List ℕ)
       (new : PassState)
-      → Treats (TurnAsks images moment images_since faults) old said last reading text new
-      → StaysAtDesk old new
+      → Treats (TurnAsks S) old said last reading text new → StaysAtDesk old new
   turn_stays old said last reading text new (asked request outcome for asks answer) =
       record {
         desk = asks.desk;
@@ -42,16 +41,15 @@ module _ {D : Type 0} (images : D → List ℕ → Type 0) (moment : D → ℕ)
       subst (λ (p : PassState). StaysAtDesk old p) (sym same) (stays_still old)
 
   pub turns_stay : (count : ℕ) (old : PassState) (turns : List Turn) (new : PassState)
-      → Trace (Treats (TurnAsks images moment images_since faults)) count old turns new
-      → StaysAtDesk old new
+      → Trace (Treats (TurnAsks S)) count old turns new → StaysAtDesk old new
   turns_stay count old turns new trace =
-      trace_keeps (Treats (TurnAsks images moment images_since faults)) StaysAtDesk stays_still
-      stays_both turn_stays count old turns new trace
+      trace_keeps (Treats (TurnAsks S)) StaysAtDesk stays_still stays_both turn_stays
+      count old turns new trace
 
   pub end_stays : (refusal : PassState → ℕ → List ℕ) (end : SessionEnd)
       (old new : Scene PassState)
-      → EndsSo (Treats (TurnAsks images moment images_since faults)) refusal end old new
+      → EndsSo (Treats (TurnAsks S)) refusal end old new
       → StaysAtDesk old.handler new.handler
   end_stays refusal end old new ends =
-      end_keeps (Treats (TurnAsks images moment images_since faults)) StaysAtDesk stays_still
-      stays_both turn_stays refusal end old new ends
+      end_keeps (Treats (TurnAsks S)) StaysAtDesk stays_still stays_both turn_stays
+      refusal end old new ends

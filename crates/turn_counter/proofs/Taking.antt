@@ -16,6 +16,7 @@ use Rattle.turn_counter.specs.Seen.{ledger_of, office_seen}
 use Rattle.turn_counter.specs.Turns.{Acts, Asked, TurnAsks}
 use Rattle.turn_counter.proofs.Going.{went_on}
 use Rattle.turn_counter.proofs.Reading.{sees_beginning, sees_office}
+use Rattle.office_outside.specs.Senses.{DiskSenses}
 
 -- the last position is the place that was told
 places : (place : Option ℕ) (own : List ℕ) (count : ℕ)
@@ -26,22 +27,19 @@ places (Some p) own count last =
     let at : count - 1 ≡ p = omega (arith, last p refl) in
     ap (λ (n : ℕ). own ++ n ∷ []) at
 
-pub turn_asks : {D C : Type 0} (images : D → List ℕ → Type 0) (moment : D → ℕ)
-    (images_since : D → ℕ → List ℕ → Type 0) (faults : D → ℕ) (reading : C → ℕ)
+pub turn_asks : {D C : Type 0} (S : DiskSenses D) (reading : C → ℕ)
     (request : C → Request) (call : C) (result : Outcome × Option ℕ) (call_after : C)
     (v w : PassState)
     → EntriesAreReadBack
-    → TookTurn (ledger_of faults)
-    (λ c old out after new. Acts images moment images_since faults old (reading c) (request c)
-    out.0 out.1 new)
+    → TookTurn (ledger_of S)
+    (λ c old out after new. Acts S old (reading c) (request c) out.0 out.1 new)
     (λ c old out new. is_some out.1) call result call_after v w
-    → TurnAsks images moment images_since faults v (reading call) (request call) result.0 w
-turn_asks images moment images_since faults reading request call result call_after v w back took =
+    → TurnAsks S v (reading call) (request call) result.0 w
+turn_asks S reading request call result call_after v w back took =
     let acts = took.clause in
     let went = went_on took.before took.after result.1 (reading call) (request call) result.0
     acts.ended in
-    let root : v.root ≡ (ledger_of faults took.after).root =
-    sym (took.went_on.root ∙ took.root) in
+    let root : v.root ≡ (ledger_of S took.after).root = sym (took.went_on.root ∙ took.root) in
     let within : took.after.office.origin ≤ MAX_MINUTE = omega (arith, acts.origin, went.origin) in
     record {
       taken = took.before;
@@ -66,21 +64,16 @@ turn_asks images moment images_since faults reading request call result call_aft
     }
 
 -- the same of a counter, which is seen as its pass
-pub counter_asks : {D : Type 0} (images : D → List ℕ → Type 0) (moment : D → ℕ)
-    (images_since : D → ℕ → List ℕ → Type 0) (faults : D → ℕ) (reading : ℕ) (request : Request)
+pub counter_asks : {D : Type 0} (S : DiskSenses D) (reading : ℕ) (request : Request)
     (call : Asked) (result : Outcome × Option ℕ) (call_after : Asked) (self v w : PassState)
     → call ≡ record { reading = reading; request = request } → v ≡ self
     → EntriesAreReadBack
-    → TookTurn (ledger_of faults)
-    (λ (c : Asked) old out after new. Acts images moment images_since faults old c.reading
-    c.request out.0 out.1 new)
+    → TookTurn (ledger_of S)
+    (λ (c : Asked) old out after new. Acts S old c.reading c.request out.0 out.1 new)
     (λ c old out new. is_some out.1) call result call_after v w
-    → TurnAsks images moment images_since faults self reading request result.0 w
-counter_asks images moment images_since faults reading request call result call_after self v w
-    is same back took =
-    subst (λ (p : PassState).
-    TurnAsks images moment images_since faults p reading request result.0 w) same
-    (subst (λ (a : Asked).
-    TurnAsks images moment images_since faults v a.reading a.request result.0 w) is
-    (turn_asks images moment images_since faults (λ (a : Asked). a.reading)
-    (λ (a : Asked). a.request) call result call_after v w back took))
+    → TurnAsks S self reading request result.0 w
+counter_asks S reading request call result call_after self v w is same back took =
+    subst (λ (p : PassState). TurnAsks S p reading request result.0 w) same
+    (subst (λ (a : Asked). TurnAsks S v a.reading a.request result.0 w) is
+    (turn_asks S (λ (a : Asked). a.reading) (λ (a : Asked). a.request) call result call_after v w
+    back took))

@@ -3,6 +3,7 @@ use Rattle.std.specs.Prelude.{ℕ, List, Option, Some, None, map}
 use Rattle.std.specs.Int.{from_be_bytes, to_be_bytes, w32}
 use Rattle.turn_desk.specs.Ledgers.{Ledger}
 use Rattle.turn_desk.specs.Passes.{PassState}
+use Rattle.office_outside.specs.Senses.{DiskSenses}
 use Rattle.record_form.specs.declared.Command.TheVariants.{Tick}
 use Rattle.record_form.specs.declared.Entry.{Entry}
 use Rattle.record_form.specs.Records.{record_of}
@@ -26,12 +27,12 @@ record_if (Some e) = Some (record_of e)
 
 -- The root is the origin's bytes. The history is that of the records, each of which is one entry's.
 -- The entry in doubt is the office's, and the faults are the disk's.
-abbrev pub ledger_of : {D : Type 0} → (D → ℕ) → OfficeOn D → Ledger
-ledger_of faults o = record {
+abbrev pub ledger_of : {D : Type 0} → DiskSenses D → OfficeOn D → Ledger
+ledger_of S o = record {
   root = root_of o.office.origin;
   history = records o.office.history;
   doubt = record_if o.doubt;
-  faults = faults o.disk;
+  faults = S.faults o.disk;
 }
 
 -- a tick stands for bytes that are no record: no history has such

@@ -6,6 +6,7 @@ use Rattle.std.proofs.lemmas.Bool.Decides.{nat_tests}
 use Rattle.turn_desk.specs.Ledgers.{has_risen}
 use Rattle.turn_desk.specs.Passes.{PassState, faults_after}
 use Rattle.office_outside.specs.Faults.{Rose}
+use Rattle.office_outside.specs.Senses.{DiskSenses}
 use Rattle.record_form.specs.declared.Entry.{Entry}
 use Rattle.record_form.specs.declared.Outcome.{Outcome}
 use Rattle.record_form.specs.declared.Request.{Request}
@@ -74,14 +75,13 @@ module _ (old new : Standing) (taken put : Office) (before now : ℕ) (reading :
             (does_told (with_others taken step.others) step.does);
       }
 
-pub turn_steps : {D : Type 0} (images : D → List ℕ → Type 0) (moment : D → ℕ)
-    (images_since : D → ℕ → List ℕ → Type 0) (faults : D → ℕ) (old : PassState) (reading : ℕ)
+pub turn_steps : {D : Type 0} (S : DiskSenses D) (old : PassState) (reading : ℕ)
     (request : Request) (outcome : Outcome) (new : PassState)
-    → TurnAsks images moment images_since faults old reading request outcome new
+    → TurnAsks S old reading request outcome new
     → Step (standing_of old) reading request outcome (standing_of new)
-turn_steps images moment images_since faults old reading request outcome new asked =
-    let asks : OwnAsks images moment images_since faults (own_on asked.taken old.own) reading
-    request outcome (own_on asked.put new.own) =
+turn_steps S old reading request outcome new asked =
+    let asks : OwnAsks S (own_on asked.taken old.own) reading request outcome
+    (own_on asked.put new.own) =
     record {
       place = asked.place;
       ended = performed asked.acts.ended;
@@ -93,7 +93,7 @@ turn_steps images moment images_since faults old reading request outcome new ask
       cause = asked.acts.cause;
     } in
     step_told (standing_of old) (standing_of new) asked.taken.office asked.put.office
-    (faults asked.taken.disk) (faults asked.put.disk) reading request outcome asked.seen
+    (S.faults asked.taken.disk) (S.faults asked.put.disk) reading request outcome asked.seen
     asked.counted asked.goes_on
-    (own_steps images moment images_since faults (own_on asked.taken old.own) reading request
-    outcome (own_on asked.put new.own) asks)
+    (own_steps S (own_on asked.taken old.own) reading request outcome (own_on asked.put new.own)
+    asks)

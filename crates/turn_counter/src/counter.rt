@@ -60,7 +60,7 @@ impl<D: Disk + Drop, R: Wait> Counter for TurnCounter<'_, D, R> {
     ghost use Rattle.turn_counter.specs.Turns.{TurnAsks};
     ghost use Rattle.turn_counter.specs.Stepping.{turn_steps};
 
-    ghost asks = { TurnAsks D.images D.moment D.images_since D.faults };
+    ghost asks = { TurnAsks D.senses };
 
     ghost standing = { standing_of };
 
@@ -71,5 +71,5 @@ impl<D: Disk + Drop, R: Wait> Counter for TurnCounter<'_, D, R> {
         outcome
     }
 
-    ghost steps = { turn_steps D.images D.moment D.images_since D.faults };
+    ghost steps = { turn_steps D.senses };
 }

@@ -30,7 +30,7 @@ impl<D: Disk + Drop> Model for DeskOffice<D> {
 impl<D: Disk + Drop> Ledgered for DeskOffice<D> {
     ghost use Rattle.turn_counter.specs.Seen.{ledger_of};
 
-    ghost ledger = { ledger_of D.faults };
+    ghost ledger = { ledger_of D.senses };
 
     fn length(&self) -> u64 {
         u64::from(self.office.length())
@@ -47,7 +47,7 @@ pub fn open_desk<D: Disk + Drop>(
     requires { 0 < passes }
     ensures count { IfOk result (λ made. length made.1.items ≡ passes) }
     ensures passes { IfOk result (λ made. All
-        (λ p. p ≡ newcomer made.0 (ledger_of D.faults office) passes) made.1.items) }
+        (λ p. p ≡ newcomer made.0 (ledger_of D.senses office) passes) made.1.items) }
     ensures err { IfErr result (λ back. back ≡ office) }
 {
     match Desk::new(alloc, DeskOffice { office }, passes) {
@@ -66,13 +66,13 @@ pub fn close_desk<R: Wait, D: Disk + Drop>(
 ) -> Office<D>
     requires some { 0 < length passes.items }
     requires desk { All (λ p. p.desk ≡ desk) passes.items }
-    ensures root { All (λ p. p.root ≡ (ledger_of D.faults result).root) passes.items }
-    ensures seen { All (λ p. Extends p.seen (ledger_of D.faults result).history) passes.items }
-    ensures within { All (λ k. k < length (ledger_of D.faults result).history)
+    ensures root { All (λ p. p.root ≡ (ledger_of D.senses result).root) passes.items }
+    ensures seen { All (λ p. Extends p.seen (ledger_of D.senses result).history) passes.items }
+    ensures within { All (λ k. k < length (ledger_of D.senses result).history)
         (flat_map (λ p. p.own) passes.items) }
     ensures apart { Distinct (flat_map (λ p. p.own) passes.items) }
     ensures no_other { (opening : Opening) → AreAll opening passes.items → Accounts opening
-        (own_of passes.items) (raised_of passes.items) (ledger_of D.faults result).history }
+        (own_of passes.items) (raised_of passes.items) (ledger_of D.senses result).history }
 {
     desk.close(rt, passes).office
 }

@@ -17,11 +17,9 @@ use record_form::laws;
 /// same desk.
 pub fn a_pass_stays_at_its_desk<D: Disk + Drop>()
     ensures turns { (count : ℕ) (old : PassState) (turns : List Turn) (new : PassState)
-        → Trace (Treats (TurnAsks D.images D.moment D.images_since D.faults)) count old turns new
-        → StaysAtDesk old new }
-    ensures end { (refusal : PassState → ℕ → List ℕ) (end : SessionEnd)
-        (old new : Scene PassState)
-        → EndsSo (Treats (TurnAsks D.images D.moment D.images_since D.faults)) refusal end old new
+        → Trace (Treats (TurnAsks D.senses)) count old turns new → StaysAtDesk old new }
+    ensures end { (refusal : PassState → ℕ → List ℕ) (end : SessionEnd) (old new : Scene PassState)
+        → EndsSo (Treats (TurnAsks D.senses)) refusal end old new
         → StaysAtDesk old.handler new.handler }
 {}
 
@@ -44,10 +42,9 @@ pub fn an_own_entry_stays()
 /// session asks, over the office with the entries before it.
 pub fn a_pass_makes_what_is_asked<D: Disk + Drop>()
     ensures { (refusal : PassState → ℕ → List ℕ) (end : SessionEnd) (old new : Scene PassState)
-        (ends : EndsSo (Treats (TurnAsks D.images D.moment D.images_since D.faults)) refusal end old
-        new)
-        → MakesAsked (turns_of (Treats (TurnAsks D.images D.moment D.images_since D.faults)) refusal
-        end old new ends) old.handler new.handler }
+        (ends : EndsSo (Treats (TurnAsks D.senses)) refusal end old new)
+        → MakesAsked (turns_of (Treats (TurnAsks D.senses)) refusal end old new ends) old.handler
+        new.handler }
 {
     laws::an_entry_is_read_back();
 }

@@ -22,9 +22,9 @@ returns-in-Ok-clause-reports g c =
     (g.K.Sink.held printed.new.output) in
     let Over : Office → Type 0 = λ o.
     EndsOver c.args.at read.result printed.result old.held new.held o in
-    let Quiet : g.row.D.Denot → Type 0 = λ disk.
-    IsQuiet D.images D.moment D.images_since c.args.disk disk in
-    let Stands : g.row.D.Denot → Type 0 = λ disk. All (StandsFor office.office) (D.images disk) in
+    let Quiet : g.row.D.Denot → Type 0 = λ disk. IsQuiet D.senses c.args.disk disk in
+    let Stands : g.row.D.Denot → Type 0 = λ disk.
+    All (StandsFor office.office) (D.senses.images disk) in
     record {
       reading = read.result;
       reads = record { first = read.ensures.first; later = read.ensures.rest };
@@ -33,7 +33,7 @@ returns-in-Ok-clause-reports g c =
         whole = opened.whole;
         read = opened.read;
         stands = subst Stands (sym given.disk)
-            (as_opened D.images office opened.none c.disk_stands.ensures.stands);
+            (as_opened D.senses office opened.none c.disk_stands.ensures.stands);
         so = subst Over given.office printed.ensures.ends;
       };
       quiet = subst Quiet (sym given.disk) opened.quiet;

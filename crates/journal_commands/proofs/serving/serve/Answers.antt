@@ -17,19 +17,19 @@ returns-clause-served g c =
     let new : Outside = outside (g.S.Source.left c.session-end.new.input)
     (g.C.Clock.to_come c.session-end.new.clock) (g.K.Sink.held c.session-end.new.output) in
     let Ends : OwnOn g.row.D.Denot → Type 0 = λ first.
-    EndsSo (Treats (OwnAsks D.images D.moment D.images_since D.faults)) refusal_text end
+    EndsSo (Treats (OwnAsks D.senses)) refusal_text end
     (with_counter old first) (with_counter new last) in
     let ends : Ends (own_on office []) =
     subst Ends c.new-counter.ensures c.session-end.ensures.ends in
     let first = with_counter old (own_on office []) in
     let stands = c.disk_stands.ensures.stands in
-    as_served D.images D.moment D.images_since D.faults office end old new
+    as_served D.senses office end old new
     c.into_disk-disk.result last c.give_back-office.result
     ends (c.a_session_adds_what_is_asked.ensures.end refusal_text end first (with_counter new last)
     ends) c.give_back-office.ensures c.into_disk-disk.ensures c.disk_stands-2.ensures.whole
     (c.what_is_seen_grows_in_a_session.ensures.end end first (with_counter new last) ends)
     (c.own_places_stay_in_a_session.ensures.end end first (with_counter new last) ends
-    (none_owned office.office (D.faults office.disk)))
-    (as_opened D.images office c.requires stands) c.disk_stands-2.ensures.stands
+    (none_owned office.office (D.senses.faults office.disk)))
+    (as_opened D.senses office c.requires stands) c.disk_stands-2.ensures.stands
     (c.a_stop_leaves_what_was_kept.ensures.end refusal_text end first (with_counter new last)
     ends stands)

@@ -6,11 +6,11 @@ returns g c = λ port status said said_after tellings tellings_after old new bef
     let D = g.D.Disk in
     record {
       bad_file =
-          server_bad D.content D.images D.moment D.images_since _ port status said said_after
-          tellings tellings_after old new before after runs.end runs.settled runs.serves;
+          server_bad D.senses _ port status said said_after tellings tellings_after old new before
+          after runs.end runs.settled runs.serves;
       done =
-          server_done D.content D.images D.moment D.images_since _ port status said said_after
-          tellings tellings_after old new before after runs.end runs.settled runs.serves;
+          server_done D.senses _ port status said said_after tellings tellings_after old new before
+          after runs.end runs.settled runs.serves;
       unrefused =
           server_unrefused status said said_after tellings tellings_after runs.end runs.settled;
     }

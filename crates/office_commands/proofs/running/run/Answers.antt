@@ -13,7 +13,7 @@ pub returns-in-Ok-Answer-clause-runs : goal.returns-in-Ok-Answer-clause-runs
 returns-in-Ok-Answer-clause-runs g c =
     let D = g.D.Disk in
     let ran = c.run_answer-status.ensures in
-    done_as D.content D.images D.moment D.images_since D.faults _ c.run_answer-status.result _ _
+    done_as D.senses _ c.run_answer-status.result _ _
     (Some (Answer c.in-Ok-Answer.command))
     (c.in-Ok-Answer.ensures.asked ∙ ap Some c.in-Ok-Answer.field-0-is)
     (record {
@@ -37,13 +37,13 @@ pub returns-in-Ok-Serve-clause-serves : goal.returns-in-Ok-Serve-clause-serves
 returns-in-Ok-Serve-clause-serves g c = λ port asks.
     let D = g.D.Disk in
     let O = g.A.One in
-    let s = site (TurnAsks D.images D.moment D.images_since D.faults)
+    let s = site (TurnAsks D.senses)
     (looks O.In.Source.left O.In.Source.faults O.Out.Sink.held O.Out.Sink.faults
     O.Time.Clock.to_come) (λ d. O.Door.told d) (λ d. O.Door.faults d) in
     let same = port_asked _ c.in-Ok-Serve.port port
     (c.in-Ok-Serve.ensures.asked ∙ ap Some c.in-Ok-Serve.field-0-is) asks in
     let ran = c.run_serve.result in
-    inr (subst (λ n. RunsServe D.content D.images D.moment D.images_since s n ran.status
+    inr (subst (λ n. RunsServe D.senses s n ran.status
     (g.E.Sink.held c.args.faults.now) (g.E.Sink.held c.run_serve.new.faults)
     (g.E.Sink.faults c.args.faults.now) (g.E.Sink.faults c.run_serve.new.faults)
     (front (g.A.Doors.told c.args.doors.now) (g.A.Doors.ports c.args.doors.now)

@@ -24,7 +24,6 @@ reading-preserved g c =
       same = c.step.ensures.origin.0 ∙ v.same;
       origin = c.step.ensures.origin.1 ∙ v.origin;
       content = c.step.ensures.content ∙ v.content;
-      quiet = quiet_then g.D.Disk.images g.D.Disk.moment g.D.Disk.images_since _ _ _ v.quiet
-          c.step.ensures.quiet;
+      quiet = quiet_then v.quiet c.step.ensures.quiet;
       later = omega (arith, v.later, c.step.ensures.later);
     }

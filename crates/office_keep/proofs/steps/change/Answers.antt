@@ -4,7 +4,7 @@ use Rattle.office_keep.specs.Steps.{office_on}
 use Rattle.office_keep.proofs.Changing.{changes_lift, leaves_lift, settled_from}
 use Rattle.office_keep.proofs.Changing.{timely_settled}
 use Rattle.office_keep.proofs.Offices.{stands_now}
-use Rattle.office_keep.proofs.Runs.{leaves_then, leaves_weaker}
+use Rattle.office_outside.proofs.Moments.{leaves_then, leaves_weaker}
 use Rattle.office_keep.proofs.steps.change.Goals as goal
 
 pub add-requires-clause-timely : goal.add-requires-clause-timely
@@ -24,8 +24,8 @@ returns-clause-ended g c =
 
 pub returns-clause-any_moment : goal.returns-clause-any_moment
 returns-clause-any_moment g c =
-    leaves_then g.D.Disk.moment g.D.Disk.images_since _ _ _ _ _ c.settle.ensures.any_moment
-    (leaves_weaker g.D.Disk.moment g.D.Disk.images_since _ _ _ _ c.add.ensures.any_moment
+    leaves_then c.settle.ensures.any_moment
+    (leaves_weaker c.add.ensures.any_moment
     (leaves_lift (office_on c.args.core.now c.args.doubt.now c.args.journal.now)
     (office_on c.settle.new.core c.settle.new.doubt c.settle.new.journal)
     c.args.reading c.args.command.now c.in-Ok.ensures.settled
@@ -38,6 +38,6 @@ returns-clause-after_settling g c =
     (office_on c.settle.new.core c.settle.new.doubt c.settle.new.journal)
     c.args.reading c.args.command.now c.in-Ok.ensures.settled
     (office_on c.add.new.core c.add.new.doubt c.add.new.journal)
-    g.D.Disk.images g.D.Disk.moment g.D.Disk.images_since _ _ c.settle.ensures.quiet
-    (stands_now g.D.Disk.images _ _ _ c.settle.ensures.kept) c.add.ensures.ended
+    _ _ c.settle.ensures.quiet
+    (stands_now g.D.Disk.senses _ _ _ c.settle.ensures.kept) c.add.ensures.ended
     c.add.ensures.any_moment)

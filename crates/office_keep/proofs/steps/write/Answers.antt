@@ -11,9 +11,9 @@ returns-in-Ok-appended-clause-kept g c =
     let e = c.requires.pending.0 in
     let same : c.in-Ok.frame ≡ record_of e =
     c.in-Ok.ensures ∙ c.bytes.ensures ∙ c.requires.pending.2 in
-    kept_of g.D.Disk.images _ _ _ _ c.requires.none (c.commit.ensures.office e c.requires.pending.1)
-    (keeps_more g.D.Disk.images _ e _
-    (appended g.D.Disk.images _ _ _ _ _ _ same c.in-Ok-appended.is
+    kept_of g.D.Disk.senses _ _ _ _ c.requires.none (c.commit.ensures.office e c.requires.pending.1)
+    (keeps_more g.D.Disk.senses _ e _
+    (appended g.D.Disk.senses _ _ _ _ _ _ same c.in-Ok-appended.is
     (c.append-appended.ensures.leaves _ _ c.requires.kept)))
 
 pub returns-in-Ok-appended-clause-ended : goal.returns-in-Ok-appended-clause-ended
@@ -30,8 +30,7 @@ returns-in-Ok-appended-clause-any_moment g c e pending =
     let which = same_pending _ _ e c.requires.pending.1 pending in
     let same : c.in-Ok.frame ≡ record_of e =
     c.in-Ok.ensures ∙ c.bytes.ensures ∙ c.requires.pending.2 ∙ ap record_of which in
-    as_record g.D.Disk.moment g.D.Disk.images_since _ _ _ _ _ _ same
-    (c.append-appended.ensures.any_moment _ _ c.requires.kept)
+    as_record same (c.append-appended.ensures.any_moment _ _ c.requires.kept)
 
 pub returns-in-Ok-appended-clause-cause : goal.returns-in-Ok-appended-clause-cause
 returns-in-Ok-appended-clause-cause g c = record {
@@ -58,8 +57,8 @@ returns-in-Err-NotKept-clause-kept g c =
     let same : c.in-Ok.frame ≡ record_of e =
     c.in-Ok.ensures ∙ c.bytes.ensures ∙ c.requires.pending.2 in
     let is : c.append-appended.result ≡ Err NotKept = search rules in
-    kept_of g.D.Disk.images _ _ _ _ c.requires.none refl
-    (appended g.D.Disk.images _ _ _ _ _ _ same is
+    kept_of g.D.Disk.senses _ _ _ _ c.requires.none refl
+    (appended g.D.Disk.senses _ _ _ _ _ _ same is
     (c.append-appended.ensures.leaves _ _ c.requires.kept))
 
 pub returns-in-Err-NotKept-clause-any_moment : goal.returns-in-Err-NotKept-clause-any_moment
@@ -67,8 +66,7 @@ returns-in-Err-NotKept-clause-any_moment g c e pending =
     let which = same_pending _ _ e c.requires.pending.1 pending in
     let same : c.in-Ok.frame ≡ record_of e =
     c.in-Ok.ensures ∙ c.bytes.ensures ∙ c.requires.pending.2 ∙ ap record_of which in
-    as_record g.D.Disk.moment g.D.Disk.images_since _ _ _ _ _ _ same
-    (c.append-appended.ensures.any_moment _ _ c.requires.kept)
+    as_record same (c.append-appended.ensures.any_moment _ _ c.requires.kept)
 
 pub returns-in-Err-InDoubt-clause-kept : goal.returns-in-Err-InDoubt-clause-kept
 returns-in-Err-InDoubt-clause-kept g c =
@@ -80,7 +78,7 @@ returns-in-Err-InDoubt-clause-kept g c =
       entry = e;
       pending = c.requires.pending.1;
       spelled = c.requires.pending.2;
-      doubts = appended g.D.Disk.images _ _ _ _ _ _ same is
+      doubts = appended g.D.Disk.senses _ _ _ _ _ _ same is
           (c.append-appended.ensures.leaves _ _ c.requires.kept);
     }
 
@@ -89,5 +87,4 @@ returns-in-Err-InDoubt-clause-any_moment g c e pending =
     let which = same_pending _ _ e c.requires.pending.1 pending in
     let same : c.in-Ok.frame ≡ record_of e =
     c.in-Ok.ensures ∙ c.bytes.ensures ∙ c.requires.pending.2 ∙ ap record_of which in
-    as_record g.D.Disk.moment g.D.Disk.images_since _ _ _ _ _ _ same
-    (c.append-appended.ensures.any_moment _ _ c.requires.kept)
+    as_record same (c.append-appended.ensures.any_moment _ _ c.requires.kept)

@@ -16,6 +16,6 @@ pub returns-in-Err-clause-found : goal.returns-in-Err-clause-found
 returns-in-Err-clause-found g c =
     let why = c.why_unopened.ensures in
     let refused = c.in-Err.ensures in
-    as_found g.D.Disk.content c.args.disk c.why_unopened.result
+    as_found g.D.Disk.senses c.args.disk c.why_unopened.result
     (λ e file read. refused.not_a_journal (why.header e) file read)
     (λ at e file read. refused.damaged at (why.damaged at e) file read)

@@ -12,7 +12,7 @@ use Rattle.office_serving.proofs.serving.serve.Goals as goal
 
 pub close_desk-office-requires-clause-desk : goal.close_desk-office-requires-clause-desk
 close_desk-office-requires-clause-desk g c =
-    let kept = ledger_of g.D.Disk.faults c.args.office in
+    let kept = ledger_of g.D.Disk.senses c.args.office in
     let start = newcomer c.in-Ok.desk kept WORKERS in
     at_desk start c.serve_at-end.new.passes.items
     (c.serve_at-end.ensures.goes_on start c.in-Ok.ensures.passes)
@@ -21,34 +21,33 @@ pub returns-in-Ok-clause-served : goal.returns-in-Ok-clause-served
 returns-in-Ok-clause-served g c =
     let D = g.D.Disk in
     let A = g.S.One in
-    let s = site (TurnAsks D.images D.moment D.images_since D.faults)
+    let s = site (TurnAsks D.senses)
     (looks A.In.Source.left A.In.Source.faults A.Out.Sink.held A.Out.Sink.faults
     A.Time.Clock.to_come) (λ d. A.Door.told d) (λ d. A.Door.faults d) in
     let seen = c.what_a_pass_has_seen.ensures in
     let was_low : c.args.office.office.origin ≤ MAX_MINUTE = search rules in
     let low : c.close_desk-office.result.office.origin ≤ MAX_MINUTE = search rules in
     let closed = c.close_desk-office.ensures in
-    let kept = ledger_of D.faults c.args.office in
+    let kept = ledger_of D.senses c.args.office in
     let start = newcomer c.in-Ok.desk kept WORKERS in
-    served seen.beginnings seen.all c.an_entry_is_read_back.ensures D.images D.faults s c.args.port
-    c.args.office
-    c.close_desk-office.result
-    c.in-Ok.desk c.serve_at-end.new.passes.items c.serve_at-end.result _ _ c.into_disk.result
+    served seen.beginnings seen.all c.an_entry_is_read_back.ensures D.senses s c.args.port
+    c.args.office c.close_desk-office.result c.in-Ok.desk c.serve_at-end.new.passes.items
+    c.serve_at-end.result _ _ c.into_disk.result
     c.disk_stands.ensures.whole was_low c.disk_stands-in-Ok.ensures.whole low c.into_disk.ensures
     c.disk_stands-in-Ok.ensures.stands c.serve_at-end.ensures.count
     (c.serve_at-end.ensures.goes_on start c.in-Ok.ensures.passes) closed.root
     closed.seen closed.apart closed.no_other
-    (λ services new chain. chain_does D.images D.moment D.images_since D.faults s.look
-    c.an_entry_is_read_back.ensures start services new chain)
+    (λ services new chain. chain_does D.senses s.look c.an_entry_is_read_back.ensures start services
+    new chain)
     (c.serve_at-end.ensures.ends start c.in-Ok.ensures.passes)
 
 pub returns-in-Err-clause-served : goal.returns-in-Err-clause-served
 returns-in-Err-clause-served g c =
     let D = g.D.Disk in
     let A = g.S.One in
-    let s = site (TurnAsks D.images D.moment D.images_since D.faults)
+    let s = site (TurnAsks D.senses)
     (looks A.In.Source.left A.In.Source.faults A.Out.Sink.held A.Out.Sink.faults
     A.Time.Clock.to_come) (λ d. A.Door.told d) (λ d. A.Door.faults d) in
-    not_served D.images s c.args.port c.args.office c.in-Err.office _ _ _ c.into_disk-in-Err.result
+    not_served D.senses s c.args.port c.args.office c.in-Err.office _ _ _ c.into_disk-in-Err.result
     c.in-Err.ensures.err c.into_disk-in-Err.ensures c.disk_stands.ensures.whole
     c.disk_stands.ensures.stands

@@ -12,7 +12,7 @@ pub returns-then-is_err-2-clause-ends : goal.returns-then-is_err-2-clause-ends
 returns-then-is_err-2-clause-ends g c = λ v begins.
     let D = g.D.Disk in
     let A = g.S.One in
-    let s = site (TurnAsks D.images D.moment D.images_since D.faults)
+    let s = site (TurnAsks D.senses)
     (looks A.In.Source.left A.In.Source.faults A.Out.Sink.held A.Out.Sink.faults
     A.Time.Clock.to_come) (λ d. A.Door.told d) (λ d. A.Door.faults d) in
     let part : GainedPrefix ready_line (g.K.Sink.held c.args.ready.now)
@@ -36,7 +36,7 @@ pub returns-clause-ends : goal.returns-clause-ends
 returns-clause-ends g c = λ v begins.
     let D = g.D.Disk in
     let A = g.S.One in
-    let s = site (TurnAsks D.images D.moment D.images_since D.faults)
+    let s = site (TurnAsks D.senses)
     (looks A.In.Source.left A.In.Source.faults A.Out.Sink.held A.Out.Sink.faults
     A.Time.Clock.to_come) (λ d. A.Door.told d) (λ d. A.Door.faults d) in
     let gained : Gained ready_line (g.K.Sink.held c.args.ready.now)

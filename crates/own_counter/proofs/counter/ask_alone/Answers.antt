@@ -6,8 +6,9 @@ use Rattle.own_counter.proofs.counter.ask_alone.Goals as goal
 pub returns-then-is_err : goal.returns-then-is_err
 returns-then-is_err g c =
     rw c.reserve.ensures.items
-    (asks_without_room _ _ _ _ g.met.D.Disk.only_now c.args.office.now c.args.own.now.items
-    c.args.reading c.args.request.now c.disk_stands.ensures.stands c.disk_stands.ensures.whole)
+    (asks_without_room g.D.Disk.senses g.met.D.Disk.only_now c.args.office.now
+    c.args.own.now.items c.args.reading c.args.request.now c.disk_stands.ensures.stands
+    c.disk_stands.ensures.whole)
 
 pub returns : goal.returns
 returns g c = record {

@@ -13,9 +13,9 @@ returns-in-Header-clause-already_there g c same file told = (
 
 pub returns-in_default-make : goal.returns-in_default-make
 returns-in_default-make g c =
-    let free : All (IsFree c.in-Ok.front) (g.D.Disk.images c.look_at_front.new.disk) =
-    front_of_images c.in-Ok.front (g.D.Disk.content c.args.disk)
-    (g.D.Disk.images c.look_at_front.new.disk) c.in_default-front.not-Header
+    let free : All (IsFree c.in-Ok.front) (g.D.Disk.senses.images c.look_at_front.new.disk) =
+    front_of_images c.in-Ok.front (g.D.Disk.senses.content c.args.disk)
+    (g.D.Disk.senses.images c.look_at_front.new.disk) c.in_default-front.not-Header
     c.in-Ok.ensures.front c.in-Ok.ensures.only in
     record {
       made = tt;
@@ -37,9 +37,9 @@ returns-in_default-make g c =
 
 pub returns : goal.returns
 returns g c =
-    let free : All (IsFree c.in-Ok.front) (g.D.Disk.images c.look_at_front.new.disk) =
-    front_of_images c.in-Ok.front (g.D.Disk.content c.args.disk)
-    (g.D.Disk.images c.look_at_front.new.disk) c.in_default-front.not-Header
+    let free : All (IsFree c.in-Ok.front) (g.D.Disk.senses.images c.look_at_front.new.disk) =
+    front_of_images c.in-Ok.front (g.D.Disk.senses.content c.args.disk)
+    (g.D.Disk.senses.images c.look_at_front.new.disk) c.in_default-front.not-Header
     c.in-Ok.ensures.front c.in-Ok.ensures.only in
     let same : c.new.result.disk ≡ c.make.new.disk = search rules in
     record {
@@ -47,7 +47,8 @@ returns g c =
         tail = search rules;
         none = search rules;
         each =
-            λ f im. c.in-Ok-make.ensures.stands free f (subst (λ d. g.D.Disk.images d f) same im);
+            λ f im. c.in-Ok-make.ensures.stands free f
+            (subst (λ d. g.D.Disk.senses.images d f) same im);
       };
       none_before = λ file told. front_none c.in-Ok.front file c.in_default-front.not-Header
           (c.in-Ok.ensures.front file told);

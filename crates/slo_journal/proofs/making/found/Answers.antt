@@ -3,15 +3,15 @@ use Rattle.slo_journal.proofs.making.found.Goals as goal
 
 pub returns-in_default-raise-clause-any_moment : goal.returns-in_default-raise-clause-any_moment
 returns-in_default-raise-clause-any_moment g c all =
-    founding g.D.Disk.images g.D.Disk.moment g.D.Disk.images_since _ _ _ c.args.origin
-    c.args.header.now c.requires.origin c.requires.header (c.lay.ensures.closed all)
+    founding c.args.origin c.args.header.now c.requires.origin c.requires.header
+    (c.lay.ensures.closed all)
     (c.raise.ensures.either c.args.header.now
     (laid_any c.args.header.now _ (c.in-Ok.ensures.laid all)))
 
 pub returns-clause-any_moment : goal.returns-clause-any_moment
 returns-clause-any_moment g c all =
-    founding g.D.Disk.images g.D.Disk.moment g.D.Disk.images_since _ _ _ c.args.origin
-    c.args.header.now c.requires.origin c.requires.header (c.lay.ensures.closed all)
+    founding c.args.origin c.args.header.now c.requires.origin c.requires.header
+    (c.lay.ensures.closed all)
     (c.raise.ensures.either c.args.header.now
     (laid_any c.args.header.now _ (c.in-Ok.ensures.laid all)))
 

@@ -3,4 +3,4 @@ use Rattle.office_keep.proofs.office.Office.disk_stands.Goals as goal
 
 pub returns-clause-stands : goal.returns-clause-stands
 returns-clause-stands g c =
-    rw (← c.self.view_is) (stands_now g.D.Disk.images _ _ _ c.self.invariant)
+    rw (← c.self.view_is) (stands_now g.D.Disk.senses _ _ _ c.self.invariant)

@@ -36,9 +36,7 @@ returns-in-Ok-ready-clause-stands g c file told =
 
 pub returns-in-Ok-ready-clause-quiet : goal.returns-in-Ok-ready-clause-quiet
 returns-in-Ok-ready-clause-quiet g c =
-    quiet_then g.D.Disk.images g.D.Disk.moment g.D.Disk.images_since _ _ _
-    (quiet_then g.D.Disk.images g.D.Disk.moment g.D.Disk.images_since _ _ _ c.in-Ok.ensures.quiet
-    c.load.ensures.quiet) c.in-Ok-ready.ensures.quiet
+    quiet_then (quiet_then c.in-Ok.ensures.quiet c.load.ensures.quiet) c.in-Ok-ready.ensures.quiet
 
 pub returns-in-Ok-ready-clause-only : goal.returns-in-Ok-ready-clause-only
 returns-in-Ok-ready-clause-only g c file image =
@@ -47,9 +45,8 @@ returns-in-Ok-ready-clause-only g c file image =
 
 pub returns-in-Err-ready-clause-quiet_err : goal.returns-in-Err-ready-clause-quiet_err
 returns-in-Err-ready-clause-quiet_err g c =
-    quiet_then g.D.Disk.images g.D.Disk.moment g.D.Disk.images_since _ _ _
-    (quiet_then g.D.Disk.images g.D.Disk.moment g.D.Disk.images_since _ _ _ c.in-Ok.ensures.quiet
-    c.load.ensures.quiet) c.in-Err-ready.ensures.quiet_err
+    quiet_then (quiet_then c.in-Ok.ensures.quiet c.load.ensures.quiet)
+    c.in-Err-ready.ensures.quiet_err
 
 pub returns-in-Err-load-clause-damaged : goal.returns-in-Err-load-clause-damaged
 returns-in-Err-load-clause-damaged g c at same file told =
@@ -60,7 +57,5 @@ returns-in-Err-load-clause-damaged g c at same file told =
 
 pub returns-in-Err-load-clause-quiet_err : goal.returns-in-Err-load-clause-quiet_err
 returns-in-Err-load-clause-quiet_err g c =
-    subst (IsQuiet g.D.Disk.images g.D.Disk.moment g.D.Disk.images_since c.args.disk)
-    (sym c.give_back-in-Err-load.ensures)
-    (quiet_then g.D.Disk.images g.D.Disk.moment g.D.Disk.images_since _ _ _ c.in-Ok.ensures.quiet
-    c.load.ensures.quiet)
+    subst (IsQuiet g.D.Disk.senses c.args.disk) (sym c.give_back-in-Err-load.ensures)
+    (quiet_then c.in-Ok.ensures.quiet c.load.ensures.quiet)

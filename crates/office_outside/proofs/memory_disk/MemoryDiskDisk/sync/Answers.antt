@@ -1,5 +1,6 @@
-use Rattle.office_outside.proofs.Images.{elapses_more, one_call}
+use Rattle.office_outside.proofs.Images.{elapses, elapses_more, one_call}
 use Rattle.office_outside.proofs.memory_disk.MemoryDiskDisk.sync.Goals as goal
 
 pub returns-clause-time : goal.returns-clause-time
-returns-clause-time c = elapses_more _ _ _ (one_call _ _ _ c.note-noted.ensures.either)
+returns-clause-time c =
+    elapses _ _ _ (elapses_more _ _ _ (one_call _ _ _ c.note-noted.ensures.either))

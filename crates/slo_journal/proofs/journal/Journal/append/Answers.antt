@@ -1,6 +1,6 @@
 use Rattle.std.proofs.Common.{◌≡◌, ◌≤◌, ◌+◌, ◌∷◌, ◌++◌, [], sym, ap, ◌∙◌, subst, arith, rules, inl}
 use Rattle.std.proofs.Common.{length, Some}
-use Rattle.slo_journal.specs.File.{Stands, tail_of}
+use Rattle.slo_journal.specs.File.{tail_of}
 use Rattle.slo_journal.specs.Keeping.{Keeps, WithOrWithout, needed_for}
 use Rattle.slo_journal.proofs.Files.{size-append}
 use Rattle.office_outside.proofs.Moments.{weaker}
@@ -11,19 +11,18 @@ use Rattle.slo_limits.specs.declared.TheConstants.{MAX_JOURNAL_BYTES}
 
 pub returns-in_default-clause-leaves : goal.returns-in_default-clause-leaves
 returns-in_default-clause-leaves g c o rs k =
-    let k = subst (Keeps g.D.Disk.images o rs) (sym c.self.view_is) k in
+    let k = subst (Keeps g.D.Disk.senses o rs) (sym c.self.view_is) k in
     record { tail = k.tail; none = k.none; each = (c.stage.ensures.stays o rs k.tail k.each).now }
 
 pub returns-in_default-clause-any_moment : goal.returns-in_default-clause-any_moment
 returns-in_default-clause-any_moment g c o rs k =
-    let k = subst (Keeps g.D.Disk.images o rs) (sym c.self.view_is) k in
-    rw (← c.self.view_is) (weaker g.D.Disk.images g.D.Disk.moment
-    g.D.Disk.images_since _ _ (Stands o rs) (WithOrWithout o rs c.args.value.now)
+    let k = subst (Keeps g.D.Disk.senses o rs) (sym c.self.view_is) k in
+    rw (← c.self.view_is) (weaker {Q = WithOrWithout o rs c.args.value.now}
     (c.stage.ensures.stays o rs k.tail k.each) (λ c s. inl s)).moments
 
 pub returns-in_default-open_gate-clause-leaves : goal.returns-in_default-open_gate-clause-leaves
 returns-in_default-open_gate-clause-leaves g c o rs k =
-    let k = subst (Keeps g.D.Disk.images o rs) (sym c.self.view_is) k in
+    let k = subst (Keeps g.D.Disk.senses o rs) (sym c.self.view_is) k in
     let r = c.args.value.now in
     let room : needed_for c.self.inside.tail r ≤ MAX_JOURNAL_BYTES =
     room_of r _ c.self.inside.tail c.bytes-frame.ensures.bytes c.if-needed.false in
@@ -40,20 +39,20 @@ returns-in_default-open_gate-clause-leaves g c o rs k =
 pub returns-in_default-open_gate-clause-any_moment :
     goal.returns-in_default-open_gate-clause-any_moment
 returns-in_default-open_gate-clause-any_moment g c o rs k =
-    let k = subst (Keeps g.D.Disk.images o rs) (sym c.self.view_is) k in
+    let k = subst (Keeps g.D.Disk.senses o rs) (sym c.self.view_is) k in
     let r = c.args.value.now in
     let room : needed_for c.self.inside.tail r ≤ MAX_JOURNAL_BYTES =
     room_of r _ c.self.inside.tail c.bytes-frame.ensures.bytes c.if-needed.false in
     let size = c.bytes-frame.ensures.is_record in
     let staged = either_gate o rs r c.self.inside.tail k.tail size room _
     (c.in-Ok.ensures.staged o rs r k.tail c.bytes-frame.ensures.bytes k.each) in
-    rw (← c.self.view_is) (any_moment o rs r c.self.inside.tail k.tail size room g.D.Disk.images
-    g.D.Disk.moment g.D.Disk.images_since _ _ _ (c.stage.ensures.stays o rs k.tail k.each)
+    rw (← c.self.view_is) (any_moment o rs r c.self.inside.tail k.tail size room
+    (c.stage.ensures.stays o rs k.tail k.each)
     (c.open_gate.ensures.either o rs r k.tail staged)).moments
 
 pub returns-clause-leaves : goal.returns-clause-leaves
 returns-clause-leaves g c o rs k =
-    let k = subst (Keeps g.D.Disk.images o rs) (sym c.self.view_is) k in
+    let k = subst (Keeps g.D.Disk.senses o rs) (sym c.self.view_is) k in
     let r = c.args.value.now in
     let room : needed_for c.self.inside.tail r ≤ MAX_JOURNAL_BYTES =
     room_of r _ c.self.inside.tail c.bytes-frame.ensures.bytes c.if-needed.false in
@@ -69,13 +68,13 @@ returns-clause-leaves g c o rs k =
 
 pub returns-clause-any_moment : goal.returns-clause-any_moment
 returns-clause-any_moment g c o rs k =
-    let k = subst (Keeps g.D.Disk.images o rs) (sym c.self.view_is) k in
+    let k = subst (Keeps g.D.Disk.senses o rs) (sym c.self.view_is) k in
     let r = c.args.value.now in
     let room : needed_for c.self.inside.tail r ≤ MAX_JOURNAL_BYTES =
     room_of r _ c.self.inside.tail c.bytes-frame.ensures.bytes c.if-needed.false in
     let size = c.bytes-frame.ensures.is_record in
     let staged = either_gate o rs r c.self.inside.tail k.tail size room _
     (c.in-Ok.ensures.staged o rs r k.tail c.bytes-frame.ensures.bytes k.each) in
-    rw (← c.self.view_is) (any_moment o rs r c.self.inside.tail k.tail size room g.D.Disk.images
-    g.D.Disk.moment g.D.Disk.images_since _ _ _ (c.stage.ensures.stays o rs k.tail k.each)
+    rw (← c.self.view_is) (any_moment o rs r c.self.inside.tail k.tail size room
+    (c.stage.ensures.stays o rs k.tail k.each)
     (c.open_gate.ensures.either o rs r k.tail staged)).moments
