@@ -7,7 +7,7 @@ use Rattle.record_form.specs.declared.Outcome.{Outcome}
 use Rattle.record_form.specs.Records.{record_of}
 use Rattle.record_form.specs.Ranges.{FitsRecord}
 use Rattle.office_history.specs.declared.Judgement.{Judgement}
-use Rattle.office_history.specs.declared.Judgement.TheVariants.{Accepted, Same}
+use Rattle.office_history.specs.declared.Judgement.TheVariants.{Accepted, Refused, Same}
 use Rattle.office_history.specs.History.{Office, moment_of}
 use Rattle.office_history.specs.Judges.{Judges}
 use Rattle.office_history.specs.Outcomes.{outcome_by}
@@ -18,6 +18,7 @@ use Rattle.office_keep.specs.Files.{records}
 use Rattle.office_keep.specs.Office.{Accepts, Changes, IsBlamed, IsSettled, IsTimely, Leaves}
 use Rattle.office_keep.specs.Office.{OfficeOn, entry_at}
 use Rattle.office_keep.specs.Office.{done, in_doubt, not_kept, refused_memory, unsettled, written}
+use Rattle.office_keep.specs.Steps.{Unmade, is_changeless, is_refused, lacks_memory}
 use Rattle.office_keep.specs.Steps.{Writes, fails, is_written, lacks, stays_in_doubt}
 use Rattle.office_keep.proofs.Blame.{same_no_fault}
 use Rattle.office_keep.proofs.Histories.{records_more}
@@ -125,23 +126,38 @@ module _ {D : Type 0} (old new : OfficeOn D) (reading : ℕ) (command : Command)
       (subst (λ (p : Office). keeping.WithOrWithout p.origin (records p.history)
       (record_of (entry_of moment command)) file) same s))
 
--- a judgement that makes no entry
-pub unmade_at : {D : Type 0} (old new : OfficeOn D) (reading : ℕ) (command : Command)
-    (outcome : Outcome) (j : Judgement) (moment : ℕ) → old.doubt ≡ None →
-    IsTimely old.office reading → moment ≡ moment_of old.office reading →
-    Judges old.office moment command j →
-    outcome ≡ outcome_by old.office (entry_at old.office reading command) j →
-    None ≡ made_by old.office (entry_at old.office reading command) j →
-    new.office ≡ old.office → new.doubt ≡ None → Changes old reading command outcome None new
-unmade_at old new reading command outcome j moment none timely at judged told made same nothing =
-    done old.office None (settled_none old.office old.office old.doubt none refl) timely
-    (comes timely (j, subst (λ (m : ℕ). Judges old.office m command j) at judged, told, made))
-    same nothing refl
+module _ {D : Type 0} (old new : OfficeOn D) (reading : ℕ) (command : Command)
+    (outcome : Outcome) (moment : ℕ) (none : old.doubt ≡ None)
+    (timely : IsTimely old.office reading) (at : moment ≡ moment_of old.office reading)
+    (same : new.office ≡ old.office) (nothing : new.doubt ≡ None) where
+  -- a judgement that makes no entry
+  judged_at : (j : Judgement) → Judges old.office moment command j →
+      outcome ≡ outcome_by old.office (entry_at old.office reading command) j →
+      None ≡ made_by old.office (entry_at old.office reading command) j →
+      Changes old reading command outcome None new
+  judged_at j judged told made =
+      done old.office None (settled_none old.office old.office old.doubt none refl) timely
+      (comes timely (j, subst (λ (m : ℕ). Judges old.office m command j) at judged, told, made))
+      same nothing refl
 
--- a judgement blames no disk
-pub blames_none : (before : ℕ) (o : Office) (moment : ℕ) (command : Command) (outcome : Outcome) →
-    Judges o moment command (Same outcome) → IsBlamed before before outcome
-blames_none before o moment command outcome judged = record {
+  -- where the judging made no entry, the change comes to its outcome, or memory ran out
+  pub unmade_at : Unmade old.office (entry_of moment command) outcome →
+      Changes old reading command outcome None new
+  unmade_at (is_changeless judged) = judged_at (Same outcome) judged refl refl
+  unmade_at (is_refused refusal told judged) = judged_at (Refused refusal) judged told refl
+  unmade_at (lacks_memory told) =
+      refused_memory told (timely_as old.office new.office reading same timely)
+      (record { settled = settled_none old.office new.office old.doubt none same; none = nothing })
+      refl
+
+-- a judging blames no disk
+pub blames_none : (before : ℕ) (o : Office) (e : Entry) (outcome : Outcome) →
+    Unmade o e outcome → IsBlamed before before outcome
+blames_none before o e outcome (is_changeless judged) = record {
   later = omega arith;
-  rose = λ failed. absurd (same_no_fault o moment command outcome judged failed);
+  rose = λ failed. absurd (same_no_fault o e.moment e.command outcome judged failed);
 }
+blames_none before o e outcome (is_refused refusal told judged) =
+    record { later = omega arith; rose = λ failed. absurd (cc (told, failed)) }
+blames_none before o e outcome (lacks_memory told) =
+    record { later = omega arith; rose = λ failed. absurd (cc (told, failed)) }

@@ -1,5 +1,5 @@
-//! The steps of a change: what is in doubt is settled, and the entry is written.
-ghost use Rattle.std.specs.Prelude.{◌≡◌, ◌≤◌, Option, Some, None, OnOk, OnErr};
+//! The steps of a change: what is in doubt is settled, the command is judged, and its entry kept.
+ghost use Rattle.std.specs.Prelude.{◌≡◌, ◌<◌, ◌≤◌, Option, Some, None, OnOk, OnErr};
 ghost use Rattle.slo_limits.specs.declared.TheConstants.{MAX_MINUTE};
 ghost use Rattle.office_outside.specs.Disk.{IsQuiet, LeavesOnly};
 ghost use Rattle.office_outside.specs.Faults.{HasCauseBy};
@@ -7,12 +7,14 @@ ghost use Rattle.record_form.specs.declared.Entry.{Entry};
 ghost use Rattle.record_form.specs.declared.Request.TheVariants.{Change};
 ghost use Rattle.record_form.specs.Ranges.{FitsRecord};
 ghost use Rattle.record_form.specs.Records.{record_of};
+ghost use Rattle.office_history.specs.History.{end_of, present};
 ghost use Rattle.office_core.specs.Machine.{HasRevisions};
 ghost use Rattle.slo_journal.specs.Keeping.{WithOrWithout};
 ghost use Rattle.office_keep.specs.Files.{records};
 ghost use Rattle.office_keep.specs.Office.{Changes, IsAsBefore, IsBlamed, IsTimely, IsUnmoved};
 ghost use Rattle.office_keep.specs.Office.{Leaves, SettlesBy, StandsSettled};
-ghost use Rattle.office_keep.specs.Steps.{IsKept, KeepsOffice, Writes, entry_in, office_on};
+ghost use Rattle.office_keep.specs.Steps.{IsJudged, IsKept, KeepsOffice, Writes, entry_in};
+ghost use Rattle.office_keep.specs.Steps.{office_on};
 
 use office_core::{Core, Prepared, Verdict};
 use office_outside::{Disk, Failed};
@@ -112,16 +114,38 @@ fn add<D: Disk + Drop>(
 {
     core.is_legal();
     let moment = core.moment(reading);
-    match core.prepare(alloc, moment, command) {
-        Verdict::Ready(value) => write(alloc, core, journal, doubt, value),
-        Verdict::Same(outcome) => (outcome, None),
-        Verdict::Refused(refusal) => (Outcome::Refused(refusal), None),
-        Verdict::NoMemory => (Outcome::NoMemory, None),
+    match judge(alloc, core, moment, command) {
+        Ok(value) => keep(alloc, core, journal, doubt, value),
+        Err(outcome) => (outcome, None),
     }
 }
 
-/// Writes the entry for which room was made, and adds it once it is on the disk.
-fn write<D: Disk + Drop>(
+/// Judges a command at a moment, and makes room for its entry where it is accepted. It touches no
+/// disk.
+fn judge(
+    alloc: Global,
+    core: &mut Core,
+    moment: u32,
+    command: &Command,
+) -> Result<Prepared, Outcome>
+    requires later { present core.old.office ≤ moment }
+    requires in_range { moment < end_of core.old.office.origin }
+    requires readable { moment ≤ MAX_MINUTE }
+    requires revisions { HasRevisions command.now }
+    ensures office { core.new.office ≡ core.old.office }
+    ensures judged { IsJudged core.old.office
+        (record { moment = moment; command = command.now }) result core.new.pending }
+{
+    match core.prepare(alloc, moment, command) {
+        Verdict::Ready(value) => Ok(value),
+        Verdict::Same(outcome) => Err(outcome),
+        Verdict::Refused(refusal) => Err(Outcome::Refused(refusal)),
+        Verdict::NoMemory => Err(Outcome::NoMemory),
+    }
+}
+
+/// Keeps the entry for which room was made: writes it, and adds it once it is on the disk.
+fn keep<D: Disk + Drop>(
     alloc: Global,
     core: &mut Core,
     journal: &mut Journal<D>,

@@ -4,7 +4,7 @@ use Rattle.slo_journal.specs.declared.AppendFault.TheVariants.{InDoubt, JournalF
 use Rattle.office_keep.proofs.Blame.{no_disk_fault}
 use Rattle.office_keep.proofs.Offices.{appended, keeps_more, kept_of}
 use Rattle.office_keep.proofs.Writing.{adds, as_record, fills, full_known, none_in, same_pending}
-use Rattle.office_keep.proofs.steps.write.Goals as goal
+use Rattle.office_keep.proofs.steps.keep.Goals as goal
 
 pub returns-in-Ok-appended-clause-kept : goal.returns-in-Ok-appended-clause-kept
 returns-in-Ok-appended-clause-kept g c =
