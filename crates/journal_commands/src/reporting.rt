@@ -7,7 +7,7 @@ ghost use Rattle.journal_commands.specs.Reporting.{Reports, minute_by};
 
 use crate::writing::write_out;
 use office_core::Core;
-use office_keep::{Unopened, let_go, open_journal};
+use office_keep::{KeepFault, Office, let_go};
 use office_outside::{Clock, Disk, Failed, Sink};
 use office_report::report;
 use std::alloc::Global;
@@ -32,7 +32,7 @@ pub enum ReportEnd {
     /// The journal was opened, and the printing over it ended so.
     Opened(PrintEnd),
     /// The journal wasn't opened.
-    Unopened(Unopened),
+    Unopened(KeepFault),
 }
 
 /// The minute of the report: the one that is asked for, or the moment.
@@ -93,7 +93,7 @@ pub fn print_report<D: Disk + Drop, C: Clock, K: Sink>(
     ensures reports { Reports D.senses at result.0
         (bench disk (C.to_come clock.old) (K.held output.old))
         (bench result.1 (C.to_come clock.new) (K.held output.new)) }
-    ensures disk { result.0 ≡ ReportEnd.Unopened Unopened.DiskFault →
+    ensures disk { result.0 ≡ ReportEnd.Unopened KeepFault.DiskFault →
         RoseBy D.senses.faults disk result.1 }
     ensures write { result.0 ≡ ReportEnd.Opened PrintEnd.WriteFault →
         Rose (K.faults output.old) (K.faults output.new) }
@@ -101,7 +101,7 @@ pub fn print_report<D: Disk + Drop, C: Clock, K: Sink>(
     ensures later_output { K.faults output.old ≤ K.faults output.new }
 {
     let reading = clock.minute();
-    match open_journal(alloc, disk) {
+    match Office::open(alloc, disk) {
         Ok(office) => {
             office.disk_stands();
             let (mut core, disk) = office.give_back();
@@ -109,6 +109,6 @@ pub fn print_report<D: Disk + Drop, C: Clock, K: Sink>(
             let_go(core);
             (ReportEnd::Opened(end), disk)
         }
-        Err(failed) => (ReportEnd::Unopened(failed.why), failed.disk),
+        Err(failed) => (ReportEnd::Unopened(failed.fault), failed.disk),
     }
 }

@@ -3,7 +3,7 @@ ghost use Rattle.std.specs.Prelude.{◌≡◌, None};
 ghost use Rattle.office_outside.specs.Faults.{Rose, RoseBy};
 ghost use Rattle.journal_commands.specs.Serving.{EndsServing, IsServed, outside};
 
-use office_keep::{Office, Unopened, open_journal};
+use office_keep::{KeepFault, Office};
 use office_outside::{Clock, Disk, Sink, Source};
 use office_session::SessionEnd;
 use own_counter::OwnCounter;
@@ -16,7 +16,7 @@ pub enum PipeEnd {
     /// A session was served, and ended so.
     Served(SessionEnd),
     /// The journal wasn't opened.
-    Unopened(Unopened),
+    Unopened(KeepFault),
 }
 
 /// Serves a session over an office, and hands the disk back.
@@ -60,20 +60,20 @@ pub fn run_session<D: Disk + Drop, S: Source, K: Sink, C: Clock>(
     ensures ends { EndsServing D.senses result.0
         (outside (S.left input.old) (C.to_come clock.old) (K.held output.old))
         (outside (S.left input.new) (C.to_come clock.new) (K.held output.new)) disk result.1 }
-    ensures untouched { (why : Unopened) → result.0 ≡ PipeEnd.Unopened why →
+    ensures untouched { (why : KeepFault) → result.0 ≡ PipeEnd.Unopened why →
         (input.new ≡ input.old) × (output.new ≡ output.old) × (clock.new ≡ clock.old) }
-    ensures disk { result.0 ≡ PipeEnd.Unopened Unopened.DiskFault →
+    ensures disk { result.0 ≡ PipeEnd.Unopened KeepFault.DiskFault →
         RoseBy D.senses.faults disk result.1 }
     ensures read { result.0 ≡ PipeEnd.Served SessionEnd.ReadFault →
         Rose (S.faults input.old) (S.faults input.new) }
     ensures write { result.0 ≡ PipeEnd.Served SessionEnd.WriteFault →
         Rose (K.faults output.old) (K.faults output.new) }
 {
-    match open_journal(alloc, disk) {
+    match Office::open(alloc, disk) {
         Ok(office) => {
             let (end, disk) = serve(alloc, office, input, output, clock);
             (PipeEnd::Served(end), disk)
         }
-        Err(failed) => (PipeEnd::Unopened(failed.why), failed.disk),
+        Err(failed) => (PipeEnd::Unopened(failed.fault), failed.disk),
     }
 }

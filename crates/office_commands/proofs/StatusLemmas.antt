@@ -22,8 +22,8 @@ use Rattle.journal_commands.specs.declared.PipeEnd.TheVariants as pipe
 use Rattle.journal_commands.specs.declared.PrintEnd.TheVariants as printing
 use Rattle.journal_commands.specs.declared.ReportEnd.{ReportEnd}
 use Rattle.journal_commands.specs.declared.ReportEnd.TheVariants as report
-use Rattle.office_keep.specs.declared.Unopened.{Unopened}
-use Rattle.office_keep.specs.declared.Unopened.TheVariants as unopened
+use Rattle.office_keep.specs.declared.KeepFault.{KeepFault}
+use Rattle.office_keep.specs.declared.KeepFault.TheVariants as unopened
 use Rattle.office_commands.specs.Counters.{SettledCounters}
 use Rattle.office_commands.specs.Generate.{EndsGenerating, PrintsSummary, SettledGenerate}
 use Rattle.office_commands.specs.Init.{SettledInit}
@@ -126,24 +126,27 @@ module _ (status : ℕ) (old new : Option (List ℕ)) (before now : ℕ) where
   session_bad session.NoMemory s e = omega (arith, s.0, e)
 
 module _ (status : ℕ) (old new : Option (List ℕ)) (before now : ℕ) where
-  pub unopened_bad : {D : Type 0} (S : DiskSenses D) (disk : D) (why : Unopened) →
+  pub unopened_bad : {D : Type 0} (S : DiskSenses D) (disk : D) (why : KeepFault) →
       SettledUnopened why status old new before now → IsFoundOn S why disk →
       status ≡ BAD_FILE → (file : List ℕ) → S.content disk ≡ Some file → IsBad file
+  unopened_bad S disk unopened.AlreadyThere s found e file read = absurd found
   unopened_bad S disk unopened.NotAJournal s found e file read = inl (found file read)
   unopened_bad S disk (unopened.Damaged at) s found e file read = inr (at, found file read)
   unopened_bad S disk unopened.DiskFault s found e file read = absurd (omega (arith, s.0, e))
   unopened_bad S disk unopened.NoMemory s found e file read = absurd (omega (arith, s.0, e))
 
-  pub unopened_not_done : (why : Unopened) → SettledUnopened why status old new before now →
+  pub unopened_not_done : (why : KeepFault) → SettledUnopened why status old new before now →
       status ≡ DONE → ⊥
+  unopened_not_done unopened.AlreadyThere s e = omega (arith, s.0, e)
   unopened_not_done unopened.NotAJournal s e = omega (arith, s.0, e)
   unopened_not_done (unopened.Damaged at) (inl s) e = omega (arith, s.0, e)
   unopened_not_done (unopened.Damaged at) (inr s) e = omega (arith, s.0, e)
   unopened_not_done unopened.DiskFault s e = omega (arith, s.0, e)
   unopened_not_done unopened.NoMemory s e = omega (arith, s.0, e)
 
-  pub unopened_not_refused : (why : Unopened) → SettledUnopened why status old new before now →
+  pub unopened_not_refused : (why : KeepFault) → SettledUnopened why status old new before now →
       status ≡ REFUSED → ⊥
+  unopened_not_refused unopened.AlreadyThere s e = omega (arith, s.0, e)
   unopened_not_refused unopened.NotAJournal s e = omega (arith, s.0, e)
   unopened_not_refused (unopened.Damaged at) (inl s) e = omega (arith, s.0, e)
   unopened_not_refused (unopened.Damaged at) (inr s) e = omega (arith, s.0, e)

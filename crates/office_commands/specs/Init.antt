@@ -5,6 +5,7 @@ use Rattle.journal_commands.specs.declared.InitEnd.TheVariants.{Done, OriginAbov
 use Rattle.journal_commands.specs.declared.InitEnd.TheVariants.{AlreadyThere, DiskFault}
 use Rattle.journal_commands.specs.declared.InitEnd.TheVariants.{WriteFault, NoMemory}
 use Rattle.office_commands.specs.Runs.{EndsSaying, EndsWith}
+use Rattle.office_commands.specs.Unopened.{already_there_line}
 use Rattle.office_commands.specs.declared.ending.TheConstants as statuses
 
 -- Each end has its status, and the faults sink tells its line; where the journal was made and its
@@ -14,8 +15,7 @@ SettledInit Done status old new before now = (status ≡ statuses.DONE) × (new 
 SettledInit OriginAboveClock status old new before now =
     EndsSaying statuses.REFUSED (codes "slo_office: origin above clock\n") status old new before now
 SettledInit AlreadyThere status old new before now =
-    EndsSaying statuses.BAD_FILE (codes "slo_office: file already there\n") status old new before
-    now
+    EndsSaying statuses.BAD_FILE already_there_line status old new before now
 SettledInit DiskFault status old new before now =
     EndsWith statuses.DISK_FAULT status old new before now
 SettledInit WriteFault status old new before now =

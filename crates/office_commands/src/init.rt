@@ -5,11 +5,10 @@ ghost use Rattle.journal_commands.specs.Making.{Makes, bench};
 ghost use Rattle.journal_commands.specs.declared.InitEnd.{InitEnd};
 ghost use Rattle.office_commands.specs.Init.{SettledInit};
 
-use crate::ending::{
-    BAD_FILE, DISK_FAULT, DONE, NO_MEMORY, READ_FAULT, REFUSED, USAGE, WRITE_FAULT,
-};
+use crate::ending::{DISK_FAULT, DONE, NO_MEMORY, READ_FAULT, REFUSED, USAGE, WRITE_FAULT};
 use crate::running::RunEnd;
 use crate::telling::{tell_as, tell_status};
+use crate::unopened::settle_already_there;
 use journal_commands::{InitEnd, make_journal};
 use office_outside::{Clock, Disk, Sink};
 use std::alloc::Global;
@@ -22,7 +21,7 @@ fn settle_init<E: Sink>(end: InitEnd, faults: &mut E) -> u8
     match end {
         InitEnd::Done => DONE,
         InitEnd::OriginAboveClock => tell_as(faults, "slo_office: origin above clock\n", REFUSED),
-        InitEnd::AlreadyThere => tell_as(faults, "slo_office: file already there\n", BAD_FILE),
+        InitEnd::AlreadyThere => settle_already_there(faults),
         InitEnd::DiskFault => tell_status(faults, DISK_FAULT),
         InitEnd::WriteFault => tell_status(faults, WRITE_FAULT),
         InitEnd::NoMemory => tell_status(faults, NO_MEMORY),

@@ -1,28 +1,27 @@
--- What the opening of a journal's file by a command finds.
+-- What the opening of a journal's file finds.
 use Rattle.std.specs.Prelude.{◌≡◌, ◌⊎◌, ℕ, List, Some, None}
 use Rattle.office_outside.specs.Disk.{IsQuiet, OnlyAsRead}
 use Rattle.office_outside.specs.Senses.{DiskSenses}
 use Rattle.slo_journal.specs.Front.{HasNoHeader}
 use Rattle.office_keep.specs.Files.{IsDamagedAt, IsWhole, StandsFor}
 use Rattle.office_keep.specs.Office.{OfficeOn}
-use Rattle.office_keep.specs.declared.unopened.Unopened.{Unopened}
-use Rattle.office_keep.specs.declared.unopened.Unopened.TheVariants.{NotAJournal, Damaged}
-use Rattle.office_keep.specs.declared.unopened.Unopened.TheVariants.{DiskFault, NoMemory}
+use Rattle.office_keep.specs.declared.fault.KeepFault.{KeepFault}
+use Rattle.office_keep.specs.declared.fault.KeepFault.TheVariants.{AlreadyThere, NotAJournal}
+use Rattle.office_keep.specs.declared.fault.KeepFault.TheVariants.{Damaged, DiskFault, NoMemory}
 
 -- The file has no header, or is damaged at some place.
 abbrev pub IsBad : List ℕ → Type 0
 IsBad file = HasNoHeader file ⊎ ((at : ℕ) × IsDamagedAt at file)
 
--- what a file that isn't opened was found to be
-abbrev pub IsFound : Unopened → List ℕ → Type 0
-IsFound NotAJournal file = HasNoHeader file
-IsFound (Damaged at) file = IsDamagedAt at file
-IsFound DiskFault file = Unit {0}
-IsFound NoMemory file = Unit {0}
-
--- So the file on this disk was found, where the disk tells it.
-abbrev pub IsFoundOn : {D : Type 0} → DiskSenses D → Unopened → D → Type 0
-IsFoundOn S why disk = (file : List ℕ) → S.content disk ≡ Some file → IsFound why file
+-- So the file on this disk, which isn't opened, was found to be, where the disk tells it. That a
+-- journal stands there already is no reason.
+abbrev pub IsFoundOn : {D : Type 0} → DiskSenses D → KeepFault → D → Type 0
+IsFoundOn S NotAJournal disk = (file : List ℕ) → S.content disk ≡ Some file → HasNoHeader file
+IsFoundOn S (Damaged at) disk =
+    (file : List ℕ) → S.content disk ≡ Some file → IsDamagedAt at file
+IsFoundOn S DiskFault disk = Unit {0}
+IsFoundOn S NoMemory disk = Unit {0}
+IsFoundOn S AlreadyThere disk = ⊥
 
 -- The file was opened: where the disk tells it, it stands for this office, which is whole, with
 -- nothing in doubt. No image came up till then, and a stop leaves just what was read.

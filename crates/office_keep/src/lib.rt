@@ -8,8 +8,6 @@ pub mod laws;
 mod office;
 mod opening;
 mod steps;
-mod unopened;
 
 pub use fault::{KeepFailed, KeepFault};
 pub use office::{Office, let_go};
-pub use unopened::{OpenFailed, Unopened, open_journal};

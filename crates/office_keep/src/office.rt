@@ -2,15 +2,15 @@
 ghost use Rattle.std.specs.Prelude.{◌≡◌, ◌≤◌, ◌⊎◌, [], List, ℕ, Option, Some, None, IfOk, IfErr};
 ghost use Rattle.std.specs.Prelude.{length, take};
 ghost use Rattle.slo_limits.specs.declared.TheConstants.{MAX_MINUTE};
-ghost use Rattle.office_outside.specs.Disk.{All, IsQuiet, LeavesOnly, OnlyAsRead};
+ghost use Rattle.office_outside.specs.Disk.{All, IsQuiet, LeavesOnly};
 ghost use Rattle.office_outside.specs.Faults.{RoseBy};
 ghost use Rattle.office_counter.specs.Steps.{HasRevisionsIn};
 ghost use Rattle.slo_journal.specs.Front.{HasNoHeader, IsHeader, IsMaking};
-ghost use Rattle.office_keep.specs.Files.{IsDamagedAt, IsWhole, StandsFor};
+ghost use Rattle.office_keep.specs.Files.{IsWhole};
 ghost use Rattle.office_keep.specs.Office.{IsBlamed, LeavesBy, Performs, SettlesBy, StandsSettled};
-ghost use Rattle.office_keep.specs.declared.fault.KeepFault.TheVariants.{AlreadyThere, Damaged};
-ghost use Rattle.office_keep.specs.declared.fault.KeepFault.TheVariants.{DiskFault, NoMemory};
-ghost use Rattle.office_keep.specs.declared.fault.KeepFault.TheVariants.{NotAJournal};
+ghost use Rattle.office_keep.specs.Opening.{IsFoundOn, IsOpened};
+ghost use Rattle.office_keep.specs.declared.fault.KeepFault.TheVariants.{AlreadyThere, DiskFault};
+ghost use Rattle.office_keep.specs.declared.fault.KeepFault.TheVariants.{NoMemory};
 
 use crate::fault::{fault_of_create, fault_of_open};
 use crate::opening::load;
@@ -96,18 +96,9 @@ impl<D: Disk + Drop> Office<D> {
     /// Opens a journal's file. It writes nothing. Once all is read it syncs, so that the office
     /// stands on bytes of which a stop leaves no others.
     pub fn open(alloc: Global, disk: D) -> Result<Office<D>, KeepFailed<D>>
-        ensures settled { IfOk result (λ office. office.doubt ≡ None) }
-        ensures whole { IfOk result (λ office. IsWhole office.office) }
-        ensures stands { IfOk result (λ office. (file : List ℕ) → D.senses.content disk ≡ Some file
-            → StandsFor office.office file) }
-        ensures damaged { IfErr result (λ e. (at : ℕ) → e.fault ≡ Damaged at
-            → (file : List ℕ) → D.senses.content disk ≡ Some file → IsDamagedAt at file) }
-        ensures not_a_journal { IfErr result (λ e. e.fault ≡ NotAJournal
-            → (file : List ℕ) → D.senses.content disk ≡ Some file → HasNoHeader file) }
+        ensures opened { IfOk result (λ office. IsOpened D.senses disk office) }
+        ensures found { IfErr result (λ e. IsFoundOn D.senses e.fault disk) }
         ensures others { IfErr result (λ e. e.fault ≡ AlreadyThere → ⊥) }
-        ensures quiet { IfOk result (λ office. IsQuiet D.senses disk office.disk) }
-        ensures only { IfOk result (λ office.
-            OnlyAsRead (D.senses.content disk) (D.senses.images office.disk)) }
         ensures quiet_err { IfErr result (λ e. IsQuiet D.senses disk e.disk) }
         ensures cause { IfErr result (λ e. e.fault ≡ DiskFault
             → RoseBy D.senses.faults disk e.disk) }

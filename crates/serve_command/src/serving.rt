@@ -1,7 +1,7 @@
 //! The serving of a journal's file over doors.
 ghost use Rattle.std.specs.Prelude.{◌≡◌};
 ghost use Rattle.office_outside.specs.Faults.{Rose, RoseBy};
-ghost use Rattle.office_keep.specs.declared.Unopened.TheVariants.{DiskFault};
+ghost use Rattle.office_keep.specs.declared.KeepFault.TheVariants.{DiskFault};
 ghost use Rattle.turn_counter.specs.Turns.{TurnAsks};
 ghost use Rattle.office_serving.specs.Serving.{front};
 ghost use Rattle.office_serving.specs.Visits.{looks};
@@ -9,7 +9,7 @@ ghost use Rattle.office_serving.specs.Workers.{site};
 ghost use Rattle.serve_command.specs.Serves.{EndsServer};
 
 use office_doors::{Door, Doors};
-use office_keep::{Unopened, open_journal};
+use office_keep::{KeepFault, Office};
 use office_outside::{Disk, Sink};
 use office_serving::{ServeEnd, serve};
 use std::alloc::Global;
@@ -22,7 +22,7 @@ pub enum ServerEnd {
     /// The journal was opened, and its serving ended so.
     Served(ServeEnd),
     /// The journal wasn't opened.
-    Unopened(Unopened),
+    Unopened(KeepFault),
 }
 
 /// Opens the journal on a disk, serves it to the visitors of doors at this port, and hands the disk
@@ -46,11 +46,11 @@ pub fn serve_journal<R: Wait + Threads + Sync, D: Disk + Send + Drop, S: Doors, 
     ensures doors { result.0 ≡ ServerEnd.Served ServeEnd.DoorsFault →
         Rose (S.faults doors.old) (S.faults doors.new) }
 {
-    match open_journal(alloc, disk) {
+    match Office::open(alloc, disk) {
         Ok(office) => {
             let (end, disk) = serve(rt, alloc, office, doors, port, ready);
             (ServerEnd::Served(end), disk)
         }
-        Err(failed) => (ServerEnd::Unopened(failed.why), failed.disk),
+        Err(failed) => (ServerEnd::Unopened(failed.fault), failed.disk),
     }
 }
