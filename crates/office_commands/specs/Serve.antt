@@ -1,14 +1,13 @@
 -- How `serve` ends, in statuses and lines.
-use Rattle.std.specs.Prelude.{◌≡◌, ◌≢◌, ℕ, List, Option, Some}
+use Rattle.std.specs.Prelude.{◌≡◌, ◌≢◌, ℕ, List, Option, Some, Result, Ok, Err}
 use Rattle.office_keep.specs.Opening.{IsBad, Opens}
+use Rattle.office_keep.specs.declared.KeepFault.{KeepFault}
 use Rattle.office_doors.specs.declared.Visit.{Visit}
 use Rattle.office_serving.specs.Serving.{Front, IsServed}
 use Rattle.office_serving.specs.Workers.{Site}
 use Rattle.office_serving.specs.declared.ServeEnd.{ServeEnd}
 use Rattle.office_serving.specs.declared.ServeEnd.TheVariants as serving
 use Rattle.serve_command.specs.Serves.{EndsServer}
-use Rattle.serve_command.specs.declared.ServerEnd.{ServerEnd}
-use Rattle.serve_command.specs.declared.ServerEnd.TheVariants.{Served, Unopened}
 use Rattle.office_commands.specs.Runs.{EndsWith}
 use Rattle.office_commands.specs.Unopened.{SettledUnopened}
 use Rattle.office_commands.specs.declared.ending.TheConstants as statuses
@@ -26,17 +25,17 @@ SettledServing serving.NoMemory status old new before now =
     EndsWith statuses.NO_MEMORY status old new before now
 
 -- The serving of a journal that was opened ends so, and a journal that wasn't opened so.
-abbrev pub SettledServer : ServerEnd → ℕ → Option (List ℕ) → Option (List ℕ) → ℕ → ℕ → Type 0
-SettledServer (Served end) status old new before now = SettledServing end status old new before now
-SettledServer (Unopened why) status old new before now =
-    SettledUnopened why status old new before now
+abbrev pub SettledServer : Result ServeEnd KeepFault → ℕ → Option (List ℕ) → Option (List ℕ) → ℕ
+    → ℕ → Type 0
+SettledServer (Ok end) status old new before now = SettledServing end status old new before now
+SettledServer (Err why) status old new before now = SettledUnopened why status old new before now
 
 -- A run of `serve` at a port, by how the serving of the journal ended: what the faults sink was
 -- told, and what became of the doors, the output and the disk.
 pub record RunsServe {D A I O C : Type 0} (S : DiskSenses D) (site : Site A I O C) (port status : ℕ)
     (said said_after : Option (List ℕ)) (tellings tellings_after : ℕ)
     (old new : Front A (Visit I O C)) (before after : D) : Type 0 where
-  pub end : ServerEnd
+  pub end : Result ServeEnd KeepFault
   pub settled : SettledServer end status said said_after tellings tellings_after
   pub serves : EndsServer S site port end old new before after
 

@@ -12,9 +12,10 @@ use crate::running::RunEnd;
 use crate::telling::tell_status;
 use crate::unopened::settle_unopened;
 use office_doors::{Door, Doors};
+use office_keep::KeepFault;
 use office_outside::{Disk, Sink};
 use office_serving::ServeEnd;
-use serve_command::{ServerEnd, serve_journal};
+use serve_command::serve_journal;
 use std::alloc::Global;
 use std::sync::Wait;
 use std::thread::Threads;
@@ -33,13 +34,13 @@ fn settle_serving<E: Sink>(end: ServeEnd, faults: &mut E) -> u8
 }
 
 /// The status of an end, whose line the faults sink is told.
-fn settle_server<E: Sink>(alloc: Global, end: ServerEnd, faults: &mut E) -> u8
+fn settle_server<E: Sink>(alloc: Global, end: Result<ServeEnd, KeepFault>, faults: &mut E) -> u8
     ensures { SettledServer end result (E.held faults.old) (E.held faults.new) (E.faults faults.old)
         (E.faults faults.new) }
 {
     match end {
-        ServerEnd::Served(end) => settle_serving(end, faults),
-        ServerEnd::Unopened(why) => settle_unopened(alloc, why, faults),
+        Ok(end) => settle_serving(end, faults),
+        Err(why) => settle_unopened(alloc, why, faults),
     }
 }
 

@@ -5,4 +5,4 @@
 
 mod serving;
 
-pub use serving::{ServerEnd, serve_journal};
+pub use serving::serve_journal;

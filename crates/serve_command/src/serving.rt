@@ -1,5 +1,5 @@
 //! The serving of a journal's file over doors.
-ghost use Rattle.std.specs.Prelude.{◌≡◌};
+ghost use Rattle.std.specs.Prelude.{◌≡◌, Ok, Err};
 ghost use Rattle.office_outside.specs.Faults.{Rose, RoseBy};
 ghost use Rattle.office_keep.specs.declared.KeepFault.TheVariants.{DiskFault};
 ghost use Rattle.turn_counter.specs.Turns.{TurnAsks};
@@ -16,17 +16,13 @@ use std::alloc::Global;
 use std::sync::Wait;
 use std::thread::Threads;
 
-/// How the serving of a journal to visitors ends.
-#[derive(Clone, Copy, Debug, Drop, PartialEq, Eq)]
-pub enum ServerEnd {
-    /// The journal was opened, and its serving ended so.
-    Served(ServeEnd),
-    /// The journal wasn't opened.
-    Unopened(KeepFault),
-}
-
 /// Opens the journal on a disk, serves it to the visitors of doors at this port, and hands the disk
-/// back. `ready` is told when the doors are open, before any visit is taken.
+/// back, with how the serving ended. `ready` is told when the doors are open, before any visit is
+/// taken.
+///
+/// # Errors
+///
+/// Why the journal wasn't opened.
 pub fn serve_journal<R: Wait + Threads + Sync, D: Disk + Send + Drop, S: Doors, K: Sink>(
     rt: &R,
     alloc: Global,
@@ -34,23 +30,23 @@ pub fn serve_journal<R: Wait + Threads + Sync, D: Disk + Send + Drop, S: Doors, 
     doors: &mut S,
     port: u16,
     ready: &mut K,
-) -> (ServerEnd, D)
+) -> (Result<ServeEnd, KeepFault>, D)
     ensures ends { EndsServer D.senses (site (TurnAsks D.senses)
         (looks S.One.In.left S.One.In.faults S.One.Out.held S.One.Out.faults S.One.Time.to_come)
         (λ d. S.One.told d) (λ d. S.One.faults d)) port result.0
         (front (S.told doors.old) (S.ports doors.old) (K.held ready.old))
         (front (S.told doors.new) (S.ports doors.new) (K.held ready.new)) disk result.1 }
-    ensures disk { result.0 ≡ ServerEnd.Unopened DiskFault → RoseBy D.senses.faults disk result.1 }
-    ensures write { result.0 ≡ ServerEnd.Served ServeEnd.WriteFault →
+    ensures disk { result.0 ≡ Err DiskFault → RoseBy D.senses.faults disk result.1 }
+    ensures write { result.0 ≡ Ok ServeEnd.WriteFault →
         Rose (K.faults ready.old) (K.faults ready.new) }
-    ensures doors { result.0 ≡ ServerEnd.Served ServeEnd.DoorsFault →
+    ensures doors { result.0 ≡ Ok ServeEnd.DoorsFault →
         Rose (S.faults doors.old) (S.faults doors.new) }
 {
     match Office::open(alloc, disk) {
         Ok(office) => {
             let (end, disk) = serve(rt, alloc, office, doors, port, ready);
-            (ServerEnd::Served(end), disk)
+            (Ok(end), disk)
         }
-        Err(failed) => (ServerEnd::Unopened(failed.fault), failed.disk),
+        Err(failed) => (Err(failed.fault), failed.disk),
     }
 }
