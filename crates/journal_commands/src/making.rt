@@ -1,7 +1,7 @@
 //! The making of a journal.
 ghost use Rattle.std.specs.Prelude.{◌≡◌, ◌⊎◌, ◌≤◌, IfOk, IfErr, string_bytes};
 ghost use Rattle.slo_limits.specs.declared.TheConstants.{MAX_MINUTE};
-ghost use Rattle.office_outside.specs.Faults.{Rose, RoseBy};
+ghost use Rattle.office_outside.specs.Faults.{RoseBy};
 ghost use Rattle.office_outside.specs.Told.{Gained, GainedPrefix};
 ghost use Rattle.office_keep.specs.declared.KeepFault.TheVariants.{AlreadyThere};
 ghost use Rattle.office_keep.specs.declared.KeepFault.TheVariants.{DiskFault};
@@ -82,7 +82,7 @@ fn tell_origin<K: Sink>(output: &mut K, line: &str) -> InitEnd
     ensures done { result ≡ InitEnd.Done → Gained line.now (K.held output.old) (K.held output.new) }
     ensures part { result ≡ InitEnd.WriteFault →
         GainedPrefix line.now (K.held output.old) (K.held output.new) }
-    ensures cause { result ≡ InitEnd.WriteFault → Rose (K.faults output.old) (K.faults output.new) }
+    ensures cause { result ≡ InitEnd.WriteFault → RoseBy K.faults output.old output.new }
     ensures other { (result ≡ InitEnd.Done) ⊎ (result ≡ InitEnd.WriteFault) }
     ensures later { K.faults output.old ≤ K.faults output.new }
 {
@@ -106,8 +106,7 @@ pub fn make_journal<D: Disk + Drop, C: Clock, K: Sink>(
         (bench disk (C.to_come clock.old) (K.held output.old))
         (bench result.1 (C.to_come clock.new) (K.held output.new)) }
     ensures disk { result.0 ≡ InitEnd.DiskFault → RoseBy D.senses.faults disk result.1 }
-    ensures write { result.0 ≡ InitEnd.WriteFault →
-        Rose (K.faults output.old) (K.faults output.new) }
+    ensures write { result.0 ≡ InitEnd.WriteFault → RoseBy K.faults output.old output.new }
     ensures later { D.senses.faults disk ≤ D.senses.faults result.1 }
     ensures later_output { K.faults output.old ≤ K.faults output.new }
 {

@@ -1,6 +1,6 @@
 //! The printing of a report over a journal's file.
 ghost use Rattle.std.specs.Prelude.{◌≡◌, ◌≤◌, true, false};
-ghost use Rattle.office_outside.specs.Faults.{Rose, RoseBy};
+ghost use Rattle.office_outside.specs.Faults.{RoseBy};
 ghost use Rattle.journal_commands.specs.Making.{bench};
 ghost use Rattle.journal_commands.specs.Reporting.{EndsOver, IsInRange, IsOutOfRange};
 ghost use Rattle.journal_commands.specs.Reporting.{Reports, minute_by};
@@ -63,8 +63,7 @@ fn print_over<K: Sink>(
 ) -> PrintEnd
     ensures ends { EndsOver asked reading result (K.held output.old) (K.held output.new)
         core.old.office }
-    ensures write { result ≡ PrintEnd.WriteFault →
-        Rose (K.faults output.old) (K.faults output.new) }
+    ensures write { result ≡ PrintEnd.WriteFault → RoseBy K.faults output.old output.new }
     ensures later { K.faults output.old ≤ K.faults output.new }
 {
     let at = minute_of(core, asked, reading);
@@ -96,7 +95,7 @@ pub fn print_report<D: Disk + Drop, C: Clock, K: Sink>(
     ensures disk { result.0 ≡ ReportEnd.Unopened KeepFault.DiskFault →
         RoseBy D.senses.faults disk result.1 }
     ensures write { result.0 ≡ ReportEnd.Opened PrintEnd.WriteFault →
-        Rose (K.faults output.old) (K.faults output.new) }
+        RoseBy K.faults output.old output.new }
     ensures later { D.senses.faults disk ≤ D.senses.faults result.1 }
     ensures later_output { K.faults output.old ≤ K.faults output.new }
 {

@@ -1,6 +1,6 @@
 //! The serving of a session over a journal's file.
 ghost use Rattle.std.specs.Prelude.{◌≡◌, None};
-ghost use Rattle.office_outside.specs.Faults.{Rose, RoseBy};
+ghost use Rattle.office_outside.specs.Faults.{RoseBy};
 ghost use Rattle.journal_commands.specs.Serving.{EndsServing, IsServed, outside};
 
 use office_keep::{KeepFault, Office};
@@ -31,10 +31,8 @@ fn serve<D: Disk + Drop, S: Source, K: Sink, C: Clock>(
     ensures served { IsServed D.senses office
         result.0 (outside (S.left input.old) (C.to_come clock.old) (K.held output.old))
         (outside (S.left input.new) (C.to_come clock.new) (K.held output.new)) result.1 }
-    ensures read { result.0 ≡ SessionEnd.ReadFault →
-        Rose (S.faults input.old) (S.faults input.new) }
-    ensures write { result.0 ≡ SessionEnd.WriteFault →
-        Rose (K.faults output.old) (K.faults output.new) }
+    ensures read { result.0 ≡ SessionEnd.ReadFault → RoseBy S.faults input.old input.new }
+    ensures write { result.0 ≡ SessionEnd.WriteFault → RoseBy K.faults output.old output.new }
 {
     office.disk_stands();
     let mut counter = OwnCounter::new(alloc, office);
@@ -65,9 +63,9 @@ pub fn run_session<D: Disk + Drop, S: Source, K: Sink, C: Clock>(
     ensures disk { result.0 ≡ PipeEnd.Unopened KeepFault.DiskFault →
         RoseBy D.senses.faults disk result.1 }
     ensures read { result.0 ≡ PipeEnd.Served SessionEnd.ReadFault →
-        Rose (S.faults input.old) (S.faults input.new) }
+        RoseBy S.faults input.old input.new }
     ensures write { result.0 ≡ PipeEnd.Served SessionEnd.WriteFault →
-        Rose (K.faults output.old) (K.faults output.new) }
+        RoseBy K.faults output.old output.new }
 {
     match Office::open(alloc, disk) {
         Ok(office) => {

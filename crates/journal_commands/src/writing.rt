@@ -1,6 +1,6 @@
 //! The writing of a whole text.
 ghost use Rattle.std.specs.Prelude.{OnErr, OnOk};
-ghost use Rattle.office_outside.specs.Faults.{HasCause};
+ghost use Rattle.office_outside.specs.Faults.{HasCauseBy};
 ghost use Rattle.office_outside.specs.Told.{Gained, GainedPrefix};
 
 use office_outside::{Failed, Sink, write_whole};
@@ -9,7 +9,7 @@ use office_outside::{Failed, Sink, write_whole};
 pub(crate) fn write_out<K: Sink>(output: &mut K, bytes: &[u8]) -> Result<(), Failed>
     ensures ok { OnOk result (Gained bytes.now (K.held output.old) (K.held output.new)) }
     ensures err { OnErr result (GainedPrefix bytes.now (K.held output.old) (K.held output.new)) }
-    ensures cause { HasCause (K.faults output.old) (K.faults output.new) result }
+    ensures cause { HasCauseBy K.faults output.old output.new result }
 {
     match write_whole(output, bytes) {
         Ok(()) => output.flush(),

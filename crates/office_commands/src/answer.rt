@@ -1,7 +1,7 @@
 //! The answer of a command: from its input to its output.
 ghost use Rattle.std.specs.Prelude.{◌≡◌, ◌≢◌, ◌+◌, ◌<◌, ◌≤◌, ◌⊎◌, ℕ, List, Ok, Err, Some, IfOk};
 ghost use Rattle.std.specs.Prelude.{OnOk, length, string_bytes};
-ghost use Rattle.office_outside.specs.Faults.{Rose};
+ghost use Rattle.office_outside.specs.Faults.{RoseBy};
 ghost use Rattle.office_outside.specs.Told.{Gained, GainedPrefix, HasNothingLeft};
 ghost use Rattle.office_commands.specs.Answer.{Answers, IsAnswer};
 ghost use Rattle.command_words.specs.Commands.{IsSound};
@@ -29,7 +29,7 @@ fn budget_input<S: Source>(alloc: Global, order: BudgetOrder, input: &mut S) -> 
         Answers (Command.Budget order) (S.left input.old) (Ok (string_bytes text))) }
     ensures refused { (refusal : RunRefusal) → result ≡ Err (Stop.Refused refusal) →
         Answers (Command.Budget order) (S.left input.old) (Err refusal) }
-    ensures read { result ≡ Err Stop.ReadFault → Rose (S.faults input.old) (S.faults input.new) }
+    ensures read { result ≡ Err Stop.ReadFault → RoseBy S.faults input.old input.new }
     ensures end { OnOk result (HasNothingLeft (S.left input.new)) }
     ensures later { S.faults input.old ≤ S.faults input.new }
     ensures takes { TakesAtMost (MAX_INPUT_BYTES + 1) (S.left input.old) (S.left input.new) }
@@ -56,7 +56,7 @@ fn check_input<S: Source>(alloc: Global, input: &mut S) -> Result<String, Stop>
         Answers Command.Check (S.left input.old) (Ok (string_bytes text))) }
     ensures refused { (refusal : RunRefusal) → result ≡ Err (Stop.Refused refusal) →
         Answers Command.Check (S.left input.old) (Err refusal) }
-    ensures read { result ≡ Err Stop.ReadFault → Rose (S.faults input.old) (S.faults input.new) }
+    ensures read { result ≡ Err Stop.ReadFault → RoseBy S.faults input.old input.new }
     ensures end { OnOk result (HasNothingLeft (S.left input.new)) }
     ensures later { S.faults input.old ≤ S.faults input.new }
     ensures takes { TakesAtMost (MAX_TEXT_BYTES + 1) (S.left input.old) (S.left input.new) }
@@ -76,7 +76,7 @@ fn answer_input<S: Source>(alloc: Global, command: Command, input: &mut S) -> Re
     ensures ok { IfOk result (λ text. Answers command (S.left input.old) (Ok (string_bytes text))) }
     ensures refused { (refusal : RunRefusal) → result ≡ Err (Stop.Refused refusal) →
         Answers command (S.left input.old) (Err refusal) }
-    ensures read { result ≡ Err Stop.ReadFault → Rose (S.faults input.old) (S.faults input.new) }
+    ensures read { result ≡ Err Stop.ReadFault → RoseBy S.faults input.old input.new }
     ensures end { OnOk result (HasNothingLeft (S.left input.new)) }
     ensures later { S.faults input.old ≤ S.faults input.new }
     ensures takes { TakesAtMost (most_bytes command + 1) (S.left input.old) (S.left input.new) }
@@ -92,7 +92,7 @@ pub fn write_lines<K: Sink>(output: &mut K, text: &str) -> Ending
     ensures done { result ≡ Ending.Done → Gained text.now (K.held output.old) (K.held output.new) }
     ensures part { result ≡ Ending.WriteFault →
         GainedPrefix text.now (K.held output.old) (K.held output.new) }
-    ensures cause { result ≡ Ending.WriteFault → Rose (K.faults output.old) (K.faults output.new) }
+    ensures cause { result ≡ Ending.WriteFault → RoseBy K.faults output.old output.new }
     ensures other { (result ≡ Ending.Done) ⊎ (result ≡ Ending.WriteFault) }
     ensures later { K.faults output.old ≤ K.faults output.new }
 {
@@ -118,8 +118,8 @@ pub fn print_answer<S: Source, K: Sink>(
         Answers command (S.left input.old) (Err refusal) }
     ensures quiet { result ≢ Ending.Done → result ≢ Ending.WriteFault →
         K.held output.new ≡ K.held output.old }
-    ensures read { result ≡ Ending.ReadFault → Rose (S.faults input.old) (S.faults input.new) }
-    ensures write { result ≡ Ending.WriteFault → Rose (K.faults output.old) (K.faults output.new) }
+    ensures read { result ≡ Ending.ReadFault → RoseBy S.faults input.old input.new }
+    ensures write { result ≡ Ending.WriteFault → RoseBy K.faults output.old output.new }
     ensures usage { result ≢ Ending.Usage }
     ensures end { result ≡ Ending.Done → HasNothingLeft (S.left input.new) }
     ensures takes { TakesAtMost (most_bytes command + 1) (S.left input.old) (S.left input.new) }
@@ -143,8 +143,7 @@ pub fn run_answer<S: Source, K: Sink, E: Sink>(
 ) -> u8
     requires { IsSound command }
     ensures status { IsStatus (Some command) (S.left input.old)
-        (Rose (S.faults input.old) (S.faults input.new))
-        (Rose (K.faults output.old) (K.faults output.new)) result }
+        (RoseBy S.faults input.old input.new) (RoseBy K.faults output.old output.new) result }
 
     // DONE: the output gained just the answer's lines, and the input was read to its end.
     ensures done { result ≡ DONE →
@@ -161,8 +160,8 @@ pub fn run_answer<S: Source, K: Sink, E: Sink>(
     ensures told { result ≢ DONE → result ≢ REFUSED →
         Tells (line_of_status result) (E.held faults.old) (E.held faults.new)
         (E.faults faults.old) (E.faults faults.new) }
-    ensures read { result ≡ READ_FAULT → Rose (S.faults input.old) (S.faults input.new) }
-    ensures write { result ≡ WRITE_FAULT → Rose (K.faults output.old) (K.faults output.new) }
+    ensures read { result ≡ READ_FAULT → RoseBy S.faults input.old input.new }
+    ensures write { result ≡ WRITE_FAULT → RoseBy K.faults output.old output.new }
     ensures others { result ≢ USAGE }
     ensures diskless { result ≢ DISK_FAULT }
 

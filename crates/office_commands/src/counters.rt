@@ -1,6 +1,6 @@
 //! `counters SLI`: writes the sample rows of the readings of the input.
 ghost use Rattle.std.specs.Prelude.{◌≡◌, ◌≢◌, IfOk, string_bytes};
-ghost use Rattle.office_outside.specs.Faults.{Rose};
+ghost use Rattle.office_outside.specs.Faults.{RoseBy};
 ghost use Rattle.office_commands.specs.Counters.{SettledCounters, SettledRefusal, WritesRows};
 ghost use Rattle.office_commands.specs.Counters.{refusal_line as refusal_line_of};
 
@@ -58,8 +58,8 @@ pub fn run_counters<S: Source, K: Sink, E: Sink>(
         × WritesRows sli end (S.left input.old) (S.left input.new)
         (K.held output.old) (K.held output.new) }
     ensures silent { result ≡ DONE → E.held faults.new ≡ E.held faults.old }
-    ensures read { result ≡ READ_FAULT → Rose (S.faults input.old) (S.faults input.new) }
-    ensures write { result ≡ WRITE_FAULT → Rose (K.faults output.old) (K.faults output.new) }
+    ensures read { result ≡ READ_FAULT → RoseBy S.faults input.old input.new }
+    ensures write { result ≡ WRITE_FAULT → RoseBy K.faults output.old output.new }
     ensures usable { result ≢ USAGE }
     ensures diskless { result ≢ DISK_FAULT }
 {

@@ -1,7 +1,7 @@
 //! `generate N`: prints the summary of a session of the sample stream of a number.
 ghost use Rattle.std.specs.Prelude.{◌≡◌, ◌≢◌, ◌≤◌};
 ghost use Rattle.sample_stream.specs.declared.stream.TheConstants.{MAX_NUMBER};
-ghost use Rattle.office_outside.specs.Faults.{Rose};
+ghost use Rattle.office_outside.specs.Faults.{RoseBy};
 ghost use Rattle.office_commands.specs.Generate.{EndsGenerating, SettledGenerate};
 
 use crate::answer::write_lines;
@@ -63,7 +63,7 @@ pub fn run_generate<K: Sink, E: Sink>(
         × EndsGenerating number end (K.held output.old) (K.held output.new)
         (K.faults output.old) (K.faults output.new) }
     ensures silent { result ≡ DONE → E.held faults.new ≡ E.held faults.old }
-    ensures write { result ≡ WRITE_FAULT → Rose (K.faults output.old) (K.faults output.new) }
+    ensures write { result ≡ WRITE_FAULT → RoseBy K.faults output.old output.new }
     ensures usable { result ≢ USAGE }
     ensures unread { result ≢ READ_FAULT }
     ensures diskless { result ≢ DISK_FAULT }

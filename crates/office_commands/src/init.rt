@@ -1,6 +1,6 @@
 //! `init` and `init ORIGIN`: makes the journal and prints its origin.
 ghost use Rattle.std.specs.Prelude.{◌≡◌, ◌≢◌};
-ghost use Rattle.office_outside.specs.Faults.{Rose, RoseBy};
+ghost use Rattle.office_outside.specs.Faults.{RoseBy};
 ghost use Rattle.journal_commands.specs.Making.{Makes, bench};
 ghost use Rattle.journal_commands.specs.declared.InitEnd.{InitEnd};
 ghost use Rattle.office_commands.specs.Init.{SettledInit};
@@ -42,8 +42,7 @@ pub fn run_init<K: Sink, E: Sink, D: Disk + Drop, C: Clock>(
         × Makes D.senses origin end (bench disk (C.to_come clock.old) (K.held output.old))
         (bench result.disk (C.to_come clock.new) (K.held output.new)) }
     ensures silent { result.status ≡ DONE → E.held faults.new ≡ E.held faults.old }
-    ensures write { result.status ≡ WRITE_FAULT →
-        Rose (K.faults output.old) (K.faults output.new) }
+    ensures write { result.status ≡ WRITE_FAULT → RoseBy K.faults output.old output.new }
     ensures disk { result.status ≡ DISK_FAULT → RoseBy D.senses.faults disk result.disk }
     ensures usable { result.status ≢ USAGE }
     ensures unread { result.status ≢ READ_FAULT }

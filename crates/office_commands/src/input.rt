@@ -1,6 +1,6 @@
 //! The input of a command, read to its end.
 ghost use Rattle.std.specs.Prelude.{◌≡◌, ◌+◌, ◌≤◌, ◌<◌, length, IfOk};
-ghost use Rattle.office_outside.specs.Faults.{HasCause, Rose};
+ghost use Rattle.office_outside.specs.Faults.{RoseBy};
 ghost use Rattle.budget_command.specs.Input.{HasMore, TakesAtMost};
 ghost use Rattle.office_commands.specs.Inputs.{HasRead};
 
@@ -28,8 +28,7 @@ pub fn read_input<S: Source>(
     ensures ok { IfOk result (λ bytes. HasRead bytes.items (S.left input.old) (S.left input.new)) }
     ensures small { IfOk result (λ bytes. length bytes.items ≤ most) }
     ensures large { result ≡ Err InputFault.TooLarge → HasMore most (S.left input.old) }
-    ensures read { result ≡ Err InputFault.ReadFault →
-        Rose (S.faults input.old) (S.faults input.new) }
+    ensures read { result ≡ Err InputFault.ReadFault → RoseBy S.faults input.old input.new }
     ensures later { S.faults input.old ≤ S.faults input.new }
     ensures takes { TakesAtMost (most + 1) (S.left input.old) (S.left input.new) }
 {

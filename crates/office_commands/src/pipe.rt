@@ -1,6 +1,6 @@
 //! `pipe`: opens the journal, and serves one session over the input and the output.
 ghost use Rattle.std.specs.Prelude.{◌≡◌, ◌≢◌};
-ghost use Rattle.office_outside.specs.Faults.{Rose, RoseBy};
+ghost use Rattle.office_outside.specs.Faults.{RoseBy};
 ghost use Rattle.journal_commands.specs.Serving.{EndsServing, outside};
 ghost use Rattle.journal_commands.specs.declared.PipeEnd.{PipeEnd};
 ghost use Rattle.office_commands.specs.Pipe.{SettledPipe, SettledSession};
@@ -54,9 +54,8 @@ pub fn run_pipe<S: Source, K: Sink, E: Sink, D: Disk + Drop, C: Clock>(
         (K.held output.old)) (outside (S.left input.new) (C.to_come clock.new) (K.held output.new))
         disk result.disk }
     ensures silent { result.status ≡ DONE → E.held faults.new ≡ E.held faults.old }
-    ensures read { result.status ≡ READ_FAULT → Rose (S.faults input.old) (S.faults input.new) }
-    ensures write { result.status ≡ WRITE_FAULT →
-        Rose (K.faults output.old) (K.faults output.new) }
+    ensures read { result.status ≡ READ_FAULT → RoseBy S.faults input.old input.new }
+    ensures write { result.status ≡ WRITE_FAULT → RoseBy K.faults output.old output.new }
     ensures disk { result.status ≡ DISK_FAULT → RoseBy D.senses.faults disk result.disk }
     ensures usable { result.status ≢ USAGE }
 {

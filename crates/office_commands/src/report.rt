@@ -1,6 +1,6 @@
 //! `report` and `report AT`: opens the journal, and prints the report over its history.
 ghost use Rattle.std.specs.Prelude.{◌≡◌, ◌≢◌};
-ghost use Rattle.office_outside.specs.Faults.{Rose, RoseBy};
+ghost use Rattle.office_outside.specs.Faults.{RoseBy};
 ghost use Rattle.journal_commands.specs.Making.{bench};
 ghost use Rattle.journal_commands.specs.Reporting.{Reports};
 ghost use Rattle.journal_commands.specs.declared.ReportEnd.{ReportEnd};
@@ -52,8 +52,7 @@ pub fn run_report<K: Sink, E: Sink, D: Disk + Drop, C: Clock>(
         × Reports D.senses at end (bench disk (C.to_come clock.old) (K.held output.old))
         (bench result.disk (C.to_come clock.new) (K.held output.new)) }
     ensures silent { result.status ≡ DONE → E.held faults.new ≡ E.held faults.old }
-    ensures write { result.status ≡ WRITE_FAULT →
-        Rose (K.faults output.old) (K.faults output.new) }
+    ensures write { result.status ≡ WRITE_FAULT → RoseBy K.faults output.old output.new }
     ensures disk { result.status ≡ DISK_FAULT → RoseBy D.senses.faults disk result.disk }
     ensures usable { result.status ≢ USAGE }
     ensures unread { result.status ≢ READ_FAULT }

@@ -1,6 +1,6 @@
 //! The top call.
 ghost use Rattle.std.specs.Prelude.{◌≡◌, ◌⊎◌, ℕ, Some, None, map, string_bytes};
-ghost use Rattle.office_outside.specs.Faults.{Rose, RoseBy};
+ghost use Rattle.office_outside.specs.Faults.{RoseBy};
 ghost use Rattle.command_words.specs.Commands.{asked_of};
 ghost use Rattle.command_words.specs.declared.Asked.TheVariants.{Serve};
 ghost use Rattle.turn_counter.specs.Turns.{TurnAsks};
@@ -100,11 +100,10 @@ pub fn run<
 
     // A run that is done tells nothing. A fault's status has that object's count as its cause.
     ensures silent { result.status ≡ DONE → E.held faults.new ≡ E.held faults.old }
-    ensures read { result.status ≡ READ_FAULT → Rose (S.faults input.old) (S.faults input.new) }
-    ensures write { result.status ≡ WRITE_FAULT →
-        Rose (K.faults output.old) (K.faults output.new) }
+    ensures read { result.status ≡ READ_FAULT → RoseBy S.faults input.old input.new }
+    ensures write { result.status ≡ WRITE_FAULT → RoseBy K.faults output.old output.new }
     ensures disk { result.status ≡ DISK_FAULT → RoseBy D.senses.faults disk result.disk }
-    ensures doors { result.status ≡ DOORS_FAULT → Rose (A.faults doors.old) (A.faults doors.new) }
+    ensures doors { result.status ≡ DOORS_FAULT → RoseBy A.faults doors.old doors.new }
 {
     let alloc = rt.alloc();
     match read_words(alloc, words) {

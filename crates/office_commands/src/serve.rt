@@ -1,6 +1,6 @@
 //! `serve`: opens the journal, and serves it to the visitors of doors.
 ghost use Rattle.std.specs.Prelude.{◌≡◌, ◌≢◌};
-ghost use Rattle.office_outside.specs.Faults.{Rose, RoseBy};
+ghost use Rattle.office_outside.specs.Faults.{RoseBy};
 ghost use Rattle.turn_counter.specs.Turns.{TurnAsks};
 ghost use Rattle.office_serving.specs.Serving.{front};
 ghost use Rattle.office_serving.specs.Visits.{looks};
@@ -61,10 +61,9 @@ pub fn run_serve<R: Wait + Threads + Sync, K: Sink, E: Sink, D: Disk + Send + Dr
         (front (S.told doors.old) (S.ports doors.old) (K.held output.old))
         (front (S.told doors.new) (S.ports doors.new) (K.held output.new)) disk result.disk }
     ensures silent { result.status ≡ DONE → E.held faults.new ≡ E.held faults.old }
-    ensures write { result.status ≡ WRITE_FAULT →
-        Rose (K.faults output.old) (K.faults output.new) }
+    ensures write { result.status ≡ WRITE_FAULT → RoseBy K.faults output.old output.new }
     ensures disk { result.status ≡ DISK_FAULT → RoseBy D.senses.faults disk result.disk }
-    ensures doors { result.status ≡ DOORS_FAULT → Rose (S.faults doors.old) (S.faults doors.new) }
+    ensures doors { result.status ≡ DOORS_FAULT → RoseBy S.faults doors.old doors.new }
     ensures usable { result.status ≢ USAGE }
 {
     let (end, disk) = serve_journal(rt, alloc, disk, doors, port, output);

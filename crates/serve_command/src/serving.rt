@@ -1,6 +1,6 @@
 //! The serving of a journal's file over doors.
 ghost use Rattle.std.specs.Prelude.{◌≡◌, Ok, Err};
-ghost use Rattle.office_outside.specs.Faults.{Rose, RoseBy};
+ghost use Rattle.office_outside.specs.Faults.{RoseBy};
 ghost use Rattle.office_keep.specs.declared.KeepFault.TheVariants.{DiskFault};
 ghost use Rattle.turn_counter.specs.Turns.{TurnAsks};
 ghost use Rattle.office_serving.specs.Serving.{front};
@@ -37,10 +37,8 @@ pub fn serve_journal<R: Wait + Threads + Sync, D: Disk + Send + Drop, S: Doors, 
         (front (S.told doors.old) (S.ports doors.old) (K.held ready.old))
         (front (S.told doors.new) (S.ports doors.new) (K.held ready.new)) disk result.1 }
     ensures disk { result.0 ≡ Err DiskFault → RoseBy D.senses.faults disk result.1 }
-    ensures write { result.0 ≡ Ok ServeEnd.WriteFault →
-        Rose (K.faults ready.old) (K.faults ready.new) }
-    ensures doors { result.0 ≡ Ok ServeEnd.DoorsFault →
-        Rose (S.faults doors.old) (S.faults doors.new) }
+    ensures write { result.0 ≡ Ok ServeEnd.WriteFault → RoseBy K.faults ready.old ready.new }
+    ensures doors { result.0 ≡ Ok ServeEnd.DoorsFault → RoseBy S.faults doors.old doors.new }
 {
     match Office::open(alloc, disk) {
         Ok(office) => {
