@@ -5,7 +5,7 @@ use Rattle.office_keep.specs.Opening.{IsBad, Opens}
 use Rattle.office_keep.specs.declared.KeepFault.{KeepFault}
 use Rattle.office_doors.specs.declared.Visit.{Visit}
 use Rattle.office_serving.specs.Serving.{Front, IsServed}
-use Rattle.office_serving.specs.Workers.{Site}
+use Rattle.office_serving.specs.Workers.{DeskSenses}
 use Rattle.office_serving.specs.declared.ServeEnd.{ServeEnd}
 use Rattle.office_serving.specs.declared.ServeEnd.TheVariants as serving
 use Rattle.serve_command.specs.Serves.{EndsServer}
@@ -32,7 +32,7 @@ module _ (status : ℕ) (said said_after : Option (List ℕ)) (tellings tellings
   server_unrefused (Err why) s e =
       unopened_not_refused status said said_after tellings tellings_after why s e
 
-module _ {D A I O C : Type 0} (S : DiskSenses D) (site : Site A I O C) (port status : ℕ)
+module _ {D A I O C : Type 0} (S : DiskSenses D) (site : DeskSenses A I O C) (port status : ℕ)
     (said said_after : Option (List ℕ)) (tellings tellings_after : ℕ)
     (old new : Front A (Visit I O C)) (before after : D) where
   pub server_bad : (end : Result ServeEnd KeepFault) →

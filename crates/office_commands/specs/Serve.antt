@@ -4,7 +4,7 @@ use Rattle.office_keep.specs.Opening.{IsBad, Opens}
 use Rattle.office_keep.specs.declared.KeepFault.{KeepFault}
 use Rattle.office_doors.specs.declared.Visit.{Visit}
 use Rattle.office_serving.specs.Serving.{Front, IsServed}
-use Rattle.office_serving.specs.Workers.{Site}
+use Rattle.office_serving.specs.Workers.{DeskSenses}
 use Rattle.office_serving.specs.declared.ServeEnd.{ServeEnd}
 use Rattle.office_serving.specs.declared.ServeEnd.TheVariants as serving
 use Rattle.serve_command.specs.Serves.{EndsServer}
@@ -32,7 +32,7 @@ SettledServer (Err why) status old new before now = SettledUnopened why status o
 
 -- A run of `serve` at a port, by how the serving of the journal ended: what the faults sink was
 -- told, and what became of the doors, the output and the disk.
-pub record RunsServe {D A I O C : Type 0} (S : DiskSenses D) (site : Site A I O C) (port status : ℕ)
+pub record RunsServe {D A I O C : Type 0} (S : DiskSenses D) (site : DeskSenses A I O C) (port status : ℕ)
     (said said_after : Option (List ℕ)) (tellings tellings_after : ℕ)
     (old new : Front A (Visit I O C)) (before after : D) : Type 0 where
   pub end : Result ServeEnd KeepFault
@@ -42,7 +42,7 @@ pub record RunsServe {D A I O C : Type 0} (S : DiskSenses D) (site : Site A I O 
 -- What the status of a run of `serve` says: BAD_FILE only where the file has no header, or is
 -- damaged; DONE only where the office for which the file stands was served until each door had
 -- handed out all its visits. It is never REFUSED.
-pub record SaysServeStatus {D A I O C : Type 0} (S : DiskSenses D) (site : Site A I O C)
+pub record SaysServeStatus {D A I O C : Type 0} (S : DiskSenses D) (site : DeskSenses A I O C)
     (port status : ℕ) (old new : Front A (Visit I O C)) (before after : D) : Type 0 where
   pub bad_file : status ≡ statuses.BAD_FILE → (file : List ℕ) → S.content before ≡ Some file →
       IsBad file
@@ -51,7 +51,7 @@ pub record SaysServeStatus {D A I O C : Type 0} (S : DiskSenses D) (site : Site 
   pub unrefused : status ≢ statuses.REFUSED
 
 -- Each run of `serve` ends with a status that says so.
-abbrev pub ServeStatusesSay : {D A I O C : Type 0} → DiskSenses D → Site A I O C → Type 0
+abbrev pub ServeStatusesSay : {D A I O C : Type 0} → DiskSenses D → DeskSenses A I O C → Type 0
 ServeStatusesSay {D} {A} {I} {O} {C} S site =
     (port status : ℕ) (said said_after : Option (List ℕ)) (tellings tellings_after : ℕ)
     (old new : Front A (Visit I O C)) (before after : D) →

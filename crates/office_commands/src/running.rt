@@ -5,8 +5,8 @@ ghost use Rattle.command_words.specs.Commands.{asked_of};
 ghost use Rattle.command_words.specs.declared.Asked.TheVariants.{Serve};
 ghost use Rattle.turn_counter.specs.Turns.{TurnAsks};
 ghost use Rattle.office_serving.specs.Serving.{front};
-ghost use Rattle.office_serving.specs.Visits.{looks};
-ghost use Rattle.office_serving.specs.Workers.{site};
+ghost use Rattle.visit_workers.specs.Visits.{looks};
+ghost use Rattle.visit_workers.specs.Workers.{site};
 ghost use Rattle.office_commands.specs.Serve.{RunsServe};
 ghost use Rattle.office_commands.specs.Worlds.{IsOffDisk, IsOffDoors, Runs, world};
 

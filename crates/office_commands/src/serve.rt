@@ -3,8 +3,8 @@ ghost use Rattle.std.specs.Prelude.{◌≡◌, ◌≢◌};
 ghost use Rattle.office_outside.specs.Faults.{RoseBy};
 ghost use Rattle.turn_counter.specs.Turns.{TurnAsks};
 ghost use Rattle.office_serving.specs.Serving.{front};
-ghost use Rattle.office_serving.specs.Visits.{looks};
-ghost use Rattle.office_serving.specs.Workers.{site};
+ghost use Rattle.visit_workers.specs.Visits.{looks};
+ghost use Rattle.visit_workers.specs.Workers.{site};
 ghost use Rattle.office_commands.specs.Serve.{RunsServe, SettledServer, SettledServing};
 
 use crate::ending::{DISK_FAULT, DONE, DOORS_FAULT, NO_MEMORY, USAGE, WRITE_FAULT};

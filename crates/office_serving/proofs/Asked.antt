@@ -5,6 +5,7 @@ use Rattle.std.proofs.Common.{arith}
 use Rattle.std.specs.Prelude.{All, slice_get}
 use Rattle.std.specs.List.{AllByRecursion}
 use Rattle.std.proofs.lemmas.List.{length-map}
+use Rattle.std.proofs.lemmas.List.Elements.{All-weaker, recursion_from_All}
 use Rattle.std.proofs.lemmas.Option.{slice_get_within}
 use Rattle.turn_desk.specs.Histories.{Has}
 use Rattle.turn_desk.specs.Passes.{PassState}
@@ -12,7 +13,6 @@ use Rattle.turn_desk.specs.Sources.{Accounts, AreAll, HasDoubt, own_of, raised_o
 use Rattle.turn_desk.specs.Sources.{total}
 use Rattle.turn_desk.specs.declared.Doubt.{Doubt}
 use Rattle.turn_desk.specs.declared.Opening.{Opening}
-use Rattle.turn_desk.proofs.Gathering.{Each}
 use Rattle.turn_desk.proofs.Histories.{has_append}
 use Rattle.office_doors.specs.declared.Visit.{Visit}
 use Rattle.record_form.specs.declared.Entry.{Entry}
@@ -29,31 +29,31 @@ use Rattle.office_keep.specs.Files.{IsWhole, records}
 use Rattle.turn_counter.proofs.Asked.{Does, at_later, behind_later, by_one_left, by_one_right}
 use Rattle.turn_counter.proofs.Asked.{doubt_append}
 use Rattle.turn_counter.proofs.Reading.{entry_back}
+use Rattle.visit_workers.specs.Visits.{Chain, Service}
+use Rattle.visit_workers.specs.Workers.{WorksEach}
 use Rattle.office_serving.specs.Asked.{AddsNoOther, IsDoubted, turns_of_chain}
-use Rattle.office_serving.specs.Visits.{Chain, Service}
-use Rattle.office_serving.specs.Workers.{GoesOn, Site, WorksEach, turns_of_workers}
-use Rattle.office_serving.proofs.Lists.{all_more, each_of}
+use Rattle.office_serving.specs.Workers.{DeskSenses, GoesOn, passes_like, turns_of_workers}
 
 -- the passes that workers leave are all that the desk was opened for
 pub are_all : (start : PassState) (passes : List PassState) → All (λ p. GoesOn start p) passes
     → start.parts ≡ 1 → start.has_split ≡ false → length passes ≡ start.opening.passes
     → AreAll start.opening passes
 are_all start passes go one none count = record {
-  opened = all_more (λ p. GoesOn start p) (λ p. p.opening ≡ start.opening) passes
-      (λ p g. g.stays.opening) go;
-  whole = ones passes (each_of (λ p. GoesOn start p) passes go) ∙ count;
-  none_split = all_more (λ p. GoesOn start p) (λ p. p.has_split ≡ false) passes
-      (λ p g. g.stays.has_split ∙ none) go;
+  opened = All-weaker (λ p. GoesOn start p) (λ p. p.opening ≡ start.opening)
+      (λ p g. g.stays.opening) passes go;
+  whole = ones passes (recursion_from_All (λ p. GoesOn start p) passes go) ∙ count;
+  none_split = All-weaker (λ p. GoesOn start p) (λ p. p.has_split ≡ false)
+      (λ p g. g.stays.has_split ∙ none) passes go;
 }
   where
-    ones : (ps : List PassState) → Each (λ p. GoesOn start p) ps
+    ones : (ps : List PassState) → AllByRecursion (λ p. GoesOn start p) ps
         → total (λ p. p.parts) ps ≡ length ps
     ones [] none = refl
     ones (p ∷ ps) (g, rest) = let later = ones ps rest in
         let here : p.parts ≡ 1 = g.stays.parts ∙ one in omega (arith, later, here)
 
 -- where each worker makes what the messages of its visits ask for, all of them do
-module _ {A I O C : Type 0} (site : Site A I O C) (start : PassState) (last : Office)
+module _ {A I O C : Type 0} (site : DeskSenses A I O C) (start : PassState) (last : Office)
     (does : (services : List (Service (Visit I O C))) (new : PassState)
     (chain : Chain site.asks site.look start services new)
     → Does (turns_of_chain site.asks site.look start services new chain) start new)
@@ -66,15 +66,16 @@ module _ {A I O C : Type 0} (site : Site A I O C) (start : PassState) (last : Of
 
   -- the places of all turns
   abbrev pub places_of : (opened closed : List A) (ends : List PassState)
-      → WorksEach site start opened closed ends → List (Option ℕ)
+      → WorksEach site (passes_like start opened) opened closed ends → List (Option ℕ)
   places_of (o ∷ os) (c ∷ cs) (e ∷ es) (works, others) =
       (does works.services e works.chain).1.places ++ places_of os cs es others
   places_of opened closed ends works = []
 
   pub own_asked : (opened closed : List A) (ends : List PassState)
-      (works : WorksEach site start opened closed ends)
-      → Each (λ p. Extends (office_seen p) last) ends → (place : ℕ) → Has (own_of ends) place
-      → AsksAt (turns_of_workers site start opened closed ends works)
+      (works : WorksEach site (passes_like start opened) opened closed ends)
+      → AllByRecursion (λ p. Extends (office_seen p) last) ends → (place : ℕ)
+      → Has (own_of ends) place
+      → AsksAt (turns_of_workers site (passes_like start opened) opened closed ends works)
       (places_of opened closed ends works) last place
   own_asked [] [] [] works each place had = absurd had
   own_asked [] [] (e ∷ es) works each place had = absurd works
@@ -83,7 +84,7 @@ module _ {A I O C : Type 0} (site : Site A I O C) (start : PassState) (last : Of
   own_asked (o ∷ os) (c ∷ cs) [] works each place had = absurd works
   own_asked (o ∷ os) (c ∷ cs) (e ∷ es) (works, others) (here, rest) place had =
       let mine = turns_of_chain site.asks site.look start works.services e works.chain in
-      let more = turns_of_workers site start os cs es others in
+      let more = turns_of_workers site (passes_like start os) os cs es others in
       let made = (does works.services e works.chain).1 in
       let ps = made.places in
       let qs = places_of os cs es others in
@@ -98,10 +99,10 @@ module _ {A I O C : Type 0} (site : Site A I O C) (start : PassState) (last : Of
       (has_append e.own (own_of es) place had)
 
   pub raised_asked : (opened closed : List A) (ends : List PassState)
-      (works : WorksEach site start opened closed ends)
-      → Each (λ p. Extends (office_seen p) last) ends → (place : ℕ) (bytes : List ℕ)
+      (works : WorksEach site (passes_like start opened) opened closed ends)
+      → AllByRecursion (λ p. Extends (office_seen p) last) ends → (place : ℕ) (bytes : List ℕ)
       → HasDoubt (raised_of ends) place bytes
-      → AsksBehind (turns_of_workers site start opened closed ends works)
+      → AsksBehind (turns_of_workers site (passes_like start opened) opened closed ends works)
       (places_of opened closed ends works) last place bytes
   raised_asked [] [] [] works each place bytes had = absurd had
   raised_asked [] [] (e ∷ es) works each place bytes had = absurd works
@@ -110,7 +111,7 @@ module _ {A I O C : Type 0} (site : Site A I O C) (start : PassState) (last : Of
   raised_asked (o ∷ os) (c ∷ cs) [] works each place bytes had = absurd works
   raised_asked (o ∷ os) (c ∷ cs) (e ∷ es) (works, others) (here, rest) place bytes had =
       let mine = turns_of_chain site.asks site.look start works.services e works.chain in
-      let more = turns_of_workers site start os cs es others in
+      let more = turns_of_workers site (passes_like start os) os cs es others in
       let made = (does works.services e works.chain).1 in
       let ps = made.places in
       let qs = places_of os cs es others in
@@ -180,7 +181,7 @@ module _ (back : EntriesAreReadBack) (turns : List Turn) (places : List (Option 
 
 -- nothing is made by passes that are as they were
 pub none_made : (start : PassState) (passes : List PassState) → start.own ≡ []
-    → Each (λ p. p ≡ start) passes → (place : ℕ) → Has (own_of passes) place → ⊥
+    → AllByRecursion (λ p. p ≡ start) passes → (place : ℕ) → Has (own_of passes) place → ⊥
 none_made start [] none each place had = had
 none_made start (p ∷ ps) none (same, rest) place had = ⊎_elim
     (λ own. subst (λ (l : List ℕ). Has l place)
@@ -188,7 +189,7 @@ none_made start (p ∷ ps) none (same, rest) place had = ⊎_elim
     (λ later. none_made start ps none rest place later) (has_append p.own (own_of ps) place had)
 
 pub none_raised : (start : PassState) (passes : List PassState) → start.raised ≡ []
-    → Each (λ p. p ≡ start) passes → (place : ℕ) (bytes : List ℕ)
+    → AllByRecursion (λ p. p ≡ start) passes → (place : ℕ) (bytes : List ℕ)
     → HasDoubt (raised_of passes) place bytes → ⊥
 none_raised start [] none each place bytes had = had
 none_raised start (p ∷ ps) none (same, rest) place bytes had = ⊎_elim

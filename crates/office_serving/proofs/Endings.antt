@@ -1,8 +1,10 @@
 -- How the serving of an office ends, from what its parts say.
-use Rattle.std.proofs.Common.{◌≡◌, ◌<◌, ◌≤◌, ◌+◌, ℕ, Bool, true, false, List, [], ◌++◌, length}
+use Rattle.std.proofs.Common.{◌≡◌, ◌<◌, ◌≤◌, ◌+◌, ℕ, Bool, true, false, List, [], ◌∷◌, ◌++◌, length}
 use Rattle.std.proofs.Common.{refl, sym, ap, subst, ◌∙◌, arith, append-nil, inl, inr}
 use Rattle.std.specs.Prelude.{All, flat_map, slice_index_or}
+use Rattle.std.specs.List.{AllByRecursion}
 use Rattle.std.specs.declared.option.Option.{Option}
+use Rattle.std.proofs.lemmas.List.Elements.{All-from_recursion, All-weaker, recursion_from_All}
 use Rattle.atomic_table.specs.Seated.{TableId}
 use Rattle.slo_limits.specs.declared.TheConstants.{MAX_MINUTE}
 use Rattle.office_outside.specs.Disk as disks
@@ -19,28 +21,30 @@ use Rattle.office_doors.specs.declared.Visit.{Visit}
 use Rattle.record_form.specs.Laws.{EntriesAreReadBack}
 use Rattle.office_history.specs.History.{Office}
 use Rattle.office_counter.specs.Laws.{Extends, IsOwned}
+use Rattle.office_counter.specs.Steps.{Standing}
 use Rattle.office_counter.proofs.Steps.{extends_both, extends_still}
 use Rattle.office_keep.specs.Files.{IsWhole, records}
 use Rattle.office_keep.specs.Office.{OfficeOn, StandsSettled}
 use Rattle.turn_counter.specs.Holding.{NewPassesSeeAll, PassesSeeBeginnings}
 use Rattle.turn_counter.specs.Seen.{ledger_of, office_seen, standing_of}
 use Rattle.turn_counter.proofs.Asked.{Does}
+use Rattle.visit_workers.specs.Visits.{Chain, Service, Works}
+use Rattle.visit_workers.specs.Workers.{AreClosed, RanWorkers, Site, WorksEach}
+use Rattle.visit_workers.proofs.Chains.{moves_both, moves_still}
 use Rattle.office_serving.specs.Asked.{AddsNoOther, turns_of_chain}
 use Rattle.office_serving.specs.Serving.{AreOpened, AskedAt, EndsServing, Front, IsServed, Ran}
 use Rattle.office_serving.specs.Serving.{NoneOpened, SaidNotReady, WereOpen, front, ready_line}
-use Rattle.office_serving.specs.Visits.{Chain, Service}
-use Rattle.office_serving.specs.Workers.{AreClosed, GoesOn, RanWorkers, Site, WorkersServe}
-use Rattle.office_serving.specs.Workers.{WorksEach, turns_of_workers}
+use Rattle.office_serving.specs.Workers.{DeskSenses, GoesOn, WorkersServe, passes_like}
+use Rattle.office_serving.specs.Workers.{turns_of_workers}
 use Rattle.office_serving.specs.declared.serving.ServeEnd.{ServeEnd}
 use Rattle.office_serving.specs.declared.serving.ServeEnd.TheVariants.{Done, DoorsFault}
 use Rattle.office_serving.specs.declared.serving.ServeEnd.TheVariants.{NoMemory, WriteFault}
-use Rattle.office_serving.specs.declared.workers.TheConstants.{WORKERS}
+use Rattle.office_serving.specs.declared.serving.TheConstants.{WORKERS}
 use Rattle.office_serving.proofs.Asked.{adds_no_other, are_all, none_made, none_raised, own_asked}
 use Rattle.office_serving.proofs.Asked.{places_of, raised_asked, still_no_other}
-use Rattle.office_serving.proofs.Chains.{moves_both, moves_still}
-use Rattle.office_serving.proofs.Lists.{all_more, each_of}
+use Rattle.office_serving.proofs.Growing.{goes_still}
 
-module _ {A I O C : Type 0} (site : Site A I O C) (port : ℕ) where
+module _ {T A I O C : Type 0} (site : Site T A I O C) (port : ℕ) where
   open_book : (opened closed : List A) → length opened ≡ WORKERS
       → (a b c : Entrance A (Visit I O C)) → Opens site.told opened a b → AreClosed closed b c
       → WereOpen site.told opened closed a c
@@ -80,50 +84,62 @@ module _ {A I O C : Type 0} (site : Site A I O C) (port : ℕ) where
         idle = idle;
       }
 
-  abbrev ran : (start : PassState) (opened : List A) (a b c : Option (Entrance A (Visit I O C)))
-      (ports ports_after : List ℕ) (held held_after : Option (List ℕ)) (ends : List PassState)
-      (well : Bool) → AreOpened site opened a → AskedAt port ports ports_after
-      → Gained ready_line held held_after
-      → Moves (Opens site.told opened) a b → RanWorkers site start opened b c ends well
-      → Ran site port (λ o d. WorksEach site start o d ends) (front a ports held)
-      (front c ports_after held_after)
-  ran start opened a b c ports after held held_after ends well are asked ready opens r = record {
-    opened = opened;
-    closed = r.closed;
-    asked = asked;
-    are_opened = are;
-    ready = ready;
-    serve = r.works;
-    were_open = were_open opened r.closed are.count a b c opens r.were_closed;
-    back = r.back;
-  }
-
-  pub after_work : (IfIdle : Type 0) (start : PassState) (opened : List A)
+  abbrev ran : (standing : T → Standing) (starts : List T) (opened : List A)
       (a b c : Option (Entrance A (Visit I O C))) (ports ports_after : List ℕ)
-      (held held_after : Option (List ℕ))
-      (ends : List PassState) (well : Bool) (end : ServeEnd)
+      (held held_after : Option (List ℕ)) (ends : List T) (well : Bool)
+      → AreOpened site opened a → AskedAt port ports ports_after
+      → Gained ready_line held held_after
+      → Moves (Opens site.told opened) a b → RanWorkers site standing starts opened b c ends well
+      → Ran site port (λ o d. WorksEach site starts o d ends) (front a ports held)
+      (front c ports_after held_after)
+  ran standing starts opened a b c ports after held held_after ends well are asked ready opens r =
+      record {
+        opened = opened;
+        closed = r.closed;
+        asked = asked;
+        are_opened = are;
+        ready = ready;
+        serve = r.works;
+        were_open = were_open opened r.closed are.count a b c opens r.were_closed;
+        back = r.back;
+      }
+
+  pub after_work : (IfIdle : Type 0) (standing : T → Standing) (starts : List T) (opened : List A)
+      (a b c : Option (Entrance A (Visit I O C))) (ports ports_after : List ℕ)
+      (held held_after : Option (List ℕ)) (ends : List T) (well : Bool) (end : ServeEnd)
       → (well ≡ true → end ≡ Done) → (well ≡ false → end ≡ DoorsFault)
       → AreOpened site opened a → AskedAt port ports ports_after
       → Gained ready_line held held_after
-      → Moves (Opens site.told opened) a b → RanWorkers site start opened b c ends well
-      → EndsServing site port (λ o d. WorksEach site start o d ends) IfIdle end
+      → Moves (Opens site.told opened) a b → RanWorkers site standing starts opened b c ends well
+      → EndsServing site port (λ o d. WorksEach site starts o d ends) IfIdle end
       (front a ports held) (front c ports_after held_after)
-  after_work IfIdle start opened a b c ports ports_after held held_after ends true end if_well
-      if_not are asked ready opens r =
-      subst (λ (e : ServeEnd). EndsServing site port (λ o d. WorksEach site start o d ends)
+  after_work IfIdle standing starts opened a b c ports ports_after held held_after ends true end
+      if_well if_not are asked ready opens r =
+      subst (λ (e : ServeEnd). EndsServing site port (λ o d. WorksEach site starts o d ends)
       IfIdle e (front a ports held) (front c ports_after held_after)) (sym (if_well refl))
       (record {
-        ran =
-            ran start opened a b c ports ports_after held held_after ends true are asked ready opens
-            r;
+        ran = ran standing starts opened a b c ports ports_after held held_after ends true are asked
+            ready opens r;
         ended = r.ended refl;
       })
-  after_work IfIdle start opened a b c ports ports_after held held_after ends false end if_well
-      if_not are asked ready opens r =
-      subst (λ (e : ServeEnd). EndsServing site port (λ o d. WorksEach site start o d ends)
+  after_work IfIdle standing starts opened a b c ports ports_after held held_after ends false end
+      if_well if_not are asked ready opens r =
+      subst (λ (e : ServeEnd). EndsServing site port (λ o d. WorksEach site starts o d ends)
       IfIdle e (front a ports held) (front c ports_after held_after)) (sym (if_not refl))
-      (inl (ran start opened a b c ports ports_after held held_after ends false are asked ready
-      opens r))
+      (inl (ran standing starts opened a b c ports ports_after held held_after ends false are asked
+      ready opens r))
+
+  -- the same counters, as other lists
+  pub as_lists : (starts started ends ended : List T) → starts ≡ started → ended ≡ ends
+      → (end : ServeEnd) (old new : Front A (Visit I O C))
+      → EndsServing site port (λ o d. WorksEach site starts o d ends) (ends ≡ starts) end old new
+      → EndsServing site port (λ o d. WorksEach site started o d ended) (ended ≡ started) end old
+      new
+  as_lists starts started ends ended began ends_are end old new e =
+      subst (λ (l : List T). EndsServing site port (λ o d. WorksEach site l o d ended)
+      (ended ≡ l) end old new) began
+      (subst (λ (l : List T). EndsServing site port (λ o d. WorksEach site starts o d l)
+      (l ≡ starts) end old new) (sym ends_are) e)
 
   module _ (Serve Other : List A → List A → Type 0) (IfIdle Else : Type 0)
       (more : (o d : List A) → Serve o d → Other o d) (less : IfIdle → Else)
@@ -164,14 +180,83 @@ module _ {A I O C : Type 0} (site : Site A I O C) (port : ℕ) where
     ends_more DoorsFault (inr none) = inr (none_more none)
     ends_more NoMemory e = none_more e
 
+-- workers whose passes began alike
+module _ {A I O C : Type 0} (site : DeskSenses A I O C) (port : ℕ) (start : PassState)
+    (ends : List PassState) where
+  each_alike : (starts : List PassState) (opened closed : List A) (es : List PassState)
+      → AllByRecursion (λ p. p ≡ start) starts → WorksEach site starts opened closed es
+      → WorksEach site (passes_like start opened) opened closed es
+  each_alike [] [] [] [] begins works = tt
+  each_alike [] [] [] (e ∷ es) begins works = absurd works
+  each_alike [] [] (c ∷ cs) es begins works = absurd works
+  each_alike [] (o ∷ os) closed es begins works = absurd works
+  each_alike (p ∷ ps) [] closed es begins works = absurd works
+  each_alike (p ∷ ps) (o ∷ os) [] es begins works = absurd works
+  each_alike (p ∷ ps) (o ∷ os) (c ∷ cs) [] begins works = absurd works
+  each_alike (p ∷ ps) (o ∷ os) (c ∷ cs) (e ∷ es) (is, more) (works, others) = (
+    subst (λ (q : PassState). Works site.asks site.look q e (site.told o) (site.told c)) is works,
+    each_alike ps os cs es more others,
+  )
+
+  abbrev pub EndsAlike : ServeEnd → Front A (Visit I O C) → Front A (Visit I O C) → Type 0
+  EndsAlike end old new =
+      EndsServing site port (λ o d. WorksEach site (passes_like start o) o d ends)
+      (All (λ p. p ≡ start) ends) end old new
+
+  pub ends_alike : (starts : List PassState) → All (λ p. p ≡ start) starts → (end : ServeEnd)
+      (old new : Front A (Visit I O C))
+      → EndsServing site port (λ o d. WorksEach site starts o d ends) (ends ≡ starts) end old new
+      → EndsAlike end old new
+  ends_alike starts begins end old new e =
+      ends_more site port (λ o d. WorksEach site starts o d ends)
+      (λ o d. WorksEach site (passes_like start o) o d ends) (ends ≡ starts)
+      (All (λ p. p ≡ start) ends)
+      (λ o d works. each_alike starts o d ends
+      (recursion_from_All (λ p. p ≡ start) starts begins) works)
+      (λ same. subst (All (λ p. p ≡ start)) (sym same) begins) old new end e
+
+  -- each pass goes on, where each visit lets it
+  module _ (goes : (services : List (Service (Visit I O C))) (new : PassState)
+      → Chain site.asks site.look start services new → GoesOn start new) where
+    each_goes : (opened closed : List A) (es : List PassState)
+        → WorksEach site (passes_like start opened) opened closed es
+        → AllByRecursion (λ p. GoesOn start p) es
+    each_goes [] [] [] works = tt
+    each_goes [] [] (e ∷ es) works = absurd works
+    each_goes [] (c ∷ cs) es works = absurd works
+    each_goes (o ∷ os) [] es works = absurd works
+    each_goes (o ∷ os) (c ∷ cs) [] works = absurd works
+    each_goes (o ∷ os) (c ∷ cs) (e ∷ es) (works, others) =
+        (goes works.services e works.chain, each_goes os cs es others)
+
+    after_ran : {old new : Front A (Visit I O C)}
+        → Ran site port (λ o d. WorksEach site (passes_like start o) o d ends) old new
+        → All (λ p. GoesOn start p) ends
+    after_ran r =
+        All-from_recursion (λ p. GoesOn start p) ends (each_goes r.opened r.closed ends r.serve)
+
+    where_idle : All (λ p. p ≡ start) ends → All (λ p. GoesOn start p) ends
+    where_idle same =
+        All-weaker (λ p. p ≡ start) (λ p. GoesOn start p)
+        (λ p is. subst (λ (q : PassState). GoesOn start q) (sym is) (goes_still start)) ends same
+
+    pub all_go : (end : ServeEnd) (old new : Front A (Visit I O C)) → EndsAlike end old new
+        → All (λ p. GoesOn start p) ends
+    all_go Done old new e = after_ran e.ran
+    all_go WriteFault old new e = where_idle e.idle
+    all_go DoorsFault old new (inl r) = after_ran r
+    all_go DoorsFault old new (inr none) = where_idle none.idle
+    all_go NoMemory old new none = where_idle none.idle
+
 -- the passes are those of the desk
 pub at_desk : (start : PassState) (passes : List PassState) → All (λ p. GoesOn start p) passes
     → All (λ p. p.desk ≡ start.desk) passes
 at_desk start passes go =
-    all_more (λ p. GoesOn start p) (λ p. p.desk ≡ start.desk) passes (λ p goes. goes.stays.desk) go
+    All-weaker (λ p. GoesOn start p) (λ p. p.desk ≡ start.desk) (λ p goes. goes.stays.desk) passes
+    go
 
 -- an office before its first visit
-pub not_served : {D A I O C : Type 0} (S : DiskSenses D) (site : Site A I O C)
+pub not_served : {D A I O C : Type 0} (S : DiskSenses D) (site : DeskSenses A I O C)
     (port : ℕ) (office back : OfficeOn D) (entrance : Option (Entrance A (Visit I O C)))
     (ports : List ℕ) (held : Option (List ℕ)) (disk : D) → back ≡ office → disk ≡ back.disk
     → IsWhole office.office
@@ -197,7 +282,7 @@ not_served {D} S site port office back entrance ports held disk same handed whol
 
 -- what the closing of the desk says of the passes, told of the office
 module _ {D A I O C : Type 0} (beginnings : PassesSeeBeginnings) (all : NewPassesSeeAll)
-    (back : EntriesAreReadBack) (S : DiskSenses D) (site : Site A I O C) (port : ℕ)
+    (back : EntriesAreReadBack) (S : DiskSenses D) (site : DeskSenses A I O C) (port : ℕ)
     (first last : OfficeOn D) (desk : TableId) (passes : List PassState) where
   abbrev pub begin : PassState
   begin = newcomer desk (ledger_of S first) WORKERS
@@ -249,10 +334,10 @@ module _ {D A I O C : Type 0} (beginnings : PassesSeeBeginnings) (all : NewPasse
       → All (λ p. Extends (office_seen p) last.office) passes
       → Distinct (flat_map (λ p. p.own) passes) → IsWhole last.office → length passes ≡ WORKERS
       → AllAccount → ChainsDo → (o d : List A)
-      → WorksEach site begin o d passes
+      → WorksEach site (passes_like begin o) o d passes
       → WorkersServe site first.office first.doubt last.office o d
   workers_serve is go extends apart whole count account does o d works =
-      let each = each_of (λ p. Extends (office_seen p) last.office) passes extends in
+      let each = recursion_from_All (λ p. Extends (office_seen p) last.office) passes extends in
       record {
         start = begin;
         begins = is;
@@ -261,10 +346,10 @@ module _ {D A I O C : Type 0} (beginnings : PassesSeeBeginnings) (all : NewPasse
         ends = passes;
         works = works;
         extended = extends;
-        owned = all_more (λ p. GoesOn begin p) (λ p. IsOwned (standing_of p)) passes
-            (λ p g. g.owned new_owns) go;
+        owned = All-weaker (λ p. GoesOn begin p) (λ p. IsOwned (standing_of p))
+            (λ p g. g.owned new_owns) passes go;
         apart = apart;
-        no_other = adds_no_other back (turns_of_workers site begin o d passes works)
+        no_other = adds_no_other back (turns_of_workers site (passes_like begin o) o d passes works)
             (places_of site begin last.office does refl refl o d passes works) first.office
             first.doubt last.office whole begin.opening refl refl (own_of passes)
             (raised_of passes) (accounts_all count go account)
@@ -276,7 +361,7 @@ module _ {D A I O C : Type 0} (beginnings : PassesSeeBeginnings) (all : NewPasse
       → All (λ p. p ≡ begin) passes
       → AddsNoOther [] first.office first.doubt last.office
   none_worked go whole count account same =
-      let each = each_of (λ p. p ≡ begin) passes same in
+      let each = recursion_from_All (λ p. p ≡ begin) passes same in
       adds_no_other back [] [] first.office first.doubt last.office whole begin.opening refl refl
       (own_of passes) (raised_of passes) (accounts_all count go account)
       (λ place had. absurd (none_made begin passes refl each place had))
@@ -290,7 +375,7 @@ module _ {D A I O C : Type 0} (beginnings : PassesSeeBeginnings) (all : NewPasse
       → All (λ p. p.root ≡ (ledger_of S last).root) passes
       → All (λ p. Begins p.seen (ledger_of S last).history) passes
       → Distinct (flat_map (λ p. p.own) passes) → AllAccount → ChainsDo
-      → EndsServing site port (λ o d. WorksEach site begin o d passes)
+      → EndsServing site port (λ o d. WorksEach site (passes_like begin o) o d passes)
       (All (λ p. p ≡ begin) passes) end old new
       → IsServed S site port first end old new disk
   served end old new disk was_whole was_low whole low handed stands count go roots seen apart
@@ -304,7 +389,7 @@ module _ {D A I O C : Type 0} (beginnings : PassesSeeBeginnings) (all : NewPasse
         whole = whole;
         stands = subst (λ (d : D). disks.All (StandsSettled last.office last.doubt) (S.images d))
             (sym handed) stands;
-        ends = ends_more site port (λ o d. WorksEach site begin o d passes)
+        ends = ends_more site port (λ o d. WorksEach site (passes_like begin o) o d passes)
             (WorkersServe site first.office first.doubt last.office)
             (All (λ p. p ≡ begin) passes)
             (AddsNoOther [] first.office first.doubt last.office)

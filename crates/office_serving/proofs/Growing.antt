@@ -2,19 +2,19 @@
 use Rattle.std.proofs.Common.{List, [], ◌∷◌, sym, subst}
 use Rattle.turn_desk.specs.Passes.{PassState}
 use Rattle.office_doors.specs.declared.Visit.{Visit}
-use Rattle.office_counter.specs.Laws.{Extends}
-use Rattle.office_counter.proofs.Steps.{extends_both, extends_still}
+use Rattle.office_counter.proofs.Steps.{extends_still}
 use Rattle.record_form.specs.Laws.{EntriesAreReadBack}
 use Rattle.wire_session.specs.Treats.{Treats, refusal_text}
-use Rattle.wire_session.proofs.Owning.{end_extends, end_owned}
 use Rattle.turn_counter.specs.Seen.{office_seen, standing_of}
 use Rattle.turn_counter.specs.Stepping.{turn_steps}
 use Rattle.turn_counter.specs.Turns.{TurnAsks}
 use Rattle.own_counter.specs.Requests.{turns_of}
 use Rattle.turn_counter.proofs.Asked.{Does, does_both, does_none, session_does}
 use Rattle.turn_counter.proofs.Staying.{end_stays, stays_both, stays_still}
+use Rattle.turn_counter.specs.Holding.{StaysAtDesk}
+use Rattle.visit_workers.specs.Visits.{Chain, Looks, Service, scene_at}
+use Rattle.visit_workers.proofs.Growing.{chain_knows}
 use Rattle.office_serving.specs.Asked.{turns_of_chain}
-use Rattle.office_serving.specs.Visits.{Chain, Looks, Service, ServesVisit, scene_at}
 use Rattle.office_serving.specs.Workers.{GoesOn}
 use Rattle.office_outside.specs.Senses.{DiskSenses}
 
@@ -25,30 +25,26 @@ goes_still p = record {
   owned = λ owned. owned;
 }
 
-pub goes_both : (a b c : PassState) → GoesOn a b → GoesOn b c → GoesOn a c
-goes_both a b c first second = record {
-  stays = stays_both a b c first.stays second.stays;
-  seen = extends_both (office_seen a) (office_seen b) (office_seen c) first.seen second.seen;
-  owned = λ owned. second.owned (first.owned owned);
-}
-
 module _ {D I O C : Type 0} (S : DiskSenses D) (look : Looks I O C) where
-  visit_goes : (visit given : Visit I O C) (old new : PassState)
-      → ServesVisit (TurnAsks S) look visit given old new → GoesOn old new
-  visit_goes visit given old new serves = record {
-    stays = end_stays S refusal_text serves.end
-        (scene_at look visit old) (scene_at look given new) serves.ends;
-    seen = end_extends (TurnAsks S) standing_of (turn_steps S) serves.end
-        (scene_at look visit old) (scene_at look given new) serves.ends;
-    owned = end_owned (TurnAsks S) standing_of (turn_steps S) serves.end
-        (scene_at look visit old) (scene_at look given new) serves.ends;
-  }
+  chain_stays : (old : PassState) (services : List (Service (Visit I O C))) (new : PassState)
+      → Chain (TurnAsks S) look old services new → StaysAtDesk old new
+  chain_stays old [] new same =
+      subst (λ (p : PassState). StaysAtDesk old p) (sym same) (stays_still old)
+  chain_stays old (s ∷ ss) new (mid, serves, rest) =
+      stays_both old mid new
+      (end_stays S refusal_text serves.end (scene_at look s.visit old) (scene_at look s.given mid)
+      serves.ends)
+      (chain_stays mid ss new rest)
 
   pub chain_goes : (old : PassState) (services : List (Service (Visit I O C))) (new : PassState)
       → Chain (TurnAsks S) look old services new → GoesOn old new
-  chain_goes old [] new chain = subst (λ (p : PassState). GoesOn old p) (sym chain) (goes_still old)
-  chain_goes old (s ∷ ss) new (mid, served, rest) =
-      goes_both old mid new (visit_goes s.visit s.given old mid served) (chain_goes mid ss new rest)
+  chain_goes old services new chain =
+      let knows = chain_knows (TurnAsks S) standing_of (turn_steps S) look old services new chain in
+      record {
+        stays = chain_stays old services new chain;
+        seen = knows.seen;
+        owned = knows.owned;
+      }
 
   -- a worker's pass makes what the messages of its visits ask for
   pub chain_does : EntriesAreReadBack → (old : PassState)

@@ -1,8 +1,4 @@
 pub mod Asked
-pub mod Chains
-pub mod Closing
-pub mod Employing
 pub mod Endings
 pub mod Growing
-pub mod Lists
 pub mod Sending

@@ -10,7 +10,7 @@ use Rattle.wire_session.specs.Treats.{Asking, Treats, refusal_text}
 use Rattle.turn_counter.specs.Asked.{IsAskedByOne, front}
 use Rattle.turn_counter.specs.Seen.{record_if}
 use Rattle.own_counter.specs.Requests.{turns_of}
-use Rattle.office_serving.specs.Visits.{Chain, Looks, Service, scene_at}
+use Rattle.visit_workers.specs.Visits.{Chain, Looks, Service, scene_at}
 
 -- the turns of the sessions over these visits, visit after visit
 abbrev pub turns_of_chain : {T I O C : Type 0} (asks : Asking T) (look : Looks I O C) (old : T)

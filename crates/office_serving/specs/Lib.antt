@@ -1,4 +1,3 @@
 pub mod Asked
 pub mod Serving
-pub mod Visits
 pub mod Workers

@@ -11,9 +11,10 @@ use Rattle.office_history.specs.History.{Office}
 use Rattle.office_counter.specs.Laws.{Extends}
 use Rattle.office_keep.specs.Files.{IsWhole}
 use Rattle.office_keep.specs.Office.{OfficeOn, StandsSettled}
+use Rattle.visit_workers.specs.Visits.{HasEnded}
+use Rattle.visit_workers.specs.Workers.{Site}
 use Rattle.office_serving.specs.Asked.{AddsNoOther}
-use Rattle.office_serving.specs.Visits.{HasEnded}
-use Rattle.office_serving.specs.Workers.{Site, WorkersServe}
+use Rattle.office_serving.specs.Workers.{DeskSenses, WorkersServe}
 use Rattle.office_serving.specs.declared.serving.ServeEnd.{ServeEnd}
 use Rattle.office_serving.specs.declared.serving.ServeEnd.TheVariants.{Done, DoorsFault}
 use Rattle.office_serving.specs.declared.serving.ServeEnd.TheVariants.{NoMemory, WriteFault}
@@ -50,7 +51,7 @@ ready_line = codes "ready\n"
 
 -- Each of the four workers has a door, which was opened just now; each tells where the doors
 -- together do.
-pub record AreOpened {A I O C : Type 0} (site : Site A I O C) (opened : List A)
+pub record AreOpened {T A I O C : Type 0} (site : Site T A I O C) (opened : List A)
     (old : Option (Entrance A (Visit I O C))) : Type 0 where
   pub count : length opened ≡ 4
   pub fresh : All (λ d. Tells IsFresh (site.told d)) opened
@@ -58,7 +59,7 @@ pub record AreOpened {A I O C : Type 0} (site : Site A I O C) (opened : List A)
 
 -- Doors were opened at the port, `ready` was said, and then workers served them as `Serve` says.
 -- The doors were closed again, each when all visits that it had handed out had come back.
-pub record Ran {A I O C : Type 0} (site : Site A I O C) (port : ℕ)
+pub record Ran {T A I O C : Type 0} (site : Site T A I O C) (port : ℕ)
     (Serve : List A → List A → Type 0) (old new : Front A (Visit I O C)) : Type 0 where
   pub opened : List A
   pub closed : List A
@@ -70,14 +71,14 @@ pub record Ran {A I O C : Type 0} (site : Site A I O C) (port : ℕ)
   pub back : All (λ d. Tells HasAllBack (site.told d)) closed
 
 -- It ended well: each door has handed out all visits that it had.
-pub record RanToEnd {A I O C : Type 0} (site : Site A I O C) (port : ℕ)
+pub record RanToEnd {T A I O C : Type 0} (site : Site T A I O C) (port : ℕ)
     (Serve : List A → List A → Type 0) (old new : Front A (Visit I O C)) : Type 0 where
   pub ran : Ran site port Serve old new
   pub ended : All (λ d. Tells HasEnded (site.told d)) ran.closed
 
 -- No visit was taken: the doors that were opened at the port are closed as they were, and `IfIdle`
 -- holds.
-pub record SaidNotReady {A I O C : Type 0} (site : Site A I O C) (port : ℕ) (IfIdle : Type 0)
+pub record SaidNotReady {T A I O C : Type 0} (site : Site T A I O C) (port : ℕ) (IfIdle : Type 0)
     (old new : Front A (Visit I O C)) : Type 0 where
   pub opened : List A
   pub asked : AskedAt port old.ports new.ports
@@ -95,7 +96,7 @@ pub record NoneOpened {A V : Type 0} (Asked : List ℕ → List ℕ → Type 0) 
   pub idle : IfIdle
 
 -- What each end says: workers served as `Serve` says, or nobody worked, and then `IfIdle` holds.
-abbrev pub EndsServing : {A I O C : Type 0} → Site A I O C → ℕ → (List A → List A → Type 0)
+abbrev pub EndsServing : {T A I O C : Type 0} → Site T A I O C → ℕ → (List A → List A → Type 0)
     → Type 0 → ServeEnd → Front A (Visit I O C) → Front A (Visit I O C) → Type 0
 EndsServing site port Serve IfIdle Done old new = RanToEnd site port Serve old new
 EndsServing site port Serve IfIdle WriteFault old new = SaidNotReady site port IfIdle old new
@@ -107,7 +108,7 @@ EndsServing site port Serve IfIdle NoMemory old new =
 -- An office was served at a port, and its disk is handed back: the history extends the one that was
 -- handed in, and is legal. Each image of the disk stands for it, or for it with the one entry in
 -- doubt. Where nobody worked, nothing was added but what was in doubt.
-pub record IsServed {D A I O C : Type 0} (S : DiskSenses D) (site : Site A I O C)
+pub record IsServed {D A I O C : Type 0} (S : DiskSenses D) (site : DeskSenses A I O C)
     (port : ℕ) (office : OfficeOn D) (end : ServeEnd) (old new : Front A (Visit I O C)) (disk : D) :
     Type 0 where
   pub last : OfficeOn D

@@ -1,17 +1,16 @@
 //! The serving of an office over doors.
-ghost use Rattle.std.specs.Prelude.{◌≡◌, ◌≤◌, ◌⊎◌, Ok, Err, true, false, ℕ, All, length};
+ghost use Rattle.std.specs.Prelude.{◌≡◌, ◌≤◌, ◌⊎◌, Ok, Err, true, false, All, length};
 ghost use Rattle.office_outside.specs.Faults.{Rose};
-ghost use Rattle.turn_desk.specs.Passes.{PassState};
 ghost use Rattle.turn_counter.specs.Turns.{TurnAsks};
 ghost use Rattle.office_doors.specs.Books.{IsFresh, Moves, Tells};
 ghost use Rattle.office_doors.specs.declared.DoorsFault.TheVariants.{Failed as DoorsFailed};
-ghost use Rattle.office_serving.specs.Visits.{looks};
-ghost use Rattle.office_serving.specs.Workers.{AreClosed, GoesOn, HasRoom, WorksEach, site};
+ghost use Rattle.visit_workers.specs.Visits.{looks};
+ghost use Rattle.visit_workers.specs.Workers.{AreClosed, HasRoom, WorksEach, site};
 ghost use Rattle.office_serving.specs.Serving.{EndsServing, IsServed, front};
 
-use crate::kits::take_kits;
 use crate::ready::say_ready;
-use crate::workers::{WORKERS, run_workers};
+use crate::seats::{leave_seats, take_seats};
+use office_counter::Counter;
 use office_doors::{Door, Doors, DoorsFault};
 use office_keep::Office;
 use office_outside::{Disk, Sink};
@@ -20,6 +19,10 @@ use std::sync::Wait;
 use std::thread::Threads;
 use turn_counter::{DeskOffice, close_desk, open_desk};
 use turn_desk::{Desk, Pass};
+use visit_workers::{run_workers, take_kits};
+
+/// How many workers there are.
+pub const WORKERS: u32 = 4;
 
 /// How the serving of an office ended.
 #[derive(Clone, Copy, Debug, Drop, PartialEq, Eq)]
@@ -68,6 +71,51 @@ fn shut<S: Doors>(opened: Vec<S::One>, doors: &mut S)
     }
 }
 
+/// Serves visits by these counters, each worker with its own, and leaves the counters in their
+/// order. Each worker has all the memory of its sessions before a door is opened.
+fn serve_doors<R: Wait + Threads + Sync, T: Counter + Send + Drop, S: Doors, K: Sink>(
+    rt: &R,
+    alloc: Global,
+    counters: &mut Vec<T>,
+    doors: &mut S,
+    port: u16,
+    ready: &mut K,
+) -> ServeEnd
+    requires { length counters.old.items ≡ WORKERS }
+    ensures count { length counters.new.items ≡ WORKERS }
+    ensures ends { EndsServing (site T.asks
+        (looks S.One.In.left S.One.In.faults S.One.Out.held S.One.Out.faults S.One.Time.to_come)
+        (λ d. S.One.told d) (λ d. S.One.faults d)) port
+        (λ opened closed. WorksEach (site T.asks
+        (looks S.One.In.left S.One.In.faults S.One.Out.held S.One.Out.faults S.One.Time.to_come)
+        (λ d. S.One.told d) (λ d. S.One.faults d)) counters.old.items opened closed
+        counters.new.items) (counters.new.items ≡ counters.old.items) result
+        (front (S.told doors.old) (S.ports doors.old) (K.held ready.old))
+        (front (S.told doors.new) (S.ports doors.new) (K.held ready.new)) }
+    ensures write { result ≡ ServeEnd.WriteFault →
+        Rose (K.faults ready.old) (K.faults ready.new) }
+    ensures doors { result ≡ ServeEnd.DoorsFault →
+        Rose (S.faults doors.old) (S.faults doors.new) }
+{
+    let mut workers = Vec::new(alloc);
+    if workers.reserve(WORKERS as usize).is_err() {
+        return ServeEnd::NoMemory;
+    }
+    let Ok(kits) = take_kits(alloc, WORKERS) else {
+        return ServeEnd::NoMemory;
+    };
+    let opened = match doors.open(port, WORKERS as usize) {
+        Ok(opened) => opened,
+        Err(fault) => return end_of_fault(fault),
+    };
+    if say_ready(ready).is_err() {
+        shut(opened, doors);
+        return ServeEnd::WriteFault;
+    }
+    let well = run_workers(rt, alloc, kits, counters, opened, workers, doors);
+    end_of_work(well)
+}
+
 /// Serves visits at a desk, and leaves the passes where they were taken from.
 fn serve_at<R: Wait + Threads + Sync, D: Disk + Send + Drop, S: Doors, K: Sink>(
     rt: &R,
@@ -81,16 +129,13 @@ fn serve_at<R: Wait + Threads + Sync, D: Disk + Send + Drop, S: Doors, K: Sink>(
     requires desk { All (λ p. p.desk ≡ desk.now) passes.old.items }
     requires count { length passes.old.items ≡ WORKERS }
     ensures count { length passes.new.items ≡ WORKERS }
-    ensures goes_on { (v : PassState) → All (λ p. p ≡ v) passes.old.items
-        → All (λ p. GoesOn v p) passes.new.items }
-    ensures ends { (v : PassState) → All (λ p. p ≡ v) passes.old.items
-        → EndsServing (site (TurnAsks D.senses)
+    ensures ends { EndsServing (site (TurnAsks D.senses)
         (looks S.One.In.left S.One.In.faults S.One.Out.held S.One.Out.faults S.One.Time.to_come)
         (λ d. S.One.told d) (λ d. S.One.faults d)) port
         (λ opened closed. WorksEach (site (TurnAsks D.senses)
         (looks S.One.In.left S.One.In.faults S.One.Out.held S.One.Out.faults S.One.Time.to_come)
-        (λ d. S.One.told d) (λ d. S.One.faults d)) v opened closed passes.new.items)
-        (All (λ p. p ≡ v) passes.new.items) result
+        (λ d. S.One.told d) (λ d. S.One.faults d)) passes.old.items opened closed
+        passes.new.items) (passes.new.items ≡ passes.old.items) result
         (front (S.told doors.old) (S.ports doors.old) (K.held ready.old))
         (front (S.told doors.new) (S.ports doors.new) (K.held ready.new)) }
     ensures write { result ≡ ServeEnd.WriteFault →
@@ -98,23 +143,14 @@ fn serve_at<R: Wait + Threads + Sync, D: Disk + Send + Drop, S: Doors, K: Sink>(
     ensures doors { result ≡ ServeEnd.DoorsFault →
         Rose (S.faults doors.old) (S.faults doors.new) }
 {
-    let mut workers = Vec::new(alloc);
-    if workers.reserve(WORKERS as usize).is_err() {
+    let mut counters = Vec::new(alloc);
+    if counters.reserve(WORKERS as usize).is_err() {
         return ServeEnd::NoMemory;
     }
-    let Ok(kits) = take_kits(alloc) else {
-        return ServeEnd::NoMemory;
-    };
-    let opened = match doors.open(port, WORKERS as usize) {
-        Ok(opened) => opened,
-        Err(fault) => return end_of_fault(fault),
-    };
-    if say_ready(ready).is_err() {
-        shut(opened, doors);
-        return ServeEnd::WriteFault;
-    }
-    let well = run_workers(rt, alloc, kits, desk, passes, opened, workers, doors);
-    end_of_work(well)
+    take_seats(rt, desk, passes, &mut counters);
+    let end = serve_doors(rt, alloc, &mut counters, doors, port, ready);
+    leave_seats(counters, passes);
+    end
 }
 
 /// Serves an office to the visitors of four doors at a port, by four workers that take turns, and

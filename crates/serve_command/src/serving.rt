@@ -4,8 +4,8 @@ ghost use Rattle.office_outside.specs.Faults.{RoseBy};
 ghost use Rattle.office_keep.specs.declared.KeepFault.TheVariants.{DiskFault};
 ghost use Rattle.turn_counter.specs.Turns.{TurnAsks};
 ghost use Rattle.office_serving.specs.Serving.{front};
-ghost use Rattle.office_serving.specs.Visits.{looks};
-ghost use Rattle.office_serving.specs.Workers.{site};
+ghost use Rattle.visit_workers.specs.Visits.{looks};
+ghost use Rattle.visit_workers.specs.Workers.{site};
 ghost use Rattle.serve_command.specs.Serves.{EndsServer};
 
 use office_doors::{Door, Doors};

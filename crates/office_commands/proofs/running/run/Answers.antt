@@ -3,8 +3,8 @@ use Rattle.std.specs.Prelude.{Some}
 use Rattle.command_words.specs.declared.Asked.TheVariants.{Answer}
 use Rattle.turn_counter.specs.Turns.{TurnAsks}
 use Rattle.office_serving.specs.Serving.{front}
-use Rattle.office_serving.specs.Visits.{looks}
-use Rattle.office_serving.specs.Workers.{site}
+use Rattle.visit_workers.specs.Visits.{looks}
+use Rattle.visit_workers.specs.Workers.{site}
 use Rattle.office_commands.specs.Serve.{RunsServe}
 use Rattle.office_commands.proofs.WorldLemmas.{done_as, port_asked}
 use Rattle.office_commands.proofs.running.run.Goals as goal

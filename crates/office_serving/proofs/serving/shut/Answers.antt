@@ -1,5 +1,5 @@
 use Rattle.std.proofs.Common.{◌∷◌, [], ◌++◌, ◌∙◌, refl, sym, ap, append_assoc, rules}
-use Rattle.office_serving.proofs.Closing.{none_closed, one_closed, room_after, room_as}
+use Rattle.visit_workers.proofs.Closing.{none_closed, one_closed, room_after, room_as}
 use Rattle.office_serving.proofs.serving.shut.Goals as goal
 
 pub loop-door-init : goal.loop-door-init

@@ -1,7 +1,7 @@
 use Rattle.std.proofs.Common.{◌≡◌, ◌++◌, length}
 use Rattle.std.specs.Vec.Iter.{into_iter_items, into_iter_len}
 use Rattle.office_doors.specs.Books.{Moves, Tells}
-use Rattle.office_serving.specs.Workers.{AreClosed, HasRoom}
+use Rattle.visit_workers.specs.Workers.{AreClosed, HasRoom}
 use Rattle.office_serving.proofs.serving.shut.Given as goal
 
 abbrev pub invariant-loop-door : goal.invariant-loop-door
