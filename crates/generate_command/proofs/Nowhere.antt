@@ -6,7 +6,7 @@ use Rattle.std.specs.List.{AllByRecursion}
 use Rattle.std.proofs.lemmas.List.{get_or-append-add, get_or_append_left}
 use Rattle.memchr.specs.Find.{FindsNeedle}
 use Rattle.office_outside.specs.Told.{Gained}
-use Rattle.office_session.specs.Sessions.{Turn}
+use Rattle.message_session.specs.Sessions.{Turn}
 use Rattle.generate_command.specs.Playing.{HasNone}
 
 module _ (piece : List ℕ) where

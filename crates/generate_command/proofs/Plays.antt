@@ -1,8 +1,8 @@
 -- A session over memory.
 use Rattle.std.proofs.Common.{◌≡◌, ℕ, List, [], ◌∷◌, Option, Some, subst}
 use Rattle.office_outside.specs.Clocks.{reading_at}
-use Rattle.office_session.specs.Sessions.{EndsSo, scene}
-use Rattle.office_session.specs.declared.SessionEnd.TheVariants.{Done}
+use Rattle.message_session.specs.Sessions.{EndsSo, scene}
+use Rattle.message_session.specs.declared.SessionEnd.TheVariants.{Done}
 use Rattle.wire_session.specs.Treats.{Asking, Treats, refusal_text}
 use Rattle.generate_command.specs.Playing.{Plays, steady_clock}
 

@@ -5,9 +5,9 @@ use Rattle.std.proofs.Common.{ap, subst, ◌∙◌, inl, inr, flat_map, true}
 use Rattle.std.specs.List.{AllByRecursion}
 use Rattle.message_heads.specs.Streams.{Said}
 use Rattle.office_outside.specs.Told.{Gained}
-use Rattle.office_session.specs.Sessions.{Answering, Scene, scene, Turn, Trace, Serves}
-use Rattle.office_session.specs.Sessions.{EndsByTurn, EndsByBad, EndsByBytes, EndsSo}
-use Rattle.office_session.specs.declared.SessionEnd.TheVariants.{Done}
+use Rattle.message_session.specs.Sessions.{Answering, Scene, scene, Turn, Trace, Serves}
+use Rattle.message_session.specs.Sessions.{EndsByTurn, EndsByBad, EndsByBytes, EndsSo}
+use Rattle.message_session.specs.declared.SessionEnd.TheVariants.{Done}
 use Rattle.generate_command.specs.Playing.{HasNone}
 use Rattle.generate_command.proofs.Nowhere.{gained_told, none_before, none_behind, none_in_turns}
 

@@ -2,8 +2,8 @@
 use Rattle.std.specs.Prelude.{◌≡◌, ℕ, ◌+◌, ◌*◌, List, [], length, Bool, false, Option, Some, None}
 use Rattle.std.specs.Prelude.{Ok, Err}
 use Rattle.message_heads.specs.Streams.{Said}
-use Rattle.office_session.specs.Sessions.{EndsSo, Scene, scene}
-use Rattle.office_session.specs.declared.SessionEnd.TheVariants.{Done}
+use Rattle.message_session.specs.Sessions.{EndsSo, Scene, scene}
+use Rattle.message_session.specs.declared.SessionEnd.TheVariants.{Done}
 use Rattle.record_form.specs.declared.Entry.{Entry}
 use Rattle.record_form.specs.declared.Outcome.{Outcome}
 use Rattle.record_form.specs.declared.Request.{Request}

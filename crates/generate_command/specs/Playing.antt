@@ -1,8 +1,8 @@
 -- A session over memory.
 use Rattle.std.specs.Prelude.{◌≡◌, ℕ, List, [], ◌∷◌, ◌++◌, Option, Some}
 use Rattle.office_outside.specs.Clocks.{reading_at}
-use Rattle.office_session.specs.Sessions.{EndsSo, scene}
-use Rattle.office_session.specs.declared.SessionEnd.TheVariants.{Done}
+use Rattle.message_session.specs.Sessions.{EndsSo, scene}
+use Rattle.message_session.specs.declared.SessionEnd.TheVariants.{Done}
 use Rattle.wire_session.specs.Treats.{Asking, Treats, refusal_text}
 
 -- the readings to come of a clock that always reads this minute

@@ -5,9 +5,9 @@ ghost use Rattle.wire_replies.specs.Answers.{no_memory_answer};
 ghost use Rattle.generate_command.specs.Playing.{HasNone, Plays};
 
 use memchr::memmem;
+use message_session::SessionEnd;
 use office_counter::Counter;
 use office_outside::{MemoryClock, MemorySink, MemorySource, Plan};
-use office_session::SessionEnd;
 use std::alloc::{AllocError, Global};
 use wire_session::session;
 

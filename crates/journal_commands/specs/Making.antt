@@ -5,7 +5,7 @@ use Rattle.std.specs.Fmt.{decimal}
 use Rattle.office_outside.specs.Disk.{All, IsQuiet}
 use Rattle.office_outside.specs.Told.{Gained, GainedPrefix}
 use Rattle.office_outside.specs.Senses.{DiskSenses}
-use Rattle.office_session.specs.Sessions.{Reads}
+use Rattle.message_session.specs.Sessions.{Reads}
 use Rattle.office_history.specs.History.{Office}
 use Rattle.slo_journal.specs.Front.{HasNoHeader, IsHeader, IsMaking}
 use Rattle.office_keep.specs.Files.{StandsFor}

@@ -3,7 +3,7 @@ use Rattle.std.specs.Prelude.{◌≡◌, ◌⊎◌, ◌<◌, ◌≤◌, ℕ, Lis
 use Rattle.office_outside.specs.Disk.{All, IsQuiet}
 use Rattle.office_outside.specs.Told.{Gained, GainedPrefix}
 use Rattle.office_outside.specs.Senses.{DiskSenses}
-use Rattle.office_session.specs.Sessions.{Reads}
+use Rattle.message_session.specs.Sessions.{Reads}
 use Rattle.office_history.specs.History.{Office, end_of, moment_of}
 use Rattle.office_keep.specs.Files.{IsWhole, StandsFor}
 use Rattle.office_report.specs.Report.{IsReport}

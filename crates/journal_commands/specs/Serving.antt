@@ -4,8 +4,8 @@ use Rattle.office_outside.specs.Disk.{All, IsQuiet, LeavesOnly}
 use Rattle.office_outside.specs.Senses.{DiskSenses}
 use Rattle.office_keep.specs.Files.{IsWhole, StandsFor}
 use Rattle.office_keep.specs.Office.{OfficeOn, StandsSettled}
-use Rattle.office_session.specs.Sessions.{EndsSo, Scene}
-use Rattle.office_session.specs.declared.SessionEnd.{SessionEnd}
+use Rattle.message_session.specs.Sessions.{EndsSo, Scene}
+use Rattle.message_session.specs.declared.SessionEnd.{SessionEnd}
 use Rattle.office_counter.specs.Laws.{Extends, IsOwned}
 use Rattle.wire_session.specs.Treats.{Treats, refusal_text}
 use Rattle.own_counter.specs.Own.{OwnAsks, OwnOn, own_on, standing_of}

@@ -3,9 +3,9 @@ ghost use Rattle.std.specs.Prelude.{◌≡◌, None};
 ghost use Rattle.office_outside.specs.Faults.{RoseBy};
 ghost use Rattle.journal_commands.specs.Serving.{EndsServing, IsServed, outside};
 
+use message_session::SessionEnd;
 use office_keep::{KeepFault, Office};
 use office_outside::{Clock, Disk, Sink, Source};
-use office_session::SessionEnd;
 use own_counter::OwnCounter;
 use std::alloc::Global;
 use wire_session::session;

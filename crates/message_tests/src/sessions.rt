@@ -2,10 +2,10 @@
 ghost use Rattle.std.specs.Prelude.{◌≡◌, ◌+◌, ◌%◌};
 
 use message_heads::Message;
+use message_session::{Handler, SessionEnd, session};
 use office_outside::{
     Clock, Failed, MemoryClock, MemorySink, MemorySource, Plan, Sink, write_whole,
 };
-use office_session::{Handler, SessionEnd, session};
 use std::alloc::{AllocError, Global};
 use std::process::Abort;
 

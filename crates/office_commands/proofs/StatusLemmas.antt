@@ -9,8 +9,8 @@ use Rattle.counters_command.proofs.LawLemmas.{done-is}
 use Rattle.counters_command.specs.declared.CountersEnd.{CountersEnd}
 use Rattle.counters_command.specs.declared.CountersEnd.TheVariants as counters
 use Rattle.counters_command.specs.declared.CountersFault.{CountersFault}
-use Rattle.office_session.specs.declared.SessionEnd.{SessionEnd}
-use Rattle.office_session.specs.declared.SessionEnd.TheVariants as session
+use Rattle.message_session.specs.declared.SessionEnd.{SessionEnd}
+use Rattle.message_session.specs.declared.SessionEnd.TheVariants as session
 use Rattle.journal_commands.specs.Making.{Bench, EndsMaking, HasHeader}
 use Rattle.journal_commands.specs.Reporting.{EndsReporting, IsPrinted, IsUnprinted, OpensTo}
 use Rattle.office_keep.specs.Opening.{IsBad, IsFoundOn}

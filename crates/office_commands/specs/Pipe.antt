@@ -1,7 +1,7 @@
 -- How `pipe` ends, in statuses and lines.
 use Rattle.std.specs.Prelude.{◌≡◌, ℕ, List, Option, codes}
-use Rattle.office_session.specs.declared.SessionEnd.{SessionEnd}
-use Rattle.office_session.specs.declared.SessionEnd.TheVariants as session
+use Rattle.message_session.specs.declared.SessionEnd.{SessionEnd}
+use Rattle.message_session.specs.declared.SessionEnd.TheVariants as session
 use Rattle.journal_commands.specs.declared.PipeEnd.{PipeEnd}
 use Rattle.journal_commands.specs.declared.PipeEnd.TheVariants.{Served, Unopened}
 use Rattle.office_commands.specs.Runs.{EndsSaying, EndsWith}

@@ -1,7 +1,7 @@
 //! The laws of statuses: what a status of `counters`, `generate`, `init`, `pipe`, `report` and
 //! `serve` says.
 ghost use Rattle.std.specs.Prelude.{◌≡◌, ◌≢◌, ◌<◌, ◌≤◌, ℕ, List, Option, Some};
-ghost use Rattle.office_session.specs.Sessions.{Reads};
+ghost use Rattle.message_session.specs.Sessions.{Reads};
 ghost use Rattle.office_outside.specs.Told.{Gained};
 ghost use Rattle.counters_command.specs.Answer.{EndsOver};
 ghost use Rattle.counters_command.specs.Laws.{GainsDifferences};

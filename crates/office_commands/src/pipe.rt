@@ -10,8 +10,8 @@ use crate::running::RunEnd;
 use crate::telling::{tell_as, tell_status};
 use crate::unopened::settle_unopened;
 use journal_commands::{PipeEnd, run_session};
+use message_session::SessionEnd;
 use office_outside::{Clock, Disk, Sink, Source};
-use office_session::SessionEnd;
 use std::alloc::Global;
 
 /// The status of a session's end, whose line the faults sink is told.

@@ -22,7 +22,7 @@ use Rattle.record_form.specs.Records.{record_of}
 use Rattle.office_history.specs.History.{Office}
 use Rattle.office_counter.specs.Laws.{Extends}
 use Rattle.office_counter.proofs.Steps.{extends_still}
-use Rattle.office_session.specs.Sessions.{Turn}
+use Rattle.message_session.specs.Sessions.{Turn}
 use Rattle.turn_counter.specs.Asked.{AsksAt, AsksBehind, IsAskedByOne, front}
 use Rattle.turn_counter.specs.Seen.{entry_in, office_seen, record_if}
 use Rattle.office_keep.specs.Files.{IsWhole, records}

@@ -5,7 +5,7 @@ use Rattle.office_doors.specs.declared.Visit.{Visit}
 use Rattle.record_form.specs.declared.Entry.{Entry}
 use Rattle.record_form.specs.Records.{record_of}
 use Rattle.office_history.specs.History.{Office}
-use Rattle.office_session.specs.Sessions.{Turn}
+use Rattle.message_session.specs.Sessions.{Turn}
 use Rattle.wire_session.specs.Treats.{Asking, Treats, refusal_text}
 use Rattle.turn_counter.specs.Asked.{IsAskedByOne, front}
 use Rattle.turn_counter.specs.Seen.{record_if}

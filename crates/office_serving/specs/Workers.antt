@@ -5,7 +5,7 @@ use Rattle.turn_desk.specs.Passes.{PassState}
 use Rattle.record_form.specs.declared.Entry.{Entry}
 use Rattle.office_history.specs.History.{Office}
 use Rattle.office_counter.specs.Laws.{Extends, IsOwned}
-use Rattle.office_session.specs.Sessions.{Turn}
+use Rattle.message_session.specs.Sessions.{Turn}
 use Rattle.turn_counter.specs.Holding.{StaysAtDesk}
 use Rattle.turn_counter.specs.Seen.{office_seen, standing_of}
 use Rattle.visit_workers.specs.Workers.{Site, WorksEach}

@@ -17,10 +17,10 @@ use Rattle.office_counter.specs.Steps as steps
 use Rattle.office_counter.specs.Steps.{with_made, with_others, made_by, entry_of, needed_for}
 use Rattle.office_keep.specs.Office as keep
 use Rattle.office_keep.specs.Office.{IsSettled, OfficeOn, entry_at}
-use Rattle.office_session.specs.Sessions.{EndsSo, Scene, Trace, Turn}
-use Rattle.office_session.specs.declared.SessionEnd.{SessionEnd}
-use Rattle.office_session.specs.declared.SessionEnd.TheVariants.{Done, Cut, ReadFault, WriteFault}
-use Rattle.office_session.specs.declared.SessionEnd.TheVariants.{NoMemory}
+use Rattle.message_session.specs.Sessions.{EndsSo, Scene, Trace, Turn}
+use Rattle.message_session.specs.declared.SessionEnd.{SessionEnd}
+use Rattle.message_session.specs.declared.SessionEnd.TheVariants.{Done, Cut, ReadFault, WriteFault}
+use Rattle.message_session.specs.declared.SessionEnd.TheVariants.{NoMemory}
 use Rattle.wire_routes.specs.Requests.{StandsFor}
 use Rattle.wire_session.specs.Treats.{Treats, asked, at_once, unread}
 use Rattle.own_counter.specs.Own.{Ends, performed, no_room, OwnAsks, OwnOn}

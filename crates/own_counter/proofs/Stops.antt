@@ -18,8 +18,8 @@ use Rattle.office_counter.proofs.Steps.{step_extends}
 use Rattle.office_keep.specs.Files.{StandsFor}
 use Rattle.office_keep.specs.Office.{IsSettled, Leaves, LeavesBy, OfficeOn, StandsSettled, entry_at}
 use Rattle.office_keep.specs.Office.{unsettled, written}
-use Rattle.office_session.specs.Sessions.{EndsSo, Scene, Trace, Turn}
-use Rattle.office_session.specs.declared.SessionEnd.{SessionEnd}
+use Rattle.message_session.specs.Sessions.{EndsSo, Scene, Trace, Turn}
+use Rattle.message_session.specs.declared.SessionEnd.{SessionEnd}
 use Rattle.own_counter.specs.Own.{OwnAsks, OwnOn}
 use Rattle.own_counter.specs.Runs.{IsBetween}
 use Rattle.own_counter.specs.Stepping.{own_steps, settled_others}

@@ -7,10 +7,10 @@ use Rattle.record_form.specs.declared.Request.TheVariants.{Change}
 use Rattle.office_history.specs.History.{Office, with_entry}
 use Rattle.office_counter.specs.Steps.{with_others}
 use Rattle.office_keep.specs.Office.{IsSettled, OfficeOn, entry_at}
-use Rattle.office_session.specs.Sessions.{Answering, EndsSo, Scene, Turn}
-use Rattle.office_session.specs.declared.SessionEnd.{SessionEnd}
-use Rattle.office_session.specs.declared.SessionEnd.TheVariants.{Done, Cut, ReadFault, WriteFault}
-use Rattle.office_session.specs.declared.SessionEnd.TheVariants.{NoMemory}
+use Rattle.message_session.specs.Sessions.{Answering, EndsSo, Scene, Turn}
+use Rattle.message_session.specs.declared.SessionEnd.{SessionEnd}
+use Rattle.message_session.specs.declared.SessionEnd.TheVariants.{Done, Cut, ReadFault, WriteFault}
+use Rattle.message_session.specs.declared.SessionEnd.TheVariants.{NoMemory}
 use Rattle.wire_routes.specs.Requests.{StandsFor}
 
 -- The turn's message asks for a change, and this is its entry over the office.

@@ -2,8 +2,8 @@
 ghost use Rattle.std.specs.Prelude.{ℕ, List};
 ghost use Rattle.office_keep.specs.Office.{StandsSettled};
 ghost use Rattle.office_outside.specs.Disk.{All, LeavesOnly};
-ghost use Rattle.office_session.specs.declared.SessionEnd.{SessionEnd};
-ghost use Rattle.office_session.specs.Sessions.{EndsSo, Scene, Trace, Turn};
+ghost use Rattle.message_session.specs.declared.SessionEnd.{SessionEnd};
+ghost use Rattle.message_session.specs.Sessions.{EndsSo, Scene, Trace, Turn};
 ghost use Rattle.own_counter.specs.Own.{OwnAsks, OwnOn};
 ghost use Rattle.own_counter.specs.Requests.{AddNoOther, turns_of};
 ghost use Rattle.own_counter.specs.Runs.{IsBetween};

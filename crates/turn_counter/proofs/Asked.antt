@@ -26,8 +26,8 @@ use Rattle.office_counter.specs.Laws.{Extends}
 use Rattle.office_counter.specs.Steps as steps
 use Rattle.office_counter.specs.Steps.{place_of, with_made}
 use Rattle.office_counter.proofs.Steps.{extends_both, extends_still, step_extends}
-use Rattle.office_session.specs.Sessions.{EndsSo, Scene, Turn}
-use Rattle.office_session.specs.declared.SessionEnd.{SessionEnd}
+use Rattle.message_session.specs.Sessions.{EndsSo, Scene, Turn}
+use Rattle.message_session.specs.declared.SessionEnd.{SessionEnd}
 use Rattle.own_counter.specs.Own.{places_with}
 use Rattle.own_counter.specs.Requests.{IsAsked, turns_of}
 use Rattle.office_keep.specs.Office as keep

@@ -1,8 +1,8 @@
 -- A pass stays at its desk through a session.
 use Rattle.std.proofs.Common.{ℕ, List, Bool, refl, sym, subst, ◌∙◌}
 use Rattle.message_heads.specs.Streams.{Said}
-use Rattle.office_session.specs.Sessions.{EndsSo, Scene, Trace, Turn}
-use Rattle.office_session.specs.declared.SessionEnd.{SessionEnd}
+use Rattle.message_session.specs.Sessions.{EndsSo, Scene, Trace, Turn}
+use Rattle.message_session.specs.declared.SessionEnd.{SessionEnd}
 use Rattle.turn_desk.specs.Passes.{PassState}
 use Rattle.wire_session.specs.Treats.{Treats, asked, at_once, unread}
 use Rattle.wire_session.proofs.Keeping.{end_keeps, trace_keeps}

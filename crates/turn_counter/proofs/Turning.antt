@@ -1,10 +1,10 @@
 -- What each turn does, and turns one after another do, a session does by its turns.
 use Rattle.std.proofs.Common.{◌≡◌, ℕ, ◌+◌, List, [], ◌∷◌, ◌++◌, Bool, false, sym, subst, inl, inr}
-use Rattle.office_session.specs.Sessions.{Answering, Scene, Turn, Trace}
-use Rattle.office_session.specs.Sessions.{EndsByTurn, EndsByBad, EndsByBytes, EndsSo}
-use Rattle.office_session.specs.declared.SessionEnd.{SessionEnd}
-use Rattle.office_session.specs.declared.SessionEnd.TheVariants.{Done, Cut, ReadFault, WriteFault}
-use Rattle.office_session.specs.declared.SessionEnd.TheVariants.{NoMemory}
+use Rattle.message_session.specs.Sessions.{Answering, Scene, Turn, Trace}
+use Rattle.message_session.specs.Sessions.{EndsByTurn, EndsByBad, EndsByBytes, EndsSo}
+use Rattle.message_session.specs.declared.SessionEnd.{SessionEnd}
+use Rattle.message_session.specs.declared.SessionEnd.TheVariants.{Done, Cut, ReadFault, WriteFault}
+use Rattle.message_session.specs.declared.SessionEnd.TheVariants.{NoMemory}
 use Rattle.own_counter.specs.Requests.{turns_of}
 use Rattle.wire_session.proofs.Keeping.{Getting}
 

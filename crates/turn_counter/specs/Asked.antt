@@ -6,7 +6,7 @@ use Rattle.turn_desk.specs.Passes.{PassState}
 use Rattle.turn_desk.specs.Sources.{HasDoubt}
 use Rattle.record_form.specs.declared.Entry.{Entry}
 use Rattle.office_history.specs.History.{Office}
-use Rattle.office_session.specs.Sessions.{Turn}
+use Rattle.message_session.specs.Sessions.{Turn}
 use Rattle.own_counter.specs.Requests.{IsAsked}
 use Rattle.turn_counter.specs.Seen.{entry_in, office_seen}
 

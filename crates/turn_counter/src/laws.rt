@@ -1,7 +1,7 @@
 //! Laws of passes at an office's desk.
 ghost use Rattle.std.specs.Prelude.{ℕ, List};
-ghost use Rattle.office_session.specs.declared.SessionEnd.{SessionEnd};
-ghost use Rattle.office_session.specs.Sessions.{EndsSo, Scene, Trace, Turn};
+ghost use Rattle.message_session.specs.declared.SessionEnd.{SessionEnd};
+ghost use Rattle.message_session.specs.Sessions.{EndsSo, Scene, Trace, Turn};
 ghost use Rattle.turn_desk.specs.Passes.{PassState};
 ghost use Rattle.wire_session.specs.Treats.{Treats};
 ghost use Rattle.own_counter.specs.Requests.{turns_of};

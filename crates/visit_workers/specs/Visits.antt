@@ -3,9 +3,9 @@ use Rattle.std.specs.Prelude.{◌≡◌, ◌≢◌, ℕ, ◌≤◌, List, [], �
 use Rattle.office_outside.specs.Faults.{Rose}
 use Rattle.office_doors.specs.Books.{Book, Moves}
 use Rattle.office_doors.specs.declared.Visit.{Visit}
-use Rattle.office_session.specs.declared.SessionEnd.{SessionEnd}
-use Rattle.office_session.specs.declared.SessionEnd.TheVariants.{NoMemory, ReadFault, WriteFault}
-use Rattle.office_session.specs.Sessions.{EndsSo, Scene, scene}
+use Rattle.message_session.specs.declared.SessionEnd.{SessionEnd}
+use Rattle.message_session.specs.declared.SessionEnd.TheVariants.{NoMemory, ReadFault, WriteFault}
+use Rattle.message_session.specs.Sessions.{EndsSo, Scene, scene}
 use Rattle.wire_session.specs.Treats.{Asking, Treats, refusal_text}
 
 -- What is told of a visit: the bytes that its source has left and what its sink holds, how often

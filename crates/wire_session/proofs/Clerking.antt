@@ -3,8 +3,8 @@ use Rattle.std.proofs.Common.{◌≡◌, ℕ, List, Bool, Ok, Err, refl, sym, su
 use Rattle.std.specs.declared.result.Result.{Result}
 use Rattle.std.specs.Result.{OnOk, OnErr}
 use Rattle.message_heads.specs.Streams.{Said}
-use Rattle.office_session.specs.Sessions.{Scene, scene, EndsSo}
-use Rattle.office_session.specs.declared.SessionEnd.{SessionEnd}
+use Rattle.message_session.specs.Sessions.{Scene, scene, EndsSo}
+use Rattle.message_session.specs.declared.SessionEnd.{SessionEnd}
 use Rattle.wire_session.specs.declared.clerk.Clerk.{Clerk}
 use Rattle.wire_session.specs.Clerks.{Serves}
 use Rattle.wire_session.specs.Treats.{Asking, Treats, refusal_text}

@@ -3,11 +3,11 @@ use Rattle.std.proofs.Common.{◌≡◌, ℕ, ◌+◌, List, [], ◌∷◌, Bool
 use Rattle.std.proofs.Common.{inr}
 use Rattle.std.specs.declared.option.Option.{Option}
 use Rattle.message_heads.specs.Streams.{Said}
-use Rattle.office_session.specs.Sessions.{Answering, Scene, Turn, Trace}
-use Rattle.office_session.specs.Sessions.{EndsByTurn, EndsByBad, EndsByBytes, EndsSo}
-use Rattle.office_session.specs.declared.SessionEnd.{SessionEnd}
-use Rattle.office_session.specs.declared.SessionEnd.TheVariants.{Done, Cut, ReadFault, WriteFault}
-use Rattle.office_session.specs.declared.SessionEnd.TheVariants.{NoMemory}
+use Rattle.message_session.specs.Sessions.{Answering, Scene, Turn, Trace}
+use Rattle.message_session.specs.Sessions.{EndsByTurn, EndsByBad, EndsByBytes, EndsSo}
+use Rattle.message_session.specs.declared.SessionEnd.{SessionEnd}
+use Rattle.message_session.specs.declared.SessionEnd.TheVariants.{Done, Cut, ReadFault, WriteFault}
+use Rattle.message_session.specs.declared.SessionEnd.TheVariants.{NoMemory}
 
 abbrev pub Getting : Type 1
 Getting = List ℕ → Option (List ℕ) → Option (List ℕ) → Type 0

@@ -6,8 +6,8 @@ use Rattle.record_form.specs.declared.Request.{Request}
 use Rattle.office_counter.specs.Laws.{Extends, IsOwned}
 use Rattle.office_counter.specs.Steps.{Standing, Step}
 use Rattle.office_counter.proofs.Steps.{step_owned, step_extends, extends_still, extends_both}
-use Rattle.office_session.specs.Sessions.{Scene, Turn, Trace, EndsSo}
-use Rattle.office_session.specs.declared.SessionEnd.{SessionEnd}
+use Rattle.message_session.specs.Sessions.{Scene, Turn, Trace, EndsSo}
+use Rattle.message_session.specs.declared.SessionEnd.{SessionEnd}
 use Rattle.wire_session.specs.Treats.{Asking, Treats, asked, at_once, unread, refusal_text}
 use Rattle.wire_session.proofs.Keeping.{trace_keeps, end_keeps}
 

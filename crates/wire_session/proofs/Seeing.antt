@@ -2,11 +2,11 @@
 use Rattle.std.proofs.Common.{◌≡◌, ℕ, ◌+◌, List, [], ◌∷◌, Bool, false, ap, subst}
 use Rattle.std.proofs.Common.{inl, inr}
 use Rattle.message_heads.specs.Streams.{Said}
-use Rattle.office_session.specs.Sessions.{Answering, Scene, scene, Turn, Trace, Serves, HasTurn}
-use Rattle.office_session.specs.Sessions.{EndsByTurn, EndsByBad, EndsByBytes, EndsSo}
-use Rattle.office_session.specs.declared.SessionEnd.{SessionEnd}
-use Rattle.office_session.specs.declared.SessionEnd.TheVariants.{Done, Cut, ReadFault, WriteFault}
-use Rattle.office_session.specs.declared.SessionEnd.TheVariants.{NoMemory}
+use Rattle.message_session.specs.Sessions.{Answering, Scene, scene, Turn, Trace, Serves, HasTurn}
+use Rattle.message_session.specs.Sessions.{EndsByTurn, EndsByBad, EndsByBytes, EndsSo}
+use Rattle.message_session.specs.declared.SessionEnd.{SessionEnd}
+use Rattle.message_session.specs.declared.SessionEnd.TheVariants.{Done, Cut, ReadFault, WriteFault}
+use Rattle.message_session.specs.declared.SessionEnd.TheVariants.{NoMemory}
 use Rattle.wire_session.proofs.Keeping.{Getting}
 
 -- the scene with this part in place of the handler

@@ -4,7 +4,7 @@ use denote.Param.Send.{IsSend, sendable}
 use Rattle.std.proofs.Crossing.{crosses}
 use Rattle.matchit.proofs.tree.Node.TheLaws.TheKnot.{send-Node}
 use Rattle.matchit.specs.contracts.router.Router as router
-use Rattle.office_session.proofs.buffer.Buffer.TheSendSync as buffer
+use Rattle.message_session.proofs.buffer.Buffer.TheSendSync as buffer
 use Rattle.wire_routes.specs.contracts.find.Routes as routes
 use Rattle.wire_session.specs.contracts.kit.SessionKit as kit
 

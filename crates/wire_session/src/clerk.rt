@@ -9,9 +9,9 @@ ghost use Rattle.wire_replies.specs.Heads.{reply_bytes};
 ghost use Rattle.wire_session.specs.Treats.{Treats};
 
 use message_heads::Message;
+use message_session::Handler;
 use office_counter::Counter;
 use office_outside::{Failed, Sink};
-use office_session::Handler;
 use std::alloc::Global;
 use wire_replies::{Reply, bad_message, immediate_reply, render, write_reply};
 use wire_routes::{Routed, Routes};

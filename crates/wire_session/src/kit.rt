@@ -1,6 +1,6 @@
 //! What sessions need memory for.
 
-use office_session::Buffer;
+use message_session::Buffer;
 use std::alloc::{AllocError, Global};
 use wire_routes::Routes;
 

@@ -1,8 +1,8 @@
 //! Laws of sessions over a counter.
 ghost use Rattle.std.specs.Prelude.{ℕ, List};
 ghost use Rattle.office_counter.specs.Laws.{Extends, IsOwned};
-ghost use Rattle.office_session.specs.declared.SessionEnd.{SessionEnd};
-ghost use Rattle.office_session.specs.Sessions.{EndsSo, Scene, Trace, Turn};
+ghost use Rattle.message_session.specs.declared.SessionEnd.{SessionEnd};
+ghost use Rattle.message_session.specs.Sessions.{EndsSo, Scene, Trace, Turn};
 ghost use Rattle.wire_session.specs.Treats.{Treats, refusal_text};
 
 use office_counter::Counter;

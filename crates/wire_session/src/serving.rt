@@ -1,14 +1,14 @@
 //! Sessions over a counter.
 ghost use Rattle.std.specs.Prelude.{◌≡◌, ◌≢◌, ◌≤◌};
 ghost use Rattle.office_outside.specs.Faults.{Rose};
-ghost use Rattle.office_session.specs.Sessions.{EndsSo, scene};
+ghost use Rattle.message_session.specs.Sessions.{EndsSo, scene};
 ghost use Rattle.wire_session.specs.Treats.{Treats, refusal_text};
 
 use crate::clerk::Clerk;
 use crate::kit::SessionKit;
+use message_session::SessionEnd;
 use office_counter::Counter;
 use office_outside::{Clock, Sink, Source};
-use office_session::SessionEnd;
 use std::alloc::Global;
 
 /// Answers the messages of a source by a counter, one after another, with a kit that the caller
@@ -40,7 +40,7 @@ pub fn session_with<T: Counter, S: Source, K: Sink, C: Clock>(
         routes: &kit.routes,
         counter,
     };
-    office_session::session_with(&mut kit.buffer, &mut clerk, input, output, clock)
+    message_session::session_with(&mut kit.buffer, &mut clerk, input, output, clock)
 }
 
 /// Answers the messages of a source by a counter, one after another. Each message that stands for a

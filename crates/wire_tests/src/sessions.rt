@@ -1,7 +1,7 @@
 //! Sessions over a counter that never has memory: what is asked, and what is answered without it.
+use message_session::SessionEnd;
 use office_counter::Counter;
 use office_outside::{MemoryClock, MemorySink, MemorySource, Plan};
-use office_session::SessionEnd;
 use record_form::{Command, Outcome, Request};
 use std::alloc::{AllocError, Global};
 use std::process::Abort;

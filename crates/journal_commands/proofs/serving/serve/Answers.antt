@@ -1,5 +1,5 @@
 use Rattle.std.proofs.Common.{[], subst}
-use Rattle.office_session.specs.Sessions.{EndsSo}
+use Rattle.message_session.specs.Sessions.{EndsSo}
 use Rattle.wire_session.specs.Treats.{Treats, refusal_text}
 use Rattle.own_counter.specs.Own.{OwnAsks, OwnOn, own_on}
 use Rattle.journal_commands.specs.Serving.{Outside, outside, with_counter}

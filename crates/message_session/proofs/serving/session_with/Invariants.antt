@@ -1,7 +1,7 @@
 use Rattle.std.proofs.Common.{◌≡◌, ◌<◌, ◌≤◌, ◌-◌, List, length}
 use Rattle.slo_limits.specs.declared.TheConstants.{MAX_REQUESTS}
-use Rattle.office_session.specs.Sessions.{Turn, Serves, scene}
-use Rattle.office_session.proofs.serving.session_with.Given as goal
+use Rattle.message_session.specs.Sessions.{Turn, Serves, scene}
+use Rattle.message_session.proofs.serving.session_with.Given as goal
 
 -- the turns so far, and the bytes that wait
 abbrev pub invariant-serving : goal.invariant-serving

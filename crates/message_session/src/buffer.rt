@@ -3,7 +3,7 @@ ghost use Rattle.std.specs.Prelude.{◌≡◌, ◌+◌, ◌≤◌, ◌<◌, ◌-
 ghost use Rattle.std.specs.Prelude.{OnErr};
 ghost use Rattle.office_outside.specs.Faults.{HasCause};
 ghost use Rattle.office_outside.specs.Told.{HasNothingLeft};
-ghost use Rattle.office_session.specs.Fillings.{Fills};
+ghost use Rattle.message_session.specs.Fillings.{Fills};
 
 use message_heads::MAX_MESSAGE_BYTES;
 use office_outside::{Failed, Source};
@@ -21,7 +21,7 @@ pub struct Buffer {
 
 impl Model for Buffer {
     ghost use Rattle.std.specs.Prelude.{◌≡◌, ℕ, List, ◌≤◌, ◌-◌, length, take, drop};
-    ghost use Rattle.office_session.specs.Fillings.{IsWindow};
+    ghost use Rattle.message_session.specs.Fillings.{IsWindow};
 
     ghost Value = { List ℕ };
 

@@ -7,9 +7,9 @@ use Rattle.message_heads.specs.Hearing.{Hears}
 use Rattle.message_heads.specs.declared.reading.TheConstants.{MAX_MESSAGE_BYTES}
 use Rattle.message_heads.specs.Streams.{Said, IsWhole, AreMessages}
 use Rattle.message_heads.specs.declared.message.Heard.TheVariants.{Bad, More}
-use Rattle.office_session.specs.declared.serving.SessionEnd.{SessionEnd}
-use Rattle.office_session.specs.declared.serving.SessionEnd.TheVariants.{Done, Cut, ReadFault}
-use Rattle.office_session.specs.declared.serving.SessionEnd.TheVariants.{WriteFault, NoMemory}
+use Rattle.message_session.specs.declared.serving.SessionEnd.{SessionEnd}
+use Rattle.message_session.specs.declared.serving.SessionEnd.TheVariants.{Done, Cut, ReadFault}
+use Rattle.message_session.specs.declared.serving.SessionEnd.TheVariants.{WriteFault, NoMemory}
 
 -- what a handler may do with one message: the handler before, what the message says, whether the
 -- answer is the session's last, the clock's reading, the answer's bytes, the handler after

@@ -7,7 +7,7 @@ ghost use Rattle.message_heads.specs.declared.message.Heard.TheVariants.{Whole};
 ghost use Rattle.message_heads.specs.Hearing.{Hears};
 ghost use Rattle.message_heads.specs.Streams.{said_in};
 ghost use Rattle.slo_limits.specs.declared.TheConstants.{MAX_MINUTE};
-ghost use Rattle.office_session.specs.Sessions.{EndsAt, EndsSo, EndsWriting, HasTurn, scene};
+ghost use Rattle.message_session.specs.Sessions.{EndsAt, EndsSo, EndsWriting, HasTurn, scene};
 
 use crate::buffer::Buffer;
 use crate::handler::Handler;

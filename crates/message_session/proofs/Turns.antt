@@ -16,15 +16,15 @@ use Rattle.message_heads.specs.declared.message.Message.{Message}
 use Rattle.message_heads.specs.declared.reading.TheConstants.{MAX_MESSAGE_BYTES}
 use Rattle.message_heads.specs.declared.message.Heard.TheVariants.{Whole, Bad, More}
 use Rattle.message_heads.proofs.StreamLemmas.{heard_whole}
-use Rattle.office_session.specs.Fillings.{Fills}
-use Rattle.office_session.specs.Sessions.{Answering, Scene, scene, Turn, said_of_turns, Readings}
-use Rattle.office_session.specs.Sessions.{Reads, Trace, Takes, Serves, is_last, EndsSo, EndsAt}
-use Rattle.office_session.specs.Sessions.{EndsWriting, EndsByTurn, HasTurn}
-use Rattle.office_session.specs.declared.serving.SessionEnd.{SessionEnd}
-use Rattle.office_session.specs.declared.serving.SessionEnd.TheVariants.{Done, Cut, ReadFault}
-use Rattle.office_session.specs.declared.serving.SessionEnd.TheVariants.{WriteFault, NoMemory}
+use Rattle.message_session.specs.Fillings.{Fills}
+use Rattle.message_session.specs.Sessions.{Answering, Scene, scene, Turn, said_of_turns, Readings}
+use Rattle.message_session.specs.Sessions.{Reads, Trace, Takes, Serves, is_last, EndsSo, EndsAt}
+use Rattle.message_session.specs.Sessions.{EndsWriting, EndsByTurn, HasTurn}
+use Rattle.message_session.specs.declared.serving.SessionEnd.{SessionEnd}
+use Rattle.message_session.specs.declared.serving.SessionEnd.TheVariants.{Done, Cut, ReadFault}
+use Rattle.message_session.specs.declared.serving.SessionEnd.TheVariants.{WriteFault, NoMemory}
 use Rattle.std.proofs.lemmas.Bool.Decides.{nat_tests}
-use Rattle.office_session.proofs.Growing.{messages_grow, messages_more}
+use Rattle.message_session.proofs.Growing.{messages_grow, messages_more}
 
 -- what was gained whole was gained in a prefix
 pub gained_all : (bytes : List ℕ) (old new : Option (List ℕ)) → Gained bytes old new

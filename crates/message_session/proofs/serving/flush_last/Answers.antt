@@ -1,8 +1,8 @@
 use Rattle.std.proofs.Common.{ℕ, List, subst, sym}
 use Rattle.std.specs.declared.option.Option.{Option}
 use Rattle.office_outside.specs.Told.{Gained, GainedPrefix}
-use Rattle.office_session.proofs.Turns.{gained_all}
-use Rattle.office_session.proofs.serving.flush_last.Goals as goal
+use Rattle.message_session.proofs.Turns.{gained_all}
+use Rattle.message_session.proofs.serving.flush_last.Goals as goal
 
 pub returns-in-Ok-clause-ends : goal.returns-in-Ok-clause-ends
 returns-in-Ok-clause-ends g c text held gained =

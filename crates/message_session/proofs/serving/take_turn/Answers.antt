@@ -1,6 +1,6 @@
 use Rattle.std.proofs.Common.{rules}
-use Rattle.office_session.proofs.Turns.{answered_over}
-use Rattle.office_session.proofs.serving.take_turn.Goals as goal
+use Rattle.message_session.proofs.Turns.{answered_over}
+use Rattle.message_session.proofs.serving.take_turn.Goals as goal
 
 -- No answer names the reading: a turn whose reading is missing, or is another, leaves its goal
 -- open.

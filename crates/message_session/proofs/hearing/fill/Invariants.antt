@@ -1,6 +1,6 @@
 use Rattle.std.proofs.Common.{◌≤◌, ◌-◌, length}
-use Rattle.office_session.specs.Fillings.{Fills}
-use Rattle.office_session.proofs.hearing.fill.Given as goal
+use Rattle.message_session.specs.Fillings.{Fills}
+use Rattle.message_session.proofs.hearing.fill.Given as goal
 
 abbrev pub invariant-filling : goal.invariant-filling
 invariant-filling g l = record {

@@ -1,7 +1,7 @@
 use Rattle.std.proofs.Common.{take, arith}
-use Rattle.office_session.proofs.Growing.{fills_same}
-use Rattle.office_session.proofs.Windows.{window_grown, window_kept}
-use Rattle.office_session.proofs.buffer.read_behind.Goals as goal
+use Rattle.message_session.proofs.Growing.{fills_same}
+use Rattle.message_session.proofs.Windows.{window_grown, window_kept}
+use Rattle.message_session.proofs.buffer.read_behind.Goals as goal
 
 pub returns-in-Err-clause-fills_none : goal.returns-in-Err-clause-fills_none
 returns-in-Err-clause-fills_none g c = fills_same _ _ _ _

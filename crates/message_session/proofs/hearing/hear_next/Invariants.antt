@@ -1,7 +1,7 @@
 use Rattle.std.proofs.Common.{◌≤◌, ◌-◌, length}
-use Rattle.office_session.specs.Fillings.{Fills}
+use Rattle.message_session.specs.Fillings.{Fills}
 use Rattle.message_heads.specs.declared.reading.TheConstants.{MAX_MESSAGE_BYTES}
-use Rattle.office_session.proofs.hearing.hear_next.Given as goal
+use Rattle.message_session.proofs.hearing.hear_next.Given as goal
 
 abbrev pub invariant-hearing : goal.invariant-hearing
 invariant-hearing g l = record {

@@ -1,8 +1,8 @@
 use Rattle.std.proofs.Common.{List, ℕ, subst, ap, Ok}
 use Rattle.message_heads.specs.Hearing.{Hears, Awaits}
 use Rattle.message_heads.specs.declared.message.Heard.TheVariants.{Whole, Bad}
-use Rattle.office_session.proofs.Growing.{more_after}
-use Rattle.office_session.proofs.hearing.hear_next.Goals as goal
+use Rattle.message_session.proofs.Growing.{more_after}
+use Rattle.message_session.proofs.hearing.hear_next.Goals as goal
 
 pub returns-in-Whole-clause-heard : goal.returns-in-Whole-clause-heard
 returns-in-Whole-clause-heard g c =

@@ -1,11 +1,11 @@
 use Rattle.std.proofs.Common.{[], arith, subst, inl, refl, true}
 use Rattle.office_outside.specs.Told.{Gained, GainedPrefix}
 use Rattle.message_heads.specs.declared.message.Heard.{Heard}
-use Rattle.office_session.specs.Hearings.{Concludes}
-use Rattle.office_session.specs.Sessions.{EndsAt}
-use Rattle.office_session.proofs.Turns.{serves_none, serves_fills, ends_at, ends_by_bad}
-use Rattle.office_session.proofs.Turns.{ends_by_turn, goes_on}
-use Rattle.office_session.proofs.serving.session_with.Goals as goal
+use Rattle.message_session.specs.Hearings.{Concludes}
+use Rattle.message_session.specs.Sessions.{EndsAt}
+use Rattle.message_session.proofs.Turns.{serves_none, serves_fills, ends_at, ends_by_bad}
+use Rattle.message_session.proofs.Turns.{ends_by_turn, goes_on}
+use Rattle.message_session.proofs.serving.session_with.Goals as goal
 
 pub serving-init : goal.serving-init
 serving-init g c = record {

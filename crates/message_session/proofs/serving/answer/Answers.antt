@@ -1,8 +1,8 @@
 use Rattle.std.proofs.Common.{ℕ, List, subst, sym}
 use Rattle.std.specs.declared.option.Option.{Option}
 use Rattle.office_outside.specs.Told.{GainedPrefix}
-use Rattle.office_session.proofs.Turns.{gained_all}
-use Rattle.office_session.proofs.serving.answer.Goals as goal
+use Rattle.message_session.proofs.Turns.{gained_all}
+use Rattle.message_session.proofs.serving.answer.Goals as goal
 
 pub returns-in-Err-flush-clause-part : goal.returns-in-Err-flush-clause-part
 returns-in-Err-flush-clause-part g c =

@@ -4,8 +4,8 @@ ghost use Rattle.office_outside.specs.Faults.{HasCause};
 ghost use Rattle.office_outside.specs.Told.{HasNothingLeft};
 ghost use Rattle.message_heads.specs.declared.message.Heard.TheVariants.{More};
 ghost use Rattle.message_heads.specs.Hearing.{Hears};
-ghost use Rattle.office_session.specs.Fillings.{Fills};
-ghost use Rattle.office_session.specs.Hearings.{Concludes};
+ghost use Rattle.message_session.specs.Fillings.{Fills};
+ghost use Rattle.message_session.specs.Hearings.{Concludes};
 
 use crate::buffer::Buffer;
 use message_heads::{Heard, Hearing, MAX_MESSAGE_BYTES, hear};

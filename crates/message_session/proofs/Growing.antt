@@ -10,8 +10,8 @@ use Rattle.message_heads.specs.Hearing.{whole, Hears, Awaits}
 use Rattle.message_heads.specs.Streams.{Said, IsWhole, AreMessages}
 use Rattle.message_heads.specs.declared.message.Heard.TheVariants.{More}
 use Rattle.message_heads.proofs.WaitLemmas.{decided_more}
-use Rattle.office_session.specs.Fillings.{Fills}
-use Rattle.office_session.specs.Sessions.{Turn, said_of_turns}
+use Rattle.message_session.specs.Fillings.{Fills}
+use Rattle.message_session.specs.Sessions.{Turn, said_of_turns}
 
 -- a whole message stays one with more behind it
 whole_grow : (bytes more : List ℕ) (n : ℕ) (said : Said) → IsWhole bytes n said
