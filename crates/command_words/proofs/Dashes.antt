@@ -17,8 +17,8 @@ use Rattle.sample_stream.specs.declared.stream.TheConstants.{MAX_NUMBER}
 use Rattle.command_words.specs.Commands.{asked_alone, asked_named, asked_of, command_named}
 use Rattle.command_words.specs.Commands.{is_dashed, max_port, minute_asked, not_zero, number_asked}
 use Rattle.command_words.specs.Commands.{counters_asked, port_asked}
-use Rattle.command_words.specs.declared.asked.Asked.TheVariants as asked
-use Rattle.command_words.specs.declared.asked.Command.TheVariants as commands
+use Rattle.command_words.specs.declared.invocation.Invocation.TheVariants as invocation
+use Rattle.command_words.specs.declared.invocation.InputCommand.TheVariants as commands
 
 module _ {A : Type 0} where
   none_in_both : (b : Bool) (x y : Option A) → x ≡ None → y ≡ None → cond b x y ≡ None
@@ -129,17 +129,18 @@ none_command name ws h =
 
 none_named : (name : List ℕ) (ws : List (List ℕ)) → HasDash ws → asked_named name ws ≡ None
 none_named name ws h =
-    none_in_both (bytes_eq name (codes "init")) _ _ (ap (option_map asked.Init) (none_minute ws h))
+    none_in_both (bytes_eq name (codes "init")) _ _
+    (ap (option_map invocation.Init) (none_minute ws h))
     (none_in_both (bytes_eq name (codes "report")) _ _
-    (ap (option_map asked.Report) (none_minute ws h))
-    (none_in_both (bytes_eq name (codes "pipe")) _ _ (none_alone asked.Pipe ws h)
+    (ap (option_map invocation.Report) (none_minute ws h))
+    (none_in_both (bytes_eq name (codes "pipe")) _ _ (none_alone invocation.Pipe ws h)
     (none_in_both (bytes_eq name (codes "serve")) _ _
-    (ap (option_map asked.Serve) (none_port ws h))
+    (ap (option_map invocation.Serve) (none_port ws h))
     (none_in_both (bytes_eq name (codes "generate")) _ _
-    (ap (option_map asked.Generate) (none_number ws h))
+    (ap (option_map invocation.Generate) (none_number ws h))
     (none_in_both (bytes_eq name (codes "counters")) _ _
-    (ap (option_map asked.Counters) (none_counters ws h))
-    (ap (option_map asked.Answer) (none_command name ws h)))))))
+    (ap (option_map invocation.Counters) (none_counters ws h))
+    (ap (option_map invocation.Answer) (none_command name ws h)))))))
 
 pub none_of : (ws : List (List ℕ)) → HasDash ws → asked_of ws ≡ None
 none_of [] h = cc h

@@ -7,12 +7,14 @@ use Rattle.exact_fraction.specs.Label.{label_of}
 use Rattle.slo_limits.specs.declared.TheConstants.{MAX_MINUTE, WHOLE}
 use Rattle.budget_command.specs.Order.{budget_order}
 use Rattle.sample_stream.specs.declared.stream.TheConstants.{MAX_NUMBER}
-use Rattle.command_words.specs.declared.asked.Asked.{Asked}
-use Rattle.command_words.specs.declared.asked.Asked.TheVariants.{Answer, Init, Pipe, Report}
-use Rattle.command_words.specs.declared.asked.Asked.TheVariants.{Counters, Generate, Serve}
-use Rattle.command_words.specs.declared.asked.CountersOrder.{CountersOrder}
-use Rattle.command_words.specs.declared.asked.Command.{Command}
-use Rattle.command_words.specs.declared.asked.Command.TheVariants.{Budget, Check}
+use Rattle.command_words.specs.declared.invocation.Invocation.{Invocation}
+use Rattle.command_words.specs.declared.invocation.Invocation.TheVariants.{Answer, Init, Pipe}
+use Rattle.command_words.specs.declared.invocation.Invocation.TheVariants.{Report}
+use Rattle.command_words.specs.declared.invocation.Invocation.TheVariants.{Counters, Generate}
+use Rattle.command_words.specs.declared.invocation.Invocation.TheVariants.{Serve}
+use Rattle.command_words.specs.declared.invocation.CountersOrder.{CountersOrder}
+use Rattle.command_words.specs.declared.invocation.InputCommand.{InputCommand}
+use Rattle.command_words.specs.declared.invocation.InputCommand.TheVariants.{Budget, Check}
 
 -- a word that begins with a hyphen
 abbrev pub is_dashed : List ℕ → Bool
@@ -25,7 +27,7 @@ asked_alone asked [] = Some asked
 asked_alone asked _ = None
 
 -- what the words behind the name of a command that is answered from its input ask for
-abbrev pub command_named : List ℕ → List (List ℕ) → Option Command
+abbrev pub command_named : List ℕ → List (List ℕ) → Option InputCommand
 command_named name words =
     if bytes_eq name (codes "budget") then option_map Budget (budget_order words)
     else if bytes_eq name (codes "check") then asked_alone Check words
@@ -69,7 +71,7 @@ counters_asked (word ∷ []) =
 counters_asked _ = None
 
 -- what the words behind the name of any command ask for
-abbrev pub asked_named : List ℕ → List (List ℕ) → Option Asked
+abbrev pub asked_named : List ℕ → List (List ℕ) → Option Invocation
 asked_named name words =
     if bytes_eq name (codes "init") then option_map Init (minute_asked words)
     else if bytes_eq name (codes "report") then option_map Report (minute_asked words)
@@ -80,26 +82,26 @@ asked_named name words =
     else option_map Answer (command_named name words)
 
 -- What the words ask for; none where they are no form of a command.
-abbrev pub asked_of : List (List ℕ) → Option Asked
+abbrev pub asked_of : List (List ℕ) → Option Invocation
 asked_of [] = None
 asked_of (name ∷ words) = asked_named name words
 
 -- a budget's target is below 1, and its range doesn't end before it begins
-abbrev pub IsSound : Command → Type 0
+abbrev pub IsSound : InputCommand → Type 0
 IsSound (Budget order) = (order.target < WHOLE) × (order.from ≤ order.to)
 IsSound Check = ⊤
 
 -- what is asked for is sound: a command on its input, a port, and the number of a sample stream
-abbrev pub IsSoundAsked : Asked → Type 0
-IsSoundAsked (Answer command) = IsSound command
-IsSoundAsked (Init origin) = ⊤
-IsSoundAsked Pipe = ⊤
-IsSoundAsked (Report at) = ⊤
-IsSoundAsked (Serve port) = (1 ≤ port) × (port ≤ max_port)
-IsSoundAsked (Generate number) = (1 ≤ number) × (number ≤ MAX_NUMBER)
-IsSoundAsked (Counters order) = ⊤
+abbrev pub IsSoundInvocation : Invocation → Type 0
+IsSoundInvocation (Answer command) = IsSound command
+IsSoundInvocation (Init origin) = ⊤
+IsSoundInvocation Pipe = ⊤
+IsSoundInvocation (Report at) = ⊤
+IsSoundInvocation (Serve port) = (1 ≤ port) × (port ≤ max_port)
+IsSoundInvocation (Generate number) = (1 ≤ number) × (number ≤ MAX_NUMBER)
+IsSoundInvocation (Counters order) = ⊤
 
 -- a command that reads the journal's file and changes nothing in it: a report
-abbrev pub only_reads : Asked → Bool
+abbrev pub only_reads : Invocation → Bool
 only_reads (Report at) = true
 only_reads _ = false

@@ -6,12 +6,14 @@ use Rattle.clap.specs.Walk.{Row as Argument, Text, first_of}
 use Rattle.exact_fraction.specs.Label.{label_of}
 use Rattle.budget_command.specs.Order.{order_of}
 use Rattle.command_words.specs.Commands.{counters_for, minute_asked, number_asked, port_asked}
-use Rattle.command_words.specs.declared.asked.Asked.{Asked}
-use Rattle.command_words.specs.declared.asked.Asked.TheVariants.{Answer, Init, Pipe, Report}
-use Rattle.command_words.specs.declared.asked.Asked.TheVariants.{Counters, Generate, Serve}
-use Rattle.command_words.specs.declared.asked.CountersOrder.{CountersOrder}
-use Rattle.command_words.specs.declared.asked.Command.{Command}
-use Rattle.command_words.specs.declared.asked.Command.TheVariants.{Budget, Check}
+use Rattle.command_words.specs.declared.invocation.Invocation.{Invocation}
+use Rattle.command_words.specs.declared.invocation.Invocation.TheVariants.{Answer, Init, Pipe}
+use Rattle.command_words.specs.declared.invocation.Invocation.TheVariants.{Report}
+use Rattle.command_words.specs.declared.invocation.Invocation.TheVariants.{Counters, Generate}
+use Rattle.command_words.specs.declared.invocation.Invocation.TheVariants.{Serve}
+use Rattle.command_words.specs.declared.invocation.CountersOrder.{CountersOrder}
+use Rattle.command_words.specs.declared.invocation.InputCommand.{InputCommand}
+use Rattle.command_words.specs.declared.invocation.InputCommand.TheVariants.{Budget, Check}
 
 -- the minute that a word asks for, where there is one
 abbrev pub minute_by : Option Text → Option (Option ℕ)
@@ -34,17 +36,17 @@ counters_by None = None
 counters_by (Some word) = option_map counters_for (label_of word)
 
 -- what the three words of `budget` ask for
-abbrev pub order_with : Option Text → Option Text → Option Text → Option Command
+abbrev pub order_with : Option Text → Option Text → Option Text → Option InputCommand
 order_with (Some target) (Some from) (Some to) = option_map Budget (order_of target from to)
 order_with _ _ _ = None
 
-abbrev pub order_by : List Argument → Option Command
+abbrev pub order_by : List Argument → Option InputCommand
 order_by arguments =
     order_with (first_of (codes "target") arguments) (first_of (codes "from") arguments)
     (first_of (codes "to") arguments)
 
 -- what a command asks for with the arguments that are held for it
-abbrev pub asked_in : Text → List Argument → Option Asked
+abbrev pub asked_in : Text → List Argument → Option Invocation
 asked_in name arguments =
     if bytes_eq name (codes "budget") then option_map Answer (order_by arguments)
     else if bytes_eq name (codes "check") then Some (Answer Check)
@@ -62,7 +64,7 @@ asked_in name arguments =
     else None
 
 -- what the command that was found asks for
-abbrev pub asked_by : Option (Text × List Argument) → Option Asked
+abbrev pub asked_by : Option (Text × List Argument) → Option Invocation
 asked_by None = None
 asked_by (Some found) = asked_in found.0 found.1
 

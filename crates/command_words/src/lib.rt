@@ -3,9 +3,9 @@
 //! Promises that a command is asked for exactly where the words are of its form.
 #![tactic(auto)]
 
-mod asked;
 mod forms;
+mod invocation;
 mod reading;
 
-pub use asked::{Asked, Command, CountersOrder};
+pub use invocation::{CountersOrder, InputCommand, Invocation};
 pub use reading::{WordsFault, only_reads, read_words};

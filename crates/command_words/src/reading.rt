@@ -5,14 +5,14 @@ ghost use Rattle.std.specs.List.{list_any};
 ghost use Rattle.clap.specs.Matches.{found_of};
 ghost use Rattle.clap.specs.Simple.{subcommand_rows_of as found_by};
 ghost use Rattle.clap.specs.Walk.{first_of, rows_of as arguments_of};
-ghost use Rattle.command_words.specs.Commands.{IsSound, IsSoundAsked, asked_of};
+ghost use Rattle.command_words.specs.Commands.{IsSound, IsSoundInvocation, asked_of};
 ghost use Rattle.command_words.specs.Commands.{is_dashed as dashed, only_reads as reads_alone};
 ghost use Rattle.command_words.specs.Matches.{begins_with_report as report_first};
 ghost use Rattle.command_words.specs.Matches.{asked_by, asked_in, minute_by, number_by};
 ghost use Rattle.command_words.specs.Matches.{counters_by, order_by, port_by};
 
-use crate::asked::{Asked, Command, CountersOrder};
 use crate::forms::forms;
+use crate::invocation::{CountersOrder, InputCommand, Invocation};
 use budget_command::{BudgetOrder, read_order};
 use clap::ArgMatches;
 use clap::error::ErrorKind;
@@ -123,7 +123,7 @@ fn read_counters(words: &ArgMatches, id: &str) -> Option<CountersOrder>
 }
 
 /// What the words of `budget` ask for.
-fn read_budget(words: &ArgMatches) -> Option<Command>
+fn read_budget(words: &ArgMatches) -> Option<InputCommand>
     ensures order { result ≡ order_by (arguments_of (found_of words.now)) }
     ensures sound { IfSome result IsSound }
 {
@@ -131,31 +131,31 @@ fn read_budget(words: &ArgMatches) -> Option<Command>
     let from = word(words, "from")?;
     let to = word(words, "to")?;
     let order = read_order(target.as_bytes(), from.as_bytes(), to.as_bytes())?;
-    Some(Command::Budget(order))
+    Some(InputCommand::Budget(order))
 }
 
 /// What the words of the command of this name ask for.
-fn read_command(name: &str, words: &ArgMatches) -> Option<Asked>
+fn read_command(name: &str, words: &ArgMatches) -> Option<Invocation>
     ensures asked { result ≡ asked_in name.now (arguments_of (found_of words.now)) }
-    ensures sound { IfSome result IsSoundAsked }
+    ensures sound { IfSome result IsSoundInvocation }
 {
     match name {
-        "budget" => Some(Asked::Answer(read_budget(words)?)),
-        "check" => Some(Asked::Answer(Command::Check)),
-        "init" => Some(Asked::Init(read_minute(words, "origin")?)),
-        "pipe" => Some(Asked::Pipe),
-        "report" => Some(Asked::Report(read_minute(words, "at")?)),
-        "serve" => Some(Asked::Serve(read_port(words, "port")?)),
-        "generate" => Some(Asked::Generate(read_number(words, "number")?)),
-        "counters" => Some(Asked::Counters(read_counters(words, "sli")?)),
+        "budget" => Some(Invocation::Answer(read_budget(words)?)),
+        "check" => Some(Invocation::Answer(InputCommand::Check)),
+        "init" => Some(Invocation::Init(read_minute(words, "origin")?)),
+        "pipe" => Some(Invocation::Pipe),
+        "report" => Some(Invocation::Report(read_minute(words, "at")?)),
+        "serve" => Some(Invocation::Serve(read_port(words, "port")?)),
+        "generate" => Some(Invocation::Generate(read_number(words, "number")?)),
+        "counters" => Some(Invocation::Counters(read_counters(words, "sli")?)),
         _ => None,
     }
 }
 
 /// What the words ask for, of which `clap` has made these matches.
-fn read_matches(matches: &ArgMatches) -> Option<Asked>
+fn read_matches(matches: &ArgMatches) -> Option<Invocation>
     ensures asked { result ≡ asked_by (found_by matches.now) }
-    ensures sound { IfSome result IsSoundAsked }
+    ensures sound { IfSome result IsSoundInvocation }
 {
     let (name, words) = matches.subcommand()?;
     read_command(name, words)
@@ -166,9 +166,9 @@ fn read_matches(matches: &ArgMatches) -> Option<Asked>
 /// # Errors
 ///
 /// The words are no form of a command, or memory ran out.
-pub fn read_words(alloc: Global, words: &[String]) -> Result<Asked, WordsFault>
+pub fn read_words(alloc: Global, words: &[String]) -> Result<Invocation, WordsFault>
     ensures asked { IfOk result (λ asked. asked_of (map string_bytes words.now) ≡ Some asked) }
-    ensures sound { IfOk result IsSoundAsked }
+    ensures sound { IfOk result IsSoundInvocation }
     ensures usage { result ≡ Err WordsFault.Usage → asked_of (map string_bytes words.now) ≡ None }
 {
     if has_dashes(words) {
@@ -196,7 +196,7 @@ fn begins_with_report(words: &[String]) -> bool
 /// Whether the words ask for a command that reads the journal's file and changes nothing in it.
 /// Words that ask for nothing may be taken for either.
 pub fn only_reads(words: &[String]) -> bool
-    ensures { (asked : Asked) → asked_of (map string_bytes words.now) ≡ Some asked
+    ensures { (asked : Invocation) → asked_of (map string_bytes words.now) ≡ Some asked
         → result ≡ reads_alone asked }
 {
     begins_with_report(words)

@@ -5,15 +5,16 @@ use Rattle.std.proofs.Common.{ap, subst, ◌∙◌, inl, inr, flat_map, true}
 use Rattle.std.specs.List.{AllByRecursion}
 use Rattle.message_heads.specs.Streams.{Said}
 use Rattle.office_outside.specs.Told.{Gained}
-use Rattle.message_session.specs.Sessions.{Answering, Scene, scene, Turn, Trace, Serves}
+use Rattle.message_session.specs.Sessions.{Answering, SessionWorld, session_world, Turn, Trace}
+use Rattle.message_session.specs.Sessions.{Serves}
 use Rattle.message_session.specs.Sessions.{EndsByTurn, EndsByBad, EndsByBytes, EndsSo}
 use Rattle.message_session.specs.declared.SessionEnd.TheVariants.{Done}
 use Rattle.generate_command.specs.Playing.{HasNone}
 use Rattle.generate_command.proofs.Nowhere.{gained_told, none_before, none_behind, none_in_turns}
 
--- the scene with this part in place of the handler
-abbrev pub seen : {H T : Type 0} → (H → T) → Scene H → Scene T
-seen part s = scene s.left s.to_come (part s.handler) s.held
+-- the session's world with this part in place of the handler
+abbrev pub seen : {H T : Type 0} → (H → T) → SessionWorld H → SessionWorld T
+seen part s = session_world s.left s.to_come (part s.handler) s.held
 
 -- one turn, seen so: the handler behind it is sound
 abbrev pub IsSeen : {H T : Type 0} → (H → Type 0) → Answering T → (H → T) → H → Said → Bool → ℕ
@@ -48,7 +49,7 @@ module _ {H T : Type 0} (answers : Answering H) (treats : Answering T) (part : H
       let more = trace_seen (count + 1) mid ts new rest one.0 fine others in
       (more.0, (part mid, open_yet, one.1, more.1))
 
-  serves_seen : (turns : List Turn) (waiting : List ℕ) (old new : Scene H)
+  serves_seen : (turns : List Turn) (waiting : List ℕ) (old new : SessionWorld H)
       → Serves answers turns waiting old new → Sound old.handler → Fine new.handler
       → HasNone piece (flat_map (λ (t : Turn). t.answer) turns)
       → Sound new.handler × Serves treats turns waiting (seen part old) (seen part new)
@@ -69,7 +70,7 @@ module _ {H T : Type 0} (answers : Answering H) (treats : Answering T) (part : H
       )
 
   -- the answers so far, where they are told
-  told_so_far : (turns : List Turn) (waiting : List ℕ) (old new : Scene H)
+  told_so_far : (turns : List Turn) (waiting : List ℕ) (old new : SessionWorld H)
       → Serves answers turns waiting old new → old.held ≡ Some []
       → new.held ≡ Some (flat_map (λ (t : Turn). t.answer) turns)
   told_so_far turns waiting old new s empty =
@@ -78,7 +79,7 @@ module _ {H T : Type 0} (answers : Answering H) (treats : Answering T) (part : H
       empty s.gained)
 
   -- and with one more text
-  told_with : (turns : List Turn) (waiting text bytes : List ℕ) (old mid : Scene H)
+  told_with : (turns : List Turn) (waiting text bytes : List ℕ) (old mid : SessionWorld H)
       (held : Option (List ℕ)) → Serves answers turns waiting old mid → old.held ≡ Some []
       → Gained text mid.held held → held ≡ Some bytes
       → bytes ≡ flat_map (λ (t : Turn). t.answer) turns ++ text
@@ -90,7 +91,7 @@ module _ {H T : Type 0} (answers : Answering H) (treats : Answering T) (part : H
       let same = sym is ∙ after in
       cc same
 
-  turn_seen : (bytes : List ℕ) (old new : Scene H) → EndsByTurn answers Gained true old new
+  turn_seen : (bytes : List ℕ) (old new : SessionWorld H) → EndsByTurn answers Gained true old new
       → Sound old.handler → Fine new.handler → old.held ≡ Some [] → new.held ≡ Some bytes
       → HasNone piece bytes → EndsByTurn treats Gained true (seen part old) (seen part new)
   turn_seen bytes old new t sound fine empty told none =
@@ -127,7 +128,7 @@ module _ {H T : Type 0} (answers : Answering H) (treats : Answering T) (part : H
         };
       }
 
-  bad_seen : (bytes : List ℕ) (old new : Scene H) → EndsByBad answers refusal Gained old new
+  bad_seen : (bytes : List ℕ) (old new : SessionWorld H) → EndsByBad answers refusal Gained old new
       → Sound old.handler → Fine new.handler → old.held ≡ Some [] → new.held ≡ Some bytes
       → HasNone piece bytes → EndsByBad treats words Gained (seen part old) (seen part new)
   bad_seen bytes old new b sound fine empty told none =
@@ -151,7 +152,7 @@ module _ {H T : Type 0} (answers : Answering H) (treats : Answering T) (part : H
             (spelled b.mid.handler b.status) b.answered;
       }
 
-  bytes_seen : (bytes : List ℕ) (old new : Scene H)
+  bytes_seen : (bytes : List ℕ) (old new : SessionWorld H)
       → EndsByBytes answers (λ waiting. waiting ≡ []) old new
       → Sound old.handler → Fine new.handler → old.held ≡ Some [] → new.held ≡ Some bytes
       → HasNone piece bytes
@@ -170,7 +171,7 @@ module _ {H T : Type 0} (answers : Answering H) (treats : Answering T) (part : H
         rest = e.rest;
       }
 
-  pub done_seen : (bytes : List ℕ) (old new : Scene H) → EndsSo answers refusal Done old new
+  pub done_seen : (bytes : List ℕ) (old new : SessionWorld H) → EndsSo answers refusal Done old new
       → Sound old.handler → Fine new.handler → old.held ≡ Some [] → new.held ≡ Some bytes
       → HasNone piece bytes → EndsSo treats words Done (seen part old) (seen part new)
   done_seen bytes old new (inl t) sound fine empty told none =

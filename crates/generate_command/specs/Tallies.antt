@@ -6,7 +6,7 @@ use Rattle.record_form.specs.Words.{failure_of}
 use Rattle.record_form.specs.declared.BudgetRow.{BudgetRow}
 use Rattle.record_form.specs.declared.Outcome.{Outcome}
 use Rattle.record_form.specs.declared.Outcome.TheVariants.{Budgets, DiskFault, NoMemory}
-use Rattle.generate_command.specs.declared.tally.Tally.{Tally}
+use Rattle.generate_command.specs.declared.tally.SessionTally.{SessionTally}
 
 -- whether an outcome is answered with status 200
 abbrev pub is_ok : Outcome → Bool
@@ -23,11 +23,11 @@ abbrev pub budget_told : Outcome → Option BudgetRow → Option BudgetRow
 budget_told (Budgets at budgets entries) before = slice_get budgets 0
 budget_told _ before = before
 
-abbrev pub no_tally : Tally
+abbrev pub no_tally : SessionTally
 no_tally = record { requests = 0; ok = 0; budget = None }
 
 -- the tally with one more outcome; a count stops at the last value of its type
-abbrev pub tally_with : Outcome → Tally → Tally
+abbrev pub tally_with : Outcome → SessionTally → SessionTally
 tally_with outcome tally = record {
   requests = next_count tally.requests;
   ok = if is_ok outcome then next_count tally.ok else tally.ok;

@@ -2,7 +2,7 @@
 use Rattle.std.specs.Prelude.{◌≡◌, ℕ, ◌||◌}
 use Rattle.record_form.specs.declared.Outcome.{Outcome}
 use Rattle.record_form.specs.declared.Request.{Request}
-use Rattle.wire_session.specs.Treats.{Asking}
+use Rattle.office_session.specs.Messages.{Asking}
 use Rattle.generate_command.specs.Tallies.{is_lack, tally_with}
 use Rattle.generate_command.specs.declared.tallying.Tallying.{Tallying}
 

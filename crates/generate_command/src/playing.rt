@@ -8,8 +8,8 @@ use memchr::memmem;
 use message_session::SessionEnd;
 use office_counter::Counter;
 use office_outside::{MemoryClock, MemorySink, MemorySource, Plan};
+use office_session::session;
 use std::alloc::{AllocError, Global};
-use wire_session::session;
 
 /// The body of the answer for want of memory.
 #[tactic(auto, unfolding(serde_json::proofs::OnLiterals::serde_json_on_literals))]

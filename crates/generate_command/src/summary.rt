@@ -3,7 +3,7 @@ ghost use Rattle.std.specs.Prelude.{◌≡◌, IfOk, Some, string_bytes};
 ghost use Rattle.generate_command.specs.Summary.{AreBudgetLines, IsSummary};
 ghost use Rattle.generate_command.specs.Summary.{budget_lines as budget_lines_def, summary_text};
 
-use crate::tally::Tally;
+use crate::tally::SessionTally;
 use exact_fraction::Fraction;
 use record_form::BudgetRow;
 use std::alloc::{AllocError, Global};
@@ -25,7 +25,7 @@ fn budget_lines(
 /// All lines.
 fn lines(
     alloc: Global,
-    tally: &Tally,
+    tally: &SessionTally,
     entries: u32,
     cells: u32,
     budget: &str,
@@ -54,7 +54,7 @@ fn row_lines(alloc: Global, row: &BudgetRow) -> Result<String, AllocError>
 /// The summary of a session that told a budget.
 pub(crate) fn summary(
     alloc: Global,
-    tally: &Tally,
+    tally: &SessionTally,
     entries: u32,
     cells: u32,
 ) -> Result<String, AllocError>

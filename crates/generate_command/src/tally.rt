@@ -8,7 +8,7 @@ use record_form::{BudgetRow, Outcome};
 /// What the requests of a session have come to so far. Its counts stay at the last value of their
 /// type.
 #[derive(Clone, Copy)]
-pub struct Tally {
+pub struct SessionTally {
     /// How many requests were asked.
     pub requests: u64,
     /// How many of them came to an answer of status 200.
@@ -44,14 +44,14 @@ fn budget_told(outcome: &Outcome, before: Option<BudgetRow>) -> Option<BudgetRow
     }
 }
 
-impl Tally {
+impl SessionTally {
     ghost use Rattle.generate_command.specs.Tallies.{no_tally, tally_with};
 
     /// No request was asked.
-    pub(crate) fn new() -> Tally
+    pub(crate) fn new() -> SessionTally
         ensures { result ≡ no_tally }
     {
-        Tally {
+        SessionTally {
             requests: 0,
             ok: 0,
             budget: None,

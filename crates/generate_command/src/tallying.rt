@@ -2,7 +2,7 @@
 ghost use Rattle.std.specs.Prelude.{◌≡◌, false};
 ghost use Rattle.generate_command.specs.Tallies.{no_tally};
 
-use crate::tally::{Tally, is_lack};
+use crate::tally::{SessionTally, is_lack};
 use office_counter::Counter;
 use record_form::{Outcome, Request};
 use std::alloc::Global;
@@ -11,7 +11,7 @@ use std::alloc::Global;
 #[derive(Drop)]
 pub struct Tallying<T: Counter + Drop> {
     pub(crate) counter: T,
-    pub(crate) tally: Tally,
+    pub(crate) tally: SessionTally,
     /// Whether one of the outcomes came for want of memory, or by a failure of the disk.
     pub(crate) lacks: bool,
 }
@@ -25,7 +25,7 @@ impl<T: Counter + Drop> Tallying<T> {
     {
         Tallying {
             counter,
-            tally: Tally::new(),
+            tally: SessionTally::new(),
             lacks: false,
         }
     }

@@ -5,16 +5,16 @@ use Rattle.office_outside.specs.Disk.{All, LeavesOnly}
 use Rattle.office_outside.specs.Senses.{DiskSenses}
 use Rattle.record_form.specs.declared.Entry.{Entry}
 use Rattle.office_history.specs.History.{Office}
-use Rattle.office_keep.specs.Files.{IsWhole, StandsFor}
+use Rattle.office_keep.specs.Files.{OfficeIsWhole, StandsFor}
 use Rattle.office_keep.specs.Office.{OfficeOn, StandsSettled}
 use Rattle.message_session.specs.Sessions.{EndsSo}
 use Rattle.message_session.specs.declared.SessionEnd.{SessionEnd}
 use Rattle.office_counter.specs.Laws.{Extends, IsOwned}
-use Rattle.wire_session.specs.Treats.{Treats, refusal_text}
+use Rattle.office_session.specs.Messages.{AnswersMessage, refusal_text}
 use Rattle.own_counter.specs.Own.{OwnAsks, OwnOn, own_on, standing_of}
 use Rattle.own_counter.specs.Requests.{AddNoOther, turns_of}
 use Rattle.own_counter.specs.Runs.{IsBetween}
-use Rattle.journal_commands.specs.Serving.{IsServed, Outside, with_counter}
+use Rattle.journal_commands.specs.Serving.{IsServed, SessionOutside, with_counter}
 
 -- with nothing in doubt each image stands for the history
 pub as_opened : {D : Type 0} (S : DiskSenses D) (office : OfficeOn D) →
@@ -33,13 +33,13 @@ none_owned o faults = record { rise = tt; within = tt }
 
 -- the parts of a session that was served, put together
 module _ {D : Type 0} (S : DiskSenses D) (office : OfficeOn D) (end : SessionEnd)
-    (old new : Outside) (disk : D) (last : OwnOn D) (back : OfficeOn D) where
+    (old new : SessionOutside) (disk : D) (last : OwnOn D) (back : OfficeOn D) where
   pub as_served :
-      (ends : EndsSo (Treats (OwnAsks S)) refusal_text end
+      (ends : EndsSo (AnswersMessage (OwnAsks S)) refusal_text end
       (with_counter old (own_on office [])) (with_counter new last)) →
-      AddNoOther (turns_of (Treats (OwnAsks S)) refusal_text end
+      AddNoOther (turns_of (AnswersMessage (OwnAsks S)) refusal_text end
       (with_counter old (own_on office [])) (with_counter new last) ends) office last.kept →
-      back ≡ last.kept → disk ≡ back.disk → IsWhole back.office →
+      back ≡ last.kept → disk ≡ back.disk → OfficeIsWhole back.office →
       Extends office.office last.kept.office → IsOwned (standing_of S last) →
       All (StandsFor office.office) (S.images office.disk) →
       All (StandsSettled back.office back.doubt) (S.images back.disk) →
@@ -50,7 +50,7 @@ module _ {D : Type 0} (S : DiskSenses D) (office : OfficeOn D) (end : SessionEnd
       LeavesOnly S office.disk d (IsBetween office.office last.kept.office) in
       let Q : D → Type 0 = λ d.
       All (StandsSettled last.kept.office last.kept.doubt) (S.images d) in
-      let R : OfficeOn D → Type 0 = λ o. IsWhole o.office in
+      let R : OfficeOn D → Type 0 = λ o. OfficeIsWhole o.office in
       let T : OfficeOn D → Type 0 = λ o. All (StandsSettled o.office o.doubt) (S.images o.disk) in
       let is_back : disk ≡ last.kept.disk = handed ∙ ap (λ (o : OfficeOn D). o.disk) given in
       record {

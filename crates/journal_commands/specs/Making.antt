@@ -43,17 +43,18 @@ pub record IsThere {D : Type 0} (S : DiskSenses D) (old new : D) : Type 0 where
 
 -- What the making of a journal speaks to, at one moment: the disk, the clock's readings to come,
 -- and the bytes that the output holds.
-pub record Bench (D : Type 0) : Type 0 where
+pub record JournalWorld (D : Type 0) : Type 0 where
   pub disk : D
   pub to_come : ℕ → Option ℕ
   pub held : Option (List ℕ)
 
-abbrev pub bench : {D : Type 0} → D → (ℕ → Option ℕ) → Option (List ℕ) → Bench D
-bench disk to_come held = record { disk = disk; to_come = to_come; held = held }
+abbrev pub journal_world : {D : Type 0} → D → (ℕ → Option ℕ) → Option (List ℕ) → JournalWorld D
+journal_world disk to_come held = record { disk = disk; to_come = to_come; held = held }
 
 -- What each end says, where the clock gave this reading. An origin above it is refused, and the
 -- disk isn't touched. The output gains the origin's line, and nothing else.
-abbrev pub EndsMaking : {D : Type 0} → DiskSenses D → ℕ → ℕ → InitEnd → Bench D → Bench D → Type 0
+abbrev pub EndsMaking : {D : Type 0} → DiskSenses D → ℕ → ℕ → InitEnd → JournalWorld D
+    → JournalWorld D → Type 0
 EndsMaking S origin reading Done old new =
     (origin ≤ reading) × IsMade S origin old.disk new.disk
     × Gained (origin_line origin) old.held new.held
@@ -76,7 +77,7 @@ QuietOrMaking S origin old new = IsQuiet S old new ⊎ IsMaking S origin old new
 
 -- A journal is made, or not: the clock gave one reading, and by it and by how it ended this is so.
 pub record Makes {D : Type 0} (S : DiskSenses D) (asked : Option ℕ) (end : InitEnd)
-    (old new : Bench D) : Type 0 where
+    (old new : JournalWorld D) : Type 0 where
   pub reading : ℕ
   pub reads : Reads reading old.to_come new.to_come
   pub ends : EndsMaking S (origin_by asked reading) reading end old new

@@ -5,9 +5,9 @@ use Rattle.office_outside.specs.Told.{Gained, GainedPrefix}
 use Rattle.office_outside.specs.Senses.{DiskSenses}
 use Rattle.message_session.specs.Sessions.{Reads}
 use Rattle.office_history.specs.History.{Office, end_of, moment_of}
-use Rattle.office_keep.specs.Files.{IsWhole, StandsFor}
+use Rattle.office_keep.specs.Files.{OfficeIsWhole, StandsFor}
 use Rattle.office_report.specs.Report.{IsReport}
-use Rattle.journal_commands.specs.Making.{Bench}
+use Rattle.journal_commands.specs.Making.{JournalWorld}
 use Rattle.office_keep.specs.Opening.{IsFoundOn}
 use Rattle.journal_commands.specs.declared.reporting.PrintEnd.{PrintEnd}
 use Rattle.journal_commands.specs.declared.reporting.PrintEnd.TheVariants.{Done, OutOfRange}
@@ -58,15 +58,15 @@ EndsOver asked reading NoMemory old new o = new ≡ old
 pub record OpensTo {D : Type 0} (S : DiskSenses D) (Is : Office → Type 0) (old new : D) :
     Type 0 where
   pub office : Office
-  pub whole : IsWhole office
+  pub whole : OfficeIsWhole office
   pub read : (file : List ℕ) → S.content old ≡ Some file → StandsFor office file
   pub stands : All (StandsFor office) (S.images new)
   pub so : Is office
 
 -- What each end says, where the clock gave this reading. Where the file wasn't opened, the output
 -- gained nothing.
-abbrev pub EndsReporting : {D : Type 0} → DiskSenses D → Option ℕ → ℕ → ReportEnd → Bench D →
-    Bench D → Type 0
+abbrev pub EndsReporting : {D : Type 0} → DiskSenses D → Option ℕ → ℕ → ReportEnd → JournalWorld D →
+    JournalWorld D → Type 0
 EndsReporting S asked reading (Opened end) old new =
     OpensTo S (EndsOver asked reading end old.held new.held) old.disk new.disk
 EndsReporting S asked reading (Unopened why) old new =
@@ -75,7 +75,7 @@ EndsReporting S asked reading (Unopened why) old new =
 -- A report is printed, or not: the clock gave one reading, and by it and by how it ended this is
 -- so.
 pub record Reports {D : Type 0} (S : DiskSenses D) (asked : Option ℕ) (end : ReportEnd)
-    (old new : Bench D) : Type 0 where
+    (old new : JournalWorld D) : Type 0 where
   pub reading : ℕ
   pub reads : Reads reading old.to_come new.to_come
   pub ends : EndsReporting S asked reading end old new

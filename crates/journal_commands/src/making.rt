@@ -7,7 +7,8 @@ ghost use Rattle.office_keep.specs.declared.KeepFault.TheVariants.{AlreadyThere}
 ghost use Rattle.office_keep.specs.declared.KeepFault.TheVariants.{DiskFault};
 ghost use Rattle.office_keep.specs.declared.KeepFault.TheVariants.{NoMemory};
 ghost use Rattle.slo_journal.specs.Front.{IsMaking};
-ghost use Rattle.journal_commands.specs.Making.{IsMade, IsThere, Makes, QuietOrMaking, bench};
+ghost use Rattle.journal_commands.specs.Making.{IsMade, IsThere, Makes, QuietOrMaking};
+ghost use Rattle.journal_commands.specs.Making.{journal_world};
 ghost use Rattle.journal_commands.specs.Making.{origin_line as origin_line_def};
 
 use crate::writing::write_out;
@@ -103,8 +104,8 @@ pub fn make_journal<D: Disk + Drop, C: Clock, K: Sink>(
     output: &mut K,
 ) -> (InitEnd, D)
     ensures makes { Makes D.senses origin result.0
-        (bench disk (C.to_come clock.old) (K.held output.old))
-        (bench result.1 (C.to_come clock.new) (K.held output.new)) }
+        (journal_world disk (C.to_come clock.old) (K.held output.old))
+        (journal_world result.1 (C.to_come clock.new) (K.held output.new)) }
     ensures disk { result.0 ≡ InitEnd.DiskFault → RoseBy D.senses.faults disk result.1 }
     ensures write { result.0 ≡ InitEnd.WriteFault → RoseBy K.faults output.old output.new }
     ensures later { D.senses.faults disk ≤ D.senses.faults result.1 }

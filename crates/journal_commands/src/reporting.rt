@@ -1,7 +1,7 @@
 //! The printing of a report over a journal's file.
 ghost use Rattle.std.specs.Prelude.{◌≡◌, ◌≤◌, true, false};
 ghost use Rattle.office_outside.specs.Faults.{RoseBy};
-ghost use Rattle.journal_commands.specs.Making.{bench};
+ghost use Rattle.journal_commands.specs.Making.{journal_world};
 ghost use Rattle.journal_commands.specs.Reporting.{EndsOver, IsInRange, IsOutOfRange};
 ghost use Rattle.journal_commands.specs.Reporting.{Reports, minute_by};
 
@@ -90,8 +90,8 @@ pub fn print_report<D: Disk + Drop, C: Clock, K: Sink>(
     output: &mut K,
 ) -> (ReportEnd, D)
     ensures reports { Reports D.senses at result.0
-        (bench disk (C.to_come clock.old) (K.held output.old))
-        (bench result.1 (C.to_come clock.new) (K.held output.new)) }
+        (journal_world disk (C.to_come clock.old) (K.held output.old))
+        (journal_world result.1 (C.to_come clock.new) (K.held output.new)) }
     ensures disk { result.0 ≡ ReportEnd.Unopened KeepFault.DiskFault →
         RoseBy D.senses.faults disk result.1 }
     ensures write { result.0 ≡ ReportEnd.Opened PrintEnd.WriteFault →

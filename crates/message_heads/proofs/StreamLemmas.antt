@@ -7,12 +7,13 @@ use Rattle.message_heads.specs.declared.message.Message.{Message}
 use Rattle.message_heads.specs.declared.message.Heard.TheVariants.{Whole}
 use Rattle.message_heads.specs.Hearing.{Ruling, whole, IsDecided, Hears}
 use Rattle.message_heads.specs.Laws.{IsOpen}
-use Rattle.message_heads.specs.Streams.{Said, said_of, said_in, IsWhole, AreMessages, OneStream}
+use Rattle.message_heads.specs.Streams.{Said, said_of, said_in, MessageIsWhole, AreMessages}
+use Rattle.message_heads.specs.Streams.{OneStream}
 use Rattle.message_heads.proofs.LawLemmas.{one}
 
 -- the same bytes are one message
-whole_says_one : (bytes : List ℕ) (n : ℕ) (s t : Said) → IsWhole bytes n s
-    → IsWhole bytes n t → s ≡ t
+whole_says_one : (bytes : List ℕ) (n : ℕ) (s t : Said) → MessageIsWhole bytes n s
+    → MessageIsWhole bytes n t → s ≡ t
 whole_says_one bytes n s t a b =
     let u = request_unique (take n bytes) a.head b.head a.body b.body a.reads b.reads in
     a.says ∙ ap (λ h. said_of h a.body) u.0 ∙ ap (said_of b.head) u.1 ∙ sym b.says
@@ -27,7 +28,7 @@ said_by method target body close = record {
 
 -- a message that was heard, by what it says
 pub heard_whole : (bytes : List ℕ) (m : Message) (n : ℕ) → Hears bytes (Whole m n)
-    → IsWhole bytes n (said_in bytes m)
+    → MessageIsWhole bytes n (said_in bytes m)
 unfolding said_by
 heard_whole bytes m n (decided, (h, is)) =
     let method = slice_range bytes m.method.0 m.method.1 in
@@ -44,14 +45,14 @@ heard_whole bytes m n (decided, (h, is)) =
     }
 
 -- a whole message stands at one length, and says one thing
-pub one_whole : (bytes : List ℕ) (n m : ℕ) (s t : Said) → IsWhole bytes n s → IsWhole bytes m t
-    → (n ≡ m) × (s ≡ t)
+pub one_whole : (bytes : List ℕ) (n m : ℕ) (s t : Said) → MessageIsWhole bytes n s
+    → MessageIsWhole bytes m t → (n ≡ m) × (s ≡ t)
 one_whole bytes n m s t a b = by (one bytes n m whole whole a.decided b.decided)
   where
     by : ((n ≡ m) × (whole ≡ whole)) ⊎ (IsOpen bytes n whole ⊎ IsOpen bytes m whole)
         → (n ≡ m) × (s ≡ t)
     by (inl (same, r)) =
-        (same, whole_says_one bytes n s t a (subst (λ k. IsWhole bytes k t) (sym same) b))
+        (same, whole_says_one bytes n s t a (subst (λ k. MessageIsWhole bytes k t) (sym same) b))
     by (inr (inl (is, open_there))) = absurd (cc is)
     by (inr (inr (is, open_there))) = absurd (cc is)
 

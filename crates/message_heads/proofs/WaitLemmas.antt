@@ -15,7 +15,7 @@ use Rattle.httparse.specs.Grammar.{print_request}
 use Rattle.httparse.proofs.GrammarLemmas.{ReadsRequest-append}
 use Rattle.message_heads.specs.Hearing.{Ruling, head_too_large, malformed, encoded, body_too_large}
 use Rattle.message_heads.specs.Hearing.{whole, place, Holds, IsPassed, IsDecided}
-use Rattle.message_heads.specs.Start.{Tells}
+use Rattle.message_heads.specs.Start.{WhetherHeadMayCome}
 use Rattle.message_heads.proofs.PrefixLemmas.{not_never, nothing}
 
 -- a head that goes on behind a method and a space
@@ -156,8 +156,8 @@ take_take i j xs h fits =
 -- up to a prefix that may begin a message, nothing is refused
 pub still_passed : (front : List ℕ) (middle high : ℕ) → middle < high → high ≤ length front
     → length front ≤ 8192
-    → NeverHasRequest (take high front) → Tells true (take middle front) → (m : ℕ) → m < middle + 1
-    → IsPassed (take m front)
+    → NeverHasRequest (take high front) → WhetherHeadMayCome true (take middle front) → (m : ℕ)
+    → m < middle + 1 → IsPassed (take m front)
 still_passed front middle high below inside few never (inl (h, rest, reads)) m upto =
     let same : take middle (take high front) ≡ take middle front =
     take_take middle high front (omega arith) inside in

@@ -17,7 +17,7 @@ Begins bytes slots Unfinished = HasNoRequest bytes × MayBecomeRequest bytes
 Begins bytes slots Never = NeverHasRequest bytes
 
 -- the bytes begin with a head or may; or no head can come
-abbrev pub Tells : Bool → List ℕ → Type 0
-Tells true bytes = ((h : RequestHead) × (rest : List ℕ) × ReadsRequest bytes h rest)
+abbrev pub WhetherHeadMayCome : Bool → List ℕ → Type 0
+WhetherHeadMayCome true bytes = ((h : RequestHead) × (rest : List ℕ) × ReadsRequest bytes h rest)
     ⊎ (HasNoRequest bytes × MayBecomeRequest bytes)
-Tells false bytes = NeverHasRequest bytes
+WhetherHeadMayCome false bytes = NeverHasRequest bytes

@@ -23,7 +23,7 @@ said_of head body = record {
 }
 
 -- the first n bytes are a head and its counted body, and say this
-pub record IsWhole (bytes : List ℕ) (n : ℕ) (said : Said) : Type 0 where
+pub record MessageIsWhole (bytes : List ℕ) (n : ℕ) (said : Said) : Type 0 where
   pub decided : IsDecided bytes n whole
   pub head : RequestHead
   pub body : List ℕ
@@ -42,7 +42,7 @@ said_in bytes m = record {
 -- the bytes are these messages, one after another, and then the rest
 abbrev pub AreMessages : List ℕ → List Said → List ℕ → Type 0
 AreMessages bytes [] rest = bytes ≡ rest
-AreMessages bytes (said ∷ saids) rest = (n : ℕ) × IsWhole bytes n said
+AreMessages bytes (said ∷ saids) rest = (n : ℕ) × MessageIsWhole bytes n said
     × AreMessages (drop n bytes) saids rest
 
 -- what a stream ends in: a bad message, with the status of its answer, or bytes that are none yet

@@ -2,7 +2,7 @@
 ghost use Rattle.std.specs.Prelude.{◌≡◌, ◌≤◌, ◌<◌, ℕ, length, take, true, false};
 ghost use Rattle.httparse.specs.Grammar.{NeverHasRequest};
 ghost use Rattle.slo_limits.specs.declared.TheConstants.{MAX_HEAD_BYTES};
-ghost use Rattle.message_heads.specs.Start.{Tells};
+ghost use Rattle.message_heads.specs.Start.{WhetherHeadMayCome};
 ghost use Rattle.message_heads.specs.Hearing.{IsPassed};
 
 use crate::start::{Start, find_head};
@@ -11,7 +11,7 @@ use httparse::spans::EMPTY_HEADER_SPAN;
 // Whether the bytes begin with a head, or may.
 fn may_begin(bytes: &[u8]) -> bool
     requires few { length bytes.now ≤ MAX_HEAD_BYTES }
-    ensures { Tells result bytes.now }
+    ensures { WhetherHeadMayCome result bytes.now }
 {
     let mut slots = [EMPTY_HEADER_SPAN; 64];
     match find_head(bytes, &mut slots) {

@@ -7,15 +7,15 @@ use Rattle.httparse.specs.Grammar.{ReadsRequest}
 use Rattle.office_outside.specs.Told.{Lost}
 use Rattle.office_outside.proofs.Gains.{lost_both, lost_nothing}
 use Rattle.message_heads.specs.Hearing.{whole, Hears, Awaits}
-use Rattle.message_heads.specs.Streams.{Said, IsWhole, AreMessages}
+use Rattle.message_heads.specs.Streams.{Said, MessageIsWhole, AreMessages}
 use Rattle.message_heads.specs.declared.message.Heard.TheVariants.{More}
 use Rattle.message_heads.proofs.WaitLemmas.{decided_more}
 use Rattle.message_session.specs.Fillings.{Fills}
 use Rattle.message_session.specs.Sessions.{Turn, said_of_turns}
 
 -- a whole message stays one with more behind it
-whole_grow : (bytes more : List ℕ) (n : ℕ) (said : Said) → IsWhole bytes n said
-    → IsWhole (bytes ++ more) n said
+whole_grow : (bytes more : List ℕ) (n : ℕ) (said : Said) → MessageIsWhole bytes n said
+    → MessageIsWhole (bytes ++ more) n said
 whole_grow bytes more n said w = record {
   decided = decided_more bytes more n whole w.decided;
   head = w.head;
@@ -39,10 +39,10 @@ messages_grow bytes more (s ∷ ss) waiting (n, w, rest) = (
 
 -- one more message at the front of the waiting bytes
 pub messages_more : (bytes : List ℕ) (turns : List Turn) (waiting : List ℕ) (turn : Turn) (n : ℕ)
-    → AreMessages bytes (said_of_turns turns) waiting → IsWhole waiting n turn.said
+    → AreMessages bytes (said_of_turns turns) waiting → MessageIsWhole waiting n turn.said
     → AreMessages bytes (said_of_turns (turns ++ turn ∷ [])) (drop n waiting)
 messages_more bytes [] waiting turn n same w =
-    (n, subst (λ (l : List ℕ). IsWhole l n turn.said) (sym same) w, ap (λ l. drop n l) same)
+    (n, subst (λ (l : List ℕ). MessageIsWhole l n turn.said) (sym same) w, ap (λ l. drop n l) same)
 messages_more bytes (t ∷ ts) waiting turn n (m, v, rest) w =
     (m, v, messages_more (drop m bytes) ts waiting turn n rest w)
 

@@ -17,7 +17,8 @@ use Rattle.message_heads.specs.declared.reading.TheConstants.{MAX_MESSAGE_BYTES}
 use Rattle.message_heads.specs.declared.message.Heard.TheVariants.{Whole, Bad, More}
 use Rattle.message_heads.proofs.StreamLemmas.{heard_whole}
 use Rattle.message_session.specs.Fillings.{Fills}
-use Rattle.message_session.specs.Sessions.{Answering, Scene, scene, Turn, said_of_turns, Readings}
+use Rattle.message_session.specs.Sessions.{Answering, SessionWorld, session_world, Turn}
+use Rattle.message_session.specs.Sessions.{said_of_turns, Readings}
 use Rattle.message_session.specs.Sessions.{Reads, Trace, Takes, Serves, is_last, EndsSo, EndsAt}
 use Rattle.message_session.specs.Sessions.{EndsWriting, EndsByTurn, HasTurn}
 use Rattle.message_session.specs.declared.serving.SessionEnd.{SessionEnd}
@@ -47,8 +48,8 @@ pub answered_over : {H : Type 0} (answers : Answering H)
     → ((k : ℕ) → new k ≡ old (k + 1))
     → ((text : List ℕ) × answers before (said_in waiting message) last reading text after
     × Got text held_before held_after)
-    → HasTurn answers Got last count size waiting (scene left old before held_before)
-    (scene left new after held_after)
+    → HasTurn answers Got last count size waiting (session_world left old before held_before)
+    (session_world left new after held_after)
 answered_over answers Got last message count size reading waiting left old new before after
     held_before held_after heard which first later (text, treated, answered) = record {
       turn = record { said = said_in waiting message; reading = reading; answer = text };
@@ -104,7 +105,7 @@ answers_more (t ∷ ts) turn = ap (λ l. t.answer ++ l) (answers_more ts turn)
     ∙ sym (append_assoc t.answer (flat_map (λ t. t.answer) ts) turn.answer)
 
 -- a session that has done nothing yet
-pub serves_none : {H : Type 0} (answers : Answering H) (waiting : List ℕ) (old : Scene H)
+pub serves_none : {H : Type 0} (answers : Answering H) (waiting : List ℕ) (old : SessionWorld H)
     → waiting ≡ [] → Serves answers [] waiting old old
 serves_none answers waiting old none = record {
   taken = [];
@@ -118,9 +119,9 @@ serves_none answers waiting old none = record {
 
 -- more bytes come
 pub serves_fills : {H : Type 0} (answers : Answering H) (turns : List Turn) (waiting more : List ℕ)
-    (left : Option (List ℕ)) (old mid : Scene H) → Serves answers turns waiting old mid →
+    (left : Option (List ℕ)) (old mid : SessionWorld H) → Serves answers turns waiting old mid →
     Fills waiting more mid.left left → length more ≤ MAX_MESSAGE_BYTES →
-    Serves answers turns more old (scene left mid.to_come mid.handler mid.held)
+    Serves answers turns more old (session_world left mid.to_come mid.handler mid.held)
 serves_fills answers turns waiting more left old mid s f few = record {
   taken = s.taken ++ f.taken;
   lost = lost_both s.taken f.taken old.left mid.left left s.lost f.lost;
@@ -134,7 +135,7 @@ serves_fills answers turns waiting more left old mid s f few = record {
 
 -- one more turn
 pub serves_more : {H : Type 0} (answers : Answering H) (turns : List Turn) (waiting : List ℕ)
-    (size : ℕ) (turn : Turn) (old mid new : Scene H) → Serves answers turns waiting old mid →
+    (size : ℕ) (turn : Turn) (old mid new : SessionWorld H) → Serves answers turns waiting old mid →
     is_last (length turns) turn.said ≡ false →
     Takes answers Gained false turn size waiting mid new →
     Serves answers (turns ++ turn ∷ []) (drop size waiting) old new
@@ -161,7 +162,7 @@ filled bytes more none = omega (arith, ap length none)
 
 -- the input ends
 pub ends_at : {H : Type 0} (answers : Answering H) (refusal : H → ℕ → List ℕ) (result : SessionEnd)
-    (turns : List Turn) (waiting : List ℕ) (old new : Scene H) →
+    (turns : List Turn) (waiting : List ℕ) (old new : SessionWorld H) →
     Serves answers turns waiting old new → Hears waiting More → HasNothingLeft new.left →
     EndsAt (length waiting) result → EndsSo answers refusal result old new
 ends_at answers refusal Done turns waiting old new s more over at =
@@ -192,10 +193,10 @@ ends_at answers refusal NoMemory turns waiting old new s more over at = absurd a
 -- a bad message is answered
 pub ends_by_bad : {H : Type 0} (answers : Answering H) (refusal : H → ℕ → List ℕ)
     (result : SessionEnd) (turns : List Turn) (waiting : List ℕ) (status : ℕ)
-    (held : Option (List ℕ)) (old mid : Scene H) → Serves answers turns waiting old mid →
+    (held : Option (List ℕ)) (old mid : SessionWorld H) → Serves answers turns waiting old mid →
     Hears waiting (Bad status) →
     EndsWriting (refusal mid.handler status) result mid.held held →
-    EndsSo answers refusal result old (scene mid.left mid.to_come mid.handler held)
+    EndsSo answers refusal result old (session_world mid.left mid.to_come mid.handler held)
 ends_by_bad answers refusal Done turns waiting status held old mid s d w =
     inr (inl (record {
       turns = turns;
@@ -229,7 +230,7 @@ ends_by_bad answers refusal NoMemory turns waiting status held old mid s d w = a
 -- a turn ends the session
 pub ends_by_turn : {H : Type 0} (answers : Answering H)
     (Got : List ℕ → Option (List ℕ) → Option (List ℕ) → Type 0) (last flag : Bool)
-    (turns : List Turn) (count size : ℕ) (bytes waiting : List ℕ) (old mid new : Scene H) →
+    (turns : List Turn) (count size : ℕ) (bytes waiting : List ℕ) (old mid new : SessionWorld H) →
     Serves answers turns waiting old mid →
     length turns ≡ count → bytes ≡ waiting → last ≡ flag →
     HasTurn answers Got last count size bytes mid new → EndsByTurn answers Got flag old new
@@ -252,8 +253,8 @@ open_yet false most count is = grind (arith, nat_tests)
 
 -- the session goes on after a turn
 pub goes_on : {H : Type 0} (answers : Answering H) (last : Bool)
-    (turns : List Turn) (count size : ℕ) (bytes waiting after : List ℕ) (old mid new : Scene H) →
-    Serves answers turns waiting old mid →
+    (turns : List Turn) (count size : ℕ) (bytes waiting after : List ℕ)
+    (old mid new : SessionWorld H) → Serves answers turns waiting old mid →
     length turns ≡ count → bytes ≡ waiting → after ≡ drop size waiting → last ≡ false →
     HasTurn answers Gained last count size bytes mid new →
     (more : List Turn) × Serves answers more after old new × (length more ≡ count + 1)
@@ -272,7 +273,7 @@ goes_on answers last turns count size bytes waiting after old mid new s counted 
 
 -- where the source tells, the messages are those of all that it had left
 pub told_messages : {H : Type 0} (answers : Answering H) (turns : List Turn)
-    (waiting left rest : List ℕ) (old new : Scene H) → Serves answers turns waiting old new
+    (waiting left rest : List ℕ) (old new : SessionWorld H) → Serves answers turns waiting old new
     → old.left ≡ Some left → new.left ≡ Some rest
     → AreMessages left (said_of_turns turns) (waiting ++ rest)
 told_messages answers turns waiting left rest old new s told now =

@@ -5,7 +5,7 @@ use Rattle.office_outside.specs.Told.{Lost, Gained, GainedPrefix, HasNothingLeft
 use Rattle.slo_limits.specs.declared.TheConstants.{MAX_REQUESTS}
 use Rattle.message_heads.specs.Hearing.{Hears}
 use Rattle.message_heads.specs.declared.reading.TheConstants.{MAX_MESSAGE_BYTES}
-use Rattle.message_heads.specs.Streams.{Said, IsWhole, AreMessages}
+use Rattle.message_heads.specs.Streams.{Said, MessageIsWhole, AreMessages}
 use Rattle.message_heads.specs.declared.message.Heard.TheVariants.{Bad, More}
 use Rattle.message_session.specs.declared.serving.SessionEnd.{SessionEnd}
 use Rattle.message_session.specs.declared.serving.SessionEnd.TheVariants.{Done, Cut, ReadFault}
@@ -18,14 +18,15 @@ Answering H = H → Said → Bool → ℕ → List ℕ → H → Type 0
 
 -- all that a session speaks to, at one moment: the bytes that its source has left, its clock's
 -- readings to come, its handler, and the bytes that its sink holds
-pub record Scene (H : Type 0) : Type 0 where
+pub record SessionWorld (H : Type 0) : Type 0 where
   pub left : Option (List ℕ)
   pub to_come : ℕ → Option ℕ
   pub handler : H
   pub held : Option (List ℕ)
 
-abbrev pub scene : {H : Type 0} → Option (List ℕ) → (ℕ → Option ℕ) → H → Option (List ℕ) → Scene H
-scene left to_come handler held = record {
+abbrev pub session_world : {H : Type 0} → Option (List ℕ) → (ℕ → Option ℕ) → H → Option (List ℕ)
+    → SessionWorld H
+session_world left to_come handler held = record {
   left = left;
   to_come = to_come;
   handler = handler;
@@ -55,8 +56,8 @@ is_last count said = said.close || nat_le MAX_REQUESTS (count + 1)
 -- reading, and the sink got its answer
 pub record Takes {H : Type 0} (answers : Answering H)
     (Got : List ℕ → Option (List ℕ) → Option (List ℕ) → Type 0) (last : Bool) (turn : Turn)
-    (size : ℕ) (waiting : List ℕ) (old new : Scene H) : Type 0 where
-  pub message : IsWhole waiting size turn.said
+    (size : ℕ) (waiting : List ℕ) (old new : SessionWorld H) : Type 0 where
+  pub message : MessageIsWhole waiting size turn.said
   pub unread : new.left ≡ old.left
   pub reading : Reads turn.reading old.to_come new.to_come
   pub treated : answers old.handler turn.said last turn.reading turn.answer new.handler
@@ -65,7 +66,7 @@ pub record Takes {H : Type 0} (answers : Answering H)
 -- one turn behind so many others, whose answer is the last one as it has to be
 pub record HasTurn {H : Type 0} (answers : Answering H)
     (Got : List ℕ → Option (List ℕ) → Option (List ℕ) → Type 0) (last : Bool) (count size : ℕ)
-    (waiting : List ℕ) (old new : Scene H) : Type 0 where
+    (waiting : List ℕ) (old new : SessionWorld H) : Type 0 where
   pub turn : Turn
   pub which : is_last count turn.said ≡ last
   pub takes : Takes answers Got last turn size waiting old new
@@ -88,7 +89,7 @@ Trace {H} answers count old (turn ∷ turns) new = (mid : H) × (is_last count t
 -- so of the moment before its last answer; and as a sink may fail at any answer, which then is the
 -- last one, it holds at each.
 pub record Serves {H : Type 0} (answers : Answering H) (turns : List Turn) (waiting : List ℕ)
-    (old new : Scene H) : Type 0 where
+    (old new : SessionWorld H) : Type 0 where
   pub taken : List ℕ
   pub lost : Lost taken old.left new.left
   pub messages : AreMessages taken (said_of_turns turns) waiting
@@ -100,20 +101,21 @@ pub record Serves {H : Type 0} (answers : Answering H) (turns : List Turn) (wait
 -- one more turn, whose answer is the last one, or isn't written whole
 pub record EndsByTurn {H : Type 0} (answers : Answering H)
     (Got : List ℕ → Option (List ℕ) → Option (List ℕ) → Type 0) (last : Bool)
-    (old new : Scene H) : Type 0 where
+    (old new : SessionWorld H) : Type 0 where
   pub turns : List Turn
   pub waiting : List ℕ
-  pub mid : Scene H
+  pub mid : SessionWorld H
   pub before : Serves answers turns waiting old mid
   pub size : ℕ
   pub one : HasTurn answers Got last (length turns) size waiting mid new
 
 -- the waiting bytes begin with a bad message, and the sink got the answer that says so
 pub record EndsByBad {H : Type 0} (answers : Answering H) (refusal : H → ℕ → List ℕ)
-    (Got : List ℕ → Option (List ℕ) → Option (List ℕ) → Type 0) (old new : Scene H) : Type 0 where
+    (Got : List ℕ → Option (List ℕ) → Option (List ℕ) → Type 0)
+    (old new : SessionWorld H) : Type 0 where
   pub turns : List Turn
   pub waiting : List ℕ
-  pub mid : Scene H
+  pub mid : SessionWorld H
   pub before : Serves answers turns waiting old mid
   pub status : ℕ
   pub bad : Hears waiting (Bad status)
@@ -124,7 +126,7 @@ pub record EndsByBad {H : Type 0} (answers : Answering H) (refusal : H → ℕ �
 
 -- each message that was heard is answered, and what waits is none yet
 pub record EndsByBytes {H : Type 0} (answers : Answering H) (Waiting : List ℕ → Type 0)
-    (old new : Scene H) : Type 0 where
+    (old new : SessionWorld H) : Type 0 where
   pub turns : List Turn
   pub waiting : List ℕ
   pub serves : Serves answers turns waiting old new
@@ -132,8 +134,8 @@ pub record EndsByBytes {H : Type 0} (answers : Answering H) (Waiting : List ℕ 
   pub rest : Waiting waiting
 
 -- what each end of a session says of it
-abbrev pub EndsSo : {H : Type 0} → Answering H → (H → ℕ → List ℕ) → SessionEnd → Scene H
-    → Scene H → Type 0
+abbrev pub EndsSo : {H : Type 0} → Answering H → (H → ℕ → List ℕ) → SessionEnd → SessionWorld H
+    → SessionWorld H → Type 0
 EndsSo answers refusal Done old new = EndsByTurn answers Gained true old new
     ⊎ (EndsByBad answers refusal Gained old new
     ⊎ (EndsByBytes answers (λ waiting. waiting ≡ []) old new × HasNothingLeft new.left))

@@ -7,7 +7,8 @@ ghost use Rattle.message_heads.specs.declared.message.Heard.TheVariants.{Whole};
 ghost use Rattle.message_heads.specs.Hearing.{Hears};
 ghost use Rattle.message_heads.specs.Streams.{said_in};
 ghost use Rattle.slo_limits.specs.declared.TheConstants.{MAX_MINUTE};
-ghost use Rattle.message_session.specs.Sessions.{EndsAt, EndsSo, EndsWriting, HasTurn, scene};
+ghost use Rattle.message_session.specs.Sessions.{EndsAt, EndsSo, EndsWriting, HasTurn};
+ghost use Rattle.message_session.specs.Sessions.{session_world};
 
 use crate::buffer::Buffer;
 use crate::handler::Handler;
@@ -80,12 +81,12 @@ fn take_turn<K: Sink, H: Handler<K>, C: Clock>(
     requires few { count < MAX_REQUESTS }
     ensures turn { IfOk result (λ last. (left : Option (List ℕ))
         → HasTurn H.answers Gained last count size waiting.now
-        (scene left (C.to_come clock.old) handler.old (K.held output.old))
-        (scene left (C.to_come clock.new) handler.new (K.held output.new))) }
+        (session_world left (C.to_come clock.old) handler.old (K.held output.old))
+        (session_world left (C.to_come clock.new) handler.new (K.held output.new))) }
     ensures part { OnErr result ((left : Option (List ℕ)) → (last : Bool)
         × HasTurn H.answers GainedPrefix last count size waiting.now
-        (scene left (C.to_come clock.old) handler.old (K.held output.old))
-        (scene left (C.to_come clock.new) handler.new (K.held output.new))) }
+        (session_world left (C.to_come clock.old) handler.old (K.held output.old))
+        (session_world left (C.to_come clock.new) handler.new (K.held output.new))) }
     ensures cause { HasCause (K.faults output.old) (K.faults output.new) result }
 {
     let last = is_last_answer(message.close, count);
@@ -151,8 +152,8 @@ pub fn session_with<K: Sink, H: Handler<K>, S: Source, C: Clock>(
     clock: &mut C,
 ) -> SessionEnd
     ensures ends { EndsSo H.answers H.refusal result
-        (scene (S.left input.old) (C.to_come clock.old) handler.old (K.held output.old))
-        (scene (S.left input.new) (C.to_come clock.new) handler.new (K.held output.new)) }
+        (session_world (S.left input.old) (C.to_come clock.old) handler.old (K.held output.old))
+        (session_world (S.left input.new) (C.to_come clock.new) handler.new (K.held output.new)) }
     ensures served { result ≢ SessionEnd.NoMemory }
     ensures read { result ≡ SessionEnd.ReadFault → Rose (S.faults input.old) (S.faults input.new) }
     ensures read_later { S.faults input.old ≤ S.faults input.new }
@@ -203,8 +204,8 @@ pub fn session<K: Sink, H: Handler<K>, S: Source, C: Clock>(
     clock: &mut C,
 ) -> SessionEnd
     ensures ends { EndsSo H.answers H.refusal result
-        (scene (S.left input.old) (C.to_come clock.old) handler.old (K.held output.old))
-        (scene (S.left input.new) (C.to_come clock.new) handler.new (K.held output.new)) }
+        (session_world (S.left input.old) (C.to_come clock.old) handler.old (K.held output.old))
+        (session_world (S.left input.new) (C.to_come clock.new) handler.new (K.held output.new)) }
     ensures read { result ≡ SessionEnd.ReadFault → Rose (S.faults input.old) (S.faults input.new) }
     ensures read_later { S.faults input.old ≤ S.faults input.new }
     ensures write { result ≡ SessionEnd.WriteFault

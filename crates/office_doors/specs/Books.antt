@@ -19,8 +19,8 @@ Moves Change (Some old) None = ⊥
 Moves Change (Some old) (Some new) = Change old new
 
 -- a fact of what an object tells, where it does
-abbrev pub Tells : {B : Type 0} → (B → Type 0) → Option B → Type 0
-Tells Fact told = IfSome told Fact
+abbrev pub WhereTold : {B : Type 0} → (B → Type 0) → Option B → Type 0
+WhereTold Fact told = IfSome told Fact
 
 -- the first visit that is left is handed out
 pub record HandsOut {V : Type 0} (visit : V) (old new : Book V) : Type 0 where

@@ -1,7 +1,8 @@
 //! Where visits come from, one after another.
 ghost use Rattle.std.specs.Prelude.{◌≡◌, ◌≤◌, ℕ, Option, None, IfOk, IfSome, OnErr};
 ghost use Rattle.office_outside.specs.Faults.{HasCause};
-ghost use Rattle.office_doors.specs.Books.{Book, Moves, Tells, HandsOut, FindsNone, FailsToHand};
+ghost use Rattle.office_doors.specs.Books.{Book, Moves, WhereTold, HandsOut, FindsNone};
+ghost use Rattle.office_doors.specs.Books.{FailsToHand};
 ghost use Rattle.office_doors.specs.Books.{TakesBack, HasAllBack, HasOneOut, IsWithin};
 
 use crate::Visit;
@@ -26,7 +27,7 @@ pub trait Door {
     /// The next visit, for which it may wait; None where there are no more. Who asks for it has
     /// given each visit back that he took before.
     fn next(&mut self) -> Result<Option<Visit<Self::In, Self::Out, Self::Time>>, Failed>
-        requires back { Tells HasAllBack (told self.old) }
+        requires back { WhereTold HasAllBack (told self.old) }
         ensures some { IfOk result (λ next. IfSome next
             (λ visit. Moves (HandsOut visit) (told self.old) (told self.new))) }
         ensures none { IfOk result (λ next. next ≡ None
@@ -36,10 +37,10 @@ pub trait Door {
 
     /// Takes a visit back and ends it. It never fails.
     fn end(&mut self, visit: Visit<Self::In, Self::Out, Self::Time>)
-        requires out { Tells HasOneOut (told self.old) }
+        requires out { WhereTold HasOneOut (told self.old) }
         ensures back { Moves (TakesBack visit) (told self.old) (told self.new) }
         ensures faults { faults self.new ≡ faults self.old };
 
     /// Never more visits came back than were handed out.
-    ghost within: { (door : Self) → Tells IsWithin (told door) };
+    ghost within: { (door : Self) → WhereTold IsWithin (told door) };
 }

@@ -2,7 +2,7 @@
 ghost use Rattle.std.specs.Prelude.{◌≡◌, ◌≤◌, ◌++◌, ◌∷◌, [], ℕ, List, Option, Err, length, All};
 ghost use Rattle.std.specs.Prelude.{IfOk, OnErr, is_some, true};
 ghost use Rattle.office_outside.specs.Faults.{Rose};
-ghost use Rattle.office_doors.specs.Books.{IsFresh, Moves, Tells};
+ghost use Rattle.office_doors.specs.Books.{IsFresh, Moves, WhereTold};
 ghost use Rattle.office_doors.specs.Entrances.{Entrance, Opens, HasOneOpen, Closes, Stays};
 ghost use Rattle.office_doors.specs.Entrances.{IsClosedWithin, joined_count};
 
@@ -39,9 +39,9 @@ pub trait Doors {
     fn open(&mut self, port: u16, workers: usize) -> Result<Vec<Self::One>, DoorsFault>
         ensures count { IfOk result (λ doors. length doors.items ≡ workers) }
         ensures quiet { IfOk result (λ doors. All (λ d. Self.One.faults d ≡ 0) doors.items) }
-        ensures fresh { IfOk result (λ doors. All (λ d. Tells IsFresh (Self.One.told d))
+        ensures fresh { IfOk result (λ doors. All (λ d. WhereTold IsFresh (Self.One.told d))
             doors.items) }
-        ensures tells { IfOk result (λ doors. Tells
+        ensures tells { IfOk result (λ doors. WhereTold
             (λ _. All (λ d. is_some (Self.One.told d) ≡ true) doors.items) (told self.old)) }
         ensures shared { IfOk result (λ doors. Moves (Opens (λ d. Self.One.told d) doors.items)
             (told self.old) (told self.new)) }
@@ -52,11 +52,11 @@ pub trait Doors {
 
     /// Closes a door and adds its count. It never fails.
     fn close(&mut self, door: Self::One)
-        requires open { Tells HasOneOpen (told self.old) }
+        requires open { WhereTold HasOneOpen (told self.old) }
         ensures closed { Moves (Closes door) (told self.old) (told self.new) }
         ensures ports { ports self.new ≡ ports self.old }
         ensures faults { faults self.new ≡ joined_count (faults self.old) (Self.One.faults door) };
 
     /// Never more doors were closed than were opened.
-    ghost within: { (doors : Self) → Tells IsClosedWithin (told doors) };
+    ghost within: { (doors : Self) → WhereTold IsClosedWithin (told doors) };
 }

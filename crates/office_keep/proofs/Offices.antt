@@ -15,7 +15,7 @@ use Rattle.slo_journal.specs.declared.DiskFault.{DiskFault}
 use Rattle.slo_journal.proofs.Files.{by_gate}
 use Rattle.office_keep.specs.Files.{records}
 use Rattle.office_keep.specs.Office.{StandsSettled}
-use Rattle.office_keep.specs.Steps.{IsDoubted, IsKept, KeepsOffice, entry_in}
+use Rattle.office_keep.specs.Steps.{IsDoubted, OfficeIsKept, KeepsOffice, entry_in}
 use Rattle.office_keep.proofs.Histories.{records_more}
 
 -- a file in doubt stands for the office, or for it with the entry
@@ -33,15 +33,15 @@ by_entry o e file d = ⊎_elim
 -- facts by cases don't say whose senses they are about, so each lemma is told
 module _ {D : Type 0} (S : DiskSenses D) where
   pub doubted_of : (m : Machine) (doubt : Option (List ℕ)) (journal : JournalOn D)
-      (bytes : List ℕ) → IsKept S m doubt journal → doubt ≡ Some bytes →
+      (bytes : List ℕ) → OfficeIsKept S m doubt journal → doubt ≡ Some bytes →
       IsDoubted S m bytes journal
   doubted_of m doubt journal bytes k some =
-      subst (λ (d : Option (List ℕ)). IsKept S m d journal) some k
+      subst (λ (d : Option (List ℕ)). OfficeIsKept S m d journal) some k
 
   pub kept_of : (m : Machine) (doubt : Option (List ℕ)) (journal : JournalOn D) (o : Office) →
-      doubt ≡ None → m.office ≡ o → KeepsOffice S o journal → IsKept S m doubt journal
+      doubt ≡ None → m.office ≡ o → KeepsOffice S o journal → OfficeIsKept S m doubt journal
   kept_of m doubt journal o none same k =
-      subst (λ (d : Option (List ℕ)). IsKept S m d journal) (sym none)
+      subst (λ (d : Option (List ℕ)). OfficeIsKept S m d journal) (sym none)
       (subst (λ (p : Office). KeepsOffice S p journal) (sym same) k)
 
   -- with one entry more
@@ -54,7 +54,7 @@ module _ {D : Type 0} (S : DiskSenses D) where
 
   -- what the images stand for now
   pub stands_now : (m : Machine) (doubt : Option (List ℕ)) (journal : JournalOn D) →
-      IsKept S m doubt journal →
+      OfficeIsKept S m doubt journal →
       All (StandsSettled m.office (entry_in doubt m.pending)) (S.images journal.disk)
   stands_now m None journal k = λ file image. (m.office, refl, k.each file image)
   stands_now m (Some bytes) journal k = λ file image.

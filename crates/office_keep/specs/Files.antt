@@ -18,7 +18,7 @@ abbrev pub StandsFor : Office → List ℕ → Type 0
 StandsFor o file = Stands o.origin (records o.history) file
 
 -- Its entries follow one another legally, and each has a record, which is then no other entry's.
-pub record IsWhole (o : Office) : Type 0 where
+pub record OfficeIsWhole (o : Office) : Type 0 where
   pub legal : IsLegal o.origin o.history
   pub fit : AllByRecursion FitsRecord o.history
 
@@ -40,4 +40,4 @@ WalksOver o at file = Walks (IsLegalRecord o.origin) o.origin (records o.history
 pub record IsDamagedAt (at : ℕ) (file : List ℕ) : Type 0 where
   pub origin : ℕ
   pub stops : StopsAt (IsLegalRecord origin) origin at file
-  pub none : (o : Office) → StandsFor o file → IsWhole o → ⊥
+  pub none : (o : Office) → StandsFor o file → OfficeIsWhole o → ⊥

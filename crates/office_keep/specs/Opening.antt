@@ -3,7 +3,7 @@ use Rattle.std.specs.Prelude.{◌≡◌, ◌⊎◌, ℕ, List, Some, None}
 use Rattle.office_outside.specs.Disk.{IsQuiet, OnlyAsRead}
 use Rattle.office_outside.specs.Senses.{DiskSenses}
 use Rattle.slo_journal.specs.Front.{HasNoHeader}
-use Rattle.office_keep.specs.Files.{IsDamagedAt, IsWhole, StandsFor}
+use Rattle.office_keep.specs.Files.{IsDamagedAt, OfficeIsWhole, StandsFor}
 use Rattle.office_keep.specs.Office.{OfficeOn}
 use Rattle.office_keep.specs.declared.fault.KeepFault.{KeepFault}
 use Rattle.office_keep.specs.declared.fault.KeepFault.TheVariants.{AlreadyThere, NotAJournal}
@@ -28,7 +28,7 @@ IsFoundOn S AlreadyThere disk = ⊥
 pub record IsOpened {D : Type 0} (S : DiskSenses D) (before : D) (office : OfficeOn D) :
     Type 0 where
   pub none : office.doubt ≡ None
-  pub whole : IsWhole office.office
+  pub whole : OfficeIsWhole office.office
   pub read : (file : List ℕ) → S.content before ≡ Some file → StandsFor office.office file
   pub quiet : IsQuiet S before office.disk
   pub only : OnlyAsRead (S.content before) (S.images office.disk)

@@ -6,7 +6,7 @@ ghost use Rattle.office_outside.specs.Disk.{All, IsQuiet, LeavesOnly};
 ghost use Rattle.office_outside.specs.Faults.{RoseBy};
 ghost use Rattle.office_counter.specs.Steps.{HasRevisionsIn};
 ghost use Rattle.slo_journal.specs.Front.{HasNoHeader, IsHeader, IsMaking};
-ghost use Rattle.office_keep.specs.Files.{IsWhole};
+ghost use Rattle.office_keep.specs.Files.{OfficeIsWhole};
 ghost use Rattle.office_keep.specs.Office.{IsBlamed, LeavesBy, Performs, SettlesBy, StandsSettled};
 ghost use Rattle.office_keep.specs.Opening.{IsFoundOn, IsOpened};
 ghost use Rattle.office_keep.specs.declared.fault.KeepFault.TheVariants.{AlreadyThere, DiskFault};
@@ -36,14 +36,14 @@ pub struct Office<D: Disk + Drop> {
 
 impl<D: Disk + Drop> Model for Office<D> {
     ghost use Rattle.office_keep.specs.Office.{OfficeOn};
-    ghost use Rattle.office_keep.specs.Steps.{IsKept, office_on};
+    ghost use Rattle.office_keep.specs.Steps.{OfficeIsKept, office_on};
 
     ghost Value = { OfficeOn D };
 
     ghost view = { λ o. office_on o.core o.doubt o.journal };
 
     // Each image of the disk stands for the history, or for it with the entry in doubt.
-    ghost invariant = { λ o. IsKept D.senses o.core o.doubt o.journal };
+    ghost invariant = { λ o. OfficeIsKept D.senses o.core o.doubt o.journal };
 }
 
 impl<D: Disk + Drop> Office<D> {
@@ -153,7 +153,7 @@ impl<D: Disk + Drop> Office<D> {
     pub fn disk_stands(&self)
         ensures stands { All (StandsSettled self.now.office self.now.doubt)
             (D.senses.images self.now.disk) }
-        ensures whole { IsWhole self.now.office }
+        ensures whole { OfficeIsWhole self.now.office }
     {
         self.core.is_legal();
     }
@@ -201,7 +201,7 @@ impl<D: Disk + Drop> Office<D> {
             (LeavesBy self.old reading request.now self.new) }
         ensures stands { All (StandsSettled self.new.office self.new.doubt)
             (D.senses.images self.new.disk) }
-        ensures whole { IsWhole self.new.office }
+        ensures whole { OfficeIsWhole self.new.office }
         ensures after_settling { SettlesBy D.senses self.old reading request.now self.new }
         ensures cause { IsBlamed (D.senses.faults self.old.disk) (D.senses.faults self.new.disk)
             result }
@@ -220,7 +220,7 @@ impl<D: Disk + Drop> Office<D> {
             (LeavesBy self.old reading request.now self.new) }
         ensures stands { All (StandsSettled self.new.office self.new.doubt)
             (D.senses.images self.new.disk) }
-        ensures whole { IsWhole self.new.office }
+        ensures whole { OfficeIsWhole self.new.office }
         ensures after_settling { SettlesBy D.senses self.old reading request.now self.new }
         ensures cause { IsBlamed (D.senses.faults self.old.disk) (D.senses.faults self.new.disk)
             result.0 }

@@ -13,7 +13,7 @@ ghost use Rattle.slo_journal.specs.Keeping.{WithOrWithout};
 ghost use Rattle.office_keep.specs.Files.{records};
 ghost use Rattle.office_keep.specs.Office.{Changes, IsAsBefore, IsBlamed, IsTimely, IsUnmoved};
 ghost use Rattle.office_keep.specs.Office.{Leaves, SettlesBy, StandsSettled};
-ghost use Rattle.office_keep.specs.Steps.{IsJudged, IsKept, KeepsOffice, Writes, entry_in};
+ghost use Rattle.office_keep.specs.Steps.{IsJudged, OfficeIsKept, KeepsOffice, Writes, entry_in};
 ghost use Rattle.office_keep.specs.Steps.{office_on};
 
 use office_core::{Core, Prepared, Verdict};
@@ -31,11 +31,11 @@ pub(crate) fn change<D: Disk + Drop>(
     reading: u32,
     command: &Command,
 ) -> (Outcome, Option<u32>)
-    requires kept { IsKept D.senses core.old doubt.old journal.old }
+    requires kept { OfficeIsKept D.senses core.old doubt.old journal.old }
     requires reading { reading ≤ MAX_MINUTE }
     requires timely { IsTimely core.old.office reading }
     requires revisions { HasRevisions command.now }
-    ensures kept { IsKept D.senses core.new doubt.new journal.new }
+    ensures kept { OfficeIsKept D.senses core.new doubt.new journal.new }
     ensures ended { Changes (office_on core.old doubt.old journal.old) reading command.now
         result.0 result.1 (office_on core.new doubt.new journal.new) }
     ensures any_moment { LeavesOnly D.senses journal.old.disk journal.new.disk
@@ -59,8 +59,8 @@ fn settle<D: Disk + Drop>(
     journal: &mut Journal<D>,
     doubt: &mut Option<Prepared>,
 ) -> Result<(), Failed>
-    requires kept { IsKept D.senses core.old doubt.old journal.old }
-    ensures kept { IsKept D.senses core.new doubt.new journal.new }
+    requires kept { OfficeIsKept D.senses core.old doubt.old journal.old }
+    ensures kept { OfficeIsKept D.senses core.new doubt.new journal.new }
     ensures settled { OnOk result (IsUnmoved (office_on core.old doubt.old journal.old)
         (office_on core.new doubt.new journal.new)) }
     ensures stays { OnErr result (IsAsBefore (office_on core.old doubt.old journal.old)
@@ -103,7 +103,7 @@ fn add<D: Disk + Drop>(
     requires reading { reading ≤ MAX_MINUTE }
     requires timely { IsTimely core.old.office reading }
     requires revisions { HasRevisions command.now }
-    ensures kept { IsKept D.senses core.new doubt.new journal.new }
+    ensures kept { OfficeIsKept D.senses core.new doubt.new journal.new }
     ensures ended { Changes (office_on core.old doubt.old journal.old) reading command.now
         result.0 result.1 (office_on core.new doubt.new journal.new) }
     ensures any_moment { LeavesOnly D.senses journal.old.disk journal.new.disk
@@ -155,7 +155,7 @@ fn keep<D: Disk + Drop>(
     requires kept { KeepsOffice D.senses core.old.office journal.old }
     requires none { doubt.old ≡ None }
     requires pending { (e : Entry) × (core.old.pending ≡ Some e) × (value ≡ record_of e) }
-    ensures kept { IsKept D.senses core.new doubt.new journal.new }
+    ensures kept { OfficeIsKept D.senses core.new doubt.new journal.new }
     ensures fits { (e : Entry) → core.old.pending ≡ Some e → FitsRecord e }
     ensures ended { (e : Entry) → core.old.pending ≡ Some e
         → Writes core.old.office e result.0 result.1

@@ -25,12 +25,12 @@ use Rattle.office_counter.proofs.Steps.{extends_still}
 use Rattle.message_session.specs.Sessions.{Turn}
 use Rattle.turn_counter.specs.Asked.{AsksAt, AsksBehind, IsAskedByOne, front}
 use Rattle.turn_counter.specs.Seen.{entry_in, office_seen, record_if}
-use Rattle.office_keep.specs.Files.{IsWhole, records}
+use Rattle.office_keep.specs.Files.{OfficeIsWhole, records}
 use Rattle.turn_counter.proofs.Asked.{Does, at_later, behind_later, by_one_left, by_one_right}
 use Rattle.turn_counter.proofs.Asked.{doubt_append}
 use Rattle.turn_counter.proofs.Reading.{entry_back}
 use Rattle.visit_workers.specs.Visits.{Chain, Service}
-use Rattle.visit_workers.specs.Workers.{WorksEach}
+use Rattle.visit_workers.specs.Workers.{ServesDoors}
 use Rattle.office_serving.specs.Asked.{AddsNoOther, IsDoubted, turns_of_chain}
 use Rattle.office_serving.specs.Workers.{DeskSenses, GoesOn, passes_like, turns_of_workers}
 
@@ -53,10 +53,10 @@ are_all start passes go one none count = record {
         let here : p.parts ≡ 1 = g.stays.parts ∙ one in omega (arith, later, here)
 
 -- where each worker makes what the messages of its visits ask for, all of them do
-module _ {A I O C : Type 0} (site : DeskSenses A I O C) (start : PassState) (last : Office)
+module _ {A I O C : Type 0} (worker : DeskSenses A I O C) (start : PassState) (last : Office)
     (does : (services : List (Service (Visit I O C))) (new : PassState)
-    (chain : Chain site.asks site.look start services new)
-    → Does (turns_of_chain site.asks site.look start services new chain) start new)
+    (chain : Chain worker.asks worker.look start services new)
+    → Does (turns_of_chain worker.asks worker.look start services new chain) start new)
     (none_own : start.own ≡ []) (none_raised : start.raised ≡ []) where
   nothing_own : (p : ℕ) → Has start.own p → ⊥
   nothing_own p had = subst (λ (l : List ℕ). Has l p) none_own had
@@ -66,16 +66,16 @@ module _ {A I O C : Type 0} (site : DeskSenses A I O C) (start : PassState) (las
 
   -- the places of all turns
   abbrev pub places_of : (opened closed : List A) (ends : List PassState)
-      → WorksEach site (passes_like start opened) opened closed ends → List (Option ℕ)
+      → ServesDoors worker (passes_like start opened) opened closed ends → List (Option ℕ)
   places_of (o ∷ os) (c ∷ cs) (e ∷ es) (works, others) =
       (does works.services e works.chain).1.places ++ places_of os cs es others
   places_of opened closed ends works = []
 
   pub own_asked : (opened closed : List A) (ends : List PassState)
-      (works : WorksEach site (passes_like start opened) opened closed ends)
+      (works : ServesDoors worker (passes_like start opened) opened closed ends)
       → AllByRecursion (λ p. Extends (office_seen p) last) ends → (place : ℕ)
       → Has (own_of ends) place
-      → AsksAt (turns_of_workers site (passes_like start opened) opened closed ends works)
+      → AsksAt (turns_of_workers worker (passes_like start opened) opened closed ends works)
       (places_of opened closed ends works) last place
   own_asked [] [] [] works each place had = absurd had
   own_asked [] [] (e ∷ es) works each place had = absurd works
@@ -83,8 +83,8 @@ module _ {A I O C : Type 0} (site : DeskSenses A I O C) (start : PassState) (las
   own_asked (o ∷ os) [] ends works each place had = absurd works
   own_asked (o ∷ os) (c ∷ cs) [] works each place had = absurd works
   own_asked (o ∷ os) (c ∷ cs) (e ∷ es) (works, others) (here, rest) place had =
-      let mine = turns_of_chain site.asks site.look start works.services e works.chain in
-      let more = turns_of_workers site (passes_like start os) os cs es others in
+      let mine = turns_of_chain worker.asks worker.look start works.services e works.chain in
+      let more = turns_of_workers worker (passes_like start os) os cs es others in
       let made = (does works.services e works.chain).1 in
       let ps = made.places in
       let qs = places_of os cs es others in
@@ -99,10 +99,10 @@ module _ {A I O C : Type 0} (site : DeskSenses A I O C) (start : PassState) (las
       (has_append e.own (own_of es) place had)
 
   pub raised_asked : (opened closed : List A) (ends : List PassState)
-      (works : WorksEach site (passes_like start opened) opened closed ends)
+      (works : ServesDoors worker (passes_like start opened) opened closed ends)
       → AllByRecursion (λ p. Extends (office_seen p) last) ends → (place : ℕ) (bytes : List ℕ)
       → HasDoubt (raised_of ends) place bytes
-      → AsksBehind (turns_of_workers site (passes_like start opened) opened closed ends works)
+      → AsksBehind (turns_of_workers worker (passes_like start opened) opened closed ends works)
       (places_of opened closed ends works) last place bytes
   raised_asked [] [] [] works each place bytes had = absurd had
   raised_asked [] [] (e ∷ es) works each place bytes had = absurd works
@@ -110,8 +110,8 @@ module _ {A I O C : Type 0} (site : DeskSenses A I O C) (start : PassState) (las
   raised_asked (o ∷ os) [] ends works each place bytes had = absurd works
   raised_asked (o ∷ os) (c ∷ cs) [] works each place bytes had = absurd works
   raised_asked (o ∷ os) (c ∷ cs) (e ∷ es) (works, others) (here, rest) place bytes had =
-      let mine = turns_of_chain site.asks site.look start works.services e works.chain in
-      let more = turns_of_workers site (passes_like start os) os cs es others in
+      let mine = turns_of_chain worker.asks worker.look start works.services e works.chain in
+      let more = turns_of_workers worker (passes_like start os) os cs es others in
       let made = (does works.services e works.chain).1 in
       let ps = made.places in
       let qs = places_of os cs es others in
@@ -144,7 +144,7 @@ record_at (x ∷ xs) (suc place) e at = record_at xs place e at
 -- what the desk accounts for, told of the office
 module _ (back : EntriesAreReadBack) (turns : List Turn) (places : List (Option ℕ))
     (first : Office) (doubt : Option Entry)
-    (last : Office) (whole : IsWhole last) (opening : Opening)
+    (last : Office) (whole : OfficeIsWhole last) (opening : Opening)
     (length_is : opening.length ≡ length (records first.history))
     (doubt_is : opening.doubt ≡ record_if doubt) (own : List ℕ) (raised : List Doubt)
     (accounts : Accounts opening own raised (records last.history))

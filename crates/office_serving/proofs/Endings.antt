@@ -23,17 +23,19 @@ use Rattle.office_history.specs.History.{Office}
 use Rattle.office_counter.specs.Laws.{Extends, IsOwned}
 use Rattle.office_counter.specs.Steps.{Standing}
 use Rattle.office_counter.proofs.Steps.{extends_both, extends_still}
-use Rattle.office_keep.specs.Files.{IsWhole, records}
+use Rattle.office_keep.specs.Files.{OfficeIsWhole, records}
 use Rattle.office_keep.specs.Office.{OfficeOn, StandsSettled}
 use Rattle.turn_counter.specs.Holding.{NewPassesSeeAll, PassesSeeBeginnings}
 use Rattle.turn_counter.specs.Seen.{ledger_of, office_seen, standing_of}
 use Rattle.turn_counter.proofs.Asked.{Does}
-use Rattle.visit_workers.specs.Visits.{Chain, Service, Works}
-use Rattle.visit_workers.specs.Workers.{AreClosed, RanWorkers, Site, WorksEach}
+use Rattle.visit_workers.specs.Visits.{Chain, Service, ServesVisits}
+use Rattle.visit_workers.specs.Workers.{AreClosed, RanWorkers, WorkerSenses, ServesDoors}
 use Rattle.visit_workers.proofs.Chains.{moves_both, moves_still}
 use Rattle.office_serving.specs.Asked.{AddsNoOther, turns_of_chain}
-use Rattle.office_serving.specs.Serving.{AreOpened, AskedAt, EndsServing, Front, IsServed, Ran}
-use Rattle.office_serving.specs.Serving.{NoneOpened, SaidNotReady, WereOpen, front, ready_line}
+use Rattle.office_serving.specs.Serving.{AreOpened, AskedAt, EndsServing, ServingWorld, IsServed}
+use Rattle.office_serving.specs.Serving.{Ran}
+use Rattle.office_serving.specs.Serving.{NoneOpened, SaidNotReady, WereOpen, serving_world}
+use Rattle.office_serving.specs.Serving.{ready_line}
 use Rattle.office_serving.specs.Workers.{DeskSenses, GoesOn, WorkersServe, passes_like}
 use Rattle.office_serving.specs.Workers.{turns_of_workers}
 use Rattle.office_serving.specs.declared.serving.ServeEnd.{ServeEnd}
@@ -44,17 +46,17 @@ use Rattle.office_serving.proofs.Asked.{adds_no_other, are_all, none_made, none_
 use Rattle.office_serving.proofs.Asked.{places_of, raised_asked, still_no_other}
 use Rattle.office_serving.proofs.Growing.{goes_still}
 
-module _ {T A I O C : Type 0} (site : Site T A I O C) (port : ℕ) where
+module _ {T A I O C : Type 0} (worker : WorkerSenses T A I O C) (port : ℕ) where
   open_book : (opened closed : List A) → length opened ≡ WORKERS
-      → (a b c : Entrance A (Visit I O C)) → Opens site.told opened a b → AreClosed closed b c
-      → WereOpen site.told opened closed a c
+      → (a b c : Entrance A (Visit I O C)) → Opens worker.told opened a b → AreClosed closed b c
+      → WereOpen worker.told opened closed a c
   open_book opened closed count a b c opens closes =
       let none : b.held ≡ [] = opens.whole (omega (arith, count)) in
       record {
         shared = opens.shared
-            ∙ ap (λ (l : List (Visit I O C)). flat_map (λ d. left_at (site.told d)) opened ++ l)
+            ∙ ap (λ (l : List (Visit I O C)). flat_map (λ d. left_at (worker.told d)) opened ++ l)
             none
-            ∙ append-nil (flat_map (λ d. left_at (site.told d)) opened);
+            ∙ append-nil (flat_map (λ d. left_at (worker.told d)) opened);
         none_held = ap (λ (e : Entrance A (Visit I O C)). e.held) closes ∙ none;
         count = ap (λ (e : Entrance A (Visit I O C)). e.opened) closes ∙ opens.opened;
         closed_are = ap (λ (e : Entrance A (Visit I O C)). e.closed) closes
@@ -62,18 +64,19 @@ module _ {T A I O C : Type 0} (site : Site T A I O C) (port : ℕ) where
       }
 
   were_open : (opened closed : List A) → length opened ≡ WORKERS
-      → (a b c : Option (Entrance A (Visit I O C))) → Moves (Opens site.told opened) a b
-      → Moves (AreClosed closed) b c → Moves (WereOpen site.told opened closed) a c
+      → (a b c : Option (Entrance A (Visit I O C))) → Moves (Opens worker.told opened) a b
+      → Moves (AreClosed closed) b c → Moves (WereOpen worker.told opened closed) a c
   were_open opened closed count a b c opens closes =
-      moves_both (Opens site.told opened) (AreClosed closed) (WereOpen site.told opened closed)
+      moves_both (Opens worker.told opened) (AreClosed closed) (WereOpen worker.told opened closed)
       (open_book opened closed count) a b c opens closes
 
   pub not_ready : (IfIdle : Type 0) (opened : List A) (a b c : Option (Entrance A (Visit I O C)))
-      (ports ports_after : List ℕ) (held held_after : Option (List ℕ)) → AreOpened site opened a
+      (ports ports_after : List ℕ) (held held_after : Option (List ℕ)) → AreOpened worker opened a
       → AskedAt port ports ports_after
-      → GainedPrefix ready_line held held_after → Moves (Opens site.told opened) a b
+      → GainedPrefix ready_line held held_after → Moves (Opens worker.told opened) a b
       → Moves (AreClosed opened) b c → IfIdle
-      → SaidNotReady site port IfIdle (front a ports held) (front c ports_after held_after)
+      → SaidNotReady worker port IfIdle (serving_world a ports held)
+      (serving_world c ports_after held_after)
   not_ready IfIdle opened a b c ports ports_after held held_after are asked part opens closes
       idle = record {
         opened = opened;
@@ -87,11 +90,11 @@ module _ {T A I O C : Type 0} (site : Site T A I O C) (port : ℕ) where
   abbrev ran : (standing : T → Standing) (starts : List T) (opened : List A)
       (a b c : Option (Entrance A (Visit I O C))) (ports ports_after : List ℕ)
       (held held_after : Option (List ℕ)) (ends : List T) (well : Bool)
-      → AreOpened site opened a → AskedAt port ports ports_after
+      → AreOpened worker opened a → AskedAt port ports ports_after
       → Gained ready_line held held_after
-      → Moves (Opens site.told opened) a b → RanWorkers site standing starts opened b c ends well
-      → Ran site port (λ o d. WorksEach site starts o d ends) (front a ports held)
-      (front c ports_after held_after)
+      → Moves (Opens worker.told opened) a b → RanWorkers worker standing starts opened b c ends
+      well → Ran worker port (λ o d. ServesDoors worker starts o d ends)
+      (serving_world a ports held) (serving_world c ports_after held_after)
   ran standing starts opened a b c ports after held held_after ends well are asked ready opens r =
       record {
         opened = opened;
@@ -108,43 +111,43 @@ module _ {T A I O C : Type 0} (site : Site T A I O C) (port : ℕ) where
       (a b c : Option (Entrance A (Visit I O C))) (ports ports_after : List ℕ)
       (held held_after : Option (List ℕ)) (ends : List T) (well : Bool) (end : ServeEnd)
       → (well ≡ true → end ≡ Done) → (well ≡ false → end ≡ DoorsFault)
-      → AreOpened site opened a → AskedAt port ports ports_after
+      → AreOpened worker opened a → AskedAt port ports ports_after
       → Gained ready_line held held_after
-      → Moves (Opens site.told opened) a b → RanWorkers site standing starts opened b c ends well
-      → EndsServing site port (λ o d. WorksEach site starts o d ends) IfIdle end
-      (front a ports held) (front c ports_after held_after)
+      → Moves (Opens worker.told opened) a b → RanWorkers worker standing starts opened b c ends
+      well → EndsServing worker port (λ o d. ServesDoors worker starts o d ends) IfIdle end
+      (serving_world a ports held) (serving_world c ports_after held_after)
   after_work IfIdle standing starts opened a b c ports ports_after held held_after ends true end
       if_well if_not are asked ready opens r =
-      subst (λ (e : ServeEnd). EndsServing site port (λ o d. WorksEach site starts o d ends)
-      IfIdle e (front a ports held) (front c ports_after held_after)) (sym (if_well refl))
-      (record {
+      subst (λ (e : ServeEnd). EndsServing worker port (λ o d. ServesDoors worker starts o d ends)
+      IfIdle e (serving_world a ports held) (serving_world c ports_after held_after))
+      (sym (if_well refl)) (record {
         ran = ran standing starts opened a b c ports ports_after held held_after ends true are asked
             ready opens r;
         ended = r.ended refl;
       })
   after_work IfIdle standing starts opened a b c ports ports_after held held_after ends false end
       if_well if_not are asked ready opens r =
-      subst (λ (e : ServeEnd). EndsServing site port (λ o d. WorksEach site starts o d ends)
-      IfIdle e (front a ports held) (front c ports_after held_after)) (sym (if_not refl))
-      (inl (ran standing starts opened a b c ports ports_after held held_after ends false are asked
-      ready opens r))
+      subst (λ (e : ServeEnd). EndsServing worker port (λ o d. ServesDoors worker starts o d ends)
+      IfIdle e (serving_world a ports held) (serving_world c ports_after held_after))
+      (sym (if_not refl)) (inl (ran standing starts opened a b c ports ports_after held held_after
+      ends false are asked ready opens r))
 
   -- the same counters, as other lists
   pub as_lists : (starts started ends ended : List T) → starts ≡ started → ended ≡ ends
-      → (end : ServeEnd) (old new : Front A (Visit I O C))
-      → EndsServing site port (λ o d. WorksEach site starts o d ends) (ends ≡ starts) end old new
-      → EndsServing site port (λ o d. WorksEach site started o d ended) (ended ≡ started) end old
-      new
+      → (end : ServeEnd) (old new : ServingWorld A (Visit I O C))
+      → EndsServing worker port (λ o d. ServesDoors worker starts o d ends) (ends ≡ starts) end old
+      new → EndsServing worker port (λ o d. ServesDoors worker started o d ended) (ended ≡ started)
+      end old new
   as_lists starts started ends ended began ends_are end old new e =
-      subst (λ (l : List T). EndsServing site port (λ o d. WorksEach site l o d ended)
+      subst (λ (l : List T). EndsServing worker port (λ o d. ServesDoors worker l o d ended)
       (ended ≡ l) end old new) began
-      (subst (λ (l : List T). EndsServing site port (λ o d. WorksEach site starts o d l)
+      (subst (λ (l : List T). EndsServing worker port (λ o d. ServesDoors worker starts o d l)
       (l ≡ starts) end old new) (sym ends_are) e)
 
   module _ (Serve Other : List A → List A → Type 0) (IfIdle Else : Type 0)
       (more : (o d : List A) → Serve o d → Other o d) (less : IfIdle → Else)
-      (old new : Front A (Visit I O C)) where
-    abbrev ran_more : Ran site port Serve old new → Ran site port Other old new
+      (old new : ServingWorld A (Visit I O C)) where
+    abbrev ran_more : Ran worker port Serve old new → Ran worker port Other old new
     ran_more r = record {
       opened = r.opened;
       closed = r.closed;
@@ -165,8 +168,8 @@ module _ {T A I O C : Type 0} (site : Site T A I O C) (port : ℕ) where
       idle = less n.idle;
     }
 
-    ends_more : (end : ServeEnd) → EndsServing site port Serve IfIdle end old new
-        → EndsServing site port Other Else end old new
+    ends_more : (end : ServeEnd) → EndsServing worker port Serve IfIdle end old new
+        → EndsServing worker port Other Else end old new
     ends_more Done e = record { ran = ran_more e.ran; ended = e.ended }
     ends_more WriteFault e = record {
       opened = e.opened;
@@ -181,11 +184,11 @@ module _ {T A I O C : Type 0} (site : Site T A I O C) (port : ℕ) where
     ends_more NoMemory e = none_more e
 
 -- workers whose passes began alike
-module _ {A I O C : Type 0} (site : DeskSenses A I O C) (port : ℕ) (start : PassState)
+module _ {A I O C : Type 0} (worker : DeskSenses A I O C) (port : ℕ) (start : PassState)
     (ends : List PassState) where
   each_alike : (starts : List PassState) (opened closed : List A) (es : List PassState)
-      → AllByRecursion (λ p. p ≡ start) starts → WorksEach site starts opened closed es
-      → WorksEach site (passes_like start opened) opened closed es
+      → AllByRecursion (λ p. p ≡ start) starts → ServesDoors worker starts opened closed es
+      → ServesDoors worker (passes_like start opened) opened closed es
   each_alike [] [] [] [] begins works = tt
   each_alike [] [] [] (e ∷ es) begins works = absurd works
   each_alike [] [] (c ∷ cs) es begins works = absurd works
@@ -194,22 +197,24 @@ module _ {A I O C : Type 0} (site : DeskSenses A I O C) (port : ℕ) (start : Pa
   each_alike (p ∷ ps) (o ∷ os) [] es begins works = absurd works
   each_alike (p ∷ ps) (o ∷ os) (c ∷ cs) [] begins works = absurd works
   each_alike (p ∷ ps) (o ∷ os) (c ∷ cs) (e ∷ es) (is, more) (works, others) = (
-    subst (λ (q : PassState). Works site.asks site.look q e (site.told o) (site.told c)) is works,
+    subst (λ (q : PassState). ServesVisits worker.asks worker.look q e (worker.told o)
+        (worker.told c)) is works,
     each_alike ps os cs es more others,
   )
 
-  abbrev pub EndsAlike : ServeEnd → Front A (Visit I O C) → Front A (Visit I O C) → Type 0
+  abbrev pub EndsAlike : ServeEnd → ServingWorld A (Visit I O C) → ServingWorld A (Visit I O C)
+      → Type 0
   EndsAlike end old new =
-      EndsServing site port (λ o d. WorksEach site (passes_like start o) o d ends)
+      EndsServing worker port (λ o d. ServesDoors worker (passes_like start o) o d ends)
       (All (λ p. p ≡ start) ends) end old new
 
   pub ends_alike : (starts : List PassState) → All (λ p. p ≡ start) starts → (end : ServeEnd)
-      (old new : Front A (Visit I O C))
-      → EndsServing site port (λ o d. WorksEach site starts o d ends) (ends ≡ starts) end old new
-      → EndsAlike end old new
+      (old new : ServingWorld A (Visit I O C))
+      → EndsServing worker port (λ o d. ServesDoors worker starts o d ends) (ends ≡ starts) end old
+      new → EndsAlike end old new
   ends_alike starts begins end old new e =
-      ends_more site port (λ o d. WorksEach site starts o d ends)
-      (λ o d. WorksEach site (passes_like start o) o d ends) (ends ≡ starts)
+      ends_more worker port (λ o d. ServesDoors worker starts o d ends)
+      (λ o d. ServesDoors worker (passes_like start o) o d ends) (ends ≡ starts)
       (All (λ p. p ≡ start) ends)
       (λ o d works. each_alike starts o d ends
       (recursion_from_All (λ p. p ≡ start) starts begins) works)
@@ -217,9 +222,9 @@ module _ {A I O C : Type 0} (site : DeskSenses A I O C) (port : ℕ) (start : Pa
 
   -- each pass goes on, where each visit lets it
   module _ (goes : (services : List (Service (Visit I O C))) (new : PassState)
-      → Chain site.asks site.look start services new → GoesOn start new) where
+      → Chain worker.asks worker.look start services new → GoesOn start new) where
     each_goes : (opened closed : List A) (es : List PassState)
-        → WorksEach site (passes_like start opened) opened closed es
+        → ServesDoors worker (passes_like start opened) opened closed es
         → AllByRecursion (λ p. GoesOn start p) es
     each_goes [] [] [] works = tt
     each_goes [] [] (e ∷ es) works = absurd works
@@ -229,8 +234,8 @@ module _ {A I O C : Type 0} (site : DeskSenses A I O C) (port : ℕ) (start : Pa
     each_goes (o ∷ os) (c ∷ cs) (e ∷ es) (works, others) =
         (goes works.services e works.chain, each_goes os cs es others)
 
-    after_ran : {old new : Front A (Visit I O C)}
-        → Ran site port (λ o d. WorksEach site (passes_like start o) o d ends) old new
+    after_ran : {old new : ServingWorld A (Visit I O C)}
+        → Ran worker port (λ o d. ServesDoors worker (passes_like start o) o d ends) old new
         → All (λ p. GoesOn start p) ends
     after_ran r =
         All-from_recursion (λ p. GoesOn start p) ends (each_goes r.opened r.closed ends r.serve)
@@ -240,7 +245,7 @@ module _ {A I O C : Type 0} (site : DeskSenses A I O C) (port : ℕ) (start : Pa
         All-weaker (λ p. p ≡ start) (λ p. GoesOn start p)
         (λ p is. subst (λ (q : PassState). GoesOn start q) (sym is) (goes_still start)) ends same
 
-    pub all_go : (end : ServeEnd) (old new : Front A (Visit I O C)) → EndsAlike end old new
+    pub all_go : (end : ServeEnd) (old new : ServingWorld A (Visit I O C)) → EndsAlike end old new
         → All (λ p. GoesOn start p) ends
     all_go Done old new e = after_ran e.ran
     all_go WriteFault old new e = where_idle e.idle
@@ -256,14 +261,14 @@ at_desk start passes go =
     go
 
 -- an office before its first visit
-pub not_served : {D A I O C : Type 0} (S : DiskSenses D) (site : DeskSenses A I O C)
+pub not_served : {D A I O C : Type 0} (S : DiskSenses D) (worker : DeskSenses A I O C)
     (port : ℕ) (office back : OfficeOn D) (entrance : Option (Entrance A (Visit I O C)))
     (ports : List ℕ) (held : Option (List ℕ)) (disk : D) → back ≡ office → disk ≡ back.disk
-    → IsWhole office.office
+    → OfficeIsWhole office.office
     → disks.All (StandsSettled office.office office.doubt) (S.images office.disk)
-    → IsServed S site port office NoMemory (front entrance ports held)
-    (front entrance ports held) disk
-not_served {D} S site port office back entrance ports held disk same handed whole stands =
+    → IsServed S worker port office NoMemory (serving_world entrance ports held)
+    (serving_world entrance ports held) disk
+not_served {D} S worker port office back entrance ports held disk same handed whole stands =
     let is : disk ≡ office.disk = handed ∙ ap (λ (o : OfficeOn D). o.disk) same in
     record {
       last = office;
@@ -282,7 +287,7 @@ not_served {D} S site port office back entrance ports held disk same handed whol
 
 -- what the closing of the desk says of the passes, told of the office
 module _ {D A I O C : Type 0} (beginnings : PassesSeeBeginnings) (all : NewPassesSeeAll)
-    (back : EntriesAreReadBack) (S : DiskSenses D) (site : DeskSenses A I O C) (port : ℕ)
+    (back : EntriesAreReadBack) (S : DiskSenses D) (worker : DeskSenses A I O C) (port : ℕ)
     (first last : OfficeOn D) (desk : TableId) (passes : List PassState) where
   abbrev pub begin : PassState
   begin = newcomer desk (ledger_of S first) WORKERS
@@ -293,22 +298,22 @@ module _ {D A I O C : Type 0} (beginnings : PassesSeeBeginnings) (all : NewPasse
   -- each worker makes what the messages of its visits ask for
   abbrev pub ChainsDo : Type 0
   ChainsDo = (services : List (Service (Visit I O C))) (new : PassState)
-      (chain : Chain site.asks site.look begin services new)
-      → Does (turns_of_chain site.asks site.look begin services new chain) begin new
+      (chain : Chain worker.asks worker.look begin services new)
+      → Does (turns_of_chain worker.asks worker.look begin services new chain) begin new
 
   -- each entry is accounted for, if the passes are all that the desk was opened for
   abbrev pub AllAccount : Type 0
   AllAccount = (opening : Opening) → AreAll opening passes
       → Accounts opening (own_of passes) (raised_of passes) (ledger_of S last).history
 
-  extended : IsWhole last.office → last.office.origin ≤ MAX_MINUTE
+  extended : OfficeIsWhole last.office → last.office.origin ≤ MAX_MINUTE
       → All (λ p. p.root ≡ (ledger_of S last).root) passes
       → All (λ p. Begins p.seen (ledger_of S last).history) passes
       → All (λ p. Extends (office_seen p) last.office) passes
   extended whole low roots seen k d lt =
       beginnings (slice_index_or passes k d) last.office whole low (roots k d lt) (seen k d lt)
 
-  sees_first : IsWhole first.office → first.office.origin ≤ MAX_MINUTE
+  sees_first : OfficeIsWhole first.office → first.office.origin ≤ MAX_MINUTE
       → office_seen begin ≡ first.office
   sees_first whole low =
       all desk (ledger_of S first) WORKERS first.office whole low refl refl
@@ -332,10 +337,10 @@ module _ {D A I O C : Type 0} (beginnings : PassesSeeBeginnings) (all : NewPasse
 
   workers_serve : office_seen begin ≡ first.office → AllGo
       → All (λ p. Extends (office_seen p) last.office) passes
-      → Distinct (flat_map (λ p. p.own) passes) → IsWhole last.office → length passes ≡ WORKERS
-      → AllAccount → ChainsDo → (o d : List A)
-      → WorksEach site (passes_like begin o) o d passes
-      → WorkersServe site first.office first.doubt last.office o d
+      → Distinct (flat_map (λ p. p.own) passes) → OfficeIsWhole last.office → length passes
+      ≡ WORKERS → AllAccount → ChainsDo → (o d : List A)
+      → ServesDoors worker (passes_like begin o) o d passes
+      → WorkersServe worker first.office first.doubt last.office o d
   workers_serve is go extends apart whole count account does o d works =
       let each = recursion_from_All (λ p. Extends (office_seen p) last.office) passes extends in
       record {
@@ -349,15 +354,16 @@ module _ {D A I O C : Type 0} (beginnings : PassesSeeBeginnings) (all : NewPasse
         owned = All-weaker (λ p. GoesOn begin p) (λ p. IsOwned (standing_of p))
             (λ p g. g.owned new_owns) passes go;
         apart = apart;
-        no_other = adds_no_other back (turns_of_workers site (passes_like begin o) o d passes works)
-            (places_of site begin last.office does refl refl o d passes works) first.office
-            first.doubt last.office whole begin.opening refl refl (own_of passes)
-            (raised_of passes) (accounts_all count go account)
-            (own_asked site begin last.office does refl refl o d passes works each)
-            (raised_asked site begin last.office does refl refl o d passes works each);
+        no_other = adds_no_other back
+            (turns_of_workers worker (passes_like begin o) o d passes works)
+            (places_of worker begin last.office does refl refl o d passes works) first.office
+            first.doubt last.office whole begin.opening refl refl (own_of passes) (raised_of passes)
+            (accounts_all count go account)
+            (own_asked worker begin last.office does refl refl o d passes works each)
+            (raised_asked worker begin last.office does refl refl o d passes works each);
       }
 
-  none_worked : AllGo → IsWhole last.office → length passes ≡ WORKERS → AllAccount
+  none_worked : AllGo → OfficeIsWhole last.office → length passes ≡ WORKERS → AllAccount
       → All (λ p. p ≡ begin) passes
       → AddsNoOther [] first.office first.doubt last.office
   none_worked go whole count account same =
@@ -367,17 +373,17 @@ module _ {D A I O C : Type 0} (beginnings : PassesSeeBeginnings) (all : NewPasse
       (λ place had. absurd (none_made begin passes refl each place had))
       (λ place bytes had. absurd (none_raised begin passes refl each place bytes had))
 
-  pub served : (end : ServeEnd) (old new : Front A (Visit I O C)) (disk : D)
-      → IsWhole first.office → first.office.origin ≤ MAX_MINUTE → IsWhole last.office
+  pub served : (end : ServeEnd) (old new : ServingWorld A (Visit I O C)) (disk : D)
+      → OfficeIsWhole first.office → first.office.origin ≤ MAX_MINUTE → OfficeIsWhole last.office
       → last.office.origin ≤ MAX_MINUTE → disk ≡ last.disk
       → disks.All (StandsSettled last.office last.doubt) (S.images last.disk)
       → length passes ≡ WORKERS → AllGo
       → All (λ p. p.root ≡ (ledger_of S last).root) passes
       → All (λ p. Begins p.seen (ledger_of S last).history) passes
       → Distinct (flat_map (λ p. p.own) passes) → AllAccount → ChainsDo
-      → EndsServing site port (λ o d. WorksEach site (passes_like begin o) o d passes)
+      → EndsServing worker port (λ o d. ServesDoors worker (passes_like begin o) o d passes)
       (All (λ p. p ≡ begin) passes) end old new
-      → IsServed S site port first end old new disk
+      → IsServed S worker port first end old new disk
   served end old new disk was_whole was_low whole low handed stands count go roots seen apart
       account does ends =
       let is = sees_first was_whole was_low in
@@ -389,8 +395,8 @@ module _ {D A I O C : Type 0} (beginnings : PassesSeeBeginnings) (all : NewPasse
         whole = whole;
         stands = subst (λ (d : D). disks.All (StandsSettled last.office last.doubt) (S.images d))
             (sym handed) stands;
-        ends = ends_more site port (λ o d. WorksEach site (passes_like begin o) o d passes)
-            (WorkersServe site first.office first.doubt last.office)
+        ends = ends_more worker port (λ o d. ServesDoors worker (passes_like begin o) o d passes)
+            (WorkersServe worker first.office first.doubt last.office)
             (All (λ p. p ≡ begin) passes)
             (AddsNoOther [] first.office first.doubt last.office)
             (workers_serve is go extends apart whole count account does)

@@ -6,20 +6,20 @@ use Rattle.record_form.specs.declared.Entry.{Entry}
 use Rattle.record_form.specs.Records.{record_of}
 use Rattle.office_history.specs.History.{Office}
 use Rattle.message_session.specs.Sessions.{Turn}
-use Rattle.wire_session.specs.Treats.{Asking, Treats, refusal_text}
+use Rattle.office_session.specs.Messages.{Asking, AnswersMessage, refusal_text}
 use Rattle.turn_counter.specs.Asked.{IsAskedByOne, front}
 use Rattle.turn_counter.specs.Seen.{record_if}
 use Rattle.own_counter.specs.Requests.{turns_of}
-use Rattle.visit_workers.specs.Visits.{Chain, Looks, Service, scene_at}
+use Rattle.visit_workers.specs.Visits.{Chain, VisitSenses, Service, visit_world}
 
 -- the turns of the sessions over these visits, visit after visit
-abbrev pub turns_of_chain : {T I O C : Type 0} (asks : Asking T) (look : Looks I O C) (old : T)
-    (services : List (Service (Visit I O C))) (new : T) → Chain asks look old services new
+abbrev pub turns_of_chain : {T I O C : Type 0} (asks : Asking T) (look : VisitSenses I O C)
+    (old : T) (services : List (Service (Visit I O C))) (new : T) → Chain asks look old services new
     → List Turn
 turns_of_chain asks look old [] new same = []
 turns_of_chain asks look old (service ∷ services) new (mid, serves, rest) =
-    turns_of (Treats asks) refusal_text serves.end (scene_at look service.visit old)
-    (scene_at look service.given mid) serves.ends
+    turns_of (AnswersMessage asks) refusal_text serves.end (visit_world look service.visit old)
+    (visit_world look service.given mid) serves.ends
     ++ turns_of_chain asks look mid services new rest
 
 -- the record is that of the entry in doubt

@@ -8,12 +8,12 @@ use Rattle.office_counter.specs.Laws.{Extends, IsOwned}
 use Rattle.message_session.specs.Sessions.{Turn}
 use Rattle.turn_counter.specs.Holding.{StaysAtDesk}
 use Rattle.turn_counter.specs.Seen.{office_seen, standing_of}
-use Rattle.visit_workers.specs.Workers.{Site, WorksEach}
+use Rattle.visit_workers.specs.Workers.{WorkerSenses, ServesDoors}
 use Rattle.office_serving.specs.Asked.{AddsNoOther, turns_of_chain}
 
 -- what workers ask by their passes, and how one looks at their doors and visits
 abbrev pub DeskSenses : (A I O C : Type 0) → Type 1
-DeskSenses A I O C = Site PassState A I O C
+DeskSenses A I O C = WorkerSenses PassState A I O C
 
 -- A pass at the same desk has seen what the other had seen, and then perhaps more.
 pub record GoesOn (old new : PassState) : Type 0 where
@@ -26,30 +26,30 @@ abbrev pub passes_like : {A : Type 0} → PassState → List A → List PassStat
 passes_like start doors = map (λ door. start) doors
 
 -- the turns of all sessions over visits at these doors
-abbrev pub turns_of_workers : {A I O C : Type 0} (site : DeskSenses A I O C)
+abbrev pub turns_of_workers : {A I O C : Type 0} (worker : DeskSenses A I O C)
     (starts : List PassState) (opened closed : List A) (ends : List PassState)
-    → WorksEach site starts opened closed ends → List Turn
-turns_of_workers site (start ∷ starts) (opened ∷ more) (closed ∷ rest) (end ∷ ends)
+    → ServesDoors worker starts opened closed ends → List Turn
+turns_of_workers worker (start ∷ starts) (opened ∷ more) (closed ∷ rest) (end ∷ ends)
     (works, others) =
-    turns_of_chain site.asks site.look start works.services end works.chain
-    ++ turns_of_workers site starts more rest ends others
-turns_of_workers site starts opened closed ends works = []
+    turns_of_chain worker.asks worker.look start works.services end works.chain
+    ++ turns_of_workers worker starts more rest ends others
+turns_of_workers worker starts opened closed ends works = []
 
 -- Workers served these doors. Each began with the office as it was handed in, and had made none of
 -- its entries; the office at the end extends what each has seen. The places of the entries that a
 -- worker made lie in what it has seen, and no two workers made one entry. Each entry behind those
 -- of the first office is the one that was in doubt then, or a message of one of the sessions asks
 -- for it.
-pub record WorkersServe {A I O C : Type 0} (site : DeskSenses A I O C) (first : Office)
+pub record WorkersServe {A I O C : Type 0} (worker : DeskSenses A I O C) (first : Office)
     (doubt : Option Entry) (last : Office) (opened closed : List A) : Type 0 where
   pub start : PassState
   pub begins : office_seen start ≡ first
   pub none_own : start.own ≡ []
   pub none_failed : start.faults ≡ 0
   pub ends : List PassState
-  pub works : WorksEach site (passes_like start opened) opened closed ends
+  pub works : ServesDoors worker (passes_like start opened) opened closed ends
   pub extended : All (λ p. Extends (office_seen p) last) ends
   pub owned : All (λ p. IsOwned (standing_of p)) ends
   pub apart : Distinct (flat_map (λ p. p.own) ends)
   pub no_other : AddsNoOther
-      (turns_of_workers site (passes_like start opened) opened closed ends works) first doubt last
+      (turns_of_workers worker (passes_like start opened) opened closed ends works) first doubt last

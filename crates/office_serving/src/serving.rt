@@ -2,11 +2,11 @@
 ghost use Rattle.std.specs.Prelude.{◌≡◌, ◌≤◌, ◌⊎◌, Ok, Err, true, false, All, length};
 ghost use Rattle.office_outside.specs.Faults.{Rose};
 ghost use Rattle.turn_counter.specs.Turns.{TurnAsks};
-ghost use Rattle.office_doors.specs.Books.{IsFresh, Moves, Tells};
+ghost use Rattle.office_doors.specs.Books.{IsFresh, Moves, WhereTold};
 ghost use Rattle.office_doors.specs.declared.DoorsFault.TheVariants.{Failed as DoorsFailed};
-ghost use Rattle.visit_workers.specs.Visits.{looks};
-ghost use Rattle.visit_workers.specs.Workers.{AreClosed, HasRoom, WorksEach, site};
-ghost use Rattle.office_serving.specs.Serving.{EndsServing, IsServed, front};
+ghost use Rattle.visit_workers.specs.Visits.{visit_senses};
+ghost use Rattle.visit_workers.specs.Workers.{AreClosed, HasRoom, ServesDoors, worker_senses};
+ghost use Rattle.office_serving.specs.Serving.{EndsServing, IsServed, serving_world};
 
 use crate::ready::say_ready;
 use crate::seats::{leave_seats, take_seats};
@@ -62,7 +62,7 @@ fn end_of_work(well: bool) -> ServeEnd
 
 /// Closes doors at which nobody worked.
 fn shut<S: Doors>(opened: Vec<S::One>, doors: &mut S)
-    requires open { Tells (HasRoom (length opened.items)) (S.told doors.old) }
+    requires open { WhereTold (HasRoom (length opened.items)) (S.told doors.old) }
     ensures closed { Moves (AreClosed opened.items) (S.told doors.old) (S.told doors.new) }
     ensures ports { S.ports doors.new ≡ S.ports doors.old }
 {
@@ -83,15 +83,15 @@ fn serve_doors<R: Wait + Threads + Sync, T: Counter + Send + Drop, S: Doors, K: 
 ) -> ServeEnd
     requires { length counters.old.items ≡ WORKERS }
     ensures count { length counters.new.items ≡ WORKERS }
-    ensures ends { EndsServing (site T.asks
-        (looks S.One.In.left S.One.In.faults S.One.Out.held S.One.Out.faults S.One.Time.to_come)
-        (λ d. S.One.told d) (λ d. S.One.faults d)) port
-        (λ opened closed. WorksEach (site T.asks
-        (looks S.One.In.left S.One.In.faults S.One.Out.held S.One.Out.faults S.One.Time.to_come)
-        (λ d. S.One.told d) (λ d. S.One.faults d)) counters.old.items opened closed
-        counters.new.items) (counters.new.items ≡ counters.old.items) result
-        (front (S.told doors.old) (S.ports doors.old) (K.held ready.old))
-        (front (S.told doors.new) (S.ports doors.new) (K.held ready.new)) }
+    ensures ends { EndsServing (worker_senses T.asks
+        (visit_senses S.One.In.left S.One.In.faults S.One.Out.held S.One.Out.faults
+        S.One.Time.to_come) (λ d. S.One.told d) (λ d. S.One.faults d)) port
+        (λ opened closed. ServesDoors (worker_senses T.asks
+        (visit_senses S.One.In.left S.One.In.faults S.One.Out.held S.One.Out.faults
+        S.One.Time.to_come) (λ d. S.One.told d) (λ d. S.One.faults d)) counters.old.items opened
+        closed counters.new.items) (counters.new.items ≡ counters.old.items) result
+        (serving_world (S.told doors.old) (S.ports doors.old) (K.held ready.old))
+        (serving_world (S.told doors.new) (S.ports doors.new) (K.held ready.new)) }
     ensures write { result ≡ ServeEnd.WriteFault →
         Rose (K.faults ready.old) (K.faults ready.new) }
     ensures doors { result ≡ ServeEnd.DoorsFault →
@@ -129,15 +129,15 @@ fn serve_at<R: Wait + Threads + Sync, D: Disk + Send + Drop, S: Doors, K: Sink>(
     requires desk { All (λ p. p.desk ≡ desk.now) passes.old.items }
     requires count { length passes.old.items ≡ WORKERS }
     ensures count { length passes.new.items ≡ WORKERS }
-    ensures ends { EndsServing (site (TurnAsks D.senses)
-        (looks S.One.In.left S.One.In.faults S.One.Out.held S.One.Out.faults S.One.Time.to_come)
-        (λ d. S.One.told d) (λ d. S.One.faults d)) port
-        (λ opened closed. WorksEach (site (TurnAsks D.senses)
-        (looks S.One.In.left S.One.In.faults S.One.Out.held S.One.Out.faults S.One.Time.to_come)
-        (λ d. S.One.told d) (λ d. S.One.faults d)) passes.old.items opened closed
-        passes.new.items) (passes.new.items ≡ passes.old.items) result
-        (front (S.told doors.old) (S.ports doors.old) (K.held ready.old))
-        (front (S.told doors.new) (S.ports doors.new) (K.held ready.new)) }
+    ensures ends { EndsServing (worker_senses (TurnAsks D.senses)
+        (visit_senses S.One.In.left S.One.In.faults S.One.Out.held S.One.Out.faults
+        S.One.Time.to_come) (λ d. S.One.told d) (λ d. S.One.faults d)) port
+        (λ opened closed. ServesDoors (worker_senses (TurnAsks D.senses)
+        (visit_senses S.One.In.left S.One.In.faults S.One.Out.held S.One.Out.faults
+        S.One.Time.to_come) (λ d. S.One.told d) (λ d. S.One.faults d)) passes.old.items opened
+        closed passes.new.items) (passes.new.items ≡ passes.old.items) result
+        (serving_world (S.told doors.old) (S.ports doors.old) (K.held ready.old))
+        (serving_world (S.told doors.new) (S.ports doors.new) (K.held ready.new)) }
     ensures write { result ≡ ServeEnd.WriteFault →
         Rose (K.faults ready.old) (K.faults ready.new) }
     ensures doors { result ≡ ServeEnd.DoorsFault →
@@ -165,11 +165,11 @@ pub fn serve<R: Wait + Threads + Sync, D: Disk + Send + Drop, S: Doors, K: Sink>
     port: u16,
     ready: &mut K,
 ) -> (ServeEnd, D)
-    ensures served { IsServed D.senses (site (TurnAsks D.senses)
-        (looks S.One.In.left S.One.In.faults S.One.Out.held S.One.Out.faults S.One.Time.to_come)
-        (λ d. S.One.told d) (λ d. S.One.faults d)) port office result.0
-        (front (S.told doors.old) (S.ports doors.old) (K.held ready.old))
-        (front (S.told doors.new) (S.ports doors.new) (K.held ready.new)) result.1 }
+    ensures served { IsServed D.senses (worker_senses (TurnAsks D.senses)
+        (visit_senses S.One.In.left S.One.In.faults S.One.Out.held S.One.Out.faults
+        S.One.Time.to_come) (λ d. S.One.told d) (λ d. S.One.faults d)) port office result.0
+        (serving_world (S.told doors.old) (S.ports doors.old) (K.held ready.old))
+        (serving_world (S.told doors.new) (S.ports doors.new) (K.held ready.new)) result.1 }
     ensures write { result.0 ≡ ServeEnd.WriteFault →
         Rose (K.faults ready.old) (K.faults ready.new) }
     ensures doors { result.0 ≡ ServeEnd.DoorsFault →

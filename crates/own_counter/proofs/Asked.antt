@@ -17,12 +17,12 @@ use Rattle.office_counter.specs.Steps as steps
 use Rattle.office_counter.specs.Steps.{with_made, with_others, made_by, entry_of, needed_for}
 use Rattle.office_keep.specs.Office as keep
 use Rattle.office_keep.specs.Office.{IsSettled, OfficeOn, entry_at}
-use Rattle.message_session.specs.Sessions.{EndsSo, Scene, Trace, Turn}
+use Rattle.message_session.specs.Sessions.{EndsSo, SessionWorld, Trace, Turn}
 use Rattle.message_session.specs.declared.SessionEnd.{SessionEnd}
 use Rattle.message_session.specs.declared.SessionEnd.TheVariants.{Done, Cut, ReadFault, WriteFault}
 use Rattle.message_session.specs.declared.SessionEnd.TheVariants.{NoMemory}
 use Rattle.wire_routes.specs.Requests.{StandsFor}
-use Rattle.wire_session.specs.Treats.{Treats, asked, at_once, unread}
+use Rattle.office_session.specs.Messages.{AnswersMessage, asked, at_once, unread}
 use Rattle.own_counter.specs.Own.{Ends, performed, no_room, OwnAsks, OwnOn}
 use Rattle.own_counter.specs.Requests.{AddNoOther, AddsAsked, AreAsked, IsAsked, IsUntouched}
 use Rattle.own_counter.specs.Requests.{doubted, turns_of}
@@ -116,7 +116,7 @@ module _ {D : Type 0} (S : DiskSenses D) where
       did_nothing turn old new same
 
   did_turn : (turn : Turn) (last : Bool) (old new : OwnOn D)
-      → Treats (OwnAsks S) old turn.said last turn.reading turn.answer new
+      → AnswersMessage (OwnAsks S) old turn.said last turn.reading turn.answer new
       → TurnDid turn old.kept new.kept
   did_turn turn last old new (asked request outcome stands asks tells) =
       did_ends turn request old.kept new.kept outcome asks.place stands asks.ended
@@ -219,7 +219,7 @@ module _ {D : Type 0} (S : DiskSenses D) where
   -- turns, and then perhaps one more
   trace_adds : (count : ℕ) (old : OwnOn D) (turns : List Turn) (mid : OwnOn D)
       (behind : List Turn) (new : OwnOn D)
-      → Trace (Treats (OwnAsks S)) count old turns mid
+      → Trace (AnswersMessage (OwnAsks S)) count old turns mid
       → AddNoOther behind mid.kept new.kept → AddNoOther (turns ++ behind) old.kept new.kept
   trace_adds count old [] mid behind new same more =
       subst (λ (o : OwnOn D). AddNoOther behind o.kept new.kept) same more
@@ -235,7 +235,7 @@ module _ {D : Type 0} (S : DiskSenses D) where
   })
 
   pub turns_add : (count : ℕ) (old : OwnOn D) (turns : List Turn) (new : OwnOn D)
-      → Trace (Treats (OwnAsks S)) count old turns new
+      → Trace (AnswersMessage (OwnAsks S)) count old turns new
       → AddNoOther turns old.kept new.kept
   turns_add count old turns new trace =
       subst (λ (l : List Turn). AddNoOther l old.kept new.kept) (append-nil turns)
@@ -243,15 +243,15 @@ module _ {D : Type 0} (S : DiskSenses D) where
 
   -- one turn more
   one_adds : (turn : Turn) (last : Bool) (old new : OwnOn D)
-      → Treats (OwnAsks S) old turn.said last turn.reading turn.answer new
+      → AnswersMessage (OwnAsks S) old turn.said last turn.reading turn.answer new
       → AddNoOther (turn ∷ []) old.kept new.kept
   one_adds turn last old new treated =
       turn_then turn [] old.kept new.kept new.kept
       (did_turn S turn last old new treated) (still new new refl)
 
-  pub end_adds : (refusal : OwnOn D → ℕ → List ℕ) (end : SessionEnd) (old new : Scene (OwnOn D))
-      → (ends : EndsSo (Treats (OwnAsks S)) refusal end old new)
-      → AddNoOther (turns_of (Treats (OwnAsks S)) refusal end old new ends)
+  pub end_adds : (refusal : OwnOn D → ℕ → List ℕ) (end : SessionEnd)
+      (old new : SessionWorld (OwnOn D)) → (ends : EndsSo (AnswersMessage (OwnAsks S)) refusal end
+      old new) → AddNoOther (turns_of (AnswersMessage (OwnAsks S)) refusal end old new ends)
       old.handler.kept new.handler.kept
   end_adds refusal Done old new (inl t) =
       trace_adds 0 old.handler t.turns t.mid.handler (t.one.turn ∷ []) new.handler t.before.trace

@@ -6,7 +6,7 @@ use Rattle.office_outside.proofs.Moments.{leaves_still}
 use Rattle.record_form.specs.declared.Request.{Request}
 use Rattle.record_form.specs.declared.Request.TheVariants.{Change, Ask}
 use Rattle.record_form.specs.declared.Outcome.TheVariants.{NoMemory}
-use Rattle.office_keep.specs.Files.{IsWhole}
+use Rattle.office_keep.specs.Files.{OfficeIsWhole}
 use Rattle.office_keep.specs.Office.{IsBlamed, LeavesBy, OfficeOn, StandsSettled, unsettled}
 use Rattle.office_keep.proofs.Performing.{settles_nothing}
 use Rattle.own_counter.specs.Own.{no_room, OwnAsks, own_on}
@@ -23,7 +23,7 @@ blames_nothing count = record { later = omega arith; rose = λ told. cc told }
 -- where there is no memory for a place, nothing is done
 pub asks_without_room : {D : Type 0} (S : DiskSenses D) → OnlyNow S
     → (o : OfficeOn D) (own : List ℕ) (reading : ℕ) (request : Request)
-    → All (StandsSettled o.office o.doubt) (S.images o.disk) → IsWhole o.office
+    → All (StandsSettled o.office o.doubt) (S.images o.disk) → OfficeIsWhole o.office
     → OwnAsks S (own_on o own) reading request NoMemory (own_on o own)
 asks_without_room S only_now o own reading request stands whole = record {
   place = None;

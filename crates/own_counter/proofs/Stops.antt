@@ -18,13 +18,13 @@ use Rattle.office_counter.proofs.Steps.{step_extends}
 use Rattle.office_keep.specs.Files.{StandsFor}
 use Rattle.office_keep.specs.Office.{IsSettled, Leaves, LeavesBy, OfficeOn, StandsSettled, entry_at}
 use Rattle.office_keep.specs.Office.{unsettled, written}
-use Rattle.message_session.specs.Sessions.{EndsSo, Scene, Trace, Turn}
+use Rattle.message_session.specs.Sessions.{EndsSo, SessionWorld, Trace, Turn}
 use Rattle.message_session.specs.declared.SessionEnd.{SessionEnd}
 use Rattle.own_counter.specs.Own.{OwnAsks, OwnOn}
 use Rattle.own_counter.specs.Runs.{IsBetween}
 use Rattle.own_counter.specs.Stepping.{own_steps, settled_others}
-use Rattle.wire_session.specs.Treats.{Treats, asked, at_once, unread}
-use Rattle.wire_session.proofs.Keeping.{trace_keeps, end_keeps}
+use Rattle.office_session.specs.Messages.{AnswersMessage, asked, at_once, unread}
+use Rattle.office_session.proofs.Keeping.{trace_keeps, end_keeps}
 
 -- an office may be longer at its end, and begin earlier
 between_longer : (first mid last : Office) (file : List ℕ) → Extends mid last
@@ -101,7 +101,7 @@ left_between old reading (Change command) new file more leaves =
 
 module _ {D : Type 0} (S : DiskSenses D) (only_now : OnlyNow S) where
   -- what a part of a session leaves, at each moment and at its end
-  record IsKept (old new : OwnOn D) : Type 0 where
+  record PartIsKept (old new : OwnOn D) : Type 0 where
     pub moments : LeavesOnly S old.kept.disk new.kept.disk
         (IsBetween old.kept.office new.kept.office)
     pub now : All (StandsSettled new.kept.office new.kept.doubt) (S.images new.kept.disk)
@@ -109,7 +109,8 @@ module _ {D : Type 0} (S : DiskSenses D) (only_now : OnlyNow S) where
 
   abbrev Keeps : OwnOn D → OwnOn D → Type 0
   Keeps old new =
-      All (StandsSettled old.kept.office old.kept.doubt) (S.images old.kept.disk) → IsKept old new
+      All (StandsSettled old.kept.office old.kept.doubt) (S.images old.kept.disk)
+      → PartIsKept old new
 
   keeps_still : (o : OwnOn D) → Keeps o o
   keeps_still o stands = record {
@@ -146,7 +147,7 @@ module _ {D : Type 0} (S : DiskSenses D) (only_now : OnlyNow S) where
       }
 
   turn_keeps : (old : OwnOn D) (said : Said) (last : Bool) (reading : ℕ) (text : List ℕ)
-      (new : OwnOn D) → Treats (OwnAsks S) old said last reading text new → Keeps old new
+      (new : OwnOn D) → AnswersMessage (OwnAsks S) old said last reading text new → Keeps old new
   turn_keeps old said last reading text new (asked request outcome for asks answer) =
       asking_keeps old reading request outcome new asks
   turn_keeps old said last reading text new (at_once reason for answer same) =
@@ -155,19 +156,19 @@ module _ {D : Type 0} (S : DiskSenses D) (only_now : OnlyNow S) where
       subst (λ (o : OwnOn D). Keeps old o) (sym same) (keeps_still old)
 
   pub turns_leave : (count : ℕ) (old : OwnOn D) (turns : List Turn) (new : OwnOn D)
-      → Trace (Treats (OwnAsks S)) count old turns new
+      → Trace (AnswersMessage (OwnAsks S)) count old turns new
       → All (StandsSettled old.kept.office old.kept.doubt) (S.images old.kept.disk)
       → LeavesOnly S old.kept.disk new.kept.disk (IsBetween old.kept.office new.kept.office)
   turns_leave count old turns new trace stands =
-      (trace_keeps (Treats (OwnAsks S)) Keeps keeps_still keeps_both turn_keeps
+      (trace_keeps (AnswersMessage (OwnAsks S)) Keeps keeps_still keeps_both turn_keeps
       count old turns new trace stands).moments
 
-  pub end_leaves : (refusal : OwnOn D → ℕ → List ℕ) (end : SessionEnd) (old new : Scene (OwnOn D))
-      → EndsSo (Treats (OwnAsks S)) refusal end old new
+  pub end_leaves : (refusal : OwnOn D → ℕ → List ℕ) (end : SessionEnd)
+      (old new : SessionWorld (OwnOn D)) → EndsSo (AnswersMessage (OwnAsks S)) refusal end old new
       → All (StandsSettled old.handler.kept.office old.handler.kept.doubt)
       (S.images old.handler.kept.disk)
       → LeavesOnly S old.handler.kept.disk new.handler.kept.disk
       (IsBetween old.handler.kept.office new.handler.kept.office)
   end_leaves refusal end old new ends stands =
-      (end_keeps (Treats (OwnAsks S)) Keeps keeps_still keeps_both turn_keeps
+      (end_keeps (AnswersMessage (OwnAsks S)) Keeps keeps_still keeps_both turn_keeps
       refusal end old new ends stands).moments

@@ -6,7 +6,7 @@ use Rattle.record_form.specs.declared.Outcome.{Outcome}
 use Rattle.record_form.specs.declared.Outcome.TheVariants.{NoMemory}
 use Rattle.record_form.specs.declared.Request.{Request}
 use Rattle.office_counter.specs.Steps.{Standing}
-use Rattle.office_keep.specs.Files.{IsWhole}
+use Rattle.office_keep.specs.Files.{OfficeIsWhole}
 use Rattle.office_keep.specs.Office.{IsBlamed, LeavesBy, OfficeOn, Performs, SettlesBy}
 use Rattle.office_keep.specs.Office.{StandsSettled}
 
@@ -47,6 +47,6 @@ pub record OwnAsks {D : Type 0} (S : DiskSenses D) (old : OwnOn D) (reading : â„
   pub any_moment : LeavesOnly S old.kept.disk new.kept.disk
       (LeavesBy old.kept reading request new.kept)
   pub stands : All (StandsSettled new.kept.office new.kept.doubt) (S.images new.kept.disk)
-  pub whole : IsWhole new.kept.office
+  pub whole : OfficeIsWhole new.kept.office
   pub after_settling : SettlesBy S old.kept reading request new.kept
   pub cause : IsBlamed (S.faults old.kept.disk) (S.faults new.kept.disk) outcome

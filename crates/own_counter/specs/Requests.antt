@@ -7,7 +7,7 @@ use Rattle.record_form.specs.declared.Request.TheVariants.{Change}
 use Rattle.office_history.specs.History.{Office, with_entry}
 use Rattle.office_counter.specs.Steps.{with_others}
 use Rattle.office_keep.specs.Office.{IsSettled, OfficeOn, entry_at}
-use Rattle.message_session.specs.Sessions.{Answering, EndsSo, Scene, Turn}
+use Rattle.message_session.specs.Sessions.{Answering, EndsSo, SessionWorld, Turn}
 use Rattle.message_session.specs.declared.SessionEnd.{SessionEnd}
 use Rattle.message_session.specs.declared.SessionEnd.TheVariants.{Done, Cut, ReadFault, WriteFault}
 use Rattle.message_session.specs.declared.SessionEnd.TheVariants.{NoMemory}
@@ -53,7 +53,7 @@ AddNoOther turns old new = IsUntouched old new ⊎ AddsAsked turns old new
 
 -- the turns of a session that ended so, the one that ended it among them
 abbrev pub turns_of : {H : Type 0} (answers : Answering H) (refusal : H → ℕ → List ℕ)
-    (end : SessionEnd) (old new : Scene H) → EndsSo answers refusal end old new → List Turn
+    (end : SessionEnd) (old new : SessionWorld H) → EndsSo answers refusal end old new → List Turn
 turns_of answers refusal Done old new (inl t) = t.turns ++ t.one.turn ∷ []
 turns_of answers refusal Done old new (inr (inl bad)) = bad.turns
 turns_of answers refusal Done old new (inr (inr bytes)) = bytes.0.turns

@@ -3,9 +3,9 @@ ghost use Rattle.std.specs.Prelude.{◌≡◌, Ok, Err};
 ghost use Rattle.office_outside.specs.Faults.{RoseBy};
 ghost use Rattle.office_keep.specs.declared.KeepFault.TheVariants.{DiskFault};
 ghost use Rattle.turn_counter.specs.Turns.{TurnAsks};
-ghost use Rattle.office_serving.specs.Serving.{front};
-ghost use Rattle.visit_workers.specs.Visits.{looks};
-ghost use Rattle.visit_workers.specs.Workers.{site};
+ghost use Rattle.office_serving.specs.Serving.{serving_world};
+ghost use Rattle.visit_workers.specs.Visits.{visit_senses};
+ghost use Rattle.visit_workers.specs.Workers.{worker_senses};
 ghost use Rattle.serve_command.specs.Serves.{EndsServer};
 
 use office_doors::{Door, Doors};
@@ -31,11 +31,11 @@ pub fn serve_journal<R: Wait + Threads + Sync, D: Disk + Send + Drop, S: Doors, 
     port: u16,
     ready: &mut K,
 ) -> (Result<ServeEnd, KeepFault>, D)
-    ensures ends { EndsServer D.senses (site (TurnAsks D.senses)
-        (looks S.One.In.left S.One.In.faults S.One.Out.held S.One.Out.faults S.One.Time.to_come)
-        (λ d. S.One.told d) (λ d. S.One.faults d)) port result.0
-        (front (S.told doors.old) (S.ports doors.old) (K.held ready.old))
-        (front (S.told doors.new) (S.ports doors.new) (K.held ready.new)) disk result.1 }
+    ensures ends { EndsServer D.senses (worker_senses (TurnAsks D.senses)
+        (visit_senses S.One.In.left S.One.In.faults S.One.Out.held S.One.Out.faults
+        S.One.Time.to_come) (λ d. S.One.told d) (λ d. S.One.faults d)) port result.0
+        (serving_world (S.told doors.old) (S.ports doors.old) (K.held ready.old))
+        (serving_world (S.told doors.new) (S.ports doors.new) (K.held ready.new)) disk result.1 }
     ensures disk { result.0 ≡ Err DiskFault → RoseBy D.senses.faults disk result.1 }
     ensures write { result.0 ≡ Ok ServeEnd.WriteFault → RoseBy K.faults ready.old ready.new }
     ensures doors { result.0 ≡ Ok ServeEnd.DoorsFault → RoseBy S.faults doors.old doors.new }

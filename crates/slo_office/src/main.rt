@@ -6,9 +6,9 @@
 mod standard;
 
 use command_words::only_reads;
-use office_commands::{DISK_FAULT, run, run_out_of_memory};
 use office_doors::TcpDoors;
 use office_outside::{FileDisk, StdSink, StdSource, WallClock};
+use office_run::{DISK_FAULT, run, run_out_of_memory};
 use standard::stand_in;
 use std::alloc::AllocError;
 use std::env::{self, Env};

@@ -26,13 +26,13 @@ use Rattle.office_counter.specs.Laws.{Extends}
 use Rattle.office_counter.specs.Steps as steps
 use Rattle.office_counter.specs.Steps.{place_of, with_made}
 use Rattle.office_counter.proofs.Steps.{extends_both, extends_still, step_extends}
-use Rattle.message_session.specs.Sessions.{EndsSo, Scene, Turn}
+use Rattle.message_session.specs.Sessions.{EndsSo, SessionWorld, Turn}
 use Rattle.message_session.specs.declared.SessionEnd.{SessionEnd}
 use Rattle.own_counter.specs.Own.{places_with}
 use Rattle.own_counter.specs.Requests.{IsAsked, turns_of}
 use Rattle.office_keep.specs.Office as keep
 use Rattle.office_keep.specs.Office.{Changes, OfficeOn, entry_at}
-use Rattle.wire_session.specs.Treats.{Treats, asked, at_once, unread}
+use Rattle.office_session.specs.Messages.{AnswersMessage, asked, at_once, unread}
 use Rattle.turn_counter.specs.Asked.{AsksAt, AsksBehind, IsAskedByOne, MakesAsked, front}
 use Rattle.turn_counter.specs.Seen.{entry_in, ledger_of, office_seen, record_if, standing_of}
 use Rattle.turn_counter.specs.Stepping.{turn_steps}
@@ -353,7 +353,7 @@ module _ {D : Type 0} (back : EntriesAreReadBack) (S : DiskSenses D) where
   )
 
   turn_does : (old : PassState) (t : Turn) (last : Bool) (new : PassState)
-      → Treats Asks old t.said last t.reading t.answer new → Does (t ∷ []) old new
+      → AnswersMessage Asks old t.said last t.reading t.answer new → Does (t ∷ []) old new
   turn_does old t last new (asked (Change command) outcome stands asks tells) =
       change_does t command (λ o. record { command = command; request = stands; entry = refl }) old
       outcome new asks
@@ -363,7 +363,7 @@ module _ {D : Type 0} (back : EntriesAreReadBack) (S : DiskSenses D) where
   turn_does old t last new (unread text same) = does_nothing t old new same
 
   pub session_does : (refusal : PassState → ℕ → List ℕ) (end : SessionEnd)
-      (old new : Scene PassState) (ends : EndsSo (Treats Asks) refusal end old new)
-      → Does (turns_of (Treats Asks) refusal end old new ends) old.handler new.handler
+      (old new : SessionWorld PassState) (ends : EndsSo (AnswersMessage Asks) refusal end old new)
+      → Does (turns_of (AnswersMessage Asks) refusal end old new ends) old.handler new.handler
   session_does refusal end old new ends =
-      end_does (Treats Asks) Does does_none does_both turn_does refusal end old new ends
+      end_does (AnswersMessage Asks) Does does_none does_both turn_does refusal end old new ends

@@ -15,7 +15,7 @@ use Rattle.record_form.specs.Ranges.{FitsRecord}
 use Rattle.record_form.specs.Records.{entry, record_of, whole}
 use Rattle.office_history.specs.History.{Office}
 use Rattle.office_counter.specs.Laws.{Extends}
-use Rattle.office_keep.specs.Files.{IsWhole, records}
+use Rattle.office_keep.specs.Files.{OfficeIsWhole, records}
 use Rattle.turn_counter.specs.Seen.{entry_in, entry_or_tick, office_seen, origin_in, root_of}
 
 pub entry_back : EntriesAreReadBack → (e : Entry) → FitsRecord e → entry_in (record_of e) ≡ e
@@ -33,7 +33,7 @@ history_back back (e ∷ es) (here, rest) =
 pub origin_back : (origin : ℕ) → origin ≤ MAX_MINUTE → origin_in (root_of origin) ≡ origin
 origin_back origin within = from_be_bytes-to_be_bytes_4 origin (omega (arith, within))
 
-pub sees_beginning : EntriesAreReadBack → (p : PassState) (o : Office) → IsWhole o
+pub sees_beginning : EntriesAreReadBack → (p : PassState) (o : Office) → OfficeIsWhole o
     → o.origin ≤ MAX_MINUTE → p.root ≡ root_of o.origin → Begins p.seen (records o.history)
     → Extends (office_seen p) o
 sees_beginning back p o whole within root begins = record {
@@ -44,7 +44,7 @@ sees_beginning back p o whole within root begins = record {
 }
 
 -- a pass with this root and these records has seen this office
-pub sees_office : EntriesAreReadBack → (root : List ℕ) (o : Office) → IsWhole o
+pub sees_office : EntriesAreReadBack → (root : List ℕ) (o : Office) → OfficeIsWhole o
     → o.origin ≤ MAX_MINUTE → root ≡ root_of o.origin
     → record { origin = origin_in root; history = map entry_in (records o.history) } ≡ o
 sees_office back root o whole within is =
@@ -54,7 +54,7 @@ sees_office back root o whole within is =
     (history_back back o.history whole.fit)
 
 pub new_sees_all : EntriesAreReadBack → (desk : TableId) (ledger : Ledger) (passes : ℕ)
-    (o : Office) → IsWhole o → o.origin ≤ MAX_MINUTE → ledger.root ≡ root_of o.origin
+    (o : Office) → OfficeIsWhole o → o.origin ≤ MAX_MINUTE → ledger.root ≡ root_of o.origin
     → ledger.history ≡ records o.history → office_seen (newcomer desk ledger passes) ≡ o
 new_sees_all back desk ledger passes o whole within root history =
     ap (λ (h : List (List ℕ)). record { origin = origin_in ledger.root; history = map entry_in h })

@@ -1,12 +1,12 @@
 -- What each turn does, and turns one after another do, a session does by its turns.
 use Rattle.std.proofs.Common.{◌≡◌, ℕ, ◌+◌, List, [], ◌∷◌, ◌++◌, Bool, false, sym, subst, inl, inr}
-use Rattle.message_session.specs.Sessions.{Answering, Scene, Turn, Trace}
+use Rattle.message_session.specs.Sessions.{Answering, SessionWorld, Turn, Trace}
 use Rattle.message_session.specs.Sessions.{EndsByTurn, EndsByBad, EndsByBytes, EndsSo}
 use Rattle.message_session.specs.declared.SessionEnd.{SessionEnd}
 use Rattle.message_session.specs.declared.SessionEnd.TheVariants.{Done, Cut, ReadFault, WriteFault}
 use Rattle.message_session.specs.declared.SessionEnd.TheVariants.{NoMemory}
 use Rattle.own_counter.specs.Requests.{turns_of}
-use Rattle.wire_session.proofs.Keeping.{Getting}
+use Rattle.office_session.proofs.Keeping.{Getting}
 
 module _ {H : Type 0} (answers : Answering H) (Does : List Turn → H → H → Type 0)
     (none : (h : H) → Does [] h h)
@@ -23,7 +23,7 @@ module _ {H : Type 0} (answers : Answering H) (Does : List Turn → H → H → 
       both (t ∷ []) ts old mid new (each old t false mid treated)
       (trace_does (count + 1) mid ts new rest)
 
-  turn_does : (Got : Getting) (last : Bool) (old new : Scene H)
+  turn_does : (Got : Getting) (last : Bool) (old new : SessionWorld H)
       → (t : EndsByTurn answers Got last old new)
       → Does (t.turns ++ t.one.turn ∷ []) old.handler new.handler
   turn_does Got last old new t =
@@ -31,17 +31,17 @@ module _ {H : Type 0} (answers : Answering H) (Does : List Turn → H → H → 
       (trace_does 0 old.handler t.turns t.mid.handler t.before.trace)
       (each t.mid.handler t.one.turn last new.handler t.one.takes.treated)
 
-  bad_does : (refusal : H → ℕ → List ℕ) (Got : Getting) (old new : Scene H)
+  bad_does : (refusal : H → ℕ → List ℕ) (Got : Getting) (old new : SessionWorld H)
       → (b : EndsByBad answers refusal Got old new) → Does b.turns old.handler new.handler
   bad_does refusal Got old new b =
       subst (λ (h : H). Does b.turns old.handler h) (sym b.unasked)
       (trace_does 0 old.handler b.turns b.mid.handler b.before.trace)
 
-  bytes_does : (Waiting : List ℕ → Type 0) (old new : Scene H)
+  bytes_does : (Waiting : List ℕ → Type 0) (old new : SessionWorld H)
       → (e : EndsByBytes answers Waiting old new) → Does e.turns old.handler new.handler
   bytes_does Waiting old new e = trace_does 0 old.handler e.turns new.handler e.serves.trace
 
-  pub end_does : (refusal : H → ℕ → List ℕ) (end : SessionEnd) (old new : Scene H)
+  pub end_does : (refusal : H → ℕ → List ℕ) (end : SessionEnd) (old new : SessionWorld H)
       → (ends : EndsSo answers refusal end old new)
       → Does (turns_of answers refusal end old new ends) old.handler new.handler
   end_does refusal Done old new (inl t) = turn_does _ _ old new t

@@ -12,7 +12,7 @@ use Rattle.record_form.specs.declared.Request.TheVariants.{Change, Ask}
 use Rattle.office_history.specs.History.{Office, moment_of}
 use Rattle.office_counter.specs.Laws.{Extends}
 use Rattle.office_counter.specs.Steps.{Standing, Step, entry_of}
-use Rattle.office_keep.specs.Files.{IsWhole, records}
+use Rattle.office_keep.specs.Files.{OfficeIsWhole, records}
 use Rattle.turn_counter.specs.Seen.{office_seen, root_of}
 
 -- The pass is one of the same desk, and over the same origin. It stands for as many of the passes
@@ -27,13 +27,13 @@ pub record StaysAtDesk (old new : PassState) : Type 0 where
 -- A pass that has seen the first records of an office has seen the beginning of its history.
 abbrev pub PassesSeeBeginnings : Type 0
 PassesSeeBeginnings =
-    (p : PassState) (o : Office) → IsWhole o → o.origin ≤ MAX_MINUTE → p.root ≡ root_of o.origin
-    → Begins p.seen (records o.history) → Extends (office_seen p) o
+    (p : PassState) (o : Office) → OfficeIsWhole o → o.origin ≤ MAX_MINUTE → p.root
+    ≡ root_of o.origin → Begins p.seen (records o.history) → Extends (office_seen p) o
 
 -- A new pass has seen the office.
 abbrev pub NewPassesSeeAll : Type 0
 NewPassesSeeAll =
-    (desk : TableId) (ledger : Ledger) (passes : ℕ) (o : Office) → IsWhole o
+    (desk : TableId) (ledger : Ledger) (passes : ℕ) (o : Office) → OfficeIsWhole o
     → o.origin ≤ MAX_MINUTE → ledger.root ≡ root_of o.origin → ledger.history ≡ records o.history
     → office_seen (newcomer desk ledger passes) ≡ o
 

@@ -8,7 +8,7 @@ use Rattle.office_outside.specs.Senses.{DiskSenses}
 use Rattle.record_form.specs.declared.Outcome.{Outcome}
 use Rattle.record_form.specs.declared.Request.{Request}
 use Rattle.office_counter.specs.Laws.{Extends}
-use Rattle.office_keep.specs.Files.{IsWhole}
+use Rattle.office_keep.specs.Files.{OfficeIsWhole}
 use Rattle.office_keep.specs.Office.{IsBlamed, LeavesBy, OfficeOn, Performs, SettlesBy}
 use Rattle.office_keep.specs.Office.{StandsSettled}
 use Rattle.own_counter.specs.Own.{places_with}
@@ -31,8 +31,8 @@ pub record Acts {D : Type 0} (S : DiskSenses D) (old : OfficeOn D) (reading : â„
   pub after_settling : SettlesBy S old reading request new
   pub cause : IsBlamed (S.faults old.disk) (S.faults new.disk) outcome
   pub origin : old.office.origin â‰¤ MAX_MINUTE
-  pub was_whole : IsWhole old.office
-  pub whole : IsWhole new.office
+  pub was_whole : OfficeIsWhole old.office
+  pub whole : OfficeIsWhole new.office
 
 -- One asking by a pass. The office that was taken out goes on from what the pass had seen, and the
 -- pass has then seen the office that was put back. The place of the entry that the request added

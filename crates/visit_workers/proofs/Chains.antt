@@ -5,10 +5,11 @@ use Rattle.std.proofs.Common.{Some, None}
 use Rattle.std.specs.declared.option.Option.{Option}
 use Rattle.std.proofs.lemmas.List.{map-append}
 use Rattle.office_doors.specs.Books.{Book, FailsToHand, FindsNone, HandsOut, HasAllBack, HasOneOut}
-use Rattle.office_doors.specs.Books.{Moves, TakesBack, Tells}
+use Rattle.office_doors.specs.Books.{Moves, TakesBack, WhereTold}
 use Rattle.office_doors.specs.declared.Visit.{Visit}
-use Rattle.wire_session.specs.Treats.{Asking}
-use Rattle.visit_workers.specs.Visits.{Chain, Gains, HasEnded, Looks, Service, ServesVisit, Works}
+use Rattle.office_session.specs.Messages.{Asking}
+use Rattle.visit_workers.specs.Visits.{Chain, Gains, HasEnded, VisitSenses, Service, ServesVisit}
+use Rattle.visit_workers.specs.Visits.{ServesVisits}
 use Rattle.visit_workers.specs.Visits.{given_of, visits_of}
 
 -- what one change after another makes of what is told
@@ -24,7 +25,7 @@ moves_both P Q R both (Some a) (Some b) (Some c) p q = both a b c p q
 
 pub moves_to : {B : Type 0} (P : B → B → Type 0) (F G : B → Type 0)
     → ((a b : B) → F a → P a b → G b)
-    → (a b : Option B) → Tells F a → Moves P a b → Tells G b
+    → (a b : Option B) → WhereTold F a → Moves P a b → WhereTold G b
 moves_to P F G to None None f p = tt
 moves_to P F G to None (Some b) f p = absurd p
 moves_to P F G to (Some a) None f p = absurd p
@@ -116,39 +117,39 @@ module _ {V : Type 0} where
       )
 
   -- in words of what is told
-  pub told_one_out : (b c : Option (Book V)) (visit : V) → Tells HasAllBack b
-      → Moves (HandsOut visit) b c → Tells HasOneOut c
+  pub told_one_out : (b c : Option (Book V)) (visit : V) → WhereTold HasAllBack b
+      → Moves (HandsOut visit) b c → WhereTold HasOneOut c
   told_one_out b c visit all hands =
       moves_to (HandsOut visit) HasAllBack HasOneOut (λ b c f p. one_out b c visit f p) b c all
       hands
 
-  pub told_all_back : (visit given : V) (a b c : Option (Book V)) → Tells HasAllBack a
-      → Moves (HandsOut visit) a b → Moves (TakesBack given) b c → Tells HasAllBack c
+  pub told_all_back : (visit given : V) (a b c : Option (Book V)) → WhereTold HasAllBack a
+      → Moves (HandsOut visit) a b → Moves (TakesBack given) b c → WhereTold HasAllBack c
   told_all_back visit given a b c all hands takes =
       moves_to (Gains (visit ∷ []) (given ∷ [])) HasAllBack HasAllBack
       (λ a b f p. all_back (visit ∷ []) (given ∷ []) a b refl f p) a c all
       (moves_both (HandsOut visit) (TakesBack given) (Gains (visit ∷ []) (given ∷ []))
       (gains_one visit given) a b c hands takes)
 
-  pub told_back_at_end : (a b : Option (Book V)) → Tells HasAllBack a → Moves FindsNone a b
-      → Tells HasAllBack b
+  pub told_back_at_end : (a b : Option (Book V)) → WhereTold HasAllBack a → Moves FindsNone a b
+      → WhereTold HasAllBack b
   told_back_at_end a b all none =
       moves_to FindsNone HasAllBack HasAllBack
       (λ a b f p. all_back [] [] a b refl f (gains_end a b p)) a b all none
 
-  pub told_back_at_fault : (a b : Option (Book V)) → Tells HasAllBack a → Moves FailsToHand a b
-      → Tells HasAllBack b
+  pub told_back_at_fault : (a b : Option (Book V)) → WhereTold HasAllBack a → Moves FailsToHand a b
+      → WhereTold HasAllBack b
   told_back_at_fault a b all fails =
       moves_to FailsToHand HasAllBack HasAllBack
       (λ a b f p. all_back [] [] a b refl f (gains_fault a b p)) a b all fails
 
-  pub told_ended : (b c : Option (Book V)) → Moves FindsNone b c → Tells HasEnded c
+  pub told_ended : (b c : Option (Book V)) → Moves FindsNone b c → WhereTold HasEnded c
   told_ended None None none = tt
   told_ended None (Some c) none = absurd none
   told_ended (Some b) None none = absurd none
   told_ended (Some b) (Some c) none = ends_book b c none
 
-module _ {T I O C : Type 0} (asks : Asking T) (look : Looks I O C) where
+module _ {T I O C : Type 0} (asks : Asking T) (look : VisitSenses I O C) where
   chain_both : (old : T) (services more : List (Service (Visit I O C))) (mid new : T)
       → Chain asks look old services mid → Chain asks look mid more new
       → Chain asks look old (services ++ more) new
@@ -158,7 +159,7 @@ module _ {T I O C : Type 0} (asks : Asking T) (look : Looks I O C) where
       (next, served, chain_both next ss more mid new rest chain)
 
   pub works_none : (old : T) (told : Option (Book (Visit I O C)))
-      → Works asks look old old told told
+      → ServesVisits asks look old old told told
   works_none old told = record {
     services = [];
     chain = refl;
@@ -168,7 +169,7 @@ module _ {T I O C : Type 0} (asks : Asking T) (look : Looks I O C) where
   -- one visit
   pub works_one : (old new : T) (a b c : Option (Book (Visit I O C))) (visit given : Visit I O C)
       → Moves (HandsOut visit) a b → ServesVisit asks look visit given old new
-      → Moves (TakesBack given) b c → Works asks look old new a c
+      → Moves (TakesBack given) b c → ServesVisits asks look old new a c
   works_one old new a b c visit given hands serves takes = record {
     services = record { visit = visit; given = given } ∷ [];
     chain = (new, serves, refl);
@@ -177,7 +178,7 @@ module _ {T I O C : Type 0} (asks : Asking T) (look : Looks I O C) where
   }
 
   pub works_end : (old : T) (a b : Option (Book (Visit I O C))) → Moves FindsNone a b
-      → Works asks look old old a b
+      → ServesVisits asks look old old a b
   works_end old a b none = record {
     services = [];
     chain = refl;
@@ -185,7 +186,7 @@ module _ {T I O C : Type 0} (asks : Asking T) (look : Looks I O C) where
   }
 
   pub works_fault : (old : T) (a b : Option (Book (Visit I O C))) → Moves FailsToHand a b
-      → Works asks look old old a b
+      → ServesVisits asks look old old a b
   works_fault old a b fails = record {
     services = [];
     chain = refl;
@@ -194,7 +195,8 @@ module _ {T I O C : Type 0} (asks : Asking T) (look : Looks I O C) where
 
   -- more visits behind those that were served
   pub works_both : (old mid new : T) (a b c : Option (Book (Visit I O C)))
-      → Works asks look old mid a b → Works asks look mid new b c → Works asks look old new a c
+      → ServesVisits asks look old mid a b → ServesVisits asks look mid new b c
+      → ServesVisits asks look old new a c
   works_both old mid new a b c first then = record {
     services = first.services ++ then.services;
     chain = chain_both old first.services then.services mid new first.chain then.chain;

@@ -5,16 +5,16 @@ use Rattle.std.proofs.Common.{Some, None}
 use Rattle.std.specs.Prelude.{min}
 use Rattle.std.specs.declared.option.Option.{Option}
 use Rattle.office_outside.specs.Faults.{Rose, last_count}
-use Rattle.office_doors.specs.Books.{Moves, Tells}
+use Rattle.office_doors.specs.Books.{Moves, WhereTold}
 use Rattle.office_doors.specs.Entrances.{Closes, Entrance, joined_count}
 use Rattle.visit_workers.specs.Workers.{AreClosed, HasRoom}
 use Rattle.visit_workers.proofs.Chains.{moves_both, moves_still}
 
 -- the same room by another list
 pub room_as : {X A V : Type 0} (items others : List X) (a : Option (Entrance A V))
-    → items ≡ others → Tells (HasRoom (length others)) a → Tells (HasRoom (length items)) a
+    → items ≡ others → WhereTold (HasRoom (length others)) a → WhereTold (HasRoom (length items)) a
 room_as {X} items others a is room =
-    subst (λ (l : List X). Tells (HasRoom (length l)) a) (sym is) room
+    subst (λ (l : List X). WhereTold (HasRoom (length l)) a) (sym is) room
 
 module _ {A V : Type 0} where
   room_left : (count : ℕ) (d : A) (a b : Entrance A V) → HasRoom (count + 1) a → Closes d a b
@@ -30,7 +30,8 @@ module _ {A V : Type 0} where
 
   pub room_after : {X : Type 0} (x : X) (items rest : List X) (d : A)
       (a b : Option (Entrance A V)) → items ≡ x ∷ rest
-      → Tells (HasRoom (length items)) a → Moves (Closes d) a b → Tells (HasRoom (length rest)) b
+      → WhereTold (HasRoom (length items)) a → Moves (Closes d) a b
+      → WhereTold (HasRoom (length rest)) b
   room_after x items rest d None None is room closes = tt
   room_after x items rest d None (Some b) is room closes = absurd closes
   room_after x items rest d (Some a) None is room closes = absurd closes

@@ -6,25 +6,26 @@ use Rattle.std.specs.List.{AllByRecursion}
 use Rattle.std.specs.declared.option.Option.{Option}
 use Rattle.std.proofs.lemmas.List.Elements.{All-from_recursion, All-pop, recursion_from_All}
 use Rattle.office_outside.specs.Faults.{Rose, last_count}
-use Rattle.office_doors.specs.Books.{HasAllBack, Moves, Tells}
+use Rattle.office_doors.specs.Books.{HasAllBack, Moves, WhereTold}
 use Rattle.office_doors.specs.Entrances.{Entrance, joined_count}
 use Rattle.office_doors.specs.declared.Visit.{Visit}
 use Rattle.office_counter.specs.Steps.{Standing}
 use Rattle.visit_workers.specs.Visits.{HasEnded}
-use Rattle.visit_workers.specs.Workers.{AreClosed, KnowMore, RanWorkers, Site, Worked, WorksEach}
+use Rattle.visit_workers.specs.Workers.{AreClosed, KnowMore, RanWorkers, WorkerSenses, ServedDoor}
+use Rattle.visit_workers.specs.Workers.{ServesDoors}
 use Rattle.visit_workers.specs.declared.visits.WorkEnd.{WorkEnd}
 use Rattle.visit_workers.specs.declared.visits.WorkEnd.TheVariants.{Done, DoorFault}
 use Rattle.visit_workers.proofs.Closing.{risen_after, risen_now}
 use Rattle.visit_workers.proofs.Lists.{Pairs, pairs_of}
 
-module _ {T A I O C W : Type 0} (site : Site T A I O C) (standing : T → Standing)
+module _ {T A I O C W : Type 0} (worker : WorkerSenses T A I O C) (standing : T → Standing)
     (counter_of : W → T) (door_of : W → A) (end_of : W → WorkEnd) where
   abbrev pub WorkedBy : W → W → Type 0
   WorkedBy w a =
-      Worked site standing (counter_of w) (counter_of a) (door_of w) (door_of a) (end_of a)
+      ServedDoor worker standing (counter_of w) (counter_of a) (door_of w) (door_of a) (end_of a)
 
   back_each : (ws behind : List W) → Pairs WorkedBy ws behind
-      → AllByRecursion (λ d. Tells HasAllBack (site.told d)) (map door_of behind)
+      → AllByRecursion (λ d. WhereTold HasAllBack (worker.told d)) (map door_of behind)
   back_each [] [] pairs = tt
   back_each [] (a ∷ behind) pairs = absurd pairs
   back_each (w ∷ ws) [] pairs = absurd pairs
@@ -32,7 +33,7 @@ module _ {T A I O C W : Type 0} (site : Site T A I O C) (standing : T → Standi
 
   ended_each : (ws behind : List W) → Pairs WorkedBy ws behind
       → AllByRecursion (λ a. end_of a ≡ Done) behind
-      → AllByRecursion (λ d. Tells HasEnded (site.told d)) (map door_of behind)
+      → AllByRecursion (λ d. WhereTold HasEnded (worker.told d)) (map door_of behind)
   ended_each [] [] pairs done = tt
   ended_each [] (a ∷ behind) pairs done = absurd pairs
   ended_each (w ∷ ws) [] pairs done = absurd pairs
@@ -40,13 +41,13 @@ module _ {T A I O C W : Type 0} (site : Site T A I O C) (standing : T → Standi
       (worked.done is, ended_each ws behind rest more)
 
   abbrev pub Faulty : W → Type 0
-  Faulty w = end_of w ≡ DoorFault → 1 ≤ site.faults (door_of w)
+  Faulty w = end_of w ≡ DoorFault → 1 ≤ worker.faults (door_of w)
 
-  faulty : (w a : W) → WorkedBy w a → site.faults (door_of w) ≡ 0 → Faulty a
+  faulty : (w a : W) → WorkedBy w a → worker.faults (door_of w) ≡ 0 → Faulty a
   faulty w a worked quiet is = omega (arith, worked.fault is, quiet)
 
   faulty_each : (ws behind : List W) → Pairs WorkedBy ws behind
-      → AllByRecursion (λ d. site.faults d ≡ 0) (map door_of ws) → AllByRecursion Faulty behind
+      → AllByRecursion (λ d. worker.faults d ≡ 0) (map door_of ws) → AllByRecursion Faulty behind
   faulty_each [] [] pairs quiet = tt
   faulty_each [] (a ∷ behind) pairs quiet = absurd pairs
   faulty_each (w ∷ ws) [] pairs quiet = absurd pairs
@@ -54,7 +55,7 @@ module _ {T A I O C W : Type 0} (site : Site T A I O C) (standing : T → Standi
       (faulty w a worked none, faulty_each ws behind rest more)
 
   works_each : (ws behind : List W) → Pairs WorkedBy ws behind
-      → WorksEach site (map counter_of ws) (map door_of ws) (map door_of behind)
+      → ServesDoors worker (map counter_of ws) (map door_of ws) (map door_of behind)
       (map counter_of behind)
   works_each [] [] pairs = tt
   works_each [] (a ∷ behind) pairs = absurd pairs
@@ -80,11 +81,11 @@ module _ {T A I O C W : Type 0} (site : Site T A I O C) (standing : T → Standi
       → length behind ≡ length lent
       → ((k : ℕ) (d : W) → k < length lent
       → WorkedBy (slice_index_or lent k d) (slice_index_or behind k d))
-      → map door_of ws ≡ opened → All (λ d. site.faults d ≡ 0) opened → All Faulty behind
+      → map door_of ws ≡ opened → All (λ d. worker.faults d ≡ 0) opened → All Faulty behind
   all_faulty ws lent behind opened is same each doors quiet =
       All-from_recursion Faulty behind (faulty_each ws behind (paired ws lent behind is same each)
-      (recursion_from_All (λ d. site.faults d ≡ 0) (map door_of ws)
-      (subst (All (λ d. site.faults d ≡ 0)) (sym doors) quiet)))
+      (recursion_from_All (λ d. worker.faults d ≡ 0) (map door_of ws)
+      (subst (All (λ d. worker.faults d ≡ 0)) (sym doors) quiet)))
 
   pub ran_workers : (ws lent behind : List W) (starts : List T) (opened : List A) (ends : List T)
       (before after : Option (Entrance A (Visit I O C))) (well : Bool) → lent ≡ ws
@@ -94,23 +95,23 @@ module _ {T A I O C W : Type 0} (site : Site T A I O C) (standing : T → Standi
       → map counter_of ws ≡ starts → map door_of ws ≡ opened → ends ≡ map counter_of behind
       → (well ≡ true → All (λ a. end_of a ≡ Done) behind)
       → Moves (AreClosed (map door_of behind)) before after
-      → RanWorkers site standing starts opened before after ends well
+      → RanWorkers worker standing starts opened before after ends well
   ran_workers ws lent behind starts opened ends before after well lends same worked begins doors is
       done closed =
       let pairs = paired ws lent behind lends same worked in
       let closing = map door_of behind in
       record {
         closed = closing;
-        works = subst (λ (l : List T). WorksEach site l opened closing ends) begins
-            (subst (λ (l : List A). WorksEach site (map counter_of ws) l closing ends) doors
-            (subst (λ (l : List T). WorksEach site (map counter_of ws) (map door_of ws) closing l)
-            (sym is) (works_each ws behind pairs)));
+        works = subst (λ (l : List T). ServesDoors worker l opened closing ends) begins
+            (subst (λ (l : List A). ServesDoors worker (map counter_of ws) l closing ends) doors
+            (subst (λ (l : List T). ServesDoors worker (map counter_of ws) (map door_of ws) closing
+            l) (sym is) (works_each ws behind pairs)));
         know = subst (λ (l : List T). KnowMore standing l ends) begins
             (subst (λ (l : List T). KnowMore standing (map counter_of ws) l) (sym is)
             (know_more ws behind pairs));
-        back = All-from_recursion (λ d. Tells HasAllBack (site.told d)) closing
+        back = All-from_recursion (λ d. WhereTold HasAllBack (worker.told d)) closing
             (back_each ws behind pairs);
-        ended = λ yes. All-from_recursion (λ d. Tells HasEnded (site.told d)) closing
+        ended = λ yes. All-from_recursion (λ d. WhereTold HasEnded (worker.told d)) closing
             (ended_each ws behind pairs
             (recursion_from_All (λ a. end_of a ≡ Done) behind (done yes)));
         were_closed = closed;

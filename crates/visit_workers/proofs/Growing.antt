@@ -5,9 +5,9 @@ use Rattle.record_form.specs.declared.Outcome.{Outcome}
 use Rattle.record_form.specs.declared.Request.{Request}
 use Rattle.office_counter.specs.Steps.{Standing, Step}
 use Rattle.office_counter.proofs.Steps.{extends_both, extends_still}
-use Rattle.wire_session.specs.Treats.{Asking}
-use Rattle.wire_session.proofs.Owning.{end_extends, end_owned}
-use Rattle.visit_workers.specs.Visits.{Chain, Looks, Service, ServesVisit, scene_at}
+use Rattle.office_session.specs.Messages.{Asking}
+use Rattle.office_session.proofs.Owning.{end_extends, end_owned}
+use Rattle.visit_workers.specs.Visits.{Chain, VisitSenses, Service, ServesVisit, visit_world}
 use Rattle.visit_workers.specs.Workers.{KnowsMore}
 
 knows_still : (s : Standing) → KnowsMore s s
@@ -22,14 +22,14 @@ knows_both a b c first second = record {
 module _ {T I O C : Type 0} (asks : Asking T) (standing : T → Standing)
     (steps : (old : T) (reading : ℕ) (request : Request) (outcome : Outcome) (new : T)
     → asks old reading request outcome new
-    → Step (standing old) reading request outcome (standing new)) (look : Looks I O C) where
+    → Step (standing old) reading request outcome (standing new)) (look : VisitSenses I O C) where
   visit_knows : (visit given : Visit I O C) (old new : T)
       → ServesVisit asks look visit given old new → KnowsMore (standing old) (standing new)
   visit_knows visit given old new serves = record {
-    seen = end_extends asks standing steps serves.end (scene_at look visit old)
-        (scene_at look given new) serves.ends;
-    owned = end_owned asks standing steps serves.end (scene_at look visit old)
-        (scene_at look given new) serves.ends;
+    seen = end_extends asks standing steps serves.end (visit_world look visit old)
+        (visit_world look given new) serves.ends;
+    owned = end_owned asks standing steps serves.end (visit_world look visit old)
+        (visit_world look given new) serves.ends;
   }
 
   pub chain_knows : (old : T) (services : List (Service (Visit I O C))) (new : T)

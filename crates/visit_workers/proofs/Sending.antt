@@ -8,7 +8,7 @@ use Rattle.office_doors.specs.declared.door.Door as door
 use Rattle.office_outside.specs.declared.clock.Clock as clock
 use Rattle.office_outside.specs.declared.sink.Sink as sink
 use Rattle.office_outside.specs.declared.source.Source as source
-use Rattle.wire_session.proofs.Sending.{kit_send}
+use Rattle.office_session.proofs.Sending.{kit_send}
 use Rattle.visit_workers.specs.contracts.workers.Worker as worker
 
 pub worker_send : (κ : NamedLft) (T A R I O C : RattleType)

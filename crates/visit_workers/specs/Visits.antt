@@ -5,21 +5,21 @@ use Rattle.office_doors.specs.Books.{Book, Moves}
 use Rattle.office_doors.specs.declared.Visit.{Visit}
 use Rattle.message_session.specs.declared.SessionEnd.{SessionEnd}
 use Rattle.message_session.specs.declared.SessionEnd.TheVariants.{NoMemory, ReadFault, WriteFault}
-use Rattle.message_session.specs.Sessions.{EndsSo, Scene, scene}
-use Rattle.wire_session.specs.Treats.{Asking, Treats, refusal_text}
+use Rattle.message_session.specs.Sessions.{EndsSo, SessionWorld, session_world}
+use Rattle.office_session.specs.Messages.{Asking, AnswersMessage, refusal_text}
 
 -- What is told of a visit: the bytes that its source has left and what its sink holds, how often
 -- each of them has failed, and its clock's readings to come.
-pub record Looks (I O C : Type 0) : Type 0 where
+pub record VisitSenses (I O C : Type 0) : Type 0 where
   pub left : I → Option (List ℕ)
   pub reads : I → ℕ
   pub held : O → Option (List ℕ)
   pub writes : O → ℕ
   pub to_come : C → ℕ → Option ℕ
 
-abbrev pub looks : {I O C : Type 0} → (I → Option (List ℕ)) → (I → ℕ) → (O → Option (List ℕ))
-    → (O → ℕ) → (C → ℕ → Option ℕ) → Looks I O C
-looks left reads held writes to_come = record {
+abbrev pub visit_senses : {I O C : Type 0} → (I → Option (List ℕ)) → (I → ℕ) → (O → Option (List ℕ))
+    → (O → ℕ) → (C → ℕ → Option ℕ) → VisitSenses I O C
+visit_senses left reads held writes to_come = record {
   left = left;
   reads = reads;
   held = held;
@@ -28,18 +28,19 @@ looks left reads held writes to_come = record {
 }
 
 -- all that a session over a visit speaks to
-abbrev pub scene_at : {T I O C : Type 0} → Looks I O C → Visit I O C → T → Scene T
-scene_at look visit counter =
-    scene (look.left visit.input) (look.to_come visit.clock) counter (look.held visit.output)
+abbrev pub visit_world : {T I O C : Type 0} → VisitSenses I O C → Visit I O C → T → SessionWorld T
+visit_world look visit counter =
+    session_world (look.left visit.input) (look.to_come visit.clock) counter
+    (look.held visit.output)
 
 -- One session ran over the visit, as it was handed out and as it is given back, until its messages
 -- ended, one of them closed, or its source or its sink failed: no visit is given back unserved for
 -- want of memory. It asked of the counter, and a fault is that of the visit's own source or sink.
-pub record ServesVisit {T I O C : Type 0} (asks : Asking T) (look : Looks I O C)
+pub record ServesVisit {T I O C : Type 0} (asks : Asking T) (look : VisitSenses I O C)
     (visit given : Visit I O C) (old new : T) : Type 0 where
   pub end : SessionEnd
-  pub ends : EndsSo (Treats asks) refusal_text end (scene_at look visit old)
-      (scene_at look given new)
+  pub ends : EndsSo (AnswersMessage asks) refusal_text end (visit_world look visit old)
+      (visit_world look given new)
   pub served : end ≢ NoMemory
   pub read : end ≡ ReadFault → Rose (look.reads visit.input) (look.reads given.input)
   pub read_later : look.reads visit.input ≤ look.reads given.input
@@ -58,8 +59,8 @@ abbrev pub given_of : {V : Type 0} → List (Service V) → List V
 given_of services = map (λ service. service.given) services
 
 -- The visits are served one after another: each session begins where the one before it ended.
-abbrev pub Chain : {T I O C : Type 0} → Asking T → Looks I O C → T → List (Service (Visit I O C))
-    → T → Type 0
+abbrev pub Chain : {T I O C : Type 0} → Asking T → VisitSenses I O C → T
+    → List (Service (Visit I O C)) → T → Type 0
 Chain asks look old [] new = new ≡ old
 Chain {T} asks look old (service ∷ services) new =
     (mid : T) × ServesVisit asks look service.visit service.given old mid
@@ -72,8 +73,8 @@ pub record Gains {V : Type 0} (out back : List V) (old new : Book V) : Type 0 wh
   pub first : old.left ≡ out ++ new.left
 
 -- What a worker did at a door: it served the visits that it was handed out, and gave each back.
-pub record Works {T I O C : Type 0} (asks : Asking T) (look : Looks I O C) (old new : T)
-    (before after : Option (Book (Visit I O C))) : Type 0 where
+pub record ServesVisits {T I O C : Type 0} (asks : Asking T) (look : VisitSenses I O C)
+    (old new : T) (before after : Option (Book (Visit I O C))) : Type 0 where
   pub services : List (Service (Visit I O C))
   pub chain : Chain asks look old services new
   pub book : Moves (Gains (visits_of services) (given_of services)) before after

@@ -1,8 +1,8 @@
 //! What workers need memory for.
 ghost use Rattle.std.specs.Prelude.{◌≡◌, IfOk, length};
 
+use office_session::SessionKit;
 use std::alloc::{AllocError, Global};
-use wire_session::SessionKit;
 
 /// A kit for each of so many workers, which serves all of its visits.
 pub fn take_kits(alloc: Global, workers: u32) -> Result<Vec<SessionKit>, AllocError>

@@ -1,15 +1,15 @@
 //! The work at one door: its visits, one after another.
 ghost use Rattle.std.specs.Prelude.{◌≡◌, ◌≤◌, Ok, false};
 ghost use Rattle.office_outside.specs.Faults.{HasCause, Rose};
-ghost use Rattle.office_doors.specs.Books.{HasAllBack, Tells};
-ghost use Rattle.visit_workers.specs.Visits.{HasEnded, ServesVisit, Works, looks};
+ghost use Rattle.office_doors.specs.Books.{HasAllBack, WhereTold};
+ghost use Rattle.visit_workers.specs.Visits.{HasEnded, ServesVisit, ServesVisits, visit_senses};
 
 use office_counter::Counter;
 use office_doors::{Door, Visit};
 use office_outside::{Clock, Failed, Sink, Source};
+use office_session::{SessionKit, session_with};
 use std::alloc::Global;
 use std::sync::Wait;
-use wire_session::{SessionKit, session_with};
 
 /// How the work at a door ended.
 #[derive(Clone, Copy, Debug, Drop, PartialEq, Eq)]
@@ -28,7 +28,7 @@ fn serve_visit<T: Counter, I: Source, O: Sink, C: Clock>(
     counter: &mut T,
     visit: &mut Visit<I, O, C>,
 )
-    ensures { ServesVisit T.asks (looks I.left I.faults O.held O.faults C.to_come) visit.old
+    ensures { ServesVisit T.asks (visit_senses I.left I.faults O.held O.faults C.to_come) visit.old
         visit.new counter.old counter.new }
 {
     let _end = session_with(
@@ -48,11 +48,11 @@ fn serve_next<T: Counter, A: Door>(
     counter: &mut T,
     door: &mut A,
 ) -> Result<bool, Failed>
-    requires { Tells HasAllBack (A.told door.old) }
-    ensures works { Works T.asks (looks A.In.left A.In.faults A.Out.held A.Out.faults
+    requires { WhereTold HasAllBack (A.told door.old) }
+    ensures works { ServesVisits T.asks (visit_senses A.In.left A.In.faults A.Out.held A.Out.faults
         A.Time.to_come) counter.old counter.new (A.told door.old) (A.told door.new) }
-    ensures back { Tells HasAllBack (A.told door.new) }
-    ensures none { result ≡ Ok false → Tells HasEnded (A.told door.new) }
+    ensures back { WhereTold HasAllBack (A.told door.new) }
+    ensures none { result ≡ Ok false → WhereTold HasEnded (A.told door.new) }
     ensures cause { HasCause (A.faults door.old) (A.faults door.new) result }
 {
     match door.next() {
@@ -77,12 +77,12 @@ pub fn work<R: Wait, T: Counter, A: Door>(
     counter: &mut T,
     door: &mut A,
 ) -> WorkEnd
-    requires { Tells HasAllBack (A.told door.old) }
-    ensures works { Works T.asks (looks A.In.left A.In.faults A.Out.held A.Out.faults
+    requires { WhereTold HasAllBack (A.told door.old) }
+    ensures works { ServesVisits T.asks (visit_senses A.In.left A.In.faults A.Out.held A.Out.faults
         A.Time.to_come) counter.old counter.new (A.told door.old) (A.told door.new) }
-    ensures back { Tells HasAllBack (A.told door.new) }
+    ensures back { WhereTold HasAllBack (A.told door.new) }
     ensures later { A.faults door.old ≤ A.faults door.new }
-    ensures done { result ≡ WorkEnd.Done → Tells HasEnded (A.told door.new) }
+    ensures done { result ≡ WorkEnd.Done → WhereTold HasEnded (A.told door.new) }
     ensures fault { result ≡ WorkEnd.DoorFault → Rose (A.faults door.old) (A.faults door.new) }
 {
     for _ in rt.forever() {

@@ -3,17 +3,18 @@ ghost use Rattle.std.specs.Prelude.{◌≡◌, ◌⊎◌, ◌≤◌, ◌<◌, []
 ghost use Rattle.std.specs.Prelude.{map, slice_index_or, vec_capacity};
 ghost use Rattle.std.proofs.Props.{props};
 ghost use Rattle.office_outside.specs.Faults.{Rose};
-ghost use Rattle.office_doors.specs.Books.{HasAllBack, IsFresh, Moves, Tells};
-ghost use Rattle.visit_workers.specs.Visits.{looks};
-ghost use Rattle.visit_workers.specs.Workers.{AreClosed, HasRoom, RanWorkers, Worked, site};
+ghost use Rattle.office_doors.specs.Books.{HasAllBack, IsFresh, Moves, WhereTold};
+ghost use Rattle.visit_workers.specs.Visits.{visit_senses};
+ghost use Rattle.visit_workers.specs.Workers.{AreClosed, HasRoom, RanWorkers, ServedDoor};
+ghost use Rattle.visit_workers.specs.Workers.{worker_senses};
 
 use crate::visits::{WorkEnd, work};
 use office_counter::Counter;
 use office_doors::{Door, Doors};
+use office_session::SessionKit;
 use std::alloc::Global;
 use std::sync::Wait;
 use std::thread::{Threads, for_each_mut};
-use wire_session::SessionKit;
 
 /// A counter, a door and a kit, for one thread. It has its kit before its first visit.
 #[derive(Drop)]
@@ -30,7 +31,7 @@ pub struct Worker<'a, T: Drop, A: Door + Drop, R: Wait> {
 impl<'a, T: Counter + Drop, A: Door + Drop, R: Wait> Worker<'a, T, A, R> {
     // A function of its own, so that the prover has a name for what is pushed.
     fn hire(rt: &'a R, alloc: Global, kit: SessionKit, counter: T, door: A) -> Worker<'a, T, A, R>
-        requires { Tells HasAllBack (A.told door) }
+        requires { WhereTold HasAllBack (A.told door) }
         ensures counter { result.counter ≡ counter }
         ensures door { result.door ≡ door }
     {
@@ -46,8 +47,8 @@ impl<'a, T: Counter + Drop, A: Door + Drop, R: Wait> Worker<'a, T, A, R> {
 
     /// Serves the visits of its door.
     fn serve_door(&mut self)
-        ensures { Worked (site T.asks
-            (looks A.In.left A.In.faults A.Out.held A.Out.faults A.Time.to_come)
+        ensures { ServedDoor (worker_senses T.asks
+            (visit_senses A.In.left A.In.faults A.Out.held A.Out.faults A.Time.to_come)
             (λ d. A.told d) (λ d. A.faults d)) T.standing self.old.counter self.new.counter
             self.old.door self.new.door self.new.end }
     {
@@ -70,15 +71,16 @@ fn run_all<R: Wait + Threads + Sync, T: Counter + Send + Drop, A: Door + Send + 
 )
     ensures same { length workers.new ≡ length workers.old }
     ensures worked { (k : ℕ) (d : _) → k < length workers.old →
-        Worked (site T.asks (looks A.In.left A.In.faults A.Out.held A.Out.faults A.Time.to_come)
-        (λ d. A.told d) (λ d. A.faults d)) T.standing (slice_index_or workers.old k d).counter
+        ServedDoor (worker_senses T.asks
+        (visit_senses A.In.left A.In.faults A.Out.held A.Out.faults A.Time.to_come) (λ d. A.told d)
+        (λ d. A.faults d)) T.standing (slice_index_or workers.old k d).counter
         (slice_index_or workers.new k d).counter (slice_index_or workers.old k d).door
         (slice_index_or workers.new k d).door (slice_index_or workers.new k d).end }
 {
     let threads = workers.len().max(1);
     let step = |_: usize, worker: &mut Worker<'_, T, A, R>|
-        ensures { Worked (site T.asks
-            (looks A.In.left A.In.faults A.Out.held A.Out.faults A.Time.to_come)
+        ensures { ServedDoor (worker_senses T.asks
+            (visit_senses A.In.left A.In.faults A.Out.held A.Out.faults A.Time.to_come)
             (λ d. A.told d) (λ d. A.faults d)) T.standing worker.old.counter worker.new.counter
             worker.old.door worker.new.door worker.new.end }
     { worker.serve_door() };
@@ -98,7 +100,7 @@ fn post<'a, R: Wait, T: Counter + Drop, A: Door + Drop>(
     requires kits { length kits.items ≡ length doors.items }
     requires empty { workers.old.items ≡ [] }
     requires room { length doors.items ≤ vec_capacity workers.old }
-    requires back { All (λ d. Tells HasAllBack (A.told d)) doors.items }
+    requires back { All (λ d. WhereTold HasAllBack (A.told d)) doors.items }
     ensures doors { map (λ w. w.door) workers.new.items ≡ doors.items }
     ensures counters { map (λ w. w.counter) workers.new.items ≡ counters.old.items }
     ensures none_left { counters.new.items ≡ [] }
@@ -134,7 +136,7 @@ fn dismiss<R: Wait, T: Counter + Drop, S: Doors>(
 ) -> bool
     requires empty { counters.old.items ≡ [] }
     requires room { length workers.items ≤ vec_capacity counters.old }
-    requires open { Tells (HasRoom (length workers.items)) (S.told doors.old) }
+    requires open { WhereTold (HasRoom (length workers.items)) (S.told doors.old) }
     ensures counters { counters.new.items ≡ map (λ w. w.counter) workers.entry.items }
     ensures closed { Moves (AreClosed (map (λ w. w.door) workers.entry.items))
         (S.told doors.old) (S.told doors.new) }
@@ -174,14 +176,14 @@ pub fn run_workers<'a, R: Wait + Threads + Sync, T: Counter + Send + Drop, S: Do
     requires count { length counters.old.items ≡ length opened.items }
     requires kits { length kits.items ≡ length opened.items }
     requires quiet { All (λ d. S.One.faults d ≡ 0) opened.items }
-    requires fresh { All (λ d. Tells IsFresh (S.One.told d)) opened.items }
+    requires fresh { All (λ d. WhereTold IsFresh (S.One.told d)) opened.items }
     requires empty { workers.items ≡ [] }
     requires room { length opened.items ≤ vec_capacity workers }
-    requires open { Tells (HasRoom (length opened.items)) (S.told doors.old) }
-    ensures ran { RanWorkers (site T.asks
-        (looks S.One.In.left S.One.In.faults S.One.Out.held S.One.Out.faults S.One.Time.to_come)
-        (λ d. S.One.told d) (λ d. S.One.faults d)) T.standing counters.old.items opened.items
-        (S.told doors.old) (S.told doors.new) counters.new.items result }
+    requires open { WhereTold (HasRoom (length opened.items)) (S.told doors.old) }
+    ensures ran { RanWorkers (worker_senses T.asks
+        (visit_senses S.One.In.left S.One.In.faults S.One.Out.held S.One.Out.faults
+        S.One.Time.to_come) (λ d. S.One.told d) (λ d. S.One.faults d)) T.standing counters.old.items
+        opened.items (S.told doors.old) (S.told doors.new) counters.new.items result }
     ensures ports { S.ports doors.new ≡ S.ports doors.old }
     ensures count { length counters.new.items ≡ length opened.items }
     ensures cause { result ≡ false → Rose (S.faults doors.old) (S.faults doors.new) }

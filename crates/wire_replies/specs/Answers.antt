@@ -3,8 +3,8 @@ use Rattle.std.specs.Prelude.{◌≡◌, ◌⊎◌, ℕ, List, [], ◌∷◌, Bo
 use Rattle.serde_json.specs.Data.{Data, number, unsigned, object, string, Members, member}
 use Rattle.serde_json.specs.Data.{no_members}
 use Rattle.serde_json.specs.Written.{compact_text}
-use Rattle.wire_terms.specs.declared.immediate.Allow.{Allow}
-use Rattle.wire_terms.specs.declared.immediate.Allow.TheVariants as allow
+use Rattle.wire_terms.specs.declared.no_request.Allow.{Allow}
+use Rattle.wire_terms.specs.declared.no_request.Allow.TheVariants as allow
 use Rattle.wire_replies.specs.declared.reply.Form.{Form}
 use Rattle.wire_replies.specs.declared.reply.Form.TheVariants.{Json}
 use Rattle.wire_replies.specs.declared.reply.Reply.{Reply}

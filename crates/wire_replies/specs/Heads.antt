@@ -2,8 +2,8 @@
 use Rattle.std.specs.Prelude.{ℕ, Bool, true, false, List, [], ◌++◌, length, codes, decimal}
 use Rattle.std.specs.Prelude.{unwrap_or}
 use Rattle.http.specs.StatusCode.{reason_phrase}
-use Rattle.wire_terms.specs.declared.immediate.Allow.{Allow}
-use Rattle.wire_terms.specs.declared.immediate.Allow.TheVariants as allow
+use Rattle.wire_terms.specs.declared.no_request.Allow.{Allow}
+use Rattle.wire_terms.specs.declared.no_request.Allow.TheVariants as allow
 use Rattle.wire_replies.specs.declared.reply.Form.{Form}
 use Rattle.wire_replies.specs.declared.reply.Form.TheVariants.{Json, Yaml}
 use Rattle.wire_replies.specs.Answers.{Answer}

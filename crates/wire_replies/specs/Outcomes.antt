@@ -8,7 +8,7 @@ use Rattle.record_form.specs.declared.outcome.Outcome.TheVariants.{Ticked, Objec
 use Rattle.record_form.specs.declared.outcome.Outcome.TheVariants.{Budgets, Burn, Timeline, Notices}
 use Rattle.record_form.specs.declared.outcome.Outcome.TheVariants.{Refused, ClockRange, DiskFault}
 use Rattle.record_form.specs.declared.outcome.Outcome.TheVariants.{JournalFull, NoMemory}
-use Rattle.wire_terms.specs.declared.immediate.Allow.TheVariants.{None}
+use Rattle.wire_terms.specs.declared.no_request.Allow.TheVariants.{None}
 use Rattle.wire_replies.specs.declared.reply.Form.TheVariants.{Yaml}
 use Rattle.wire_replies.specs.Answers.{Answer, error_data, json, no_memory_answer, object_of, whole}
 use Rattle.wire_replies.specs.Bodies.{budgets_data, burn_data, changed_data, defined_data}

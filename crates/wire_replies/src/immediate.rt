@@ -6,20 +6,20 @@ ghost use Rattle.wire_replies.specs.Immediate.{bad_answer, immediate_answer, rec
 
 use crate::reply::{Reply, SmallBody};
 use crate::small::fixed;
-use wire_terms::{Allow, Immediate};
+use wire_terms::{Allow, NoRequest};
 
 /// The reply to a whole message that is no request. It takes no memory.
 #[tactic(auto, unfolding(serde_json::proofs::OnLiterals::serde_json_on_literals))]
-pub fn immediate_reply(value: Immediate) -> Reply
+pub fn immediate_reply(value: NoRequest) -> Reply
     ensures answer { shown_answer result ≡ immediate_answer value }
     ensures small { is_small result ≡ true }
 {
     match value {
-        Immediate::NotFound => fixed(404, Allow::None, "{\"error\":\"not_found\"}"),
-        Immediate::Method(allow) => fixed(405, allow, "{\"error\":\"method\"}"),
-        Immediate::Query => fixed(400, Allow::None, "{\"error\":\"query\"}"),
-        Immediate::Body => fixed(400, Allow::None, "{\"error\":\"body\"}"),
-        Immediate::Record(number) => Reply::Small {
+        NoRequest::NotFound => fixed(404, Allow::None, "{\"error\":\"not_found\"}"),
+        NoRequest::Method(allow) => fixed(405, allow, "{\"error\":\"method\"}"),
+        NoRequest::Query => fixed(400, Allow::None, "{\"error\":\"query\"}"),
+        NoRequest::Body => fixed(400, Allow::None, "{\"error\":\"body\"}"),
+        NoRequest::Record(number) => Reply::Small {
             status: 400,
             allow: Allow::None,
             body: record_body(number),

@@ -2,7 +2,7 @@
 ghost use Rattle.std.specs.Prelude.{◌≡◌, ◌⊎◌, IfOk, true, false};
 ghost use Rattle.serde_json.specs.Data.{Data};
 ghost use Rattle.serde_json.specs.Written.{compact_text};
-ghost use Rattle.wire_terms.specs.declared.immediate.Allow.TheVariants.{None};
+ghost use Rattle.wire_terms.specs.declared.no_request.Allow.TheVariants.{None};
 ghost use Rattle.wire_replies.specs.declared.reply.Form.TheVariants.{Yaml};
 ghost use Rattle.wire_replies.specs.declared.reply.Reply.TheVariants.{NoMemory};
 ghost use Rattle.wire_replies.specs.Answers.{IsShownBy, in_json, is_small, json, shown_answer};

@@ -31,7 +31,8 @@ use Rattle.wire_routes.specs.declared.routed.Routed.TheVariants as routed
 use Rattle.wire_routes.specs.Exclusions.{exclusion_of}
 use Rattle.wire_routes.specs.Keys.{alerts_keys, budgets_keys, burns_keys}
 use Rattle.wire_routes.specs.Ranges.{IsRequestInRange, IsRoutedInRange}
-use Rattle.wire_routes.specs.Requests.{Answer, Tells, answer_at, exclusion_answer, samples_answer}
+use Rattle.wire_routes.specs.Requests.{Answer, IsRoutedAs, answer_at, exclusion_answer}
+use Rattle.wire_routes.specs.Requests.{samples_answer}
 use Rattle.wire_routes.specs.Requests.{with_keys, without_keys}
 use Rattle.wire_routes.specs.Samples.{amount_of, revision_of, row_of, row_of_six, rows_before}
 use Rattle.wire_routes.specs.Samples.{samples_of, unless_zero}
@@ -176,10 +177,10 @@ in_range (place.Alerts s n l) Other query body few = tt
 
 pub told : (p : Place) (m : Method) (query : Option (List ℕ)) (body : List ℕ) (r : Routed)
     → length body ≤ MAX_BODY_BYTES
-    → Tells (answer_at p m query body) r → IsRoutedInRange r
+    → IsRoutedAs (answer_at p m query body) r → IsRoutedInRange r
 told p m query body (routed.Request request) few tells =
     subst IsInRange tells (in_range p m query body few)
-told p m query body (routed.Immediate reason) few tells = tt
+told p m query body (routed.NoRequest reason) few tells = tt
 told p m query body routed.NoMemory few tells = tt
 
 -- the body of a whole message

@@ -27,5 +27,5 @@ IsRequestInRange (Ask query) = Unit {0}
 
 abbrev pub IsRoutedInRange : Routed → Type 0
 IsRoutedInRange (routed.Request request) = IsRequestInRange request
-IsRoutedInRange (routed.Immediate reason) = Unit {0}
+IsRoutedInRange (routed.NoRequest reason) = Unit {0}
 IsRoutedInRange routed.NoMemory = Unit {0}

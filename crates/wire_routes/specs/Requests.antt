@@ -10,9 +10,9 @@ use Rattle.record_form.specs.declared.query.Request.{Request}
 use Rattle.record_form.specs.declared.query.Request.TheVariants.{Change, Ask}
 use Rattle.sample_book.specs.declared.row.Row.{Row}
 use Rattle.sample_book.specs.declared.exclusions.Exclusion.{Exclusion}
-use Rattle.wire_terms.specs.declared.immediate.Allow.TheVariants as allow
-use Rattle.wire_terms.specs.declared.immediate.Immediate.{Immediate}
-use Rattle.wire_terms.specs.declared.immediate.Immediate.TheVariants as immediate
+use Rattle.wire_terms.specs.declared.no_request.Allow.TheVariants as allow
+use Rattle.wire_terms.specs.declared.no_request.NoRequest.{NoRequest}
+use Rattle.wire_terms.specs.declared.no_request.NoRequest.TheVariants as no_request
 use Rattle.wire_routes.specs.declared.method.Method.{Method}
 use Rattle.wire_routes.specs.declared.method.Method.TheVariants.{Delete, Get, Post, Put}
 use Rattle.wire_routes.specs.declared.place.Place.{Place}
@@ -27,25 +27,25 @@ use Rattle.wire_routes.specs.Samples.{samples_of}
 
 -- a request, or why there is none
 abbrev pub Answer : Type 0
-Answer = Result Request Immediate
+Answer = Result Request NoRequest
 
 -- A route that has no keys has no query either.
 abbrev pub without_keys : Option (List ℕ) → Answer → Answer
 without_keys None answer = answer
-without_keys (Some query) answer = Err immediate.Query
+without_keys (Some query) answer = Err no_request.Query
 
 -- what is asked with the keys, where the query is of their form
 abbrev pub with_keys : {A : Type 0} → (A → Query) → Option A → Answer
-with_keys question None = Err immediate.Query
+with_keys question None = Err no_request.Query
 with_keys question (Some keys) = Ok (Ask (question keys))
 
 -- rows, or the number of the first record that is none
 abbrev pub samples_answer : Result (List Row) ℕ → Answer
 samples_answer (Ok rows) = Ok (Change (Samples rows))
-samples_answer (Err number) = Err (immediate.Record number)
+samples_answer (Err number) = Err (no_request.Record number)
 
 abbrev pub exclusion_answer : Option Exclusion → Answer
-exclusion_answer None = Err immediate.Body
+exclusion_answer None = Err no_request.Body
 exclusion_answer (Some exclusion) = Ok (Change (Exclude exclusion))
 
 -- The table of routes: what each method of a path asks, of its query and its body. Other methods
@@ -54,39 +54,39 @@ exclusion_answer (Some exclusion) = Ok (Change (Exclude exclusion))
 abbrev pub answer_at : Place → Method → Option (List ℕ) → List ℕ → Answer
 answer_at place.Objects Post query body = without_keys query (Ok (Change (Define body)))
 answer_at place.Objects Get query body = without_keys query (Ok (Ask ask.Objects))
-answer_at place.Objects _ query body = Err (immediate.Method allow.PostGet)
+answer_at place.Objects _ query body = Err (no_request.Method allow.PostGet)
 answer_at (place.Object kind name) Get query body =
     without_keys query (Ok (Ask (ask.Object kind name)))
 answer_at (place.Object kind name) Delete query body =
     without_keys query (Ok (Change (Remove kind name)))
-answer_at (place.Object kind name) _ query body = Err (immediate.Method allow.GetDelete)
+answer_at (place.Object kind name) _ query body = Err (no_request.Method allow.GetDelete)
 answer_at (place.Zone name) Put query body = without_keys query (Ok (Change (PutZone name body)))
-answer_at (place.Zone name) _ query body = Err (immediate.Method allow.Put)
+answer_at (place.Zone name) _ query body = Err (no_request.Method allow.Put)
 answer_at place.Samples Post query body = without_keys query (samples_answer (samples_of body))
-answer_at place.Samples _ query body = Err (immediate.Method allow.Post)
+answer_at place.Samples _ query body = Err (no_request.Method allow.Post)
 answer_at (place.Exclusion id) Put query body =
     without_keys query (exclusion_answer (exclusion_of id body))
 answer_at (place.Exclusion id) Delete query body = without_keys query (Ok (Change (Lift id)))
-answer_at (place.Exclusion id) _ query body = Err (immediate.Method allow.PutDelete)
+answer_at (place.Exclusion id) _ query body = Err (no_request.Method allow.PutDelete)
 answer_at place.Tick Post query body = without_keys query (Ok (Change Tick))
-answer_at place.Tick _ query body = Err (immediate.Method allow.Post)
+answer_at place.Tick _ query body = Err (no_request.Method allow.Post)
 answer_at place.Notices Get query body = without_keys query (Ok (Ask ask.Notices))
-answer_at place.Notices _ query body = Err (immediate.Method allow.Get)
+answer_at place.Notices _ query body = Err (no_request.Method allow.Get)
 answer_at (place.Take number) Post query body = without_keys query (Ok (Change (Take number)))
-answer_at (place.Take number) _ query body = Err (immediate.Method allow.Post)
+answer_at (place.Take number) _ query body = Err (no_request.Method allow.Post)
 answer_at (place.Budgets slo) Get query body =
     with_keys (λ at. ask.Budgets slo at) (budgets_keys query)
-answer_at (place.Budgets slo) _ query body = Err (immediate.Method allow.Get)
+answer_at (place.Budgets slo) _ query body = Err (no_request.Method allow.Get)
 answer_at (place.Burns slo objective) Get query body =
     with_keys (λ k. ask.Burn slo objective k.0 k.1) (burns_keys query)
-answer_at (place.Burns slo objective) _ query body = Err (immediate.Method allow.Get)
+answer_at (place.Burns slo objective) _ query body = Err (no_request.Method allow.Get)
 answer_at (place.Alerts slo objective policy) Get query body =
     with_keys (λ k. ask.Timeline slo objective policy k.0 k.1) (alerts_keys query)
-answer_at (place.Alerts slo objective policy) _ query body = Err (immediate.Method allow.Get)
+answer_at (place.Alerts slo objective policy) _ query body = Err (no_request.Method allow.Get)
 
 -- a path without a route comes first of all
 abbrev pub answer_of : Option Place → Said → Answer
-answer_of None said = Err immediate.NotFound
+answer_of None said = Err no_request.NotFound
 answer_of (Some p) said = answer_at p (method_of said.method) (query_of said.target) said.body
 
 -- the message stands for that answer, by what its path names
@@ -95,13 +95,13 @@ StandsFor said answer = (named : Option Place) × Finds (path_of said.target) na
     × (answer ≡ answer_of named said)
 
 -- what was routed is the answer; memory may run out anywhere
-abbrev pub Tells : Answer → Routed → Type 0
-Tells answer (routed.Request request) = answer ≡ Ok request
-Tells answer (routed.Immediate reason) = answer ≡ Err reason
-Tells answer routed.NoMemory = Unit {0}
+abbrev pub IsRoutedAs : Answer → Routed → Type 0
+IsRoutedAs answer (routed.Request request) = answer ≡ Ok request
+IsRoutedAs answer (routed.NoRequest reason) = answer ≡ Err reason
+IsRoutedAs answer routed.NoMemory = Unit {0}
 
 -- what was routed is what the message stands for
 abbrev pub IsRouted : Said → Routed → Type 0
 IsRouted said (routed.Request request) = StandsFor said (Ok request)
-IsRouted said (routed.Immediate reason) = StandsFor said (Err reason)
+IsRouted said (routed.NoRequest reason) = StandsFor said (Err reason)
 IsRouted said routed.NoMemory = Unit {0}

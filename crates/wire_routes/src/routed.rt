@@ -1,7 +1,7 @@
 //! What becomes of a message.
 
 use record_form::Request;
-use wire_terms::Immediate;
+use wire_terms::NoRequest;
 
 /// What becomes of a message.
 #[derive(Drop)]
@@ -9,7 +9,7 @@ pub enum Routed {
     /// The office is asked.
     Request(Request),
     /// It is answered without the office.
-    Immediate(Immediate),
+    NoRequest(NoRequest),
     /// Memory ran out.
     NoMemory,
 }

@@ -9,7 +9,7 @@ ghost use Rattle.wire_routes.specs.declared.place.Place.TheVariants as place;
 ghost use Rattle.wire_routes.specs.Exclusions.{exclusion_of};
 ghost use Rattle.wire_routes.specs.Queries.{bytes_of};
 ghost use Rattle.wire_routes.specs.Ranges.{IsRoutedInRange};
-ghost use Rattle.wire_routes.specs.Requests.{IsRouted, Tells, answer_at, exclusion_answer};
+ghost use Rattle.wire_routes.specs.Requests.{IsRouted, IsRoutedAs, answer_at, exclusion_answer};
 ghost use Rattle.wire_routes.specs.Requests.{samples_answer, without_keys};
 ghost use Rattle.wire_routes.specs.Samples.{samples_of};
 
@@ -25,22 +25,22 @@ use message_heads::{Message, target_of};
 use object_terms::Kind;
 use record_form::{Command, Query, Request};
 use std::alloc::{AllocError, Global};
-use wire_terms::{Allow, Immediate};
+use wire_terms::{Allow, NoRequest};
 
 // A request of a route that has no keys.
 fn without_keys(query: Option<&[u8]>, request: Request) -> Routed
-    ensures { Tells (without_keys (bytes_of query.entry) (Ok request)) result }
+    ensures { IsRoutedAs (without_keys (bytes_of query.entry) (Ok request)) result }
 {
     if query.is_some() {
-        return Routed::Immediate(Immediate::Query);
+        return Routed::NoRequest(NoRequest::Query);
     }
     Routed::Request(request)
 }
 
 fn other_methods(allow: Allow) -> Routed
-    ensures { result ≡ Routed.Immediate (Immediate.Method allow) }
+    ensures { result ≡ Routed.NoRequest (NoRequest.Method allow) }
 {
-    Routed::Immediate(Immediate::Method(allow))
+    Routed::NoRequest(NoRequest::Method(allow))
 }
 
 fn copy_of(alloc: Global, body: &[u8]) -> Result<Bytes, AllocError>
@@ -50,10 +50,11 @@ fn copy_of(alloc: Global, body: &[u8]) -> Result<Bytes, AllocError>
 }
 
 fn define(alloc: Global, query: Option<&[u8]>, body: &[u8]) -> Routed
-    ensures { Tells (without_keys (bytes_of query.entry) (Ok (Change (Define body.now)))) result }
+    ensures { IsRoutedAs (without_keys (bytes_of query.entry) (Ok (Change (Define body.now))))
+        result }
 {
     if query.is_some() {
-        return Routed::Immediate(Immediate::Query);
+        return Routed::NoRequest(NoRequest::Query);
     }
     match copy_of(alloc, body) {
         Ok(documents) => Routed::Request(Request::Change(Command::Define(documents))),
@@ -62,11 +63,11 @@ fn define(alloc: Global, query: Option<&[u8]>, body: &[u8]) -> Routed
 }
 
 fn put_zone(alloc: Global, name: ZoneName, query: Option<&[u8]>, body: &[u8]) -> Routed
-    ensures { Tells (without_keys (bytes_of query.entry) (Ok (Change (PutZone name body.now))))
+    ensures { IsRoutedAs (without_keys (bytes_of query.entry) (Ok (Change (PutZone name body.now))))
         result }
 {
     if query.is_some() {
-        return Routed::Immediate(Immediate::Query);
+        return Routed::NoRequest(NoRequest::Query);
     }
     match copy_of(alloc, body) {
         Ok(bytes) => Routed::Request(Request::Change(Command::PutZone(name, bytes))),
@@ -76,36 +77,36 @@ fn put_zone(alloc: Global, name: ZoneName, query: Option<&[u8]>, body: &[u8]) ->
 
 fn take_samples(alloc: Global, query: Option<&[u8]>, body: &[u8]) -> Routed
     requires { length body.now < 2 ^ 32 }
-    ensures { Tells (without_keys (bytes_of query.entry) (samples_answer (samples_of body.now)))
-        result }
+    ensures { IsRoutedAs (without_keys (bytes_of query.entry)
+        (samples_answer (samples_of body.now))) result }
 {
     if query.is_some() {
-        return Routed::Immediate(Immediate::Query);
+        return Routed::NoRequest(NoRequest::Query);
     }
     match read_samples(alloc, body) {
         Ok(rows) => Routed::Request(Request::Change(Command::Samples(rows))),
-        Err(SampleFault::Record(number)) => Routed::Immediate(Immediate::Record(number)),
+        Err(SampleFault::Record(number)) => Routed::NoRequest(NoRequest::Record(number)),
         Err(SampleFault::NoMemory) => Routed::NoMemory,
     }
 }
 
 fn exclude(alloc: Global, id: Label, query: Option<&[u8]>, body: &[u8]) -> Routed
-    ensures { Tells
+    ensures { IsRoutedAs
         (without_keys (bytes_of query.entry) (exclusion_answer (exclusion_of id body.now)))
         result }
 {
     if query.is_some() {
-        return Routed::Immediate(Immediate::Query);
+        return Routed::NoRequest(NoRequest::Query);
     }
     match read_exclusion(alloc, id, body) {
         Ok(Some(exclusion)) => Routed::Request(Request::Change(Command::Exclude(exclusion))),
-        Ok(None) => Routed::Immediate(Immediate::Body),
+        Ok(None) => Routed::NoRequest(NoRequest::Body),
         Err(_) => Routed::NoMemory,
     }
 }
 
 fn objects(alloc: Global, method: Method, query: Option<&[u8]>, body: &[u8]) -> Routed
-    ensures { Tells (answer_at place.Objects method (bytes_of query.entry) body.now) result }
+    ensures { IsRoutedAs (answer_at place.Objects method (bytes_of query.entry) body.now) result }
 {
     match method {
         Method::Post => define(alloc, query, body),
@@ -116,7 +117,8 @@ fn objects(alloc: Global, method: Method, query: Option<&[u8]>, body: &[u8]) -> 
 
 fn object(kind: Kind, name: Label, method: Method, query: Option<&[u8]>) -> Routed
     ensures { (body : List ℕ)
-        → Tells (answer_at (place.Object kind name) method (bytes_of query.entry) body) result }
+        → IsRoutedAs (answer_at (place.Object kind name) method (bytes_of query.entry) body)
+        result }
 {
     match method {
         Method::Get => without_keys(query, Request::Ask(Query::Object { kind, name })),
@@ -126,7 +128,8 @@ fn object(kind: Kind, name: Label, method: Method, query: Option<&[u8]>) -> Rout
 }
 
 fn zone(alloc: Global, name: ZoneName, method: Method, query: Option<&[u8]>, body: &[u8]) -> Routed
-    ensures { Tells (answer_at (place.Zone name) method (bytes_of query.entry) body.now) result }
+    ensures { IsRoutedAs (answer_at (place.Zone name) method (bytes_of query.entry) body.now)
+        result }
 {
     match method {
         Method::Put => put_zone(alloc, name, query, body),
@@ -136,7 +139,7 @@ fn zone(alloc: Global, name: ZoneName, method: Method, query: Option<&[u8]>, bod
 
 fn samples(alloc: Global, method: Method, query: Option<&[u8]>, body: &[u8]) -> Routed
     requires { length body.now < 2 ^ 32 }
-    ensures { Tells (answer_at place.Samples method (bytes_of query.entry) body.now) result }
+    ensures { IsRoutedAs (answer_at place.Samples method (bytes_of query.entry) body.now) result }
 {
     match method {
         Method::Post => take_samples(alloc, query, body),
@@ -145,7 +148,8 @@ fn samples(alloc: Global, method: Method, query: Option<&[u8]>, body: &[u8]) -> 
 }
 
 fn exclusion(alloc: Global, id: Label, method: Method, query: Option<&[u8]>, body: &[u8]) -> Routed
-    ensures { Tells (answer_at (place.Exclusion id) method (bytes_of query.entry) body.now) result }
+    ensures { IsRoutedAs (answer_at (place.Exclusion id) method (bytes_of query.entry) body.now)
+        result }
 {
     match method {
         Method::Put => exclude(alloc, id, query, body),
@@ -156,7 +160,7 @@ fn exclusion(alloc: Global, id: Label, method: Method, query: Option<&[u8]>, bod
 
 fn tick(method: Method, query: Option<&[u8]>) -> Routed
     ensures { (body : List ℕ)
-        → Tells (answer_at place.Tick method (bytes_of query.entry) body) result }
+        → IsRoutedAs (answer_at place.Tick method (bytes_of query.entry) body) result }
 {
     match method {
         Method::Post => without_keys(query, Request::Change(Command::Tick)),
@@ -166,7 +170,7 @@ fn tick(method: Method, query: Option<&[u8]>) -> Routed
 
 fn notices(method: Method, query: Option<&[u8]>) -> Routed
     ensures { (body : List ℕ)
-        → Tells (answer_at place.Notices method (bytes_of query.entry) body) result }
+        → IsRoutedAs (answer_at place.Notices method (bytes_of query.entry) body) result }
 {
     match method {
         Method::Get => without_keys(query, Request::Ask(Query::Notices)),
@@ -176,7 +180,7 @@ fn notices(method: Method, query: Option<&[u8]>) -> Routed
 
 fn take(number: u32, method: Method, query: Option<&[u8]>) -> Routed
     ensures { (body : List ℕ)
-        → Tells (answer_at (place.Take number) method (bytes_of query.entry) body) result }
+        → IsRoutedAs (answer_at (place.Take number) method (bytes_of query.entry) body) result }
 {
     match method {
         Method::Post => without_keys(query, Request::Change(Command::Take(number))),
@@ -186,12 +190,12 @@ fn take(number: u32, method: Method, query: Option<&[u8]>) -> Routed
 
 fn budgets(slo: Label, method: Method, query: Option<&[u8]>) -> Routed
     ensures { (body : List ℕ)
-        → Tells (answer_at (place.Budgets slo) method (bytes_of query.entry) body) result }
+        → IsRoutedAs (answer_at (place.Budgets slo) method (bytes_of query.entry) body) result }
 {
     match method {
         Method::Get => match budgets_keys(query) {
             Some(at) => Routed::Request(Request::Ask(Query::Budgets { slo, at })),
-            None => Routed::Immediate(Immediate::Query),
+            None => Routed::NoRequest(NoRequest::Query),
         },
         Method::Delete | Method::Post | Method::Put | Method::Other => other_methods(Allow::Get),
     }
@@ -199,7 +203,8 @@ fn budgets(slo: Label, method: Method, query: Option<&[u8]>) -> Routed
 
 fn burns(slo: Label, objective: u32, method: Method, query: Option<&[u8]>) -> Routed
     ensures { (body : List ℕ)
-        → Tells (answer_at (place.Burns slo objective) method (bytes_of query.entry) body) result }
+        → IsRoutedAs (answer_at (place.Burns slo objective) method (bytes_of query.entry) body)
+        result }
 {
     match method {
         Method::Get => match burns_keys(query) {
@@ -209,7 +214,7 @@ fn burns(slo: Label, objective: u32, method: Method, query: Option<&[u8]>) -> Ro
                 lookback,
                 at,
             })),
-            None => Routed::Immediate(Immediate::Query),
+            None => Routed::NoRequest(NoRequest::Query),
         },
         Method::Delete | Method::Post | Method::Put | Method::Other => other_methods(Allow::Get),
     }
@@ -217,8 +222,8 @@ fn burns(slo: Label, objective: u32, method: Method, query: Option<&[u8]>) -> Ro
 
 fn alerts(slo: Label, objective: u32, policy: Label, method: Method, query: Option<&[u8]>) -> Routed
     ensures { (body : List ℕ)
-        → Tells (answer_at (place.Alerts slo objective policy) method (bytes_of query.entry) body)
-        result }
+        → IsRoutedAs (answer_at (place.Alerts slo objective policy) method (bytes_of query.entry)
+        body) result }
 {
     match method {
         Method::Get => match alerts_keys(query) {
@@ -229,7 +234,7 @@ fn alerts(slo: Label, objective: u32, policy: Label, method: Method, query: Opti
                 from,
                 to,
             })),
-            None => Routed::Immediate(Immediate::Query),
+            None => Routed::NoRequest(NoRequest::Query),
         },
         Method::Delete | Method::Post | Method::Put | Method::Other => other_methods(Allow::Get),
     }
@@ -244,7 +249,7 @@ fn answer_at(
     body: &[u8],
 ) -> Routed
     requires { length body.now < 2 ^ 32 }
-    ensures { Tells (answer_at place.now method (bytes_of query.entry) body.now) result }
+    ensures { IsRoutedAs (answer_at place.now method (bytes_of query.entry) body.now) result }
 {
     match place {
         Place::Objects => objects(alloc, method, query, body),
@@ -277,7 +282,7 @@ impl Routes {
     {
         let (path, query) = target_of(message, bytes);
         let Some(place) = self.find(path) else {
-            return Routed::Immediate(Immediate::NotFound);
+            return Routed::NoRequest(NoRequest::NotFound);
         };
         let method = &bytes[message.method.0 as usize..message.method.1 as usize];
         let body = &bytes[message.body.0 as usize..message.body.1 as usize];

@@ -3,6 +3,6 @@
 //! Promises nothing by itself.
 #![tactic(auto)]
 
-mod immediate;
+mod no_request;
 
-pub use immediate::{Allow, Immediate};
+pub use no_request::{Allow, NoRequest};

@@ -11,7 +11,7 @@ use slice_method::Amount;
 use std::alloc::{AllocError, Global};
 use std::test::Fail;
 use wire_replies::{Reply, bad_message, immediate_reply, render, write_reply};
-use wire_terms::{Allow, Immediate};
+use wire_terms::{Allow, NoRequest};
 use yaml_terms::ProfileFault;
 
 fn label(text: &str) -> Result<Label, &'static str> {
@@ -447,9 +447,9 @@ fn replies_are_written_at_once(rt: HostRuntime) -> Result<(), Fail> {
     let rows = [
         (render(alloc, &none), false),
         (render(alloc, &text), true),
-        (immediate_reply(Immediate::NotFound), false),
-        (immediate_reply(Immediate::Method(Allow::PutDelete)), false),
-        (immediate_reply(Immediate::Record(7)), false),
+        (immediate_reply(NoRequest::NotFound), false),
+        (immediate_reply(NoRequest::Method(Allow::PutDelete)), false),
+        (immediate_reply(NoRequest::Record(7)), false),
         (bad_message(431), true),
         (Reply::NoMemory, true),
     ];

@@ -225,7 +225,7 @@ fn answer(alloc: Global, routes: &Routes, start: &str, body: &[u8]) -> Result<St
     match routes.request(alloc, &message, &bytes) {
         Routed::Request(Request::Change(command)) => change_text(alloc, &command),
         Routed::Request(Request::Ask(query)) => query_text(alloc, &query),
-        Routed::Immediate(reason) => format!(in alloc; "{reason:?}"),
+        Routed::NoRequest(reason) => format!(in alloc; "{reason:?}"),
         Routed::NoMemory => Err(AllocError),
     }
 }

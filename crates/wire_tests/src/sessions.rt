@@ -2,10 +2,10 @@
 use message_session::SessionEnd;
 use office_counter::Counter;
 use office_outside::{MemoryClock, MemorySink, MemorySource, Plan};
+use office_session::session;
 use record_form::{Command, Outcome, Request};
 use std::alloc::{AllocError, Global};
 use std::process::Abort;
-use wire_session::session;
 
 // Counts how often it is asked, and how many rows of samples it is asked to take.
 #[derive(Drop)]

@@ -1,8 +1,8 @@
 //! One run of the program over memory.
 
-use office_commands::{RunEnd, run};
 use office_doors::MemoryDoors;
 use office_outside::{MemoryClock, MemoryDisk, MemorySink, MemorySource, Plan};
+use office_run::{RunEnd, run};
 use std::alloc::{AllocError, Global};
 use std::sync::Wait;
 use std::thread::Threads;

@@ -28,7 +28,7 @@ pub fn over_prefixes(
 
 /// How second runs compared with the run that nothing stopped.
 #[derive(Clone, Copy)]
-struct Tally {
+struct PlayTally {
     runs: u32,
     no_journal: u32,
     same: u32,
@@ -36,7 +36,7 @@ struct Tally {
 }
 
 /// The tally before the first of them.
-const NOTHING: Tally = Tally {
+const NOTHING: PlayTally = PlayTally {
     runs: 0,
     no_journal: 0,
     same: 0,
@@ -67,8 +67,8 @@ fn again(
     file: &[u8],
     input: &[u8],
     whole: &Played,
-    tally: Tally,
-) -> Result<Tally, AllocError> {
+    tally: PlayTally,
+) -> Result<PlayTally, AllocError> {
     let left = Setting {
         file,
         readings: setting.readings,
@@ -80,7 +80,7 @@ fn again(
     let last = last_answer(alloc, played.output.bytes())?;
     let wanted = last_answer(alloc, whole.output.bytes())?;
     let is_same = last.as_str() == wanted.as_str();
-    Ok(Tally {
+    Ok(PlayTally {
         runs: tally.runs.saturating_add(1),
         no_journal: tally
             .no_journal
@@ -98,8 +98,8 @@ fn after_stop(
     input: &[u8],
     whole: &Played,
     calls: usize,
-    tally: Tally,
-) -> Result<Tally, AllocError> {
+    tally: PlayTally,
+) -> Result<PlayTally, AllocError> {
     let file = whole.disk.after_stop(calls, whole.disk.bytes())?;
     let mut tally = again(rt, setting, &file, input, whole, tally)?;
     for number in 1..MOST_FILES {
@@ -136,10 +136,10 @@ fn over_mixtures_at(
     whole: &Played,
     calls: usize,
     mixtures: &Mixtures,
-    tally: Tally,
-) -> Result<Tally, AllocError> {
+    tally: PlayTally,
+) -> Result<PlayTally, AllocError> {
     let Some(count) = mixtures.count() else {
-        return Ok(Tally {
+        return Ok(PlayTally {
             left_out: tally.left_out.saturating_add(1),
             ..tally
         });
@@ -161,8 +161,8 @@ fn mixed_after_stop(
     whole: &Played,
     calls: usize,
     fill: u8,
-    tally: Tally,
-) -> Result<Tally, AllocError> {
+    tally: PlayTally,
+) -> Result<PlayTally, AllocError> {
     let alloc = rt.alloc();
     let torn = Torn::after(alloc, setting.file, &whole.disk, calls)?;
     let mut tally = tally;
@@ -222,8 +222,8 @@ pub fn over_faults(
 }
 
 /// A line of a tally.
-fn tell(alloc: Global, what: &str, tally: Tally) -> Result<String, AllocError> {
-    let Tally {
+fn tell(alloc: Global, what: &str, tally: PlayTally) -> Result<String, AllocError> {
+    let PlayTally {
         runs,
         no_journal,
         same,

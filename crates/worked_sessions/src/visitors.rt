@@ -2,9 +2,9 @@
 
 use crate::playing::{Played, Setting, numbers_in, words_in};
 use crate::show::show_answers;
-use office_commands::{RunEnd, run};
 use office_doors::{GateSink, MemoryDoor, MemoryDoors, MemoryVisit, Visit};
 use office_outside::{MemoryClock, MemorySink, MemorySource, Plan, Sink};
+use office_run::{RunEnd, run};
 use std::alloc::{AllocError, Global};
 use std::sync::Wait;
 use std::thread::Threads;

@@ -2,7 +2,7 @@ use Rattle.std.proofs.Common.{refl, subst, sym}
 use Rattle.office_outside.specs.Disk.{All, IsQuiet}
 use Rattle.office_history.specs.History.{Office}
 use Rattle.office_keep.specs.Files.{StandsFor}
-use Rattle.journal_commands.specs.Making.{Bench, bench}
+use Rattle.journal_commands.specs.Making.{JournalWorld, journal_world}
 use Rattle.journal_commands.specs.Reporting.{EndsOver}
 use Rattle.journal_commands.proofs.Sessions.{as_opened}
 use Rattle.journal_commands.proofs.reporting.print_report.Goals as goal
@@ -15,10 +15,11 @@ returns-in-Ok-clause-reports g c =
     let office = c.in-Ok.office in
     let opened = c.in-Ok.ensures.opened in
     let given = c.give_back-core.ensures in
-    let old : Bench g.row.D.Denot =
-    bench c.args.disk (g.C.Clock.to_come c.args.clock.now) (g.K.Sink.held c.args.output.now) in
-    let new : Bench g.row.D.Denot =
-    bench c.give_back-core.result.1 (g.C.Clock.to_come read.new.self)
+    let old : JournalWorld g.row.D.Denot =
+    journal_world c.args.disk (g.C.Clock.to_come c.args.clock.now)
+    (g.K.Sink.held c.args.output.now) in
+    let new : JournalWorld g.row.D.Denot =
+    journal_world c.give_back-core.result.1 (g.C.Clock.to_come read.new.self)
     (g.K.Sink.held printed.new.output) in
     let Over : Office → Type 0 = λ o.
     EndsOver c.args.at read.result printed.result old.held new.held o in

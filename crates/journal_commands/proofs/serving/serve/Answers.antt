@@ -1,8 +1,8 @@
 use Rattle.std.proofs.Common.{[], subst}
 use Rattle.message_session.specs.Sessions.{EndsSo}
-use Rattle.wire_session.specs.Treats.{Treats, refusal_text}
+use Rattle.office_session.specs.Messages.{AnswersMessage, refusal_text}
 use Rattle.own_counter.specs.Own.{OwnAsks, OwnOn, own_on}
-use Rattle.journal_commands.specs.Serving.{Outside, outside, with_counter}
+use Rattle.journal_commands.specs.Serving.{SessionOutside, session_outside, with_counter}
 use Rattle.journal_commands.proofs.Sessions.{as_opened, as_served, none_owned}
 use Rattle.journal_commands.proofs.serving.serve.Goals as goal
 
@@ -12,12 +12,12 @@ returns-clause-served g c =
     let office = c.args.office in
     let end = c.session-end.result in
     let last = c.session-end.new.counter in
-    let old : Outside = outside (g.S.Source.left c.args.input.now)
+    let old : SessionOutside = session_outside (g.S.Source.left c.args.input.now)
     (g.C.Clock.to_come c.args.clock.now) (g.K.Sink.held c.args.output.now) in
-    let new : Outside = outside (g.S.Source.left c.session-end.new.input)
+    let new : SessionOutside = session_outside (g.S.Source.left c.session-end.new.input)
     (g.C.Clock.to_come c.session-end.new.clock) (g.K.Sink.held c.session-end.new.output) in
     let Ends : OwnOn g.row.D.Denot → Type 0 = λ first.
-    EndsSo (Treats (OwnAsks D.senses)) refusal_text end
+    EndsSo (AnswersMessage (OwnAsks D.senses)) refusal_text end
     (with_counter old first) (with_counter new last) in
     let ends : Ends (own_on office []) =
     subst Ends c.new-counter.ensures c.session-end.ensures.ends in

@@ -3,8 +3,8 @@ use Rattle.slo_limits.specs.declared.TheConstants.{MAX_MINUTE}
 use Rattle.turn_desk.specs.Passes.{newcomer}
 use Rattle.turn_counter.specs.Seen.{ledger_of}
 use Rattle.turn_counter.specs.Turns.{TurnAsks}
-use Rattle.visit_workers.specs.Visits.{looks}
-use Rattle.visit_workers.specs.Workers.{site}
+use Rattle.visit_workers.specs.Visits.{visit_senses}
+use Rattle.visit_workers.specs.Workers.{worker_senses}
 use Rattle.office_serving.specs.declared.serving.TheConstants.{WORKERS}
 use Rattle.office_serving.proofs.Endings.{all_go, at_desk, ends_alike, not_served, served}
 use Rattle.office_serving.proofs.Growing.{chain_does, chain_goes}
@@ -14,8 +14,8 @@ pub close_desk-office-requires-clause-desk : goal.close_desk-office-requires-cla
 close_desk-office-requires-clause-desk g c =
     let D = g.D.Disk in
     let A = g.S.One in
-    let s = site (TurnAsks D.senses)
-    (looks A.In.Source.left A.In.Source.faults A.Out.Sink.held A.Out.Sink.faults
+    let s = worker_senses (TurnAsks D.senses)
+    (visit_senses A.In.Source.left A.In.Source.faults A.Out.Sink.held A.Out.Sink.faults
     A.Time.Clock.to_come) (λ d. A.Door.told d) (λ d. A.Door.faults d) in
     let start = newcomer c.in-Ok.desk (ledger_of D.senses c.args.office) WORKERS in
     let passes = c.serve_at-end.new.passes.items in
@@ -30,8 +30,8 @@ pub returns-in-Ok-clause-served : goal.returns-in-Ok-clause-served
 returns-in-Ok-clause-served g c =
     let D = g.D.Disk in
     let A = g.S.One in
-    let s = site (TurnAsks D.senses)
-    (looks A.In.Source.left A.In.Source.faults A.Out.Sink.held A.Out.Sink.faults
+    let s = worker_senses (TurnAsks D.senses)
+    (visit_senses A.In.Source.left A.In.Source.faults A.Out.Sink.held A.Out.Sink.faults
     A.Time.Clock.to_come) (λ d. A.Door.told d) (λ d. A.Door.faults d) in
     let seen = c.what_a_pass_has_seen.ensures in
     let was_low : c.args.office.office.origin ≤ MAX_MINUTE = search rules in
@@ -55,8 +55,8 @@ pub returns-in-Err-clause-served : goal.returns-in-Err-clause-served
 returns-in-Err-clause-served g c =
     let D = g.D.Disk in
     let A = g.S.One in
-    let s = site (TurnAsks D.senses)
-    (looks A.In.Source.left A.In.Source.faults A.Out.Sink.held A.Out.Sink.faults
+    let s = worker_senses (TurnAsks D.senses)
+    (visit_senses A.In.Source.left A.In.Source.faults A.Out.Sink.held A.Out.Sink.faults
     A.Time.Clock.to_come) (λ d. A.Door.told d) (λ d. A.Door.faults d) in
     not_served D.senses s c.args.port c.args.office c.in-Err.office _ _ _ c.into_disk-in-Err.result
     c.in-Err.ensures.err c.into_disk-in-Err.ensures c.disk_stands.ensures.whole

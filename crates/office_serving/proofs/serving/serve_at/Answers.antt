@@ -1,8 +1,8 @@
 use denote.Param.Send.{sendable}
 use Rattle.std.proofs.Crossing.{crosses}
 use Rattle.turn_counter.specs.Turns.{TurnAsks}
-use Rattle.visit_workers.specs.Visits.{looks}
-use Rattle.visit_workers.specs.Workers.{site}
+use Rattle.visit_workers.specs.Visits.{visit_senses}
+use Rattle.visit_workers.specs.Workers.{worker_senses}
 use Rattle.office_serving.proofs.Endings.{as_lists}
 use Rattle.office_serving.proofs.Sending.{counter_send}
 use Rattle.office_serving.proofs.serving.serve_at.Goals as goal
@@ -14,8 +14,8 @@ serve_doors-end-requires-send-T g c κs within =
 pub returns-clause-ends : goal.returns-clause-ends
 returns-clause-ends g c =
     let A = g.S.One in
-    let s = site (TurnAsks g.D.Disk.senses)
-    (looks A.In.Source.left A.In.Source.faults A.Out.Sink.held A.Out.Sink.faults
+    let s = worker_senses (TurnAsks g.D.Disk.senses)
+    (visit_senses A.In.Source.left A.In.Source.faults A.Out.Sink.held A.Out.Sink.faults
     A.Time.Clock.to_come) (λ d. A.Door.told d) (λ d. A.Door.faults d) in
     as_lists s c.args.port c.take_seats.new.counters.items c.args.passes.now.items
     c.serve_doors-end.new.counters.items c.leave_seats.new.passes.items

@@ -1,7 +1,7 @@
 use Rattle.std.proofs.Common.{◌≡◌, ◌∙◌, refl, rules}
 use Rattle.office_outside.specs.Told.{Gained, GainedPrefix}
-use Rattle.visit_workers.specs.Visits.{looks}
-use Rattle.visit_workers.specs.Workers.{site}
+use Rattle.visit_workers.specs.Visits.{visit_senses}
+use Rattle.visit_workers.specs.Workers.{worker_senses}
 use Rattle.office_serving.specs.Serving.{ready_line}
 use Rattle.office_serving.proofs.Endings.{after_work, not_ready}
 use Rattle.office_serving.proofs.serving.serve_doors.Goals as goal
@@ -9,8 +9,8 @@ use Rattle.office_serving.proofs.serving.serve_doors.Goals as goal
 pub returns-then-is_err-2-clause-ends : goal.returns-then-is_err-2-clause-ends
 returns-then-is_err-2-clause-ends g c =
     let A = g.S.One in
-    let s = site g.T.Counter.asks
-    (looks A.In.Source.left A.In.Source.faults A.Out.Sink.held A.Out.Sink.faults
+    let s = worker_senses g.T.Counter.asks
+    (visit_senses A.In.Source.left A.In.Source.faults A.Out.Sink.held A.Out.Sink.faults
     A.Time.Clock.to_come) (λ d. A.Door.told d) (λ d. A.Door.faults d) in
     let counters = c.args.counters.now.items in
     let part : GainedPrefix ready_line (g.K.Sink.held c.args.ready.now)
@@ -31,8 +31,8 @@ pub returns-clause-ends : goal.returns-clause-ends
 returns-clause-ends g c =
     let T = g.T.Counter in
     let A = g.S.One in
-    let s = site T.asks
-    (looks A.In.Source.left A.In.Source.faults A.Out.Sink.held A.Out.Sink.faults
+    let s = worker_senses T.asks
+    (visit_senses A.In.Source.left A.In.Source.faults A.Out.Sink.held A.Out.Sink.faults
     A.Time.Clock.to_come) (λ d. A.Door.told d) (λ d. A.Door.faults d) in
     let counters = c.args.counters.now.items in
     let now = c.run_workers-well.new.counters.items in

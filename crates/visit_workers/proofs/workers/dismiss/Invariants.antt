@@ -2,7 +2,7 @@ use Rattle.std.proofs.Common.{◌≡◌, ◌≤◌, ◌+◌, ◌++◌, true, fal
 use Rattle.std.specs.Prelude.{min, vec_capacity}
 use Rattle.std.specs.Vec.Iter.{into_iter_items, into_iter_len}
 use Rattle.office_outside.specs.Faults.{Rose, last_count}
-use Rattle.office_doors.specs.Books.{Moves, Tells}
+use Rattle.office_doors.specs.Books.{Moves, WhereTold}
 use Rattle.visit_workers.specs.Workers.{AreClosed, HasRoom}
 use Rattle.visit_workers.specs.declared.visits.WorkEnd.TheVariants.{Done, DoorFault}
 use Rattle.visit_workers.proofs.workers.dismiss.Given as goal
@@ -13,7 +13,7 @@ invariant-loop-worker g l = record {
       ≡ into_iter_items l.initial.worker-iterator;
   len : into_iter_len l.worker-iterator ≡ length (into_iter_items l.worker-iterator);
   counters : l.counters.items ≡ map (λ w. w.counter) l.yielded;
-  open_yet : Tells (HasRoom (length (into_iter_items l.worker-iterator)))
+  open_yet : WhereTold (HasRoom (length (into_iter_items l.worker-iterator)))
       (g.S.Doors.told l.doors);
   closed_so : Moves (AreClosed (map (λ w. w.door) l.yielded))
       (g.S.Doors.told l.initial.doors) (g.S.Doors.told l.doors);

@@ -1,6 +1,6 @@
 use Rattle.std.proofs.Common.{◌≡◌, ◌∷◌, [], ◌++◌, ◌∙◌, sym, ap, append_assoc, append-nil, rules}
 use Rattle.std.proofs.lemmas.List.Elements.{All-rest}
-use Rattle.office_doors.specs.Books.{HasAllBack, Tells}
+use Rattle.office_doors.specs.Books.{HasAllBack, WhereTold}
 use Rattle.visit_workers.proofs.Lists.{first_and_rest, made_of_first, mapped_more}
 use Rattle.visit_workers.proofs.workers.post.Goals as goal
 
@@ -22,7 +22,7 @@ loop-door-preserved g c =
           c.hire-worker.ensures.door i.made;
       left = search rules;
       kits = search rules;
-      back = All-rest (λ d. Tells HasAllBack (g.A.Door.told d)) door _ _ steps i.back;
+      back = All-rest (λ d. WhereTold HasAllBack (g.A.Door.told d)) door _ _ steps i.back;
       given = made_of_first (λ w. w.counter) at.workers.items now worker at.counters.items left _
           counter one c.hire-worker.ensures.counter
           (first_and_rest at.counters.items left counter (search rules)

@@ -1,7 +1,7 @@
 use Rattle.std.proofs.Common.{◌≡◌, ◌≤◌, ◌+◌, ◌++◌, length, All, map}
 use Rattle.std.specs.Prelude.{vec_capacity}
 use Rattle.std.specs.Vec.Iter.{into_iter_items, into_iter_len}
-use Rattle.office_doors.specs.Books.{HasAllBack, Tells}
+use Rattle.office_doors.specs.Books.{HasAllBack, WhereTold}
 use Rattle.visit_workers.proofs.workers.post.Given as goal
 
 abbrev pub invariant-loop-door : goal.invariant-loop-door
@@ -11,7 +11,7 @@ invariant-loop-door g l = record {
   made : map (λ w. w.door) l.workers.items ≡ l.yielded;
   left : length l.counters.items ≡ length (into_iter_items l.door-iterator);
   kits : length l.kits.items ≡ length (into_iter_items l.door-iterator);
-  back : All (λ d. Tells HasAllBack (g.A.Door.told d)) (into_iter_items l.door-iterator);
+  back : All (λ d. WhereTold HasAllBack (g.A.Door.told d)) (into_iter_items l.door-iterator);
   given : map (λ w. w.counter) l.workers.items ++ l.counters.items ≡ l.initial.counters.items;
   room : vec_capacity l.counters ≡ vec_capacity l.initial.counters;
   space : length l.workers.items + length (into_iter_items l.door-iterator)

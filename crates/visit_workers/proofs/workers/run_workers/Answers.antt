@@ -1,8 +1,8 @@
 use Rattle.std.proofs.Common.{◌≡◌, ◌≤◌, ◌∙◌, sym, ap, subst, length, map, rules}
 use Rattle.std.specs.Prelude.{All}
 use Rattle.office_doors.specs.Books.{Moves}
-use Rattle.visit_workers.specs.Visits.{looks}
-use Rattle.visit_workers.specs.Workers.{AreClosed, site}
+use Rattle.visit_workers.specs.Visits.{visit_senses}
+use Rattle.visit_workers.specs.Workers.{AreClosed, worker_senses}
 use Rattle.visit_workers.specs.declared.visits.WorkEnd.TheVariants.{Done, DoorFault}
 use Rattle.visit_workers.proofs.Employing.{all_faulty, ran_workers}
 use Rattle.visit_workers.proofs.Lists.{written}
@@ -12,8 +12,8 @@ pub returns-clause-ran : goal.returns-clause-ran
 returns-clause-ran g c =
     let T = g.T.Counter in
     let A = g.S.One in
-    let s = site T.asks
-    (looks A.In.Source.left A.In.Source.faults A.Out.Sink.held A.Out.Sink.faults
+    let s = worker_senses T.asks
+    (visit_senses A.In.Source.left A.In.Source.faults A.Out.Sink.held A.Out.Sink.faults
     A.Time.Clock.to_come) (λ d. A.Door.told d) (λ d. A.Door.faults d) in
     let ws = c.post.new.workers.items in
     let behind = c.run_all.new.workers in
@@ -33,8 +33,8 @@ pub returns-clause-cause : goal.returns-clause-cause
 returns-clause-cause g c = λ bad.
     let T = g.T.Counter in
     let A = g.S.One in
-    let s = site T.asks
-    (looks A.In.Source.left A.In.Source.faults A.Out.Sink.held A.Out.Sink.faults
+    let s = worker_senses T.asks
+    (visit_senses A.In.Source.left A.In.Source.faults A.Out.Sink.held A.Out.Sink.faults
     A.Time.Clock.to_come) (λ d. A.Door.told d) (λ d. A.Door.faults d) in
     let ws = c.post.new.workers.items in
     let behind = c.run_all.new.workers in

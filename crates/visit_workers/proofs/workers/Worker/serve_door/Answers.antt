@@ -1,4 +1,4 @@
-use Rattle.visit_workers.specs.Visits.{looks}
+use Rattle.visit_workers.specs.Visits.{visit_senses}
 use Rattle.visit_workers.proofs.Growing.{chain_knows}
 use Rattle.visit_workers.proofs.workers.Worker.serve_door.Goals as goal
 
@@ -10,7 +10,7 @@ returns g c =
     record {
       works = did.works;
       knows = chain_knows T.asks T.standing T.steps
-          (looks A.In.Source.left A.In.Source.faults A.Out.Sink.held A.Out.Sink.faults
+          (visit_senses A.In.Source.left A.In.Source.faults A.Out.Sink.held A.Out.Sink.faults
           A.Time.Clock.to_come) c.args.self.now.counter did.works.services
           c.work-self.new.counter did.works.chain;
       back = did.back;

@@ -1,2 +1,0 @@
-pub mod Treats
-pub mod Clerks
