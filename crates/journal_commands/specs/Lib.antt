@@ -1,3 +1,4 @@
+pub mod Doors
 pub mod Making
-pub mod Serving
 pub mod Reporting
+pub mod Serving

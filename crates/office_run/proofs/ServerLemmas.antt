@@ -8,7 +8,7 @@ use Rattle.office_serving.specs.Serving.{ServingWorld, IsServed}
 use Rattle.office_serving.specs.Workers.{DeskSenses}
 use Rattle.office_serving.specs.declared.ServeEnd.{ServeEnd}
 use Rattle.office_serving.specs.declared.ServeEnd.TheVariants as serving
-use Rattle.serve_command.specs.Serves.{EndsServer}
+use Rattle.journal_commands.specs.Doors.{EndsServer}
 use Rattle.office_run.specs.Serve.{SettledServer, SettledServing}
 use Rattle.office_run.specs.declared.ending.TheConstants.{BAD_FILE, DONE, REFUSED}
 use Rattle.office_run.proofs.StatusLemmas.{unopened_bad, unopened_not_done}

@@ -11,11 +11,11 @@ use crate::ending::{DISK_FAULT, DONE, DOORS_FAULT, NO_MEMORY, USAGE, WRITE_FAULT
 use crate::faults_sink::tell_status;
 use crate::running::RunEnd;
 use crate::unopened::settle_unopened;
+use journal_commands::serve_journal;
 use office_doors::{Door, Doors};
 use office_keep::KeepFault;
 use office_outside::{Disk, Sink};
 use office_serving::ServeEnd;
-use serve_command::serve_journal;
 use std::alloc::Global;
 use std::sync::Wait;
 use std::thread::Threads;

@@ -6,7 +6,7 @@ ghost use Rattle.turn_counter.specs.Turns.{TurnAsks};
 ghost use Rattle.office_serving.specs.Serving.{serving_world};
 ghost use Rattle.visit_workers.specs.Visits.{visit_senses};
 ghost use Rattle.visit_workers.specs.Workers.{worker_senses};
-ghost use Rattle.serve_command.specs.Serves.{EndsServer};
+ghost use Rattle.journal_commands.specs.Doors.{EndsServer};
 
 use office_doors::{Door, Doors};
 use office_keep::{KeepFault, Office};
