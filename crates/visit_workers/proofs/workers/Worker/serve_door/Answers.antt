@@ -9,7 +9,7 @@ returns g c =
     let A = g.A in
     record {
       works = did.works;
-      knows = chain_knows T.asks T.standing T.steps
+      knows = chain_knows T.asks T.standing g.met.T.Counter.steps
           (visit_senses A.In.Source.left A.In.Source.faults A.Out.Sink.held A.Out.Sink.faults
           A.Time.Clock.to_come) c.args.self.now.counter did.works.services
           c.work-self.new.counter did.works.chain;
