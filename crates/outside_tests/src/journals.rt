@@ -141,11 +141,11 @@ fn filled(alloc: Global, records: &[Vec<u8>]) -> Result<Option<MemoryDisk>, Allo
 }
 
 /// A record's frame. The records here have at most as many bytes as a record may.
-fn frame_with(alloc: Global, record: &[u8]) -> Result<Frame, AllocError> {
-    if record.is_empty() || record.len() > 1_100_000 {
+fn frame_with(alloc: Global, bytes: &[u8]) -> Result<Frame, AllocError> {
+    if bytes.is_empty() || bytes.len() > 1_100_000 {
         return Err(AllocError);
     }
-    frame_of(alloc, record)
+    frame_of(alloc, bytes)
 }
 
 /// Why no journal is made on a disk, and the disk.

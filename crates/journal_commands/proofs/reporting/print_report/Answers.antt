@@ -47,5 +47,5 @@ returns-in-Err-clause-reports g c =
       reading = read.result;
       reads = record { first = read.ensures.first; later = read.ensures.rest };
       ends = (c.in-Err.ensures.found, refl);
-      quiet = c.in-Err.ensures.quiet;
+      quiet = c.in-Err.ensures.quiet_err;
     }

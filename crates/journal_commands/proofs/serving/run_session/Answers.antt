@@ -10,4 +10,4 @@ returns-in-Ok-clause-ends g c =
     }
 
 pub returns-in-Err-clause-ends : goal.returns-in-Err-clause-ends
-returns-in-Err-clause-ends g c = (c.in-Err.ensures.found, c.in-Err.ensures.quiet, refl)
+returns-in-Err-clause-ends g c = (c.in-Err.ensures.found, c.in-Err.ensures.quiet_err, refl)
