@@ -1,4 +1,4 @@
-//! Tests of the outside's forms, of messages, of the sessions over them, and of the journal.
+//! Tests of the outside's forms, of messages, of sessions and workers, and of the journal.
 //! Stands on the crates that it tests, and calls what they make public.
 //! Promises nothing by itself: the tests show what no clause of those crates says.
 #![tactic(auto)]
@@ -13,3 +13,5 @@ mod journals;
 mod sessions;
 #[cfg(test)]
 mod sources_and_sinks;
+#[cfg(test)]
+mod workers;
