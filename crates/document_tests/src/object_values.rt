@@ -13,7 +13,7 @@ spec:
   description: x
   connectionDetails: []
 ~> DataSource(DataSource { description: Some(Text { string: "x" }), type_text: Text { string:
-"Prometheus" }, connection_details: Some(Part { node: List([]) }) })
+"Prometheus" }, connection_details: Some(FreePart { node: List([]) }) })
 ====
 kind: DataSource
 spec:
@@ -68,7 +68,7 @@ type_text: None, spec: None }) })
       type: Prometheus
       spec: {}
 ~> Threshold(MetricSource { metric_source_ref: Some(Label(prometheus)), type_text: Some(Text {
-string: "Prometheus" }), spec: Some(Part { node: Map([]) }) })
+string: "Prometheus" }), spec: Some(FreePart { node: Map([]) }) })
 ====
     metricSource:
       {}
@@ -316,8 +316,8 @@ metadata:
   displayName: Shop front
   labels: {}
   annotations: {}
-~> display_name: Some(Text { string: "Shop front" }), labels: Some(Part { node: Map([]) }),
-annotations: Some(Part { node: Map([]) }),
+~> display_name: Some(Text { string: "Shop front" }), labels: Some(FreePart { node: Map([]) }),
+annotations: Some(FreePart { node: Map([]) }),
 ====
   name: shop
 ~> display_name: None, labels: None, annotations: None,
