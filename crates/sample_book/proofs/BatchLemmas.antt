@@ -6,7 +6,7 @@ use Rattle.std.specs.List.{find}
 use Rattle.std.proofs.lemmas.List.{append-nil}
 use Rattle.std.proofs.lemmas.Bool.Decides.{nat_tests}
 use Rattle.slice_method.specs.declared.Amount.{Amount}
-use Rattle.slice_method.specs.declared.Amount.TheVariants.{Counts, Value}
+use Rattle.slice_method.specs.declared.Amount.TheVariants.{Counts, Value, Withdrawn}
 use Rattle.slo_terms.specs.Rows.{newer}
 use Rattle.sample_book.specs.declared.row.Row.{Row}
 use Rattle.sample_book.specs.declared.row.RowVerdict.{RowVerdict}
@@ -327,6 +327,7 @@ lt-itself n = grind (arith, nat_tests)
 eq-itself : (amount : Amount) → same_amount amount amount ≡ true
 eq-itself (Counts part total) = grind (arith, nat_tests)
 eq-itself (Value value) = grind (arith, nat_tests)
+eq-itself Withdrawn = refl
 
 same_amount-itself : (row : Row) → verdict_on row row ≡ Repeated
 same_amount-itself row = rw (lt-itself row.revision, eq-itself row.amount) refl

@@ -248,6 +248,7 @@ total_small Bad op value (amounts.Value measured) h = omega arith
 total_small Threshold op value (amounts.Value measured) h = omega arith
 total_small RawSuccess op value (amounts.Value measured) h = omega arith
 total_small RawFailure op value (amounts.Value measured) h = omega arith
+total_small _ op value amounts.Withdrawn h = omega arith
 
 row_small : (reading : Reading) (op : Op) (value : ℕ) (sli : List ℕ) (minute : ℕ) (row : Row)
     → IsSmallRow row → own (total_of reading op value) sli minute (row ∷ []) ≤ 10 ^ 9

@@ -1,9 +1,9 @@
 -- Rows, their cells, and how an arriving row stands to what is kept.
-use Rattle.std.specs.Prelude.{Bool, false, ◌&&◌, nat_eq, nat_lt, List, ◌≡◌, Option}
+use Rattle.std.specs.Prelude.{Bool, true, false, ◌&&◌, nat_eq, nat_lt, List, ◌≡◌, Option}
 use Rattle.std.specs.Prelude.{Some, None, if◌then◌else◌, not, map, filter, slice_get}
 use Rattle.std.specs.List.{find, list_any}
 use Rattle.slice_method.specs.declared.Amount.{Amount}
-use Rattle.slice_method.specs.declared.Amount.TheVariants.{Counts, Value}
+use Rattle.slice_method.specs.declared.Amount.TheVariants.{Counts, Value, Withdrawn}
 use Rattle.slo_terms.specs.Rows.{current, first_of_each}
 use Rattle.cell_index.specs.Cells.{cell_eq}
 use Rattle.cell_index.specs.declared.Cell.{Cell}
@@ -33,6 +33,7 @@ kept_of rows row = find (same_cell row) rows
 abbrev pub same_amount : Amount → Amount → Bool
 same_amount (Counts part total) (Counts part' total') = nat_eq part part' && nat_eq total total'
 same_amount (Value value) (Value value') = nat_eq value value'
+same_amount Withdrawn Withdrawn = true
 same_amount _ _ = false
 
 -- what becomes of a row that arrives where this one is kept: the greater revision counts

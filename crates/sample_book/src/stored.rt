@@ -13,6 +13,7 @@ enum Parts {
     Events { part: u32, total: u32 },
     // As one number of billionths a value would make each row eight bytes longer.
     Measured { whole: u32, billionths: u32 },
+    Withdrawn,
 }
 
 /// An amount.
@@ -51,6 +52,7 @@ impl SmallAmount {
                 whole: (value.billionths() / WHOLE) as u32,
                 billionths: (value.billionths() % WHOLE) as u32,
             },
+            Amount::Withdrawn => Parts::Withdrawn,
         };
         SmallAmount { parts }
     }
@@ -64,6 +66,7 @@ impl SmallAmount {
             Parts::Measured { whole, billionths } => Amount::Value(Decimal::of_billionths(
                 u64::from(whole) * WHOLE + u64::from(billionths),
             )),
+            Parts::Withdrawn => Amount::Withdrawn,
         }
     }
 }

@@ -11,7 +11,8 @@ use Rattle.slice_method.specs.declared.amount.Reading.{Reading}
 use Rattle.slice_method.specs.declared.amount.Reading.TheVariants.{Good, Bad, Threshold, RawSuccess}
 use Rattle.slice_method.specs.declared.amount.Reading.TheVariants.{RawFailure}
 
--- The amount has the form of the reading: a part of a total, a value, or a share of at most 1.
+-- The amount has the form of the reading: a part of a total, a value, or a share of at most 1. A
+-- withdrawn amount has the form of every reading.
 abbrev pub HasForm : Reading → Amount → Type 0
 HasForm Good (amount.Counts part total) = part ≤ total
 HasForm Bad (amount.Counts part total) = part ≤ total
@@ -23,11 +24,13 @@ HasForm Bad (amount.Value measured) = ⊥
 HasForm Threshold (amount.Counts part total) = ⊥
 HasForm RawSuccess (amount.Counts part total) = ⊥
 HasForm RawFailure (amount.Counts part total) = ⊥
+HasForm _ amount.Withdrawn = Unit {0}
 
 -- at most 10^9 events: the limit of a row
 abbrev pub IsSmall : Amount → Type 0
 IsSmall (amount.Counts part total) = total ≤ WHOLE
 IsSmall (amount.Value measured) = Unit {0}
+IsSmall amount.Withdrawn = Unit {0}
 
 -- a part of a total, which is good or bad
 abbrev pub counts_of_events : Reading → ℕ → ℕ → Counts
@@ -43,7 +46,9 @@ counts_of_value RawSuccess op value measured = record { good = measured; total =
 counts_of_value RawFailure op value measured = record { good = WHOLE - measured; total = WHOLE }
 counts_of_value _ op value measured = record { good = 0; total = 0 }
 
--- the counts of an amount, by the reading and an objective's `op` and value
+-- the counts of an amount, by the reading and an objective's `op` and value; of a withdrawn one
+-- nothing
 abbrev pub counts : Reading → Op → ℕ → Amount → Counts
 counts reading op value (amount.Counts part total) = counts_of_events reading part total
 counts reading op value (amount.Value measured) = counts_of_value reading op value measured
+counts reading op value amount.Withdrawn = record { good = 0; total = 0 }

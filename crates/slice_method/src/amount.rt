@@ -31,4 +31,6 @@ pub enum Amount {
     Counts { part: u32, total: u32 },
     /// A measured value, or a share of all events.
     Value(Decimal),
+    /// Nothing: the source takes back what it said of the minute.
+    Withdrawn,
 }

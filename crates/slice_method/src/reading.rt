@@ -20,6 +20,7 @@ pub fn counts_of(reading: Reading, op: Op, value: Decimal, amount: Amount) -> Co
             counts_of_events(reading, u64::from(part), u64::from(total))
         }
         Amount::Value(measured) => counts_of_value(reading, op, value, measured),
+        Amount::Withdrawn => NOTHING,
     }
 }
 
