@@ -6,7 +6,7 @@ use Rattle.event_fields.specs.Events.{event_of}
 use Rattle.event_fields.specs.declared.Event.{Event}
 use Rattle.event_fields.specs.declared.EventFault.{EventFault}
 use Rattle.slice_method.specs.declared.Amount.{Amount}
-use Rattle.slice_method.specs.declared.Amount.TheVariants.{Counts, Value}
+use Rattle.slice_method.specs.declared.Amount.TheVariants.{Counts, Value, Withdrawn}
 use Rattle.sample_book.specs.declared.Row.{Row}
 use Rattle.sample_book.specs.declared.RowVerdict.{RowVerdict}
 use Rattle.sample_book.specs.declared.RowVerdict.TheVariants.{New, Newer, Repeated, Superseded}
@@ -86,6 +86,7 @@ is_superseded _ = false
 abbrev pub good_in : Amount → ℕ
 good_in (Counts good total) = good
 good_in (Value value) = 0
+good_in Withdrawn = 0
 
 abbrev pub good_of : Row → ℕ
 good_of row = good_in row.amount
@@ -93,6 +94,7 @@ good_of row = good_in row.amount
 abbrev pub total_in : Amount → ℕ
 total_in (Counts good total) = total
 total_in (Value value) = 0
+total_in Withdrawn = 0
 
 abbrev pub total_of : Row → ℕ
 total_of row = total_in row.amount

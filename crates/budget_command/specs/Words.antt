@@ -4,7 +4,7 @@ use Rattle.std.specs.Fmt.{decimal}
 use Rattle.exact_fraction.specs.DecimalText.{decimal_text}
 use Rattle.event_fields.specs.Events.{words_of_event}
 use Rattle.slice_method.specs.declared.Amount.{Amount}
-use Rattle.slice_method.specs.declared.Amount.TheVariants.{Counts, Value}
+use Rattle.slice_method.specs.declared.Amount.TheVariants.{Counts, Value, Withdrawn}
 use Rattle.budget_command.specs.declared.fault.RecordFault.{RecordFault}
 use Rattle.budget_command.specs.declared.fault.RecordFault.TheVariants as fault
 use Rattle.budget_command.specs.declared.fault.BudgetFault.{BudgetFault}
@@ -15,6 +15,7 @@ abbrev pub words_of_amount : Amount → List ℕ
 words_of_amount (Counts part total) =
     codes "conflict " ++ (decimal part ++ (codes "," ++ decimal total))
 words_of_amount (Value value) = codes "conflict " ++ decimal_text value
+words_of_amount Withdrawn = codes "conflict withdrawn"
 
 -- the words for what is wrong with a record
 abbrev pub words_of_record : RecordFault → List ℕ

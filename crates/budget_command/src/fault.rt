@@ -41,6 +41,7 @@ fn amount_words(alloc: Global, kept: Amount) -> Result<String, AllocError>
     match kept {
         Amount::Counts { part, total } => format!(in alloc; "conflict {part},{total}"),
         Amount::Value(value) => format!(in alloc; "conflict {value}"),
+        Amount::Withdrawn => String::from_str(alloc, "conflict withdrawn"),
     }
 }
 

@@ -54,5 +54,6 @@ pub fn events_of(row: &Row) -> Leaf
             den: u64::from(total),
         },
         Amount::Value(_) => Leaf { num: 0, den: 0 },
+        Amount::Withdrawn => Leaf { num: 0, den: 0 },
     }
 }

@@ -44,11 +44,19 @@ amount_fault RawSuccess (amounts.Value measured) number =
 amount_fault RawFailure (amounts.Value measured) number =
     when (nat_lt WHOLE measured) (refusals.Counts number)
 amount_fault Threshold (amounts.Value measured) number = None
+amount_fault _ amounts.Withdrawn number = None
 
--- what a row breaks by itself: its indicator isn't there, or its amount isn't read there
+-- no office takes withdrawn rows yet
+abbrev pub version_fault : Amount → ℕ → Option Refusal
+version_fault amounts.Withdrawn number = Some (refusals.Version number)
+version_fault _ number = None
+
+-- what a row breaks by itself: its indicator isn't there, the office doesn't take its amount, or
+-- its amount isn't read there
 abbrev pub form_fault : Option Reading → Row → ℕ → Option Refusal
 form_fault None row number = Some (refusals.UnknownSli row.sli number)
-form_fault (Some reading) row number = amount_fault reading row.amount number
+form_fault (Some reading) row number = first_some (
+    version_fault row.amount number ∷ amount_fault reading row.amount number ∷ [])
 
 abbrev pub conflict_fault : RowVerdict → ℕ → Option Refusal
 conflict_fault (Conflict kept) number = Some (refusals.RowConflict kept.amount kept.revision number)

@@ -9,7 +9,7 @@ use Rattle.std.specs.Int.{w16, w32, w64}
 use Rattle.exact_fraction.specs.Label.{is_label}
 use Rattle.exact_fraction.specs.ZoneName.{is_zone_name}
 use Rattle.slice_method.specs.declared.amount.Amount.{Amount}
-use Rattle.slice_method.specs.declared.amount.Amount.TheVariants.{Counts, Value}
+use Rattle.slice_method.specs.declared.amount.Amount.TheVariants.{Counts, Value, Withdrawn}
 use Rattle.sample_book.specs.declared.row.Row.{Row}
 use Rattle.sample_book.specs.declared.exclusions.Exclusion.{Exclusion}
 use Rattle.slo_limits.specs.declared.TheConstants.{MAX_BATCH_ROWS, MAX_DECIMAL, MAX_MINUTE}
@@ -153,19 +153,31 @@ amount_exact = record { again = again; only = only; front = front }
         → amount.read (amount.write x rest) ≡ Some (x, rest)
     again (Counts part total) rest h = rw (counts_exact.again (part, total) rest h) refl
     again (Value value) rest h = rw (billionths_exact.again value rest h) refl
+    again Withdrawn rest h = refl
 
     only : (bytes : List ℕ) (found : Amount × List ℕ) → IsBytes bytes
         → amount.read bytes ≡ Some found → Stands amount FitsAmount bytes found
     only [] found fits e = absurd cc
     only (form ∷ bytes) found fits e =
         elim (arm form 0 (reading_as (λ p. Counts p.0 p.1) counts bytes)
-        (cond (nat_eq form 1) (reading_as Value billionths bytes) None) found e) [
+        (cond (nat_eq form 1) (reading_as Value billionths bytes)
+        (cond (nat_eq form 2) (Some (Withdrawn, bytes)) None)) found e) [
           | inl h ↦ tagged amount FitsAmount 0 (λ p. Counts p.0 p.1) counts (λ p. (p.0 < 2 ^ 32)
               × (p.1 < 2 ^ 32)) counts_exact (λ p rest. refl) (λ p h. h) form bytes found fits h
-          | inr e ↦ elim (arm form 1 (reading_as Value billionths bytes) None found e) [
+          | inr e ↦ elim (arm form 1 (reading_as Value billionths bytes) _ found e) [
             | inl h ↦ tagged amount FitsAmount 1 Value billionths (λ n. n ≤ MAX_DECIMAL)
                 billionths_exact (λ n rest. refl) (λ n h. h) form bytes found fits h
-            | inr e ↦ absurd cc
+            | inr e ↦ elim (arm form 2 (Some (Withdrawn, bytes)) _ found e) [
+              | inl h ↦ subst (Stands amount FitsAmount (form ∷ bytes)) (some_is (
+                Withdrawn,
+                bytes,
+              ) found h.1) (record {
+                spelled = ap (λ (n : ℕ). n ∷ bytes) h.0;
+                fits = tt;
+                rest = IsBytes-rest form bytes fits;
+              })
+              | inr e ↦ absurd cc
+            ]
           ]
         ]
 
@@ -173,6 +185,7 @@ amount_exact = record { again = again; only = only; front = front }
     front (Counts part total) a b =
         ap (λ (bytes : List ℕ). 0 ∷ bytes) (counts_exact.front (part, total) a b)
     front (Value value) a b = ap (λ (bytes : List ℕ). 1 ∷ bytes) (billionths_exact.front value a b)
+    front Withdrawn a b = refl
 
 pub row_exact : IsExact row FitsRow
 unfolding row

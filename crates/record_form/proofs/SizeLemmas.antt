@@ -7,7 +7,7 @@ use Rattle.std.proofs.lemmas.Bool.Decides.{nat_tests}
 use Rattle.exact_fraction.specs.Label.{is_label}
 use Rattle.exact_fraction.specs.ZoneName.{is_zone_name}
 use Rattle.slice_method.specs.declared.amount.Amount.{Amount}
-use Rattle.slice_method.specs.declared.amount.Amount.TheVariants.{Counts, Value}
+use Rattle.slice_method.specs.declared.amount.Amount.TheVariants.{Counts, Value, Withdrawn}
 use Rattle.sample_book.specs.declared.row.Row.{Row}
 use Rattle.sample_book.specs.declared.exclusions.Exclusion.{Exclusion}
 use Rattle.object_terms.specs.declared.kind.Kind.{Kind}
@@ -58,10 +58,11 @@ unfolding text_within
 text_length most bytes rest = number_length 0 most (length bytes) (bytes ++ rest)
     ∙ ap (λ (n : ℕ). 4 + n) (length-append bytes rest)
 
-amount_length : (x : Amount) (rest : List ℕ) → length (amount.write x rest) ≡ 9 + length rest
+amount_length : (x : Amount) (rest : List ℕ) → length (amount.write x rest) ≤ 9 + length rest
 unfolding amount
-amount_length (Counts part total) rest = nine (length rest)
-amount_length (Value value) rest = nine (length rest)
+amount_length (Counts part total) rest = omega (arith, nine (length rest))
+amount_length (Value value) rest = omega (arith, nine (length rest))
+amount_length Withdrawn rest = omega arith
 
 kind_length : (k : Kind) (rest : List ℕ) → length (kind.write k rest) ≡ suc (length rest)
 unfolding kind

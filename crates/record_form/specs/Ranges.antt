@@ -5,7 +5,7 @@ use Rattle.std.specs.List.{AllByRecursion}
 use Rattle.exact_fraction.specs.Label.{is_label}
 use Rattle.exact_fraction.specs.ZoneName.{is_zone_name}
 use Rattle.slice_method.specs.declared.amount.Amount.{Amount}
-use Rattle.slice_method.specs.declared.amount.Amount.TheVariants.{Counts, Value}
+use Rattle.slice_method.specs.declared.amount.Amount.TheVariants.{Counts, Value, Withdrawn}
 use Rattle.sample_book.specs.declared.row.Row.{Row}
 use Rattle.sample_book.specs.declared.exclusions.Exclusion.{Exclusion}
 use Rattle.slo_limits.specs.declared.TheConstants.{MAX_BATCH_ROWS, MAX_DECIMAL, MAX_MINUTE}
@@ -53,6 +53,7 @@ pub record IsEntryInRange (e : Entry) : Type 0 where
 abbrev pub FitsAmount : Amount → Type 0
 FitsAmount (Counts part total) = (part < 2 ^ 32) × (total < 2 ^ 32)
 FitsAmount (Value value) = value ≤ MAX_DECIMAL
+FitsAmount Withdrawn = Unit {0}
 
 -- a row that has a record
 pub record FitsRow (r : Row) : Type 0 where

@@ -6,7 +6,7 @@ use Rattle.std.specs.Int.{w16, w32, w64}
 use Rattle.exact_fraction.specs.Label.{is_label}
 use Rattle.exact_fraction.specs.ZoneName.{is_zone_name}
 use Rattle.slice_method.specs.declared.amount.Amount.{Amount}
-use Rattle.slice_method.specs.declared.amount.Amount.TheVariants.{Counts, Value}
+use Rattle.slice_method.specs.declared.amount.Amount.TheVariants.{Counts, Value, Withdrawn}
 use Rattle.sample_book.specs.declared.row.Row.{Row}
 use Rattle.sample_book.specs.declared.exclusions.Exclusion.{Exclusion}
 use Rattle.slo_limits.specs.declared.TheConstants.{MAX_BATCH_ROWS, MAX_DECIMAL, MAX_MINUTE}
@@ -72,17 +72,19 @@ counts = number w32 then number w32
 abbrev pub billionths : Form ℕ
 billionths = passing (λ n. nat_le n MAX_DECIMAL) (number w64)
 
--- a form byte, and the amount in that form
+-- a form byte, and the amount in that form; nothing follows the byte of a withdrawn one
 abbrev pub amount_spelling : Amount → List ℕ → List ℕ
 amount_spelling (Counts part total) rest = 0 ∷ counts.write (part, total) rest
 amount_spelling (Value value) rest = 1 ∷ billionths.write value rest
+amount_spelling Withdrawn rest = 2 ∷ rest
 
 -- the amount behind a form byte
 abbrev pub amount_reading : ℕ → List ℕ → Option (Amount × List ℕ)
 amount_reading form bytes =
     cond (form == 0) (reading_as (λ p. Counts p.0 p.1) counts bytes)
     (cond (form == 1) (reading_as Value billionths bytes)
-    None)
+    (cond (form == 2) (Some (Withdrawn, bytes))
+    None))
 
 -- an amount
 unfoldable pub amount : Form Amount

@@ -110,6 +110,7 @@ impl<'a> Cursor<'a> {
                 }
                 Ok(Amount::Value(Decimal::of_billionths(billionths)))
             }
+            2 => Ok(Amount::Withdrawn),
             _ => Err(Unread::NoRecord),
         }
     }

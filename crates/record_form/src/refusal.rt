@@ -85,6 +85,10 @@ pub enum Refusal {
         name: Label,
         row: u32,
     },
+    /// A withdrawn row, and the office isn't upgraded.
+    Version {
+        row: u32,
+    },
     /// A row's amount isn't of the form that its SLI reads.
     WrongKind {
         row: u32,
@@ -173,6 +177,7 @@ impl Refusal {
             Refusal::ZoneDiffers { .. } => (409, "zone_differs"),
             Refusal::BadZone { .. } => (422, "bad_zone"),
             Refusal::UnknownSli { .. } => (422, "unknown_sli"),
+            Refusal::Version { .. } => (422, "version"),
             Refusal::WrongKind { .. } => (422, "wrong_kind"),
             Refusal::Counts { .. } => (422, "counts"),
             Refusal::Early { .. } => (422, "early"),

@@ -77,6 +77,10 @@ fn put_amount(out: &mut Vec<u8>, value: Amount) -> Result<(), AllocError>
             out.push(1)?;
             out.extend_from_slice(&value.billionths().to_be_bytes())
         }
+        Amount::Withdrawn => {
+            out.push(2)?;
+            Ok(())
+        }
     }
 }
 

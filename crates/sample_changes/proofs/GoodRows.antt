@@ -21,7 +21,7 @@ use Rattle.record_form.specs.declared.Refusal.TheVariants as refusals
 use Rattle.office_history.specs.Lists.{first_some}
 use Rattle.office_history.specs.Objectives.{reading_named}
 use Rattle.office_history.specs.Batches.{when, amount_fault, form_fault, conflict_fault, row_fault}
-use Rattle.office_history.specs.Batches.{rows_faults}
+use Rattle.office_history.specs.Batches.{rows_faults, version_fault}
 use Rattle.office_derived.specs.Derived.{RowIsRead}
 
 -- A row that breaks no rule of its own: it is read, and its minute is over and not
@@ -72,17 +72,38 @@ has_form RawFailure (amounts.Value measured) number h = record {
       share_form measured (no_fault (nat_lt WHOLE measured) (refusals.Counts number) h);
   small = tt;
 }
-
-is_read : (members : List Object) (row : Row) (o : Option Reading) (number : ℕ)
-    → reading_named members row.sli ≡ o → form_fault o row number ≡ None → RowIsRead members row
-is_read members row None number e h = cc h
-is_read members row (Some reading) number e h =
-    let f = has_form reading row.amount number h in (reading, e, f.form, f.small)
+has_form _ amounts.Withdrawn number h = record { form = tt; small = tt }
 
 pub first_parts : {A : Type 0} (x : Option A) (xs : List (Option A)) → first_some (x ∷ xs) ≡ None
     → (x ≡ None) × (first_some xs ≡ None)
 first_parts None xs h = (refl, h)
 first_parts (Some a) xs h = cc h
+
+-- the office takes the amount, in whatever place of a batch
+abbrev pub IsTaken : Amount → Type 0
+IsTaken amount = (number : ℕ) → version_fault amount number ≡ None
+
+is_taken : (amount : Amount) (number : ℕ) → version_fault amount number ≡ None → IsTaken amount
+is_taken (amounts.Counts part total) number h = λ n. refl
+is_taken (amounts.Value measured) number h = λ n. refl
+is_taken amounts.Withdrawn number h = cc h
+
+-- a row that breaks no rule of form
+record IsFormed (members : List Object) (row : Row) : Type 0 where
+  read : RowIsRead members row
+  taken : IsTaken row.amount
+
+is_formed : (members : List Object) (row : Row) (o : Option Reading) (number : ℕ)
+    → reading_named members row.sli ≡ o → form_fault o row number ≡ None → IsFormed members row
+is_formed members row None number e h = cc h
+is_formed members row (Some reading) number e h =
+    let amount = amount_fault reading row.amount number in
+    let a = first_parts (version_fault row.amount number) (amount ∷ []) h in
+    let f = has_form reading row.amount number (first_parts amount [] a.1).0 in
+    record {
+      read = (reading, e, f.form, f.small);
+      taken = is_taken row.amount number a.0;
+    }
 
 no_conflict : (v : RowVerdict) (number : ℕ) → conflict_fault v number ≡ None → is_conflict v ≡ false
 no_conflict New number h = refl
@@ -96,6 +117,7 @@ pub record IsClean (origin moment : ℕ) (members : List Object) (row : Row)
     (v : RowVerdict) : Type 0 where
   pub good : IsGood origin moment members row
   pub agrees : is_conflict v ≡ false
+  pub taken : IsTaken row.amount
 
 pub clean_row : (origin moment : ℕ) (members : List Object)
     (row : Row) (v : RowVerdict) (number : ℕ) → row_fault origin moment members row v number ≡ None
@@ -109,15 +131,17 @@ clean_row origin moment members row v number h =
     let b = first_parts early (open_minute ∷ conflict_fault v number ∷ []) a.1 in
     let c = first_parts open_minute (conflict_fault v number ∷ []) b.1 in
     let d = first_parts (conflict_fault v number) [] c.1 in
+    let formed = is_formed members row (reading_named members row.sli) number refl a.0 in
     record {
       good = record {
-        read = is_read members row (reading_named members row.sli) number refl a.0;
+        read = formed.read;
         begun = begun row.minute origin
             (no_fault (nat_lt row.minute origin) (refusals.Early row.minute origin number) b.0);
         over = over moment row.minute (no_fault (nat_le moment row.minute)
             (refusals.OpenMinute row.minute moment number) c.0);
       };
       agrees = no_conflict v number d.0;
+      taken = formed.taken;
     }
   where
     begun : (m n : ℕ) → nat_lt m n ≡ false → n ≤ m

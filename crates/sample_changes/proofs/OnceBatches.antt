@@ -44,7 +44,7 @@ use Rattle.office_history.specs.Verdicts.{accepted, samples_verdict, unless_refu
 use Rattle.office_derived.specs.Derived.{RowIsRead}
 use Rattle.office_derived.proofs.More.{present_more, rows_more}
 use Rattle.sample_changes.specs.Once.{BatchActsOnce}
-use Rattle.sample_changes.proofs.GoodRows.{clean_row, first_parts}
+use Rattle.sample_changes.proofs.GoodRows.{IsTaken, clean_row, first_parts}
 use Rattle.sample_changes.proofs.Judged.{accepted_keeps}
 use Rattle.sample_changes.proofs.Tallies.{accepted-more, verdicts_each}
 
@@ -81,16 +81,17 @@ batch-settled origin m members came number (row ∷ rows) h =
       rest,
     )
 
--- a row's minute is over, and not before the origin
+-- a row's minute is over, and not before the origin, and the office takes its amount
 record IsOver (origin m : ℕ) (row : Row) : Type 0 where
   begun : origin ≤ row.minute
   over : row.minute < m
+  taken : IsTaken row.amount
 
 over_later : (origin m m' : ℕ) (rows : List Row) → m ≤ m' → AllByRecursion (IsOver origin m) rows
     → AllByRecursion (IsOver origin m') rows
 over_later origin m m' [] l h = tt
 over_later origin m m' (row ∷ rows) l h = (
-  record { begun = h.0.begun; over = omega (arith, h.0.over, l) },
+  record { begun = h.0.begun; over = omega (arith, h.0.over, l); taken = h.0.taken },
   over_later origin m m' rows l h.1,
 )
 
@@ -104,7 +105,7 @@ batch-over origin m members number (row ∷ rows) (v ∷ vs) each h =
     let parts = first_parts (row_fault origin m members row v number)
     (rows_faults origin m members (number + 1) rows vs) h in
     let clean = clean_row origin m members row v number parts.0 in (
-      record { begun = clean.good.begun; over = clean.good.over },
+      record { begun = clean.good.begun; over = clean.good.over; taken = clean.taken },
       batch-over origin m members (number + 1) rows vs (omega (arith, each)) parts.1,
     )
 
@@ -281,6 +282,7 @@ no_form_fault RawSuccess (amounts.Value measured) number form small =
     ap (λ b. when b (refusals.Counts number)) (le-ltb WHOLE measured form)
 no_form_fault RawFailure (amounts.Value measured) number form small =
     ap (λ b. when b (refusals.Counts number)) (le-ltb WHOLE measured form)
+no_form_fault _ amounts.Withdrawn number form small = refl
 
 no_row_fault : (origin m : ℕ) (members : List Object) (row : Row) (v : RowVerdict) (number : ℕ)
     → RowIsRead members row → IsOver origin m row → is_settled v ≡ true
@@ -295,7 +297,8 @@ no_row_fault origin m members row v number read over settled =
   where
     form : form_fault (reading_named members row.sli) row number ≡ None
     form = ap (λ reading. form_fault reading row number) read.1
-        ∙ no_form_fault read.0 row.amount number read.2 read.3
+        ∙ (λ i. first_some (over.taken number i
+        ∷ no_form_fault read.0 row.amount number read.2 read.3 i ∷ []))
 
     early : (a b : ℕ) → b ≤ a → nat_lt a b ≡ false
     early a b h = grind (arith, nat_tests, h)

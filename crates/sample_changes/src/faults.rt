@@ -9,6 +9,7 @@ ghost use Rattle.office_history.specs.Batches.{amount_fault as amount_fault_def}
 ghost use Rattle.office_history.specs.Batches.{conflict_fault as conflict_fault_def};
 ghost use Rattle.office_history.specs.Batches.{form_fault as form_fault_def};
 ghost use Rattle.office_history.specs.Batches.{row_fault as row_fault_def, rows_faults, when};
+ghost use Rattle.office_history.specs.Batches.{version_fault as version_fault_def};
 
 use catalog_measures::reading_named;
 use exact_fraction::Decimal;
@@ -71,6 +72,17 @@ fn amount_fault(reading: Reading, amount: Amount, number: u32) -> Option<Refusal
     match amount {
         Amount::Counts { part, total } => part_fault(reading, part, total, number),
         Amount::Value(value) => value_fault(reading, value, number),
+        Amount::Withdrawn => None,
+    }
+}
+
+/// Whether the office takes a row's amount.
+fn version_fault(amount: Amount, number: u32) -> Option<Refusal>
+    ensures { result ≡ version_fault_def amount number }
+{
+    match amount {
+        Amount::Withdrawn => Some(Refusal::Version { row: number }),
+        Amount::Counts { .. } | Amount::Value(_) => None,
     }
 }
 
@@ -79,7 +91,10 @@ fn form_fault(catalog: &Catalog, row: &Row, number: u32) -> Option<Refusal>
     ensures { result ≡ form_fault_def (reading_named_def catalog.now row.now.sli) row.now number }
 {
     match reading_named(catalog, row.sli) {
-        Some(reading) => amount_fault(reading, row.amount, number),
+        Some(reading) => match version_fault(row.amount, number) {
+            Some(fault) => Some(fault),
+            None => amount_fault(reading, row.amount, number),
+        },
         None => Some(Refusal::UnknownSli {
             name: row.sli,
             row: number,

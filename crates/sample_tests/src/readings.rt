@@ -76,6 +76,16 @@ fn amounts_count_by_their_reading(rt: HostRuntime) {
         counts_of(Reading::RawFailure, Op::Lte, half, value(250_000_000)),
         rest
     );
+    for reading in [
+        Reading::Good,
+        Reading::Bad,
+        Reading::Threshold,
+        Reading::RawSuccess,
+        Reading::RawFailure,
+    ] {
+        let withdrawn = counts_of(reading, Op::Lte, half, Amount::Withdrawn);
+        assert_eq!(rt; withdrawn, counts(0, 0));
+    }
 }
 
 #[test]

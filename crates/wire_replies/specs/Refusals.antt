@@ -6,15 +6,16 @@ use Rattle.record_form.specs.Words.{limit_word, reply_of, yaml_word}
 use Rattle.record_form.specs.declared.refusal.Refusal.{Refusal}
 use Rattle.record_form.specs.declared.refusal.Refusal.TheVariants as refusals
 use Rattle.slice_method.specs.declared.amount.Amount.{Amount}
-use Rattle.slice_method.specs.declared.amount.Amount.TheVariants.{Counts, Value}
+use Rattle.slice_method.specs.declared.amount.Amount.TheVariants.{Counts, Value, Withdrawn}
 use Rattle.object_terms.specs.Rules.{rule_word}
 use Rattle.object_terms.specs.Scalars.{kind_word}
 use Rattle.wire_replies.specs.Answers.{error_data, object_of, whole}
 
--- an amount as it is told: "9990,10000", or a decimal
+-- an amount as it is told: "9990,10000", or a decimal, or "withdrawn"
 abbrev pub amount_text : Amount → List ℕ
 amount_text (Counts part total) = decimal part ++ (codes "," ++ decimal total)
 amount_text (Value value) = decimal_text value
+amount_text Withdrawn = codes "withdrawn"
 
 -- {"error":"limit","which":"rows"}
 abbrev pub limit_data : List ℕ → List ℕ → Data
@@ -151,6 +152,7 @@ refusal_body error (refusals.InUse by_kind by_name) = in_use_data (kind_word by_
 refusal_body error (refusals.ZoneDiffers name) = name_data error name
 refusal_body error (refusals.BadZone name) = name_data error name
 refusal_body error (refusals.UnknownSli name row) = unknown_sli_data error name row
+refusal_body error (refusals.Version row) = row_data error row
 refusal_body error (refusals.WrongKind row) = row_data error row
 refusal_body error (refusals.Counts row) = row_data error row
 refusal_body error (refusals.Early minute origin row) = early_data error minute origin row

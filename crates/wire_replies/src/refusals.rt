@@ -22,6 +22,7 @@ fn amount_text(alloc: Global, amount: Amount) -> Result<String, AllocError>
     match amount {
         Amount::Counts { part, total } => format!(in alloc; "{part},{total}"),
         Amount::Value(value) => format!(in alloc; "{value}"),
+        Amount::Withdrawn => String::from_str(alloc, "withdrawn"),
     }
 }
 
@@ -231,6 +232,7 @@ pub(crate) fn refusal_value(alloc: Global, refusal: &Refusal) -> Result<Value, A
         Refusal::ZoneDiffers { name: zone } => name(alloc, error, zone.as_str()),
         Refusal::BadZone { name: zone } => name(alloc, error, zone.as_str()),
         Refusal::UnknownSli { name, row } => unknown_sli(alloc, error, name.as_str(), *row),
+        Refusal::Version { row } => row_value(alloc, error, *row),
         Refusal::WrongKind { row } => row_value(alloc, error, *row),
         Refusal::Counts { row } => row_value(alloc, error, *row),
         Refusal::Early {

@@ -9,14 +9,19 @@ use Rattle.exact_fraction.specs.Digits.{number_within}
 use Rattle.exact_fraction.specs.Label.{label_of}
 use Rattle.sample_book.specs.declared.row.Row.{Row}
 use Rattle.slice_method.specs.declared.amount.Amount.{Amount}
-use Rattle.slice_method.specs.declared.amount.Amount.TheVariants.{Counts, Value}
+use Rattle.slice_method.specs.declared.amount.Amount.TheVariants.{Counts, Value, Withdrawn}
 use Rattle.slo_limits.specs.declared.TheConstants.{MAX_MINUTE, MAX_REVISION}
 use Rattle.wire_routes.specs.Cuts.{number32}
 
--- where the total is empty the amount is a decimal; else both are digits
+-- an amount without a total is a decimal; where it is empty too, the row is withdrawn
+abbrev pub amount_alone : List ℕ → Option Amount
+amount_alone amount =
+    cond (length amount == 0) (Some Withdrawn) (option_map (λ n. Value n) (decimal_of amount))
+
+-- where there is a total, both are digits
 abbrev pub amount_of : List ℕ → List ℕ → Option Amount
 amount_of amount total =
-    cond (length total == 0) (option_map (λ n. Value n) (decimal_of amount))
+    cond (length total == 0) (amount_alone amount)
     (option_and_then (λ p. option_map (λ t. Counts p t) (number32 total)) (number32 amount))
 
 -- revisions are counted from 1

@@ -1,7 +1,8 @@
 //! The body of samples.
 ghost use Rattle.std.specs.Prelude.{◌≡◌, ◌<◌, ◌^◌, ℕ, length, Ok, Err, IfOk};
 ghost use Rattle.wire_routes.specs.RowByRow.{Adds};
-ghost use Rattle.wire_routes.specs.Samples.{amount_of, revision_of, row_of, samples_of};
+ghost use Rattle.wire_routes.specs.Samples.{amount_alone, amount_of, revision_of, row_of};
+ghost use Rattle.wire_routes.specs.Samples.{samples_of};
 
 use crate::cuts::read_number32;
 use csv_records::{Record, RecordReader};
@@ -31,14 +32,24 @@ impl From<AllocError> for SampleFault {
     }
 }
 
+// An amount without a total; none at all where the row is withdrawn.
+fn read_amount_alone(amount: &[u8]) -> Option<Amount>
+    ensures { result ≡ amount_alone amount.now }
+{
+    if amount.is_empty() {
+        return Some(Amount::Withdrawn);
+    }
+    match read_decimal(amount) {
+        Ok(value) => Some(Amount::Value(value)),
+        Err(_) => None,
+    }
+}
+
 fn read_amount(amount: &[u8], total: &[u8]) -> Option<Amount>
     ensures { result ≡ amount_of amount.now total.now }
 {
     if total.is_empty() {
-        match read_decimal(amount) {
-            Ok(value) => Some(Amount::Value(value)),
-            Err(_) => None,
-        }
+        read_amount_alone(amount)
     } else {
         let part = read_number32(amount)?;
         let total = read_number32(total)?;

@@ -269,12 +269,14 @@ const REFUSALS: &str = r#"507 {"error":"limit","which":"rows"}
 409 {"error":"zone_differs","name":"Europe/Rome"}
 422 {"error":"bad_zone","name":"Europe/Rome"}
 422 {"error":"unknown_sli","name":"nope","row":1}
+422 {"error":"version","row":3}
 422 {"error":"wrong_kind","row":1}
 422 {"error":"counts","row":2}
 422 {"error":"early","minute":9,"origin":10,"row":1}
 422 {"error":"open_minute","minute":1000,"moment":1000,"row":1}
 409 {"amount":"9990,10000","error":"conflict","revision":1,"row":2}
 409 {"amount":"0.5","error":"conflict","revision":3,"row":4}
+409 {"amount":"withdrawn","error":"conflict","revision":2,"row":1}
 409 {"error":"withdrawn","id":"m1"}
 409 {"error":"conflict","from":100,"slo":"shop-slo","to":101}
 422 {"error":"range"}
@@ -368,6 +370,7 @@ fn of_rows(alloc: Global) -> Result<Vec<Refusal>, Fail> {
             name: label("nope")?,
             row: 1
         },
+        Refusal::Version { row: 3 },
         Refusal::WrongKind { row: 1 },
         Refusal::Counts { row: 2 },
         Refusal::Early {
@@ -389,6 +392,11 @@ fn of_rows(alloc: Global) -> Result<Vec<Refusal>, Fail> {
             amount: half,
             revision: 3,
             row: 4
+        },
+        Refusal::RowConflict {
+            amount: Amount::Withdrawn,
+            revision: 2,
+            row: 1
         },
     ]?)
 }

@@ -13,9 +13,10 @@ const REMOVE: &[u8] = b"\x00\x00\x01\xf4\x02\x03\x08shop-slo";
 
 const PUT_ZONE: &[u8] = b"\x00\x00\x01\xf4\x03\x0dEurope/Berlin\x00\x00\x00\x05CET-1";
 
-const SAMPLES: &[u8] = b"\x00\x00\x01\xf4\x04\x00\x02\
+const SAMPLES: &[u8] = b"\x00\x00\x01\xf4\x04\x00\x03\
     \x09shop-good\x03web\x00\x00\x00\x64\x00\x00\x00\x01\x00\x00\x00\x27\x06\x00\x00\x27\x10\
-    \x09shop-good\x03web\x00\x00\x00\x65\x3b\x9a\xca\x00\x01\x00\x00\x00\x00\x1d\xcd\x65\x00";
+    \x09shop-good\x03web\x00\x00\x00\x65\x3b\x9a\xca\x00\x01\x00\x00\x00\x00\x1d\xcd\x65\x00\
+    \x09shop-good\x03web\x00\x00\x00\x66\x00\x00\x00\x02\x02";
 
 const EXCLUDE: &[u8] = b"\x00\x00\x01\xf4\x05\x05night\x08shop-slo\x00\x00\x03\x84\x00\x00\x03\xe8";
 
@@ -26,7 +27,7 @@ const TICK: &[u8] = b"\x00\x00\x01\xf4\x07";
 const TAKE: &[u8] = b"\x00\x00\x01\xf4\x08\x00\x00\x00\x03";
 
 /// Bytes that are no record, by the form that they break.
-const NO_RECORDS: [&[u8]; 24] = [
+const NO_RECORDS: [&[u8]; 25] = [
     // Cut short, one byte more, no kind, a kind that isn't there.
     b"",
     b"\x00\x00\x01",
@@ -49,14 +50,16 @@ const NO_RECORDS: [&[u8]; 24] = [
     // Samples: a count of one more than there are, and of 1,001.
     b"\x00\x00\x01\xf4\x04\x00\x01",
     b"\x00\x00\x01\xf4\x04\x03\xe9",
-    // A row with the revision 0, one of 10^9 + 1, a minute of 67,108,864, and a third form of
-    // amounts.
+    // A row with the revision 0, one of 10^9 + 1, a minute of 67,108,864, a fourth form of
+    // amounts, and a withdrawn one with bytes behind it.
     b"\x00\x00\x01\xf4\x04\x00\x01\
         \x01a\x01b\x00\x00\x00\x64\x00\x00\x00\x00\x00\x00\x00\x00\x01\x00\x00\x00\x01",
     b"\x00\x00\x01\xf4\x04\x00\x01\
         \x01a\x01b\x00\x00\x00\x64\x3b\x9a\xca\x01\x00\x00\x00\x00\x01\x00\x00\x00\x01",
     b"\x00\x00\x01\xf4\x04\x00\x01\
         \x01a\x01b\x04\x00\x00\x00\x00\x00\x00\x01\x00\x00\x00\x00\x01\x00\x00\x00\x01",
+    b"\x00\x00\x01\xf4\x04\x00\x01\
+        \x01a\x01b\x00\x00\x00\x64\x00\x00\x00\x01\x03",
     b"\x00\x00\x01\xf4\x04\x00\x01\
         \x01a\x01b\x00\x00\x00\x64\x00\x00\x00\x01\x02\x00\x00\x00\x01\x00\x00\x00\x01",
     // A value of 10^18 + 1 billionths.
@@ -102,17 +105,20 @@ fn spelled(command: &Command) -> (bool, u8) {
 
 fn are_the_samples(rows: &[Row]) -> bool {
     match rows {
-        [first, second] => {
+        [first, second, third] => {
             is_of_the_shop(first)
                 && is_of_the_shop(second)
+                && is_of_the_shop(third)
                 && (first.minute, first.revision) == (100, 1)
                 && (second.minute, second.revision) == (101, 1_000_000_000)
+                && (third.minute, third.revision) == (102, 2)
                 && first.amount
                     == Amount::Counts {
                         part: 9990,
                         total: 10_000,
                     }
                 && second.amount == Amount::Value(Decimal::of_billionths(500_000_000))
+                && third.amount == Amount::Withdrawn
         }
         _ => false,
     }

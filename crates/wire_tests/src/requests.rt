@@ -108,7 +108,12 @@ a,b,1,1,4294967296,1 ~ Record(1)
 a,b,1,1,1,4294967296 ~ Record(1)
 a,b,1,1,1000000000, ~ samples a b 1 1 1000000000000000000
 a,b,1,1,1000000000.1, ~ Record(1)
-a,b,1,1,, ~ Record(1)
+a,b,1,2,,;\"a\",\"b\",1,3,\"\",\"\" ~ samples a b 1 2 withdrawn a b 1 3 withdrawn
+a,b,1,1,,1 ~ Record(1)
+a,b,1,1, , ~ Record(1)
+a,b,1,1,,  ~ Record(1)
+a,b,1,1, ~ Record(1)
+a,b,1,1,,, ~ Record(1)
 a,b,1,1,0.5,1 ~ Record(1)
 a,b,1,1,1 ~ Record(1)
 a,b,1,1,1,1,1 ~ Record(1)
@@ -140,7 +145,7 @@ fn text_of(bytes: &Bytes) -> &str {
     str::from_utf8(bytes.as_bytes()).unwrap_or("no text")
 }
 
-// The part and the total of an amount, or the billionths of its value.
+// The part and the total of an amount, the billionths of its value, or that it is withdrawn.
 fn amount_text(alloc: Global, amount: Amount) -> Result<String, AllocError> {
     match amount {
         Amount::Counts { part, total } => format!(in alloc; "{part}/{total}"),
@@ -148,6 +153,7 @@ fn amount_text(alloc: Global, amount: Amount) -> Result<String, AllocError> {
             let billionths = value.billionths();
             format!(in alloc; "{billionths}")
         }
+        Amount::Withdrawn => String::from_str(alloc, "withdrawn"),
     }
 }
 
