@@ -1,5 +1,6 @@
 -- What is kept after a definition, a removal and a zone.
-use Rattle.std.proofs.Common.{◌≡◌, ℕ, ◌+◌, ◌<◌, ◌≤◌, ◌^◌, Bool, true, false, cond, nat_lt, List, []}
+use Rattle.std.proofs.Common.{◌≡◌, ℕ, ◌+◌, ◌<◌, ◌≤◌, ◌^◌, ◌||◌, Bool, true, false, cond, nat_lt}
+use Rattle.std.proofs.Common.{List, []}
 use Rattle.std.proofs.Common.{◌∷◌, ◌++◌, Option, Some, None, Result, Ok, Err, IfOk, length, map}
 use Rattle.std.proofs.Common.{fold, bytes_eq, refl, sym, ap, ◌∙◌, subst, append-nil, arith}
 use Rattle.std.specs.List.{All}
@@ -40,6 +41,7 @@ use Rattle.office_history.specs.Judges.{known_of}
 use Rattle.office_history.specs.Verdicts.{unless_refused, accepted, unless_removal, unless_sampled}
 use Rattle.office_history.specs.Verdicts.{first_row_of, remove_verdict, zone_verdict_beside}
 use Rattle.office_history.specs.Verdicts.{zone_verdict, new_zone_fault}
+use Rattle.office_history.specs.Versions.{is_upgrade}
 use Rattle.office_history.specs.Zones.{zones_of, zones_in, bytes_named, utc}
 use Rattle.office_history.specs.Lists.{first_some}
 use Rattle.office_derived.specs.declared.Derived.{Derived}
@@ -55,6 +57,7 @@ use Rattle.kept_sums.specs.Plans.{IsPlan}
 use Rattle.office_derived.specs.Derived.{HasPlan, RowIsRead, IsPlaced, IsSound, Reflects, IsNext}
 use Rattle.office_derived.specs.Derived.{IsFound, IsJudged, command_of, entry_of}
 use Rattle.office_derived.proofs.More.{catalog_more}
+use Rattle.office_derived.proofs.Sound.{within_cells, within_rows}
 use Rattle.office_derived.proofs.Still.{IsStill, reflects_still}
 use Rattle.catalog_changes.specs.Judging.{known_by, IsJudgedBy, IsPlanOver, IsTextWork, IsRemoval}
 use Rattle.catalog_changes.specs.Judging.{IsZoneWork}
@@ -120,6 +123,7 @@ text_found d o moment text r (works.Exclude value) h = absurd h
 text_found d o moment text r (works.Lift id) h = absurd h
 text_found d o moment text r (works.Tick states told) h = absurd h
 text_found d o moment text r (works.Take number) h = absurd h
+text_found d o moment text r works.Upgrade h = absurd h
 
 pub removal_over : (d : Derived) (o : Office) (moment : ℕ) (kind : Kind) (name : List ℕ) →
     Reflects d o → (j : Judgement) →
@@ -146,6 +150,7 @@ removal_found d o moment kind name r (works.Exclude value) h = absurd h
 removal_found d o moment kind name r (works.Lift id) h = absurd h
 removal_found d o moment kind name r (works.Tick states told) h = absurd h
 removal_found d o moment kind name r (works.Take number) h = absurd h
+removal_found d o moment kind name r works.Upgrade h = absurd h
 
 pub zone_over : (d : Derived) (o : Office) (moment : ℕ) (name bytes : List ℕ) → Reflects d o →
     (j : Judgement) →
@@ -163,6 +168,7 @@ zone_found o moment name bytes (works.Exclude value) h = absurd h
 zone_found o moment name bytes (works.Lift id) h = absurd h
 zone_found o moment name bytes (works.Tick states told) h = absurd h
 zone_found o moment name bytes (works.Take number) h = absurd h
+zone_found o moment name bytes works.Upgrade h = absurd h
 
 -- what a text that is defined comes to
 pub text_judged : (known : Known) (entries : ℕ) (text : List ℕ) (made : Answered) (j : Judgement)
@@ -266,14 +272,17 @@ accepted_zone zones entries name bytes e =
 -- of the objectives
 pub sound_with : (d d' : Derived) → IsSound d → d.entries < most.MAX_ENTRIES →
     d'.origin ≡ d.origin → d'.entries ≡ d.entries + 1 → d'.book.rows ≡ d.book.rows →
-    d'.accepted ≡ d.accepted → d'.notices.made ≡ d.notices.made →
+    d'.accepted ≡ d.accepted → d'.upgraded ≡ d.upgraded → d'.notices.made ≡ d.notices.made →
     All (RowIsRead d'.catalog) d.book.rows →
     KeepsSums d'.catalog d'.book.exclusions d'.book.rows d'.sums.kept → IsSound d'
-sound_with d d' s few origin entries rows puts notices read sums = record {
+sound_with d d' s few origin entries rows puts upgraded notices read sums = record {
   origin = subst (λ n. n ≤ most.MAX_MINUTE) (sym origin) s.origin;
   entries = omega (arith, entries, few);
-  cells = subst (λ (rs : List Row). length rs ≤ most.MAX_CELLS) (sym rows) s.cells;
-  accepted = subst (λ n. n ≤ most.MAX_ACCEPTED_ROWS) (sym puts) s.accepted;
+  cells = within_cells d.upgraded d'.upgraded (length d.book.rows) (length d'.book.rows)
+      (sym upgraded) (ap length rows) s.cells;
+  summed = omega (arith, ap length rows, s.summed);
+  accepted = within_rows d.upgraded d'.upgraded d.accepted d'.accepted (sym upgraded) puts
+      s.accepted;
   few_waiting =
       subst (λ (made : List (Notice × Bool)). waiting made ≤ most.MAX_NOTICES) (sym notices)
       s.few_waiting;
@@ -291,14 +300,15 @@ sound_with d d' s few origin entries rows puts notices read sums = record {
 unsampled : (d d' : Derived) (o : Office) (m : ℕ) (w : Work) → Reflects d o → present o ≤ m →
     IsStill (command_of w) → arrivals_of (command_of w) ≡ [] → rows_of (command_of w) ≡ [] →
     d'.origin ≡ d.origin → d'.entries ≡ d.entries + 1 → d'.present ≡ m →
+    d'.upgraded ≡ (is_upgrade (command_of w) || d.upgraded) →
     d'.notices.made ≡ d.notices.made → d'.states.items ≡ d.states.items →
     d'.catalog ≡ fold members_after d.catalog (definitions_of (command_of w)) →
     d'.zones.kept ≡ d.zones.kept ++ zones_of (command_of w) →
     d'.book.rows ≡ d.book.rows → d'.book.exclusions ≡ d.book.exclusions → d'.accepted ≡ d.accepted →
     Reflects d' (with_entry o (entry_of m w))
-unsampled d d' o m w r later still no_events no_rows origin entries now notices states catalog zones
-    rows exclusions puts =
-    reflects_still d d' o m w r later still origin entries now notices states catalog zones
+unsampled d d' o m w r later still no_events no_rows origin entries now upgraded notices states
+    catalog zones rows exclusions puts =
+    reflects_still d d' o m w r later still origin entries now upgraded notices states catalog zones
     (subst (λ (p : List book.Arrival × List Row × List (Exclusion × Bool)). book.Holds p.0 p.1 p.2)
     (λ i. (
       (sym (append-nil (arrivals_in o.history)) ∙ ap (λ es. arrivals_in o.history ++ es)
@@ -325,7 +335,7 @@ pub define_reflects : (d : Derived) (o : Office) (m : ℕ) (text : List ℕ) (ca
 define_reflects d o m text catalog applied plan sums n =
     unsampled d (with_catalog d m catalog sums) o m (works.Define text catalog applied plan)
     n.reflects n.later (record { no_tick = refl; no_taking = λ number. refl }) refl refl
-    refl refl refl refl refl
+    refl refl refl refl refl refl
     (n.found.0 ∙ catalog_more o.history (entry_of m (works.Define text catalog applied plan))
     ∙ ap (λ ms. fold members_after ms (definitions_of (Define text))) (sym n.reflects.catalog))
     (no_zones d) refl refl refl
@@ -365,7 +375,7 @@ define_sound law d o m text catalog applied plan sums s n keeps =
     (define_read d.catalog d.book.rows (text_objects text) s.read
     (kinds_of_text law (known_of o) text a.made a.is) anew) in
     sound_with d (with_catalog d m catalog sums) s
-    (let few = a.fits in omega (arith, few, r.entries)) refl refl refl refl refl read
+    (let few = a.fits in omega (arith, few, r.entries)) refl refl refl refl refl refl read
     (keeps (plan_here d o r catalog plan n.found.2))
 
 pub remove_reflects : (d : Derived) (o : Office) (m : ℕ) (kind : Kind) (name : List ℕ)
@@ -376,7 +386,7 @@ pub remove_reflects : (d : Derived) (o : Office) (m : ℕ) (kind : Kind) (name :
 remove_reflects d o m kind name catalog plan sums n =
     unsampled d (with_catalog d m catalog sums) o m (works.Remove kind name catalog plan)
     n.reflects n.later (record { no_tick = refl; no_taking = λ number. refl }) refl refl
-    refl refl refl refl refl
+    refl refl refl refl refl refl
     (n.found.0 ∙ catalog_more o.history (entry_of m (works.Remove kind name catalog plan))
     ∙ ap (λ ms. fold members_after ms (definitions_of (Remove kind name))) (sym n.reflects.catalog))
     (no_zones d) refl refl refl
@@ -436,7 +446,7 @@ remove_sound d o m kind name catalog plan sums s n keeps =
     subst (λ (members : List Object). All (RowIsRead members) d.book.rows) (sym is)
     (removal_read d kind name s none) in
     sound_with d (with_catalog d m catalog sums) s
-    (let few = a.fits in omega (arith, few, r.entries)) refl refl refl refl refl read
+    (let few = a.fits in omega (arith, few, r.entries)) refl refl refl refl refl refl read
     (keeps (plan_here d o r catalog plan n.found.1))
 
 -- what is kept with one entry more, and with these zones
@@ -450,7 +460,7 @@ pub zone_reflects : (d : Derived) (o : Office) (m : ℕ) (name bytes : List ℕ)
 zone_reflects d o m name bytes zone zones n kept =
     unsampled d (with_zones d m zones) o m (works.PutZone name bytes zone) n.reflects n.later
     (record { no_tick = refl; no_taking = λ number. refl }) refl refl
-    refl refl refl refl refl refl kept refl refl refl
+    refl refl refl refl refl refl refl kept refl refl refl
 
 pub zone_sound : (d : Derived) (o : Office) (m : ℕ) (name bytes : List ℕ)
     (zone : ZoneText) (zones : KeptZones) → IsSound d → IsNext d o m (works.PutZone name bytes zone)
@@ -458,4 +468,4 @@ pub zone_sound : (d : Derived) (o : Office) (m : ℕ) (name bytes : List ℕ)
 zone_sound d o m name bytes zone zones s n =
     let few = accepted_zone (zones_in o.history) (length o.history) name bytes n.accepted in
     sound_with d (with_zones d m zones) s (omega (arith, few, n.reflects.entries)) refl refl refl
-    refl refl s.read s.sums
+    refl refl refl s.read s.sums

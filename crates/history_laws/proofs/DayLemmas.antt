@@ -18,7 +18,7 @@ use Rattle.catalog_terms.specs.Catalog.{with_members, without}
 use Rattle.catalog_terms.specs.Keys.{is_key}
 use Rattle.record_form.specs.declared.Command.{Command}
 use Rattle.record_form.specs.declared.Command.TheVariants.{Define, Remove, PutZone, Samples}
-use Rattle.record_form.specs.declared.Command.TheVariants.{Exclude, Lift, Tick, Take}
+use Rattle.record_form.specs.declared.Command.TheVariants.{Exclude, Lift, Tick, Take, Upgrade}
 use Rattle.record_form.specs.declared.Entry.{Entry}
 use Rattle.record_form.specs.declared.LimitName.TheVariants as limits
 use Rattle.record_form.specs.declared.Outcome.TheVariants.{Defined}
@@ -35,6 +35,7 @@ use Rattle.office_history.specs.Judges.{Judges, JudgesText, defined, refused, kn
 use Rattle.office_history.specs.Legal.{empty, followed, office}
 use Rattle.office_history.specs.Lists.{first_some}
 use Rattle.office_history.specs.Verdicts.{accepted, samples_verdict, unless_refused}
+use Rattle.office_history.specs.Versions.{is_upgraded, most_cells, most_rows}
 use Rattle.office_derived.proofs.More.{catalog_more, rows_more}
 use Rattle.catalog_changes.proofs.DefineLemmas.{changes_put, made_of_text}
 use Rattle.history_laws.specs.Kept.{DaysAreFew}
@@ -80,15 +81,15 @@ text_days known entries text _ (defined {made = made} h) e =
     (within (objective_days made.catalog known.rows)
     (cond made.same (Same (Defined made.objects None)) (accepted entries)) e)
 
-batch_days : (origin m : ℕ) (members : List Object) (came : List Row) (entries : ℕ)
-    (rows : List Row) → samples_verdict origin m members came entries rows ≡ Accepted →
+batch_days : (u : Bool) (origin m : ℕ) (members : List Object) (came : List Row) (entries : ℕ)
+    (rows : List Row) → samples_verdict u origin m members came entries rows ≡ Accepted →
     objective_days members (current_rows (came ++ rows)) ≤ most.MAX_DAYS
-batch_days origin m members came entries rows e =
+batch_days u origin m members came entries rows e =
     last_within (when (nat_lt most.MAX_BATCH_ROWS (length rows)) (refusals.Limit limits.Rows))
-    (batch_fault origin m members came rows)
-    (when (nat_lt most.MAX_CELLS (length (current_rows (came ++ rows))))
+    (batch_fault u origin m members came rows)
+    (when (nat_lt (most_cells u) (length (current_rows (came ++ rows))))
     (refusals.Limit limits.Cells))
-    (when (nat_lt most.MAX_ACCEPTED_ROWS (accepted_rows (came ++ rows)))
+    (when (nat_lt (most_rows u) (accepted_rows (came ++ rows)))
     (refusals.Limit limits.Accepted))
     (objective_days members (current_rows (came ++ rows)))
     (cond (list_any is_put (verdicts came rows)) (accepted entries)
@@ -132,12 +133,13 @@ days_after origin h m (Remove kind name) few v =
     same_days (without kind name (catalog_in h)) (rows_in h)
     (let fewer = fewer_days (catalog_in h) (current_in h) kind name in omega (arith, fewer, few))
 days_after origin h m (Samples rows) few v =
-    batch_days origin m (catalog_in h) (rows_in h) (length h) rows (sym v)
+    batch_days (is_upgraded h) origin m (catalog_in h) (rows_in h) (length h) rows (sym v)
 days_after origin h m (PutZone name bytes) few v = same_days (catalog_in h) (rows_in h) few
 days_after origin h m (Exclude value) few v = same_days (catalog_in h) (rows_in h) few
 days_after origin h m (Lift id) few v = same_days (catalog_in h) (rows_in h) few
 days_after origin h m Tick few v = same_days (catalog_in h) (rows_in h) few
 days_after origin h m (Take number) few v = same_days (catalog_in h) (rows_in h) few
+days_after origin h m Upgrade few v = same_days (catalog_in h) (rows_in h) few
 
 -- HISTORIES
 

@@ -1,7 +1,7 @@
 -- A command has one judgement.
 use Rattle.std.proofs.Common.{◌≡◌, ◌∙◌, ℕ, List, length, sym, ap}
 use Rattle.record_form.specs.declared.Command.TheVariants.{Define, Remove, PutZone, Samples}
-use Rattle.record_form.specs.declared.Command.TheVariants.{Exclude, Lift, Tick, Take}
+use Rattle.record_form.specs.declared.Command.TheVariants.{Exclude, Lift, Tick, Take, Upgrade}
 use Rattle.record_form.specs.declared.Refusal.{Refusal}
 use Rattle.office_history.specs.Definitions.{Definition, Known, IsDefinition, IsRefused}
 use Rattle.office_history.specs.declared.Judgement.{Judgement}
@@ -39,3 +39,4 @@ one_judgement law o moment (Exclude value) a b h k = h ∙ sym k
 one_judgement law o moment (Lift id) a b h k = h ∙ sym k
 one_judgement law o moment Tick a b h k = h ∙ sym k
 one_judgement law o moment (Take number) a b h k = h ∙ sym k
+one_judgement law o moment Upgrade a b h k = h ∙ sym k

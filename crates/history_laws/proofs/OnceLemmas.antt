@@ -10,7 +10,7 @@ use Rattle.sample_book.specs.History.{is_put}
 use Rattle.sample_book.specs.Puts.{verdicts}
 use Rattle.record_form.specs.declared.Command.{Command}
 use Rattle.record_form.specs.declared.Command.TheVariants.{Define, Remove, PutZone, Samples}
-use Rattle.record_form.specs.declared.Command.TheVariants.{Exclude, Lift, Tick, Take}
+use Rattle.record_form.specs.declared.Command.TheVariants.{Exclude, Lift, Tick, Take, Upgrade}
 use Rattle.record_form.specs.declared.Entry.{Entry}
 use Rattle.record_form.specs.declared.Outcome.{Outcome}
 use Rattle.record_form.specs.declared.Outcome.TheVariants.{Changed}
@@ -26,6 +26,7 @@ use Rattle.office_history.specs.Judges.{Judges}
 use Rattle.office_history.specs.Legal.{IsLegal, office}
 use Rattle.office_history.specs.Notices.{is_taken, is_taking}
 use Rattle.office_history.specs.Verdicts.{accepted, samples_fault, unless_refused}
+use Rattle.office_history.specs.Versions.{is_upgraded}
 use Rattle.office_derived.specs.Derived.{RowIsRead}
 use Rattle.sample_changes.specs.Once as samples
 use Rattle.sample_changes.proofs.OnceBatches.{batch_once}
@@ -80,7 +81,8 @@ pub batch_brings_nothing : BatchActsOnce → BatchBringsNothing
 batch_brings_nothing law origin h before after e rows legal split is =
     let now = present (office origin h) in
     let vs = verdicts (rows_in h) rows in
-    puts_nothing (samples_fault origin now (catalog_in h) (rows_in h) rows) (list_any is_put vs)
+    puts_nothing (samples_fault (is_upgraded h) origin now (catalog_in h) (rows_in h) rows)
+    (list_any is_put vs)
     (length h) (batch_outcome vs None)
     (law origin h before after e rows now legal split is (omega arith))
 
@@ -103,6 +105,7 @@ pub record ActOnce : Type 0 where
   pub exclusion : samples.ExcludeActsOnce
   pub lifting : samples.LiftActsOnce
   pub taking : ATakingActsOnce
+  pub upgrade : samples.UpgradeActsOnce
 
 as_said : (origin : ℕ) (h : List Entry) (moment : ℕ) (c : Command) (said j : Judgement) →
     Some said ≡ Some j → Judges (office origin h) moment c said →
@@ -139,6 +142,9 @@ changes_act_once laws origin h before after e moment judgement legal split later
         as_said origin h moment (Take number) (Same (Changed None)) judgement g
         (laws.taking origin h number moment legal
         (ap (λ es. is_taken es number) split ∙ was_taken before after e number is))
+    by Upgrade is g =
+        as_said origin h moment Upgrade (Same (Changed None)) judgement g
+        (laws.upgrade origin h before after e moment split is)
     by (Define text) is g = cc g
     by (Remove kind name) is g = cc g
     by Tick is g = cc g
@@ -170,6 +176,8 @@ not_accepted origin h moment (Lift id) once v =
     absurd (not_same (Changed None) (v ∙ sym (once (Same (Changed None)) refl)))
 not_accepted origin h moment (Take number) once v =
     absurd (not_same (Changed None) (v ∙ sym (once (Same (Changed None)) refl)))
+not_accepted origin h moment Upgrade once v =
+    absurd (not_same (Changed None) (v ∙ sym (once (Same (Changed None)) refl)))
 not_accepted origin h moment (Define text) once v = refl
 not_accepted origin h moment (Remove kind name) once v = refl
 not_accepted origin h moment Tick once v = refl
@@ -185,6 +193,7 @@ anew h h' (PutZone name bytes) e = cc e
 anew h h' (Exclude value) e = cc e
 anew h h' (Lift id) e = cc e
 anew h h' (Take number) e = cc e
+anew h h' Upgrade e = cc e
 
 pub none_stands_twice : BeginsLegally → EachMayFollow → ChangesActOnce → NoneStandsTwice
 none_stands_twice begins follow once origin h before between after first second legal split same =

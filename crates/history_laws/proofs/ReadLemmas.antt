@@ -19,7 +19,7 @@ use Rattle.catalog_terms.specs.Catalog.{with_members, without}
 use Rattle.catalog_terms.specs.NeedsOp.{sli_named}
 use Rattle.record_form.specs.declared.Command.{Command}
 use Rattle.record_form.specs.declared.Command.TheVariants.{Define, Remove, PutZone, Samples}
-use Rattle.record_form.specs.declared.Command.TheVariants.{Exclude, Lift, Tick, Take}
+use Rattle.record_form.specs.declared.Command.TheVariants.{Exclude, Lift, Tick, Take, Upgrade}
 use Rattle.record_form.specs.declared.Entry.{Entry}
 use Rattle.office_history.specs.Readings.{first_read_anew, is_other_reading, reading_of}
 use Rattle.office_history.specs.Readings.{row_read_anew}
@@ -147,8 +147,9 @@ read_after law origin h m (Remove kind name) read v =
     (recursion_from_All (RowIsRead (without kind name (catalog_in h))) (rows_in h) new)
 read_after law origin h m (Samples rows) read v =
     let came = rows_in h in
-    let keeps = accepted_keeps origin m (catalog_in h) came (length h) rows (sym v) in
-    let good = good_rows origin m (catalog_in h) 1 rows (verdicts came rows)
+    let u = is_upgraded h in
+    let keeps = accepted_keeps u origin m (catalog_in h) came (length h) rows (sym v) in
+    let good = good_rows u origin m (catalog_in h) 1 rows (verdicts came rows)
     (verdicts_each came rows) keeps.clean in
     joined (RowIsRead (catalog_in h)) came rows read
     (each (IsGood origin m (catalog_in h)) (RowIsRead (catalog_in h)) (λ row g. g.read) rows good)
@@ -157,6 +158,7 @@ read_after law origin h m (Exclude value) read v = same_read (catalog_in h) (row
 read_after law origin h m (Lift id) read v = same_read (catalog_in h) (rows_in h) read
 read_after law origin h m Tick read v = same_read (catalog_in h) (rows_in h) read
 read_after law origin h m (Take number) read v = same_read (catalog_in h) (rows_in h) read
+read_after law origin h m Upgrade read v = same_read (catalog_in h) (rows_in h) read
 
 -- HISTORIES
 

@@ -6,7 +6,7 @@ use Rattle.sample_book.specs.History.{is_put}
 use Rattle.sample_book.specs.Puts.{verdicts}
 use Rattle.record_form.specs.declared.Command.{Command}
 use Rattle.record_form.specs.declared.Command.TheVariants.{Define, Remove, PutZone, Samples}
-use Rattle.record_form.specs.declared.Command.TheVariants.{Exclude, Lift, Tick, Take}
+use Rattle.record_form.specs.declared.Command.TheVariants.{Exclude, Lift, Tick, Take, Upgrade}
 use Rattle.record_form.specs.declared.Entry.{Entry}
 use Rattle.record_form.specs.declared.Outcome.TheVariants.{Changed}
 use Rattle.record_form.specs.declared.Refusal.TheVariants as refusals
@@ -42,6 +42,7 @@ repeated_judgement h (Exclude value) = Some
     (cond (is_lifted h value.id) (Refused (refusals.Withdrawn value.id)) (Same (Changed None)))
 repeated_judgement h (Lift id) = Some (Same (Changed None))
 repeated_judgement h (Take number) = Some (Same (Changed None))
+repeated_judgement h Upgrade = Some (Same (Changed None))
 repeated_judgement h (Define text) = None
 repeated_judgement h (Remove kind name) = None
 repeated_judgement h Tick = None

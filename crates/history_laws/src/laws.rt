@@ -41,9 +41,9 @@ pub fn a_batch_acts_once()
     legal_days_are_few();
 }
 
-/// A batch, a zone, an exclusion, a lifting or a taking that is an entry of a legal history leaves
-/// all as it is when it comes again, at any moment from the present on; it adds no entry. Only an
-/// exclusion whose id was lifted since is refused then, as withdrawn.
+/// A batch, a zone, an exclusion, a lifting, a taking or an upgrade that is an entry of a legal
+/// history leaves all as it is when it comes again, at any moment from the present on; it adds no
+/// entry. Only an exclusion whose id was lifted since is refused then, as withdrawn.
 pub fn each_change_acts_once()
     ensures { ChangesActOnce }
 {
@@ -52,9 +52,10 @@ pub fn each_change_acts_once()
     sample_changes::laws::an_exclusion_acts_once();
     sample_changes::laws::a_lifting_acts_once();
     notice_changes::laws::a_taking_acts_once();
+    sample_changes::laws::an_upgrade_acts_once();
 }
 
-/// No batch, zone, exclusion, lifting or taking is an entry of a legal history twice.
+/// No batch, zone, exclusion, lifting, taking or upgrade is an entry of a legal history twice.
 pub fn no_change_stands_twice()
     ensures { NoneStandsTwice }
 {

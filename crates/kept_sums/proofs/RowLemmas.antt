@@ -48,7 +48,7 @@ small_amount Bad op value (amounts.Value measured) minute form few = absurd form
 small_amount Threshold op value (amounts.Counts part total) minute form few = absurd form
 small_amount RawSuccess op value (amounts.Counts part total) minute form few = absurd form
 small_amount RawFailure op value (amounts.Counts part total) minute form few = absurd form
-small_amount _ op value amounts.Withdrawn minute form few =
+small_amount reading op value amounts.Withdrawn minute form few =
     record { part = omega arith; few = omega arith }
 
 pub small_none : (minute : ℕ) → IsSmall (record { minute = minute; counts = no_counts })

@@ -24,7 +24,7 @@ use Rattle.office_history.specs.Verdicts.{accepted, is_waiting, take_verdict}
 use Rattle.office_derived.specs.declared.Derived.{Derived}
 use Rattle.office_derived.specs.Derived.{IsSound, Reflects}
 use Rattle.office_derived.proofs.More.{rows_more, changes_more, events_more, zones_more}
-use Rattle.office_derived.proofs.More.{catalog_more, present_more, taken_more}
+use Rattle.office_derived.proofs.More.{catalog_more, present_more, taken_more, upgraded_more}
 use Rattle.office_derived.proofs.Sound.{sound_still}
 use Rattle.office_derived.proofs.Still.{told_still, states_still}
 use Rattle.notice_changes.proofs.BoxLemmas.{length_numbered, length_taken, waiting_fewer}
@@ -92,10 +92,11 @@ pub reflects_take : (d d' : Derived) (o : Office) (moment number : ℕ) → Refl
     d'.origin ≡ d.origin → d'.entries ≡ d.entries + 1 → d'.present ≡ moment →
     d'.catalog ≡ d.catalog → d'.zones.kept ≡ d.zones.kept →
     d'.book.rows ≡ d.book.rows → d'.book.exclusions ≡ d.book.exclusions → d'.accepted ≡ d.accepted →
+    d'.upgraded ≡ d.upgraded →
     d'.notices.made ≡ after_taking d.notices.made number → d'.states.items ≡ d.states.items →
     Reflects d' (with_entry o (take_at moment number))
 reflects_take d d' o moment number r later within origin entries now catalog zones rows exclusions
-    accepted notices kept =
+    accepted upgraded notices kept =
     let e = take_at moment number in
     record {
       origin = origin ∙ r.origin;
@@ -114,6 +115,7 @@ reflects_take d d' o moment number r later within origin entries now catalog zon
           (subst (λ xs. Holds (arrivals_in o.history) d.book.rows xs) (sym exclusions) r.held));
       accepted = accepted ∙ r.accepted
           ∙ ap accepted_rows (sym (rows_more o.history e ∙ append-nil (rows_in o.history)));
+      upgraded = upgraded ∙ r.upgraded ∙ sym (upgraded_more o.history e);
       notices = notices ∙ ap (λ made. after_taking made number) r.notices
           ∙ notices_taken o moment number;
       states = kept ∙ r.states ∙ sym (states_still o e refl);
@@ -142,15 +144,16 @@ reflects_take d d' o moment number r later within origin entries now catalog zon
 pub sound_take : (d d' : Derived) (number : ℕ) → IsSound d →
     d'.origin ≡ d.origin → d'.entries ≡ d.entries + 1 → d'.catalog ≡ d.catalog →
     d'.book.rows ≡ d.book.rows → d'.book.exclusions ≡ d.book.exclusions →
-    d'.sums.kept ≡ d.sums.kept → d'.accepted ≡ d.accepted →
+    d'.sums.kept ≡ d.sums.kept → d'.accepted ≡ d.accepted → d'.upgraded ≡ d.upgraded →
     d'.notices.made ≡ after_taking d.notices.made number →
     waiting d.notices.made ≤ waiting d'.notices.made + 1 → d.entries < most.MAX_ENTRIES → IsSound d'
-sound_take d d' number s origin entries catalog rows exclusions kept accepted notices one below =
+sound_take d d' number s origin entries catalog rows exclusions kept accepted upgraded notices one
+    below =
     let many : length d'.notices.made ≡ length d.notices.made = ap length notices
     ∙ length_taken d.notices.made number in
     let wait : waiting d'.notices.made ≡ waiting (after_taking d.notices.made number) =
     ap waiting notices in
-    sound_still d d' s origin catalog exclusions rows kept accepted
+    sound_still d d' s origin catalog exclusions rows kept accepted upgraded
     (omega (arith, entries, below))
     (omega (arith, wait, waiting_fewer d.notices.made number, s.few_waiting))
     (omega (arith, many, one, entries, s.made))

@@ -39,6 +39,7 @@ use Rattle.office_derived.specs.Derived.{IsFound, IsJudged, IsSound, Reflects, c
 use Rattle.office_derived.proofs.Lists.{last-push, map_ext}
 use Rattle.office_derived.proofs.More.{rows_more, changes_more, events_more, zones_more}
 use Rattle.office_derived.proofs.More.{catalog_more, present_more, told_more, ticks_more}
+use Rattle.office_derived.proofs.More.{upgraded_more}
 use Rattle.office_derived.proofs.Sound.{sound_still}
 use Rattle.office_derived.proofs.Still.{taken_still}
 use Rattle.kept_lines.specs.Sums.{samples_of}
@@ -176,6 +177,7 @@ few_told o moment (works.Samples rows tally becomes) judged found = tt
 few_told o moment (works.Exclude value) judged found = tt
 few_told o moment (works.Lift id) judged found = tt
 few_told o moment (works.Take number) judged found = tt
+few_told o moment works.Upgrade judged found = tt
 
 fresh : (h : List Entry) (moment number : ℕ) (told : List (Binding × State)) →
     ((k : ℕ) → number ≤ k → is_taken h k ≡ false) →
@@ -230,11 +232,12 @@ pub reflects_tick : (d d' : Derived) (o : Office) (moment : ℕ)
     d'.origin ≡ d.origin → d'.entries ≡ d.entries + 1 → d'.present ≡ moment →
     d'.catalog ≡ d.catalog → d'.zones.kept ≡ d.zones.kept →
     d'.book.rows ≡ d.book.rows → d'.book.exclusions ≡ d.book.exclusions → d'.accepted ≡ d.accepted →
+    d'.upgraded ≡ d.upgraded →
     d'.notices.made ≡ d.notices.made ++ new_notices moment (length d.notices.made + 1) told →
     d'.states.items ≡ states →
     Reflects d' (with_entry o (tick_at moment))
 reflects_tick d d' o moment states told r later are_states are_told origin entries now catalog zones
-    rows exclusions accepted notices kept =
+    rows exclusions accepted upgraded notices kept =
     let e = tick_at moment in
     record {
       origin = origin ∙ r.origin;
@@ -249,6 +252,7 @@ reflects_tick d d' o moment states told r later are_states are_told origin entri
           (subst (λ rs. Holds (arrivals_in o.history) rs d'.book.exclusions) (sym rows)
           (subst (λ xs. Holds (arrivals_in o.history) d.book.rows xs) (sym exclusions) r.held));
       accepted = accepted ∙ r.accepted ∙ ap accepted_rows (sym (rows_still o moment));
+      upgraded = upgraded ∙ r.upgraded ∙ sym (upgraded_more o.history e);
       notices = notices ∙ (λ i. r.notices i ++ new_notices moment (length (r.notices i) + 1) told)
           ∙ notices_told o moment told are_told r.numbers;
       states = kept ∙ are_states ∙ sym (last_tick o moment);
@@ -272,11 +276,11 @@ reflects_tick d d' o moment states told r later are_states are_told origin entri
 pub sound_tick : (d d' : Derived) (moment : ℕ) (told : List (Binding × State)) → IsSound d →
     d'.origin ≡ d.origin → d'.entries ≡ d.entries + 1 → d'.catalog ≡ d.catalog →
     d'.book.rows ≡ d.book.rows → d'.book.exclusions ≡ d.book.exclusions →
-    d'.sums.kept ≡ d.sums.kept → d'.accepted ≡ d.accepted →
+    d'.sums.kept ≡ d.sums.kept → d'.accepted ≡ d.accepted → d'.upgraded ≡ d.upgraded →
     d'.notices.made ≡ d.notices.made ++ new_notices moment (length d.notices.made + 1) told →
     waiting d.notices.made + length told ≤ most.MAX_NOTICES → d.entries < most.MAX_ENTRIES →
     IsSound d'
-sound_tick d d' moment told s origin entries catalog rows exclusions kept accepted
+sound_tick d d' moment told s origin entries catalog rows exclusions kept accepted upgraded
     notices few below =
     let new = new_notices moment (length d.notices.made + 1) told in
     let many : length d'.notices.made ≡ length d.notices.made + length told =
@@ -285,7 +289,7 @@ sound_tick d d' moment told s origin entries catalog rows exclusions kept accept
     let wait : waiting d'.notices.made ≡ waiting d.notices.made + length told =
     ap waiting notices ∙ waiting_more d.notices.made new ∙ ap (λ n. waiting d.notices.made + n)
     (waiting_new moment (length d.notices.made + 1) told) in
-    sound_still d d' s origin catalog exclusions rows kept accepted
+    sound_still d d' s origin catalog exclusions rows kept accepted upgraded
     (omega (arith, entries, below))
     (omega (arith, wait, few))
     (omega (arith, many, wait, entries, s.made))

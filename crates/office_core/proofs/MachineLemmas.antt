@@ -1,6 +1,6 @@
 -- The machine with one entry more.
 use Rattle.std.proofs.Common.{◌≡◌, ℕ, ◌+◌, ◌<◌, ◌≤◌, List, [], ◌∷◌, ◌++◌, refl, ap, sym, subst, ◌∙◌}
-use Rattle.std.proofs.Common.{Bool, fold, max, length, Option, Some, None, IfSome, arith}
+use Rattle.std.proofs.Common.{Bool, false, fold, max, length, Option, Some, None, IfSome, arith}
 use Rattle.std.specs.List.{All, AllByRecursion}
 use Rattle.std.proofs.lemmas.List.Elements.{All-from_recursion}
 use Rattle.slo_limits.specs.declared.TheConstants as most
@@ -156,6 +156,7 @@ stays_reflects d d' o s r = record {
   held = subst (λ (rows : List Row). Holds (arrivals_in o.history) rows d'.book.exclusions)
       (sym s.rows) (subst (Holds (arrivals_in o.history) d.book.rows) (sym s.exclusions) r.held);
   accepted = s.accepted ∙ r.accepted;
+  upgraded = s.upgraded ∙ r.upgraded;
   notices = s.notices ∙ r.notices;
   states = s.states ∙ r.states;
   numbers = r.numbers;
@@ -199,6 +200,7 @@ plan_stays d d' lines (works.Exclude value) plan s has = tt
 plan_stays d d' lines (works.Lift id) plan s has = tt
 plan_stays d d' lines (works.Tick states told) plan s has = tt
 plan_stays d d' lines (works.Take number) plan s has = tt
+plan_stays d d' lines works.Upgrade plan s has = tt
 
 -- with room of the same size the plan has its room
 plan_learnt : (d : Derived) (lines lines' : LinesKept) (work : Work) (plan : Option LinesPlan)
@@ -215,6 +217,7 @@ plan_learnt d lines lines' (works.Exclude value) plan same has = tt
 plan_learnt d lines lines' (works.Lift id) plan same has = tt
 plan_learnt d lines lines' (works.Tick states told) plan same has = tt
 plan_learnt d lines lines' (works.Take number) plan same has = tt
+plan_learnt d lines lines' works.Upgrade plan same has = tt
 
 ready_learnt : (d : Derived) (lines lines' : LinesKept) (o : Office) (spare : ℕ)
     (pending : Option Pending) → lines'.spare ≡ lines.spare → IsReadyIf d lines o spare pending →
@@ -301,9 +304,9 @@ kept_ready d d' lines lines' bytes bytes' spare spare' pending pending' p k s ri
 -- a new machine keeps what the empty history says
 empty_reflects : (d : Derived) → d.entries ≡ 0 → d.present ≡ d.origin →
     d.catalog ≡ [] → d.zones.kept ≡ [] → Holds [] d.book.rows d.book.exclusions → d.accepted ≡ 0 →
-    d.notices.made ≡ [] →
+    d.upgraded ≡ false → d.notices.made ≡ [] →
     d.states.items ≡ [] → Reflects d (record { origin = d.origin; history = [] })
-empty_reflects d entries now catalog zones held accepted notices states = record {
+empty_reflects d entries now catalog zones held accepted upgraded notices states = record {
   origin = refl;
   entries = entries;
   present = now;
@@ -313,6 +316,7 @@ empty_reflects d entries now catalog zones held accepted notices states = record
   exclusions = exclusions-held [] d.book.rows d.book.exclusions held;
   held = held;
   accepted = accepted;
+  upgraded = upgraded;
   notices = notices;
   states = states;
   numbers = λ number above. refl;
@@ -348,9 +352,10 @@ pub kept_new : NoBytesAreNoHistory →
     d.origin ≤ most.MAX_MINUTE → d.entries ≡ 0 → d.present ≡ d.origin → d.catalog ≡ [] →
     d.zones.kept ≡ [] →
     Holds [] d.book.rows d.book.exclusions → d.sums.kept ≡ [] → d.accepted ≡ 0 →
-    d.notices.made ≡ [] → d.states.items ≡ [] → MachineIsKept d lines bytes spare None
+    d.upgraded ≡ false → d.notices.made ≡ [] → d.states.items ≡ [] → MachineIsKept d lines bytes
+    spare None
 kept_new law d lines bytes spare no_lines is origin entries now catalog zones held sums accepted
-    notices states =
+    upgraded notices states =
     let rows : d.book.rows ≡ [] = rows-held [] d.book.rows d.book.exclusions held in
     subst (λ (bs : List ℕ). MachineIsKept d lines bs spare None) (sym is) (record {
       records = law.0;
@@ -358,6 +363,7 @@ kept_new law d lines bytes spare no_lines is origin entries now catalog zones he
         origin = omega (arith, origin);
         entries = omega (arith, entries);
         cells = omega (arith, ap length rows);
+        summed = omega (arith, ap length rows);
         accepted = omega (arith, accepted);
         few_waiting = omega (arith, ap waiting notices);
         made = omega (arith, ap length notices);
@@ -367,7 +373,7 @@ kept_new law d lines bytes spare no_lines is origin entries now catalog zones he
       };
       reflects = subst (λ (h : List Entry). Reflects d (record { origin = d.origin; history = h }))
           (sym law.1)
-          (empty_reflects d entries now catalog zones held accepted notices states);
+          (empty_reflects d entries now catalog zones held accepted upgraded notices states);
       legal = subst (IsLegal d.origin) (sym law.1) empty;
       lines_right = none_watched d lines catalog no_lines;
       ready = tt;

@@ -16,7 +16,7 @@ use Rattle.office_history.specs.Definitions.{Known}
 use Rattle.record_form.specs.declared.fields.TheConstants.{MAX_EXCLUDED_MINUTE}
 use Rattle.record_form.specs.declared.Command.{Command}
 use Rattle.record_form.specs.declared.Command.TheVariants.{Define, Remove, PutZone, Samples}
-use Rattle.record_form.specs.declared.Command.TheVariants.{Exclude, Lift, Tick, Take}
+use Rattle.record_form.specs.declared.Command.TheVariants.{Exclude, Lift, Tick, Take, Upgrade}
 use Rattle.record_form.specs.declared.Outcome.{Outcome}
 use Rattle.record_form.specs.declared.Refusal.{Refusal}
 use Rattle.record_form.specs.declared.Refusal.TheVariants as refusals
@@ -34,6 +34,7 @@ use Rattle.office_history.specs.Batches.{batch_fault}
 use Rattle.office_history.specs.Objectives.{reading_named, slo_named}
 use Rattle.office_history.specs.Verdicts.{accepted, exclude_verdict, exclude_verdict_beside}
 use Rattle.office_history.specs.Verdicts.{is_range, samples_verdict, unless_refused, zone_verdict}
+use Rattle.office_history.specs.Versions.{is_upgraded}
 use Rattle.office_history.specs.Verdicts.{zone_verdict_beside}
 use Rattle.office_history.specs.Judges.{JudgesText, Judges, known_of, refused, defined}
 use Rattle.office_core.specs.Machine.{HasRevision, HasRevisions}
@@ -70,10 +71,11 @@ in_office origin value false false full j is e = by (is_range origin value) is
     by false h = cc h
 
 -- the minute of a row without a fault is over
-minute_over : (origin moment : ℕ) (members : List Object) (row : Row) (verdict : RowVerdict)
-    (number : ℕ) → row_fault origin moment members row verdict number ≡ None → row.minute < moment
-minute_over origin moment members row verdict number e =
-    by (form_fault (reading_named members row.sli) row number) (nat_lt row.minute origin)
+minute_over : (u : Bool) (origin moment : ℕ) (members : List Object) (row : Row)
+    (verdict : RowVerdict) (number : ℕ) →
+    row_fault u origin moment members row verdict number ≡ None → row.minute < moment
+minute_over u origin moment members row verdict number e =
+    by (form_fault u (reading_named members row.sli) row number) (nat_lt row.minute origin)
     (nat_le moment row.minute) refl e
   where
     by : (form : Option Refusal) (early now : Bool) → nat_le moment row.minute ≡ now →
@@ -90,23 +92,24 @@ as_many : (came rows : List Row) → length (verdicts came rows) ≡ length rows
 as_many came [] = refl
 as_many came (row ∷ rows) = ap suc (as_many (came ++ row ∷ []) rows)
 
-minutes_over : (origin moment : ℕ) (members : List Object) (number : ℕ) (rows : List Row)
+minutes_over : (u : Bool) (origin moment : ℕ) (members : List Object) (number : ℕ)
+    (rows : List Row)
     (vs : List RowVerdict) → length vs ≡ length rows →
-    first_some (rows_faults origin moment members number rows vs) ≡ None →
+    first_some (rows_faults u origin moment members number rows vs) ≡ None →
     AllByRecursion (λ (row : Row). row.minute < moment) rows
-minutes_over origin moment members number [] vs len e = tt
-minutes_over origin moment members number (row ∷ rows) [] len e = cc len
-minutes_over origin moment members number (row ∷ rows) (v ∷ vs) len e =
-    by (row_fault origin moment members row v number) refl e
-    (minutes_over origin moment members (number + 1) rows vs (omega (arith, len)))
+minutes_over u origin moment members number [] vs len e = tt
+minutes_over u origin moment members number (row ∷ rows) [] len e = cc len
+minutes_over u origin moment members number (row ∷ rows) (v ∷ vs) len e =
+    by (row_fault u origin moment members row v number) refl e
+    (minutes_over u origin moment members (number + 1) rows vs (omega (arith, len)))
   where
-    by : (fault : Option Refusal) → row_fault origin moment members row v number ≡ fault →
-        first_some (fault ∷ rows_faults origin moment members (number + 1) rows vs) ≡ None →
-        (first_some (rows_faults origin moment members (number + 1) rows vs) ≡ None
+    by : (fault : Option Refusal) → row_fault u origin moment members row v number ≡ fault →
+        first_some (fault ∷ rows_faults u origin moment members (number + 1) rows vs) ≡ None →
+        (first_some (rows_faults u origin moment members (number + 1) rows vs) ≡ None
         → AllByRecursion (λ (row : Row). row.minute < moment) rows) →
         AllByRecursion (λ (row : Row). row.minute < moment) (row ∷ rows)
     by (Some refusal) is h rest = cc h
-    by None is h rest = (minute_over origin moment members row v number is, rest h)
+    by None is h rest = (minute_over u origin moment members row v number is, rest h)
 
 rows_fit : (moment : ℕ) (rows : List Row) → moment ≤ most.MAX_MINUTE
     → AllByRecursion (λ (row : Row). row.minute < moment) rows → AllByRecursion HasRevision rows
@@ -121,17 +124,17 @@ rows_fit moment (row ∷ rows) few over revised = (
   rows_fit moment rows few over.1 revised.1,
 )
 
-batch_fits : (origin moment : ℕ) (members : List Object) (came rows : List Row)
+batch_fits : (u : Bool) (origin moment : ℕ) (members : List Object) (came rows : List Row)
     (many : Bool) (others : List (Option Refusal)) (j : Judgement) → moment ≤ most.MAX_MINUTE →
     AllByRecursion HasRevision rows →
     nat_lt most.MAX_BATCH_ROWS (length rows) ≡ many →
     unless_refused (first_some (when many (refusals.Limit limits.Rows)
-    ∷ batch_fault origin moment members came rows ∷ others)) j ≡ Accepted → AreRowsInRange rows
-batch_fits origin moment members came rows true others j few revised is e = cc e
-batch_fits origin moment members came rows false others j few revised is e = (
+    ∷ batch_fault u origin moment members came rows ∷ others)) j ≡ Accepted → AreRowsInRange rows
+batch_fits u origin moment members came rows true others j few revised is e = cc e
+batch_fits u origin moment members came rows false others j few revised is e = (
   grind (arith, is),
-  rows_fit moment rows few (minutes_over origin moment members 1 rows (verdicts came rows)
-      (as_many came rows) (none (batch_fault origin moment members came rows) e)) revised,
+  rows_fit moment rows few (minutes_over u origin moment members 1 rows (verdicts came rows)
+      (as_many came rows) (none (batch_fault u origin moment members came rows) e)) revised,
 )
   where
     none : (fault : Option Refusal) → unless_refused (first_some (fault ∷ others)) j ≡ Accepted
@@ -164,11 +167,12 @@ zone_fits zones entries name bytes e =
     small_zone name bytes (bytes_eq name utc) (nat_lt most.MAX_ZONE_BYTES (length bytes))
     (zone_verdict_beside (bytes_named zones name) (length zones) entries name bytes) refl e
 
-samples_fit : (origin moment : ℕ) (members : List Object) (came : List Row) (entries : ℕ)
-    (rows : List Row) → moment ≤ most.MAX_MINUTE → AllByRecursion HasRevision rows →
-    samples_verdict origin moment members came entries rows ≡ Accepted → AreRowsInRange rows
-samples_fit origin moment members came entries rows few revised e = batch_fits origin moment members
-    came rows (nat_lt most.MAX_BATCH_ROWS (length rows)) _ _ few revised refl e
+samples_fit : (u : Bool) (origin moment : ℕ) (members : List Object) (came : List Row)
+    (entries : ℕ) (rows : List Row) → moment ≤ most.MAX_MINUTE → AllByRecursion HasRevision rows →
+    samples_verdict u origin moment members came entries rows ≡ Accepted → AreRowsInRange rows
+samples_fit u origin moment members came entries rows few revised e =
+    batch_fits u origin moment members came rows (nat_lt most.MAX_BATCH_ROWS (length rows)) _ _ few
+    revised refl e
 
 in_bounds : (origin from to : ℕ) → origin ≤ most.MAX_MINUTE
     → (nat_le origin from && (nat_lt from to && nat_le to (origin + most.RANGE_MINUTES))) ≡ true
@@ -194,14 +198,15 @@ fits o moment (Remove kind name) origin few revised judged = tt
 fits o moment (PutZone name bytes) origin few revised judged =
     zone_fits (zones_in o.history) (length o.history) name bytes (sym judged)
 fits o moment (Samples rows) origin few revised judged =
-    samples_fit o.origin moment (catalog_in o.history) (rows_in o.history) (length o.history) rows
-    few revised (sym judged)
+    samples_fit (is_upgraded o.history) o.origin moment (catalog_in o.history) (rows_in o.history)
+    (length o.history) rows few revised (sym judged)
 fits o moment (Exclude value) origin few revised judged =
     exclusion_fits o.origin (catalog_in o.history) (exclusions_in o.history) (length o.history)
     value origin (sym judged)
 fits o moment (Lift id) origin few revised judged = tt
 fits o moment Tick origin few revised judged = tt
 fits o moment (Take number) origin few revised judged = tt
+fits o moment Upgrade origin few revised judged = tt
 
 -- What is accepted has a record.
 pub in_range : (o : Office) (moment : ℕ) (c : Command) → o.origin ≤ most.MAX_MINUTE →

@@ -20,8 +20,8 @@ use notice_changes::{apply_take, apply_tick, judge_take, judge_tick, room_for_ti
 use office_derived::{Derived, Judged, Work};
 use record_form::{Command, Outcome};
 use sample_changes::{
-    apply_exclude, apply_samples, judge_exclude, judge_lift, judge_samples, room_for_exclude,
-    room_for_samples,
+    apply_exclude, apply_samples, apply_upgrade, judge_exclude, judge_lift, judge_samples,
+    judge_upgrade, room_for_exclude, room_for_samples,
 };
 use std::alloc::{AllocError, Global};
 
@@ -50,6 +50,7 @@ pub(crate) fn judge(
         Command::Lift(id) => judge_lift(derived, *id),
         Command::Tick => judge_tick(alloc, derived, lines, moment),
         Command::Take(number) => judge_take(derived, *number),
+        Command::Upgrade => judge_upgrade(derived),
     }
 }
 
@@ -134,5 +135,6 @@ pub(crate) fn apply(
         Work::Lift(id) => lift(derived, lines, moment, id),
         Work::Tick { states, told } => apply_tick(derived, moment, states, told),
         Work::Take(number) => apply_take(derived, moment, number),
+        Work::Upgrade => apply_upgrade(derived, moment),
     }
 }

@@ -17,6 +17,7 @@ ghost use Rattle.office_history.specs.Legal.{IsLegal};
 ghost use Rattle.office_history.specs.Notices.{notices_in, waiting};
 ghost use Rattle.office_history.specs.Objectives.{measure_at as measure_at_def};
 ghost use Rattle.office_history.specs.Outcomes.{outcome_of};
+ghost use Rattle.office_history.specs.Versions.{is_upgraded, version_of};
 ghost use Rattle.office_derived.specs.Derived.{HasRoom, Stays, command_of, entry_of};
 ghost use Rattle.history_answers.specs.Learning.{KnowsAnswered};
 ghost use Rattle.history_answers.specs.States.{binding_state};
@@ -137,6 +138,7 @@ impl Core {
                 book,
                 sums: KeptSums::new(alloc),
                 accepted: 0,
+                upgraded: false,
                 notices: NoticeBox::new(alloc),
                 states: Vec::new(alloc),
             },
@@ -197,6 +199,13 @@ impl Core {
         ensures { result ≡ length (current_in self.now.office.history) }
     {
         self.derived.book.cells()
+    }
+
+    /// The version of the history: 2 where it has an upgrade, and else 1.
+    pub fn version(&self) -> u8
+        ensures { result ≡ version_of (is_upgraded self.now.office.history) }
+    {
+        if self.derived.upgraded { 2 } else { 1 }
     }
 
     /// How many notices wait.

@@ -12,7 +12,7 @@ use Rattle.record_form.specs.declared.Command.{Command}
 use Rattle.record_form.specs.declared.Command.TheVariants.{Define, Remove, PutZone}
 use Rattle.record_form.specs.declared.Command.TheVariants.{Samples}
 use Rattle.record_form.specs.declared.Command.TheVariants.{Exclude, Lift, Tick}
-use Rattle.record_form.specs.declared.Command.TheVariants.{Take}
+use Rattle.record_form.specs.declared.Command.TheVariants.{Take, Upgrade}
 use Rattle.record_form.specs.declared.Entry.{Entry}
 use Rattle.office_history.specs.History.{Office, with_entry, present, rows_of}
 use Rattle.office_history.specs.History.{rows_in, changes_of}
@@ -23,6 +23,7 @@ use Rattle.office_history.specs.Zones.{zones_of, zones_in}
 use Rattle.office_history.specs.Notices.{is_taking, tick_of, ticks_in, told_at}
 use Rattle.office_history.specs.Notices.{told_in}
 use Rattle.office_history.specs.Notices.{is_taken}
+use Rattle.office_history.specs.Versions.{is_upgrade, is_upgraded}
 use Rattle.office_derived.proofs.Lists.{flat-push}
 
 -- what is made of each entry gains what is made of one more
@@ -77,6 +78,17 @@ taken_more h e number = list_any-append (λ (e : Entry). is_taking number e.comm
     or-false true = refl
     or-false false = refl
 
+pub upgraded_more : (h : List Entry) (e : Entry)
+    → is_upgraded (h ++ e ∷ []) ≡ (is_upgrade e.command || is_upgraded h)
+upgraded_more h e = list_any-append (λ (e : Entry). is_upgrade e.command) h (e ∷ [])
+    ∙ either (is_upgraded h) (is_upgrade e.command)
+  where
+    either : (a b : Bool) → (a || (b || false)) ≡ (b || a)
+    either true true = refl
+    either true false = refl
+    either false true = refl
+    either false false = refl
+
 -- what the arrivals of a history come to for its rows and exclusions
 of_rows : (rows : List Row) → book.rows_in (map Came rows) ≡ rows
 of_rows [] = refl
@@ -106,6 +118,7 @@ command_rows (Remove kind name) = refl
 command_rows (PutZone name bytes) = refl
 command_rows Tick = refl
 command_rows (Take number) = refl
+command_rows Upgrade = refl
 
 command_changes : (c : Command) → book.changes_in (arrivals_of c) ≡ changes_of c
 command_changes (Samples rows) = no_changes rows
@@ -116,6 +129,7 @@ command_changes (Remove kind name) = refl
 command_changes (PutZone name bytes) = refl
 command_changes Tick = refl
 command_changes (Take number) = refl
+command_changes Upgrade = refl
 
 pub event_rows : (h : List Entry) → book.rows_in (arrivals_in h) ≡ rows_in h
 event_rows [] = refl

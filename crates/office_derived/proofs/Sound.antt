@@ -1,5 +1,6 @@
 -- What stays sound where rows, exclusions, objectives and their sums stay.
-use Rattle.std.proofs.Common.{◌≡◌, ◌+◌, ◌≤◌, Bool, List, ap, arith, length, subst, sym}
+use Rattle.std.proofs.Common.{◌≡◌, ℕ, ◌+◌, ◌≤◌, Bool, true, false, List, ap, arith, length, subst}
+use Rattle.std.proofs.Common.{sym}
 use Rattle.std.specs.List.{All}
 use Rattle.slo_limits.specs.declared.TheConstants as most
 use Rattle.sample_book.specs.declared.Exclusion.{Exclusion}
@@ -8,6 +9,7 @@ use Rattle.object_terms.specs.declared.Object.{Object}
 use Rattle.kept_sums.specs.declared.ObjectiveSums.{ObjectiveSums}
 use Rattle.kept_sums.specs.Objectives.{KeepsSums}
 use Rattle.office_history.specs.Notices.{waiting}
+use Rattle.office_history.specs.Versions.{most_cells, most_rows}
 use Rattle.office_derived.specs.declared.derived.Derived.{Derived}
 use Rattle.office_derived.specs.Derived.{IsPlaced, IsSound, RowIsRead, Stays}
 
@@ -51,18 +53,42 @@ sums_still d d' catalog made rows kept sums =
       kept = sym kept i;
     }
 
+-- as many as before are within the limits of before
+pub within_cells : (u u' : Bool) (n n' : ℕ) → u ≡ u' → n' ≡ n → n ≤ most_cells u
+    → n' ≤ most_cells u'
+within_cells u u' n n' same is h =
+    subst (λ b. n' ≤ most_cells b) same (subst (λ k. k ≤ most_cells u) (sym is) h)
+
+pub within_rows : (u u' : Bool) (n n' : ℕ) → u ≡ u' → n' ≡ n → n ≤ most_rows u
+    → n' ≤ most_rows u'
+within_rows u u' n n' same is h =
+    subst (λ b. n' ≤ most_rows b) same (subst (λ k. k ≤ most_rows u) (sym is) h)
+
+-- an upgrade takes no room away
+pub more_cells : (u : Bool) → most_cells u ≤ most_cells true
+more_cells true = omega arith
+more_cells false = omega arith
+
+pub more_rows : (u : Bool) → most_rows u ≤ most_rows true
+more_rows true = omega arith
+more_rows false = omega arith
+
 -- what is kept stays sound where its rows, objectives and sums stay, and its entries and notices
 -- keep their limits: so after a tick, a taking, or a zone that is put
 pub sound_still : (d d' : Derived) → IsSound d → d'.origin ≡ d.origin →
     d'.catalog ≡ d.catalog → d'.book.exclusions ≡ d.book.exclusions →
     d'.book.rows ≡ d.book.rows → d'.sums.kept ≡ d.sums.kept → d'.accepted ≡ d.accepted →
+    d'.upgraded ≡ d.upgraded →
     d'.entries ≤ most.MAX_ENTRIES → waiting d'.notices.made ≤ most.MAX_NOTICES →
     length d'.notices.made ≤ waiting d'.notices.made + d'.entries → IsSound d'
-sound_still d d' s origin catalog made rows kept accepted entries few all = record {
+sound_still d d' s origin catalog made rows kept accepted upgraded entries few all = record {
   origin = omega (arith, origin, s.origin);
   entries = entries;
-  cells = omega (arith, ap length rows, s.cells);
-  accepted = omega (arith, accepted, s.accepted);
+  cells = within_cells d.upgraded d'.upgraded (length d.book.rows) (length d'.book.rows)
+      (sym upgraded) (ap length rows) s.cells;
+  summed = omega (arith, ap length rows, s.summed);
+  accepted = within_rows d.upgraded d'.upgraded d.accepted d'.accepted (sym upgraded) accepted
+      s.accepted;
   few_waiting = few;
   made = all;
   read = subst (λ (rs : List Row). All (RowIsRead d'.catalog) rs) (sym rows)
@@ -77,8 +103,11 @@ pub sound_stays : (a b : Derived) → Stays a b → IsSound a → IsSound b
 sound_stays a b s k = record {
   origin = omega (arith, s.origin, k.origin);
   entries = omega (arith, s.entries, k.entries);
-  cells = omega (arith, ap length s.rows, k.cells);
-  accepted = omega (arith, s.accepted, k.accepted);
+  cells = within_cells a.upgraded b.upgraded (length a.book.rows) (length b.book.rows)
+      (sym s.upgraded) (ap length s.rows) k.cells;
+  summed = omega (arith, ap length s.rows, k.summed);
+  accepted = within_rows a.upgraded b.upgraded a.accepted b.accepted (sym s.upgraded) s.accepted
+      k.accepted;
   few_waiting = omega (arith, ap waiting s.notices, k.few_waiting);
   made = omega (arith, ap length s.notices, ap waiting s.notices, s.entries, k.made);
   read = subst (λ (rs : List Row). All (RowIsRead b.catalog) rs) (sym s.rows)

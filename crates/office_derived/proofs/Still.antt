@@ -22,13 +22,14 @@ use Rattle.office_history.specs.Notices.{notices_in}
 use Rattle.office_history.specs.Notices.{states_of_tick}
 use Rattle.office_history.specs.Notices.{tick_changes}
 use Rattle.office_history.specs.Lists.{last_of}
+use Rattle.office_history.specs.Versions.{is_upgrade}
 use Rattle.office_derived.specs.declared.derived.Derived.{Derived}
 use Rattle.office_derived.specs.declared.work.Work.{Work}
 use Rattle.office_derived.specs.Derived.{Reflects, command_of, entry_of}
 use Rattle.office_derived.proofs.Lists.{map_ext}
 use Rattle.office_derived.proofs.More.{rows_more, events_more, zones_more, catalog_more}
 use Rattle.office_derived.proofs.More.{present_more, told_more, ticks_more, taken_more, event_rows}
-use Rattle.office_derived.proofs.More.{event_changes}
+use Rattle.office_derived.proofs.More.{event_changes, upgraded_more}
 
 -- a command that neither ticks nor takes
 pub record IsStill (c : Command) : Type 0 where
@@ -82,14 +83,15 @@ notices_still o e still =
 pub reflects_still : (d d' : Derived) (o : Office) (moment : ℕ) (work : Work) → Reflects d o →
     present o ≤ moment → IsStill (command_of work) →
     d'.origin ≡ d.origin → d'.entries ≡ d.entries + 1 → d'.present ≡ moment →
+    d'.upgraded ≡ (is_upgrade (command_of work) || d.upgraded) →
     d'.notices.made ≡ d.notices.made → d'.states.items ≡ d.states.items →
     d'.catalog ≡ fold members_after d.catalog (definitions_of (command_of work)) →
     d'.zones.kept ≡ d.zones.kept ++ zones_of (command_of work) →
     Holds (arrivals_in o.history ++ arrivals_of (command_of work)) d'.book.rows d'.book.exclusions →
     d'.accepted ≡ accepted_rows (rows_in o.history ++ rows_of (command_of work)) →
     Reflects d' (with_entry o (entry_of moment work))
-reflects_still d d' o moment work r later still origin entries now notices states catalog zones
-    held accepted =
+reflects_still d d' o moment work r later still origin entries now upgraded notices states
+    catalog zones held accepted =
     let e = entry_of moment work in
     let holds : Holds (arrivals_in (o.history ++ e ∷ [])) d'.book.rows d'.book.exclusions =
     subst (λ es. Holds es d'.book.rows d'.book.exclusions) (sym (events_more o.history e)) held in
@@ -109,6 +111,8 @@ reflects_still d d' o moment work r later still origin entries now notices state
           ∙ ap book.exclusions_of (event_changes (o.history ++ e ∷ []));
       held = holds;
       accepted = accepted ∙ ap accepted_rows (sym (rows_more o.history e));
+      upgraded = upgraded ∙ ap (λ b. is_upgrade (command_of work) || b) r.upgraded
+          ∙ sym (upgraded_more o.history e);
       notices = notices ∙ r.notices ∙ sym (notices_still o e still);
       states = states ∙ r.states ∙ sym (states_still o e still.no_tick);
       numbers = λ number above. taken_still o.history e number (still.no_taking number) ∙ r.numbers

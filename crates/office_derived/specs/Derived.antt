@@ -15,7 +15,7 @@ use Rattle.zone_calendar.specs.ZoneBytes.{zone_of}
 use Rattle.kept_sums.specs.declared.SumsPlan.{SumsPlan}
 use Rattle.record_form.specs.declared.Command.{Command}
 use Rattle.record_form.specs.declared.Command.TheVariants.{Define, Remove, PutZone, Samples}
-use Rattle.record_form.specs.declared.Command.TheVariants.{Exclude, Lift, Tick, Take}
+use Rattle.record_form.specs.declared.Command.TheVariants.{Exclude, Lift, Tick, Take, Upgrade}
 use Rattle.record_form.specs.declared.Entry.{Entry}
 use Rattle.office_history.specs.declared.Judgement.TheVariants.{Accepted, Same, Refused}
 use Rattle.office_history.specs.History.{Office, end_of, present, rows_in, current_in}
@@ -26,6 +26,7 @@ use Rattle.office_history.specs.Objectives.{reading_named}
 use Rattle.office_history.specs.Notices.{last_states, notices_in, tick_changes}
 use Rattle.office_history.specs.Notices.{states_over, told_in, is_taken, waiting}
 use Rattle.office_history.specs.Judges.{Judges}
+use Rattle.office_history.specs.Versions.{is_upgraded, most_cells, most_rows}
 use Rattle.office_derived.specs.declared.derived.Derived.{Derived}
 use Rattle.office_derived.specs.declared.work.Work.{Work}
 use Rattle.office_derived.specs.declared.work.Work.TheVariants as works
@@ -46,8 +47,9 @@ IsPlaced origin row = (origin ≤ row.minute) × (row.minute < end_of origin)
 pub record IsSound (d : Derived) : Type 0 where
   pub origin : d.origin ≤ most.MAX_MINUTE
   pub entries : d.entries ≤ most.MAX_ENTRIES
-  pub cells : length d.book.rows ≤ most.MAX_CELLS
-  pub accepted : d.accepted ≤ most.MAX_ACCEPTED_ROWS
+  pub cells : length d.book.rows ≤ most_cells d.upgraded
+  pub summed : length d.book.rows ≤ most.MAX_SUMMED_ROWS
+  pub accepted : d.accepted ≤ most_rows d.upgraded
   pub few_waiting : waiting d.notices.made ≤ most.MAX_NOTICES
   pub made : length d.notices.made ≤ waiting d.notices.made + d.entries
   pub read : All (RowIsRead d.catalog) d.book.rows
@@ -65,6 +67,7 @@ pub record Reflects (d : Derived) (o : Office) : Type 0 where
   pub exclusions : d.book.exclusions ≡ exclusions_in o.history
   pub held : Holds (arrivals_in o.history) d.book.rows d.book.exclusions
   pub accepted : d.accepted ≡ accepted_rows (rows_in o.history)
+  pub upgraded : d.upgraded ≡ is_upgraded o.history
   pub notices : d.notices.made ≡ notices_in o
   pub states : d.states.items ≡ last_states o
   pub numbers : (number : ℕ) → length (told_in o) < number → is_taken o.history number ≡ false
@@ -79,6 +82,7 @@ pub record Stays (a b : Derived) : Type 0 where
   pub rows : b.book.rows ≡ a.book.rows
   pub exclusions : b.book.exclusions ≡ a.book.exclusions
   pub accepted : b.accepted ≡ a.accepted
+  pub upgraded : b.upgraded ≡ a.upgraded
   pub notices : b.notices.made ≡ a.notices.made
   pub states : b.states.items ≡ a.states.items
   pub sums : KeepsSums a.catalog a.book.exclusions a.book.rows a.sums.kept
@@ -94,6 +98,7 @@ command_of (works.Exclude value) = Exclude value
 command_of (works.Lift id) = Lift id
 command_of (works.Tick states told) = Tick
 command_of (works.Take number) = Take number
+command_of works.Upgrade = Upgrade
 
 -- the entry of a work at a moment
 abbrev pub entry_of : ℕ → Work → Entry

@@ -24,6 +24,8 @@ pub struct Derived {
     pub sums: KeptSums,
     /// How many rows were new to their cell or newer than its row when they came.
     pub accepted: u32,
+    /// Whether the history has an upgrade.
+    pub upgraded: bool,
     pub notices: NoticeBox,
     /// Each binding with its state at the last tick.
     pub states: Vec<(Binding, State)>,

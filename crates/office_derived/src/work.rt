@@ -49,6 +49,7 @@ pub enum Work {
         told: Vec<(Binding, State)>,
     },
     Take(u32),
+    Upgrade,
 }
 
 /// What the judging of a command comes to.

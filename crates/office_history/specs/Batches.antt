@@ -1,5 +1,6 @@
 -- What becomes of a batch of rows, judged row by row, each behind those before it.
-use Rattle.std.specs.Prelude.{ℕ, ◌+◌, ◌*◌, ◌/◌, ◌||◌, ◌==◌, Bool, true, false, cond, nat_lt, nat_le}
+use Rattle.std.specs.Prelude.{ℕ, ◌+◌, ◌*◌, ◌/◌, ◌||◌, ◌==◌, Bool, true, false, cond, not, nat_lt}
+use Rattle.std.specs.Prelude.{nat_le}
 use Rattle.std.specs.Prelude.{List, [], ◌∷◌, map, filter, length, sum_by, Option, Some, None}
 use Rattle.slo_limits.specs.declared.TheConstants.{MAX_AMOUNT, MINUTES_A_DAY, WHOLE}
 use Rattle.slice_method.specs.declared.Amount.{Amount}
@@ -27,63 +28,66 @@ use Rattle.office_history.specs.Objectives.{reading_named}
 abbrev pub when : Bool → Refusal → Option Refusal
 when stands refusal = cond stands (Some refusal) None
 
--- what an amount breaks under a reading: it has another form, or its numbers aren't those of a part
--- and a whole
+-- what a part and a total of events break under a reading: it reads values, or they aren't those of
+-- a part and a whole
+abbrev pub events_fault : Reading → ℕ → ℕ → ℕ → Option Refusal
+events_fault Good part total number =
+    when (nat_lt total part || nat_lt MAX_AMOUNT total) (refusals.Counts number)
+events_fault Bad part total number =
+    when (nat_lt total part || nat_lt MAX_AMOUNT total) (refusals.Counts number)
+events_fault _ part total number = Some (refusals.WrongKind number)
+
+-- what a value breaks under a reading: it reads events, or the value is a ratio above 1
+abbrev pub measured_fault : Reading → ℕ → ℕ → Option Refusal
+measured_fault Threshold measured number = None
+measured_fault RawSuccess measured number = when (nat_lt WHOLE measured) (refusals.Counts number)
+measured_fault RawFailure measured number = when (nat_lt WHOLE measured) (refusals.Counts number)
+measured_fault _ measured number = Some (refusals.WrongKind number)
+
+-- what an amount breaks under a reading; a withdrawn one nothing
 abbrev pub amount_fault : Reading → Amount → ℕ → Option Refusal
-amount_fault Threshold (amounts.Counts part total) number = Some (refusals.WrongKind number)
-amount_fault RawSuccess (amounts.Counts part total) number = Some (refusals.WrongKind number)
-amount_fault RawFailure (amounts.Counts part total) number = Some (refusals.WrongKind number)
-amount_fault Good (amounts.Value measured) number = Some (refusals.WrongKind number)
-amount_fault Bad (amounts.Value measured) number = Some (refusals.WrongKind number)
-amount_fault Good (amounts.Counts part total) number =
-    when (nat_lt total part || nat_lt MAX_AMOUNT total) (refusals.Counts number)
-amount_fault Bad (amounts.Counts part total) number =
-    when (nat_lt total part || nat_lt MAX_AMOUNT total) (refusals.Counts number)
-amount_fault RawSuccess (amounts.Value measured) number =
-    when (nat_lt WHOLE measured) (refusals.Counts number)
-amount_fault RawFailure (amounts.Value measured) number =
-    when (nat_lt WHOLE measured) (refusals.Counts number)
-amount_fault Threshold (amounts.Value measured) number = None
-amount_fault _ amounts.Withdrawn number = None
+amount_fault reading (amounts.Counts part total) number = events_fault reading part total number
+amount_fault reading (amounts.Value measured) number = measured_fault reading measured number
+amount_fault reading amounts.Withdrawn number = None
 
--- no office takes withdrawn rows yet
-abbrev pub version_fault : Amount → ℕ → Option Refusal
-version_fault amounts.Withdrawn number = Some (refusals.Version number)
-version_fault _ number = None
+-- an office takes withdrawn rows from its upgrade on
+abbrev pub version_fault : Bool → Amount → ℕ → Option Refusal
+version_fault upgraded amounts.Withdrawn number = when (not upgraded) (refusals.Version number)
+version_fault upgraded _ number = None
 
--- what a row breaks by itself: its indicator isn't there, the office doesn't take its amount, or
--- its amount isn't read there
-abbrev pub form_fault : Option Reading → Row → ℕ → Option Refusal
-form_fault None row number = Some (refusals.UnknownSli row.sli number)
-form_fault (Some reading) row number = first_some (
-    version_fault row.amount number ∷ amount_fault reading row.amount number ∷ [])
+-- what a row breaks by itself: its indicator isn't there, the office isn't upgraded for it, or its
+-- amount isn't read there
+abbrev pub form_fault : Bool → Option Reading → Row → ℕ → Option Refusal
+form_fault upgraded None row number = Some (refusals.UnknownSli row.sli number)
+form_fault upgraded (Some reading) row number = first_some (
+    version_fault upgraded row.amount number ∷ amount_fault reading row.amount number ∷ [])
 
 abbrev pub conflict_fault : RowVerdict → ℕ → Option Refusal
 conflict_fault (Conflict kept) number = Some (refusals.RowConflict kept.amount kept.revision number)
 conflict_fault _ number = None
 
 -- The first rule that a row breaks, as the row of this number of its batch, at a moment.
-abbrev pub row_fault : ℕ → ℕ → List Object → Row → RowVerdict → ℕ → Option Refusal
-row_fault origin moment members row verdict number = first_some (
-    form_fault (reading_named members row.sli) row number
+abbrev pub row_fault : Bool → ℕ → ℕ → List Object → Row → RowVerdict → ℕ → Option Refusal
+row_fault upgraded origin moment members row verdict number = first_some (
+    form_fault upgraded (reading_named members row.sli) row number
     ∷ when (nat_lt row.minute origin) (refusals.Early row.minute origin number)
     ∷ when (nat_le moment row.minute) (refusals.OpenMinute row.minute moment number)
     ∷ conflict_fault verdict number
     ∷ [])
 
 -- each row of a batch from this number on, with what becomes of it behind those before it
-abbrev pub rows_faults : ℕ → ℕ → List Object → ℕ → List Row → List RowVerdict
+abbrev pub rows_faults : Bool → ℕ → ℕ → List Object → ℕ → List Row → List RowVerdict
     → List (Option Refusal)
-rows_faults origin moment members number (row ∷ rows) (v ∷ vs) =
-    row_fault origin moment members row v number
-    ∷ rows_faults origin moment members (number + 1) rows vs
-rows_faults origin moment members number _ _ = []
+rows_faults upgraded origin moment members number (row ∷ rows) (v ∷ vs) =
+    row_fault upgraded origin moment members row v number
+    ∷ rows_faults upgraded origin moment members (number + 1) rows vs
+rows_faults upgraded origin moment members number _ _ = []
 
 -- The first rule that a row of a batch breaks, each row judged behind those that came and
 -- those before it.
-abbrev pub batch_fault : ℕ → ℕ → List Object → List Row → List Row → Option Refusal
-batch_fault origin moment members came rows =
-    first_some (rows_faults origin moment members 1 rows (verdicts came rows))
+abbrev pub batch_fault : Bool → ℕ → ℕ → List Object → List Row → List Row → Option Refusal
+batch_fault upgraded origin moment members came rows =
+    first_some (rows_faults upgraded origin moment members 1 rows (verdicts came rows))
 
 abbrev pub is_newer : RowVerdict → Bool
 is_newer (Newer kept) = true

@@ -8,7 +8,7 @@ use Rattle.record_form.specs.declared.Refusal.{Refusal}
 use Rattle.record_form.specs.declared.Refusal.TheVariants as refusals
 use Rattle.record_form.specs.declared.Command.{Command}
 use Rattle.record_form.specs.declared.Command.TheVariants.{Define, Remove, PutZone, Samples}
-use Rattle.record_form.specs.declared.Command.TheVariants.{Exclude, Lift, Tick, Take}
+use Rattle.record_form.specs.declared.Command.TheVariants.{Exclude, Lift, Tick, Take, Upgrade}
 use Rattle.office_history.specs.declared.judgement.Judgement.{Judgement}
 use Rattle.office_history.specs.declared.judgement.Judgement.TheVariants.{Same, Refused}
 use Rattle.office_history.specs.Batches.{when, objective_days}
@@ -18,7 +18,8 @@ use Rattle.office_history.specs.Zones.{zones_in}
 use Rattle.office_history.specs.Notices.{told_at, notices_in}
 use Rattle.office_history.specs.Verdicts.{unless_refused, accepted, samples_verdict, remove_verdict}
 use Rattle.office_history.specs.Verdicts.{zone_verdict, exclude_verdict, lift_verdict, tick_verdict}
-use Rattle.office_history.specs.Verdicts.{take_verdict}
+use Rattle.office_history.specs.Verdicts.{take_verdict, upgrade_verdict}
+use Rattle.office_history.specs.Versions.{is_upgraded}
 
 -- what an office keeps, as far as a definition is judged by it
 abbrev pub known_of : Office → Known
@@ -46,11 +47,12 @@ Judges o moment (Remove kind name) j =
     j ≡ remove_verdict (catalog_in o.history) (current_in o.history) (length o.history) kind name
 Judges o moment (PutZone name bytes) j =
     j ≡ zone_verdict (zones_in o.history) (length o.history) name bytes
-Judges o moment (Samples rows) j = j ≡ samples_verdict o.origin moment (catalog_in o.history)
-    (rows_in o.history) (length o.history) rows
+Judges o moment (Samples rows) j = j ≡ samples_verdict (is_upgraded o.history) o.origin moment
+    (catalog_in o.history) (rows_in o.history) (length o.history) rows
 Judges o moment (Exclude value) j = j ≡ exclude_verdict o.origin (catalog_in o.history)
     (exclusions_in o.history) (length o.history) value
 Judges o moment (Lift id) j = j ≡ lift_verdict (exclusions_in o.history) (length o.history) id
 Judges o moment Tick j = j ≡ tick_verdict (notices_in o) (length o.history)
     (length (told_at o (record { moment = moment; command = Tick })))
 Judges o moment (Take number) j = j ≡ take_verdict (notices_in o) (length o.history) number
+Judges o moment Upgrade j = j ≡ upgrade_verdict (is_upgraded o.history) (length o.history)

@@ -7,6 +7,7 @@ pub mod Counts
 pub mod Windows
 pub mod Alerts
 pub mod Notices
+pub mod Versions
 pub mod Batches
 pub mod Verdicts
 pub mod Readings

@@ -4,7 +4,7 @@ use Rattle.slo_limits.specs.declared.TheConstants.{MAX_JOURNAL_BYTES}
 use Rattle.record_form.specs.Records.{record_of}
 use Rattle.record_form.specs.declared.Command.{Command}
 use Rattle.record_form.specs.declared.Command.TheVariants.{Define, Remove, PutZone, Samples}
-use Rattle.record_form.specs.declared.Command.TheVariants.{Exclude, Lift, Tick, Take}
+use Rattle.record_form.specs.declared.Command.TheVariants.{Exclude, Lift, Tick, Take, Upgrade}
 use Rattle.record_form.specs.declared.Entry.{Entry}
 use Rattle.record_form.specs.declared.Outcome.{Outcome}
 use Rattle.record_form.specs.declared.Outcome.TheVariants.{Defined, Changed, Ticked, Refused}
@@ -33,6 +33,7 @@ outcome_of o moment (Lift id) = Changed (Some (length o.history))
 outcome_of o moment Tick =
     Ticked (length o.history) (length (told_at o (record { moment = moment; command = Tick })))
 outcome_of o moment (Take number) = Changed (Some (length o.history))
+outcome_of o moment Upgrade = Changed (Some (length o.history))
 
 -- where the last gate of a journal of these entries stands
 abbrev pub tail_of : List Entry → ℕ

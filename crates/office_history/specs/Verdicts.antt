@@ -33,6 +33,7 @@ use Rattle.office_history.specs.Zones.{utc, bytes_named}
 use Rattle.office_history.specs.Objectives.{slo_named}
 use Rattle.office_history.specs.Notices.{waiting}
 use Rattle.office_history.specs.Batches.{when, batch_fault, batch_outcome, objective_days}
+use Rattle.office_history.specs.Versions.{most_cells, most_rows}
 
 -- the first refusal of a table, or else this
 abbrev pub unless_refused : Option Refusal → Judgement → Judgement
@@ -44,22 +45,23 @@ abbrev pub accepted : ℕ → Judgement
 accepted entries =
     cond (nat_lt entries most.MAX_ENTRIES) Accepted (Refused (refusals.Limit limits.Entries))
 
--- Samples: rows that come over those that came, whose indicators are members
-abbrev pub samples_fault : ℕ → ℕ → List Object → List Row → List Row → Option Refusal
-samples_fault origin moment members came rows = first_some (
+-- Samples: rows that come over those that came, whose indicators are members, to an office that is
+-- upgraded or not
+abbrev pub samples_fault : Bool → ℕ → ℕ → List Object → List Row → List Row → Option Refusal
+samples_fault upgraded origin moment members came rows = first_some (
     when (nat_lt most.MAX_BATCH_ROWS (length rows)) (refusals.Limit limits.Rows)
-    ∷ batch_fault origin moment members came rows
-    ∷ when (nat_lt most.MAX_CELLS (length (current_rows (came ++ rows))))
+    ∷ batch_fault upgraded origin moment members came rows
+    ∷ when (nat_lt (most_cells upgraded) (length (current_rows (came ++ rows))))
     (refusals.Limit limits.Cells)
-    ∷ when (nat_lt most.MAX_ACCEPTED_ROWS (accepted_rows (came ++ rows)))
+    ∷ when (nat_lt (most_rows upgraded) (accepted_rows (came ++ rows)))
     (refusals.Limit limits.Accepted)
     ∷ when (nat_lt most.MAX_DAYS (objective_days members (current_rows (came ++ rows))))
     (refusals.Limit limits.Days)
     ∷ [])
 
-abbrev pub samples_verdict : ℕ → ℕ → List Object → List Row → ℕ → List Row → Judgement
-samples_verdict origin moment members came entries rows =
-    unless_refused (samples_fault origin moment members came rows)
+abbrev pub samples_verdict : Bool → ℕ → ℕ → List Object → List Row → ℕ → List Row → Judgement
+samples_verdict upgraded origin moment members came entries rows =
+    unless_refused (samples_fault upgraded origin moment members came rows)
     (cond (list_any is_put (verdicts came rows)) (accepted entries)
     (Same (batch_outcome (verdicts came rows) None)))
 
@@ -161,3 +163,7 @@ take_verdict made entries number =
     cond (number == 0 || nat_lt (length made) number)
     (Refused (refusals.UnknownNotice (length made) number))
     (cond (is_waiting made number) (accepted entries) (Same (Changed None)))
+
+-- Upgrade: once
+abbrev pub upgrade_verdict : Bool → ℕ → Judgement
+upgrade_verdict upgraded entries = cond upgraded (Same (Changed None)) (accepted entries)

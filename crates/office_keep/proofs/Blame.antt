@@ -21,7 +21,7 @@ use Rattle.catalog_terms.specs.Remove.{remaining_members}
 use Rattle.office_history.specs.Definitions.{Known}
 use Rattle.record_form.specs.declared.Command.{Command}
 use Rattle.record_form.specs.declared.Command.TheVariants.{Define, Remove, PutZone, Samples}
-use Rattle.record_form.specs.declared.Command.TheVariants.{Exclude, Lift, Tick, Take}
+use Rattle.record_form.specs.declared.Command.TheVariants.{Exclude, Lift, Tick, Take, Upgrade}
 use Rattle.record_form.specs.declared.LimitName.TheVariants as limits
 use Rattle.record_form.specs.declared.Outcome.{Outcome}
 use Rattle.record_form.specs.declared.Outcome.TheVariants as outcomes
@@ -50,7 +50,8 @@ use Rattle.office_history.specs.Verdicts.{accepted, exclude_verdict_beside, firs
 use Rattle.office_history.specs.Verdicts.{is_waiting, lift_verdict_of, new_exclusion_fault}
 use Rattle.office_history.specs.Verdicts.{new_zone_fault, same_content, samples_fault}
 use Rattle.office_history.specs.Verdicts.{unless_refused, unless_removal, unless_sampled}
-use Rattle.office_history.specs.Verdicts.{zone_verdict_beside}
+use Rattle.office_history.specs.Verdicts.{upgrade_verdict, zone_verdict_beside}
+use Rattle.office_history.specs.Versions.{is_upgraded}
 use Rattle.office_history.specs.Windows.{WindowBegins}
 use Rattle.slo_duration.specs.Minutes.{minutes_of}
 use Rattle.office_history.specs.Zones.{bytes_named, utc, zones_in}
@@ -122,6 +123,10 @@ by_take b made entries refusal =
     by_cond b (Refused refusal) (cond made (accepted entries) (Same (Changed None))) refl
     (by_cond made (accepted entries) (Same (Changed None)) (by_accepted entries) refl)
 
+by_upgrade : (upgraded : Bool) (entries : ℕ) → judged_so (upgrade_verdict upgraded entries) ≡ false
+by_upgrade true entries = refl
+by_upgrade false entries = by_accepted entries
+
 by_batch : (fault : Option Refusal) (puts : Bool) (entries : ℕ) (vs : List RowVerdict) →
     judged_so (unless_refused fault
     (cond puts (accepted entries) (Same (batch_outcome vs None)))) ≡ false
@@ -167,7 +172,8 @@ judges_so o moment (PutZone name bytes) j is =
     where_it_is (by_zone (bytes_named zones name) (length zones) (length o.history) name bytes)
 judges_so o moment (Samples rows) j is =
     ap judged_so is
-    ∙ by_batch (samples_fault o.origin moment (catalog_in o.history) (rows_in o.history) rows)
+    ∙ by_batch (samples_fault (is_upgraded o.history) o.origin moment (catalog_in o.history)
+    (rows_in o.history) rows)
     (list_any is_put (verdicts (rows_in o.history) rows)) (length o.history)
     (verdicts (rows_in o.history) rows)
 judges_so o moment (Exclude value) j is =
@@ -189,6 +195,8 @@ judges_so o moment (Take number) j is =
     ap judged_so is
     ∙ by_take (number == 0 || nat_lt (length made) number) (is_waiting made number)
     (length o.history) (refusals.UnknownNotice (length made) number)
+judges_so o moment Upgrade j is =
+    ap judged_so is ∙ by_upgrade (is_upgraded o.history) (length o.history)
 
 -- what stays as it is blames no disk
 pub same_no_fault : (o : Office) (moment : ℕ) (command : Command) (outcome : Outcome) →
@@ -207,6 +215,7 @@ no_disk_fault o moment (Exclude value) e = cc e
 no_disk_fault o moment (Lift id) e = cc e
 no_disk_fault o moment Tick e = cc e
 no_disk_fault o moment (Take number) e = cc e
+no_disk_fault o moment Upgrade e = cc e
 
 pick : (b : Bool) (X Y P : Type 0) → (X → P) → (Y → P) → cond b X Y → P
 pick true X Y P f g x = f x

@@ -4,7 +4,7 @@ use Rattle.std.specs.List.{AllByRecursion}
 use Rattle.sample_book.specs.declared.Row.{Row}
 use Rattle.record_form.specs.declared.Command.{Command}
 use Rattle.record_form.specs.declared.Command.TheVariants.{Define, Remove, PutZone, Samples}
-use Rattle.record_form.specs.declared.Command.TheVariants.{Exclude, Lift, Tick, Take}
+use Rattle.record_form.specs.declared.Command.TheVariants.{Exclude, Lift, Tick, Take, Upgrade}
 use Rattle.record_form.specs.Ranges.{IsInRange, IsRowInRange}
 use Rattle.office_history.specs.Definitions.{Known}
 use Rattle.definition_verdict.proofs.VerdictLemmas.{one_refusal, one_definition, no_refusal}
@@ -37,6 +37,7 @@ one_judgement o moment (Exclude value) a b j k = j ∙ sym k
 one_judgement o moment (Lift id) a b j k = j ∙ sym k
 one_judgement o moment Tick a b j k = j ∙ sym k
 one_judgement o moment (Take number) a b j k = j ∙ sym k
+one_judgement o moment Upgrade a b j k = j ∙ sym k
 
 -- a row of a record has a revision
 revisions : (rows : List Row) → AllByRecursion IsRowInRange rows → AllByRecursion HasRevision rows
@@ -53,3 +54,4 @@ has_revisions (Exclude value) is = tt
 has_revisions (Lift id) is = tt
 has_revisions Tick is = tt
 has_revisions (Take number) is = tt
+has_revisions Upgrade is = tt

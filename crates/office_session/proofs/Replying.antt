@@ -4,7 +4,7 @@ use Rattle.std.specs.List.{AllByRecursion}
 use Rattle.record_form.specs.Ranges.{IsRowInRange}
 use Rattle.record_form.specs.declared.Command.{Command}
 use Rattle.record_form.specs.declared.Command.TheVariants.{Define, Remove, PutZone, Samples}
-use Rattle.record_form.specs.declared.Command.TheVariants.{Exclude, Lift, Tick, Take}
+use Rattle.record_form.specs.declared.Command.TheVariants.{Exclude, Lift, Tick, Take, Upgrade}
 use Rattle.record_form.specs.declared.Outcome.{Outcome}
 use Rattle.record_form.specs.declared.Request.{Request}
 use Rattle.record_form.specs.declared.Request.TheVariants.{Change, Ask}
@@ -33,6 +33,7 @@ change_has_revisions (Exclude value) range = tt
 change_has_revisions (Lift id) range = tt
 change_has_revisions Tick range = tt
 change_has_revisions (Take number) range = tt
+change_has_revisions Upgrade range = tt
 
 -- what was routed has the revisions that an asking needs
 pub has_revisions : (request : Request) → IsRequestInRange request → HasRevisionsIn request

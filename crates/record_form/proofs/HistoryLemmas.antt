@@ -8,6 +8,7 @@ use Rattle.sample_book.specs.declared.row.Row.{Row}
 use Rattle.record_form.specs.declared.command.Command.{Command}
 use Rattle.record_form.specs.declared.command.Command.TheVariants.{Define, Remove, PutZone, Samples}
 use Rattle.record_form.specs.declared.command.Command.TheVariants.{Exclude, Lift, Tick, Take}
+use Rattle.record_form.specs.declared.command.Command.TheVariants.{Upgrade}
 use Rattle.record_form.specs.declared.entry.Entry.{Entry}
 use Rattle.record_form.specs.Records.{number_within, entry, entry_of, whole, record_of}
 use Rattle.record_form.specs.Ranges.{IsRowInRange, IsInRange, IsEntryInRange, FitsRow, Fits}
@@ -64,6 +65,7 @@ in_range (Exclude value) h = h.range
 in_range (Lift id) h = tt
 in_range Tick h = tt
 in_range (Take n) h = tt
+in_range Upgrade h = tt
 
 pub entry_in_range : (bytes : List ℕ) (answer : Result (Option Entry) AllocError)
     → IsBytes bytes → IfOk answer (λ found. found ≡ entry_of bytes)

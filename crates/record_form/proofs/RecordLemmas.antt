@@ -20,6 +20,7 @@ use Rattle.record_form.specs.declared.fields.TheConstants.{MAX_EXCLUDED_MINUTE}
 use Rattle.record_form.specs.declared.command.Command.{Command}
 use Rattle.record_form.specs.declared.command.Command.TheVariants.{Define, Remove, PutZone, Samples}
 use Rattle.record_form.specs.declared.command.Command.TheVariants.{Exclude, Lift, Tick, Take}
+use Rattle.record_form.specs.declared.command.Command.TheVariants.{Upgrade}
 use Rattle.record_form.specs.Form.{and_then, byte, number, text, passing, ◌then◌, reading_as}
 use Rattle.record_form.specs.Records.{number_within, label, zone_name, text_within, minute}
 use Rattle.record_form.specs.Records.{kind_byte, kind_of_byte, kind, counts, billionths, amount}
@@ -307,6 +308,7 @@ command_again (Exclude value) rest h = rw (exclusion_exact.again value rest h) r
 command_again (Lift id) rest h = rw (label_exact.again id rest h) refl
 command_again Tick rest h = refl
 command_again (Take n) rest h = rw (exact32.again n rest h) refl
+command_again Upgrade rest h = refl
 
 command_front : (c : Command) (a b : List ℕ) → command.write c (a ++ b) ≡ command.write c a ++ b
 unfolding command
@@ -322,6 +324,7 @@ command_front (Exclude value) a b =
 command_front (Lift id) a b = ap (λ (bytes : List ℕ). 6 ∷ bytes) (label_exact.front id a b)
 command_front Tick a b = refl
 command_front (Take n) a b = ap (λ (bytes : List ℕ). 8 ∷ bytes) (exact32.front n a b)
+command_front Upgrade a b = refl
 
 command_only : (bytes : List ℕ) (got : Command × List ℕ) → IsBytes bytes
     → command.read bytes ≡ Some got → Stands command Fits bytes got
@@ -360,7 +363,17 @@ command_only (k ∷ bytes) got fits e =
                       | inr e ↦ elim (arm k 8 (reading_as Take (number w32) bytes) _ got e) [
                         | inl h ↦ tagged command Fits 8 Take (number w32) (λ n. n < 2 ^ 32) exact32
                             (λ x rest. refl) (λ x h. h) k bytes got fits h
-                        | inr e ↦ absurd cc
+                        | inr e ↦ elim (arm k 9 (Some (Upgrade, bytes)) _ got e) [
+                          | inl h ↦ subst (Stands command Fits (k ∷ bytes)) (some_is (
+                            Upgrade,
+                            bytes,
+                          ) got h.1) (record {
+                            spelled = ap (λ (n : ℕ). n ∷ bytes) h.0;
+                            fits = tt;
+                            rest = IsBytes-rest k bytes fits;
+                          })
+                          | inr e ↦ absurd cc
+                        ]
                       ]
                     ]
                   ]

@@ -15,6 +15,7 @@ use Rattle.slo_limits.specs.declared.TheConstants.{MAX_RECORD_BYTES, MAX_TEXT_BY
 use Rattle.record_form.specs.declared.command.Command.{Command}
 use Rattle.record_form.specs.declared.command.Command.TheVariants.{Define, Remove, PutZone, Samples}
 use Rattle.record_form.specs.declared.command.Command.TheVariants.{Exclude, Lift, Tick, Take}
+use Rattle.record_form.specs.declared.command.Command.TheVariants.{Upgrade}
 use Rattle.record_form.specs.declared.entry.Entry.{Entry}
 use Rattle.record_form.specs.Form.{spelling_of_each}
 use Rattle.record_form.specs.Records.{number_within, label, zone_name, text_within, kind, amount}
@@ -134,6 +135,7 @@ most_command (Exclude x) h = omega (arith, exclusion_length x [] h)
 most_command (Lift id) h = omega (arith, label_length id [], short_label id h)
 most_command Tick h = omega arith
 most_command (Take n) h = omega arith
+most_command Upgrade h = omega arith
 
 least_command : (c : Command) → 1 ≤ length (command.write c [])
 unfolding command
@@ -145,6 +147,7 @@ least_command (Exclude x) = omega arith
 least_command (Lift id) = omega arith
 least_command Tick = omega arith
 least_command (Take n) = omega arith
+least_command Upgrade = omega arith
 
 entry_length : (e : Entry) → length (entry.write e []) ≡ 4 + length (command.write e.command [])
 unfolding entry

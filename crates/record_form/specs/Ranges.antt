@@ -14,6 +14,7 @@ use Rattle.record_form.specs.declared.fields.TheConstants.{MAX_EXCLUDED_MINUTE}
 use Rattle.record_form.specs.declared.command.Command.{Command}
 use Rattle.record_form.specs.declared.command.Command.TheVariants.{Define, Remove, PutZone, Samples}
 use Rattle.record_form.specs.declared.command.Command.TheVariants.{Exclude, Lift, Tick, Take}
+use Rattle.record_form.specs.declared.command.Command.TheVariants.{Upgrade}
 use Rattle.record_form.specs.declared.entry.Entry.{Entry}
 use Rattle.record_form.specs.Records.{record_of}
 
@@ -42,6 +43,7 @@ IsInRange (Exclude value) = IsExclusionInRange value
 IsInRange (Lift id) = Unit {0}
 IsInRange Tick = Unit {0}
 IsInRange (Take number) = Unit {0}
+IsInRange Upgrade = Unit {0}
 
 -- and of an entry
 pub record IsEntryInRange (e : Entry) : Type 0 where
@@ -82,6 +84,7 @@ Fits (Exclude value) = FitsExclusion value
 Fits (Lift id) = IsTrue (is_label id)
 Fits Tick = Unit {0}
 Fits (Take number) = number < 2 ^ 32
+Fits Upgrade = Unit {0}
 
 -- an entry that has a record
 pub record FitsRecord (e : Entry) : Type 0 where

@@ -18,6 +18,7 @@ use Rattle.record_form.specs.declared.fields.TheConstants.{MAX_EXCLUDED_MINUTE}
 use Rattle.record_form.specs.declared.command.Command.{Command}
 use Rattle.record_form.specs.declared.command.Command.TheVariants.{Define, Remove, PutZone, Samples}
 use Rattle.record_form.specs.declared.command.Command.TheVariants.{Exclude, Lift, Tick, Take}
+use Rattle.record_form.specs.declared.command.Command.TheVariants.{Upgrade}
 use Rattle.record_form.specs.declared.entry.Entry.{Entry}
 use Rattle.record_form.specs.Form.{Form, and_then, first_byte, byte, number, text, passing, ◌then◌}
 use Rattle.record_form.specs.Form.{form_by_parts, form_of_list, reading_as}
@@ -129,6 +130,7 @@ command_spelling (Exclude value) rest = 5 ∷ exclusion.write value rest
 command_spelling (Lift id) rest = 6 ∷ label.write id rest
 command_spelling Tick rest = 7 ∷ rest
 command_spelling (Take number_taken) rest = 8 ∷ (number w32).write number_taken rest
+command_spelling Upgrade rest = 9 ∷ rest
 
 -- the command of a kind, from its fields
 abbrev pub fields_reading : ℕ → List ℕ → Option (Command × List ℕ)
@@ -142,7 +144,8 @@ fields_reading k bytes =
     (cond (k == 6) (reading_as Lift label bytes)
     (cond (k == 7) (Some (Tick, bytes))
     (cond (k == 8) (reading_as Take (number w32) bytes)
-    None)))))))
+    (cond (k == 9) (Some (Upgrade, bytes))
+    None))))))))
 
 -- a command
 unfoldable pub command : Form Command

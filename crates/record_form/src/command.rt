@@ -27,4 +27,6 @@ pub enum Command {
     Tick,
     /// Takes the notice of that number.
     Take(u32),
+    /// Lets the office take withdrawn rows from now on, and more of all rows.
+    Upgrade,
 }

@@ -34,7 +34,7 @@ pub enum Outcome {
         repeated: u32,
         superseded: u32,
     },
-    /// Of a removal, a zone, an exclusion, its lifting, or the taking of a notice.
+    /// Of a removal, a zone, an exclusion, its lifting, the taking of a notice, or the upgrade.
     Changed {
         entry: Option<u32>,
     },

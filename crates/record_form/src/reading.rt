@@ -27,6 +27,7 @@ fn read_command(alloc: Global, bytes: &mut Cursor) -> Result<Command, Unread>
         6 => Ok(Command::Lift(bytes.label()?)),
         7 => Ok(Command::Tick),
         8 => Ok(Command::Take(bytes.number32()?)),
+        9 => Ok(Command::Upgrade),
         _ => Err(Unread::NoRecord),
     }
 }

@@ -164,6 +164,10 @@ fn put_command(out: &mut Vec<u8>, command: &Command) -> Result<(), AllocError>
             out.push(8)?;
             put_number(out, *number)
         }
+        Command::Upgrade => {
+            out.push(9)?;
+            Ok(())
+        }
     }
 }
 

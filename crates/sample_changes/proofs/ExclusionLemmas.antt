@@ -1,5 +1,6 @@
 -- What is kept after an exclusion or a lifting.
-use Rattle.std.proofs.Common.{◌≡◌, ℕ, ◌+◌, ◌<◌, ◌++◌, List, [], fold, refl, ap, sym, ◌∙◌}
+use Rattle.std.proofs.Common.{◌≡◌, ℕ, ◌+◌, ◌<◌, ◌||◌, ◌++◌, List, [], false, fold, refl, ap, sym}
+use Rattle.std.proofs.Common.{◌∙◌}
 use Rattle.std.proofs.lemmas.List.{append-nil}
 use Rattle.slo_limits.specs.declared.TheConstants as most
 use Rattle.sample_book.specs.declared.Row.{Row}
@@ -9,6 +10,7 @@ use Rattle.record_form.specs.declared.Command.{Command}
 use Rattle.office_history.specs.Catalog.{definitions_of, members_after}
 use Rattle.office_history.specs.History.{Office, accepted_rows, arrivals_in, arrivals_of, rows_in}
 use Rattle.office_history.specs.History.{rows_of, with_entry}
+use Rattle.office_history.specs.Versions.{is_upgrade}
 use Rattle.office_history.specs.Zones.{zones_of}
 use Rattle.office_derived.specs.declared.Derived.{Derived}
 use Rattle.office_derived.specs.declared.Work.{Work}
@@ -29,6 +31,7 @@ pub record IsOfExclusions (c : Command) : Type 0 where
   pub no_object : definitions_of c ≡ []
   pub no_zone : zones_of c ≡ []
   pub no_row : rows_of c ≡ []
+  pub no_upgrade : is_upgrade c ≡ false
 
 -- it is what the history with the entry says
 pub change_reflected : (d : Derived) (book : Book) (sums : KeptObjectives) (o : Office)
@@ -37,7 +40,7 @@ pub change_reflected : (d : Derived) (book : Book) (sums : KeptObjectives) (o : 
     Reflects (changed d book sums moment) (with_entry o (entry_of moment work))
 change_reflected d book sums o moment work next only held =
     reflects_still d (changed d book sums moment) o moment work next.reflects next.later only.still
-    refl refl refl refl refl
+    refl refl refl (sym (ap (λ b. b || d.upgraded) only.no_upgrade)) refl refl
     (ap (fold members_after d.catalog) (sym only.no_object))
     (sym (ap (λ zs. d.zones.kept ++ zs) only.no_zone ∙ append-nil d.zones.kept))
     held
@@ -51,5 +54,5 @@ pub change_sound : (d : Derived) (book : Book) (sums : KeptObjectives) (moment :
     IsSound (changed d book sums moment)
 change_sound d book sums moment sound few rows measures are =
     let d' = changed d book sums moment in
-    sound_still d d' sound few refl refl refl refl rows refl
+    sound_still d d' sound few refl refl refl refl rows refl refl
     (change_followed d d' sound refl rows measures are)

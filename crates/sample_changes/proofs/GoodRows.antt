@@ -72,37 +72,44 @@ has_form RawFailure (amounts.Value measured) number h = record {
       share_form measured (no_fault (nat_lt WHOLE measured) (refusals.Counts number) h);
   small = tt;
 }
-has_form _ amounts.Withdrawn number h = record { form = tt; small = tt }
+has_form Good amounts.Withdrawn number h = record { form = tt; small = tt }
+has_form Bad amounts.Withdrawn number h = record { form = tt; small = tt }
+has_form Threshold amounts.Withdrawn number h = record { form = tt; small = tt }
+has_form RawSuccess amounts.Withdrawn number h = record { form = tt; small = tt }
+has_form RawFailure amounts.Withdrawn number h = record { form = tt; small = tt }
 
 pub first_parts : {A : Type 0} (x : Option A) (xs : List (Option A)) → first_some (x ∷ xs) ≡ None
     → (x ≡ None) × (first_some xs ≡ None)
 first_parts None xs h = (refl, h)
 first_parts (Some a) xs h = cc h
 
--- the office takes the amount, in whatever place of a batch
-abbrev pub IsTaken : Amount → Type 0
-IsTaken amount = (number : ℕ) → version_fault amount number ≡ None
+-- an office that is upgraded or not takes the amount, in whatever place of a batch
+abbrev pub IsTaken : Bool → Amount → Type 0
+IsTaken upgraded amount = (number : ℕ) → version_fault upgraded amount number ≡ None
 
-is_taken : (amount : Amount) (number : ℕ) → version_fault amount number ≡ None → IsTaken amount
-is_taken (amounts.Counts part total) number h = λ n. refl
-is_taken (amounts.Value measured) number h = λ n. refl
-is_taken amounts.Withdrawn number h = cc h
+is_taken : (upgraded : Bool) (amount : Amount) (number : ℕ)
+    → version_fault upgraded amount number ≡ None → IsTaken upgraded amount
+is_taken upgraded (amounts.Counts part total) number h = λ n. refl
+is_taken upgraded (amounts.Value measured) number h = λ n. refl
+is_taken true amounts.Withdrawn number h = λ n. refl
+is_taken false amounts.Withdrawn number h = cc h
 
 -- a row that breaks no rule of form
-record IsFormed (members : List Object) (row : Row) : Type 0 where
+record IsFormed (upgraded : Bool) (members : List Object) (row : Row) : Type 0 where
   read : RowIsRead members row
-  taken : IsTaken row.amount
+  taken : IsTaken upgraded row.amount
 
-is_formed : (members : List Object) (row : Row) (o : Option Reading) (number : ℕ)
-    → reading_named members row.sli ≡ o → form_fault o row number ≡ None → IsFormed members row
-is_formed members row None number e h = cc h
-is_formed members row (Some reading) number e h =
+is_formed : (upgraded : Bool) (members : List Object) (row : Row) (o : Option Reading) (number : ℕ)
+    → reading_named members row.sli ≡ o → form_fault upgraded o row number ≡ None
+    → IsFormed upgraded members row
+is_formed upgraded members row None number e h = cc h
+is_formed upgraded members row (Some reading) number e h =
     let amount = amount_fault reading row.amount number in
-    let a = first_parts (version_fault row.amount number) (amount ∷ []) h in
+    let a = first_parts (version_fault upgraded row.amount number) (amount ∷ []) h in
     let f = has_form reading row.amount number (first_parts amount [] a.1).0 in
     record {
       read = (reading, e, f.form, f.small);
-      taken = is_taken row.amount number a.0;
+      taken = is_taken upgraded row.amount number a.0;
     }
 
 no_conflict : (v : RowVerdict) (number : ℕ) → conflict_fault v number ≡ None → is_conflict v ≡ false
@@ -113,25 +120,26 @@ no_conflict (Superseded revision) number h = refl
 no_conflict (Conflict kept) number h = cc h
 
 -- a row that breaks no rule, and its verdict
-pub record IsClean (origin moment : ℕ) (members : List Object) (row : Row)
+pub record IsClean (upgraded : Bool) (origin moment : ℕ) (members : List Object) (row : Row)
     (v : RowVerdict) : Type 0 where
   pub good : IsGood origin moment members row
   pub agrees : is_conflict v ≡ false
-  pub taken : IsTaken row.amount
+  pub taken : IsTaken upgraded row.amount
 
-pub clean_row : (origin moment : ℕ) (members : List Object)
-    (row : Row) (v : RowVerdict) (number : ℕ) → row_fault origin moment members row v number ≡ None
-    → IsClean origin moment members row v
-clean_row origin moment members row v number h =
+pub clean_row : (upgraded : Bool) (origin moment : ℕ) (members : List Object) (row : Row)
+    (v : RowVerdict) (number : ℕ) → row_fault upgraded origin moment members row v number ≡ None
+    → IsClean upgraded origin moment members row v
+clean_row upgraded origin moment members row v number h =
     let early = when (nat_lt row.minute origin) (refusals.Early row.minute origin number) in
     let open_minute =
     when (nat_le moment row.minute) (refusals.OpenMinute row.minute moment number) in
-    let a = first_parts (form_fault (reading_named members row.sli) row number)
+    let a = first_parts (form_fault upgraded (reading_named members row.sli) row number)
     (early ∷ open_minute ∷ conflict_fault v number ∷ []) h in
     let b = first_parts early (open_minute ∷ conflict_fault v number ∷ []) a.1 in
     let c = first_parts open_minute (conflict_fault v number ∷ []) b.1 in
     let d = first_parts (conflict_fault v number) [] c.1 in
-    let formed = is_formed members row (reading_named members row.sli) number refl a.0 in
+    let formed =
+    is_formed upgraded members row (reading_named members row.sli) number refl a.0 in
     record {
       good = record {
         read = formed.read;
@@ -151,15 +159,16 @@ clean_row origin moment members row v number h =
     over m n h = grind (arith, nat_tests, h)
 
 -- The rows of a batch that breaks no rule are good.
-pub good_rows : (origin moment : ℕ) (members : List Object) (number : ℕ) (rows : List Row)
-    (vs : List RowVerdict) → length vs ≡ length rows →
-    first_some (rows_faults origin moment members number rows vs) ≡ None →
+pub good_rows : (upgraded : Bool) (origin moment : ℕ) (members : List Object) (number : ℕ)
+    (rows : List Row) (vs : List RowVerdict) → length vs ≡ length rows →
+    first_some (rows_faults upgraded origin moment members number rows vs) ≡ None →
     AllByRecursion (IsGood origin moment members) rows
-good_rows origin moment members number [] vs each h = tt
-good_rows origin moment members number (row ∷ rows) [] each h = absurd (omega (arith, each))
-good_rows origin moment members number (row ∷ rows) (v ∷ vs) each h =
-    let parts = first_parts (row_fault origin moment members row v number)
-    (rows_faults origin moment members (number + 1) rows vs) h in (
-      (clean_row origin moment members row v number parts.0).good,
-      good_rows origin moment members (number + 1) rows vs (omega (arith, each)) parts.1,
+good_rows upgraded origin moment members number [] vs each h = tt
+good_rows upgraded origin moment members number (row ∷ rows) [] each h = absurd
+    (omega (arith, each))
+good_rows upgraded origin moment members number (row ∷ rows) (v ∷ vs) each h =
+    let parts = first_parts (row_fault upgraded origin moment members row v number)
+    (rows_faults upgraded origin moment members (number + 1) rows vs) h in (
+      (clean_row upgraded origin moment members row v number parts.0).good,
+      good_rows upgraded origin moment members (number + 1) rows vs (omega (arith, each)) parts.1,
     )

@@ -23,6 +23,7 @@ use Rattle.office_history.specs.Catalog.{catalog_in}
 use Rattle.office_history.specs.Batches.{when, batch_fault, count, objective_days, rows_faults}
 use Rattle.office_history.specs.Batches.{batch_outcome}
 use Rattle.office_history.specs.Verdicts.{accepted, samples_verdict, unless_refused}
+use Rattle.office_history.specs.Versions.{is_upgraded, most_cells, most_rows}
 use Rattle.office_derived.specs.declared.Derived.{Derived}
 use Rattle.office_derived.specs.Derived.{IsJudged, Reflects}
 use Rattle.objective_days.specs.Days.{IsWithin}
@@ -38,34 +39,35 @@ use Rattle.sample_changes.proofs.GoodRows.{IsGood, good_rows}
 use Rattle.sample_changes.proofs.Tallies.{accepted-more, any_put, count_put, verdicts_each}
 
 -- the verdict by what is counted
-abbrev by_parts : Option Refusal → ℕ → ℕ → ℕ → List RowVerdict → ℕ → Judgement
-by_parts fault cells taken days vs entries =
+abbrev by_parts : Bool → Option Refusal → ℕ → ℕ → ℕ → List RowVerdict → ℕ → Judgement
+by_parts u fault cells taken days vs entries =
     unless_refused (first_some (
     fault
-    ∷ when (nat_lt most.MAX_CELLS cells) (refusals.Limit limits.Cells)
-    ∷ when (nat_lt most.MAX_ACCEPTED_ROWS taken) (refusals.Limit limits.Accepted)
+    ∷ when (nat_lt (most_cells u) cells) (refusals.Limit limits.Cells)
+    ∷ when (nat_lt (most_rows u) taken) (refusals.Limit limits.Accepted)
     ∷ when (nat_lt most.MAX_DAYS days) (refusals.Limit limits.Days)
     ∷ []))
     (cond (list_any is_put vs) (accepted entries) (Same (batch_outcome vs None)))
 
-abbrev with_rows : Bool → Option Refusal → ℕ → ℕ → ℕ → List RowVerdict → ℕ → Judgement
-with_rows many fault cells taken days vs entries =
+abbrev with_rows : Bool → Bool → Option Refusal → ℕ → ℕ → ℕ → List RowVerdict → ℕ → Judgement
+with_rows u many fault cells taken days vs entries =
     unless_refused (first_some (
     when many (refusals.Limit limits.Rows)
     ∷ fault
-    ∷ when (nat_lt most.MAX_CELLS cells) (refusals.Limit limits.Cells)
-    ∷ when (nat_lt most.MAX_ACCEPTED_ROWS taken) (refusals.Limit limits.Accepted)
+    ∷ when (nat_lt (most_cells u) cells) (refusals.Limit limits.Cells)
+    ∷ when (nat_lt (most_rows u) taken) (refusals.Limit limits.Accepted)
     ∷ when (nat_lt most.MAX_DAYS days) (refusals.Limit limits.Days)
     ∷ []))
     (cond (list_any is_put vs) (accepted entries) (Same (batch_outcome vs None)))
 
-over_current : (origin m : ℕ) (members : List Object) (came : List Row) (n : ℕ) (rows : List Row) →
-    rows_verdict origin m members (current_rows came) (accepted_rows came) n rows
-    ≡ by_parts (batch_fault origin m members came rows) (length (current_rows (came ++ rows)))
+over_current : (u : Bool) (origin m : ℕ) (members : List Object) (came : List Row) (n : ℕ)
+    (rows : List Row) →
+    rows_verdict u origin m members (current_rows came) (accepted_rows came) n rows
+    ≡ by_parts u (batch_fault u origin m members came rows) (length (current_rows (came ++ rows)))
     (accepted_rows (came ++ rows)) (objective_days members (current_rows (came ++ rows)))
     (verdicts came rows) n
-over_current origin m members came n rows =
-    λ i. by_parts (first_some (rows_faults origin m members 1 rows (verdicts-over came rows i)))
+over_current u origin m members came n rows =
+    λ i. by_parts u (first_some (rows_faults u origin m members 1 rows (verdicts-over came rows i)))
     (length (current-append came rows i)) (taken i)
     (objective_days members (current-append came rows i)) (verdicts-over came rows i) n
   where
@@ -77,58 +79,62 @@ over_current origin m members came n rows =
 -- What is kept judges a batch as the history does.
 pub verdict_seen : (d : Derived) (o : Office) (m : ℕ) (rows : List Row) → Reflects d o →
     length rows ≤ most.MAX_BATCH_ROWS →
-    samples_verdict o.origin m (catalog_in o.history) (rows_in o.history) (length o.history) rows
-    ≡ rows_verdict d.origin m d.catalog d.book.rows d.accepted d.entries rows
+    samples_verdict (is_upgraded o.history) o.origin m (catalog_in o.history) (rows_in o.history)
+    (length o.history) rows
+    ≡ rows_verdict d.upgraded d.origin m d.catalog d.book.rows d.accepted d.entries rows
 verdict_seen d o m rows r few =
+    let u = is_upgraded o.history in
     let came = rows_in o.history in
-    ap (λ many. with_rows many (batch_fault o.origin m (catalog_in o.history) came rows)
+    ap (λ many. with_rows u many (batch_fault u o.origin m (catalog_in o.history) came rows)
     (length (current_rows (came ++ rows))) (accepted_rows (came ++ rows))
     (objective_days (catalog_in o.history) (current_rows (came ++ rows))) (verdicts came rows)
     (length o.history)) (le-ltb most.MAX_BATCH_ROWS (length rows) few)
-    ∙ sym (over_current o.origin m (catalog_in o.history) came (length o.history) rows)
-    ∙ sym (λ i. rows_verdict (r.origin i) m (r.catalog i) (r.rows i) (r.accepted i)
+    ∙ sym (over_current u o.origin m (catalog_in o.history) came (length o.history) rows)
+    ∙ sym (λ i. rows_verdict (r.upgraded i) (r.origin i) m (r.catalog i) (r.rows i) (r.accepted i)
     (r.entries i) rows)
 
 -- A batch of too many rows is refused for it.
-pub too_many : (origin m : ℕ) (members : List Object) (came : List Row) (n : ℕ) (rows : List Row) →
+pub too_many : (u : Bool) (origin m : ℕ) (members : List Object) (came : List Row) (n : ℕ)
+    (rows : List Row) →
     most.MAX_BATCH_ROWS < length rows →
-    samples_verdict origin m members came n rows ≡ Refused (refusals.Limit limits.Rows)
-too_many origin m members came n rows h =
-    ap (λ many. with_rows many (batch_fault origin m members came rows)
+    samples_verdict u origin m members came n rows ≡ Refused (refusals.Limit limits.Rows)
+too_many u origin m members came n rows h =
+    ap (λ many. with_rows u many (batch_fault u origin m members came rows)
     (length (current_rows (came ++ rows))) (accepted_rows (came ++ rows))
     (objective_days members (current_rows (came ++ rows))) (verdicts came rows) n)
     (lt-ltb most.MAX_BATCH_ROWS (length rows) h)
 
 -- What an accepted batch keeps.
-pub record IsAccepted (origin m : ℕ) (members : List Object) (came : List Row) (n : ℕ)
+pub record IsAccepted (u : Bool) (origin m : ℕ) (members : List Object) (came : List Row) (n : ℕ)
     (rows : List Row) : Type 0 where
   pub few : length rows ≤ most.MAX_BATCH_ROWS
-  pub clean : batch_fault origin m members came rows ≡ None
-  pub cells : length (current_rows (came ++ rows)) ≤ most.MAX_CELLS
-  pub taken : accepted_rows (came ++ rows) ≤ most.MAX_ACCEPTED_ROWS
+  pub clean : batch_fault u origin m members came rows ≡ None
+  pub cells : length (current_rows (came ++ rows)) ≤ most_cells u
+  pub taken : accepted_rows (came ++ rows) ≤ most_rows u
   pub room : n < most.MAX_ENTRIES
 
-pub accepted_keeps : (origin m : ℕ) (members : List Object) (came : List Row) (n : ℕ)
-    (rows : List Row) → samples_verdict origin m members came n rows ≡ Accepted →
-    IsAccepted origin m members came n rows
-accepted_keeps origin m members came n rows h =
-    by (nat_lt most.MAX_BATCH_ROWS (length rows)) (batch_fault origin m members came rows)
-    (nat_lt most.MAX_CELLS (length (current_rows (came ++ rows))))
-    (nat_lt most.MAX_ACCEPTED_ROWS (accepted_rows (came ++ rows)))
+pub accepted_keeps : (u : Bool) (origin m : ℕ) (members : List Object) (came : List Row) (n : ℕ)
+    (rows : List Row) → samples_verdict u origin m members came n rows ≡ Accepted →
+    IsAccepted u origin m members came n rows
+accepted_keeps u origin m members came n rows h =
+    by (nat_lt most.MAX_BATCH_ROWS (length rows)) (batch_fault u origin m members came rows)
+    (nat_lt (most_cells u) (length (current_rows (came ++ rows))))
+    (nat_lt (most_rows u) (accepted_rows (came ++ rows)))
     (nat_lt most.MAX_DAYS (objective_days members (current_rows (came ++ rows))))
     (list_any is_put (verdicts came rows)) (nat_lt n most.MAX_ENTRIES) refl refl refl refl refl h
   where
     by : (a : Bool) (f : Option Refusal) (b c d p q : Bool) →
-        nat_lt most.MAX_BATCH_ROWS (length rows) ≡ a → batch_fault origin m members came rows ≡ f →
-        nat_lt most.MAX_CELLS (length (current_rows (came ++ rows))) ≡ b →
-        nat_lt most.MAX_ACCEPTED_ROWS (accepted_rows (came ++ rows)) ≡ c →
+        nat_lt most.MAX_BATCH_ROWS (length rows) ≡ a →
+        batch_fault u origin m members came rows ≡ f →
+        nat_lt (most_cells u) (length (current_rows (came ++ rows))) ≡ b →
+        nat_lt (most_rows u) (accepted_rows (came ++ rows)) ≡ c →
         nat_lt n most.MAX_ENTRIES ≡ q →
         unless_refused (first_some (
         when a (refusals.Limit limits.Rows) ∷ f ∷ when b (refusals.Limit limits.Cells)
         ∷ when c (refusals.Limit limits.Accepted) ∷ when d (refusals.Limit limits.Days) ∷ []))
         (cond p (cond q Accepted (Refused (refusals.Limit limits.Entries)))
         (Same (batch_outcome (verdicts came rows) None))) ≡ Accepted
-        → IsAccepted origin m members came n rows
+        → IsAccepted u origin m members came n rows
     by true f b c d p q ea ef eb ec eq h = cc h
     by false (Some r) b c d p q ea ef eb ec eq h = cc h
     by false None true c d p q ea ef eb ec eq h = cc h
@@ -139,44 +145,44 @@ accepted_keeps origin m members came n rows h =
     by false None false false false true true ea ef eb ec eq h = record {
       few = ltb-false most.MAX_BATCH_ROWS (length rows) ea;
       clean = ef;
-      cells = ltb-false most.MAX_CELLS (length (current_rows (came ++ rows))) eb;
-      taken = ltb-false most.MAX_ACCEPTED_ROWS (accepted_rows (came ++ rows)) ec;
+      cells = ltb-false (most_cells u) (length (current_rows (came ++ rows))) eb;
+      taken = ltb-false (most_rows u) (accepted_rows (came ++ rows)) ec;
       room = ltb-true n most.MAX_ENTRIES eq;
     }
 
 -- the first fault of a batch, by what is counted
-abbrev fault_by : Option Refusal → ℕ → ℕ → ℕ → Option Refusal
-fault_by fault cells taken days = first_some (
+abbrev fault_by : Bool → Option Refusal → ℕ → ℕ → ℕ → Option Refusal
+fault_by u fault cells taken days = first_some (
     fault
-    ∷ when (nat_lt most.MAX_CELLS cells) (refusals.Limit limits.Cells)
-    ∷ when (nat_lt most.MAX_ACCEPTED_ROWS taken) (refusals.Limit limits.Accepted)
+    ∷ when (nat_lt (most_cells u) cells) (refusals.Limit limits.Cells)
+    ∷ when (nat_lt (most_rows u) taken) (refusals.Limit limits.Accepted)
     ∷ when (nat_lt most.MAX_DAYS days) (refusals.Limit limits.Days)
     ∷ [])
 
-pub over_cells : (fault : Option Refusal) (cells taken days : ℕ) → fault ≡ None
-    → most.MAX_CELLS < cells → Some (refusals.Limit limits.Cells) ≡ fault_by fault cells taken days
-over_cells fault cells taken days e h =
+pub over_cells : (u : Bool) (fault : Option Refusal) (cells taken days : ℕ) → fault ≡ None
+    → most_cells u < cells → Some (refusals.Limit limits.Cells) ≡ fault_by u fault cells taken days
+over_cells u fault cells taken days e h =
     sym (λ i. first_some (
-    e i ∷ when (lt-ltb most.MAX_CELLS cells h i) (refusals.Limit limits.Cells)
-    ∷ when (nat_lt most.MAX_ACCEPTED_ROWS taken) (refusals.Limit limits.Accepted)
+    e i ∷ when (lt-ltb (most_cells u) cells h i) (refusals.Limit limits.Cells)
+    ∷ when (nat_lt (most_rows u) taken) (refusals.Limit limits.Accepted)
     ∷ when (nat_lt most.MAX_DAYS days) (refusals.Limit limits.Days) ∷ []))
 
-pub over_taken : (fault : Option Refusal) (cells taken days : ℕ) → fault ≡ None →
-    cells ≤ most.MAX_CELLS → most.MAX_ACCEPTED_ROWS < taken →
-    Some (refusals.Limit limits.Accepted) ≡ fault_by fault cells taken days
-over_taken fault cells taken days e f h =
+pub over_taken : (u : Bool) (fault : Option Refusal) (cells taken days : ℕ) → fault ≡ None →
+    cells ≤ most_cells u → most_rows u < taken →
+    Some (refusals.Limit limits.Accepted) ≡ fault_by u fault cells taken days
+over_taken u fault cells taken days e f h =
     sym (λ i. first_some (
-    e i ∷ when (le-ltb most.MAX_CELLS cells f i) (refusals.Limit limits.Cells)
-    ∷ when (lt-ltb most.MAX_ACCEPTED_ROWS taken h i) (refusals.Limit limits.Accepted)
+    e i ∷ when (le-ltb (most_cells u) cells f i) (refusals.Limit limits.Cells)
+    ∷ when (lt-ltb (most_rows u) taken h i) (refusals.Limit limits.Accepted)
     ∷ when (nat_lt most.MAX_DAYS days) (refusals.Limit limits.Days) ∷ []))
 
-by_days : (fault : Option Refusal) (cells taken days : ℕ) (b : Bool) → fault ≡ None →
-    cells ≤ most.MAX_CELLS → taken ≤ most.MAX_ACCEPTED_ROWS → nat_lt most.MAX_DAYS days ≡ b →
-    first_some (when b (refusals.Limit limits.Days) ∷ []) ≡ fault_by fault cells taken days
-by_days fault cells taken days b e f g h =
+by_days : (u : Bool) (fault : Option Refusal) (cells taken days : ℕ) (b : Bool) → fault ≡ None →
+    cells ≤ most_cells u → taken ≤ most_rows u → nat_lt most.MAX_DAYS days ≡ b →
+    first_some (when b (refusals.Limit limits.Days) ∷ []) ≡ fault_by u fault cells taken days
+by_days u fault cells taken days b e f g h =
     sym (λ i. first_some (
-    e i ∷ when (le-ltb most.MAX_CELLS cells f i) (refusals.Limit limits.Cells)
-    ∷ when (le-ltb most.MAX_ACCEPTED_ROWS taken g i) (refusals.Limit limits.Accepted)
+    e i ∷ when (le-ltb (most_cells u) cells f i) (refusals.Limit limits.Cells)
+    ∷ when (le-ltb (most_rows u) taken g i) (refusals.Limit limits.Accepted)
     ∷ when (h i) (refusals.Limit limits.Days) ∷ []))
 
 -- how many cells there are then, and how many rows were accepted
@@ -193,39 +199,39 @@ batch_taken taken kept rows tally e = ap (λ n. taken + n) (count_put (verdicts 
     ∙ ap (λ (t : BatchTally). taken + (t.new + t.newer)) (sym e)
 
 -- a batch without a fault
-pub batch_clean : (origin m : ℕ) (members : List Object) (kept rows : List Row)
+pub batch_clean : (u : Bool) (origin m : ℕ) (members : List Object) (kept rows : List Row)
     (vs : List RowVerdict) (found : Option Refusal) → vs ≡ verdicts kept rows →
-    found ≡ first_some (rows_faults origin m members 1 rows vs) → found ≡ None →
-    batch_fault origin m members kept rows ≡ None
-batch_clean origin m members kept rows vs found judged is none =
-    ap (λ vs. first_some (rows_faults origin m members 1 rows vs)) (sym judged) ∙ sym is ∙ none
+    found ≡ first_some (rows_faults u origin m members 1 rows vs) → found ≡ None →
+    batch_fault u origin m members kept rows ≡ None
+batch_clean u origin m members kept rows vs found judged is none =
+    ap (λ vs. first_some (rows_faults u origin m members 1 rows vs)) (sym judged) ∙ sym is ∙ none
 
 -- the limit of days decides on a batch that keeps all rules before it
 pub days_decide : (d : Derived) (moment : ℕ) (rows : List Row) (vs : List RowVerdict)
     (tally : BatchTally) (found : Option Refusal) (passes : Bool) → vs ≡ verdicts d.book.rows rows →
     tally ≡ tally_of vs → current_rows d.book.rows ≡ d.book.rows →
-    found ≡ first_some (rows_faults d.origin moment d.catalog 1 rows vs) → found ≡ None →
-    length d.book.rows + tally.new ≤ most.MAX_CELLS →
-    d.accepted + (tally.new + tally.newer) ≤ most.MAX_ACCEPTED_ROWS →
+    found ≡ first_some (rows_faults d.upgraded d.origin moment d.catalog 1 rows vs) → found ≡ None →
+    length d.book.rows + tally.new ≤ most_cells d.upgraded →
+    d.accepted + (tally.new + tally.newer) ≤ most_rows d.upgraded →
     nat_lt most.MAX_DAYS (objective_days d.catalog (current_rows (d.book.rows ++ rows))) ≡ passes →
     first_some (when passes (refusals.Limit limits.Days) ∷ [])
-    ≡ rows_fault d.origin moment d.catalog d.book.rows d.accepted rows
+    ≡ rows_fault d.upgraded d.origin moment d.catalog d.book.rows d.accepted rows
 days_decide d moment rows vs tally found passes judged counted current is none few taken days =
     let tallied : tally ≡ tally_of (verdicts d.book.rows rows) = counted ∙ ap tally_of judged in
-    by_days (batch_fault d.origin moment d.catalog d.book.rows rows)
+    by_days d.upgraded (batch_fault d.upgraded d.origin moment d.catalog d.book.rows rows)
     (length (current_rows (d.book.rows ++ rows)))
     (d.accepted + count is_put (verdicts d.book.rows rows))
     (objective_days d.catalog (current_rows (d.book.rows ++ rows))) passes
-    (batch_clean d.origin moment d.catalog d.book.rows rows vs found judged is none)
+    (batch_clean d.upgraded d.origin moment d.catalog d.book.rows rows vs found judged is none)
     (omega (arith, batch_cells d.book.rows rows tally current tallied, few))
     (omega (arith, batch_taken d.accepted d.book.rows rows tally tallied, taken))
     days
 
-pub batch_within : (origin m until : ℕ) (members : List Object) (kept rows : List Row)
-    → batch_fault origin m members kept rows ≡ None → m ≤ until → All (IsWithin origin until) rows
-batch_within origin m until members kept rows clean later =
+pub batch_within : (u : Bool) (origin m until : ℕ) (members : List Object) (kept rows : List Row)
+    → batch_fault u origin m members kept rows ≡ None → m ≤ until → All (IsWithin origin until) rows
+batch_within u origin m until members kept rows clean later =
     All-from_recursion (IsWithin origin until) rows
-    (within rows (good_rows origin m members 1 rows (verdicts kept rows)
+    (within rows (good_rows u origin m members 1 rows (verdicts kept rows)
     (verdicts_each kept rows) clean))
   where
     within : (rows : List Row) → AllByRecursion (IsGood origin m members) rows
@@ -250,17 +256,17 @@ faultless_by vs tally n e =
 -- what the judging comes to is what the history says
 pub comes_to : (d : Derived) (o : Office) (m : ℕ) (rows batch : List Row) (j : Judgement)
     (tally : BatchTally) (each : List RowVerdict) (x : Judged) → Reflects d o → batch ≡ rows →
-    length batch ≤ most.MAX_BATCH_ROWS → j ≡ rows_verdict d.origin m d.catalog d.book.rows
-    d.accepted d.entries batch → tally ≡ tally_of (verdicts d.book.rows batch) →
+    length batch ≤ most.MAX_BATCH_ROWS → j ≡ rows_verdict d.upgraded d.origin m d.catalog
+    d.book.rows d.accepted d.entries batch → tally ≡ tally_of (verdicts d.book.rows batch) →
     each ≡ verdicts d.book.rows batch → ComesTo j batch tally each x →
     IsJudged o m (commands.Samples rows) x
 comes_to d o m rows batch j tally each x r same few is counted judged_each h = by x h
   where
-    seen : samples_verdict o.origin m (catalog_in o.history) (rows_in o.history)
-        (length o.history) rows ≡ j
+    seen : samples_verdict (is_upgraded o.history) o.origin m (catalog_in o.history)
+        (rows_in o.history) (length o.history) rows ≡ j
     seen =
-        ap (λ rows. samples_verdict o.origin m (catalog_in o.history) (rows_in o.history)
-        (length o.history) rows) (sym same)
+        ap (λ rows. samples_verdict (is_upgraded o.history) o.origin m (catalog_in o.history)
+        (rows_in o.history) (length o.history) rows) (sym same)
         ∙ verdict_seen d o m batch r few ∙ sym is
 
     all : (copy : List Row) → copy ≡ batch
@@ -285,6 +291,7 @@ comes_to d o m rows batch j tally each x r same few is counted judged_each h = b
     by (judged.Ready (works.Lift id)) h = absurd h
     by (judged.Ready (works.Tick states told)) h = absurd h
     by (judged.Ready (works.Take number)) h = absurd h
+    by (judged.Ready works.Upgrade) h = absurd h
     by (judged.Same outcome) h = sym (seen ∙ h)
     by (judged.Refused refusal) h = sym (seen ∙ h)
     by judged.NoMemory h = tt

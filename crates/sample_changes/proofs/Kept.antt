@@ -37,6 +37,8 @@ use Rattle.office_derived.specs.declared.BatchTally.{BatchTally}
 use Rattle.office_derived.specs.declared.Work.TheVariants as works
 use Rattle.office_derived.specs.Derived.{IsNext, IsPlaced, IsSound, Reflects, RowIsRead, entry_of}
 use Rattle.office_derived.proofs.More.{rows_more}
+use Rattle.office_derived.proofs.Sound.{more_cells, more_rows, within_cells, within_rows}
+use Rattle.office_history.specs.Versions.{is_upgraded, most_cells, most_rows}
 use Rattle.sample_changes.proofs.GoodRows.{IsGood, good_rows}
 use Rattle.sample_changes.proofs.Judged.{IsAccepted, accepted_keeps}
 use Rattle.sample_changes.proofs.Tallies.{accepted-more, count_put, verdicts_each}
@@ -74,9 +76,10 @@ each P Q f (x ∷ xs) h = (f x h.0, each P Q f xs h.1)
 -- what an accepted batch keeps, over what is kept
 pub batch_keeps : (d : Derived) (o : Office) (m : ℕ) (rows : List Row) (tally : BatchTally)
     (becomes : Vec RowVerdict) → IsNext d o m (works.Samples rows tally becomes) →
-    IsAccepted o.origin m (catalog_in o.history) (rows_in o.history) (length o.history) rows
-batch_keeps d o m rows tally becomes n = accepted_keeps o.origin m (catalog_in o.history)
-    (rows_in o.history) (length o.history) rows (sym n.accepted)
+    IsAccepted (is_upgraded o.history) o.origin m (catalog_in o.history) (rows_in o.history)
+    (length o.history) rows
+batch_keeps d o m rows tally becomes n = accepted_keeps (is_upgraded o.history) o.origin m
+    (catalog_in o.history) (rows_in o.history) (length o.history) rows (sym n.accepted)
 
 -- so many rows are accepted then
 pub samples_taken : (d : Derived) (o : Office) (m : ℕ) (rows : List Row) (tally : BatchTally)
@@ -88,7 +91,7 @@ samples_taken d o m rows tally becomes n =
     ∙ sym (accepted-more (rows_in o.history) rows)
 
 pub record Few (d : Derived) (tally : BatchTally) : Type 0 where
-  pub taken : d.accepted + (tally.new + tally.newer) ≤ most.MAX_ACCEPTED_ROWS
+  pub taken : d.accepted + (tally.new + tally.newer) ≤ most.MAX_UPGRADED_ROWS
   pub entries : d.entries < most.MAX_ENTRIES
 
 pub samples_few : (d : Derived) (o : Office) (m : ℕ) (rows : List Row) (tally : BatchTally)
@@ -96,7 +99,12 @@ pub samples_few : (d : Derived) (o : Office) (m : ℕ) (rows : List Row) (tally 
 samples_few d o m rows tally becomes n =
     let keeps = batch_keeps d o m rows tally becomes n in
     record {
-      taken = omega (arith, samples_taken d o m rows tally becomes n, keeps.taken);
+      taken = omega (
+        arith,
+        samples_taken d o m rows tally becomes n,
+        keeps.taken,
+        more_rows (is_upgraded o.history),
+      );
       entries = omega (arith, n.reflects.entries, keeps.room);
     }
 
@@ -110,6 +118,7 @@ samples_summed d o m rows tally becomes n =
       ap (λ (kept : List Row). length (current_rows (kept ++ rows))) n.reflects.rows,
       ap length (current-append (rows_in o.history) rows),
       (batch_keeps d o m rows tally becomes n).cells,
+      more_cells (is_upgraded o.history),
     )
 
 -- the room that was made is enough
@@ -123,8 +132,8 @@ may_come d o rows r room =
 -- What is kept stays sound, where its rows are good and few.
 pub sound_kept : (d d' : Derived) → IsSound d → d.entries < most.MAX_ENTRIES →
     d'.origin ≡ d.origin → d'.entries ≡ d.entries + 1 → d'.catalog ≡ d.catalog →
-    d'.notices.made ≡ d.notices.made → length d'.book.rows ≤ most.MAX_CELLS →
-    d'.accepted ≤ most.MAX_ACCEPTED_ROWS →
+    d'.notices.made ≡ d.notices.made → length d'.book.rows ≤ most_cells d'.upgraded →
+    d'.accepted ≤ most_rows d'.upgraded →
     AllByRecursion (RowIsRead d.catalog) d'.book.rows →
     AllByRecursion (IsPlaced d.origin) d'.book.rows →
     KeepsSums d'.catalog d'.book.exclusions d'.book.rows d'.sums.kept → IsSound d'
@@ -132,6 +141,7 @@ sound_kept d d' s few origin entries catalog notices cells taken read placed sum
   origin = omega (arith, s.origin, origin);
   entries = omega (arith, few, entries);
   cells = cells;
+  summed = omega (arith, cells, more_cells d'.upgraded);
   accepted = taken;
   few_waiting = subst (λ (made : List (Notice × Bool)). waiting made ≤ most.MAX_NOTICES)
       (sym notices) s.few_waiting;
@@ -152,28 +162,32 @@ rows_good d o m rows tally becomes n =
     subst (λ (origin : ℕ). AllByRecursion (IsGood origin m d.catalog) rows) (sym n.reflects.origin)
     (subst (λ (members : List Object). AllByRecursion (IsGood o.origin m members) rows)
     (sym n.reflects.catalog)
-    (good_rows o.origin m (catalog_in o.history) 1 rows (verdicts (rows_in o.history) rows)
+    (good_rows (is_upgraded o.history) o.origin m (catalog_in o.history) 1 rows
+    (verdicts (rows_in o.history) rows)
     (verdicts_each (rows_in o.history) rows) (batch_keeps d o m rows tally becomes n).clean))
 
 pub samples_sound : (d d' : Derived) (o : Office) (m : ℕ) (rows : List Row) (tally : BatchTally)
     (becomes : Vec RowVerdict) → IsSound d → IsNext d o m (works.Samples rows tally becomes) →
     Reflects d' (with_entry o (entry_of m (works.Samples rows tally becomes))) →
     d'.origin ≡ d.origin → d'.entries ≡ d.entries + 1 → d'.catalog ≡ d.catalog →
-    d'.notices.made ≡ d.notices.made → KeepsSums d'.catalog d'.book.exclusions d'.book.rows
-    d'.sums.kept → IsSound d'
-samples_sound d d' o m rows tally becomes s n r' origin entries catalog notices sums =
+    d'.notices.made ≡ d.notices.made → d'.upgraded ≡ d.upgraded →
+    KeepsSums d'.catalog d'.book.exclusions d'.book.rows d'.sums.kept → IsSound d'
+samples_sound d d' o m rows tally becomes s n r' origin entries catalog notices upgraded sums =
     let keeps = batch_keeps d o m rows tally becomes n in
     let e = entry_of m (works.Samples rows tally becomes) in
     let came = rows_in o.history in
     let is : d'.book.rows ≡ current_rows (came ++ rows) = r'.rows
     ∙ ap current_rows (rows_more o.history e) in
+    let version : is_upgraded o.history ≡ d'.upgraded = sym (upgraded ∙ n.reflects.upgraded) in
     let good = rows_good d o m rows tally becomes n in
     let placed : (row : Row) → IsGood d.origin m d.catalog row → IsPlaced d.origin row =
     λ row g. (g.begun, omega (arith, g.over, n.in_range, n.reflects.origin)) in
     sound_kept d d' s (samples_few d o m rows tally becomes n).entries origin entries catalog
     notices
-    (omega (arith, ap length is, keeps.cells))
-    (omega (arith, r'.accepted ∙ ap accepted_rows (rows_more o.history e), keeps.taken))
+    (within_cells (is_upgraded o.history) d'.upgraded (length (current_rows (came ++ rows)))
+    (length d'.book.rows) version (ap length is) keeps.cells)
+    (within_rows (is_upgraded o.history) d'.upgraded (accepted_rows (came ++ rows)) d'.accepted
+    version (r'.accepted ∙ ap accepted_rows (rows_more o.history e)) keeps.taken)
     (subst (AllByRecursion (RowIsRead d.catalog)) (sym is)
     (all_current (RowIsRead d.catalog) came rows (subst (AllByRecursion (RowIsRead d.catalog))
     n.reflects.rows (recursion_from_All (RowIsRead d.catalog) d.book.rows s.read))
@@ -188,17 +202,20 @@ samples_sound d d' o m rows tally becomes s n r' origin entries catalog notices 
 pub sound_still : (d d' : Derived) → IsSound d → d.entries < most.MAX_ENTRIES →
     d'.origin ≡ d.origin → d'.entries ≡ d.entries + 1 → d'.catalog ≡ d.catalog →
     d'.notices.made ≡ d.notices.made → d'.book.rows ≡ d.book.rows → d'.accepted ≡ d.accepted →
-    KeepsSums d'.catalog d'.book.exclusions d'.book.rows d'.sums.kept → IsSound d'
-sound_still d d' s few origin entries catalog notices rows taken sums =
-    sound_kept d d' s few origin entries catalog notices (omega (arith, ap length rows, s.cells))
-    (omega (arith, taken, s.accepted))
+    d'.upgraded ≡ d.upgraded → KeepsSums d'.catalog d'.book.exclusions d'.book.rows d'.sums.kept →
+    IsSound d'
+sound_still d d' s few origin entries catalog notices rows taken upgraded sums =
+    sound_kept d d' s few origin entries catalog notices
+    (within_cells d.upgraded d'.upgraded (length d.book.rows) (length d'.book.rows) (sym upgraded)
+    (ap length rows) s.cells)
+    (within_rows d.upgraded d'.upgraded d.accepted d'.accepted (sym upgraded) taken s.accepted)
     (subst (AllByRecursion (RowIsRead d.catalog)) (sym rows)
     (recursion_from_All (RowIsRead d.catalog) d.book.rows s.read))
     (subst (AllByRecursion (IsPlaced d.origin)) (sym rows)
     (recursion_from_All (IsPlaced d.origin) d.book.rows s.placed))
     sums
 
-room_for_one : (n : ℕ) → accepted n ≡ Accepted → n < most.MAX_ENTRIES
+pub room_for_one : (n : ℕ) → accepted n ≡ Accepted → n < most.MAX_ENTRIES
 room_for_one n h = by (nat_lt n most.MAX_ENTRIES) refl h
   where
     by : (b : Bool) → nat_lt n most.MAX_ENTRIES ≡ b

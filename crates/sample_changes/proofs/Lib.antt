@@ -6,3 +6,4 @@ pub mod Following
 pub mod ExclusionLemmas
 pub mod OnceExclusions
 pub mod OnceBatches
+pub mod Upgrades

@@ -26,7 +26,7 @@ use Rattle.sample_book.proofs.CameLemmas.{pass-current}
 use Rattle.object_terms.specs.declared.Object.{Object}
 use Rattle.record_form.specs.declared.Command.{Command}
 use Rattle.record_form.specs.declared.Command.TheVariants.{Define, Remove, PutZone, Samples}
-use Rattle.record_form.specs.declared.Command.TheVariants.{Exclude, Lift, Tick, Take}
+use Rattle.record_form.specs.declared.Command.TheVariants.{Exclude, Lift, Tick, Take, Upgrade}
 use Rattle.record_form.specs.declared.Entry.{Entry}
 use Rattle.record_form.specs.declared.Refusal.TheVariants as refusals
 use Rattle.record_form.specs.declared.LimitName.TheVariants as limits
@@ -41,8 +41,10 @@ use Rattle.office_history.specs.Judges.{Judges}
 use Rattle.office_history.specs.Legal.{IsLegal, empty, followed, office}
 use Rattle.office_history.specs.Objectives.{reading_named}
 use Rattle.office_history.specs.Verdicts.{accepted, samples_verdict, unless_refused}
+use Rattle.office_history.specs.Versions.{is_upgrade, is_upgraded, most_cells, most_rows}
 use Rattle.office_derived.specs.Derived.{RowIsRead}
-use Rattle.office_derived.proofs.More.{present_more, rows_more}
+use Rattle.office_derived.proofs.More.{present_more, rows_more, upgraded_more}
+use Rattle.office_derived.proofs.Sound.{more_cells, more_rows}
 use Rattle.sample_changes.specs.Once.{BatchActsOnce}
 use Rattle.sample_changes.proofs.GoodRows.{IsTaken, clean_row, first_parts}
 use Rattle.sample_changes.proofs.Judged.{accepted_keeps}
@@ -61,100 +63,114 @@ settled-later came more (row ∷ rows) h = (
 )
 
 -- the rows of a batch that breaks no rule are settled when it has come
-batch-settled : (origin m : ℕ) (members : List Object)
+batch-settled : (u : Bool) (origin m : ℕ) (members : List Object)
     (came : List Row) (number : ℕ) (rows : List Row) →
-    first_some (rows_faults origin m members number rows (verdicts came rows)) ≡ None →
+    first_some (rows_faults u origin m members number rows (verdicts came rows)) ≡ None →
     Settled (came ++ rows) rows
-batch-settled origin m members came number [] h = tt
-batch-settled origin m members came number (row ∷ rows) h =
+batch-settled u origin m members came number [] h = tt
+batch-settled u origin m members came number (row ∷ rows) h =
     let parts =
-    first_parts (row_fault origin m members row (verdict_of (current_rows came) row) number)
-    (rows_faults origin m members (number + 1) rows (verdicts (came ++ row ∷ []) rows)) h in
+    first_parts (row_fault u origin m members row (verdict_of (current_rows came) row) number)
+    (rows_faults u origin m members (number + 1) rows (verdicts (came ++ row ∷ []) rows)) h in
     let clean =
-    clean_row origin m members row (verdict_of (current_rows came) row) number parts.0 in
+    clean_row u origin m members row (verdict_of (current_rows came) row) number parts.0 in
     let one : is_settled (verdict_of (current_rows ((came ++ row ∷ []) ++ rows)) row) ≡ true =
     settled-stays (came ++ row ∷ []) rows row (settled-once came row clean.agrees) in
     let rest : Settled ((came ++ row ∷ []) ++ rows) rows =
-    batch-settled origin m members (came ++ row ∷ []) (number + 1) rows parts.1 in
+    batch-settled u origin m members (came ++ row ∷ []) (number + 1) rows parts.1 in
     subst (λ (all : List Row). Settled all (row ∷ rows)) (append_assoc came (row ∷ []) rows) (
       one,
       rest,
     )
 
 -- a row's minute is over, and not before the origin, and the office takes its amount
-record IsOver (origin m : ℕ) (row : Row) : Type 0 where
+record IsOver (u : Bool) (origin m : ℕ) (row : Row) : Type 0 where
   begun : origin ≤ row.minute
   over : row.minute < m
-  taken : IsTaken row.amount
+  taken : IsTaken u row.amount
 
-over_later : (origin m m' : ℕ) (rows : List Row) → m ≤ m' → AllByRecursion (IsOver origin m) rows
-    → AllByRecursion (IsOver origin m') rows
-over_later origin m m' [] l h = tt
-over_later origin m m' (row ∷ rows) l h = (
-  record { begun = h.0.begun; over = omega (arith, h.0.over, l); taken = h.0.taken },
-  over_later origin m m' rows l h.1,
+-- what an office takes it takes too when it is upgraded
+taken_later : (u v : Bool) (amount : Amount) → IsTaken u amount → IsTaken (v || u) amount
+taken_later u v (amounts.Counts part total) h = λ n. refl
+taken_later u v (amounts.Value measured) h = λ n. refl
+taken_later u true amounts.Withdrawn h = λ n. refl
+taken_later u false amounts.Withdrawn h = h
+
+over_later : (u v : Bool) (origin m m' : ℕ) (rows : List Row) → m ≤ m' →
+    AllByRecursion (IsOver u origin m) rows → AllByRecursion (IsOver (v || u) origin m') rows
+over_later u v origin m m' [] l h = tt
+over_later u v origin m m' (row ∷ rows) l h = (
+  record {
+    begun = h.0.begun;
+    over = omega (arith, h.0.over, l);
+    taken = taken_later u v row.amount h.0.taken;
+  },
+  over_later u v origin m m' rows l h.1,
 )
 
-batch-over : (origin m : ℕ) (members : List Object)
+batch-over : (u : Bool) (origin m : ℕ) (members : List Object)
     (number : ℕ) (rows : List Row) (vs : List RowVerdict) → length vs ≡ length rows →
-    first_some (rows_faults origin m members number rows vs) ≡ None →
-    AllByRecursion (IsOver origin m) rows
-batch-over origin m members number [] vs each h = tt
-batch-over origin m members number (row ∷ rows) [] each h = absurd (omega (arith, each))
-batch-over origin m members number (row ∷ rows) (v ∷ vs) each h =
-    let parts = first_parts (row_fault origin m members row v number)
-    (rows_faults origin m members (number + 1) rows vs) h in
-    let clean = clean_row origin m members row v number parts.0 in (
+    first_some (rows_faults u origin m members number rows vs) ≡ None →
+    AllByRecursion (IsOver u origin m) rows
+batch-over u origin m members number [] vs each h = tt
+batch-over u origin m members number (row ∷ rows) [] each h = absurd (omega (arith, each))
+batch-over u origin m members number (row ∷ rows) (v ∷ vs) each h =
+    let parts = first_parts (row_fault u origin m members row v number)
+    (rows_faults u origin m members (number + 1) rows vs) h in
+    let clean = clean_row u origin m members row v number parts.0 in (
       record { begun = clean.good.begun; over = clean.good.over; taken = clean.taken },
-      batch-over origin m members (number + 1) rows vs (omega (arith, each)) parts.1,
+      batch-over u origin m members (number + 1) rows vs (omega (arith, each)) parts.1,
     )
 
 -- what an entry leaves in all histories that go on from it
-record HasCome (origin m : ℕ) (came rows : List Row) : Type 0 where
+record HasCome (u : Bool) (origin m : ℕ) (came rows : List Row) : Type 0 where
   few : length rows ≤ most.MAX_BATCH_ROWS
-  over : AllByRecursion (IsOver origin m) rows
+  over : AllByRecursion (IsOver u origin m) rows
   settled : Settled came rows
 
-abbrev Leaves : ℕ → ℕ → List Row → Command → Type 0
-Leaves origin m came (Samples rows) = HasCome origin m came rows
-Leaves origin m came _ = Unit {0}
+abbrev Leaves : Bool → ℕ → ℕ → List Row → Command → Type 0
+Leaves u origin m came (Samples rows) = HasCome u origin m came rows
+Leaves u origin m came _ = Unit {0}
 
-leaves-later : (origin m m' : ℕ) (came more : List Row) (c : Command) → m ≤ m'
-    → Leaves origin m came c → Leaves origin m' (came ++ more) c
-leaves-later origin m m' came more (Samples rows) l h = record {
+leaves-later : (u v : Bool) (origin m m' : ℕ) (came more : List Row) (c : Command) → m ≤ m'
+    → Leaves u origin m came c → Leaves (v || u) origin m' (came ++ more) c
+leaves-later u v origin m m' came more (Samples rows) l h = record {
   few = h.few;
-  over = over_later origin m m' rows l h.over;
+  over = over_later u v origin m m' rows l h.over;
   settled = settled-later came more rows h.settled;
 }
-leaves-later origin m m' came more (Define text) l h = tt
-leaves-later origin m m' came more (Remove kind name) l h = tt
-leaves-later origin m m' came more (PutZone name bytes) l h = tt
-leaves-later origin m m' came more (Exclude value) l h = tt
-leaves-later origin m m' came more (Lift id) l h = tt
-leaves-later origin m m' came more Tick l h = tt
-leaves-later origin m m' came more (Take number) l h = tt
+leaves-later u v origin m m' came more (Define text) l h = tt
+leaves-later u v origin m m' came more (Remove kind name) l h = tt
+leaves-later u v origin m m' came more (PutZone name bytes) l h = tt
+leaves-later u v origin m m' came more (Exclude value) l h = tt
+leaves-later u v origin m m' came more (Lift id) l h = tt
+leaves-later u v origin m m' came more Tick l h = tt
+leaves-later u v origin m m' came more (Take number) l h = tt
+leaves-later u v origin m m' came more Upgrade l h = tt
 
-abbrev AllLeave : ℕ → ℕ → List Row → List Entry → Type 0
-AllLeave origin m came h = AllByRecursion (λ (e : Entry). Leaves origin m came e.command) h
+abbrev AllLeave : Bool → ℕ → ℕ → List Row → List Entry → Type 0
+AllLeave u origin m came h = AllByRecursion (λ (e : Entry). Leaves u origin m came e.command) h
 
-leave-push : (origin m m' : ℕ) (came more : List Row) (h : List Entry) (e : Entry) → m ≤ m' →
-    AllLeave origin m came h → Leaves origin m' (came ++ more) e.command →
-    AllLeave origin m' (came ++ more) (h ++ e ∷ [])
-leave-push origin m m' came more [] e l all here = (here, tt)
-leave-push origin m m' came more (x ∷ h) e l all here = (
-  leaves-later origin m m' came more x.command l all.0,
-  leave-push origin m m' came more h e l all.1 here,
+leave-push : (u v : Bool) (origin m m' : ℕ) (came more : List Row) (h : List Entry) (e : Entry) →
+    m ≤ m' → AllLeave u origin m came h → Leaves (v || u) origin m' (came ++ more) e.command →
+    AllLeave (v || u) origin m' (came ++ more) (h ++ e ∷ [])
+leave-push u v origin m m' came more [] e l all here = (here, tt)
+leave-push u v origin m m' came more (x ∷ h) e l all here = (
+  leaves-later u v origin m m' came more x.command l all.0,
+  leave-push u v origin m m' came more h e l all.1 here,
 )
 
 new-leaves : (origin : ℕ) (h : List Entry) (m : ℕ) (c : Command)
-    → Judges (office origin h) m c Accepted → Leaves origin m (rows_in h ++ rows_of c) c
+    → Judges (office origin h) m c Accepted
+    → Leaves (is_upgrade c || is_upgraded h) origin m (rows_in h ++ rows_of c) c
 new-leaves origin h m (Samples rows) v =
-    let keeps = accepted_keeps origin m (catalog_in h) (rows_in h) (length h) rows (sym v) in
+    let u = is_upgraded h in
+    let keeps = accepted_keeps u origin m (catalog_in h) (rows_in h) (length h) rows (sym v) in
     record {
       few = keeps.few;
-      over = batch-over origin m (catalog_in h) 1 rows (verdicts (rows_in h) rows)
+      over = batch-over u origin m (catalog_in h) 1 rows (verdicts (rows_in h) rows)
           (verdicts_each (rows_in h) rows) keeps.clean;
-      settled = batch-settled origin m (catalog_in h) (rows_in h) 1 rows keeps.clean;
+      settled = batch-settled u origin m (catalog_in h) (rows_in h) 1 rows keeps.clean;
     }
 new-leaves origin h m (Define text) v = tt
 new-leaves origin h m (Remove kind name) v = tt
@@ -163,6 +179,7 @@ new-leaves origin h m (Exclude value) v = tt
 new-leaves origin h m (Lift id) v = tt
 new-leaves origin h m Tick v = tt
 new-leaves origin h m (Take number) v = tt
+new-leaves origin h m Upgrade v = tt
 
 present-moved : (origin : ℕ) (h : List Entry) (e : Entry) → present (office origin h) ≤ e.moment
     → present (office origin (h ++ e ∷ [])) ≡ e.moment
@@ -173,44 +190,60 @@ present-moved origin h e later = present_more (office origin h) e
     greater a b h = omega (arith, h)
 
 legal-leaves : (origin : ℕ) (h : List Entry) → IsLegal origin h
-    → AllLeave origin (present (office origin h)) (rows_in h) h
+    → AllLeave (is_upgraded h) origin (present (office origin h)) (rows_in h) h
 legal-leaves origin _ empty = tt
 legal-leaves origin _ (followed {h = h} e legal may) =
-    subst (λ m. AllLeave origin m (rows_in (h ++ e ∷ [])) (h ++ e ∷ []))
+    subst (λ m. AllLeave (is_upgraded (h ++ e ∷ [])) origin m (rows_in (h ++ e ∷ [])) (h ++ e ∷ []))
     (sym (present-moved origin h e may.later))
-    (subst (λ (rows : List Row). AllLeave origin e.moment rows (h ++ e ∷ [])) (sym (rows_more h e))
-    (leave-push origin (present (office origin h))
+    (subst (λ (rows : List Row). AllLeave (is_upgraded (h ++ e ∷ [])) origin e.moment rows
+    (h ++ e ∷ [])) (sym (rows_more h e))
+    (subst (λ (u : Bool). AllLeave u origin e.moment (rows_in h ++ rows_of e.command) (h ++ e ∷ []))
+    (sym (upgraded_more h e))
+    (leave-push (is_upgraded h) (is_upgrade e.command) origin (present (office origin h))
     e.moment (rows_in h) (rows_of e.command) h e may.later (legal-leaves origin h legal)
-    (new-leaves origin h e.moment e.command may.accepted)))
+    (new-leaves origin h e.moment e.command may.accepted))))
 
-leaves-at : (origin m : ℕ) (came : List Row) (before after : List Entry) (e : Entry)
-    → AllLeave origin m came (before ++ e ∷ after) → Leaves origin m came e.command
-leaves-at origin m came [] after e all = all.0
-leaves-at origin m came (x ∷ before) after e all = leaves-at origin m came before after e all.1
+leaves-at : (u : Bool) (origin m : ℕ) (came : List Row) (before after : List Entry) (e : Entry)
+    → AllLeave u origin m came (before ++ e ∷ after) → Leaves u origin m came e.command
+leaves-at u origin m came [] after e all = all.0
+leaves-at u origin m came (x ∷ before) after e all = leaves-at u origin m came before after e all.1
 
 -- the limits of a legal history
-record IsWithin (came : List Row) : Type 0 where
-  cells : length (current_rows came) ≤ most.MAX_CELLS
-  taken : accepted_rows came ≤ most.MAX_ACCEPTED_ROWS
+record IsWithin (u : Bool) (came : List Row) : Type 0 where
+  cells : length (current_rows came) ≤ most_cells u
+  taken : accepted_rows came ≤ most_rows u
 
-within-after : (origin : ℕ) (h : List Entry) (m : ℕ) (c : Command) → IsWithin (rows_in h)
-    → Judges (office origin h) m c Accepted → IsWithin (rows_in h ++ rows_of c)
+-- a command that brings no rows keeps them, and so does the upgrade
+within-still : (v u : Bool) (came : List Row) → IsWithin u came → IsWithin (v || u) (came ++ [])
+within-still false u came w = subst (IsWithin u) (sym (append-nil came)) w
+within-still true u came w = subst (IsWithin true) (sym (append-nil came)) (record {
+  cells = omega (arith, w.cells, more_cells u);
+  taken = omega (arith, w.taken, more_rows u);
+})
+
+within-after : (origin : ℕ) (h : List Entry) (m : ℕ) (c : Command)
+    → IsWithin (is_upgraded h) (rows_in h) → Judges (office origin h) m c Accepted
+    → IsWithin (is_upgrade c || is_upgraded h) (rows_in h ++ rows_of c)
 within-after origin h m (Samples rows) w v =
-    let keeps = accepted_keeps origin m (catalog_in h) (rows_in h) (length h) rows (sym v) in
+    let keeps =
+    accepted_keeps (is_upgraded h) origin m (catalog_in h) (rows_in h) (length h) rows (sym v) in
     record { cells = keeps.cells; taken = keeps.taken }
-within-after origin h m (Define text) w v = subst IsWithin (sym (append-nil (rows_in h))) w
-within-after origin h m (Remove kind name) w v = subst IsWithin (sym (append-nil (rows_in h))) w
-within-after origin h m (PutZone name bytes) w v = subst IsWithin (sym (append-nil (rows_in h))) w
-within-after origin h m (Exclude value) w v = subst IsWithin (sym (append-nil (rows_in h))) w
-within-after origin h m (Lift id) w v = subst IsWithin (sym (append-nil (rows_in h))) w
-within-after origin h m Tick w v = subst IsWithin (sym (append-nil (rows_in h))) w
-within-after origin h m (Take number) w v = subst IsWithin (sym (append-nil (rows_in h))) w
+within-after origin h m (Define text) w v = within-still false (is_upgraded h) (rows_in h) w
+within-after origin h m (Remove kind name) w v = within-still false (is_upgraded h) (rows_in h) w
+within-after origin h m (PutZone name bytes) w v = within-still false (is_upgraded h) (rows_in h) w
+within-after origin h m (Exclude value) w v = within-still false (is_upgraded h) (rows_in h) w
+within-after origin h m (Lift id) w v = within-still false (is_upgraded h) (rows_in h) w
+within-after origin h m Tick w v = within-still false (is_upgraded h) (rows_in h) w
+within-after origin h m (Take number) w v = within-still false (is_upgraded h) (rows_in h) w
+within-after origin h m Upgrade w v = within-still true (is_upgraded h) (rows_in h) w
 
-legal-within : (origin : ℕ) (h : List Entry) → IsLegal origin h → IsWithin (rows_in h)
+legal-within : (origin : ℕ) (h : List Entry) → IsLegal origin h
+    → IsWithin (is_upgraded h) (rows_in h)
 legal-within origin _ empty = record { cells = omega arith; taken = omega arith }
 legal-within origin _ (followed {h = h} e legal may) =
-    subst IsWithin (sym (rows_more h e))
-    (within-after origin h e.moment e.command (legal-within origin h legal) may.accepted)
+    subst (λ (u : Bool). IsWithin u (rows_in (h ++ e ∷ []))) (sym (upgraded_more h e))
+    (subst (IsWithin (is_upgrade e.command || is_upgraded h)) (sym (rows_more h e))
+    (within-after origin h e.moment e.command (legal-within origin h legal) may.accepted))
 
 -- a batch whose rows are settled puts nothing
 settled-put : (v : RowVerdict) → is_settled v ≡ true → is_put v ≡ false
@@ -282,12 +315,12 @@ no_form_fault RawSuccess (amounts.Value measured) number form small =
     ap (λ b. when b (refusals.Counts number)) (le-ltb WHOLE measured form)
 no_form_fault RawFailure (amounts.Value measured) number form small =
     ap (λ b. when b (refusals.Counts number)) (le-ltb WHOLE measured form)
-no_form_fault _ amounts.Withdrawn number form small = refl
+no_form_fault reading amounts.Withdrawn number form small = refl
 
-no_row_fault : (origin m : ℕ) (members : List Object) (row : Row) (v : RowVerdict) (number : ℕ)
-    → RowIsRead members row → IsOver origin m row → is_settled v ≡ true
-    → row_fault origin m members row v number ≡ None
-no_row_fault origin m members row v number read over settled =
+no_row_fault : (u : Bool) (origin m : ℕ) (members : List Object) (row : Row) (v : RowVerdict)
+    (number : ℕ) → RowIsRead members row → IsOver u origin m row → is_settled v ≡ true
+    → row_fault u origin m members row v number ≡ None
+no_row_fault u origin m members row v number read over settled =
     λ i. first_some (
     form i
     ∷ when (early row.minute origin over.begun i) (refusals.Early row.minute origin number)
@@ -295,8 +328,8 @@ no_row_fault origin m members row v number read over settled =
     ∷ settled-agrees v number settled i
     ∷ [])
   where
-    form : form_fault (reading_named members row.sli) row number ≡ None
-    form = ap (λ reading. form_fault reading row number) read.1
+    form : form_fault u (reading_named members row.sli) row number ≡ None
+    form = ap (λ reading. form_fault u reading row number) read.1
         ∙ (λ i. first_some (over.taken number i
         ∷ no_form_fault read.0 row.amount number read.2 read.3 i ∷ []))
 
@@ -306,38 +339,39 @@ no_row_fault origin m members row v number read over settled =
     late : (a b : ℕ) → b < a → nat_le a b ≡ false
     late a b h = grind (arith, nat_tests, h)
 
-no_faults : (origin m : ℕ) (members : List Object)
+no_faults : (u : Bool) (origin m : ℕ) (members : List Object)
     (number : ℕ) (rows : List Row) (vs : List RowVerdict)
     → AllByRecursion (RowIsRead members) rows →
-    AllByRecursion (IsOver origin m) rows →
+    AllByRecursion (IsOver u origin m) rows →
     AllByRecursion (λ (v : RowVerdict). is_settled v ≡ true) vs →
-    first_some (rows_faults origin m members number rows vs) ≡ None
-no_faults origin m members number [] vs read over settled = refl
-no_faults origin m members number (row ∷ rows) [] read over settled = refl
-no_faults origin m members number (row ∷ rows) (v ∷ vs) read over settled =
-    ap (λ fault. first_some (fault ∷ rows_faults origin m members (number + 1) rows vs))
-    (no_row_fault origin m members row v number read.0 over.0 settled.0)
-    ∙ no_faults origin m members (number + 1) rows vs read.1 over.1 settled.1
+    first_some (rows_faults u origin m members number rows vs) ≡ None
+no_faults u origin m members number [] vs read over settled = refl
+no_faults u origin m members number (row ∷ rows) [] read over settled = refl
+no_faults u origin m members number (row ∷ rows) (v ∷ vs) read over settled =
+    ap (λ fault. first_some (fault ∷ rows_faults u origin m members (number + 1) rows vs))
+    (no_row_fault u origin m members row v number read.0 over.0 settled.0)
+    ∙ no_faults u origin m members (number + 1) rows vs read.1 over.1 settled.1
 
-same_again : (origin m : ℕ) (members : List Object) (came : List Row) (n : ℕ) (rows : List Row) →
-    HasCome origin m came rows → IsWithin came → AllByRecursion (RowIsRead members) rows →
+same_again : (u : Bool) (origin m : ℕ) (members : List Object) (came : List Row) (n : ℕ)
+    (rows : List Row) → HasCome u origin m came rows → IsWithin u came →
+    AllByRecursion (RowIsRead members) rows →
     objective_days members (current_rows came) ≤ most.MAX_DAYS →
-    samples_verdict origin m members came n rows ≡ Same (batch_outcome (verdicts came rows) None)
-same_again origin m members came n rows h w read days =
+    samples_verdict u origin m members came n rows ≡ Same (batch_outcome (verdicts came rows) None)
+same_again u origin m members came n rows h w read days =
     let vs = all-settled came rows h.settled in
     let same = same-current came rows h.settled in
-    let taken : accepted_rows (came ++ rows) ≤ most.MAX_ACCEPTED_ROWS =
+    let taken : accepted_rows (came ++ rows) ≤ most_rows u =
     omega (arith, accepted-more came rows, no-puts (verdicts came rows) vs, w.taken) in
-    let cells : length (current_rows (came ++ rows)) ≤ most.MAX_CELLS =
+    let cells : length (current_rows (came ++ rows)) ≤ most_cells u =
     omega (arith, ap length same, w.cells) in
     let few_days : objective_days members (current_rows (came ++ rows)) ≤ most.MAX_DAYS =
     omega (arith, ap (objective_days members) same, days) in
     λ i. unless_refused (first_some (
     when (le-ltb most.MAX_BATCH_ROWS (length rows) h.few i) (refusals.Limit limits.Rows)
-    ∷ no_faults origin m members 1 rows (verdicts came rows) read h.over vs i
-    ∷ when (le-ltb most.MAX_CELLS (length (current_rows (came ++ rows))) cells i)
+    ∷ no_faults u origin m members 1 rows (verdicts came rows) read h.over vs i
+    ∷ when (le-ltb (most_cells u) (length (current_rows (came ++ rows))) cells i)
     (refusals.Limit limits.Cells)
-    ∷ when (le-ltb most.MAX_ACCEPTED_ROWS (accepted_rows (came ++ rows)) taken i)
+    ∷ when (le-ltb (most_rows u) (accepted_rows (came ++ rows)) taken i)
     (refusals.Limit limits.Accepted)
     ∷ when (le-ltb most.MAX_DAYS (objective_days members (current_rows (came ++ rows))) few_days i)
     (refusals.Limit limits.Days)
@@ -347,15 +381,17 @@ same_again origin m members came n rows h w read days =
 
 pub batch_once : BatchActsOnce
 batch_once origin h before after e rows moment legal split is later read days =
+    let u = is_upgraded h in
+    let m = present (office origin h) in
     let all = legal-leaves origin h legal in
-    let come : HasCome origin (present (office origin h)) (rows_in h) rows =
-    subst (Leaves origin (present (office origin h)) (rows_in h)) is
-    (leaves-at origin (present (office origin h)) (rows_in h) before after e
-    (subst (AllLeave origin (present (office origin h)) (rows_in h)) split all)) in
-    sym (same_again origin moment (catalog_in h) (rows_in h) (length h) rows
+    let come : HasCome u origin m (rows_in h) rows =
+    subst (Leaves u origin m (rows_in h)) is
+    (leaves-at u origin m (rows_in h) before after e
+    (subst (AllLeave u origin m (rows_in h)) split all)) in
+    sym (same_again u origin moment (catalog_in h) (rows_in h) (length h) rows
     (record {
       few = come.few;
-      over = over_later origin (present (office origin h)) moment rows later come.over;
+      over = over_later u false origin m moment rows later come.over;
       settled = come.settled;
     })
     (legal-within origin h legal) read days)

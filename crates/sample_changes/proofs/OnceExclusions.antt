@@ -13,7 +13,7 @@ use Rattle.sample_book.specs.Exclusions.{Change, Excluded, Lifted, excluded_in, 
 use Rattle.sample_book.specs.Exclusions.{has_id, lifted_in}
 use Rattle.record_form.specs.declared.Command.{Command}
 use Rattle.record_form.specs.declared.Command.TheVariants.{Define, Remove, PutZone, Samples}
-use Rattle.record_form.specs.declared.Command.TheVariants.{Exclude, Lift, Tick, Take}
+use Rattle.record_form.specs.declared.Command.TheVariants.{Exclude, Lift, Tick, Take, Upgrade}
 use Rattle.record_form.specs.declared.Entry.{Entry}
 use Rattle.record_form.specs.declared.Outcome.TheVariants.{Changed}
 use Rattle.record_form.specs.declared.Refusal.TheVariants as refusals
@@ -136,6 +136,7 @@ leaves-later cs ds (PutZone name bytes) h = tt
 leaves-later cs ds (Samples rows) h = tt
 leaves-later cs ds Tick h = tt
 leaves-later cs ds (Take number) h = tt
+leaves-later cs ds Upgrade h = tt
 
 abbrev AllLeave : List Change → List Entry → Type 0
 AllLeave cs h = AllByRecursion (λ (e : Entry). Leaves cs e.command) h
@@ -201,6 +202,7 @@ new-leaves origin h m (PutZone name bytes) v = tt
 new-leaves origin h m (Samples rows) v = tt
 new-leaves origin h m Tick v = tt
 new-leaves origin h m (Take number) v = tt
+new-leaves origin h m Upgrade v = tt
 
 legal-leaves : (origin : ℕ) (h : List Entry) → IsLegal origin h → AllLeave (changes_in h) h
 legal-leaves origin _ empty = tt

@@ -1,5 +1,5 @@
 -- The judging of a batch over what is kept: the current rows, and how many rows were accepted.
-use Rattle.std.specs.Prelude.{ℕ, ◌+◌, cond, nat_lt, List, [], ◌∷◌, ◌++◌, length, Option, None}
+use Rattle.std.specs.Prelude.{ℕ, ◌+◌, Bool, cond, nat_lt, List, [], ◌∷◌, ◌++◌, length, Option, None}
 use Rattle.std.specs.List.{list_any}
 use Rattle.slo_limits.specs.declared.TheConstants as most
 use Rattle.sample_book.specs.declared.Row.{Row}
@@ -16,14 +16,15 @@ use Rattle.office_history.specs.declared.Judgement.TheVariants.{Same}
 use Rattle.office_history.specs.Lists.{first_some}
 use Rattle.office_history.specs.Batches.{when, batch_fault, count, batch_outcome, objective_days}
 use Rattle.office_history.specs.Verdicts.{unless_refused, accepted}
+use Rattle.office_history.specs.Versions.{most_cells, most_rows}
 
 -- the first rule that rows break behind the limit of their number
-abbrev pub rows_fault : ℕ → ℕ → List Object → List Row → ℕ → List Row → Option Refusal
-rows_fault origin moment members kept taken rows = first_some (
-    batch_fault origin moment members kept rows
-    ∷ when (nat_lt most.MAX_CELLS (length (current_rows (kept ++ rows))))
+abbrev pub rows_fault : Bool → ℕ → ℕ → List Object → List Row → ℕ → List Row → Option Refusal
+rows_fault upgraded origin moment members kept taken rows = first_some (
+    batch_fault upgraded origin moment members kept rows
+    ∷ when (nat_lt (most_cells upgraded) (length (current_rows (kept ++ rows))))
     (refusals.Limit limits.Cells)
-    ∷ when (nat_lt most.MAX_ACCEPTED_ROWS (taken + count is_put (verdicts kept rows)))
+    ∷ when (nat_lt (most_rows upgraded) (taken + count is_put (verdicts kept rows)))
     (refusals.Limit limits.Accepted)
     ∷ when (nat_lt most.MAX_DAYS (objective_days members (current_rows (kept ++ rows))))
     (refusals.Limit limits.Days)
@@ -35,7 +36,7 @@ faultless_verdict vs entries =
     cond (list_any is_put vs) (accepted entries) (Same (batch_outcome vs None))
 
 -- what becomes of rows that come over current rows, of which there aren't too many
-abbrev pub rows_verdict : ℕ → ℕ → List Object → List Row → ℕ → ℕ → List Row → Judgement
-rows_verdict origin moment members kept taken entries rows =
-    unless_refused (rows_fault origin moment members kept taken rows)
+abbrev pub rows_verdict : Bool → ℕ → ℕ → List Object → List Row → ℕ → ℕ → List Row → Judgement
+rows_verdict upgraded origin moment members kept taken entries rows =
+    unless_refused (rows_fault upgraded origin moment members kept taken rows)
     (faultless_verdict (verdicts kept rows) entries)

@@ -7,7 +7,7 @@ use Rattle.sample_book.specs.declared.Row.{Row}
 use Rattle.sample_book.specs.declared.Exclusion.{Exclusion}
 use Rattle.sample_book.specs.Exclusions.{lifted_in}
 use Rattle.sample_book.specs.Puts.{verdicts}
-use Rattle.record_form.specs.declared.Command.TheVariants.{Samples, Exclude, Lift}
+use Rattle.record_form.specs.declared.Command.TheVariants.{Samples, Exclude, Lift, Upgrade}
 use Rattle.record_form.specs.declared.Entry.{Entry}
 use Rattle.record_form.specs.declared.Outcome.TheVariants.{Changed}
 use Rattle.record_form.specs.declared.Refusal.TheVariants as refusals
@@ -28,6 +28,12 @@ abbrev pub LiftActsOnce : Type 0
 LiftActsOnce = (origin : ℕ) (h before after : List Entry) (e : Entry) (id : List ℕ) (moment : ℕ) →
     IsLegal origin h → h ≡ before ++ e ∷ after → e.command ≡ Lift id →
     Judges (office origin h) moment (Lift id) (Same (Changed None))
+
+-- so does the upgrade
+abbrev pub UpgradeActsOnce : Type 0
+UpgradeActsOnce = (origin : ℕ) (h before after : List Entry) (e : Entry) (moment : ℕ) →
+    h ≡ before ++ e ∷ after → e.command ≡ Upgrade →
+    Judges (office origin h) moment Upgrade (Same (Changed None))
 
 -- so does an exclusion, unless its id was lifted: then it is refused as withdrawn
 abbrev pub ExcludeActsOnce : Type 0

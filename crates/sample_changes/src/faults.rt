@@ -76,22 +76,30 @@ fn amount_fault(reading: Reading, amount: Amount, number: u32) -> Option<Refusal
     }
 }
 
-/// Whether the office takes a row's amount.
-fn version_fault(amount: Amount, number: u32) -> Option<Refusal>
-    ensures { result ≡ version_fault_def amount number }
+/// What an amount breaks in an office that is upgraded or not.
+fn version_fault(upgraded: bool, amount: Amount, number: u32) -> Option<Refusal>
+    ensures { result ≡ version_fault_def upgraded amount number }
 {
     match amount {
-        Amount::Withdrawn => Some(Refusal::Version { row: number }),
-        Amount::Counts { .. } | Amount::Value(_) => None,
+        Amount::Withdrawn => {
+            if upgraded {
+                None
+            } else {
+                Some(Refusal::Version { row: number })
+            }
+        }
+        Amount::Counts { .. } => None,
+        Amount::Value(_) => None,
     }
 }
 
 /// What a row breaks by itself.
-fn form_fault(catalog: &Catalog, row: &Row, number: u32) -> Option<Refusal>
-    ensures { result ≡ form_fault_def (reading_named_def catalog.now row.now.sli) row.now number }
+fn form_fault(upgraded: bool, catalog: &Catalog, row: &Row, number: u32) -> Option<Refusal>
+    ensures { result ≡ form_fault_def upgraded (reading_named_def catalog.now row.now.sli) row.now
+        number }
 {
     match reading_named(catalog, row.sli) {
-        Some(reading) => match version_fault(row.amount, number) {
+        Some(reading) => match version_fault(upgraded, row.amount, number) {
             Some(fault) => Some(fault),
             None => amount_fault(reading, row.amount, number),
         },
@@ -118,6 +126,7 @@ fn conflict_fault(verdict: &RowVerdict, number: u32) -> Option<Refusal>
 
 /// The first rule that a row breaks, as the row of this number of its batch.
 fn row_fault(
+    upgraded: bool,
     origin: u32,
     moment: u32,
     catalog: &Catalog,
@@ -125,9 +134,10 @@ fn row_fault(
     verdict: &RowVerdict,
     number: u32,
 ) -> Option<Refusal>
-    ensures { result ≡ row_fault_def origin moment catalog.now row.now verdict.now number }
+    ensures { result ≡ row_fault_def upgraded origin moment catalog.now row.now verdict.now
+        number }
 {
-    if let Some(fault) = form_fault(catalog, row, number) {
+    if let Some(fault) = form_fault(upgraded, catalog, row, number) {
         return Some(fault);
     }
     if row.minute < origin {
@@ -149,6 +159,7 @@ fn row_fault(
 
 /// The first rule that a row of a batch breaks, where each becomes this behind those before it.
 pub(crate) fn batch_fault(
+    upgraded: bool,
     origin: u32,
     moment: u32,
     catalog: &Catalog,
@@ -157,10 +168,12 @@ pub(crate) fn batch_fault(
 ) -> Option<Refusal>
     requires each { length verdicts.now ≡ length rows.now }
     requires few { length rows.now ≤ MAX_BATCH_ROWS }
-    ensures { result ≡ first_some (rows_faults origin moment catalog.now 1 rows.now verdicts.now) }
+    ensures { result ≡ first_some (rows_faults upgraded origin moment catalog.now 1 rows.now
+        verdicts.now) }
 {
     for (place, row) in rows.iter().enumerate() {
         let fault = row_fault(
+            upgraded,
             origin,
             moment,
             catalog,

@@ -1,5 +1,6 @@
 //! What comes again changes nothing.
 ghost use Rattle.sample_changes.specs.Once.{BatchActsOnce, ExcludeActsOnce, LiftActsOnce};
+ghost use Rattle.sample_changes.specs.Once.{UpgradeActsOnce};
 
 /// A batch that is an entry of a legal history leaves all as it is when it comes again, where its
 /// indicators are still read as they were and the days of the history are within their limit.
@@ -16,4 +17,9 @@ pub fn an_exclusion_acts_once()
 /// A lifting that is an entry of a legal history leaves all as it is when it comes again.
 pub fn a_lifting_acts_once()
     ensures { LiftActsOnce }
+{}
+
+/// An upgrade that is an entry of a legal history leaves all as it is when it comes again.
+pub fn an_upgrade_acts_once()
+    ensures { UpgradeActsOnce }
 {}

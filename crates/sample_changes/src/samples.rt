@@ -24,12 +24,13 @@ ghost use Rattle.sample_changes.specs.Works.{ComesTo};
 
 use crate::faults::{batch_fault, limit};
 use crate::tally::tally_of;
+use crate::upgrade::{cell_limit, row_limit};
 use objective_days::passes_days_limit;
 use office_derived::{BatchTally, Derived, Judged, Work, accepted};
 use office_history::Judgement;
 use record_form::{LimitName, Outcome, Refusal, Rows};
 use sample_book::{Row, RowVerdict, SampleBook};
-use slo_limits::{MAX_ACCEPTED_ROWS, MAX_BATCH_ROWS, MAX_CELLS, RANGE_MINUTES};
+use slo_limits::{MAX_BATCH_ROWS, RANGE_MINUTES};
 use std::alloc::{AllocError, Global};
 
 /// A minute before which all rows of an office lie, and those that are over at the moment.
@@ -55,18 +56,26 @@ fn rows_fault(
     requires judged { verdicts.now ≡ verdicts_def derived.now.book.rows rows.now }
     requires counted { tally ≡ tally_of_def verdicts.now }
     requires small { tally.new + tally.newer ≤ most_rows }
-    ensures { IfOk result (λ fault. fault ≡ rows_fault_def derived.now.origin moment
-        derived.now.catalog derived.now.book.rows derived.now.accepted rows.now) }
+    ensures { IfOk result (λ fault. fault ≡ rows_fault_def derived.now.upgraded derived.now.origin
+        moment derived.now.catalog derived.now.book.rows derived.now.accepted rows.now) }
 {
     derived.book.rows_are_current();
-    match batch_fault(derived.origin, moment, &derived.catalog, rows, verdicts) {
+    let upgraded = derived.upgraded;
+    match batch_fault(
+        upgraded,
+        derived.origin,
+        moment,
+        &derived.catalog,
+        rows,
+        verdicts,
+    ) {
         Some(fault) => return Ok(Some(fault)),
         None => {}
     }
-    if MAX_CELLS < derived.book.cells() + tally.new {
+    if cell_limit(upgraded) < derived.book.cells() + tally.new {
         return Ok(Some(limit(LimitName::Cells)));
     }
-    if MAX_ACCEPTED_ROWS < derived.accepted + (tally.new + tally.newer) {
+    if row_limit(upgraded) < derived.accepted + (tally.new + tally.newer) {
         return Ok(Some(limit(LimitName::Accepted)));
     }
     let end = end_of_rows(derived.origin, moment);
@@ -110,9 +119,9 @@ fn judgement_of(
     requires judged { verdicts.now ≡ verdicts_def derived.now.book.rows rows.now }
     requires counted { tally ≡ tally_of_def verdicts.now }
     requires small { tally.new + tally.newer ≤ most_rows }
-    ensures { IfOk result (λ judgement. judgement ≡ rows_verdict derived.now.origin moment
-        derived.now.catalog derived.now.book.rows derived.now.accepted derived.now.entries
-        rows.now) }
+    ensures { IfOk result (λ judgement. judgement ≡ rows_verdict derived.now.upgraded
+        derived.now.origin moment derived.now.catalog derived.now.book.rows derived.now.accepted
+        derived.now.entries rows.now) }
 {
     let fault = rows_fault(alloc, derived, moment, rows, verdicts, tally)?;
     match fault {
@@ -138,9 +147,9 @@ fn rows_judgement(
 ) -> Result<BatchFound, AllocError>
     requires sound { IsSound derived.now }
     requires few { length rows.now ≤ most_rows }
-    ensures judged { IfOk result (λ found. found.judgement ≡ rows_verdict derived.now.origin moment
-        derived.now.catalog derived.now.book.rows derived.now.accepted derived.now.entries
-        rows.now) }
+    ensures judged { IfOk result (λ found. found.judgement ≡ rows_verdict derived.now.upgraded
+        derived.now.origin moment derived.now.catalog derived.now.book.rows derived.now.accepted
+        derived.now.entries rows.now) }
     ensures counted { IfOk result (λ found. found.tally ≡ tally_of_def (verdicts_def
         derived.now.book.rows rows.now)) }
     ensures each { IfOk result (λ found. found.verdicts.items ≡ verdicts_def

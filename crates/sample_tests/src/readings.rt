@@ -76,16 +76,21 @@ fn amounts_count_by_their_reading(rt: HostRuntime) {
         counts_of(Reading::RawFailure, Op::Lte, half, value(250_000_000)),
         rest
     );
-    for reading in [
-        Reading::Good,
-        Reading::Bad,
-        Reading::Threshold,
-        Reading::RawSuccess,
-        Reading::RawFailure,
-    ] {
-        let withdrawn = counts_of(reading, Op::Lte, half, Amount::Withdrawn);
-        assert_eq!(rt; withdrawn, counts(0, 0));
-    }
+}
+
+#[test]
+fn withdrawn_rows_count_for_nothing(rt: HostRuntime) {
+    let half = decimal(HALF);
+    let good = counts_of(Reading::Good, Op::Lte, half, Amount::Withdrawn);
+    assert_eq!(rt; good, counts(0, 0));
+    let bad = counts_of(Reading::Bad, Op::Lte, half, Amount::Withdrawn);
+    assert_eq!(rt; bad, counts(0, 0));
+    let threshold = counts_of(Reading::Threshold, Op::Lte, half, Amount::Withdrawn);
+    assert_eq!(rt; threshold, counts(0, 0));
+    let success = counts_of(Reading::RawSuccess, Op::Lte, half, Amount::Withdrawn);
+    assert_eq!(rt; success, counts(0, 0));
+    let failure = counts_of(Reading::RawFailure, Op::Lte, half, Amount::Withdrawn);
+    assert_eq!(rt; failure, counts(0, 0));
 }
 
 #[test]

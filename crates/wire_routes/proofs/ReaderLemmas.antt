@@ -15,7 +15,7 @@ use Rattle.wire_routes.specs.declared.place.Route.TheVariants as route
 use Rattle.wire_routes.specs.declared.place.Place.{Place}
 use Rattle.wire_routes.specs.declared.place.Place.TheVariants.{Objects, Object, Zone, Samples}
 use Rattle.wire_routes.specs.declared.place.Place.TheVariants.{Exclusion, Tick, Notices, Take}
-use Rattle.wire_routes.specs.declared.place.Place.TheVariants.{Budgets, Burns, Alerts}
+use Rattle.wire_routes.specs.declared.place.Place.TheVariants.{Upgrade, Budgets, Burns, Alerts}
 use Rattle.wire_routes.specs.Cuts.{after_word, cut_at, number32}
 use Rattle.wire_routes.specs.Places.{IsPath}
 use Rattle.wire_routes.specs.Readers.{route_of, fixed_at, object_of, object_at, zone_at}
@@ -113,6 +113,7 @@ there path (Exclusion id) (at, legal) = ap exclusion_at at ∙ rw legal refl
 there path Tick at = fixed_there (codes "/tick") path Tick at
 there path Notices at = fixed_there (codes "/notices") path Notices at
 there path (Take n) (digits, at, number) = ap take_at at ∙ take_there digits n number
+there path Upgrade at = fixed_there (codes "/upgrade") path Upgrade at
 there path (Budgets s) (at, legal) = ap budgets_at at ∙ rw legal refl
 there path (Burns s n) (digits, at, legal, number) = ap burns_at at
     ∙ burns_there s digits n legal number
@@ -240,6 +241,8 @@ back route.Tick path p h =
 back route.Notices path p h =
     (let (at, is) = fixed_back (codes "/notices") path Notices p h in subst (IsPath path) is at)
 back route.Take path p h = take_back path p h
+back route.Upgrade path p h =
+    (let (at, is) = fixed_back (codes "/upgrade") path Upgrade p h in subst (IsPath path) is at)
 back route.Budgets path p h = (let (n, is, at, legal) =
     labelled (codes "/budgets/") path (λ n. Budgets n) p h in subst (IsPath path) is (at, legal))
 back route.Burns path p h = burns_back path p h

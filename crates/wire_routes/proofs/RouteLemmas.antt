@@ -12,14 +12,15 @@ use Rattle.wire_routes.specs.declared.place.Route.{Route}
 use Rattle.wire_routes.specs.declared.place.Place.{Place}
 use Rattle.wire_routes.specs.declared.place.Place.TheVariants.{Objects, Object, Zone, Samples}
 use Rattle.wire_routes.specs.declared.place.Place.TheVariants.{Exclusion, Tick, Notices, Take}
-use Rattle.wire_routes.specs.declared.place.Place.TheVariants.{Budgets, Burns, Alerts}
+use Rattle.wire_routes.specs.declared.place.Place.TheVariants.{Upgrade, Budgets, Burns, Alerts}
 use Rattle.wire_routes.specs.Laws.{OneAnswer, SomeAnswer}
 use Rattle.wire_routes.specs.Places.{Finds, IsPath}
 use Rattle.wire_routes.specs.Readers.{place_by, route_of}
 use Rattle.wire_routes.specs.Requests.{answer_of}
 use Rattle.wire_routes.specs.Table.{table, alerts_route, budgets_route, burns_route}
 use Rattle.wire_routes.specs.Table.{exclusion_route, notices_route, object_route, objects_route}
-use Rattle.wire_routes.specs.Table.{samples_route, take_route, tick_route, zone_route}
+use Rattle.wire_routes.specs.Table.{samples_route, take_route, tick_route, upgrade_route}
+use Rattle.wire_routes.specs.Table.{zone_route}
 use Rattle.wire_routes.proofs.CutLemmas.{IsPart, digits_part, label_part, word_part, zone_parts}
 use Rattle.wire_routes.proofs.ReaderLemmas.{back, there}
 use Rattle.wire_routes.proofs.SeekLemmas.{seek_last, seek_literal, seek_name, seek_rest}
@@ -89,6 +90,10 @@ first_notices : first table (codes "/notices") ≡ Some notices_route.1
 unfolding matchit_on_literals
 first_notices = refl
 
+first_upgrade : first table (codes "/upgrade") ≡ Some upgrade_route.1
+unfolding matchit_on_literals
+first_upgrade = refl
+
 kind_part : (k : Kind) → IsPart (kind_word k)
 kind_part kinds.DataSource = word_part _ refl refl
 kind_part kinds.Service = word_part _ refl refl
@@ -150,6 +155,7 @@ located path Tick at = (tick_route.1, ap (first table) at ∙ first_tick, refl)
 located path Notices at = (notices_route.1, ap (first table) at ∙ first_notices, refl)
 located path (Take n) (digits, at, number) =
     (take_route.1, ap (first table) at ∙ take_first digits (digits_part digits n number), refl)
+located path Upgrade at = (upgrade_route.1, ap (first table) at ∙ first_upgrade, refl)
 located path (Budgets s) (at, legal) =
     (budgets_route.1, ap (first table) at ∙ budgets_first s (label_part s legal), refl)
 located path (Burns s n) (digits, at, legal, number) = (

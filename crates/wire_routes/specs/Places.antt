@@ -7,7 +7,7 @@ use Rattle.wire_routes.specs.Cuts.{number32}
 use Rattle.wire_routes.specs.declared.place.Place.{Place}
 use Rattle.wire_routes.specs.declared.place.Place.TheVariants.{Objects, Object, Zone, Samples}
 use Rattle.wire_routes.specs.declared.place.Place.TheVariants.{Exclusion, Tick, Notices, Take}
-use Rattle.wire_routes.specs.declared.place.Place.TheVariants.{Budgets, Burns, Alerts}
+use Rattle.wire_routes.specs.declared.place.Place.TheVariants.{Upgrade, Budgets, Burns, Alerts}
 
 -- the path is the place's, slashes (47) and all
 abbrev pub IsPath : List ℕ → Place → Type 0
@@ -21,6 +21,7 @@ IsPath path Tick = path ≡ codes "/tick"
 IsPath path Notices = path ≡ codes "/notices"
 IsPath path (Take number) = (digits : List ℕ)
     × (path ≡ codes "/notices/" ++ (digits ++ codes "/take")) × (number32 digits ≡ Some number)
+IsPath path Upgrade = path ≡ codes "/upgrade"
 IsPath path (Budgets slo) = (path ≡ codes "/budgets/" ++ slo) × (is_label slo ≡ true)
 IsPath path (Burns slo objective) =
     (digits : List ℕ) × (path ≡ codes "/burns/" ++ (slo ++ 47 ∷ digits)) × (is_label slo ≡ true)

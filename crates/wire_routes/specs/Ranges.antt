@@ -4,6 +4,7 @@ use Rattle.std.specs.List.{AllByRecursion}
 use Rattle.record_form.specs.declared.command.Command.{Command}
 use Rattle.record_form.specs.declared.command.Command.TheVariants.{Define, Remove, PutZone, Samples}
 use Rattle.record_form.specs.declared.command.Command.TheVariants.{Exclude, Lift, Tick, Take}
+use Rattle.record_form.specs.declared.command.Command.TheVariants.{Upgrade}
 use Rattle.record_form.specs.declared.query.Request.{Request}
 use Rattle.record_form.specs.declared.query.Request.TheVariants.{Change, Ask}
 use Rattle.record_form.specs.Ranges.{IsRowInRange}
@@ -20,6 +21,7 @@ IsChangeInRange (Exclude value) = Unit {0}
 IsChangeInRange (Lift id) = Unit {0}
 IsChangeInRange Tick = Unit {0}
 IsChangeInRange (Take number) = Unit {0}
+IsChangeInRange Upgrade = Unit {0}
 
 abbrev pub IsRequestInRange : Request → Type 0
 IsRequestInRange (Change command) = IsChangeInRange command

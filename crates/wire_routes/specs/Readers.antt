@@ -8,7 +8,7 @@ use Rattle.wire_routes.specs.Cuts.{after_word, cut_at, number32}
 use Rattle.wire_routes.specs.declared.place.Place.{Place}
 use Rattle.wire_routes.specs.declared.place.Place.TheVariants.{Objects, Object, Zone, Samples}
 use Rattle.wire_routes.specs.declared.place.Place.TheVariants.{Exclusion, Tick, Notices, Take}
-use Rattle.wire_routes.specs.declared.place.Place.TheVariants.{Budgets, Burns, Alerts}
+use Rattle.wire_routes.specs.declared.place.Place.TheVariants.{Upgrade, Budgets, Burns, Alerts}
 use Rattle.wire_routes.specs.declared.place.Route.{Route}
 use Rattle.wire_routes.specs.declared.place.Route.TheVariants as route
 
@@ -22,6 +22,7 @@ route_of (Exclusion id) = route.Exclusion
 route_of Tick = route.Tick
 route_of Notices = route.Notices
 route_of (Take number) = route.Take
+route_of Upgrade = route.Upgrade
 route_of (Budgets slo) = route.Budgets
 route_of (Burns slo objective) = route.Burns
 route_of (Alerts slo objective policy) = route.Alerts
@@ -87,6 +88,7 @@ place_by route.Exclusion path = exclusion_at path
 place_by route.Tick path = fixed_at (codes "/tick") Tick path
 place_by route.Notices path = fixed_at (codes "/notices") Notices path
 place_by route.Take path = take_at path
+place_by route.Upgrade path = fixed_at (codes "/upgrade") Upgrade path
 place_by route.Budgets path = budgets_at path
 place_by route.Burns path = burns_at path
 place_by route.Alerts path = alerts_at path

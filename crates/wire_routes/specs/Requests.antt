@@ -4,6 +4,7 @@ use Rattle.message_heads.specs.Streams.{Said}
 use Rattle.message_heads.specs.Targets.{path_of, query_of}
 use Rattle.record_form.specs.declared.command.Command.TheVariants.{Define, Remove, PutZone, Samples}
 use Rattle.record_form.specs.declared.command.Command.TheVariants.{Exclude, Lift, Tick, Take}
+use Rattle.record_form.specs.declared.command.Command.TheVariants.{Upgrade}
 use Rattle.record_form.specs.declared.query.Query.{Query}
 use Rattle.record_form.specs.declared.query.Query.TheVariants as ask
 use Rattle.record_form.specs.declared.query.Request.{Request}
@@ -74,6 +75,8 @@ answer_at place.Notices Get query body = without_keys query (Ok (Ask ask.Notices
 answer_at place.Notices _ query body = Err (no_request.Method allow.Get)
 answer_at (place.Take number) Post query body = without_keys query (Ok (Change (Take number)))
 answer_at (place.Take number) _ query body = Err (no_request.Method allow.Post)
+answer_at place.Upgrade Post query body = without_keys query (Ok (Change Upgrade))
+answer_at place.Upgrade _ query body = Err (no_request.Method allow.Post)
 answer_at (place.Budgets slo) Get query body =
     with_keys (λ at. ask.Budgets slo at) (budgets_keys query)
 answer_at (place.Budgets slo) _ query body = Err (no_request.Method allow.Get)

@@ -5,7 +5,7 @@ use Rattle.matchit.specs.Router.{RouteOf}
 use Rattle.wire_routes.specs.declared.place.Route.{Route}
 use Rattle.wire_routes.specs.declared.place.Route.TheVariants.{Objects, Object, Zone, Samples}
 use Rattle.wire_routes.specs.declared.place.Route.TheVariants.{Exclusion, Tick, Notices, Take}
-use Rattle.wire_routes.specs.declared.place.Route.TheVariants.{Budgets, Burns, Alerts}
+use Rattle.wire_routes.specs.declared.place.Route.TheVariants.{Upgrade, Budgets, Burns, Alerts}
 
 abbrev pub RouteTable : Type 0
 RouteTable = TableOf (RouteOf Route)
@@ -58,6 +58,9 @@ samples_route = route_at (codes "/samples") (codes "/samples") [] Samples
 abbrev pub tick_route : List ℕ × RouteOf Route
 tick_route = route_at (codes "/tick") (codes "/tick") [] Tick
 
+abbrev pub upgrade_route : List ℕ × RouteOf Route
+upgrade_route = route_at (codes "/upgrade") (codes "/upgrade") [] Upgrade
+
 abbrev pub zone_route : List ℕ × RouteOf Route
 zone_route =
     route_at (codes "/zones/" ++ (catch_all_token ∷ [])) (codes "/zones/{*name}") ((9, 13) ∷ [])
@@ -67,4 +70,4 @@ zone_route =
 abbrev pub table : RouteTable
 table =
     alerts_route ∷ budgets_route ∷ burns_route ∷ exclusion_route ∷ take_route ∷ notices_route
-    ∷ object_route ∷ objects_route ∷ samples_route ∷ tick_route ∷ zone_route ∷ []
+    ∷ object_route ∷ objects_route ∷ samples_route ∷ tick_route ∷ upgrade_route ∷ zone_route ∷ []

@@ -22,6 +22,8 @@ pub enum Route {
     Notices,
     /// `/notices/{n}/take`
     Take,
+    /// `/upgrade`
+    Upgrade,
     /// `/budgets/{slo}`
     Budgets,
     /// `/burns/{slo}/{objective}`
@@ -50,6 +52,7 @@ pub enum Place {
     Take {
         number: u32,
     },
+    Upgrade,
     Budgets {
         slo: Label,
     },

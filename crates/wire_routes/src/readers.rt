@@ -106,6 +106,7 @@ pub(crate) fn place_by(route: Route, path: &[u8]) -> Option<Place>
         Route::Tick => fixed_at(path, b"/tick", Place::Tick),
         Route::Notices => fixed_at(path, b"/notices", Place::Notices),
         Route::Take => take_at(path),
+        Route::Upgrade => fixed_at(path, b"/upgrade", Place::Upgrade),
         Route::Budgets => budgets_at(path),
         Route::Burns => burns_at(path),
         Route::Alerts => alerts_at(path),

@@ -188,6 +188,16 @@ fn take(number: u32, method: Method, query: Option<&[u8]>) -> Routed
     }
 }
 
+fn upgrade(method: Method, query: Option<&[u8]>) -> Routed
+    ensures { (body : List ℕ)
+        → IsRoutedAs (answer_at place.Upgrade method (bytes_of query.entry) body) result }
+{
+    match method {
+        Method::Post => without_keys(query, Request::Change(Command::Upgrade)),
+        Method::Delete | Method::Get | Method::Put | Method::Other => other_methods(Allow::Post),
+    }
+}
+
 fn budgets(slo: Label, method: Method, query: Option<&[u8]>) -> Routed
     ensures { (body : List ℕ)
         → IsRoutedAs (answer_at (place.Budgets slo) method (bytes_of query.entry) body) result }
@@ -260,6 +270,7 @@ fn answer_at(
         Place::Tick => tick(method, query),
         Place::Notices => notices(method, query),
         Place::Take { number } => take(*number, method, query),
+        Place::Upgrade => upgrade(method, query),
         Place::Budgets { slo } => budgets(*slo, method, query),
         Place::Burns { slo, objective } => burns(*slo, *objective, method, query),
         Place::Alerts {

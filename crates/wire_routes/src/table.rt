@@ -19,6 +19,7 @@ pub(crate) fn make_router(alloc: Global) -> Result<Router<Route>, InsertError>
     router.insert("/tick", Route::Tick)?;
     router.insert("/notices", Route::Notices)?;
     router.insert("/notices/{n}/take", Route::Take)?;
+    router.insert("/upgrade", Route::Upgrade)?;
     router.insert("/budgets/{slo}", Route::Budgets)?;
     router.insert("/burns/{slo}/{objective}", Route::Burns)?;
     router.insert("/alerts/{slo}/{objective}/{policy}", Route::Alerts)?;

@@ -26,15 +26,18 @@ const TICK: &[u8] = b"\x00\x00\x01\xf4\x07";
 
 const TAKE: &[u8] = b"\x00\x00\x01\xf4\x08\x00\x00\x00\x03";
 
+const UPGRADE: &[u8] = b"\x00\x00\x01\xf4\x09";
+
 /// Bytes that are no record, by the form that they break.
-const NO_RECORDS: [&[u8]; 25] = [
+const NO_RECORDS: [&[u8]; 26] = [
     // Cut short, one byte more, no kind, a kind that isn't there.
     b"",
     b"\x00\x00\x01",
     b"\x00\x00\x01\xf4",
     b"\x00\x00\x01\xf4\x07\x07",
     b"\x00\x00\x01\xf4\x00",
-    b"\x00\x00\x01\xf4\x09",
+    b"\x00\x00\x01\xf4\x0a",
+    b"\x00\x00\x01\xf4\x09\x09",
     // A moment of 67,108,864.
     b"\x04\x00\x00\x00\x07",
     // Define: a length of one byte more, of one byte less, and of 1,048,577.
@@ -72,8 +75,8 @@ const NO_RECORDS: [&[u8]; 25] = [
     b"\x00\x00\x01\xf4\x08\x00\x00\x03",
 ];
 
-/// The records of the eight commands at 500, and the kind bytes.
-const RECORDS: [(&[u8], u8); 8] = [
+/// The records of the nine commands at 500, and the kind bytes.
+const RECORDS: [(&[u8], u8); 9] = [
     (DEFINE, 1),
     (REMOVE, 2),
     (PUT_ZONE, 3),
@@ -82,6 +85,7 @@ const RECORDS: [(&[u8], u8); 8] = [
     (LIFT, 6),
     (TICK, 7),
     (TAKE, 8),
+    (UPGRADE, 9),
 ];
 
 // The command is the one that its record above spells, by the place of its kind from 1.
@@ -100,6 +104,7 @@ fn spelled(command: &Command) -> (bool, u8) {
         Command::Lift(id) => (id.as_str() == "night", 6),
         Command::Tick => (true, 7),
         Command::Take(number) => (*number == 3, 8),
+        Command::Upgrade => (true, 9),
     }
 }
 

@@ -25,6 +25,7 @@ POST /tick ~ {} ~ tick
 GET /notices ~  ~ notices
 POST /notices/007/take ~ x ~ take 7
 POST /notices/4294967295/take ~  ~ take 4294967295
+POST /upgrade ~ x ~ upgrade
 GET /budgets/shop-slo ~  ~ budgets shop-slo None
 GET /burns/shop-slo/1?lookback=1h ~  ~ burn shop-slo 1 1 Hour None
 GET /alerts/shop-slo/0/fast?from=2&to=9 ~  ~ timeline shop-slo 0 fast 2 9";
@@ -43,6 +44,7 @@ GET /budgets/a123456789b123456789c123456789d123456789e123456789f123456789xyz4 ~ 
 PUT /zones/ ~  ~ NotFound
 PUT /zones/a%20b ~  ~ NotFound
 POST /samples/ ~  ~ NotFound
+POST /upgrade/ ~  ~ NotFound
 PUT /exclusions/a/b ~  ~ NotFound
 POST /notices/4294967296/take ~  ~ NotFound
 POST /notices/+1/take ~  ~ NotFound
@@ -59,6 +61,7 @@ GET /zones/Europe/Berlin ~  ~ Method(Put)
 GET /samples ~ x ~ Method(Post)
 GET /exclusions/night ~  ~ Method(PutDelete)
 GET /tick ~  ~ Method(Post)
+GET /upgrade ~  ~ Method(Post)
 POST /notices ~  ~ Method(Get)
 GET /notices/1/take ~  ~ Method(Post)
 POST /budgets/shop?at=x ~  ~ Method(Get)
@@ -68,6 +71,7 @@ DELETE /alerts/shop/0/fast ~  ~ Method(Get)";
 const QUERIES: &str = "\
 GET /objects? ~  ~ Query
 POST /tick?x=1 ~  ~ Query
+POST /upgrade?x ~  ~ Query
 POST /samples?x=1 ~ none ~ Query
 PUT /exclusions/night? ~ none ~ Query
 GET /budgets/shop?at=007 ~  ~ budgets shop Some(7)
@@ -190,6 +194,7 @@ fn change_text(alloc: Global, command: &Command) -> Result<String, AllocError> {
         Command::Lift(id) => format!(in alloc; "lift {id}"),
         Command::Tick => String::from_str(alloc, "tick"),
         Command::Take(number) => format!(in alloc; "take {number}"),
+        Command::Upgrade => String::from_str(alloc, "upgrade"),
     }
 }
 

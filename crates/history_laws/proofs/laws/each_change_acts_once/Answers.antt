@@ -9,4 +9,5 @@ returns c =
       exclusion = c.an_exclusion_acts_once.ensures;
       lifting = c.a_lifting_acts_once.ensures;
       taking = c.a_taking_acts_once.ensures;
+      upgrade = c.an_upgrade_acts_once.ensures;
     })

@@ -13,7 +13,7 @@ returns-clause-reflects c = λ o next.
     } in
     reflects_take d d' o c.args.moment c.args.number next.reflects next.later
     (next_within d o c.args.moment c.args.number next.reflects next.accepted).1
-    refl refl refl refl refl refl refl refl c.take.ensures.made refl
+    refl refl refl refl refl refl refl refl refl c.take.ensures.made refl
 
 pub returns-clause-sound : goal.returns-clause-sound
 returns-clause-sound c =
@@ -25,6 +25,6 @@ returns-clause-sound c =
       entries = d.entries + 1;
       present = c.args.moment;
     } in
-    sound_take d d' c.args.number c.requires.sound refl refl refl refl refl refl refl
+    sound_take d d' c.args.number c.requires.sound refl refl refl refl refl refl refl refl
     c.take.ensures.made c.take.ensures.one
     (next_within d o c.args.moment c.args.number next.reflects next.accepted).2

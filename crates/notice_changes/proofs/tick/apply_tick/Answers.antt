@@ -30,7 +30,7 @@ returns-clause-reflects c = λ o next.
     } in
     reflects_tick d d' o c.args.moment c.args.states.items c.args.told.items next.reflects
     next.later next.found.0 next.found.1
-    refl refl refl refl refl refl refl refl
+    refl refl refl refl refl refl refl refl refl
     (c.tell.ensures ∙ ap (λ told. d.notices.made
     ++ new_notices c.args.moment (length d.notices.made + 1) told) c.deref-2.ensures.value) refl
 
@@ -47,7 +47,7 @@ returns-clause-sound c =
       present = c.args.moment;
     } in
     sound_tick d d' c.args.moment c.args.told.items c.requires.sound refl refl refl refl
-    refl refl refl
+    refl refl refl refl
     (c.tell.ensures ∙ ap (λ told. d.notices.made ++ new_notices c.args.moment
     (length d.notices.made + 1) told) c.deref-2.ensures.value) few.0 few.1
 

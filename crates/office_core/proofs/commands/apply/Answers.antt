@@ -109,6 +109,10 @@ pub returns-in-Take-clause-forgets : goal.returns-in-Take-clause-forgets
 returns-in-Take-clause-forgets c = λ o next.
     forgets_still o (entry_of c.args.moment c.args.work) c.args.lines.now.kept
 
+pub returns-in-Upgrade-clause-forgets : goal.returns-in-Upgrade-clause-forgets
+returns-in-Upgrade-clause-forgets c = λ o next.
+    forgets_still o (entry_of c.args.moment c.args.work) c.args.lines.now.kept
+
 pub returns-in-Samples-clause-forgets : goal.returns-in-Samples-clause-forgets
 returns-in-Samples-clause-forgets c = λ o next.
     let d = c.args.derived.now in

@@ -19,6 +19,11 @@ returns-in-Take-clause-judged c o reflects =
     subst (λ (command : Command). IsJudged o c.args.moment command c.judge_take.result)
     (sym c.in-Take.is) (c.judge_take.ensures o c.args.moment reflects)
 
+pub returns-in-Upgrade-clause-judged : goal.returns-in-Upgrade-clause-judged
+returns-in-Upgrade-clause-judged c o reflects =
+    subst (λ (command : Command). IsJudged o c.args.moment command c.judge_upgrade.result)
+    (sym c.in-Upgrade.is) (c.judge_upgrade.ensures o c.args.moment reflects)
+
 pub returns-in-Define-clause-know : goal.returns-in-Define-clause-know
 returns-in-Define-clause-know c = all_know c.args.lines.now.kept
 
@@ -39,3 +44,6 @@ returns-in-Lift-clause-know c = all_know c.args.lines.now.kept
 
 pub returns-in-Take-clause-know : goal.returns-in-Take-clause-know
 returns-in-Take-clause-know c = all_know c.args.lines.now.kept
+
+pub returns-in-Upgrade-clause-know : goal.returns-in-Upgrade-clause-know
+returns-in-Upgrade-clause-know c = all_know c.args.lines.now.kept

@@ -35,6 +35,7 @@ returns-clause-reflects c o next =
       no_object = refl;
       no_zone = refl;
       no_row = refl;
+      no_upgrade = refl;
     })
     (c.lift.ensures.history (arrivals_in o.history) next.reflects.held)
 

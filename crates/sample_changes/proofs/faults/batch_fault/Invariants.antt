@@ -6,6 +6,6 @@ use Rattle.sample_changes.proofs.faults.batch_fault.Given as goal
 -- no row so far breaks a rule: what the rows behind them break is what all break
 abbrev pub invariant-loop-place : goal.invariant-loop-place
 invariant-loop-place l =
-    first_some (rows_faults l.origin
+    first_some (rows_faults l.upgraded l.origin
     l.moment l.catalog (l.place + 1) (drop l.place l.rows) (drop l.place l.verdicts))
-    ≡ first_some (rows_faults l.origin l.moment l.catalog 1 l.rows l.verdicts)
+    ≡ first_some (rows_faults l.upgraded l.origin l.moment l.catalog 1 l.rows l.verdicts)

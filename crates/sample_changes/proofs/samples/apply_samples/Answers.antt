@@ -66,7 +66,7 @@ returns-clause-reflects c o next =
     } in
     reflects_still d d' o c.args.moment (works.Samples c.args.rows tally c.args.verdicts)
     next.reflects next.later (record { no_tick = refl; no_taking = λ number. refl }) refl refl
-    refl refl refl refl
+    refl refl refl refl refl
     (sym (append-nil d.zones.kept))
     (subst (λ (rows : List Row). Holds (arrivals_in o.history ++ map Came rows)
     c.put_rows.new.book.rows c.put_rows.new.book.exclusions) c.as_slice-batch.ensures
@@ -90,14 +90,14 @@ returns-clause-sound c =
     } in
     let r : Reflects d' (with_entry o (entry_of c.args.moment (works.Samples rows tally becomes))) =
     reflects_still d d' o c.args.moment (works.Samples rows tally becomes) next.reflects next.later
-    (record { no_tick = refl; no_taking = λ number. refl }) refl refl refl refl refl refl
+    (record { no_tick = refl; no_taking = λ number. refl }) refl refl refl refl refl refl refl
     (sym (append-nil d.zones.kept))
     (subst (λ (rows : List Row). Holds (arrivals_in o.history ++ map Came rows)
     c.put_rows.new.book.rows c.put_rows.new.book.exclusions) c.as_slice-batch.ensures
     (c.put_rows.ensures.history (arrivals_in o.history) next.reflects.held))
     (samples_taken d o c.args.moment rows tally becomes next) in
     samples_sound d d' o c.args.moment rows tally becomes c.requires.sound next r refl refl refl
-    refl
+    refl refl
     (batch_followed d d' o c.args.moment rows tally becomes c.requires.sound next r refl
     c.put_rows.ensures.exclusions c.follow_rows.ensures.measures
     (subst (λ (rows : List Row). AreKept d.book.exclusions (current_rows (d.book.rows ++ rows))

@@ -9,7 +9,7 @@ pub returns-in-Some : goal.returns-in-Some
 returns-in-Some c =
     let a = c.args in
     let d = a.derived.now in
-    refused_by (rows_fault d.origin a.moment d.catalog d.book.rows d.accepted a.rows.now)
+    refused_by (rows_fault d.upgraded d.origin a.moment d.catalog d.book.rows d.accepted a.rows.now)
     c.in-Some.refusal (faultless_verdict (verdicts d.book.rows a.rows.now) d.entries)
     (sym c.in_ok-fault.ensures ∙ c.in-Some.is)
 
@@ -20,6 +20,7 @@ returns-in-None c =
     c.faultless_verdict.ensures
     ∙ faultless_by (verdicts d.book.rows a.rows.now) a.tally d.entries
     (c.requires.counted ∙ ap tally_of c.requires.judged)
-    ∙ passed_by (rows_fault d.origin a.moment d.catalog d.book.rows d.accepted a.rows.now)
+    ∙ passed_by (rows_fault d.upgraded d.origin a.moment d.catalog d.book.rows d.accepted
+    a.rows.now)
     (faultless_verdict (verdicts d.book.rows a.rows.now) d.entries)
     (sym c.in_ok-fault.ensures ∙ c.in-None.is)

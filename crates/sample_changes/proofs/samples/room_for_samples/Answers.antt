@@ -17,6 +17,7 @@ returns-clause-stays c =
       rows = c.make_room.ensures.rows;
       exclusions = c.make_room.ensures.exclusions;
       accepted = refl;
+      upgraded = refl;
       notices = refl;
       states = refl;
       sums = days_made d.catalog d.book.exclusions book.exclusions d.book.rows book.rows

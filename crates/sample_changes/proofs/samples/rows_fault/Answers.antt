@@ -14,58 +14,63 @@ pub batch_fault-requires-clause-each : goal.batch_fault-requires-clause-each
 batch_fault-requires-clause-each c = ap length c.requires.judged
     ∙ verdicts_each c.args.derived.now.book.rows c.args.rows.now
 
-pub returns-then-cells-tally-gt-MAX_CELLS : goal.returns-then-cells-tally-gt-MAX_CELLS
-returns-then-cells-tally-gt-MAX_CELLS c =
+pub returns-then-cell_limit-cells : goal.returns-then-cell_limit-cells
+returns-then-cell_limit-cells c =
     let a = c.args in
     let d = a.derived.now in
     let tally : a.tally ≡ tally_of (verdicts d.book.rows a.rows.now) = c.requires.counted
     ∙ ap tally_of c.requires.judged in
     ap (λ (refusal : Refusal). Some refusal) c.limit.ensures
-    ∙ over_cells (batch_fault d.origin a.moment d.catalog d.book.rows a.rows.now)
+    ∙ over_cells d.upgraded (batch_fault d.upgraded d.origin a.moment d.catalog d.book.rows
+    a.rows.now)
     (length (current_rows (d.book.rows ++ a.rows.now)))
     (d.accepted + count is_put (verdicts d.book.rows a.rows.now))
     (objective_days d.catalog (current_rows (d.book.rows ++ a.rows.now)))
-    (batch_clean d.origin a.moment d.catalog d.book.rows a.rows.now a.verdicts.now
+    (batch_clean d.upgraded d.origin a.moment d.catalog d.book.rows a.rows.now a.verdicts.now
     c.batch_fault.result c.requires.judged c.batch_fault.ensures c.in-None.is)
     (omega (
       arith,
       batch_cells d.book.rows a.rows.now a.tally c.rows_are_current.ensures tally,
       c.cells.ensures,
-      c.if-cells-tally-gt-MAX_CELLS.true,
+      c.cell_limit.ensures.most,
+      c.if-cell_limit-cells.true,
     ))
 
-pub returns-then-derived-tally-gt-MAX_ACCEPTED_ROWS :
-    goal.returns-then-derived-tally-gt-MAX_ACCEPTED_ROWS
-returns-then-derived-tally-gt-MAX_ACCEPTED_ROWS c =
+pub returns-then-row_limit-derived : goal.returns-then-row_limit-derived
+returns-then-row_limit-derived c =
     let a = c.args in
     let d = a.derived.now in
     let tally : a.tally ≡ tally_of (verdicts d.book.rows a.rows.now) = c.requires.counted
     ∙ ap tally_of c.requires.judged in
-    ap (λ (refusal : Refusal). Some refusal) c.limit-then-derived-tally-gt-MAX_ACCEPTED_ROWS.ensures
-    ∙ over_taken (batch_fault d.origin a.moment d.catalog d.book.rows a.rows.now)
+    ap (λ (refusal : Refusal). Some refusal) c.limit-then-row_limit-derived.ensures
+    ∙ over_taken d.upgraded (batch_fault d.upgraded d.origin a.moment d.catalog d.book.rows
+    a.rows.now)
     (length (current_rows (d.book.rows ++ a.rows.now)))
     (d.accepted + count is_put (verdicts d.book.rows a.rows.now))
     (objective_days d.catalog (current_rows (d.book.rows ++ a.rows.now)))
-    (batch_clean d.origin a.moment d.catalog d.book.rows a.rows.now a.verdicts.now
+    (batch_clean d.upgraded d.origin a.moment d.catalog d.book.rows a.rows.now a.verdicts.now
     c.batch_fault.result c.requires.judged c.batch_fault.ensures c.in-None.is)
     (omega (
       arith,
       batch_cells d.book.rows a.rows.now a.tally c.rows_are_current.ensures tally,
       c.cells.ensures,
-      c.if-cells-tally-gt-MAX_CELLS.false,
+      c.cell_limit.ensures.most,
+      c.if-cell_limit-cells.false,
     ))
     (omega (
       arith,
       batch_taken d.accepted d.book.rows a.rows.now a.tally tally,
-      c.if-derived-tally-gt-MAX_ACCEPTED_ROWS.true,
+      c.row_limit.ensures.most,
+      c.if-row_limit-derived.true,
     ))
 
 pub passes_days_limit-requires-clause-more : goal.passes_days_limit-requires-clause-more
 passes_days_limit-requires-clause-more c =
     let a = c.args in
     let d = a.derived.now in
-    batch_within d.origin a.moment c.end_of_rows-end.result d.catalog d.book.rows a.rows.now
-    (batch_clean d.origin a.moment d.catalog d.book.rows a.rows.now a.verdicts.now
+    batch_within d.upgraded d.origin a.moment c.end_of_rows-end.result d.catalog d.book.rows
+    a.rows.now
+    (batch_clean d.upgraded d.origin a.moment d.catalog d.book.rows a.rows.now a.verdicts.now
     c.batch_fault.result c.requires.judged c.batch_fault.ensures c.in-None.is)
     c.end_of_rows-end.ensures.moment
 
@@ -75,8 +80,13 @@ returns-then-passes c =
     ∙ days_decide c.args.derived.now c.args.moment c.args.rows.now c.args.verdicts.now c.args.tally
     c.batch_fault.result true c.requires.judged c.requires.counted c.rows_are_current.ensures
     c.batch_fault.ensures c.in-None.is
-    (omega (arith, c.cells.ensures, c.if-cells-tally-gt-MAX_CELLS.false))
-    (omega (arith, c.if-derived-tally-gt-MAX_ACCEPTED_ROWS.false))
+    (omega (
+      arith,
+      c.cells.ensures,
+      c.cell_limit.ensures.most,
+      c.if-cell_limit-cells.false,
+    ))
+    (omega (arith, c.row_limit.ensures.most, c.if-row_limit-derived.false))
     (sym c.in_ok-passes.ensures ∙ c.if-passes.true)
 
 pub returns : goal.returns
@@ -84,6 +94,11 @@ returns c =
     days_decide c.args.derived.now c.args.moment c.args.rows.now c.args.verdicts.now c.args.tally
     c.batch_fault.result false c.requires.judged c.requires.counted c.rows_are_current.ensures
     c.batch_fault.ensures c.in-None.is
-    (omega (arith, c.cells.ensures, c.if-cells-tally-gt-MAX_CELLS.false))
-    (omega (arith, c.if-derived-tally-gt-MAX_ACCEPTED_ROWS.false))
+    (omega (
+      arith,
+      c.cells.ensures,
+      c.cell_limit.ensures.most,
+      c.if-cell_limit-cells.false,
+    ))
+    (omega (arith, c.row_limit.ensures.most, c.if-row_limit-derived.false))
     (sym c.in_ok-passes.ensures ∙ c.if-passes.false)

@@ -12,6 +12,9 @@ returns-in-Notices c = rw c.in-Notices.is (c.notices.ensures c.args.body.now)
 pub returns-in-Take : goal.returns-in-Take
 returns-in-Take c = rw c.in-Take.is (c.take.ensures c.args.body.now)
 
+pub returns-in-Upgrade : goal.returns-in-Upgrade
+returns-in-Upgrade c = rw c.in-Upgrade.is (c.upgrade.ensures c.args.body.now)
+
 pub returns-in-Budgets : goal.returns-in-Budgets
 returns-in-Budgets c = rw c.in-Budgets.is (c.budgets.ensures c.args.body.now)
 

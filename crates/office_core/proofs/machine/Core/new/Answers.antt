@@ -1,4 +1,4 @@
-use Rattle.std.proofs.Common.{refl}
+use Rattle.std.proofs.Common.{false, refl}
 use Rattle.office_derived.specs.declared.Derived.{Derived}
 use Rattle.office_core.proofs.MachineLemmas.{kept_new}
 use Rattle.office_core.proofs.machine.Core.new.Goals as goal
@@ -14,6 +14,7 @@ invariant_of-result c =
       book = c.in_ok-book.book;
       sums = c.new-5.result;
       accepted = 0;
+      upgraded = false;
       notices = c.new-6.result;
       states = c.new-7.result;
     } in
@@ -21,4 +22,4 @@ invariant_of-result c =
     c.new-8.ensures
     c.new-2.ensures.items
     c.requires refl refl c.new-3.ensures c.new-4.ensures c.in_ok-book.ensures.history
-    c.new-5.ensures refl c.new-6.ensures c.new-7.ensures.items
+    c.new-5.ensures refl refl c.new-6.ensures c.new-7.ensures.items
