@@ -1,3 +1,4 @@
 pub mod Judged
 pub mod Kept
 pub mod Once
+pub mod BeforeUpgrade

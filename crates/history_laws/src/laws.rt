@@ -1,4 +1,6 @@
 //! What legal histories keep, and what becomes of a change that comes again.
+ghost use Rattle.history_laws.specs.BeforeUpgrade.{OldHistoriesStayLegal};
+ghost use Rattle.history_laws.specs.BeforeUpgrade.{OldRequestsKeepTheirOutcomes};
 ghost use Rattle.history_laws.specs.Judged.{OneJudgement};
 ghost use Rattle.history_laws.specs.Kept.{CurrentRowsAreRead, DaysAreFew, RowsAreRead};
 ghost use Rattle.history_laws.specs.Once.{BatchActsOnce, BatchBringsNothing};
@@ -62,3 +64,14 @@ pub fn no_change_stands_twice()
     catalog_changes::laws::a_history_begins_legally();
     each_change_acts_once();
 }
+
+/// A history that was legal before offices could be upgraded is legal.
+pub fn an_old_history_stays_legal()
+    ensures { OldHistoriesStayLegal }
+{}
+
+/// Over such a history a request from before, a query or a change with no withdrawn row that is no
+/// upgrade, has the outcomes that it had, and no others.
+pub fn an_old_request_keeps_its_outcome()
+    ensures { OldRequestsKeepTheirOutcomes }
+{}
