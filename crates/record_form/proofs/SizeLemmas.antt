@@ -1,6 +1,6 @@
 -- How long records are.
 use Rattle.std.proofs.Common.{◌≡◌, ℕ, suc, ◌+◌, ◌*◌, ◌≤◌, List, [], ◌∷◌, ◌++◌, length, refl, ap}
-use Rattle.std.proofs.Common.{◌∙◌, arith, length-append}
+use Rattle.std.proofs.Common.{◌∙◌, arith, length-append, slice_get, Some}
 use Rattle.std.specs.Prelude.{IsTrue}
 use Rattle.std.specs.List.{AllByRecursion}
 use Rattle.std.proofs.lemmas.Bool.Decides.{nat_tests}
@@ -20,6 +20,7 @@ use Rattle.record_form.specs.declared.entry.Entry.{Entry}
 use Rattle.record_form.specs.Form.{spelling_of_each}
 use Rattle.record_form.specs.Records.{number_within, label, zone_name, text_within, kind, amount}
 use Rattle.record_form.specs.Records.{row, rows, exclusion, command, entry}
+use Rattle.record_form.specs.Laws.{UpgradesHaveTheirKind}
 use Rattle.record_form.specs.Ranges.{FitsRow, FitsExclusion, Fits, FitsRecord}
 
 -- numerals as they are counted
@@ -158,3 +159,14 @@ least_record e = omega (arith, entry_length e, least_command e.command)
 
 pub most_record : (e : Entry) → FitsRecord e → length (entry.write e []) ≤ MAX_RECORD_BYTES
 most_record e fits = omega (arith, entry_length e, most_command e.command fits.command)
+
+-- the kind stands behind the moment
+kind_behind : (m : ℕ) (c : Command) → c ≡ Upgrade
+    → slice_get ((number_within 0 67108863).write m (command.write c [])) 4 ≡ Some 9
+unfolding number_within command
+kind_behind m c is =
+    ap (λ (c : Command). slice_get ((number_within 0 67108863).write m (command.write c [])) 4) is
+
+pub upgrades_have_their_kind : UpgradesHaveTheirKind
+unfolding entry
+upgrades_have_their_kind e is = kind_behind e.moment e.command is

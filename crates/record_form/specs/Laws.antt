@@ -1,7 +1,8 @@
 -- Laws of records.
-use Rattle.std.specs.Prelude.{◌≡◌, ◌++◌, ◌∷◌, [], ◌≤◌, ℕ, List, length, Some}
+use Rattle.std.specs.Prelude.{◌≡◌, ◌++◌, ◌∷◌, [], ◌≤◌, ℕ, List, length, Some, slice_get}
 use Rattle.std.specs.List.{AllByRecursion}
 use Rattle.slo_limits.specs.declared.TheConstants.{MAX_RECORD_BYTES}
+use Rattle.record_form.specs.declared.command.Command.TheVariants.{Upgrade}
 use Rattle.record_form.specs.declared.entry.Entry.{Entry}
 use Rattle.record_form.specs.Records.{entry, record_of}
 use Rattle.record_form.specs.Ranges.{FitsRecord, IsRecord}
@@ -43,3 +44,8 @@ OneRecordMore = (bytes : List ℕ) (e : Entry) → AreRecords bytes → FitsReco
 -- No bytes are the records of no entries.
 abbrev pub NoBytesAreNoHistory : Type 0
 NoBytesAreNoHistory = AreRecords [] × (history_of [] ≡ [])
+
+-- The kind of an upgrade, behind the four bytes of its moment, is none of the eight of before: so a
+-- program that knows these alone stops at it.
+abbrev pub UpgradesHaveTheirKind : Type 0
+UpgradesHaveTheirKind = (e : Entry) → e.command ≡ Upgrade → slice_get (record_of e) 4 ≡ Some 9

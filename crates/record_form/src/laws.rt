@@ -1,7 +1,7 @@
 //! What holds of records: laws without code, for whoever keeps them.
 ghost use Rattle.record_form.specs.Laws.{EntriesAreReadBack, HistoriesAreReadBack};
 ghost use Rattle.record_form.specs.Laws.{NoBytesAreNoHistory, NoRecordBeginsAnother, OneRecordMore};
-ghost use Rattle.record_form.specs.Laws.{RecordsHaveSizes};
+ghost use Rattle.record_form.specs.Laws.{RecordsHaveSizes, UpgradesHaveTheirKind};
 
 /// An entry is read back from its record, whatever follows.
 pub fn an_entry_is_read_back()
@@ -31,4 +31,10 @@ pub fn one_record_more()
 /// No bytes stand for the empty history.
 pub fn no_bytes_are_no_history()
     ensures { NoBytesAreNoHistory }
+{}
+
+/// The record of an upgrade has a kind that none had before, so a program from before upgrades
+/// takes it for no record.
+pub fn an_upgrade_has_its_kind()
+    ensures { UpgradesHaveTheirKind }
 {}
