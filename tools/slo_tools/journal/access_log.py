@@ -24,6 +24,7 @@ from slo_tools.journal.records import (
     Remove,
     Samples,
     Take,
+    Upgrade,
 )
 
 LINE = re.compile(
@@ -79,6 +80,8 @@ def request_of(command: Command) -> str:
         return f"DELETE /exclusions/{command.id}"
     if isinstance(command, Take):
         return f"POST /notices/{command.number}/take"
+    if isinstance(command, Upgrade):
+        return "POST /upgrade"
     return "POST /tick"
 
 

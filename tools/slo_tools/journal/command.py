@@ -25,7 +25,7 @@ from slo_tools.journal.file import (
     read_bytes,
     read_journal,
 )
-from slo_tools.journal.history import LIMITS, Change, History
+from slo_tools.journal.history import Change, History
 from slo_tools.journal.mending import mending_of
 from slo_tools.journal.records import Entry
 
@@ -88,6 +88,7 @@ class Report:
     beyond: Beyond
     lines: list[Line]
     behind: list[Line]
+    limits: dict[str, int]
     usage: dict[str, int]
     unread: list[int]
     judged: Optional[str]
@@ -138,10 +139,19 @@ def report_of(data: bytes, options: argparse.Namespace) -> Report:
     journal = read_journal(data, hear)
     beyond = beyond_tail(data, journal) if journal.damage is None else Beyond([], 0, False)
     judged = None if options.program is None else judged_by(options.program, data)
-    usage = history.usage(journal.tail)
+    limits, usage = history.limits(), history.usage(journal.tail)
     behind = [Line(record, history.take(entry), []) for record, entry in beyond.records]
     return Report(
-        options.file, len(data), journal, beyond, lines, behind, usage, history.unread, judged
+        options.file,
+        len(data),
+        journal,
+        beyond,
+        lines,
+        behind,
+        limits,
+        usage,
+        history.unread,
+        judged,
     )
 
 
@@ -220,7 +230,7 @@ def _fault_lines(report: Report) -> Iterator[str]:
 
 def _usage_lines(report: Report) -> Iterator[str]:
     for name, used in sorted(report.usage.items()):
-        limit = LIMITS[name]
+        limit = report.limits[name]
         yield f"{name} {used} of {limit}, {used * 100 / limit:.2f}%"
 
 
@@ -239,7 +249,7 @@ def _json_of(report: Report) -> list[str]:
         "size": report.size,
         "sound": report.is_sound,
         "tail": journal.tail,
-        "usage": {name: [used, LIMITS[name]] for name, used in report.usage.items()},
+        "usage": {name: [used, report.limits[name]] for name, used in report.usage.items()},
     }
     return [json.dumps(told, indent=1, sort_keys=True)]
 

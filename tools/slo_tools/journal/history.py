@@ -23,6 +23,7 @@ from slo_tools.journal.records import (
     Samples,
     Take,
     Tick,
+    Upgrade,
 )
 from slo_tools.nodes import Fields, Items, node_at, text_at
 from slo_tools.openslo import BUILT_IN_POLICIES, Found, objects_in, references_of
@@ -42,6 +43,8 @@ LIMITS = {
     "slos": 200,
     "zones": 50,
 }
+# And once it was upgraded.
+UPGRADED_LIMITS = {**LIMITS, "accepted": 8_000_000, "cells": 4_000_000}
 
 
 @dataclass(frozen=True)
@@ -86,6 +89,7 @@ class History:
         self.live: dict[str, Exclude] = {}
         self.exclusions = 0
         self.ticks = 0
+        self.is_upgraded = False
         self.unread: list[int] = []
         self._cells = _Cells()
 
@@ -94,6 +98,10 @@ class History:
         change = self._change(entry.command)
         self.entries += 1
         return change
+
+    def limits(self) -> dict[str, int]:
+        """What the office has room for."""
+        return UPGRADED_LIMITS if self.is_upgraded else LIMITS
 
     def usage(self, tail: int) -> dict[str, int]:
         """How much of each limit is used, for a journal whose closed gate stands at `tail`."""
@@ -133,6 +141,9 @@ class History:
             return Change("lift", command.id + what)
         if isinstance(command, Take):
             return Change("take", f"notice {command.number}")
+        if isinstance(command, Upgrade):
+            self.is_upgraded = True
+            return Change("upgrade", "")
         assert isinstance(command, Tick)
         self.ticks += 1
         return Change("tick", "")

@@ -55,13 +55,16 @@ class NotAnEntry(Exception):
 
 
 class Row(NamedTuple):
-    """A sample: part and total of counted events, or a value in billionths without a total."""
+    """A sample: part and total of counted events, or a value in billionths without a total.
+
+    A withdrawn one has neither.
+    """
 
     sli: str
     source: str
     minute: int
     revision: int
-    amount: int
+    amount: Optional[int]
     total: Optional[int]
 
 
@@ -110,7 +113,12 @@ class Take:
     number: int
 
 
-Command = Union[Define, Remove, PutZone, Samples, Exclude, Lift, Tick, Take]
+@dataclass(frozen=True)
+class Upgrade:
+    pass
+
+
+Command = Union[Define, Remove, PutZone, Samples, Exclude, Lift, Tick, Take, Upgrade]
 
 
 @dataclass(frozen=True)
@@ -183,8 +191,10 @@ class Cursor:
             raise NotAnEntry(place, f"{minute} is above {MAX_MINUTE}")
         if not 1 <= revision <= MAX_REVISION:
             raise NotAnEntry(place + 4, f"{revision} isn't from 1 to {MAX_REVISION}")
-        if form > 1:
+        if form > 2:
             raise NotAnEntry(place + 8, f"{form} is no form of an amount")
+        if form == 2:
+            return Row(sli, source, minute, revision, None, None)
         if form == 1:
             value = self.number(NUMBER64, MAX_DECIMAL)
             return Row(sli, source, minute, revision, value, None)
@@ -219,6 +229,7 @@ READERS: dict[int, Callable[[Cursor], Command]] = {
     6: lambda cursor: Lift(cursor.name()),
     7: lambda cursor: Tick(),
     8: lambda cursor: Take(cursor.number(NUMBER32, 2**32 - 1)),
+    9: lambda cursor: Upgrade(),
 }
 
 
