@@ -1,14 +1,16 @@
 //! Doors at a port of this machine. They tell nothing of what comes and goes.
 ghost use Rattle.std.specs.Prelude.{◌≡◌, ◌++◌, ◌∷◌, [], None, length, All, IfOk};
 
+use crate::hall::{Hall, make_hall, open_set};
 use crate::tcp_door::TcpDoor;
 use crate::{Doors, DoorsFault, Given};
 use std::alloc::Global;
 use std::net::{Ipv4Addr, Net, SocketAddr, SocketAddrV4, TcpListener, TcpStream};
+use std::sync::{Arc, Wait};
 use std::{io, time};
 
-/// Doors at a port of 127.0.0.1: only programs of this machine come in. One listener is shared by
-/// all doors, so that a link goes to whichever worker is free.
+/// Doors at a port of 127.0.0.1: only programs of this machine come in. They share its listener and
+/// its links, so that a link goes to whichever worker is free.
 #[derive(Drop)]
 pub struct TcpDoors<R: Drop> {
     rt: R,
@@ -32,21 +34,42 @@ impl<R: Drop> TcpDoors<R> {
     }
 }
 
-/// Listens at a port of 127.0.0.1. It notes the port of the very address that it asks for.
-fn listen<R: Net<Listener = TcpListener, Stream = TcpStream>>(
-    rt: &R,
-    port: u16,
-    asked: &mut Given<u16>,
-) -> io::Result<TcpListener>
+/// Listens at a port of 127.0.0.1, with the longest queue that the system gives: std's own is 128
+/// links. It notes the port of the very address that it asks for.
+fn listen<R: Net>(rt: &R, port: u16, asked: &mut Given<u16>) -> io::Result<TcpListener>
     ensures { asked.new.items ≡ asked.old.items ++ port ∷ [] }
 {
     let here = SocketAddr::V4(SocketAddrV4::new(Ipv4Addr::LOCALHOST, port));
     *asked = asked.and(&here.port());
-    TcpListener::bind(rt, here)
+    Ok(TcpListener::from(mio::net::TcpListener::bind(rt, here)?))
 }
 
 /// Listens at the port, once for all doors.
-fn open_all<R: Net<Listener = TcpListener, Stream = TcpStream> + Copy + Drop>(
+fn open_hall<R: Net + time::Clock + Wait + Copy + Drop>(
+    rt: R,
+    alloc: Global,
+    port: u16,
+    asked: &mut Given<u16>,
+) -> Result<Arc<Hall<R>>, DoorsFault>
+    ensures { asked.new.items ≡ asked.old.items ++ port ∷ [] }
+{
+    let Ok(listener) = listen(&rt, port, asked) else {
+        return Err(DoorsFault::Failed);
+    };
+    let Ok(poll) = open_set(&rt, &listener) else {
+        return Err(DoorsFault::Failed);
+    };
+    let Ok(registry) = poll.registry().try_clone() else {
+        return Err(DoorsFault::Failed);
+    };
+    match make_hall(alloc, listener, poll, registry) {
+        Ok(hall) => Ok(hall),
+        Err(_) => Err(DoorsFault::NoMemory),
+    }
+}
+
+/// Opens doors of one hall.
+fn open_all<R: Net + time::Clock + Wait + Copy + Drop>(
     rt: R,
     alloc: Global,
     port: u16,
@@ -57,15 +80,16 @@ fn open_all<R: Net<Listener = TcpListener, Stream = TcpStream> + Copy + Drop>(
     ensures count { IfOk result (λ doors. length doors.items ≡ workers) }
     ensures quiet { IfOk result (λ doors. All (λ d. d.faults ≡ 0) doors.items) }
 {
-    let Ok(listener) = listen(&rt, port, asked) else {
-        return Err(DoorsFault::Failed);
+    let hall = match open_hall(rt, alloc, port, asked) {
+        Ok(hall) => hall,
+        Err(fault) => return Err(fault),
     };
     let Ok(mut doors) = Vec::with_capacity(alloc, workers) else {
         return Err(DoorsFault::NoMemory);
     };
     for _ in 0..workers {
-        let Ok(shared) = listener.try_clone() else {
-            return Err(DoorsFault::Failed);
+        let Ok(shared) = Arc::try_clone(&hall) else {
+            return Err(DoorsFault::NoMemory);
         };
         let door = TcpDoor::new(rt, shared);
         doors.push_reserved(door);
@@ -75,7 +99,13 @@ fn open_all<R: Net<Listener = TcpListener, Stream = TcpStream> + Copy + Drop>(
 
 impl<R> Doors for TcpDoors<R>
 where
-    R: Net<Listener = TcpListener, Stream = TcpStream> + time::Clock + Copy + Send + Drop,
+    R: Net<Listener = TcpListener, Stream = TcpStream>
+        + time::Clock
+        + Wait
+        + Copy
+        + Send
+        + Sync
+        + Drop,
 {
     type One = TcpDoor<R>;
 

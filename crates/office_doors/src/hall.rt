@@ -1,0 +1,318 @@
+//! What the doors at one port share: its listener, its links, and the set in which these wait.
+
+use crate::Visit;
+use crate::link::share_link;
+use crate::link_sink::LinkSink;
+use crate::link_source::LinkSource;
+use crate::places::{Found, Places, TcpVisit};
+use crate::tally::Tally;
+use mio::unix::SourceFd;
+use mio::{Events, Interest, Poll, Registry, Token};
+use office_outside::{Failed, WallClock};
+use std::alloc::{AllocError, Global};
+use std::io::ErrorKind;
+use std::net::{Net, TcpListener, TcpStream};
+use std::os::fd::AsRawFd;
+use std::sync::{Arc, Mutex, Wait};
+use std::time::{Duration, Instant};
+use std::{io, thread, time};
+
+/// How often in a row a look for links may fail, and the pause after it in milliseconds: what is
+/// missing, as a free descriptor, may come back within some seconds.
+const TRIES: u32 = 100;
+
+const PAUSE_MILLIS: u64 = 100;
+
+/// How many milliseconds a look waits at most, and how often links are closed that wait too long.
+const ROUND_MILLIS: u64 = 5_000;
+
+/// How many events a look takes at once.
+const EVENTS: usize = 64;
+
+/// The listener's name in the events; links have the numbers of their places.
+const LISTENER: usize = usize::MAX;
+
+/// What the system answers where no descriptor can be had: none is left to the machine or to the
+/// process, or no memory for one (ENFILE, EMFILE, ENOBUFS, ENOMEM).
+const NO_ROOM: [i32; 4] = [23, 24, 105, 12];
+
+/// What came of a try to take a link from the listener.
+#[derive(Clone, Copy, Drop)]
+enum Taken {
+    /// One came; it may have ended before it was taken.
+    Link,
+    Nothing,
+    NoRoom,
+    Fault,
+}
+
+/// Why no link was taken.
+fn cause_of(error: &io::Error) -> Taken {
+    match error.kind() {
+        ErrorKind::WouldBlock => return Taken::Nothing,
+        ErrorKind::ConnectionAborted | ErrorKind::Interrupted => return Taken::Link,
+        _ => {}
+    }
+    match error.raw_os_error() {
+        Some(code) if NO_ROOM.contains(&code) => Taken::NoRoom,
+        _ => Taken::Fault,
+    }
+}
+
+/// What only one worker has at a time: it waits for links, and the others wait for it.
+#[derive(Drop)]
+struct Lead {
+    poll: Poll,
+    events: Events,
+    /// The places of which the set told, and that nobody took yet.
+    ready: Vec<usize>,
+    last_round: Option<Instant>,
+    failures: u32,
+}
+
+/// Waits so long for something to do. Answers whether the listener was told of.
+fn wait_for(lead: &mut Lead, millis: u64) -> Result<bool, Failed> {
+    let wait = Duration::from_millis(millis);
+    if lead.poll.poll(&mut lead.events, Some(wait)).is_err() {
+        return Err(Failed);
+    }
+    let mut is_asked = false;
+    for event in lead.events.iter() {
+        let Token(at) = event.token();
+        if at == LISTENER {
+            is_asked = true;
+        } else if lead.ready.push(at).is_err() {
+            return Err(Failed);
+        }
+    }
+    Ok(is_asked)
+}
+
+/// What the doors at one port share. Who takes both locks takes that of `lead` first.
+#[derive(Drop)]
+pub(crate) struct Hall<R: time::Clock + Drop> {
+    alloc: Global,
+    listener: TcpListener,
+    registry: Registry,
+    tally: Arc<Tally>,
+    lead: Mutex<Lead>,
+    places: Mutex<Places<R>>,
+}
+
+impl<R: time::Clock + Drop> Hall<R> {
+    /// The port at which it listens, where the system tells.
+    pub(crate) fn port(&self) -> io::Result<u16> {
+        Ok(self.listener.local_addr()?.port())
+    }
+}
+
+impl<R: time::Clock + Wait + Copy + Drop> Hall<R> {
+    /// Lets a new link wait. One that fails before is let go.
+    fn admit(&self, rt: R, link: TcpStream) -> Option<()> {
+        let link = share_link(self.alloc, link)?;
+        let now = Instant::now(&rt).ok()?;
+        let heard = Arc::try_clone(&link).ok()?;
+        let tally = Arc::try_clone(&self.tally).ok()?;
+        let other_tally = Arc::try_clone(&self.tally).ok()?;
+        let at = self.places.lock(&rt).take_place(link.as_raw_fd())?;
+        let visit = Visit {
+            input: LinkSource::new(rt, heard, at, tally),
+            output: LinkSink::new(rt, link, other_tally),
+            clock: WallClock::new(rt),
+        };
+        self.park(rt, visit, now);
+        Some(())
+    }
+
+    /// Takes at most one link from the listener.
+    fn take_link(&self, rt: R) -> Taken {
+        match self.listener.accept() {
+            Ok((link, _)) => {
+                self.admit(rt, link);
+                Taken::Link
+            }
+            Err(error) => cause_of(&error),
+        }
+    }
+
+    /// Closes the links that wait too long, now and then.
+    fn make_round(&self, rt: R, lead: &mut Lead) {
+        let Ok(now) = Instant::now(&rt) else {
+            return;
+        };
+        let is_due = match lead.last_round {
+            None => true,
+            Some(last) => now.duration_since(last) >= Duration::from_millis(ROUND_MILLIS),
+        };
+        if is_due {
+            lead.last_round = Some(now);
+            self.places.lock(&rt).close_idle(now);
+        }
+    }
+
+    /// Where no descriptor can be had, closes the oldest link if somebody waits at the listener.
+    /// An `accept` fails so also where nobody does, so the set is asked, but only where a link can
+    /// be closed: else it would answer at once, again and again. It is a fault only where there is
+    /// no link at all.
+    fn make_room(&self, rt: R, lead: &mut Lead) -> Result<(), Failed> {
+        if self.places.lock(&rt).is_empty() {
+            return Err(Failed);
+        }
+        if self.places.lock(&rt).has_waiting() {
+            let fd = self.listener.as_raw_fd();
+            let _ = self
+                .registry
+                .reregister(&mut SourceFd(&fd), Token(LISTENER), Interest::READABLE);
+        }
+        if wait_for(lead, PAUSE_MILLIS)? {
+            self.places.lock(&rt).close_oldest(&lead.ready);
+        }
+        Ok(())
+    }
+
+    /// Takes at most one link, and waits until there is something to do.
+    fn look(&self, rt: R, lead: &mut Lead) -> Result<(), Failed> {
+        match self.take_link(rt) {
+            Taken::Link => {
+                wait_for(lead, 0)?;
+            }
+            Taken::Nothing => {
+                wait_for(lead, ROUND_MILLIS)?;
+            }
+            Taken::NoRoom => self.make_room(rt, lead)?,
+            Taken::Fault => return Err(Failed),
+        }
+        self.make_round(rt, lead);
+        Ok(())
+    }
+
+    /// Takes a place of which the set told.
+    fn take_ready(&self, lead: &mut Lead) -> Option<usize> {
+        let at = lead.ready.pop()?;
+        self.tally.set_ready(lead.ready.len());
+        Some(at)
+    }
+
+    /// Waits for a place of which the set tells, where one comes. Once it failed it fails for ever,
+    /// so that no worker goes on alone.
+    fn next_told(&self, rt: R) -> Result<Option<usize>, Failed> {
+        let mut guard = self.lead.lock(&rt);
+        let lead = &mut *guard;
+        if let Some(at) = self.take_ready(lead) {
+            return Ok(Some(at));
+        }
+        if lead.failures >= TRIES {
+            return Err(Failed);
+        }
+        if self.look(rt, lead).is_ok() {
+            lead.failures = 0;
+        } else {
+            lead.failures = lead.failures.saturating_add(1);
+            thread::sleep(&rt, Duration::from_millis(PAUSE_MILLIS));
+        }
+        Ok(self.take_ready(lead))
+    }
+
+    /// Takes the link of a place of which the set told. The set goes on telling of a link that is
+    /// served: at the first time it is told to stop.
+    fn take(&self, rt: R, at: usize) -> Option<TcpVisit<R>> {
+        let mut places = self.places.lock(&rt);
+        match places.take(at) {
+            Found::Visit(visit) => Some(visit),
+            Found::Out(fd) => {
+                let _ = self.registry.deregister(&mut SourceFd(&fd));
+                None
+            }
+            Found::Nothing => None,
+        }
+    }
+
+    /// Waits for a link that has bytes.
+    fn await_link(&self, rt: R) -> Result<TcpVisit<R>, Failed> {
+        for _ in 0..u64::MAX {
+            if let Some(at) = self.next_told(rt)? {
+                if let Some(mut visit) = self.take(rt, at) {
+                    visit.input.begin();
+                    return Ok(visit);
+                }
+            }
+        }
+        Err(Failed)
+    }
+
+    /// Waits for a link that has bytes; the worker counts as free meanwhile.
+    pub(crate) fn next(&self, rt: R) -> Result<TcpVisit<R>, Failed> {
+        self.tally.add_worker();
+        let next = self.await_link(rt);
+        self.tally.remove_worker();
+        next
+    }
+
+    /// Lets a link wait. It is at its place before the set is asked to tell of it.
+    fn park(&self, rt: R, visit: TcpVisit<R>, now: Instant) {
+        let at = visit.input.place();
+        let fd = visit.input.raw_fd();
+        let mut places = self.places.lock(&rt);
+        let is_told = places.is_told(at);
+        places.put(at, visit, now);
+        let registered = if is_told {
+            self.registry
+                .reregister(&mut SourceFd(&fd), Token(at), Interest::READABLE)
+        } else {
+            self.registry
+                .register(&mut SourceFd(&fd), Token(at), Interest::READABLE)
+        };
+        if registered.is_err() {
+            places.free(at);
+        }
+    }
+
+    /// Takes back a visit, whose link waits or ends.
+    pub(crate) fn end(&self, rt: R, visit: TcpVisit<R>) {
+        if visit.input.waits() {
+            if let Ok(now) = Instant::now(&rt) {
+                self.park(rt, visit, now);
+                return;
+            }
+        } else {
+            visit.input.linger();
+        }
+        self.places.lock(&rt).free(visit.input.place());
+    }
+}
+
+/// A hall before its first link, with all the memory that it needs but for links themselves.
+pub(crate) fn make_hall<R: time::Clock + Copy + Drop>(
+    alloc: Global,
+    listener: TcpListener,
+    poll: Poll,
+    registry: Registry,
+) -> Result<Arc<Hall<R>>, AllocError> {
+    let lead = Lead {
+        poll,
+        events: Events::with_capacity(alloc, EVENTS)?,
+        ready: Vec::with_capacity(alloc, EVENTS)?,
+        last_round: None,
+        failures: 0,
+    };
+    let tally = Arc::new(alloc, Tally::new())?;
+    let places = Places::new(alloc, Arc::try_clone(&tally)?)?;
+    let hall = Hall {
+        alloc,
+        listener,
+        registry,
+        tally,
+        lead: Mutex::new(lead),
+        places: Mutex::new(places),
+    };
+    Ok(Arc::new(alloc, hall)?)
+}
+
+/// A set that tells of the listener.
+pub(crate) fn open_set<R: Net>(rt: &R, listener: &TcpListener) -> io::Result<Poll> {
+    let poll = Poll::new(rt)?;
+    let fd = listener.as_raw_fd();
+    poll.registry()
+        .register(&mut SourceFd(&fd), Token(LISTENER), Interest::READABLE)?;
+    Ok(poll)
+}
