@@ -108,8 +108,8 @@ class Office:
 
     @contextmanager
     def kept_link(self) -> Iterator[None]:
-        """Use one link for all requests inside. An idle link holds one of the office's workers,
-        so this is for requests that follow one another at once."""
+        """Use one link for all requests inside. The office closes a link that waits for long, or
+        for another one, so this is for requests that follow one another at once."""
         if self._session is not None:
             yield
             return
