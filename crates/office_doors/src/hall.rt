@@ -4,7 +4,7 @@ use crate::Visit;
 use crate::link::share_link;
 use crate::link_sink::LinkSink;
 use crate::link_source::LinkSource;
-use crate::places::{Found, Places, TcpVisit};
+use crate::places::{Heard, Places, TcpVisit};
 use crate::tally::Tally;
 use mio::unix::SourceFd;
 use mio::{Events, Interest, Poll, Registry, Token};
@@ -70,24 +70,6 @@ struct Lead {
     failures: u32,
 }
 
-/// Waits so long for something to do. Answers whether the listener was told of.
-fn wait_for(lead: &mut Lead, millis: u64) -> Result<bool, Failed> {
-    let wait = Duration::from_millis(millis);
-    if lead.poll.poll(&mut lead.events, Some(wait)).is_err() {
-        return Err(Failed);
-    }
-    let mut is_asked = false;
-    for event in lead.events.iter() {
-        let Token(at) = event.token();
-        if at == LISTENER {
-            is_asked = true;
-        } else if lead.ready.push(at).is_err() {
-            return Err(Failed);
-        }
-    }
-    Ok(is_asked)
-}
-
 /// What the doors at one port share. Who takes both locks takes that of `lead` first.
 #[derive(Drop)]
 pub(crate) struct Hall<R: time::Clock + Drop> {
@@ -107,6 +89,38 @@ impl<R: time::Clock + Drop> Hall<R> {
 }
 
 impl<R: time::Clock + Wait + Copy + Drop> Hall<R> {
+    /// Whether a place of which the set tells has a link that waits. The set goes on telling of one
+    /// that is served: at the first time it is told to stop.
+    fn has_waiter(&self, places: &mut Places<R>, at: usize) -> bool {
+        match places.hear_of(at) {
+            Heard::Waits => true,
+            Heard::Served(fd) => {
+                let _ = self.registry.deregister(&mut SourceFd(&fd));
+                false
+            }
+            Heard::Nothing => false,
+        }
+    }
+
+    /// Waits so long for something to do. Answers whether the listener was told of.
+    fn wait_for(&self, rt: R, lead: &mut Lead, millis: u64) -> Result<bool, Failed> {
+        let wait = Duration::from_millis(millis);
+        if lead.poll.poll(&mut lead.events, Some(wait)).is_err() {
+            return Err(Failed);
+        }
+        let mut places = self.places.lock(&rt);
+        let mut is_asked = false;
+        for event in lead.events.iter() {
+            let Token(at) = event.token();
+            if at == LISTENER {
+                is_asked = true;
+            } else if self.has_waiter(&mut places, at) && lead.ready.push(at).is_err() {
+                return Err(Failed);
+            }
+        }
+        Ok(is_asked)
+    }
+
     /// Lets a new link wait. One that fails before is let go.
     fn admit(&self, rt: R, link: TcpStream) -> Option<()> {
         let link = share_link(self.alloc, link)?;
@@ -164,7 +178,7 @@ impl<R: time::Clock + Wait + Copy + Drop> Hall<R> {
                 .registry
                 .reregister(&mut SourceFd(&fd), Token(LISTENER), Interest::READABLE);
         }
-        if wait_for(lead, PAUSE_MILLIS)? {
+        if self.wait_for(rt, lead, PAUSE_MILLIS)? {
             self.places.lock(&rt).close_oldest(&lead.ready);
         }
         Ok(())
@@ -174,10 +188,10 @@ impl<R: time::Clock + Wait + Copy + Drop> Hall<R> {
     fn look(&self, rt: R, lead: &mut Lead) -> Result<(), Failed> {
         match self.take_link(rt) {
             Taken::Link => {
-                wait_for(lead, 0)?;
+                self.wait_for(rt, lead, 0)?;
             }
             Taken::Nothing => {
-                wait_for(lead, ROUND_MILLIS)?;
+                self.wait_for(rt, lead, ROUND_MILLIS)?;
             }
             Taken::NoRoom => self.make_room(rt, lead)?,
             Taken::Fault => return Err(Failed),
@@ -210,28 +224,17 @@ impl<R: time::Clock + Wait + Copy + Drop> Hall<R> {
             lead.failures = lead.failures.saturating_add(1);
             thread::sleep(&rt, Duration::from_millis(PAUSE_MILLIS));
         }
-        Ok(self.take_ready(lead))
-    }
-
-    /// Takes the link of a place of which the set told. The set goes on telling of a link that is
-    /// served: at the first time it is told to stop.
-    fn take(&self, rt: R, at: usize) -> Option<TcpVisit<R>> {
-        let mut places = self.places.lock(&rt);
-        match places.take(at) {
-            Found::Visit(visit) => Some(visit),
-            Found::Out(fd) => {
-                let _ = self.registry.deregister(&mut SourceFd(&fd));
-                None
-            }
-            Found::Nothing => None,
-        }
+        let told = lead.ready.pop();
+        self.tally.note_look(&rt, lead.ready.len());
+        Ok(told)
     }
 
     /// Waits for a link that has bytes.
     fn await_link(&self, rt: R) -> Result<TcpVisit<R>, Failed> {
         for _ in 0..u64::MAX {
             if let Some(at) = self.next_told(rt)? {
-                if let Some(mut visit) = self.take(rt, at) {
+                let taken = self.places.lock(&rt).take(at);
+                if let Some(mut visit) = taken {
                     visit.input.begin();
                     return Ok(visit);
                 }
@@ -287,6 +290,7 @@ pub(crate) fn make_hall<R: time::Clock + Copy + Drop>(
     listener: TcpListener,
     poll: Poll,
     registry: Registry,
+    now: Instant,
 ) -> Result<Arc<Hall<R>>, AllocError> {
     let lead = Lead {
         poll,
@@ -295,8 +299,8 @@ pub(crate) fn make_hall<R: time::Clock + Copy + Drop>(
         last_round: None,
         failures: 0,
     };
-    let tally = Arc::new(alloc, Tally::new())?;
-    let places = Places::new(alloc, Arc::try_clone(&tally)?)?;
+    let tally = Arc::new(alloc, Tally::new(now))?;
+    let places = Places::new(alloc)?;
     let hall = Hall {
         alloc,
         listener,

@@ -2,7 +2,7 @@
 ghost use Rattle.std.specs.Prelude.{◌≡◌, ◌≤◌, None, length, IfOk};
 
 use crate::link::{LOOK_MILLIS, has_patience, has_time, read_once};
-use crate::tally::{SHARE_MILLIS, Tally};
+use crate::tally::Tally;
 use office_outside::{Failed, Source};
 use std::io::Read;
 use std::net::{Shutdown, TcpStream};
@@ -35,8 +35,6 @@ struct Ear<R: Drop> {
     begun: Option<Instant>,
     /// Whether a read waits for the pause between two messages alone.
     is_short: bool,
-    /// When the visit began.
-    served_since: Option<Instant>,
     waits: bool,
 }
 
@@ -54,20 +52,11 @@ impl<R: Clock + Drop> Ear<R> {
         Ok(())
     }
 
-    /// Whether other links want its worker.
-    fn yields(&self) -> bool {
-        let had_share = match self.served_since {
-            Some(begun) => !has_time(&self.rt, begun, SHARE_MILLIS),
-            None => true,
-        };
-        self.tally.wants_worker(had_share)
-    }
-
     /// Reads between two messages. Where no byte comes the input ends here, and the link waits.
     fn read_first(&mut self, piece: &mut [u8]) -> Result<usize, Failed>
         ensures count { IfOk result (λ n. n ≤ length piece.new) }
     {
-        if self.room > 0 && self.yields() {
+        if self.room > 0 && self.tally.wants_worker(&self.rt) {
             self.waits = true;
             return Ok(0);
         }
@@ -153,7 +142,6 @@ impl<R: Clock + Drop> LinkSource<R> {
                 left: 0,
                 begun: None,
                 is_short: false,
-                served_since: None,
                 waits: false,
             },
             faults: 0,
@@ -164,7 +152,6 @@ impl<R: Clock + Drop> LinkSource<R> {
     pub(crate) fn begin(&mut self) {
         self.ear.room = 0;
         self.ear.begun = None;
-        self.ear.served_since = Instant::now(&self.ear.rt).ok();
         self.ear.waits = false;
     }
 

@@ -4,12 +4,10 @@ ghost use Rattle.std.specs.Prelude.{◌≡◌, length};
 use crate::Visit;
 use crate::link_sink::LinkSink;
 use crate::link_source::LinkSource;
-use crate::tally::Tally;
 use office_outside::WallClock;
 use std::alloc::{AllocError, Global};
 use std::mem;
 use std::os::fd::RawFd;
-use std::sync::Arc;
 use std::time::{Clock, Duration, Instant};
 
 /// How many links there may be: as many as a process has descriptors for by default, with some to
@@ -45,12 +43,12 @@ enum Place<R: Clock + Drop> {
     Waits(Waiter<R>),
 }
 
-/// What was found at a place of which the set told.
-#[derive(Drop)]
-pub(crate) enum Found<R: Clock + Drop> {
-    Visit(TcpVisit<R>),
-    /// A link that is served. The set told of it for the first time since it went out.
-    Out(RawFd),
+/// What is at a place of which the set tells.
+#[derive(Clone, Copy, Drop)]
+pub(crate) enum Heard {
+    Waits,
+    /// A link that is served. The set tells of it for the first time since it went out.
+    Served(RawFd),
     Nothing,
 }
 
@@ -58,21 +56,16 @@ pub(crate) enum Found<R: Clock + Drop> {
 #[derive(Drop)]
 pub(crate) struct Places<R: Clock + Drop> {
     places: Vec<Place<R>>,
-    tally: Arc<Tally>,
     waiting: usize,
 }
 
 impl<R: Clock + Drop> Places<R> {
-    pub(crate) fn new(alloc: Global, tally: Arc<Tally>) -> Result<Places<R>, AllocError> {
+    pub(crate) fn new(alloc: Global) -> Result<Places<R>, AllocError> {
         let mut places = Vec::with_capacity(alloc, MOST_LINKS)?;
         for _ in 0..MOST_LINKS {
             places.push(Place::Free)?;
         }
-        Ok(Places {
-            places,
-            tally,
-            waiting: 0,
-        })
+        Ok(Places { places, waiting: 0 })
     }
 
     /// Whether there is no link.
@@ -85,16 +78,10 @@ impl<R: Clock + Drop> Places<R> {
         self.waiting > 0
     }
 
-    fn add_waiter(&mut self) {
-        self.waiting = self.waiting.saturating_add(1);
-        self.tally.set_waiting(self.waiting);
-    }
-
     fn remove_waiter(&mut self)
         ensures { self.new.places ≡ self.old.places }
     {
         self.waiting = self.waiting.saturating_sub(1);
-        self.tally.set_waiting(self.waiting);
     }
 
     fn free_place(&self) -> Option<usize> {
@@ -117,22 +104,13 @@ impl<R: Clock + Drop> Places<R> {
     }
 
     /// Takes the link that waits at a place.
-    pub(crate) fn take(&mut self, at: usize) -> Found<R> {
-        let Some(place) = self.places.get_mut(at) else {
-            return Found::Nothing;
-        };
+    pub(crate) fn take(&mut self, at: usize) -> Option<TcpVisit<R>> {
+        let place = self.places.get_mut(at)?;
         match mem::replace(place, Place::Free) {
-            Place::Free => Found::Nothing,
+            Place::Free => None,
             Place::Out(served) => {
-                *place = Place::Out(Served {
-                    fd: served.fd,
-                    is_told: false,
-                });
-                if served.is_told {
-                    Found::Out(served.fd)
-                } else {
-                    Found::Nothing
-                }
+                *place = Place::Out(served);
+                None
             }
             Place::Waits(waiter) => {
                 *place = Place::Out(Served {
@@ -140,8 +118,20 @@ impl<R: Clock + Drop> Places<R> {
                     is_told: true,
                 });
                 self.remove_waiter();
-                Found::Visit(waiter.visit)
+                Some(waiter.visit)
             }
+        }
+    }
+
+    /// Hears that the set tells of a place.
+    pub(crate) fn hear_of(&mut self, at: usize) -> Heard {
+        match self.places.get_mut(at) {
+            Some(Place::Waits(_)) => Heard::Waits,
+            Some(Place::Out(served)) if served.is_told => {
+                served.is_told = false;
+                Heard::Served(served.fd)
+            }
+            _ => Heard::Nothing,
         }
     }
 
@@ -157,7 +147,7 @@ impl<R: Clock + Drop> Places<R> {
     pub(crate) fn put(&mut self, at: usize, visit: TcpVisit<R>, since: Instant) {
         if at < self.places.len() {
             self.places[at] = Place::Waits(Waiter { visit, since });
-            self.add_waiter();
+            self.waiting = self.waiting.saturating_add(1);
         }
     }
 

@@ -1,6 +1,7 @@
 //! How many workers are free and how many links wait, and what a link may take by that.
 
-use std::sync::atomic::{AtomicUsize, Ordering};
+use std::sync::atomic::{AtomicBool, AtomicUsize, Ordering};
+use std::time::{Clock, Instant};
 
 /// How many milliseconds a message may take from its first byte to its last, and an answer; and
 /// how many while no worker is free, so that slow links can't hold all of them for long.
@@ -8,24 +9,31 @@ const PATIENCE_MILLIS: u64 = 10_000;
 
 const HURRY_MILLIS: u64 = 2_000;
 
-/// How many milliseconds a busy link may hold its worker where nobody is known to want it. Whether
-/// somebody does is seen by a look at the set alone, for which a worker has to be free.
-pub(crate) const SHARE_MILLIS: u64 = 3;
+/// How many milliseconds busy links may hold all workers before one of these looks whether others
+/// wait: nobody else does.
+const LOOK_MILLIS: usize = 3;
 
-/// How many workers wait for a visit, how many links wait, and of how many of these the set told.
+/// How many workers are free, and what is known of links that wait for one.
 #[derive(Drop)]
 pub(crate) struct Tally {
+    begun: Instant,
     free_workers: AtomicUsize,
-    waiting_links: AtomicUsize,
+    /// Of how many links the set told that nobody took yet.
     ready_links: AtomicUsize,
+    /// Whether the last look found more than one.
+    found_many: AtomicBool,
+    /// When it was, in milliseconds from the beginning.
+    looked_at: AtomicUsize,
 }
 
 impl Tally {
-    pub(crate) fn new() -> Tally {
+    pub(crate) fn new(begun: Instant) -> Tally {
         Tally {
+            begun,
             free_workers: AtomicUsize::new(0),
-            waiting_links: AtomicUsize::new(0),
             ready_links: AtomicUsize::new(0),
+            found_many: AtomicBool::new(false),
+            looked_at: AtomicUsize::new(0),
         }
     }
 
@@ -39,22 +47,39 @@ impl Tally {
         self.free_workers.fetch_sub(1, Ordering::SeqCst);
     }
 
-    pub(crate) fn set_waiting(&self, count: usize) {
-        self.waiting_links.store(count, Ordering::SeqCst);
-    }
-
     pub(crate) fn set_ready(&self, count: usize) {
         self.ready_links.store(count, Ordering::SeqCst);
     }
 
-    /// Whether others want the worker of a link, which had its share of time or hadn't.
-    pub(crate) fn wants_worker(&self, had_share: bool) -> bool {
-        let none_free = self.free_workers.load(Ordering::SeqCst) == 0;
-        if had_share {
-            none_free || self.waiting_links.load(Ordering::SeqCst) > 0
-        } else {
-            none_free && self.ready_links.load(Ordering::SeqCst) > 0
+    fn millis<R: Clock>(&self, rt: &R) -> usize {
+        match self.begun.elapsed(rt) {
+            Ok(spent) => usize::try_from(spent.as_millis()).unwrap_or(usize::MAX),
+            Err(_) => usize::MAX,
         }
+    }
+
+    /// Notes a look, which found so many links beside the one that is taken at once.
+    pub(crate) fn note_look<R: Clock>(&self, rt: &R, others: usize) {
+        self.set_ready(others);
+        self.found_many.store(others > 0, Ordering::SeqCst);
+        self.looked_at.store(self.millis(rt), Ordering::SeqCst);
+    }
+
+    /// Whether others may want the worker that asks. Where that is only seen by a look, one worker
+    /// is told so, and the others go on.
+    pub(crate) fn wants_worker<R: Clock>(&self, rt: &R) -> bool {
+        if self.free_workers.load(Ordering::SeqCst) > 0 {
+            return false;
+        }
+        if self.ready_links.load(Ordering::SeqCst) > 0 || self.found_many.load(Ordering::SeqCst) {
+            return true;
+        }
+        let now = self.millis(rt);
+        let is_due = now.saturating_sub(self.looked_at.load(Ordering::SeqCst)) >= LOOK_MILLIS;
+        if is_due {
+            self.looked_at.store(now, Ordering::SeqCst);
+        }
+        is_due
     }
 
     /// How long a message may take now, and an answer.

@@ -7,6 +7,7 @@ use crate::{Doors, DoorsFault, Given};
 use std::alloc::Global;
 use std::net::{Ipv4Addr, Net, SocketAddr, SocketAddrV4, TcpListener, TcpStream};
 use std::sync::{Arc, Wait};
+use std::time::Instant;
 use std::{io, time};
 
 /// Doors at a port of 127.0.0.1: only programs of this machine come in. They share its listener and
@@ -62,7 +63,10 @@ fn open_hall<R: Net + time::Clock + Wait + Copy + Drop>(
     let Ok(registry) = poll.registry().try_clone() else {
         return Err(DoorsFault::Failed);
     };
-    match make_hall(alloc, listener, poll, registry) {
+    let Ok(now) = Instant::now(&rt) else {
+        return Err(DoorsFault::Failed);
+    };
+    match make_hall(alloc, listener, poll, registry, now) {
         Ok(hall) => Ok(hall),
         Err(_) => Err(DoorsFault::NoMemory),
     }
