@@ -2,7 +2,7 @@
 ghost use Rattle.std.specs.Prelude.{◌≡◌, ◌<◌};
 ghost use Rattle.alert_line.specs.Minutes.{bits_at, unit_of, with_bits};
 
-// Four to the power of a place.
+/// Four to the power of a place.
 fn unit_of(place: usize) -> u8
     requires { place < 4 }
     ensures value { result ≡ unit_of place }

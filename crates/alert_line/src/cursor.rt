@@ -15,7 +15,7 @@ use std::sync::ledger::Ledger;
 use sum_pages::Steps;
 use window_sums::WindowSums;
 
-// A pair and its two windows.
+/// A pair and its two windows.
 #[derive(Clone, Copy)]
 pub(crate) struct PairWindows {
     pub(crate) pair: WindowPair,
@@ -54,7 +54,7 @@ impl PairWindows {
         PairWindows { pair, long, short }
     }
 
-    // Both windows burn faster than the pair allows.
+    /// Both windows burn faster than the pair allows.
     fn both_burn(&self, target: Decimal, minute: u32, sums: &WindowSums) -> bool
         requires target { target < WHOLE }
         requires few { self.now.pair.above ≤ MAX_THRESHOLD }
@@ -69,7 +69,7 @@ impl PairWindows {
     }
 }
 
-// The windows of a rule.
+/// The windows of a rule.
 #[derive(Clone, Copy)]
 pub(crate) enum Windows {
     OfSingle {
@@ -130,7 +130,7 @@ impl Windows {
         }
     }
 
-    // The windows of the next minute.
+    /// The windows of the next minute.
     fn next<L: Ledger>(self, minute: u32, sums: &WindowSums, steps: &mut Steps<L>) -> Windows
         requires minute { minute + 1 < 2 ^ 32 }
         requires stand { StandAt (width_of sums.now.method) (leaf_at sums.now) minute self }
@@ -167,7 +167,7 @@ impl Windows {
         }
     }
 
-    // What the rule says, by the sums of its windows.
+    /// What the rule says, by the sums of its windows.
     fn burn(&self, target: Decimal, minute: u32, sums: &WindowSums) -> bool
         requires rule { IsRule (rule_of self.now) }
         requires target { target < WHOLE }
@@ -190,7 +190,7 @@ impl Windows {
     }
 }
 
-// The windows of a rule at the minute where they stand.
+/// The windows of a rule at the minute where they stand.
 #[derive(Clone, Copy)]
 pub(crate) struct Cursor {
     pub(crate) minute: u32,
@@ -198,7 +198,7 @@ pub(crate) struct Cursor {
 }
 
 impl Cursor {
-    // All windows summed up from scratch.
+    /// All windows summed up from scratch.
     pub(crate) fn new<L: Ledger>(
         rule: AlertRule,
         minute: u32,
@@ -228,7 +228,7 @@ impl Cursor {
         }
     }
 
-    // Moved on to a later minute, slice by slice.
+    /// Moved on to a later minute, slice by slice.
     pub(crate) fn moved_to<L: Ledger>(
         self,
         minute: u32,
@@ -249,7 +249,7 @@ impl Cursor {
         cursor
     }
 
-    // What the rule says at the cursor's minute.
+    /// What the rule says at the cursor's minute.
     pub(crate) fn burns(&self, target: Decimal, sums: &WindowSums) -> bool
         requires rule { IsRule (rule_of self.now.windows) }
         requires target { target < WHOLE }

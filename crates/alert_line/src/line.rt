@@ -24,7 +24,7 @@ use std::sync::ledger::Ledger;
 use sum_pages::Steps;
 use window_sums::WindowSums;
 
-// Over how many minutes that were known windows are moved on. Over more it is cheaper to sum anew.
+/// Over how many minutes that were known windows are moved on. Over more it is cheaper to sum anew.
 const MOST_MOVES: u32 = 32;
 
 /// What is known of the condition of an alert, for each minute from its origin on.
@@ -198,8 +198,8 @@ impl AlertLine {
         self.state_where(active, minute, sums, steps)
     }
 
-    // How the alert stands at a minute at which it is active or isn't. Only where it isn't the
-    // lookback is asked for events.
+    /// How the alert stands at a minute at which it is active or isn't. Only where it isn't the
+    /// lookback is asked for events.
     fn state_where<L: Ledger>(
         &self,
         active: bool,
@@ -220,7 +220,7 @@ impl AlertLine {
         }
     }
 
-    // Whether the alert is active at a minute.
+    /// Whether the alert is active at a minute.
     fn active_at<L: Ledger>(&mut self, minute: u32, sums: &WindowSums, steps: &mut Steps<L>) -> bool
         requires minute { IsMinute self.old minute }
         requires agrees { Agrees self.old sums.now }
@@ -242,8 +242,8 @@ impl AlertLine {
         has_held(wait, run, holds)
     }
 
-    // For how many minutes before a minute the condition has held without a break, as far as its
-    // wait asks.
+    /// For how many minutes before a minute the condition has held without a break, as far as its
+    /// wait asks.
     fn run_before<L: Ledger>(
         &mut self,
         minute: u32,
@@ -274,7 +274,7 @@ impl AlertLine {
         run
     }
 
-    // Whether the lookback has no event.
+    /// Whether the lookback has no event.
     fn is_silent<L: Ledger>(&self, minute: u32, sums: &WindowSums, steps: &mut Steps<L>) -> bool
         ensures value { result ≡ (den_before self.now sums.now minute == 0) }
         ensures steps { steps.new ≤ steps.old + 600 }
@@ -283,8 +283,8 @@ impl AlertLine {
         sums.is_empty(from, minute, steps)
     }
 
-    // The condition of a minute, which is known afterwards. The cursor stands at an earlier minute
-    // that wasn't known, if there was one, and no step is taken where this one was known.
+    /// The condition of a minute, which is known afterwards. The cursor stands at an earlier minute
+    /// that wasn't known, if there was one, and no step is taken where this one was known.
     fn evaluate<L: Ledger>(
         &mut self,
         minute: u32,
@@ -309,9 +309,9 @@ impl AlertLine {
         self.discover(minute, cursor, sums, steps)
     }
 
-    // The condition of a minute that isn't known. Not inlined, which doubles the speed over known
-    // minutes. The cursor moves on by two reads for each window and minute, if it is near enough,
-    // and stands at this minute afterwards.
+    /// The condition of a minute that isn't known. Not inlined, which doubles the speed over known
+    /// minutes. The cursor moves on by two reads for each window and minute, if it is near enough,
+    /// and stands at this minute afterwards.
     #[inline(never)]
     fn discover<L: Ledger>(
         &mut self,
@@ -340,7 +340,7 @@ impl AlertLine {
         holds
     }
 
-    // The windows of the rule at a minute: those of an earlier one moved on, or from scratch.
+    /// The windows of the rule at a minute: those of an earlier one moved on, or from scratch.
     fn cursor_at<L: Ledger>(
         &self,
         minute: u32,
@@ -384,7 +384,7 @@ impl AlertLine {
         }
     }
 
-    // What the rule says at the minute of a cursor.
+    /// What the rule says at the minute of a cursor.
     fn burns(&self, cursor: &Cursor, sums: &WindowSums) -> bool
         requires minute { IsMinute self.now cursor.now.minute }
         requires stands { IsAt self.now.rule (width_of sums.now.method) (leaf_at sums.now)
@@ -394,7 +394,7 @@ impl AlertLine {
         cursor.burns(self.target, sums)
     }
 
-    // Remembers the condition of a minute.
+    /// Remembers the condition of a minute.
     fn learn(&mut self, minute: u32, holds: bool)
         requires { IsMinute self.old minute }
         ensures { HasLearnt self.old self.new minute holds }
@@ -409,7 +409,7 @@ impl AlertLine {
         self.rule.wait()
     }
 
-    // Where a pass over a range begins.
+    /// Where a pass over a range begins.
     fn start(&self, from: u32) -> u32
         ensures value { result ≡ start_of self.now from }
         ensures origin { self.now.origin ≤ result }
@@ -424,21 +424,21 @@ impl AlertLine {
     }
 }
 
-// The condition has held for long enough, at a minute of the range.
+/// The condition has held for long enough, at a minute of the range.
 fn is_active(wait: u32, run: u32, from: u32, minute: u32) -> bool
     ensures { result ≡ (nat_lt wait run && nat_le from minute) }
 {
     wait < run && from <= minute
 }
 
-// The condition holds at a minute, and held for long enough before it.
+/// The condition holds at a minute, and held for long enough before it.
 fn has_held(wait: u32, run: u32, holds: bool) -> bool
     ensures { result ≡ (holds && nat_le wait run) }
 {
     holds && wait <= run
 }
 
-// For how many minutes without a break the condition has held.
+/// For how many minutes without a break the condition has held.
 fn next_run(run: u32, holds: bool) -> u32
     requires { run + 1 < 2 ^ 32 }
     ensures { result ≡ (if holds then run + 1 else 0) }

@@ -54,7 +54,7 @@ fn clear(bytes: &mut [u8], first: usize, end: usize)
     part.fill(0);
 }
 
-// Whole bytes at once, and what is left at both ends singly.
+/// Whole bytes at once, and what is left at both ends singly.
 fn forget(bytes: &mut [u8], from: usize, to: usize)
     requires order { from ≤ to }
     requires within { to ≤ 4 * length bytes.old }

@@ -8,7 +8,7 @@ use std::alloc::AllocError;
 /// second.
 pub type Spans = Vec<(u32, u32)>;
 
-// Adds a minute at the end: to the last stretch where that ends there, else as one of its own.
+/// Adds a minute at the end: to the last stretch where that ends there, else as one of its own.
 fn add_minute(spans: &mut Spans, minute: u32) -> Result<(), AllocError>
     requires { minute + 1 < 2 ^ 32 }
     ensures { OnOk result (spans.new.items ≡ with_minute spans.old.items minute) }
@@ -25,7 +25,7 @@ fn add_minute(spans: &mut Spans, minute: u32) -> Result<(), AllocError>
     Ok(())
 }
 
-// Adds a minute at which the alert is active, and no other.
+/// Adds a minute at which the alert is active, and no other.
 pub(crate) fn note_minute(spans: &mut Spans, minute: u32, active: bool) -> Result<(), AllocError>
     requires { minute + 1 < 2 ^ 32 }
     ensures { OnOk result (spans.new.items

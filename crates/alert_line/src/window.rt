@@ -10,7 +10,7 @@ use std::sync::ledger::Ledger;
 use sum_pages::Steps;
 use window_sums::WindowSums;
 
-// The slices from `first` up to `end`, and the sum of their leaves.
+/// The slices from `first` up to `end`, and the sum of their leaves.
 #[derive(Clone, Copy)]
 pub(crate) struct Window {
     pub(crate) first: u32,
@@ -19,7 +19,7 @@ pub(crate) struct Window {
 }
 
 impl Window {
-    // The window of `length` minutes before a minute, summed up from scratch.
+    /// The window of `length` minutes before a minute, summed up from scratch.
     pub(crate) fn new<L: Ledger>(
         length: u32,
         minute: u32,
@@ -40,7 +40,7 @@ impl Window {
         }
     }
 
-    // The window of the next minute, by at most one slice more and one less.
+    /// The window of the next minute, by at most one slice more and one less.
     pub(crate) fn next<L: Ledger>(
         self,
         length: u32,
@@ -68,7 +68,7 @@ impl Window {
         Window { first, end, sum }
     }
 
-    // The sum over the slices up to `to`, which is at most one slice more.
+    /// The sum over the slices up to `to`, which is at most one slice more.
     fn grown<L: Ledger>(self, to: u32, sums: &WindowSums, steps: &mut Steps<L>) -> Leaf
         requires value { self.sum
             ≡ leaves_over (leaf_at sums.now) self.first (self.end - self.first) }
@@ -89,7 +89,7 @@ impl Window {
         }
     }
 
-    // The sum over the slices from `to` on, which is at most one slice less.
+    /// The sum over the slices from `to` on, which is at most one slice less.
     fn shrunk<L: Ledger>(self, to: u32, sums: &WindowSums, steps: &mut Steps<L>) -> Leaf
         requires value { self.sum
             ≡ leaves_over (leaf_at sums.now) self.first (self.end - self.first) }

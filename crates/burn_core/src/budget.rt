@@ -6,7 +6,7 @@ ghost use Rattle.slo_terms.specs.Budget.{error_rate_of, burn_of, remaining_of, a
 use exact_fraction::{Decimal, Fraction, Leaf, Op, holds};
 use slo_limits::{MAX_SUM, WHOLE};
 
-// Thresholds and targets both count billionths.
+/// Thresholds and targets both count billionths.
 const WHOLE_SQUARED: u128 = 1_000_000_000_000_000_000;
 
 /// The part of the events that weren't good: (den - num) / den. None exactly where no event was
@@ -75,7 +75,7 @@ pub fn above(sum: Leaf, target: Decimal, op: Op, threshold: Decimal) -> bool
     holds(op, errors.cmp(&limit))
 }
 
-// How many of so many events may be errors, in billionths.
+/// How many of so many events may be errors, in billionths.
 fn allowed_errors(events: u64, target: Decimal) -> u128
     requires few { events ≤ MAX_SUM }
     requires below_one { target < WHOLE }

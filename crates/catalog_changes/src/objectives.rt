@@ -10,7 +10,7 @@ use office_history::Measure;
 use slo_catalog::Catalog;
 use std::alloc::{AllocError, Global};
 
-// Adds the objectives of an SLO.
+/// Adds the objectives of an SLO.
 fn add_objectives(
     alloc: Global,
     catalog: &Catalog,

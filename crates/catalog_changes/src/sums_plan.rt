@@ -18,7 +18,7 @@ use office_history::Measure;
 use slo_catalog::Catalog;
 use std::alloc::{AllocError, Global};
 
-// Makes the sums of an objective, unless they are kept.
+/// Makes the sums of an objective, unless they are kept.
 fn add_sums(
     alloc: Global,
     derived: &Derived,
@@ -46,7 +46,7 @@ fn add_sums(
     Ok(())
 }
 
-// The sums of those of these objectives that aren't kept yet.
+/// The sums of those of these objectives that aren't kept yet.
 fn sums_made(
     alloc: Global,
     derived: &Derived,

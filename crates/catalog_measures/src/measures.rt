@@ -97,7 +97,7 @@ pub fn measure_at(catalog: &Catalog, name: Label, number: u32) -> Option<Measure
     Some(measure_of(name, slo, reading, objective))
 }
 
-// Adds a measure at the end.
+/// Adds a measure at the end.
 fn add_measure(measures: &mut Vec<Measure>, measure: Measure) -> Result<(), AllocError>
     ensures { OnOk result (measures.new.items ≡ measures.old.items ++ measure ∷ []) }
 {

@@ -1,7 +1,7 @@
-// Keys shared out among buckets, each linked to the one before it of its bucket.
-//
-// The minutes of a sixteen (of one indicator and source) have neighbouring buckets, so that rows in
-// the order of their minutes find what they need in few lines of memory.
+//! Keys shared out among buckets, each linked to the one before it of its bucket.
+//!
+//! The minutes of a sixteen (of one indicator and source) have neighbouring buckets, so that rows
+//! in the order of their minutes find what they need in few lines of memory.
 ghost use Rattle.std.specs.Prelude.{◌≡◌, ◌<◌, ◌≤◌, ◌+◌, ◌*◌, ◌++◌, ◌∷◌, [], ℕ, List, length, OnOk};
 ghost use Rattle.std.specs.Prelude.{slice_index, ◌^◌, OnErr};
 ghost use Rattle.cell_index.specs.Chains.{below, last};

@@ -1,4 +1,4 @@
-// What stands at a place.
+//! What stands at a place.
 use exact_fraction::Label;
 
 /// What a row is about: an indicator, a source and a minute.

@@ -1,4 +1,4 @@
-// Where the cells of an indicator stand, and those of an indicator on a day.
+//! Where the cells of an indicator stand, and those of an indicator on a day.
 ghost use Rattle.std.specs.Prelude.{◌/◌, ◌≡◌, ◌<◌, ◌≤◌, ◌+◌, ◌++◌, ◌∷◌, [], ℕ, List, Some, OnOk};
 ghost use Rattle.std.specs.Prelude.{length, slice_get, take};
 ghost use Rattle.std.specs.List.{position};

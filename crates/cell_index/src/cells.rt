@@ -1,5 +1,5 @@
-// Cells in the order in which they came, small for many cells: a name is kept once, and a cell is
-// three numbers.
+//! Cells in the order in which they came, small for many cells: a name is kept once, and a cell is
+//! three numbers.
 ghost use Rattle.std.specs.Prelude.{◌≡◌, ◌<◌, ◌≤◌, [], None, Some, IfSome, IfNone};
 ghost use Rattle.std.specs.Prelude.{IfOk, OnOk, OnErr, length, slice_get, take};
 ghost use Rattle.std.specs.List.{position};

@@ -1,4 +1,4 @@
-// Items in groups, each linked to the one before it of its group.
+//! Items in groups, each linked to the one before it of its group.
 ghost use Rattle.std.specs.Prelude.{◌≡◌, ◌<◌, ◌≤◌, ◌+◌, ◌++◌, ◌∷◌, [], ℕ, List, Some, OnOk, length};
 ghost use Rattle.std.specs.Prelude.{slice_get, take, true, if◌then◌else◌};
 ghost use Rattle.indexmap.specs.IndexMap.{IsUnique, get, spare};

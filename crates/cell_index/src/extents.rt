@@ -1,4 +1,4 @@
-// Where the cells of an indicator begin, and on how many days it has some.
+//! Where the cells of an indicator begin, and on how many days it has some.
 ghost use Rattle.std.specs.Prelude.{◌/◌, ◌≡◌, ◌<◌, ◌≤◌, ◌+◌, ◌++◌, ◌∷◌, [], ℕ, List, OnOk, length};
 ghost use Rattle.std.specs.List.{position};
 ghost use Rattle.slo_limits.specs.declared.TheConstants.{MINUTES_A_DAY};

@@ -1,4 +1,4 @@
-// Keys in the order in which they came, each found by its bucket.
+//! Keys in the order in which they came, each found by its bucket.
 ghost use Rattle.std.specs.Prelude.{◌≡◌, ◌<◌, ◌-◌, ◌++◌, ◌∷◌, [], Some, false, OnOk, OnErr, length};
 ghost use Rattle.std.specs.Prelude.{slice_get, take};
 ghost use Rattle.std.specs.List.{list_any, position};

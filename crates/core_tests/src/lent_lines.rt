@@ -15,7 +15,7 @@ fn is_timeline(outcome: &Outcome) -> bool {
     }
 }
 
-// Asks for a timeline of the shop's alert, which has to be given.
+/// Asks for a timeline of the shop's alert, which has to be given.
 fn ask(rt: &impl Abort, alloc: Global, core: &mut Core, reading: u32, from: u32, to: u32)
     requires { reading ≤ MAX_MINUTE }
 {
@@ -33,7 +33,7 @@ fn ask(rt: &impl Abort, alloc: Global, core: &mut Core, reading: u32, from: u32,
     drop(outcome);
 }
 
-// Whether the line of the shop's alert knows a minute.
+/// Whether the line of the shop's alert knows a minute.
 fn knows(rt: &impl Abort, core: &Core, minute: u32) -> bool {
     let line = core.line_of(label(rt, b"shop-slo"), 0, label(rt, b"shop-alerts"));
     line.expect(rt, "a line").known_at(minute).is_some()

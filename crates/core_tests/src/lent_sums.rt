@@ -8,7 +8,7 @@ use std::sync::ledger::{Blank, Ledger};
 use sum_pages::Steps;
 use window_sums::WindowSums;
 
-// The sum over [from, to) for a caller that counts no steps.
+/// The sum over [from, to) for a caller that counts no steps.
 fn sum_by<L: Ledger>(sums: &WindowSums, from: u32, to: u32, blank: Blank) -> Leaf
     requires order { from ≤ to }
     requires blank { (blank.name ≡ L.name) × (blank.parts ≡ L.parts) × (0 < L.parts) }

@@ -16,8 +16,8 @@ pub(crate) fn label(rt: &impl Abort, text: &[u8]) -> Label {
     read_label(text).expect(rt, "a label")
 }
 
-// The objects of the sample stream's shop: an SLO with one objective, and an alert where more than
-// twice the budget burns in an hour, for five minutes.
+/// The objects of the sample stream's shop: an SLO with one objective, and an alert where more than
+/// twice the budget burns in an hour, for five minutes.
 fn definition(alloc: Global) -> Result<Command, AllocError>
     ensures { IfOk result HasRevisions }
 {
@@ -35,7 +35,7 @@ fn batch(alloc: Global, row: Row) -> Result<Command, AllocError>
     Ok(Command::Samples(Listed::from_vec(rows)))
 }
 
-// Makes a change, which has to be accepted.
+/// Makes a change, which has to be accepted.
 fn change(rt: &impl Abort, alloc: Global, core: &mut Core, reading: u32, command: &Command)
     requires reading { reading ≤ MAX_MINUTE }
     requires revisions { HasRevisions command.now }

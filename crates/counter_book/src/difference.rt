@@ -14,7 +14,7 @@ use crate::reading::{
     Count, CounterReading, Kept, Moves, Neighbours, NextMove, Rise, count_of_reading,
 };
 
-// Good events count at most the total.
+/// Good events count at most the total.
 fn capped(good: u64, total: u64) -> Rise
     ensures value { result ≡ capped_of good total }
     ensures capped { IsCapped result }
@@ -25,7 +25,7 @@ fn capped(good: u64, total: u64) -> Rise
     }
 }
 
-// The rise from one count to the next, which may stand behind a reset.
+/// The rise from one count to the next, which may stand behind a reset.
 #[tactic(auto, unfolding(crate::specs::Differences::rise_of))]
 fn rise(before: Count, now: Count) -> Rise
     ensures value { result ≡ rise_of before now }
@@ -38,7 +38,7 @@ fn rise(before: Count, now: Count) -> Rise
     }
 }
 
-// The rise between two counts, where both are there.
+/// The rise between two counts, where both are there.
 fn between(before: Option<Count>, now: Option<Count>) -> Option<Rise>
     ensures value { result ≡ rise_between before now }
     ensures capped { IfSome result IsCapped }
@@ -52,7 +52,7 @@ fn between(before: Option<Count>, now: Option<Count>) -> Option<Rise>
     }
 }
 
-// The one, or the other where it isn't there.
+/// The one, or the other where it isn't there.
 fn first(one: Option<Count>, other: Option<Count>) -> Option<Count>
     ensures { result ≡ first_there one other }
 {
@@ -62,7 +62,7 @@ fn first(one: Option<Count>, other: Option<Count>) -> Option<Count>
     }
 }
 
-// The new rise, where it isn't the old one.
+/// The new rise, where it isn't the old one.
 fn moved(old: Option<Rise>, now: Option<Rise>) -> Option<Rise>
     ensures value { result ≡ moved_to old now }
     ensures capped { IfSome now IsCapped → IfSome result IsCapped }
@@ -82,7 +82,7 @@ fn moved(old: Option<Rise>, now: Option<Rise>) -> Option<Rise>
     }
 }
 
-// How the difference behind a reading moves, which came behind another count before.
+/// How the difference behind a reading moves, which came behind another count before.
 fn next_move(behind: Option<(u32, Kept)>, passed: Option<Count>, count: Count) -> Option<NextMove>
     ensures value { result ≡ next_move_of behind passed count }
     ensures capped { IfSome result (λ next. IsCapped next.rise) }
@@ -99,7 +99,7 @@ fn next_move(behind: Option<(u32, Kept)>, passed: Option<Count>, count: Count) -
     }
 }
 
-// What a reading moves between its neighbours.
+/// What a reading moves between its neighbours.
 pub(crate) fn moves(near: &Neighbours, reading: &CounterReading) -> Moves
     ensures moves { (book : Book) → AreNear (kept_at book reading.now.source) reading.now.minute
         near.now → IsMoves book reading.now result }

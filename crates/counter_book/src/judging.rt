@@ -14,7 +14,7 @@ use name_numbers::NameTable;
 use slo_limits::{MAX_AMOUNT, MAX_PUTS, MAX_READINGS};
 use std::collections::BTreeMap;
 
-// How a reading stands to what is kept at its moment.
+/// How a reading stands to what is kept at its moment.
 fn standing(here: Option<Kept>, reading: &CounterReading) -> Standing
     ensures { result ≡ standing_of here reading.now }
 {
@@ -39,7 +39,7 @@ fn standing(here: Option<Kept>, reading: &CounterReading) -> Standing
     })
 }
 
-// A minute's rise whose total no sample has.
+/// A minute's rise whose total no sample has.
 fn above(minute: u32, rise: Option<Rise>) -> Option<(u32, u64)>
     ensures { result ≡ above_of minute rise }
 {
@@ -55,7 +55,7 @@ fn above(minute: u32, rise: Option<Rise>) -> Option<(u32, u64)>
     }
 }
 
-// The first of two moves whose total no sample has: the own one is named before the next one.
+/// The first of two moves whose total no sample has: the own one is named before the next one.
 fn jump(minute: u32, moves: &Moves) -> Option<(u32, u64)>
     ensures { result ≡ jump_of minute moves.now }
 {
@@ -68,7 +68,7 @@ fn jump(minute: u32, moves: &Moves) -> Option<(u32, u64)>
     }
 }
 
-// Whether a reading that stands so has no room.
+/// Whether a reading that stands so has no room.
 fn is_full(standing: &Standing, readings: usize, puts: u32) -> bool
     ensures { result ≡ is_full_at standing.now readings puts }
 {
@@ -79,8 +79,8 @@ fn is_full(standing: &Standing, readings: usize, puts: u32) -> bool
     }
 }
 
-// What a reading moves, whose source has this number; None where it changes nothing; or why it is
-// refused. Nothing is written before all is judged.
+/// What a reading moves, whose source has this number; None where it changes nothing; or why it is
+/// refused. Nothing is written before all is judged.
 pub(crate) fn judge(
     names: &NameTable,
     kept: &BTreeMap<Moment, Kept>,

@@ -9,7 +9,7 @@ use crate::reading::{Count, CounterReading, Kept, Moment, Neighbours, Tail, coun
 use std::collections::BTreeMap;
 use std::ops::Bound;
 
-// What is kept at a moment.
+/// What is kept at a moment.
 fn look(kept: &BTreeMap<Moment, Kept>, source: u32, minute: u32) -> Option<Kept>
     ensures { result ≡ slot_at kept.now.entries source minute }
 {
@@ -19,7 +19,7 @@ fn look(kept: &BTreeMap<Moment, Kept>, source: u32, minute: u32) -> Option<Kept>
     }
 }
 
-// What is kept at the greatest smaller minute of the source.
+/// What is kept at the greatest smaller minute of the source.
 fn before(kept: &BTreeMap<Moment, Kept>, source: u32, minute: u32) -> Option<Kept>
     ensures { result ≡ before_of (slot_at kept.now.entries source) minute }
 {
@@ -29,7 +29,7 @@ fn before(kept: &BTreeMap<Moment, Kept>, source: u32, minute: u32) -> Option<Kep
     }
 }
 
-// The least greater minute of the source, with what is kept there.
+/// The least greater minute of the source, with what is kept there.
 fn next(kept: &BTreeMap<Moment, Kept>, source: u32, minute: u32) -> Option<(u32, Kept)>
     ensures { IsNext (slot_at kept.now.entries source) minute result }
 {
@@ -40,7 +40,7 @@ fn next(kept: &BTreeMap<Moment, Kept>, source: u32, minute: u32) -> Option<(u32,
     }
 }
 
-// The counts of what is kept.
+/// The counts of what is kept.
 pub(crate) fn count_of(kept: Option<Kept>) -> Option<Count>
     ensures { result ≡ option_map (λ kept. kept.count) kept }
 {
@@ -50,7 +50,7 @@ pub(crate) fn count_of(kept: Option<Kept>) -> Option<Count>
     }
 }
 
-// What is kept around a moment, by look-ups.
+/// What is kept around a moment, by look-ups.
 fn look_around(kept: &BTreeMap<Moment, Kept>, source: u32, minute: u32) -> Neighbours
     ensures { AreNear (slot_at kept.now.entries source) minute result }
 {
@@ -64,15 +64,15 @@ fn look_around(kept: &BTreeMap<Moment, Kept>, source: u32, minute: u32) -> Neigh
     }
 }
 
-// The last reading of a source, where it is noted.
+/// The last reading of a source, where it is noted.
 fn tail_at(tails: &[Tail], source: u32) -> Option<Tail>
     ensures { result ≡ slice_get tails.now source }
 {
     tails.get(source as usize).copied()
 }
 
-// What is kept around a moment. Readings mostly come behind all of their source, whose last one
-// says it then, without a look-up.
+/// What is kept around a moment. Readings mostly come behind all of their source, whose last one
+/// says it then, without a look-up.
 pub(crate) fn neighbours(
     kept: &BTreeMap<Moment, Kept>,
     tails: &[Tail],
@@ -92,8 +92,8 @@ pub(crate) fn neighbours(
     }
 }
 
-// Notes a reading as the last one of its source, where nothing is behind it. Want of memory leaves
-// the source without one.
+/// Notes a reading as the last one of its source, where nothing is behind it. Want of memory leaves
+/// the source without one.
 pub(crate) fn note_last(
     tails: &mut Vec<Tail>,
     source: u32,

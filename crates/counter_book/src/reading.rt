@@ -125,7 +125,7 @@ pub enum Standing {
     Conflict(CounterReading),
 }
 
-// The counts of a reading.
+/// The counts of a reading.
 pub(crate) fn count_of_reading(reading: &CounterReading) -> Count
     ensures { result ≡ count_of reading.now }
 {

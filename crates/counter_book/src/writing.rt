@@ -17,7 +17,7 @@ use slo_limits::MAX_PUTS;
 use std::alloc::AllocError;
 use std::collections::BTreeMap;
 
-// Keeps something at a moment.
+/// Keeps something at a moment.
 fn set(
     kept: &mut BTreeMap<Moment, Kept>,
     source: u32,
@@ -35,7 +35,7 @@ fn set(
     }
 }
 
-// The revision of the difference that was given last.
+/// The revision of the difference that was given last.
 pub(crate) fn given(here: Option<Kept>) -> u32
     ensures { result ≡ given_of here }
 {
@@ -45,7 +45,7 @@ pub(crate) fn given(here: Option<Kept>) -> u32
     }
 }
 
-// What is kept of a reading, whose own difference was given so often.
+/// What is kept of a reading, whose own difference was given so often.
 fn own_kept(reading: &CounterReading, given: u32, own: Option<Rise>) -> Kept
     requires { given < MAX_PUTS }
     ensures { result ≡ own_kept_of reading.now given own }
@@ -61,7 +61,7 @@ fn own_kept(reading: &CounterReading, given: u32, own: Option<Rise>) -> Kept
     }
 }
 
-// What is kept of the next reading, once its difference is given again.
+/// What is kept of the next reading, once its difference is given again.
 fn next_kept(next: &NextMove) -> Kept
     requires { next.now.kept.given < MAX_PUTS }
     ensures { result ≡ next_kept_of next.now }
@@ -73,7 +73,7 @@ fn next_kept(next: &NextMove) -> Kept
     }
 }
 
-// Writes what a reading moves. Only a new moment takes memory, and it is written first.
+/// Writes what a reading moves. Only a new moment takes memory, and it is written first.
 pub(crate) fn write(
     kept: &mut BTreeMap<Moment, Kept>,
     number: u32,
@@ -96,7 +96,7 @@ pub(crate) fn write(
     }
 }
 
-// Numbers the source, and writes what a reading moves; or neither.
+/// Numbers the source, and writes what a reading moves; or neither.
 pub(crate) fn keep(
     names: &mut NameTable,
     kept: &mut BTreeMap<Moment, Kept>,
@@ -126,7 +126,7 @@ pub(crate) fn keep(
     }
 }
 
-// The differences of what a reading moves, whose own one was given so often.
+/// The differences of what a reading moves, whose own one was given so often.
 pub(crate) fn changes(reading: &CounterReading, given: u32, moves: &Moves) -> Changes
     requires given { given < MAX_PUTS }
     requires next { IfSome moves.now.next (λ next. next.kept.given < MAX_PUTS) }

@@ -43,7 +43,7 @@ pub enum CountersEnd {
     NoMemory,
 }
 
-// The words for what is wrong with a record.
+/// The words for what is wrong with a record.
 fn reading_words(alloc: Global, fault: ReadingFault) -> Result<String, AllocError>
     ensures { IfOk result (λ text. string_bytes text ≡ words_of_reading fault) }
 {

@@ -8,7 +8,7 @@ use exact_fraction::Label;
 use itoa::Buffer;
 use std::alloc::AllocError;
 
-// Appends a text and a byte behind it.
+/// Appends a text and a byte behind it.
 fn push_text(page: &mut Vec<u8>, text: &[u8], mark: u8) -> Result<(), AllocError>
     ensures { OnOk result (page.new.items ≡ page.old.items ++ field text.now mark []) }
 {
@@ -17,7 +17,7 @@ fn push_text(page: &mut Vec<u8>, text: &[u8], mark: u8) -> Result<(), AllocError
     Ok(())
 }
 
-// Appends the digits of a number and a byte behind them.
+/// Appends the digits of a number and a byte behind them.
 fn push_number(page: &mut Vec<u8>, number: u32, mark: u8) -> Result<(), AllocError>
     ensures { OnOk result (page.new.items ≡ page.old.items ++ field (decimal number) mark []) }
 {
@@ -25,7 +25,7 @@ fn push_number(page: &mut Vec<u8>, number: u32, mark: u8) -> Result<(), AllocErr
     push_text(page, digits.format(number).as_bytes(), mark)
 }
 
-// Appends the row of a difference.
+/// Appends the row of a difference.
 fn push_row(page: &mut Vec<u8>, sli: &Label, difference: &Difference) -> Result<(), AllocError>
     ensures { OnOk result (page.new.items ≡ page.old.items ++ row_of sli.now difference.now) }
 {
@@ -37,7 +37,7 @@ fn push_row(page: &mut Vec<u8>, sli: &Label, difference: &Difference) -> Result<
     push_number(page, difference.total, b'\n')
 }
 
-// Appends the row of a difference that may be there.
+/// Appends the row of a difference that may be there.
 fn push_one(
     page: &mut Vec<u8>,
     sli: &Label,

@@ -22,7 +22,7 @@ use std::alloc::Global;
 /// How many bytes a page of rows has at least when it is written: so rows cost few calls.
 const PAGE: usize = 65_536;
 
-// Writes the last page and passes all on; ends so, or as a write fault.
+/// Writes the last page and passes all on; ends so, or as a write fault.
 fn end_with<K: Sink>(output: &mut K, page: &[u8], end: CountersEnd) -> CountersEnd
     ensures { EndsPage page.now end result (K.held output.old) (K.held output.new)
         (K.faults output.old) (K.faults output.new) }
@@ -36,7 +36,7 @@ fn end_with<K: Sink>(output: &mut K, page: &[u8], end: CountersEnd) -> CountersE
     }
 }
 
-// Writes a page that is full, and makes it empty.
+/// Writes a page that is full, and makes it empty.
 fn turn_page<K: Sink>(output: &mut K, page: &mut Vec<u8>) -> Result<(), Failed>
     ensures turned { OnOk result ((sli : List ℕ) (records left : List Fields) (number : ℕ)
         (book : Book) (old : Option (List ℕ)) →
@@ -58,7 +58,7 @@ fn turn_page<K: Sink>(output: &mut K, page: &mut Vec<u8>) -> Result<(), Failed>
     }
 }
 
-// Puts the readings of the records that a reader has left, and writes their rows page by page.
+/// Puts the readings of the records that a reader has left, and writes their rows page by page.
 fn take_records<K: Sink>(
     sli: &Label,
     reader: &mut RecordReader,
@@ -97,7 +97,7 @@ fn take_records<K: Sink>(
     }
 }
 
-// The run over the records of a text.
+/// The run over the records of a text.
 fn take_text<K: Sink>(alloc: Global, sli: &Label, text: &[u8], output: &mut K) -> CountersEnd
     requires few { length text.now ≤ MAX_INPUT_BYTES }
     ensures ends { EndsRecords sli.now (csv_records text.now) result

@@ -18,7 +18,7 @@ pub enum TakeFault {
     NoMemory,
 }
 
-// The reading that a record stands for, or the first rule that it breaks by itself.
+/// The reading that a record stands for, or the first rule that it breaks by itself.
 fn read_reading(sources: &mut Sources, fields: &Record) -> Result<CounterReading, EventFault>
     ensures { result ≡ reading_of fields.now }
 {
@@ -32,8 +32,8 @@ fn read_reading(sources: &mut Sources, fields: &Record) -> Result<CounterReading
     })
 }
 
-// Puts the reading of a record, and answers the differences that it makes new or changes; or finds
-// the rule that the record breaks.
+/// Puts the reading of a record, and answers the differences that it makes new or changes; or finds
+/// the rule that the record breaks.
 fn take_record(
     book: &mut CounterBook,
     sources: &mut Sources,

@@ -1,4 +1,4 @@
-// Numbers with at most nine decimals.
+//! Numbers with at most nine decimals.
 ghost use Rattle.std.specs.Prelude.{◌≡◌, ℕ, ◌+◌, ◌<◌, ◌≤◌, ◌^◌, length, Result};
 ghost use Rattle.slo_limits.specs.declared.TheConstants.{MAX_DECIMAL};
 ghost use Rattle.exact_fraction.specs.Decimal.{AnswersDecimal};
@@ -10,7 +10,7 @@ use crate::digits::capped_number;
 use slo_limits::{MAX_DECIMAL, WHOLE};
 use std::marker::Model;
 
-// How many decimals a decimal can have: it counts billionths.
+/// How many decimals a decimal can have: it counts billionths.
 const MOST_DECIMALS: usize = 9;
 
 /// A number of billionths, at most 10^18.
@@ -94,7 +94,7 @@ fn read_by_cuts(text: &[u8]) -> Result<Decimal, DecimalFault>
     read_decimals(whole + 1, &text[..whole], &text[whole + 1..])
 }
 
-// Reads what stands after the point, which ends at `place`.
+/// Reads what stands after the point, which ends at `place`.
 fn read_decimals(place: usize, whole: &[u8], decimals: &[u8]) -> Result<Decimal, DecimalFault>
     requires { place + length decimals.now < 2 ^ 64 }
     ensures { result ≡ after_point place whole.now decimals.now }
@@ -113,7 +113,7 @@ fn leading_digits(text: &[u8]) -> usize
     text.iter().take_while(|byte| byte.is_ascii_digit()).count()
 }
 
-// What the digits before and after the point are worth.
+/// What the digits before and after the point are worth.
 fn worth(whole: &[u8], decimals: &[u8]) -> Result<Decimal, DecimalFault>
     ensures { result ≡ worth_of whole.now decimals.now }
 {

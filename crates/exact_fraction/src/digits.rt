@@ -1,4 +1,4 @@
-// Numbers written in decimal digits, of any length.
+//! Numbers written in decimal digits, of any length.
 ghost use Rattle.std.specs.Prelude.{◌≡◌, ◌≤◌, ℕ, IfSome, length, min};
 ghost use Rattle.std.specs.Char.{is_ascii_digit};
 ghost use Rattle.std.specs.List.{list_all};
@@ -41,7 +41,7 @@ fn all_digits(text: &[u8]) -> bool
     text.iter().all(|byte| byte.is_ascii_digit())
 }
 
-// The value of the digits, or `CAP` where it is greater.
+/// The value of the digits, or `CAP` where it is greater.
 pub(crate) fn capped_number(digits: &[u8]) -> u128
     ensures { result ≡ min (number_of digits.now) CAP }
 {

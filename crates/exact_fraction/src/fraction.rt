@@ -1,4 +1,4 @@
-// Exact fractions in lowest terms.
+//! Exact fractions in lowest terms.
 ghost use Rattle.std.specs.Prelude.{◌≡◌, ◌<◌, ◌≤◌, ◌++◌, pos, ◌≤ℤ◌, unsigned_abs, OnErr, OnOk};
 ghost use Rattle.exact_fraction.specs.Ratio.{IsFraction, IsLowest, SameValue, fraction_text, gcd};
 ghost use Rattle.exact_fraction.specs.Ratio.{lowest, most_part, with_sign_of};
@@ -72,7 +72,7 @@ impl Fraction {
     }
 }
 
-// A size with the sign of `num`.
+/// A size with the sign of `num`.
 fn with_sign_of(num: i128, size: u128) -> i128
     requires { size ≤ most_part }
     ensures { result ≡ with_sign_of num size }
@@ -81,7 +81,7 @@ fn with_sign_of(num: i128, size: u128) -> i128
     if num < 0 { -part } else { part }
 }
 
-// The greatest common divisor, by Euclid's remainders.
+/// The greatest common divisor, by Euclid's remainders.
 fn gcd(a: u128, b: u128) -> u128
     ensures { result ≡ gcd a b }
 {

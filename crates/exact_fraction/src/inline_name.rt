@@ -1,4 +1,4 @@
-// A short text kept inline, and compared, ordered and hashed eight bytes at a time.
+//! A short text kept inline, and compared, ordered and hashed eight bytes at a time.
 ghost use Rattle.std.specs.Prelude.{◌≡◌, ◌<◌, ◌+◌, ◌*◌, replicate, slice_index, flat_map, nat_eq};
 ghost use Rattle.std.specs.Hash as fed;
 ghost use Rattle.std.specs.Str.{bytes_eq};
@@ -12,7 +12,7 @@ use std::cmp::Ordering;
 use std::hash::{Hash, Hasher};
 use std::marker::Model;
 
-// Up to `MAX_LABEL_BYTES` ASCII bytes, none of them 0, so that padding with zeros keeps the order.
+/// Up to `MAX_LABEL_BYTES` ASCII bytes, none of them 0, so that padding with zeros keeps the order.
 #[derive(Clone, Copy)]
 pub struct InlineName {
     // The text, zeros, and in the last byte the text's length.
@@ -37,7 +37,7 @@ impl Model for InlineName {
 }
 
 impl InlineName {
-    // The name of a text that fits.
+    /// The name of a text that fits.
     pub(crate) fn copy_of(text: &[u8]) -> InlineName
         requires { IsInline text.now }
         ensures { result ≡ text.now }
@@ -68,7 +68,7 @@ impl InlineName {
         }
     }
 
-    // Eight of the 64 bytes as one number, the first byte the highest.
+    /// Eight of the 64 bytes as one number, the first byte the highest.
     fn word(&self, at: usize) -> u64
         requires { at < 8 }
         ensures word { result ≡ word_from (8 * at) (padded self.now) }
@@ -88,7 +88,7 @@ impl InlineName {
         ])
     }
 
-    // All 64 bytes. Read so, names are ordered as their texts are.
+    /// All 64 bytes. Read so, names are ordered as their texts are.
     fn words(&self) -> [u64; 8]
         ensures words { result ≡ words_of self.now }
         ensures legal { IsInline self.now }
@@ -106,14 +106,14 @@ impl InlineName {
     }
 }
 
-// Whether a text is as long as a name can be.
+/// Whether a text is as long as a name can be.
 pub(crate) fn has_name_length(text: &[u8]) -> bool
     ensures { result ≡ has_name_length text.now }
 {
     1 <= text.len() && text.len() <= MAX_LABEL_BYTES
 }
 
-// No byte yet.
+/// No byte yet.
 fn zeros() -> [u8; 64]
     ensures { result ≡ replicate 64 0 }
 {

@@ -1,4 +1,4 @@
-// Names of services, objectives, sources and rows.
+//! Names of services, objectives, sources and rows.
 ghost use Rattle.std.specs.Prelude.{◌≡◌, IsTrue};
 ghost use Rattle.std.specs.List.{list_all};
 ghost use Rattle.exact_fraction.specs.Label.{is_label, is_label_byte, label_of};

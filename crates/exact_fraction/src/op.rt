@@ -1,4 +1,4 @@
-// Comparing a fraction with a threshold.
+//! Comparing a fraction with a threshold.
 ghost use Rattle.std.specs.Prelude.{◌≡◌, ◌≤◌, ◌^◌};
 ghost use Rattle.exact_fraction.specs.Op.{holds_of, order_with};
 

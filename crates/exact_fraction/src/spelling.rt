@@ -1,4 +1,4 @@
-// Decimals and percentages as people write them.
+//! Decimals and percentages as people write them.
 ghost use Rattle.std.specs.Prelude.{◌≡◌, ◌+◌, ◌-◌, ◌*◌, ◌/◌, ◌%◌, ◌^◌, ◌<◌, ◌≤◌, ◌++◌, ◌==◌, ◌*ℤ◌};
 ghost use Rattle.std.specs.Prelude.{pos, IsTrue, OnErr, OnOk, length, unsigned_abs};
 ghost use Rattle.std.specs.Char.{is_ascii_digit};
@@ -12,7 +12,7 @@ use slo_limits::WHOLE;
 use std::alloc::AllocError;
 use std::fmt;
 
-// A percentage is counted in ten-thousandths, and the whole is 100 percent.
+/// A percentage is counted in ten-thousandths, and the whole is 100 percent.
 const PARTS_OF_A_PERCENT: u128 = 10_000;
 
 const PARTS_OF_THE_WHOLE: i128 = 1_000_000;
@@ -66,7 +66,7 @@ pub fn write_percent(out: &mut Vec<u8>, value: &Fraction) -> Result<(), AllocErr
     out.extend_from_slice(text.as_bytes())
 }
 
-// The fraction in ten-thousandths of a percent, rounded toward minus infinity.
+/// The fraction in ten-thousandths of a percent, rounded toward minus infinity.
 fn percent_parts(value: &Fraction) -> i128
     ensures value { result ≡ percent_parts value.now }
     ensures floor { IsFloor (percent_parts value.now) (value.now.num *ℤ pos (10 ^ 6))
@@ -81,7 +81,7 @@ fn minus_of(parts: i128) -> &'static str
     if parts < 0 { "-" } else { "" }
 }
 
-// The last nine digits of `n`, the highest first.
+/// The last nine digits of `n`, the highest first.
 fn nine_digits(n: u32) -> [u8; 9]
     ensures { result ≡ last_digits 9 n }
 {
@@ -98,7 +98,7 @@ fn nine_digits(n: u32) -> [u8; 9]
     ]
 }
 
-// The digit of `n` at a place that is worth so much.
+/// The digit of `n` at a place that is worth so much.
 fn digit(n: u32, worth: u32) -> u8
     requires { 0 < worth }
     ensures { result ≡ 48 + n / worth % 10 }
@@ -123,7 +123,7 @@ fn last_zeros(digits: &[u8]) -> usize
         .count()
 }
 
-// Digits as text.
+/// Digits as text.
 fn digits_text(digits: &[u8]) -> &str
     requires { IsTrue (list_all is_ascii_digit digits.now) }
     ensures { result.now ≡ digits.now }

@@ -1,4 +1,4 @@
-// Text and bytes that contracts see as a list of bytes.
+//! Text and bytes that contracts see as a list of bytes.
 ghost use Rattle.std.specs.Prelude.{◌≡◌, [], string_bytes, IsUtf8};
 
 use std::alloc::Global;

@@ -1,4 +1,4 @@
-// Names of time zones.
+//! Names of time zones.
 ghost use Rattle.std.specs.Prelude.{◌≡◌, IsTrue};
 ghost use Rattle.std.specs.List.{list_all};
 ghost use Rattle.exact_fraction.specs.ZoneName.{is_zone_byte, is_zone_name, zone_name_of};

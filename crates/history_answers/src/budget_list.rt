@@ -28,7 +28,7 @@ use record_form::{BudgetRow, Listed, Outcome, Refusal};
 use slo_limits::{MAX_OBJECTIVES, RANGE_MINUTES};
 use std::alloc::{AllocError, Global};
 
-// The budgets of objectives, by their numbers, counted over [from, at).
+/// The budgets of objectives, by their numbers, counted over [from, at).
 fn budget_rows(
     alloc: Global,
     derived: &Derived,

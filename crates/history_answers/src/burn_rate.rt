@@ -19,7 +19,7 @@ use record_form::{Outcome, Refusal};
 use slo_duration::{Duration, rolling_minutes};
 use slo_limits::MAX_LOOKBACK;
 
-// A lookback lasts at least a minute and at most 30 days.
+/// A lookback lasts at least a minute and at most 30 days.
 fn is_no_lookback(minutes: u32) -> bool
     ensures { result ≡ ((minutes == 0) || nat_lt MAX_LOOKBACK minutes) }
 {

@@ -16,7 +16,7 @@ use std::sync::ledger::{Blank, Ledger};
 use sum_pages::Steps;
 use window_sums::WindowSums;
 
-// The sum over [from, to). No one counts the steps.
+/// The sum over [from, to). No one counts the steps.
 fn sum_of<L: Ledger>(sums: &WindowSums, from: u32, to: u32, blank: Blank) -> Leaf
     requires order { from ≤ to }
     requires blank { (blank.name ≡ L.name) × (blank.parts ≡ L.parts) × (0 < L.parts) }

@@ -21,7 +21,7 @@ use record_form::{Listed, Outcome, Refusal};
 use slo_limits::MAX_TIMELINE;
 use std::alloc::AllocError;
 
-// Whether [from, to) lies between the origin and the moment, and is short enough.
+/// Whether [from, to) lies between the origin and the moment, and is short enough.
 fn is_timeline(derived: &Derived, moment: u32, from: u32, to: u32) -> bool
     ensures { result ≡ (nat_le derived.now.origin from && nat_le from to && nat_le to moment
         && nat_le (to - from) MAX_TIMELINE) }

@@ -17,7 +17,7 @@ fn is_utc(name: ZoneName) -> bool
     name.as_bytes() == b"UTC".as_slice()
 }
 
-// The last start of a calendar in a zone.
+/// The last start of a calendar in a zone.
 fn start_in_zone(
     zone: &Zone,
     calendar: &Calendar,
@@ -32,7 +32,7 @@ fn start_in_zone(
     last_start(zone, &calendar.start_time, step, horizon, minute)
 }
 
-// The last start of a calendar: none where there is no zone of its name.
+/// The last start of a calendar: none where there is no zone of its name.
 fn calendar_start(
     zones: &Zones,
     calendar: &Calendar,

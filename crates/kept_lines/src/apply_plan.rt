@@ -1,4 +1,4 @@
-// The lines that a plan wants, kept, and those that it brings, taken.
+//! The lines that a plan wants, kept, and those that it brings, taken.
 ghost use Rattle.std.specs.Prelude.{◌≡◌, ◌≤◌, ℕ, List, length};
 ghost use Rattle.std.specs.Bool.{Decides};
 ghost use Rattle.std.specs.List.{Contains};

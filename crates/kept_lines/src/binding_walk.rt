@@ -1,4 +1,4 @@
-// What a walk over bindings keeps from one binding to the next.
+//! What a walk over bindings keeps from one binding to the next.
 ghost use Rattle.std.specs.Prelude.{◌≡◌, IfSome};
 ghost use Rattle.office_history.specs.Alerts.{watch_of as watch_of_def};
 ghost use Rattle.office_history.specs.Objectives.{measure_at as measure_at_def};
@@ -11,7 +11,7 @@ use exact_fraction::Label;
 use office_history::Measure;
 use slo_catalog::Catalog;
 
-// Where sums and lines are looked for first: where those of the binding before stood, or behind.
+/// Where sums and lines are looked for first: where those of the binding before stood, or behind.
 #[derive(Clone, Copy)]
 pub(crate) struct Hint {
     pub(crate) sums: usize,
@@ -20,7 +20,7 @@ pub(crate) struct Hint {
 
 pub(crate) const AT_THE_BEGIN: Hint = Hint { sums: 0, line: 0 };
 
-// An objective that was looked up, and what it counts.
+/// An objective that was looked up, and what it counts.
 #[derive(Clone, Copy)]
 pub(crate) struct Seen {
     slo: Label,
@@ -34,7 +34,7 @@ fn is_of(seen: &Seen, binding: &Binding) -> bool
     seen.slo == binding.slo && seen.objective == binding.objective
 }
 
-// Looks up what the objective of a binding counts.
+/// Looks up what the objective of a binding counts.
 fn look_up(catalog: &Catalog, binding: &Binding) -> Seen
     ensures seen { IsSeen catalog.now result }
     ensures value { result.measure
@@ -47,7 +47,7 @@ fn look_up(catalog: &Catalog, binding: &Binding) -> Seen
     }
 }
 
-// The objective of a binding: the one of the binding before, if it is the same, or else looked up.
+/// The objective of a binding: the one of the binding before, if it is the same, or else looked up.
 pub(crate) fn seen_near(catalog: &Catalog, binding: &Binding, before: Option<Seen>) -> Seen
     requires before { IfSome before (IsSeen catalog.now) }
     ensures seen { IsSeen catalog.now result }
@@ -66,7 +66,7 @@ pub(crate) fn seen_near(catalog: &Catalog, binding: &Binding, before: Option<See
     }
 }
 
-// What a binding watches, as `watch_of` tells it, by its objective.
+/// What a binding watches, as `watch_of` tells it, by its objective.
 pub(crate) fn watch_seen(catalog: &Catalog, binding: &Binding, seen: &Seen) -> Option<Watch>
     requires seen { IsSeen catalog.now seen.now }
     requires value { seen.now.measure

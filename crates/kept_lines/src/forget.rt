@@ -1,4 +1,4 @@
-// What lines forget before rows or an exclusion are followed.
+//! What lines forget before rows or an exclusion are followed.
 ghost use Rattle.std.specs.Prelude.{◌≡◌, ◌≤◌, ℕ, Bool, not};
 ghost use Rattle.std.specs.List.{AllByRecursion};
 ghost use Rattle.sample_book.specs.declared.Row.{Row};
@@ -21,8 +21,8 @@ use office_derived::Derived;
 use sample_book::{Exclusion, Row, RowVerdict, SampleBook};
 use window_sums::{WindowSums, width_of};
 
-// A line forgets what is near the slices of the rows of a batch that move. So it is right with
-// the batch as it was without it.
+/// A line forgets what is near the slices of the rows of a batch that move. So it is right with
+/// the batch as it was without it.
 fn forget_moved(
     line: &mut AlertLine,
     watch: &Watch,
@@ -44,9 +44,9 @@ fn forget_moved(
     line_forgetting::forget_near_batch(line, watch.rule(), measure, width, book, rows, verdicts);
 }
 
-// A line forgets what is near the slices of the rows that count otherwise with an exclusion than
-// without it. So it is right with the exclusion (`taken`) as it was without it, or the other way
-// round. The sums of its objective are those without it, and tell which slices have counts.
+/// A line forgets what is near the slices of the rows that count otherwise with an exclusion than
+/// without it. So it is right with the exclusion (`taken`) as it was without it, or the other way
+/// round. The sums of its objective are those without it, and tell which slices have counts.
 fn forget_changed(
     line: &mut AlertLine,
     watch: &Watch,

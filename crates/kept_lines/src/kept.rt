@@ -37,7 +37,7 @@ impl Model for KeptLines {
     } };
 }
 
-// The place of an alert's line: the first that there is.
+/// The place of an alert's line: the first that there is.
 pub(crate) fn place_of(lines: &[WatchLine], watch: &Watch) -> Option<usize>
     ensures some { IfSome result (λ place. slice_get (watches_of lines.now) place
         ≡ Some watch.now) }
@@ -54,7 +54,7 @@ pub(crate) fn place_of(lines: &[WatchLine], watch: &Watch) -> Option<usize>
     None
 }
 
-// Whether the line at a place is an alert's.
+/// Whether the line at a place is an alert's.
 pub(crate) fn is_at(lines: &[WatchLine], place: usize, watch: &Watch) -> bool
     ensures { result ≡ true → slice_get (watches_of lines.now) place ≡ Some watch.now }
 {
@@ -64,7 +64,7 @@ pub(crate) fn is_at(lines: &[WatchLine], place: usize, watch: &Watch) -> bool
     }
 }
 
-// Whether there is a line of an alert.
+/// Whether there is a line of an alert.
 pub(crate) fn has_line(lines: &[WatchLine], watch: &Watch) -> bool
     ensures { Decides result (Contains (watches_of lines.now) watch.now) }
 {

@@ -1,4 +1,4 @@
-// How a watched alert stands, and when it is active, by its line.
+//! How a watched alert stands, and when it is active, by its line.
 ghost use Rattle.std.specs.Prelude.{◌≡◌, ◌≢◌, ◌+◌, ◌<◌, ◌≤◌, ℕ, Bool, IfOk, OnOk, Some};
 ghost use Rattle.std.specs.Prelude.{slice_get, take, true};
 ghost use Rattle.std.specs.List.{AllByRecursion, Contains};
@@ -30,7 +30,7 @@ use std::sync::ledger::{Blank, Ledger};
 use sum_pages::Steps;
 use window_sums::WindowSums;
 
-// How the alert of a line stands. No one counts the steps.
+/// How the alert of a line stands. No one counts the steps.
 fn state_of_line<L: Ledger>(
     line: &mut AlertLine,
     sums: &WindowSums,
@@ -51,7 +51,7 @@ fn state_of_line<L: Ledger>(
     line.state_at(minute, sums, &mut steps)
 }
 
-// The stretches of [from, to) in which a line's alert is active. No one counts the steps.
+/// The stretches of [from, to) in which a line's alert is active. No one counts the steps.
 fn spans_of_line<L: Ledger>(
     line: &mut AlertLine,
     sums: &WindowSums,
@@ -77,7 +77,7 @@ fn spans_of_line<L: Ledger>(
 }
 
 impl KeptLines {
-    // The place of the line of an alert that has one.
+    /// The place of the line of an alert that has one.
     fn place(&self, watch: &Watch) -> usize
         requires { Contains (watches_of self.now.kept) watch.now }
         ensures there { slice_get (watches_of self.now.kept) result ≡ Some watch.now }
@@ -90,7 +90,7 @@ impl KeptLines {
         }
     }
 
-    // The place of the line of an alert that has one: this one if it is there, else the first.
+    /// The place of the line of an alert that has one: this one if it is there, else the first.
     fn place_near(&self, watch: &Watch, hint: usize) -> usize
         requires { Contains (watches_of self.now.kept) watch.now }
         ensures { slice_get (watches_of self.now.kept) result ≡ Some watch.now }
@@ -134,9 +134,9 @@ impl KeptLines {
         state
     }
 
-    // How a watched alert stands, and where those of the next one are looked for. Sums and lines
-    // stand in the order of their bindings, mostly, so they are looked for where the ones before
-    // suggest.
+    /// How a watched alert stands, and where those of the next one are looked for. Sums and lines
+    /// stand in the order of their bindings, mostly, so they are looked for where the ones before
+    /// suggest.
     pub(crate) fn state_near(
         &mut self,
         derived: &Derived,

@@ -22,7 +22,7 @@ pub struct LinesPlan {
     pub made: Vec<WatchLine>,
 }
 
-// Adds what a binding watches.
+/// Adds what a binding watches.
 fn add_watch(
     catalog: &Catalog,
     binding: &Binding,
@@ -37,7 +37,7 @@ fn add_watch(
     Ok(())
 }
 
-// What the bindings of a catalog watch.
+/// What the bindings of a catalog watch.
 fn wanted_of(alloc: Global, catalog: &Catalog) -> Result<Vec<Watch>, AllocError>
     ensures { IfOk result (λ wanted. wanted.items ≡ watches_in catalog.now) }
 {
@@ -49,7 +49,7 @@ fn wanted_of(alloc: Global, catalog: &Catalog) -> Result<Vec<Watch>, AllocError>
     Ok(wanted)
 }
 
-// Makes a line of an alert, unless it has one.
+/// Makes a line of an alert, unless it has one.
 fn add_line(
     alloc: Global,
     lines: &KeptLines,
@@ -74,7 +74,7 @@ fn add_line(
     Ok(())
 }
 
-// The lines of those of these alerts that have none yet.
+/// The lines of those of these alerts that have none yet.
 fn lines_made(
     alloc: Global,
     lines: &KeptLines,

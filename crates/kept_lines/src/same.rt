@@ -1,4 +1,4 @@
-// Whether two alerts that are watched are one.
+//! Whether two alerts that are watched are one.
 ghost use Rattle.std.specs.Prelude.{◌≡◌};
 ghost use Rattle.std.specs.Bool.{Decides};
 
@@ -11,7 +11,7 @@ fn is_same_rule(a: &AlertRule, b: &AlertRule) -> bool
     *a == *b
 }
 
-// Whether two alerts watch the same: the objective first, in which most differ.
+/// Whether two alerts watch the same: the objective first, in which most differ.
 pub(crate) fn is_same_watch(a: &Watch, b: &Watch) -> bool
     ensures { Decides result (a.now ≡ b.now) }
 {

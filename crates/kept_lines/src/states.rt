@@ -19,8 +19,8 @@ use catalog_terms::Binding;
 use office_derived::Derived;
 use std::alloc::{AllocError, Global};
 
-// How the alert of a binding of this objective stands, and where those of the next one are looked
-// for.
+/// How the alert of a binding of this objective stands, and where those of the next one are looked
+/// for.
 fn state_of_binding(
     derived: &Derived,
     lines: &mut KeptLines,
@@ -50,7 +50,7 @@ fn state_of_binding(
     }
 }
 
-// Each of the bindings with its state.
+/// Each of the bindings with its state.
 fn states_of(
     alloc: Global,
     derived: &Derived,

@@ -26,7 +26,7 @@ pub fn objective_sums<'a>(derived: &'a Derived, measure: &Measure) -> &'a Window
     objective_sums_at(derived, measure, 0)
 }
 
-// The same, looked for at a place first.
+/// The same, looked for at a place first.
 pub(crate) fn objective_sums_at<'a>(
     derived: &'a Derived,
     measure: &Measure,

@@ -69,7 +69,7 @@ pub fn watch_of(catalog: &Catalog, binding: &Binding) -> Option<Watch>
     Some(Watch { measure, rule })
 }
 
-// An objective with the rule of a policy: none where the policy has no condition.
+/// An objective with the rule of a policy: none where the policy has no condition.
 pub(crate) fn with_rule(catalog: &Catalog, measure: Measure, policy: Label) -> Option<Watch>
     requires { IsMeasure measure }
     ensures { result ≡ watch_with (Some measure) (rule_named_def catalog.now policy) }
@@ -85,7 +85,7 @@ pub fn same_binding(a: &Binding, b: &Binding) -> bool
     a.slo == b.slo && a.objective == b.objective && a.policy == b.policy
 }
 
-// Whether a list of names that may be omitted has a policy.
+/// Whether a list of names that may be omitted has a policy.
 fn lists(names: &Option<Names>, policy: Label) -> bool
     ensures { result ≡ list_any (bytes_eq policy) (names_in names.now) }
 {
@@ -95,7 +95,7 @@ fn lists(names: &Option<Names>, policy: Label) -> bool
     }
 }
 
-// Whether an SLO has the objective of a binding, and lists its policy.
+/// Whether an SLO has the objective of a binding, and lists its policy.
 fn has_both(slo: &Slo, binding: &Binding) -> bool
     ensures { result ≡ has_both_def binding.now slo.now }
 {
@@ -103,7 +103,7 @@ fn has_both(slo: &Slo, binding: &Binding) -> bool
         && lists(&slo.alert_policies, binding.policy)
 }
 
-// Whether an object is the SLO of a binding, with its objective and its policy.
+/// Whether an object is the SLO of a binding, with its objective and its policy.
 fn is_bound_in(object: &Object, binding: &Binding) -> bool
     ensures { result ≡ is_bound_in_def binding.now object.now }
 {

@@ -1,4 +1,4 @@
-// The sums that a plan wants, kept, and those that it brings, taken.
+//! The sums that a plan wants, kept, and those that it brings, taken.
 ghost use Rattle.std.specs.Prelude.{◌⊎◌, ◌≤◌, Bool, List, length};
 ghost use Rattle.std.specs.Bool.{Decides};
 ghost use Rattle.std.specs.List.{AllByRecursion, Contains};

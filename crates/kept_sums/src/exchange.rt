@@ -1,4 +1,4 @@
-// One row's share exchanged for another.
+//! One row's share exchanged for another.
 ghost use Rattle.std.specs.Prelude.{◌≡◌, ◌≢◌, ℕ, List, IsTrue};
 ghost use Rattle.window_sums.specs.Shares.{IsSumOf, Share};
 ghost use Rattle.window_sums.specs.Slices.{counts_of, day_of, has_day, slice_of};

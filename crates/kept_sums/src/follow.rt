@@ -1,4 +1,4 @@
-// Rows and exclusions, followed by the sums of all objectives.
+//! Rows and exclusions, followed by the sums of all objectives.
 ghost use Rattle.std.specs.Prelude.{◌≡◌, ◌+◌, ◌≤◌, ◌++◌, Bool, List, OnOk, length, not};
 ghost use Rattle.sample_book.specs.declared.Exclusion.{Exclusion};
 ghost use Rattle.sample_book.specs.declared.Row.{Row};

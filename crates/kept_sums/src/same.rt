@@ -1,4 +1,4 @@
-// Whether two objectives count the same.
+//! Whether two objectives count the same.
 ghost use Rattle.std.specs.Prelude.{◌≡◌};
 ghost use Rattle.std.specs.Bool.{Decides};
 

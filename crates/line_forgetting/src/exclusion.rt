@@ -20,8 +20,8 @@ use sample_book::{Exclusion, Row, SampleBook};
 use slo_limits::MINUTES_A_DAY;
 use window_sums::WindowSums;
 
-// Whether a row counts otherwise with an exclusion than without it. Outside its range it doesn't,
-// so such a row is passed over first: whether it is excluded is asked of all exclusions.
+/// Whether a row counts otherwise with an exclusion than without it. Outside its range it doesn't,
+/// so such a row is passed over first: whether it is excluded is asked of all exclusions.
 fn is_changed(measure: &Measure, book: &SampleBook, value: &Exclusion, row: &Row) -> bool
     requires { RowFits measure.now row.now }
     ensures changed { result ≡ true
@@ -37,7 +37,7 @@ fn is_changed(measure: &Measure, book: &SampleBook, value: &Exclusion, row: &Row
     row_counts(measure, book, row) != NO_COUNTS
 }
 
-// So does a row of the minutes from `from` up to `to`.
+/// So does a row of the minutes from `from` up to `to`.
 fn is_changed_between(
     measure: &Measure,
     book: &SampleBook,
@@ -58,7 +58,7 @@ fn is_changed_between(
     is_changed(measure, book, value, row)
 }
 
-// Whether there is such a row, where these minutes all lie on one day.
+/// Whether there is such a row, where these minutes all lie on one day.
 fn has_changed(measure: &Measure, book: &SampleBook, value: &Exclusion, from: u32, to: u32) -> bool
     requires one_day { (minute : ℕ) → from ≤ minute → minute < to → day_of minute ≡ day_of from }
     requires forms { AllByRecursion (RowFits measure.now) book.now.rows }
@@ -78,8 +78,8 @@ fn has_changed(measure: &Measure, book: &SampleBook, value: &Exclusion, from: u3
     false
 }
 
-// The run that waits once a slice is passed that the range cuts. Its minutes in the range are those
-// from `from` up to `to`, of which there may be none, and their rows are looked at.
+/// The run that waits once a slice is passed that the range cuts. Its minutes in the range are
+/// those from `from` up to `to`, of which there may be none, and their rows are looked at.
 fn touch_cut(
     line: &mut AlertLine,
     rule: &AlertRule,
@@ -111,7 +111,7 @@ fn touch_cut(
     waiting
 }
 
-// The run that waits once all slices of the range are passed.
+/// The run that waits once all slices of the range are passed.
 fn touch_range(
     line: &mut AlertLine,
     rule: &AlertRule,

@@ -7,14 +7,14 @@ ghost use Rattle.line_forgetting.specs.Touched.{IsRun, IsRunIf, LAST_MINUTE};
 use alert_line::AlertLine;
 use burn_core::AlertRule;
 
-// The slices from the first to the last.
+/// The slices from the first to the last.
 #[derive(Clone, Copy)]
 pub(crate) struct SliceRun {
     pub(crate) first: u32,
     pub(crate) last: u32,
 }
 
-// Forgets what is near the slices of a run.
+/// Forgets what is near the slices of a run.
 fn forget_run(line: &mut AlertLine, rule: &AlertRule, width: u32, run: SliceRun)
     requires rule { line.old.rule ≡ rule.now }
     requires ranges { IsRule rule.now }
@@ -29,7 +29,7 @@ fn forget_run(line: &mut AlertLine, rule: &AlertRule, width: u32, run: SliceRun)
     );
 }
 
-// Forgets what is near the slices of the run that waits, if one does.
+/// Forgets what is near the slices of the run that waits, if one does.
 pub(crate) fn forget_waiting(
     line: &mut AlertLine,
     rule: &AlertRule,
@@ -49,7 +49,7 @@ pub(crate) fn forget_waiting(
     }
 }
 
-// A run with one slice more, where that is in it or beside it, and no gap comes of it.
+/// A run with one slice more, where that is in it or beside it, and no gap comes of it.
 fn joined(run: Option<SliceRun>, rule: &AlertRule, width: u32, slice: u32) -> Option<SliceRun>
     requires small { width ≤ 60 }
     requires ranges { IsRule rule.now }
@@ -84,8 +84,8 @@ fn joined(run: Option<SliceRun>, rule: &AlertRule, width: u32, slice: u32) -> Op
     None
 }
 
-// The run that waits once a slice more is touched. Where the slice doesn't join the one that
-// waited, what is near that one is forgotten.
+/// The run that waits once a slice more is touched. Where the slice doesn't join the one that
+/// waited, what is near that one is forgotten.
 pub(crate) fn touch(
     line: &mut AlertLine,
     rule: &AlertRule,

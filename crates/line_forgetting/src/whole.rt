@@ -12,7 +12,7 @@ use kept_sums::NO_COUNTS;
 use slice_method::Counts;
 use window_sums::WindowSums;
 
-// The run that waits once a slice is passed, which is touched where it has counts.
+/// The run that waits once a slice is passed, which is touched where it has counts.
 fn touch_counted(
     line: &mut AlertLine,
     rule: &AlertRule,
@@ -36,7 +36,7 @@ fn touch_counted(
     waiting
 }
 
-// The run that waits once those slices of a day are passed that lie from the first up to the end.
+/// The run that waits once those slices of a day are passed that lie from the first up to the end.
 fn forget_on_day(
     line: &mut AlertLine,
     rule: &AlertRule,
@@ -69,8 +69,8 @@ fn forget_on_day(
     run
 }
 
-// The run that waits once the slices from the first up to the end are passed: each is touched that
-// has counts.
+/// The run that waits once the slices from the first up to the end are passed: each is touched that
+/// has counts.
 pub(crate) fn forget_whole(
     line: &mut AlertLine,
     rule: &AlertRule,

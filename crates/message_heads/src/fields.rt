@@ -24,7 +24,7 @@ fn is_named(bytes: &[u8], field: &HeaderSpan, name: &[u8]) -> bool
     field.name.of(bytes).eq_ignore_ascii_case(name)
 }
 
-// The values of the fields of a name.
+/// The values of the fields of a name.
 fn only_value<'a>(bytes: &'a [u8], fields: &[HeaderSpan], name: &[u8]) -> Named<'a>
     requires { All (IsHeaderWithin (length bytes.now)) fields.now }
     ensures { named_of result ≡ sort_of (values_named name.now
@@ -101,7 +101,7 @@ fn is_close(item: &[u8]) -> bool
     trim(item).eq_ignore_ascii_case(b"close")
 }
 
-// The bytes without the spaces and tabs at both ends.
+/// The bytes without the spaces and tabs at both ends.
 fn trim(bytes: &[u8]) -> &[u8]
     ensures { result.now ≡ trim_ows bytes.now }
 {

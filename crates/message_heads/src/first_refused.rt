@@ -8,7 +8,7 @@ ghost use Rattle.message_heads.specs.Hearing.{IsPassed};
 use crate::start::{Start, find_head};
 use httparse::spans::EMPTY_HEADER_SPAN;
 
-// Whether the bytes begin with a head, or may.
+/// Whether the bytes begin with a head, or may.
 fn may_begin(bytes: &[u8]) -> bool
     requires few { length bytes.now ≤ MAX_HEAD_BYTES }
     ensures { WhetherHeadMayCome result bytes.now }

@@ -48,7 +48,7 @@ pub fn hear(bytes: &[u8]) -> Hearing
     }
 }
 
-// What the fields say of the body: its length, or the status of the answer.
+/// What the fields say of the body: its length, or the status of the answer.
 fn body_length(bytes: &[u8], fields: &[HeaderSpan]) -> Result<usize, u16>
     requires { All (IsHeaderWithin (length bytes.now)) fields.now }
     ensures judged { result ≡ body_or_status (map (header_bytes bytes.now) fields.now) }
@@ -66,7 +66,7 @@ fn body_length(bytes: &[u8], fields: &[HeaderSpan]) -> Result<usize, u16>
     Ok(length as usize)
 }
 
-// The status of the answer to bytes of which none is a head, whatever follows.
+/// The status of the answer to bytes of which none is a head, whatever follows.
 fn status_of_no_head(front: &[u8]) -> u16
     requires few { length front.now ≤ MAX_HEAD_BYTES }
     requires never { NeverHasRequest front.now }
@@ -79,7 +79,7 @@ fn status_of_no_head(front: &[u8]) -> u16
     }
 }
 
-// What is heard behind a head of at most 64 fields.
+/// What is heard behind a head of at most 64 fields.
 fn after_head(bytes: &[u8], front: &[u8], head: RequestSpans, slots: &[HeaderSpan]) -> Hearing
     requires front { IsFront bytes.now front.now }
     requires begins { Begins front.now slots.now (Head head) }

@@ -8,7 +8,8 @@ ghost use Rattle.message_heads.specs.Start.{Begins};
 use httparse::spans::{EMPTY_HEADER_SPAN, HeaderSpan, RequestSpans, parse_request};
 use httparse::{Error, Status};
 
-// More fields than a head of the most bytes has: each takes three bytes, and the request line more.
+/// More fields than a head of the most bytes has: each takes three bytes, and the request line
+/// more.
 const MORE_FIELDS: usize = 2_731;
 
 /// How bytes begin.
@@ -38,8 +39,8 @@ pub(crate) fn find_head(front: &[u8], slots: &mut [HeaderSpan]) -> Start
     }
 }
 
-// The same for bytes of which each head has more fields: a room that none of them passes is kept
-// out of the common way, since to fill it takes longer than to read a head.
+/// The same for bytes of which each head has more fields: a room that none of them passes is kept
+/// out of the common way, since to fill it takes longer than to read a head.
 fn wide_start(front: &[u8]) -> Start
     requires few { length front.now ≤ MAX_HEAD_BYTES }
     requires wide { RequestOverflows 64 front.now }

@@ -11,7 +11,7 @@ use crate::buffer::Buffer;
 use message_heads::{Heard, Hearing, MAX_MESSAGE_BYTES, hear};
 use office_outside::{Failed, Source};
 
-// Reads until so many bytes wait. Answers whether they do; if not, the input has ended.
+/// Reads until so many bytes wait. Answers whether they do; if not, the input has ended.
 fn fill<S: Source>(buffer: &mut Buffer, input: &mut S, needed: usize) -> Result<bool, Failed>
     requires { needed ≤ MAX_MESSAGE_BYTES }
     ensures fills { Fills buffer.old buffer.new (S.left input.old) (S.left input.new) }

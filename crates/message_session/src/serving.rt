@@ -31,7 +31,7 @@ pub enum SessionEnd {
     NoMemory,
 }
 
-// Answers a message, and passes the answer on.
+/// Answers a message, and passes the answer on.
 fn answer<K: Sink, H: Handler<K>>(
     handler: &mut H,
     output: &mut K,
@@ -59,7 +59,7 @@ fn answer<K: Sink, H: Handler<K>>(
     }
 }
 
-// Whether the answer to a message is the session's last one, where so many were answered before.
+/// Whether the answer to a message is the session's last one, where so many were answered before.
 fn is_last_answer(close: bool, count: u32) -> bool
     requires { count < MAX_REQUESTS }
     ensures { result ≡ (close || nat_le MAX_REQUESTS (count + 1)) }
@@ -67,7 +67,7 @@ fn is_last_answer(close: bool, count: u32) -> bool
     close || MAX_REQUESTS <= count + 1
 }
 
-// Answers the message at the front of the waiting bytes, and tells whether that was the last one.
+/// Answers the message at the front of the waiting bytes, and tells whether that was the last one.
 fn take_turn<K: Sink, H: Handler<K>, C: Clock>(
     handler: &mut H,
     clock: &mut C,
@@ -97,7 +97,7 @@ fn take_turn<K: Sink, H: Handler<K>, C: Clock>(
     }
 }
 
-// The end of a session whose input has ended.
+/// The end of a session whose input has ended.
 fn end_at(waiting: usize) -> SessionEnd
     ensures ends { EndsAt waiting result }
     ensures served { result ≢ SessionEnd.NoMemory }
@@ -109,7 +109,7 @@ fn end_at(waiting: usize) -> SessionEnd
     }
 }
 
-// Answers a bad message, and ends the session.
+/// Answers a bad message, and ends the session.
 fn refuse<K: Sink, H: Handler<K>>(handler: &H, status: u16, output: &mut K) -> SessionEnd
     ensures ends { EndsWriting (H.refusal handler.now status) result (K.held output.old)
         (K.held output.new) }
@@ -124,7 +124,7 @@ fn refuse<K: Sink, H: Handler<K>>(handler: &H, status: u16, output: &mut K) -> S
     }
 }
 
-// Passes the last answer on.
+/// Passes the last answer on.
 fn flush_last<K: Sink>(output: &mut K) -> SessionEnd
     ensures ends { (text : List ℕ) (held : Option (List ℕ)) → Gained text held (K.held output.old)
         → EndsWriting text result held (K.held output.new) }

@@ -1,4 +1,4 @@
-// Names, numbered in the order in which they came.
+//! Names, numbered in the order in which they came.
 ghost use Rattle.std.specs.Prelude.{◌≡◌, ◌<◌, List, ℕ, [], length, IfOk, IfSome, OnErr, OnOk, Some};
 ghost use Rattle.std.specs.Prelude.{take, true};
 ghost use Rattle.std.specs.List.{IsDistinct, position};

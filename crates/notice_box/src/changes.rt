@@ -28,7 +28,7 @@ pub fn plan(
     Ok(plan)
 }
 
-// Adds a change of which a notice is due, and no other.
+/// Adds a change of which a notice is due, and no other.
 fn note_change(
     plan: &mut Vec<(u32, State)>,
     place: u32,
@@ -59,7 +59,7 @@ fn state_at(states: &[State], place: usize) -> State
     states[place]
 }
 
-// The state is another than before, and the flag of the new one is set.
+/// The state is another than before, and the flag of the new one is set.
 fn is_due(before: State, now: State, flags: &Flags) -> bool
     ensures { result ≡ is_due before now flags.now }
 {

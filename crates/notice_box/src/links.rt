@@ -7,14 +7,14 @@ ghost use Rattle.notice_box.specs.Box.{no_notice, waits};
 
 use crate::notice::Notice;
 
-// The nearest places before and behind a place at which something waits.
+/// The nearest places before and behind a place at which something waits.
 #[derive(Clone, Copy)]
 pub(crate) struct Link {
     pub(crate) earlier: Option<u32>,
     pub(crate) later: Option<u32>,
 }
 
-// Lets the place before, or where there is none the whole list, go on at `later`.
+/// Lets the place before, or where there is none the whole list, go on at `later`.
 pub(crate) fn go_on(
     links: &mut Vec<Link>,
     first: Option<u32>,
@@ -40,7 +40,7 @@ pub(crate) fn go_on(
     }
 }
 
-// Lets the place behind, or where there is none the whole list, come from `earlier`.
+/// Lets the place behind, or where there is none the whole list, come from `earlier`.
 pub(crate) fn come_from(
     links: &mut Vec<Link>,
     last: Option<u32>,
@@ -86,7 +86,7 @@ pub(crate) fn notice_at(made: &[(Notice, bool)], place: u32) -> Notice
     made[place as usize].0
 }
 
-// The notice at a place waits no more.
+/// The notice at a place waits no more.
 pub(crate) fn let_go(made: &mut Vec<(Notice, bool)>, place: u32)
     requires { place < length made.old.items }
     ensures made { made.new.items ≡ slice_set made.old.items place

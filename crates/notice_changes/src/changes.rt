@@ -13,10 +13,10 @@ use kept_lines::same_binding;
 use slo_catalog::Catalog;
 use std::alloc::{AllocError, Global};
 
-// The state before of a binding that wasn't there.
+/// The state before of a binding that wasn't there.
 const UNSEEN: State = State::Quiet;
 
-// The state of a binding among these; quiet where it isn't among them.
+/// The state of a binding among these; quiet where it isn't among them.
 fn state_among(states: &[(Binding, State)], binding: &Binding) -> State
     ensures { result ≡ state_among_def states.now binding.now }
 {
@@ -34,7 +34,7 @@ fn kept_at(states: &[(Binding, State)], place: usize) -> Option<&(Binding, State
     states.get(place)
 }
 
-// The state at a place among these, where it is a binding's.
+/// The state at a place among these, where it is a binding's.
 fn state_at(states: &[(Binding, State)], place: usize, binding: &Binding) -> Option<State>
     ensures { AreByBinding states.now
         → IfSome result (λ state. state ≡ state_among_def states.now binding.now) }
@@ -51,8 +51,8 @@ fn state_at(states: &[(Binding, State)], place: usize, binding: &Binding) -> Opt
     }
 }
 
-// The state of a binding among these, in which a binding has but one. It mostly stands where it
-// stands among the new ones, so that place is looked at first.
+/// The state of a binding among these, in which a binding has but one. It mostly stands where it
+/// stands among the new ones, so that place is looked at first.
 fn state_near(states: &[(Binding, State)], place: usize, binding: &Binding) -> State
     ensures { AreByBinding states.now → result ≡ state_among_def states.now binding.now }
 {
@@ -72,7 +72,7 @@ fn state_eq(a: State, b: State) -> bool
     }
 }
 
-// The state is another than before, and the policy tells the new one.
+/// The state is another than before, and the policy tells the new one.
 fn is_told(
     catalog: &Catalog,
     before: &[(Binding, State)],
@@ -85,7 +85,7 @@ fn is_told(
         && flags_named(catalog, now.0.policy).of_state(now.1)
 }
 
-// Adds a change where it is told.
+/// Adds a change where it is told.
 fn add_if(
     told: &mut Vec<(Binding, State)>,
     tells: bool,
@@ -100,7 +100,7 @@ fn add_if(
     Ok(())
 }
 
-// The bindings whose change is told, with their new states. Before, a binding has but one state.
+/// The bindings whose change is told, with their new states. Before, a binding has but one state.
 pub(crate) fn changes(
     alloc: Global,
     catalog: &Catalog,

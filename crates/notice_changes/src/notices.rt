@@ -7,7 +7,7 @@ use burn_core::State;
 use catalog_terms::Binding;
 use notice_box::{Notice, NoticeBox};
 
-// Each change becomes a notice, numbered on.
+/// Each change becomes a notice, numbered on.
 pub(crate) fn tell(notices: &mut NoticeBox, at: u32, told: &[(Binding, State)])
     requires few { length notices.old.made + length told.now < 2 ^ 32 }
     requires room { length told.now ≤ notices.old.spare }
@@ -19,7 +19,7 @@ pub(crate) fn tell(notices: &mut NoticeBox, at: u32, told: &[(Binding, State)])
     }
 }
 
-// The change becomes the next notice.
+/// The change becomes the next notice.
 fn push(notices: &mut NoticeBox, at: u32, change: &(Binding, State))
     requires few { length notices.old.made + 1 < 2 ^ 32 }
     requires room { 0 < notices.old.spare }

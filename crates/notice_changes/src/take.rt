@@ -13,7 +13,7 @@ use office_derived::{Derived, Judged, Work, accepted};
 use office_history::Judgement;
 use record_form::{Outcome, Refusal};
 
-// Whether the notice of a number waits.
+/// Whether the notice of a number waits.
 fn is_waiting(notices: &NoticeBox, number: u32) -> bool
     requires { 0 < number }
     ensures { result ≡ is_waiting_def notices.now.made number }
@@ -25,7 +25,7 @@ fn is_waiting(notices: &NoticeBox, number: u32) -> bool
     }
 }
 
-// What becomes of the taking of a notice.
+/// What becomes of the taking of a notice.
 fn take_judgement(notices: &NoticeBox, entries: u32, number: u32) -> Judgement
     ensures { result ≡ take_verdict notices.now.made entries number }
 {
@@ -52,7 +52,7 @@ pub fn judge_take(derived: &Derived, number: u32) -> Judged
     }
 }
 
-// Takes a notice that was made.
+/// Takes a notice that was made.
 fn take(notices: &mut NoticeBox, number: u32)
     requires some { 0 < number }
     requires made { number ≤ length notices.old.made }

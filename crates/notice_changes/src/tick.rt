@@ -27,10 +27,10 @@ use record_form::{LimitName, Outcome, Refusal};
 use slo_limits::MAX_NOTICES;
 use std::alloc::{AllocError, Global};
 
-// Bindings with their states.
+/// Bindings with their states.
 type States = Vec<(Binding, State)>;
 
-// Whether so many notices more would be too many that wait.
+/// Whether so many notices more would be too many that wait.
 fn passes_limit(waiting: u32, told: usize) -> bool
     requires { waiting ≤ most.MAX_NOTICES }
     ensures { result ≡ nat_lt most.MAX_NOTICES (waiting + told) }
@@ -38,7 +38,7 @@ fn passes_limit(waiting: u32, told: usize) -> bool
     ((MAX_NOTICES - waiting) as usize) < told
 }
 
-// What becomes of a tick that would tell so many changes.
+/// What becomes of a tick that would tell so many changes.
 fn tick_judgement(notices: &NoticeBox, entries: u32, told: &[(Binding, State)]) -> Judgement
     requires { waiting notices.now.made ≤ most.MAX_NOTICES }
     ensures { result ≡ tick_verdict notices.now.made entries (length told.now) }
@@ -51,7 +51,7 @@ fn tick_judgement(notices: &NoticeBox, entries: u32, told: &[(Binding, State)]) 
     accepted(entries)
 }
 
-// The states at a moment, and those that are told.
+/// The states at a moment, and those that are told.
 fn states_and_changes(
     alloc: Global,
     derived: &Derived,

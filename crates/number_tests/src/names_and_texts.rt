@@ -14,7 +14,7 @@ const LONGEST_OTHER: &str = "aaaaaaaaaaaaaaaaaaaaaaaaaaaaaaaaaaaaaaaaaaaaaaaaaaa
 
 const TOO_LONG: &str = "aaaaaaaaaaaaaaaaaaaaaaaaaaaaaaaaaaaaaaaaaaaaaaaaaaaaaaaaaaaaaaaa";
 
-// `==` of labels is equality of their bytes.
+/// `==` of labels is equality of their bytes.
 fn same(a: &Label, b: &Label) -> bool
     ensures { IsTrue result ↔ a.now ≡ b.now }
 {

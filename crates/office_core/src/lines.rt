@@ -18,7 +18,7 @@ use sample_changes::apply_lift;
 use slo_catalog::Catalog;
 use std::alloc::{AllocError, Global};
 
-// The lines of a catalog that comes, and room for those that are new.
+/// The lines of a catalog that comes, and room for those that are new.
 fn lines_for(
     alloc: Global,
     derived: &Derived,

@@ -39,7 +39,7 @@ pub(crate) fn slo_names(alloc: Global, catalog: &Catalog) -> Result<Vec<Label>, 
     Ok(names)
 }
 
-// The budgets of an SLO's objectives: none where no window of its calendar had begun.
+/// The budgets of an SLO's objectives: none where no window of its calendar had begun.
 fn rows_of(
     alloc: Global,
     core: &mut Core,
@@ -67,7 +67,7 @@ fn rows_of(
     }
 }
 
-// The lines of an SLO.
+/// The lines of an SLO.
 fn slo_lines(
     alloc: Global,
     core: &mut Core,

@@ -16,7 +16,7 @@ use office_history::Measure;
 use record_form::BudgetRow;
 use std::alloc::{AllocError, Global};
 
-// What was good, of what was counted, and what is left of the budget.
+/// What was good, of what was counted, and what is left of the budget.
 fn remaining_words(
     alloc: Global,
     num: u64,
@@ -54,7 +54,7 @@ fn is_of(binding: &Binding, name: Label, number: usize) -> bool
     binding.slo == name && binding.objective as usize == number
 }
 
-// The lines of an objective's bindings.
+/// The lines of an objective's bindings.
 fn state_lines(
     alloc: Global,
     states: &[(Binding, State)],
@@ -73,7 +73,7 @@ fn state_lines(
     Ok(lines)
 }
 
-// The line of an objective, and those of its bindings.
+/// The line of an objective, and those of its bindings.
 fn objective_lines(
     alloc: Global,
     states: &[(Binding, State)],

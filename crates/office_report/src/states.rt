@@ -11,7 +11,7 @@ use catalog_terms::Binding;
 use office_core::Core;
 use std::alloc::{AllocError, Global};
 
-// How the alert of a binding stands: quiet where there is none.
+/// How the alert of a binding stands: quiet where there is none.
 fn state_of(alloc: Global, core: &mut Core, at: u32, binding: &Binding) -> Result<State, AllocError>
     requires begun { core.old.office.origin ≤ at }
     requires in_range { at < end_of core.old.office.origin }

@@ -16,8 +16,8 @@ use std::alloc::Global;
 use wire_replies::{Reply, bad_message, immediate_reply, render, write_reply};
 use wire_routes::{Routed, Routes};
 
-// The reply to a whole message, which came at a reading of the clock. The counter is asked once
-// where the message stands for a request, and else not at all.
+/// The reply to a whole message, which came at a reading of the clock. The counter is asked once
+/// where the message stands for a request, and else not at all.
 fn reply_to<T: Counter>(
     alloc: Global,
     routes: &Routes,

@@ -2,7 +2,7 @@
 use message_heads::{Heard, Hearing, hear, read_request};
 use std::alloc::{AllocError, Global};
 
-// The status of a bad message, 200 for a whole one, 100 where more has to come.
+/// The status of a bad message, 200 for a whole one, 100 where more has to come.
 fn status(bytes: &[u8]) -> u16 {
     match read_request(bytes) {
         Heard::Whole(_, _) => 200,
@@ -11,7 +11,7 @@ fn status(bytes: &[u8]) -> u16 {
     }
 }
 
-// `front`, so many times `part`, and `back`.
+/// `front`, so many times `part`, and `back`.
 fn text(alloc: Global, front: &[u8], part: &[u8], count: usize) -> Result<Vec<u8>, AllocError> {
     let mut bytes = Vec::new(alloc);
     bytes.extend_from_slice(front)?;
@@ -140,7 +140,7 @@ fn connections_close_as_they_say(rt: HostRuntime) {
     }
 }
 
-// How often a reader has to hear a message that comes in such pieces, and the place of its body.
+/// How often a reader has to hear a message that comes in such pieces, and the place of its body.
 fn hear_in_pieces(bytes: &[u8], piece: usize) -> (u32, (u32, u32)) {
     let mut calls = 0u32;
     let mut wanted = 1;

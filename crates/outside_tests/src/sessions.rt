@@ -9,9 +9,9 @@ use office_outside::{
 use std::alloc::{AllocError, Global};
 use std::process::Abort;
 
-// Answers with four bytes: the last digits of the clock's reading and of the body's length, the
-// body's last byte, and `.`, or `!` where the answer is the session's last. A bad message is
-// answered with its status and a `!`.
+/// Answers with four bytes: the last digits of the clock's reading and of the body's length, the
+/// body's last byte, and `.`, or `!` where the answer is the session's last. A bad message is
+/// answered with its status and a `!`.
 #[derive(Drop)]
 struct Echo;
 
@@ -53,7 +53,8 @@ impl<K: Sink> Handler<K> for Echo {
     }
 }
 
-// A session over these bytes: how it ended, its source and its sink, and what the clock reads next.
+/// A session over these bytes: how it ended, its source and its sink, and what the clock reads
+/// next.
 #[derive(Drop)]
 struct Outcome {
     end: SessionEnd,
@@ -62,7 +63,7 @@ struct Outcome {
     next: u32,
 }
 
-// The clock's readings are 0, 1, 2 and so on.
+/// The clock's readings are 0, 1, 2 and so on.
 fn run(alloc: Global, input: MemorySource, output: MemorySink) -> Result<Outcome, AllocError> {
     let mut readings = Vec::new(alloc);
     for reading in 0..1_100 {
@@ -80,14 +81,14 @@ fn run(alloc: Global, input: MemorySource, output: MemorySink) -> Result<Outcome
     })
 }
 
-// A plan by which the call of a number fails, and the first calls move so many bytes each.
+/// A plan by which the call of a number fails, and the first calls move so many bytes each.
 fn plan(alloc: Global, failing: u64, size: usize, count: usize) -> Result<Plan, AllocError> {
     let sizes = vec![in alloc; size; count]?;
     let failing = vec![in alloc; failing; 1]?;
     Ok(Plan::new(failing, sizes))
 }
 
-// A session that reads and writes in pieces of one size.
+/// A session that reads and writes in pieces of one size.
 fn run_in_pieces(alloc: Global, bytes: &[u8], size: usize) -> Result<Outcome, AllocError> {
     let reads = plan(alloc, u64::MAX, size, bytes.len())?;
     let writes = plan(alloc, u64::MAX, size, bytes.len())?;
@@ -95,8 +96,8 @@ fn run_in_pieces(alloc: Global, bytes: &[u8], size: usize) -> Result<Outcome, Al
     run(alloc, input, MemorySink::new(alloc, writes))
 }
 
-// Inputs, in which `|` is the end of a line, the end of the session, how often its clock was read,
-// and its answers.
+/// Inputs, in which `|` is the end of a line, the end of the session, how often its clock was read,
+/// and its answers.
 fn table() -> &'static str {
     "\
 GET / HTTP/1.1|| => Done 1 00-.
@@ -122,7 +123,7 @@ GET / HTTP/1.1|Content-Length: 1048577|| => Done 0 413!
 GET / HTTP/1.1||\0|GET / HTTP/1.1|| => Done 1 00-.400!"
 }
 
-// The bytes of an input of the table.
+/// The bytes of an input of the table.
 fn bytes_of(alloc: Global, text: &str) -> Result<Vec<u8>, AllocError> {
     let mut bytes = Vec::new(alloc);
     for byte in text.as_bytes() {
@@ -131,7 +132,7 @@ fn bytes_of(alloc: Global, text: &str) -> Result<Vec<u8>, AllocError> {
     Ok(bytes)
 }
 
-// What a session came to, as the table has it.
+/// What a session came to, as the table has it.
 fn shown(alloc: Global, run: &Outcome) -> Result<String, AllocError> {
     let answers = String::from_utf8_lossy(alloc, run.output.bytes())?;
     format!(in alloc; "{:?} {} {answers}", run.end, run.next)
@@ -150,7 +151,7 @@ fn sessions_in_pieces(rt: HostRuntime) {
     }
 }
 
-// A message with so many bytes in its target and in its body, and a short one behind it.
+/// A message with so many bytes in its target and in its body, and a short one behind it.
 fn long_and_short(alloc: Global, target: usize, body: usize) -> Result<Vec<u8>, AllocError> {
     let mut bytes = Vec::from_slice(alloc, b"POST /")?;
     bytes.extend_from_slice(&vec![in alloc; b't'; target]?)?;
@@ -161,7 +162,7 @@ fn long_and_short(alloc: Global, target: usize, body: usize) -> Result<Vec<u8>, 
     Ok(bytes)
 }
 
-// Both messages are answered however many pieces of 4,096 bytes they come in.
+/// Both messages are answered however many pieces of 4,096 bytes they come in.
 #[test]
 fn messages_of_many_pieces(rt: HostRuntime) {
     // bytes of the target and of the body, reads up to the end of the input, answers
@@ -187,7 +188,7 @@ fn messages_of_many_pieces(rt: HostRuntime) {
     }
 }
 
-// So many short requests.
+/// So many short requests.
 fn requests(alloc: Global, count: usize) -> Result<Vec<u8>, AllocError> {
     let mut bytes = Vec::new(alloc);
     for _request in 0..count {
@@ -196,7 +197,7 @@ fn requests(alloc: Global, count: usize) -> Result<Vec<u8>, AllocError> {
     Ok(bytes)
 }
 
-// So many answers to them that keep the session open, and then one that closes, or none.
+/// So many answers to them that keep the session open, and then one that closes, or none.
 fn answers(alloc: Global, open: u32, closing: bool) -> Result<Vec<u8>, AllocError> {
     let mut text = Vec::new(alloc);
     for reading in 0..open {
@@ -208,7 +209,7 @@ fn answers(alloc: Global, open: u32, closing: bool) -> Result<Vec<u8>, AllocErro
     Ok(text)
 }
 
-// The 1,000th answer closes, and no request behind it is answered.
+/// The 1,000th answer closes, and no request behind it is answered.
 #[test]
 fn a_thousand_answers_are_the_most(rt: HostRuntime) {
     for (count, open, closing) in [(999, 999, false), (1_000, 999, true), (1_001, 999, true)] {
@@ -226,12 +227,12 @@ fn a_thousand_answers_are_the_most(rt: HostRuntime) {
     }
 }
 
-// Three messages of 16, 40 and 16 bytes, the last of which closes, and their answers.
+/// Three messages of 16, 40 and 16 bytes, the last of which closes, and their answers.
 const THREE: &str = "GET / HTTP/1.1||POST / HTTP/1.1|Content-Length: 5||helloGET / HTTP/1.0||";
 
 const ANSWERS: &[u8] = b"00-.15o.20-!";
 
-// Reads of seven bytes, of which one fails: what was heard before is answered.
+/// Reads of seven bytes, of which one fails: what was heard before is answered.
 #[test]
 fn failing_reads(rt: HostRuntime) {
     let bytes = bytes_of(rt.alloc(), THREE).expect(&rt, "memory");
@@ -249,7 +250,7 @@ fn failing_reads(rt: HostRuntime) {
     }
 }
 
-// Writes of one byte, of which one fails, or the flush behind an answer.
+/// Writes of one byte, of which one fails, or the flush behind an answer.
 #[test]
 fn failing_writes(rt: HostRuntime) {
     let bytes = bytes_of(rt.alloc(), THREE).expect(&rt, "memory");

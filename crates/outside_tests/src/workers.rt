@@ -8,7 +8,7 @@ use std::alloc::{AllocError, Global};
 use std::sync::Wait;
 use visit_workers::{WorkEnd, work};
 
-// Counts how often it is asked, and never has memory to answer.
+/// Counts how often it is asked, and never has memory to answer.
 #[derive(Drop)]
 struct Count {
     asked: u32,
@@ -39,7 +39,7 @@ impl Counter for Count {
     } };
 }
 
-// A visit with so many requests.
+/// A visit with so many requests.
 fn visit(alloc: Global, requests: usize) -> Result<MemoryVisit<MemorySink>, AllocError> {
     let mut bytes = Vec::new(alloc);
     for _ in 0..requests {
@@ -52,7 +52,7 @@ fn visit(alloc: Global, requests: usize) -> Result<MemoryVisit<MemorySink>, Allo
     })
 }
 
-// Visits with two requests, none and three.
+/// Visits with two requests, none and three.
 fn visits(alloc: Global) -> Result<Vec<MemoryVisit<MemorySink>>, AllocError> {
     let mut all = Vec::with_capacity(alloc, 3)?;
     for requests in [2, 0, 3] {
@@ -62,7 +62,7 @@ fn visits(alloc: Global) -> Result<Vec<MemoryVisit<MemorySink>>, AllocError> {
     Ok(all)
 }
 
-// What a worker left of its counter and its door.
+/// What a worker left of its counter and its door.
 #[derive(Drop)]
 struct Work {
     end: WorkEnd,
@@ -70,7 +70,7 @@ struct Work {
     door: MemoryDoor<MemorySink>,
 }
 
-// The work at a door whose calls of these numbers fail.
+/// The work at a door whose calls of these numbers fail.
 fn work_at<R: Wait>(rt: &R, alloc: Global, failing: Vec<u64>) -> Result<Work, AllocError> {
     let visits = visits(alloc)?;
     let mut kit = SessionKit::new(alloc)?;
@@ -80,8 +80,8 @@ fn work_at<R: Wait>(rt: &R, alloc: Global, failing: Vec<u64>) -> Result<Work, Al
     Ok(Work { end, counter, door })
 }
 
-// How many answers each visit got, in the order in which they came back. A body has no end of line,
-// so the next answer's first line goes on from it.
+/// How many answers each visit got, in the order in which they came back. A body has no end of
+/// line, so the next answer's first line goes on from it.
 fn answers(alloc: Global, door: &MemoryDoor<MemorySink>) -> Result<String, AllocError> {
     let mut shown = String::new(alloc);
     for visit in door.back() {

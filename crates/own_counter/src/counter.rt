@@ -53,7 +53,7 @@ impl<D: Disk + Drop> OwnCounter<D> {
     }
 }
 
-// Notes the place of an entry that was added, where there is one.
+/// Notes the place of an entry that was added, where there is one.
 fn note(own: &mut Vec<u32>, place: Option<u32>)
     requires { length own.old.items < vec_capacity own.old }
     ensures { own.new.items ≡ places_with place own.old.items }
@@ -63,7 +63,7 @@ fn note(own: &mut Vec<u32>, place: Option<u32>)
     }
 }
 
-// Asks the office. Room for the place of an entry comes first.
+/// Asks the office. Room for the place of an entry comes first.
 fn ask_alone<D: Disk + Drop>(
     alloc: Global,
     office: &mut Office<D>,

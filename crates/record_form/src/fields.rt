@@ -149,7 +149,7 @@ impl<'a> Cursor<'a> {
         Ok(rows)
     }
 
-    // Reads a row, and adds it.
+    /// Reads a row, and adds it.
     #[tactic(auto, unfolding(crate::specs::Records::row))]
     fn add_row(&mut self, rows: &mut Vec<Row>) -> Result<(), Unread>
         ensures { ReadsAs (λ _. rows.new.items) (reading_behind row_form rows.old.items) result

@@ -27,7 +27,7 @@ fn put_number(out: &mut Vec<u8>, n: u32) -> Result<(), AllocError>
     out.extend_from_slice(&n.to_be_bytes())
 }
 
-// A byte of length, and the text.
+/// A byte of length, and the text.
 fn put_short(out: &mut Vec<u8>, bytes: &[u8]) -> Result<(), AllocError>
     requires { length bytes.now < 256 }
     ensures { OnOk result (Writes (text byte) bytes.now out.old.items out.new.items) }
@@ -122,7 +122,7 @@ fn put_exclusion(out: &mut Vec<u8>, value: &Exclusion) -> Result<(), AllocError>
     put_number(out, value.to)
 }
 
-// The kind byte, and the fields.
+/// The kind byte, and the fields.
 #[tactic(auto, unfolding(crate::specs::Records::command, crate::specs::Records::kind, crate::specs::Records::zone_name))]
 fn put_command(out: &mut Vec<u8>, command: &Command) -> Result<(), AllocError>
     requires { IsInRange command.now }

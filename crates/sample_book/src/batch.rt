@@ -1,4 +1,4 @@
-// Batches of rows, judged before any of them is put.
+//! Batches of rows, judged before any of them is put.
 ghost use Rattle.std.specs.Prelude.{◌≡◌, [], IfOk};
 ghost use Rattle.sample_book.specs.Puts.{verdicts};
 

@@ -1,4 +1,4 @@
-// The book of samples and exclusions.
+//! The book of samples and exclusions.
 ghost use Rattle.std.specs.Prelude.{◌/◌, take, ℕ, List, ◌||◌, ◌≡◌, ◌≢◌, ◌+◌, ◌*◌, ◌^◌, ◌<◌, ◌≤◌};
 ghost use Rattle.std.specs.Prelude.{◌++◌, ◌∷◌, [], true, false, Some, None, OnOk, OnErr, IfOk};
 ghost use Rattle.std.specs.Prelude.{length, slice_get};

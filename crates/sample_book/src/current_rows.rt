@@ -1,4 +1,4 @@
-// The current rows, and room for the rows of further cells.
+//! The current rows, and room for the rows of further cells.
 ghost use Rattle.std.specs.Prelude.{List, ◌+◌, ◌≤◌, vec_capacity, ◌≡◌, ◌≢◌, ◌<◌, ◌++◌, ◌∷◌, []};
 ghost use Rattle.std.specs.Prelude.{false, Some, IfSome, IfNone, OnOk, OnErr, length, slice_get};
 ghost use Rattle.std.specs.Prelude.{IfOk, drop as drop_list, take, true};

@@ -1,4 +1,4 @@
-// Stretches of time that are excluded afterwards.
+//! Stretches of time that are excluded afterwards.
 ghost use Rattle.std.specs.Prelude.{ℕ, List, ◌||◌, ◌≡◌, ◌+◌, ◌<◌, ◌≤◌, ◌++◌, ◌∷◌, [], true, Some};
 ghost use Rattle.std.specs.Prelude.{None, OnOk, length, map, slice_get};
 ghost use Rattle.std.specs.List.{list_any};

@@ -1,4 +1,4 @@
-// What the calls of a book come to, over everything that ever came.
+//! What the calls of a book come to, over everything that ever came.
 ghost use Rattle.std.specs.Prelude.{◌≡◌, ◌+◌, ◌++◌, ◌∷◌, [], List, ℕ, Bool, true, false, filter};
 ghost use Rattle.std.specs.Prelude.{length, slice_get, take, Some};
 ghost use Rattle.sample_book.specs.Exclusions.{is_excluded, is_excluded_in};

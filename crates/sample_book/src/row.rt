@@ -1,4 +1,4 @@
-// Rows and their cells.
+//! Rows and their cells.
 ghost use Rattle.std.specs.Prelude.{◌≡◌};
 ghost use Rattle.sample_book.specs.Rows.{cell_of, verdict_on};
 

@@ -1,4 +1,4 @@
-// What a row says of its cell, in sixteen bytes.
+//! What a row says of its cell, in sixteen bytes.
 ghost use Rattle.std.specs.Prelude.{◌≡◌};
 ghost use Rattle.sample_book.specs.Stored.{amount_of, parts_of};
 

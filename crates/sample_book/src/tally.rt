@@ -1,4 +1,4 @@
-// What the current rows of an indicator count for.
+//! What the current rows of an indicator count for.
 ghost use Rattle.std.specs.Prelude.{◌≡◌, ◌^◌, ◌<◌, ◌≤◌, [], ◌∷◌, true, length, map};
 ghost use Rattle.slo_limits.specs.declared.TheConstants.{MAX_SUMMED_ROWS};
 ghost use Rattle.slice_method.specs.Readings.{HasForm};

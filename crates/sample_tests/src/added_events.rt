@@ -19,8 +19,8 @@ pub(crate) fn counts(good: u64, total: u64) -> Counts
     Counts { good, total }
 }
 
-// Ratios of slices, or slices that reach a target in billionths, or the events where the width is
-// no divisor of an hour.
+/// Ratios of slices, or slices that reach a target in billionths, or the events where the width is
+/// no divisor of an hour.
 pub(crate) fn method_of(width: u32, target: Option<u64>) -> Method
     ensures { width_of result ∣ 60 }
 {
@@ -36,7 +36,7 @@ pub(crate) fn method_of(width: u32, target: Option<u64>) -> Method
     }
 }
 
-// Sums without events.
+/// Sums without events.
 pub(crate) fn start(alloc: Global, method: Method) -> WindowSums
     requires { width_of method ∣ 60 }
     ensures method { result.method ≡ method }
@@ -46,8 +46,8 @@ pub(crate) fn start(alloc: Global, method: Method) -> WindowSums
     WindowSums::new(alloc, method)
 }
 
-// Makes room for a minute and changes its counts. The caller says how many events there are at
-// most.
+/// Makes room for a minute and changes its counts. The caller says how many events there are at
+/// most.
 pub(crate) fn put<R: Abort>(
     rt: &R,
     sums: &mut WindowSums,
@@ -74,7 +74,7 @@ pub(crate) fn put<R: Abort>(
     sums.change(minute, before, after);
 }
 
-// Adds the events of a minute, after so many others.
+/// Adds the events of a minute, after so many others.
 pub(crate) fn add<R: Abort>(
     rt: &R,
     sums: &mut WindowSums,

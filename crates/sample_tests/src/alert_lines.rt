@@ -17,10 +17,10 @@ use std::sync::ledger::{Blank, Ledger};
 use sum_pages::Steps;
 use window_sums::WindowSums;
 
-// The first line of a block has the width of the slices and the samples, each a minute, its good
-// events and all. The others are questions: a rule (operator, threshold, lookback and wait, or the
-// name of a built-in one), the target, the origin, a range and a minute. The answer is the
-// condition and the state at that minute, and when the alert is active within the range.
+/// The first line of a block has the width of the slices and the samples, each a minute, its good
+/// events and all. The others are questions: a rule (operator, threshold, lookback and wait, or the
+/// name of a built-in one), the target, the origin, a range and a minute. The answer is the
+/// condition and the state at that minute, and when the alert is active within the range.
 fn questions() -> &'static str {
     "\
 1  1880 200000 200000  1998 98560 100000
@@ -146,7 +146,7 @@ fn decimal<R: Abort>(rt: &R, word: Option<&str>, most: u64) -> Decimal
     decimal
 }
 
-// Sums without events, over slices of one minute, of five or of an hour.
+/// Sums without events, over slices of one minute, of five or of an hour.
 fn empty(alloc: Global, width: u64) -> WindowSums
     ensures { HasAtMost result.method (counts_of result) 0 }
 {
@@ -157,7 +157,7 @@ fn empty(alloc: Global, width: u64) -> WindowSums
     }
 }
 
-// The sums of a block.
+/// The sums of a block.
 fn sums_of<R: Abort>(rt: &R, alloc: Global, line: &str) -> WindowSums {
     let mut words = line.split_whitespace();
     let mut sums = empty(alloc, number(rt, words.next(), 60));
@@ -202,7 +202,7 @@ fn rule_of<R: Abort>(rt: &R, words: &mut SplitWhitespace<'_>) -> AlertRule
     }
 }
 
-// The line of a question, and its origin.
+/// The line of a question, and its origin.
 fn line_of<R: Abort>(rt: &R, alloc: Global, words: &mut SplitWhitespace<'_>) -> (AlertLine, u32)
     ensures origin { result.0.origin ≡ result.1 }
     ensures agrees { (sums : CountedDays) → Agrees result.0 sums }
@@ -246,7 +246,7 @@ fn answer_by<L: Ledger>(
     shown(alloc, holds, state, &spans)
 }
 
-// The answer for a caller that counts no steps.
+/// The answer for a caller that counts no steps.
 fn answer(
     alloc: Global,
     line: &mut AlertLine,
@@ -265,7 +265,7 @@ fn answer(
     answer_by::<Brand>(alloc, line, range, at, sums, Blank::new(1))
 }
 
-// Asks a new line, again when all is known, and again when a part was forgotten. Gives the line.
+/// Asks a new line, again when all is known, and again when a part was forgotten. Gives the line.
 fn ask<R: Abort>(rt: &R, alloc: Global, row: &str, sums: &WindowSums) -> AlertLine {
     let (question, want) = row.split_once(" => ").expect(rt, "an answer");
     let mut words = question.split_whitespace();

@@ -3,7 +3,7 @@ use burn_core::{above, burn, error_rate, remaining};
 use exact_fraction::{Decimal, Fraction, Leaf, Op};
 use slo_limits::MAX_SUM;
 
-// By each of the four comparisons, against a threshold in billionths.
+/// By each of the four comparisons, against a threshold in billionths.
 #[test]
 fn burn_rates_against_a_threshold(rt: HostRuntime) {
     let rows = [
@@ -26,7 +26,7 @@ fn burn_rates_against_a_threshold(rt: HostRuntime) {
     }
 }
 
-// Two slices whose ratios of 1/3 and 2/3 were rounded down to billionths, against a target of 0.9.
+/// Two slices whose ratios of 1/3 and 2/3 were rounded down to billionths, against a target of 0.9.
 #[test]
 fn budgets_of_rounded_ratios(rt: HostRuntime) {
     let sum = Leaf {

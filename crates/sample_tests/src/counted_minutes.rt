@@ -37,7 +37,7 @@ fn is_put(verdict: &RowVerdict) -> bool
     }
 }
 
-// Puts a row that is new or newer, and passes over another.
+/// Puts a row that is new or newer, and passes over another.
 fn put_row(book: &mut SampleBook, row: &Row)
     requires { MayComeAs (verdict_of book.old.rows row.now) book.old.room (cell_of row.now) }
     ensures rows { book.new.rows ≡ rows_after book.old.rows row.now }
@@ -64,7 +64,7 @@ fn put_rows(book: &mut SampleBook, rows: &[Row])
     }
 }
 
-// Gives a whole batch its room, and puts it.
+/// Gives a whole batch its room, and puts it.
 fn take_batch(book: &mut SampleBook, rows: &[Row]) -> bool
     requires events { AllByRecursion HasEvents rows.now }
     requires held { AllByRecursion HasEvents book.old.rows }
@@ -81,8 +81,8 @@ fn take_batch(book: &mut SampleBook, rows: &[Row]) -> bool
     true
 }
 
-// Two sources of an indicator at minute 1440, of which the first corrects itself, and one of them a
-// minute later; and another indicator.
+/// Two sources of an indicator at minute 1440, of which the first corrects itself, and one of them
+/// a minute later; and another indicator.
 fn batch(web: Label, shop: Label) -> [Row; 5]
     ensures events { AllByRecursion HasEvents result }
     ensures few { length result ≡ 5 }
@@ -141,7 +141,7 @@ fn the_first_row_and_the_days_of_an_indicator_are_known(rt: HostRuntime) {
     let_go(book);
 }
 
-// [1440, 1441) of the objective `shop`.
+/// [1440, 1441) of the objective `shop`.
 fn exclude_first(book: &mut SampleBook, slo: Label) -> bool
     ensures { book.new.rows ≡ book.old.rows }
 {
@@ -170,7 +170,7 @@ fn id(rt: &impl Abort, number: u32) -> Label {
     label(rt, &text)
 }
 
-// Thirty exclusions, of ten minutes at the end of each of thirty days, and one of two days.
+/// Thirty exclusions, of ten minutes at the end of each of thirty days, and one of two days.
 fn exclude_many(rt: &impl Abort, book: &mut SampleBook, slo: Label, other: Label) -> bool {
     let mut made = exclude(book, id(rt, 99), slo, 100_000, 102_880);
     for number in 0..30u32 {
@@ -181,7 +181,7 @@ fn exclude_many(rt: &impl Abort, book: &mut SampleBook, slo: Label, other: Label
     made
 }
 
-// The minutes before, in and behind exclusions, across midnight, and in the one of two days.
+/// The minutes before, in and behind exclusions, across midnight, and in the one of two days.
 const OWN: [(u32, bool); 12] = [
     (1434, false),
     (1435, true),

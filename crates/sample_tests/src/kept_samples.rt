@@ -18,7 +18,7 @@ pub(crate) fn empty_book(rt: &impl Abort, alloc: Global) -> SampleBook
     SampleBook::new(alloc).expect(rt, "memory")
 }
 
-// Ends a book. The proof that all of it is let go is long, so it stands once, for all tests.
+/// Ends a book. The proof that all of it is let go is long, so it stands once, for all tests.
 pub(crate) fn let_go(_book: SampleBook) {}
 
 fn row(web: Label, revision: u32, part: u32) -> Row {
@@ -34,7 +34,7 @@ fn row(web: Label, revision: u32, part: u32) -> Row {
     }
 }
 
-// Takes a row as a caller does: what is new gets room, what is new or newer is put.
+/// Takes a row as a caller does: what is new gets room, what is new or newer is put.
 fn take(book: &mut SampleBook, row: &Row) -> Result<RowVerdict, AllocError> {
     let verdict = book.check(row);
     match verdict {
@@ -59,7 +59,7 @@ fn word(verdict: Result<RowVerdict, AllocError>) -> &'static str {
     }
 }
 
-// One cell gets the revisions 1, 3, 2, 3, and then 3 with another amount.
+/// One cell gets the revisions 1, 3, 2, 3, and then 3 with another amount.
 const BATCH: [(u32, u32, &str); 5] = [
     (1, 9990, "new"),
     (3, 1, "newer"),
@@ -79,7 +79,7 @@ fn the_greatest_revision_counts(rt: HostRuntime) {
     let_go(book);
 }
 
-// The same batch as a whole, over a book that stays empty.
+/// The same batch as a whole, over a book that stays empty.
 fn words_of_batch(
     alloc: Global,
     book: &SampleBook,
@@ -106,8 +106,8 @@ fn a_batch_is_judged_and_not_put(rt: HostRuntime) {
     let_go(book);
 }
 
-// Two sources, three minutes on two days, sent in two batches: minute 1439 is of day 0, minute 1440
-// of day 1.
+/// Two sources, three minutes on two days, sent in two batches: minute 1439 is of day 0, minute
+/// 1440 of day 1.
 fn sent(source: Label, minute: u32) -> Row {
     Row {
         sli: source,
@@ -118,7 +118,7 @@ fn sent(source: Label, minute: u32) -> Row {
     }
 }
 
-// Gives a batch room, and takes its rows.
+/// Gives a batch room, and takes its rows.
 fn take_batch(book: &mut SampleBook, rows: &[Row]) -> Result<(), AllocError> {
     book.make_room(rows)?;
     for row in rows {
@@ -146,7 +146,7 @@ fn rows_of_a_day_are_found(rt: HostRuntime) {
     let_go(book);
 }
 
-// Makes an exclusion as a caller does, where its id is unused.
+/// Makes an exclusion as a caller does, where its id is unused.
 pub(crate) fn exclude(book: &mut SampleBook, id: Label, slo: Label, from: u32, to: u32) -> bool
     ensures { book.new.rows ≡ book.old.rows }
 {
@@ -158,7 +158,7 @@ pub(crate) fn exclude(book: &mut SampleBook, id: Label, slo: Label, from: u32, t
     }
 }
 
-// Lifts an exclusion as a caller does, where it is live.
+/// Lifts an exclusion as a caller does, where it is live.
 pub(crate) fn lift(book: &mut SampleBook, id: Label) -> bool
     ensures { book.new.rows ≡ book.old.rows }
 {
@@ -171,7 +171,7 @@ pub(crate) fn lift(book: &mut SampleBook, id: Label) -> bool
     }
 }
 
-// Whether exactly those of these minutes are excluded whose flag says so.
+/// Whether exactly those of these minutes are excluded whose flag says so.
 pub(crate) fn agrees(book: &SampleBook, slo: Label, minutes: &[(u32, bool)]) -> bool {
     minutes
         .iter()
@@ -197,15 +197,15 @@ const LATER: [(u32, bool); 5] = [
 
 const NEITHER: [(u32, bool); 3] = [(100, false), (107, false), (114, false)];
 
-// [100, 110) under the objective's own name, and [105, 115) under another one.
+/// [100, 110) under the objective's own name, and [105, 115) under another one.
 fn exclude_both(book: &mut SampleBook, slo: Label, other: Label) -> bool {
     let first = exclude(book, slo, slo, 100, 110);
     let second = exclude(book, other, slo, 105, 115);
     first & second
 }
 
-// Whether the minutes are as they should be while both are live, after the first was lifted, and
-// after both were.
+/// Whether the minutes are as they should be while both are live, after the first was lifted, and
+/// after both were.
 fn lifts_one_by_one(book: &mut SampleBook, slo: Label, other: Label) -> bool {
     let both = agrees(book, slo, &BOTH) & agrees(book, other, &NEITHER);
     let lifted = lift(book, slo);
@@ -233,7 +233,7 @@ fn overlapping_exclusions_are_lifted_one_by_one(rt: HostRuntime) {
     let_go(book);
 }
 
-// What further rows are where revision 2 with 9995 of 10000 is kept.
+/// What further rows are where revision 2 with 9995 of 10000 is kept.
 const AFTER: [(u32, u32, &str); 4] = [
     (2, 9995, "repeated"),
     (1, 9995, "superseded"),
@@ -241,12 +241,12 @@ const AFTER: [(u32, u32, &str); 4] = [
     (3, 1, "newer"),
 ];
 
-// Whether each of these rows is judged so over the book.
+/// Whether each of these rows is judged so over the book.
 fn are_judged(book: &SampleBook, web: Label, rows: &[(u32, u32, &str)]) -> bool {
     rows.iter().all(|want| word(Ok(book.check(&row(web, want.0, want.1)))) == want.2)
 }
 
-// Whether the refusals show what is kept.
+/// Whether the refusals show what is kept.
 fn show_the_kept_row(book: &SampleBook, web: Label) -> bool {
     let old = book.check(&row(web, 1, 1)) == RowVerdict::Superseded(2);
     let other = book.check(&row(web, 2, 1)) == RowVerdict::Conflict(row(web, 2, 9995));
@@ -262,7 +262,7 @@ fn rows_are_judged_by_the_kept_one(rt: HostRuntime) {
     let_go(book);
 }
 
-// Room for a further cell is no row.
+/// Room for a further cell is no row.
 #[test]
 fn room_is_no_row(rt: HostRuntime) {
     let web = label(&rt, b"web");
@@ -276,7 +276,7 @@ fn room_is_no_row(rt: HostRuntime) {
     let_go(book);
 }
 
-// Whether an exclusion is kept, and not live.
+/// Whether an exclusion is kept, and not live.
 fn is_lifted(book: &SampleBook, id: Label) -> bool {
     match book.exclusion(id) {
         Some((_, live)) => !live,
@@ -286,7 +286,7 @@ fn is_lifted(book: &SampleBook, id: Label) -> bool {
 
 const ONE_MINUTE: [(u32, bool); 3] = [(99, false), (100, true), (101, false)];
 
-// [100, 101) has one minute, and none once it is lifted.
+/// [100, 101) has one minute, and none once it is lifted.
 fn excludes_one_minute(book: &mut SampleBook, slo: Label) -> bool {
     let made = exclude(book, slo, slo, 100, 101);
     let live = agrees(book, slo, &ONE_MINUTE);

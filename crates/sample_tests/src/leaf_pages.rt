@@ -18,7 +18,8 @@ fn start(alloc: Global, per_hour: u32) -> SumPages
     SumPages::new(alloc, per_hour)
 }
 
-// Makes the day of a slot ready and puts a leaf. The caller says what all leaves add up to at most.
+/// Makes the day of a slot ready and puts a leaf. The caller says what all leaves add up to at
+/// most.
 fn put<R: Abort>(rt: &R, pages: &mut SumPages, slot: u32, num: u64, den: u64, most: u64)
     requires part { num ≤ den }
     requires small { most + den ≤ most_events }
@@ -30,7 +31,7 @@ fn put<R: Abort>(rt: &R, pages: &mut SumPages, slot: u32, num: u64, den: u64, mo
     pages.set(slot, Leaf { num, den });
 }
 
-// The leaf of a slot, its hour's total and its day's.
+/// The leaf of a slot, its hour's total and its day's.
 fn read_by<L: Ledger>(pages: &SumPages, slot: u32, blank: Blank) -> [(u64, u64); 3]
     requires blank { (blank.name ≡ L.name) × (blank.parts ≡ L.parts) × (0 < L.parts) }
 {

@@ -5,7 +5,7 @@ use notice_box::{Notice, NoticeBox, UnknownNotice, plan};
 use std::alloc::Global;
 use std::process::Abort;
 
-// What a plan is over three bindings with the same flags.
+/// What a plan is over three bindings with the same flags.
 #[test]
 fn plans_give_notice_of_changes_whose_flag_is_set(rt: HostRuntime) {
     let before = [State::Quiet, State::Breaching, State::NoData];
@@ -69,7 +69,7 @@ fn add<R: Abort>(rt: &R, notices: &mut NoticeBox) {
     });
 }
 
-// The first notice is taken once, and no notice of another number.
+/// The first notice is taken once, and no notice of another number.
 #[test]
 fn a_notice_is_taken_once(rt: HostRuntime) {
     let mut notices = NoticeBox::new(rt.alloc());
@@ -86,7 +86,7 @@ fn a_notice_is_taken_once(rt: HostRuntime) {
     }
 }
 
-// Seven notices, of which the first was taken before the others came.
+/// Seven notices, of which the first was taken before the others came.
 fn seven<R: Abort>(rt: &R, alloc: Global) -> NoticeBox {
     let mut notices = NoticeBox::new(alloc);
     add(rt, &mut notices);
@@ -97,7 +97,7 @@ fn seven<R: Abort>(rt: &R, alloc: Global) -> NoticeBox {
     notices
 }
 
-// The numbers of the first notices that wait, and 0 where there is none.
+/// The numbers of the first notices that wait, and 0 where there is none.
 fn first_numbers<R: Abort>(rt: &R, alloc: Global, notices: &NoticeBox) -> [u32; 4] {
     let first = notices.first_waiting(alloc, 4).expect(rt, "notices");
     let mut numbers = [0; 4];
@@ -109,7 +109,7 @@ fn first_numbers<R: Abort>(rt: &R, alloc: Global, notices: &NoticeBox) -> [u32; 
     numbers
 }
 
-// Takes the last six of seven notices, one again: how many wait after each, and the first of them.
+/// Takes the last six of seven notices, one again: how many wait after each, and the first of them.
 fn take_six<R: Abort>(rt: &R, alloc: Global, notices: &mut NoticeBox) {
     let rows = [
         (3, true, 5, [2, 4, 5, 6]),
@@ -127,7 +127,7 @@ fn take_six<R: Abort>(rt: &R, alloc: Global, notices: &mut NoticeBox) {
     }
 }
 
-// The number of the notice at a place, and whether it waits.
+/// The number of the notice at a place, and whether it waits.
 fn kept_at(notices: &NoticeBox, place: u32) -> Option<(u32, bool)> {
     notices.notice_at(place).map(|kept| (kept.0.number, kept.1))
 }

@@ -27,7 +27,7 @@ fn value(billionths: u64) -> Amount
     Amount::Value(decimal(billionths))
 }
 
-// The leaf of slices that are good from one half on.
+/// The leaf of slices that are good from one half on.
 fn slice_leaf(good: u64, total: u64) -> Leaf
     requires part { good ≤ total }
     requires few { total ≤ 4 * 10 ^ 15 }

@@ -21,12 +21,12 @@ fn sum_by<L: Ledger>(sums: &WindowSums, from: u32, to: u32, blank: Blank) -> Lea
     sums.sum(from, to, &mut steps)
 }
 
-// The sum for a caller that counts no steps; (0, 0) where the range ends before it begins.
+/// The sum for a caller that counts no steps; (0, 0) where the range ends before it begins.
 fn sum(sums: &WindowSums, from: u32, to: u32) -> Leaf {
     sum_by::<Brand>(sums, from, to.max(from), Blank::new(1))
 }
 
-// Events of ten minutes, on four days.
+/// Events of ten minutes, on four days.
 fn filled<R: Abort>(rt: &R, alloc: Global, method: Method) -> WindowSums
     requires { width_of method ∣ 60 }
 {
@@ -44,7 +44,7 @@ fn filled<R: Abort>(rt: &R, alloc: Global, method: Method) -> WindowSums
     sums
 }
 
-// The sums over these ranges have to be these, each the good part and the whole.
+/// The sums over these ranges have to be these, each the good part and the whole.
 fn compare<R: Abort>(rt: &R, sums: &WindowSums, ranges: &[(u32, u32)], wants: &[(u64, u64)]) {
     assert!(rt; ranges.len() == wants.len());
     for ((from, to), (num, den)) in ranges.iter().zip(wants) {

@@ -1,4 +1,4 @@
-// What a row says of its minute, and what it counts for.
+//! What a row says of its minute, and what it counts for.
 
 use exact_fraction::Decimal;
 

@@ -1,4 +1,4 @@
-// How the counts of a slice of time become a leaf of a sum.
+//! How the counts of a slice of time become a leaf of a sum.
 ghost use Rattle.std.specs.Prelude.{◌≡◌, ◌<◌, ◌≤◌};
 ghost use Rattle.slo_limits.specs.declared.TheConstants.{MAX_SUM};
 ghost use Rattle.slice_method.specs.Leaves.{billionths_of, is_at_least, leaf};
@@ -46,7 +46,7 @@ pub fn leaf_of(method: Method, sum: Counts) -> Leaf
     }
 }
 
-// Whether the ratio of good events is at least the target, multiplied out.
+/// Whether the ratio of good events is at least the target, multiplied out.
 fn is_at_least(sum: Counts, target: Decimal) -> bool
     ensures { result ≡ is_at_least sum target }
 {
@@ -54,7 +54,7 @@ fn is_at_least(sum: Counts, target: Decimal) -> bool
         <= u128::from(WHOLE) * u128::from(sum.good)
 }
 
-// The ratio of good events, rounded down to billionths.
+/// The ratio of good events, rounded down to billionths.
 fn billionths_of(sum: Counts) -> u64
     requires some { 0 < sum.total }
     requires part { sum.good ≤ sum.total }

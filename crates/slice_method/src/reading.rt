@@ -1,4 +1,4 @@
-// What the amount of a row counts for.
+//! What the amount of a row counts for.
 ghost use Rattle.std.specs.Prelude.{◌≡◌, ◌^◌, ◌<◌, ◌≤◌};
 ghost use Rattle.slice_method.specs.Readings.{HasForm, counts, counts_of_events, counts_of_value};
 

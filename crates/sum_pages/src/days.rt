@@ -1,4 +1,4 @@
-// Values by the number of a day.
+//! Values by the number of a day.
 ghost use Rattle.std.specs.Prelude.{◌≡◌, nat_eq, IfSome, Some};
 ghost use Rattle.std.specs.Map.{lookup};
 ghost use Rattle.std.specs.Option.{option_copied};

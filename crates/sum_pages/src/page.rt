@@ -1,4 +1,4 @@
-// The leaves of the slots of one day, with the totals of its hours and its own.
+//! The leaves of the slots of one day, with the totals of its hours and its own.
 ghost use Rattle.std.specs.Prelude.{◌≡◌, ◌+◌, ◌-◌, ◌*◌, ◌/◌, ◌<◌, ◌≤◌, ◌^◌, IfOk, length};
 ghost use Rattle.std.specs.Prelude.{replicate, slice_set};
 ghost use Rattle.slo_terms.specs.Sums.{leaves_over, most_events};

@@ -1,4 +1,4 @@
-// Steps that contracts count, and the program doesn't.
+//! Steps that contracts count, and the program doesn't.
 ghost use Rattle.std.specs.Prelude.{◌≡◌, ℕ, ◌+◌, ◌<◌};
 
 use std::marker::Model;

@@ -1,4 +1,4 @@
-// Pages of leaves, by the number of the day.
+//! Pages of leaves, by the number of the day.
 ghost use Rattle.std.specs.Prelude.{◌≡◌, ℕ, ◌+◌, ◌*◌, ◌/◌, ◌%◌, ◌<◌, ◌≤◌, ◌==◌, ◌||◌, nat_eq};
 ghost use Rattle.std.specs.Prelude.{is_some, length, slice_set, IsTrue, [], OnOk, OnErr};
 ghost use Rattle.std.specs.Int.{◌∣◌};

@@ -29,7 +29,7 @@ pub struct Worker<'a, T: Drop, A: Door + Drop, R: Wait> {
 }
 
 impl<'a, T: Counter + Drop, A: Door + Drop, R: Wait> Worker<'a, T, A, R> {
-    // A function of its own, so that the prover has a name for what is pushed.
+    /// A function of its own, so that the prover has a name for what is pushed.
     fn hire(rt: &'a R, alloc: Global, kit: SessionKit, counter: T, door: A) -> Worker<'a, T, A, R>
         requires { WhereTold HasAllBack (A.told door) }
         ensures counter { result.counter ≡ counter }

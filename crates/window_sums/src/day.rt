@@ -1,4 +1,4 @@
-// The counts of the slices of one day.
+//! The counts of the slices of one day.
 ghost use Rattle.std.specs.Prelude.{◌≡◌, ◌<◌, IfOk, length, replicate, slice_index_or, slice_set};
 ghost use Rattle.window_sums.specs.Slices.{MayExchange, new_counts, no_counts};
 

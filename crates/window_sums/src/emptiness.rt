@@ -1,4 +1,4 @@
-// Whether the slots of a range have no event, looked up from its end.
+//! Whether the slots of a range have no event, looked up from its end.
 ghost use Rattle.std.specs.Prelude.{◌≡◌, ◌+◌, ◌-◌, ◌*◌, ◌/◌, ◌<◌, ◌≤◌, ◌==◌};
 ghost use Rattle.slo_terms.specs.Sums.{leaves_over};
 ghost use Rattle.sum_pages.specs.Pages.{leaf_at};

@@ -1,4 +1,4 @@
-// A law about the counts of slices.
+//! A law about the counts of slices.
 ghost use Rattle.std.specs.Prelude.{◌≡◌, ℕ, List};
 ghost use Rattle.slice_method.specs.declared.amount.Counts.{Counts};
 ghost use Rattle.slice_method.specs.declared.method.Method.{Method};

@@ -1,4 +1,4 @@
-// The leaves of a range of slots, added up in few reads.
+//! The leaves of a range of slots, added up in few reads.
 ghost use Rattle.std.specs.Prelude.{◌≡◌, ◌+◌, ◌-◌, ◌*◌, ◌/◌, ◌<◌, ◌≤◌, ◌^◌};
 ghost use Rattle.slo_terms.specs.Sums.{leaves_over, most_events};
 ghost use Rattle.sum_pages.specs.Pages.{leaf_at};

@@ -1,4 +1,4 @@
-// Sums over slices by the counts of each.
+//! Sums over slices by the counts of each.
 ghost use Rattle.std.specs.Prelude.{◌≡◌, ℕ, ◌+◌, ◌-◌, ◌*◌, ◌/◌, ◌<◌, ◌≤◌, ◌==◌, ◌||◌, nat_eq};
 ghost use Rattle.std.specs.Prelude.{length, slice_index_or, slice_set, IsTrue, [], OnOk, OnErr};
 ghost use Rattle.std.specs.Prelude.{if◌then◌else◌};

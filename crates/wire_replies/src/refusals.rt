@@ -15,7 +15,7 @@ use serde_json::{Value, json};
 use slice_method::Amount;
 use std::alloc::{AllocError, Global};
 
-// An amount as it is told.
+/// An amount as it is told.
 fn amount_text(alloc: Global, amount: Amount) -> Result<String, AllocError>
     ensures { IfOk result (λ text. string_bytes text ≡ amount_text amount) }
 {

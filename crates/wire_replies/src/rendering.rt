@@ -19,7 +19,7 @@ use serde_json::Value;
 use std::alloc::{AllocError, Global};
 use wire_terms::Allow;
 
-// A reply with a short body.
+/// A reply with a short body.
 fn small(status: u16, body: SmallBody) -> Reply
     ensures answer { shown_answer result ≡ in_json status None body }
     ensures small { is_small result ≡ true }
@@ -31,7 +31,7 @@ fn small(status: u16, body: SmallBody) -> Reply
     }
 }
 
-// The text of a value.
+/// The text of a value.
 fn text_of(alloc: Global, value: Result<Value, AllocError>) -> Result<Bytes, AllocError>
     ensures { (d : Data) → IfOk value (IsValue d) → IfOk result (λ text. text ≡ compact_text d) }
 {
@@ -39,7 +39,7 @@ fn text_of(alloc: Global, value: Result<Value, AllocError>) -> Result<Bytes, All
     Ok(Bytes::from_vec(text.into_bytes()))
 }
 
-// A reply with a value as its body.
+/// A reply with a value as its body.
 fn full(alloc: Global, status: u16, value: Result<Value, AllocError>) -> Reply
     ensures { (d : Data) → IfOk value (IsValue d) → IsShownBy (json status d) result }
 {
@@ -54,7 +54,7 @@ fn full(alloc: Global, status: u16, value: Result<Value, AllocError>) -> Reply
     }
 }
 
-// A reply with an object's text.
+/// A reply with an object's text.
 fn object_text(alloc: Global, text: &[u8]) -> Reply
     ensures { IsShownBy
         (record { status = 200; form = Yaml; allow = None; body = text.now }) result }

@@ -15,7 +15,7 @@ use wire_terms::Allow;
 /// A reply of at most so many bytes is written at once: nearly each but long lists.
 type Page = InlineBytes<4096>;
 
-// The phrase of a status.
+/// The phrase of a status.
 fn phrase(status: u16) -> &'static str
     ensures text { result.now ≡ phrase_of status }
     ensures short { length result.now ≤ 31 }
@@ -62,7 +62,7 @@ fn connection_line(last: bool) -> &'static str
     }
 }
 
-// Writes the head of a reply whose body has so many bytes into an empty page.
+/// Writes the head of a reply whose body has so many bytes into an empty page.
 fn push_head(page: &mut Page, status: u16, form: Form, allow: Allow, count: usize, last: bool)
     requires { page.old ≡ [] }
     ensures text { page.new ≡ head_of status form allow count last }
@@ -82,7 +82,7 @@ fn push_head(page: &mut Page, status: u16, form: Form, allow: Allow, count: usiz
     page.push("\r\n");
 }
 
-// The body where memory was refused.
+/// The body where memory was refused.
 #[tactic(auto, unfolding(serde_json::proofs::OnLiterals::serde_json_on_literals))]
 fn no_memory_body() -> &'static [u8]
     ensures { result.now ≡ no_memory_answer.body }
@@ -90,7 +90,7 @@ fn no_memory_body() -> &'static [u8]
     b"{\"error\":\"no_memory\"}"
 }
 
-// Writes a page and a body behind it, at once where the page has room for both.
+/// Writes a page and a body behind it, at once where the page has room for both.
 fn write_behind<K: Sink>(page: &mut Page, body: &[u8], output: &mut K) -> Result<(), Failed>
     ensures gained { OnOk result
         (Gained (page.old ++ body.now) (K.held output.old) (K.held output.new)) }
@@ -106,7 +106,7 @@ fn write_behind<K: Sink>(page: &mut Page, body: &[u8], output: &mut K) -> Result
     write_whole(output, body)
 }
 
-// Writes a head and a body.
+/// Writes a head and a body.
 fn write_parts<K: Sink>(
     status: u16,
     form: Form,

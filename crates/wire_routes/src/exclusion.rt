@@ -8,7 +8,7 @@ use sample_book::Exclusion;
 use serde_json::Value;
 use std::alloc::{AllocError, Global};
 
-// A member that is a whole number below 2^32, written in digits alone.
+/// A member that is a whole number below 2^32, written in digits alone.
 fn whole_at(value: &Value, key: &str) -> Option<u32>
     ensures { result ≡ whole_at key.now (view value.now) }
 {
@@ -20,7 +20,7 @@ fn whole_at(value: &Value, key: &str) -> Option<u32>
     }
 }
 
-// A member that is a text that is a label.
+/// A member that is a text that is a label.
 fn label_at(value: &Value, key: &str) -> Option<Label>
     ensures { result ≡ label_at key.now (view value.now) }
 {

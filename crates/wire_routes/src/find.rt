@@ -29,7 +29,7 @@ impl Routes {
         }
     }
 
-    // The place that a path names.
+    /// The place that a path names.
     pub(crate) fn find(&self, path: &str) -> Option<Place>
         ensures { Finds path.now result }
     {

@@ -56,7 +56,7 @@ fn is_known(item: &[u8], first: &[u8], second: &[u8]) -> bool
     }
 }
 
-// Whether each item has one of the keys.
+/// Whether each item has one of the keys.
 fn all_known(query: &[u8], first: &[u8], second: &[u8]) -> bool
     ensures { result ≡ list_all (is_known first.now second.now) (items_of query.now) }
 {
@@ -69,7 +69,7 @@ fn all_known(query: &[u8], first: &[u8], second: &[u8]) -> bool
     true
 }
 
-// The value of an item with that key.
+/// The value of an item with that key.
 fn value_of<'a>(item: &'a [u8], key: &[u8]) -> Option<&'a [u8]>
     ensures { option_map (λ v. v.now) result ≡ value_of key.now item.now }
 {
@@ -77,7 +77,7 @@ fn value_of<'a>(item: &'a [u8], key: &[u8]) -> Option<&'a [u8]>
     if name == key { Some(value) } else { None }
 }
 
-// The one value of a key, or that there is none; none where the key is there twice.
+/// The one value of a key, or that there is none; none where the key is there twice.
 fn only<'a>(query: &'a [u8], key: &[u8]) -> Option<Option<&'a [u8]>>
     ensures { option_map (λ o. option_map (λ v. v.now) o) result
         ≡ only_of (values_of key.now (items_of query.now)) }

@@ -27,7 +27,7 @@ use record_form::{Command, Query, Request};
 use std::alloc::{AllocError, Global};
 use wire_terms::{Allow, NoRequest};
 
-// A request of a route that has no keys.
+/// A request of a route that has no keys.
 fn without_keys(query: Option<&[u8]>, request: Request) -> Routed
     ensures { IsRoutedAs (without_keys (bytes_of query.entry) (Ok request)) result }
 {
@@ -250,7 +250,7 @@ fn alerts(slo: Label, objective: u32, policy: Label, method: Method, query: Opti
     }
 }
 
-// What a method asks at a place.
+/// What a method asks at a place.
 fn answer_at(
     alloc: Global,
     place: &Place,

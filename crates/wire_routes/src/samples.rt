@@ -32,7 +32,7 @@ impl From<AllocError> for SampleFault {
     }
 }
 
-// An amount without a total; none at all where the row is withdrawn.
+/// An amount without a total; none at all where the row is withdrawn.
 fn read_amount_alone(amount: &[u8]) -> Option<Amount>
     ensures { result ≡ amount_alone amount.now }
 {
@@ -85,8 +85,8 @@ fn read_row(fields: &Record) -> Option<Row>
     })
 }
 
-// Adds the row of a record behind the others; whether the record is one. The amount has a name,
-// since the prover finds its type, which is of a crate below that of rows, by nothing else.
+/// Adds the row of a record behind the others; whether the record is one. The amount has a name,
+/// since the prover finds its type, which is of a crate below that of rows, by nothing else.
 fn add_row(rows: &mut Rows, fields: &Record) -> Result<bool, AllocError>
     ensures { IfOk result (λ added. Adds added (row_of fields.now) rows.old rows.new) }
 {

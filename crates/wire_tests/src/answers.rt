@@ -37,7 +37,7 @@ fn note(alloc: Global, lines: &mut Vec<u8>, outcome: &Outcome) -> Result<(), All
     Ok(())
 }
 
-// A line that begins with a blank goes on with the one before it.
+/// A line that begins with a blank goes on with the one before it.
 const OUTCOMES: &str = r#"200 {"applied":2,"entry":0}
 200 {"applied":5,"entry":null}
 200 {"entry":2,"new":1,"newer":0,"repeated":0,"superseded":0}
@@ -470,7 +470,7 @@ fn replies_are_written_at_once(rt: HostRuntime) -> Result<(), Fail> {
     Ok(())
 }
 
-// The reply to an object of so many bytes, over a sink whose second write fails.
+/// The reply to an object of so many bytes, over a sink whose second write fails.
 fn write_text(alloc: Global, size: usize) -> Result<(Result<(), Failed>, usize), AllocError> {
     let text = Bytes::from_vec(vec![in alloc; b'#'; size]?);
     let reply = render(alloc, &Outcome::ObjectText(text));

@@ -88,7 +88,7 @@ const RECORDS: [(&[u8], u8); 9] = [
     (UPGRADE, 9),
 ];
 
-// The command is the one that its record above spells, by the place of its kind from 1.
+/// The command is the one that its record above spells, by the place of its kind from 1.
 fn spelled(command: &Command) -> (bool, u8) {
     match command {
         Command::Define(documents) => (documents.as_bytes() == b"a: b\n".as_slice(), 1),

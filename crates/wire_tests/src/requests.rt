@@ -144,12 +144,12 @@ const EXCLUSIONS: &str = "\
 {\"from\":1,\"slo\":\"a\",\"to\":2} 3 ~ Body
  ~ Body";
 
-// The text of bytes.
+/// The text of bytes.
 fn text_of(bytes: &Bytes) -> &str {
     str::from_utf8(bytes.as_bytes()).unwrap_or("no text")
 }
 
-// The part and the total of an amount, the billionths of its value, or that it is withdrawn.
+/// The part and the total of an amount, the billionths of its value, or that it is withdrawn.
 fn amount_text(alloc: Global, amount: Amount) -> Result<String, AllocError> {
     match amount {
         Amount::Counts { part, total } => format!(in alloc; "{part}/{total}"),
@@ -161,7 +161,7 @@ fn amount_text(alloc: Global, amount: Amount) -> Result<String, AllocError> {
     }
 }
 
-// The rows in words.
+/// The rows in words.
 fn samples_text(alloc: Global, rows: &Rows) -> Result<String, AllocError> {
     let mut text = String::from_str(alloc, "samples")?;
     for row in rows.as_slice() {
@@ -177,7 +177,7 @@ fn exclusion_text(alloc: Global, value: &Exclusion) -> Result<String, AllocError
     format!(in alloc; "exclude {id} {slo} {from} {to}")
 }
 
-// A change in words.
+/// A change in words.
 fn change_text(alloc: Global, command: &Command) -> Result<String, AllocError> {
     match command {
         Command::Define(documents) => {
@@ -198,7 +198,7 @@ fn change_text(alloc: Global, command: &Command) -> Result<String, AllocError> {
     }
 }
 
-// A question in words.
+/// A question in words.
 fn query_text(alloc: Global, query: &Query) -> Result<String, AllocError> {
     match query {
         Query::Objects => String::from_str(alloc, "objects"),
@@ -224,7 +224,7 @@ fn query_text(alloc: Global, query: &Query) -> Result<String, AllocError> {
     }
 }
 
-// What becomes of a message, in words.
+/// What becomes of a message, in words.
 fn answer(alloc: Global, routes: &Routes, start: &str, body: &[u8]) -> Result<String, AllocError> {
     let length = body.len();
     let head = format!(in alloc; "{start} HTTP/1.1\r\nContent-Length: {length}\r\n\r\n")?;
@@ -241,7 +241,7 @@ fn answer(alloc: Global, routes: &Routes, start: &str, body: &[u8]) -> Result<St
     }
 }
 
-// The body of a line, where `;` ends lines.
+/// The body of a line, where `;` ends lines.
 fn body_of(alloc: Global, written: &str) -> Result<Vec<u8>, AllocError> {
     let mut body = Vec::new(alloc);
     for byte in written.as_bytes() {
@@ -250,7 +250,7 @@ fn body_of(alloc: Global, written: &str) -> Result<Vec<u8>, AllocError> {
     Ok(body)
 }
 
-// The first line of a table whose answer isn't the wanted one, with its answer.
+/// The first line of a table whose answer isn't the wanted one, with its answer.
 fn first_wrong(alloc: Global, front: &str, table: &str) -> Result<String, AllocError> {
     let routes = Routes::new(alloc)?;
     for line in table.split('\n') {

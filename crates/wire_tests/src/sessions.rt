@@ -7,7 +7,7 @@ use record_form::{Command, Outcome, Request};
 use std::alloc::{AllocError, Global};
 use std::process::Abort;
 
-// Counts how often it is asked, and how many rows of samples it is asked to take.
+/// Counts how often it is asked, and how many rows of samples it is asked to take.
 #[derive(Drop)]
 struct Closed {
     asked: u32,
@@ -42,8 +42,8 @@ impl Counter for Closed {
     } };
 }
 
-// Inputs, in which `|` is the end of a line, and what comes of each: the end of the session, how
-// often the counter was asked, and the answers' statuses, and which of them close.
+/// Inputs, in which `|` is the end of a line, and what comes of each: the end of the session, how
+/// often the counter was asked, and the answers' statuses, and which of them close.
 fn table() -> &'static str {
     "\
 GET /notices HTTP/1.1|| => Done 1 503
@@ -57,7 +57,7 @@ POST /tick HTTP/1.1||POST /tick HTTP/1.1|Content-Length: 1|| => Cut 1 503
 \0GET /notices HTTP/1.1||GET /notices HTTP/1.1|| => Done 0 400 close"
 }
 
-// The bytes of an input of the table.
+/// The bytes of an input of the table.
 fn bytes_of(alloc: Global, text: &str) -> Result<Vec<u8>, AllocError> {
     let mut bytes = Vec::new(alloc);
     for byte in text.as_bytes() {
@@ -66,7 +66,7 @@ fn bytes_of(alloc: Global, text: &str) -> Result<Vec<u8>, AllocError> {
     Ok(bytes)
 }
 
-// What a session over some bytes came to.
+/// What a session over some bytes came to.
 #[derive(Drop)]
 struct Run {
     end: SessionEnd,
@@ -87,7 +87,7 @@ fn run_session(alloc: Global, bytes: Vec<u8>, reads: Plan) -> Run {
     }
 }
 
-// What came of a session, as the table has it.
+/// What came of a session, as the table has it.
 fn shown(alloc: Global, run: &Run) -> Result<String, AllocError> {
     let answers = String::from_utf8_lossy(alloc, run.output.bytes())?;
     let mut shown = format!(in alloc; "{:?} {}", run.end, run.counter.asked)?;
@@ -125,7 +125,7 @@ fn the_bytes_of_an_answer(rt: HostRuntime) {
     assert!(rt; run.output.bytes() == NOT_FOUND.as_bytes());
 }
 
-// A batch of so many rows, as one request.
+/// A batch of so many rows, as one request.
 fn batch(alloc: Global, rows: usize) -> Result<Vec<u8>, AllocError> {
     let row = b"shop-good,web,999,1,999,1000\n";
     let length = rows.saturating_mul(row.len());
@@ -137,7 +137,7 @@ fn batch(alloc: Global, rows: usize) -> Result<Vec<u8>, AllocError> {
     Ok(bytes)
 }
 
-// A batch of the most rows comes whole, in eight pieces of 4,096 bytes.
+/// A batch of the most rows comes whole, in eight pieces of 4,096 bytes.
 #[test]
 fn a_batch_of_many_pieces_is_asked_once(rt: HostRuntime) {
     let bytes = batch(rt.alloc(), 1_000).expect(&rt, "memory");
@@ -147,8 +147,8 @@ fn a_batch_of_many_pieces_is_asked_once(rt: HostRuntime) {
     assert_eq!(rt; (shown.as_str(), run.counter.rows), ("Done 1 503", 1_000));
 }
 
-// So many requests, and what comes of them: each is asked and answered, up to the 1,000th, whose
-// answer closes.
+/// So many requests, and what comes of them: each is asked and answered, up to the 1,000th, whose
+/// answer closes.
 fn many(alloc: Global, count: usize) -> Result<(Vec<u8>, String), AllocError> {
     let mut bytes = Vec::new(alloc);
     let asked = count.min(1_000);
