@@ -11,7 +11,8 @@ from slo_tools.refusals import Members
 
 @dataclass(frozen=True)
 class SampleRow:
-    """A line of a batch. `total` is None for the SLIs whose amount is a decimal."""
+    """A line of a batch. `total` is None for the SLIs whose amount is a decimal, and where `amount`
+    is empty: then the row is withdrawn."""
 
     sli: str
     source: str

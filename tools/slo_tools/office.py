@@ -36,15 +36,17 @@ from slo_tools.answers import (
     budget_of,
     fraction,
 )
-from slo_tools.refusals import KINDS, Foreign, Members, NoAnswer, NotFound, OfficeError
+from slo_tools.clock import MINUTES_END
+from slo_tools.refusals import KINDS, Foreign, Members, NoAnswer, NotFound, OfficeError, Refusal
 
 Parts = Sequence[Union[str, int]]
 Keys = Mapping[str, Union[str, int]]
 
 ROWS_OF_A_BATCH = 1_000
 BODY_BYTES = 1_048_576
-CELLS = 2_000_000
-ACCEPTED = 4_000_000
+# The cells, and the new and newer rows, that an office has room for, and an upgraded one.
+CELLS, ACCEPTED = 2_000_000, 4_000_000
+UPGRADED_CELLS, UPGRADED_ACCEPTED = 4_000_000, 8_000_000
 
 _LABEL = re.compile(r"[A-Za-z0-9._-]{1,63}")
 # Parts of paths are read as they stand, without percent signs; a zone's name may have `/` and `+`.
@@ -216,6 +218,10 @@ class Office:
             told["entry"], told["new"], told["newer"], told["repeated"], told["superseded"]
         )
 
+    def upgrade(self) -> Optional[int]:
+        """Let the office take withdrawn rows, and more of all rows; its entry."""
+        return _entry(self.ask("POST", ["upgrade"]))
+
     def exclude(self, name: str, slo: str, begin: int, end: int) -> Optional[int]:
         """Exclude the minutes [begin, end) of an SLO under an id of its own; its entry."""
         body = f'{{"from":{begin},"slo":"{slo}","to":{end}}}'.encode("ascii")
@@ -258,6 +264,15 @@ class Office:
             return None
         amount = row["amount"]
         return KeptRow(row["revision"], None if amount is None else str(amount), row["total"])
+
+    def is_upgraded(self, sli: str) -> bool:
+        """Whether the office is upgraded. It is told by how a withdrawn row is refused whose minute
+        is never over, so that no office takes it."""
+        try:
+            self.post_samples([SampleRow(sli, "upgraded", MINUTES_END - 1, 1, "")])
+        except Refusal as refusal:
+            return refusal.word == "open_minute"
+        return False
 
     def notices(self) -> list[Notice]:
         """The first 1,000 notices that wait."""

@@ -65,6 +65,8 @@ class SimulatedPrometheus:
 
 
 CELL = tuple[str, str, int]
+# The amount of a withdrawn row, as a conflict tells it.
+WITHDRAWN = "withdrawn"
 
 
 @dataclass
@@ -81,6 +83,7 @@ class SimulatedOffice:
     kept: dict[CELL, tuple[int, str]] = field(default_factory=dict)
     losses: list[Optional[bool]] = field(default_factory=list)
     has_rows_query: bool = False
+    upgraded: bool = False
     entries: int = 1
     accepted: int = 0
     batches: int = 0
@@ -104,6 +107,7 @@ class SimulatedOffice:
         for number, row in enumerate(rows, 1):
             self._check(row, number)
             amount = row.amount if row.total is None else f"{row.amount},{row.total}"
+            amount = amount or WITHDRAWN
             cell = (row.sli, row.source, row.minute)
             before = kept.get(cell)
             if before is None:
@@ -132,6 +136,8 @@ class SimulatedOffice:
         moment = int(self.clock.now() // 60)
         if f"SLI/{row.sli}" not in self.texts:
             raise Unprocessable(422, {"error": "unknown_sli", "name": row.sli, "row": number})
+        if not row.amount and not self.upgraded:
+            raise Unprocessable(422, {"error": "version", "row": number})
         if row.minute < self.origin:
             told: Members = {"error": "early", "minute": row.minute, "origin": self.origin}
             raise Unprocessable(422, {**told, "row": number})
@@ -145,13 +151,19 @@ class SimulatedOffice:
         before = self.kept.get((sli, source, minute))
         if before is None:
             return None
+        if before[1] == WITHDRAWN:
+            return KeptRow(before[0], None, None)
         amount, _, total = before[1].partition(",")
         return KeptRow(before[0], amount, int(total))
+
+    def is_upgraded(self, sli: str) -> bool:
+        return self.upgraded
 
     def status(self) -> Optional[Members]:
         if not self.has_rows_query:
             return None
-        return {"cells": [len(self.kept), 2_000_000], "accepted": [self.accepted, 4_000_000]}
+        limits = (4_000_000, 8_000_000) if self.upgraded else (2_000_000, 4_000_000)
+        return {"cells": [len(self.kept), limits[0]], "accepted": [self.accepted, limits[1]]}
 
     def objects(self) -> tuple[int, list[ObjectName]]:
         names = [ObjectName(*key.split("/")) for key in self.texts]

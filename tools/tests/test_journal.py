@@ -11,8 +11,9 @@ from pathlib import Path
 
 from support import TOP, message, pipe, program, run_tool, running_office
 
-from slo_tools.journal.file import beyond_tail, read_journal
+from slo_tools.journal.file import Record, beyond_tail, read_journal
 from slo_tools.journal.mending import mending_of
+from slo_tools.journal.records import Entry, Row, Samples
 
 ORIGIN = 29_000_000
 
@@ -42,6 +43,8 @@ def small_journal(folder: Path) -> bytes:
             "PUT", "/exclusions/m1", f'{{"from":{ORIGIN},"slo":"o","to":{ORIGIN + 1}}}'.encode()
         ),
         message("DELETE", "/exclusions/m1"),
+        message("POST", "/upgrade"),
+        message("POST", "/samples", f"g,web,{ORIGIN},3,,\ng,c,{ORIGIN},1,,\n".encode()),
         message("DELETE", "/objects/SLO/o"),
     )
     return (folder / "office.journal").read_bytes()
@@ -64,7 +67,7 @@ class Reading(unittest.TestCase):
     def test_each_kind_of_entry_is_told(self) -> None:
         run = run_tool("slo-journal", self.file)
         self.assertEqual((run.returncode, run.stderr), (0, ""))
-        words = [line.split()[2:] for line in run.stdout.splitlines()[:8]]
+        words = [line.split()[2:] for line in run.stdout.splitlines()[:10]]
         self.assertEqual(
             [" ".join(line) for line in words],
             [
@@ -75,11 +78,31 @@ class Reading(unittest.TestCase):
                 "samples g: 1 new, 1 newer; 2025-02-19T21:20Z to 2025-02-19T21:21Z",
                 "exclude m1: o from 2025-02-19T21:20Z to 2025-02-19T21:21Z",
                 "lift m1: o from 2025-02-19T21:20Z to 2025-02-19T21:21Z",
+                "upgrade",
+                "samples g: 1 new, 1 newer; 2025-02-19T21:20Z",
                 "remove SLO o",
             ],
         )
-        for line in ("accepted 3 of 4000000, 0.00%", "cells 2 of 2000000, 0.00%", "days 0 of"):
+        for line in ("accepted 5 of 8000000, 0.00%", "cells 3 of 4000000, 0.00%", "days 0 of"):
             self.assertIn(line, run.stdout)
+
+    def test_an_office_that_isnt_upgraded_has_other_limits(self) -> None:
+        place = read_journal(self.data).records[7].place
+        (self.folder / "before").write_bytes(self.data[:place] + b"\0")
+        run = run_tool("slo-journal", str(self.folder / "before"))
+        for line in ("accepted 3 of 4000000, 0.00%", "cells 2 of 2000000, 0.00%"):
+            self.assertIn(line, run.stdout)
+
+    def test_each_form_of_an_amount_is_read(self) -> None:
+        rows: list[Row] = []
+
+        def hear(_: Record, entry: Entry) -> None:
+            if isinstance(entry.command, Samples):
+                rows.extend(entry.command.rows)
+
+        read_journal(self.data, hear)
+        told = [(row.amount, row.total) for row in rows]
+        self.assertEqual(told, [(0, 1000), (1, 10), (5, 5), (None, None), (None, None)])
 
     def test_the_stored_sessions_are_read_to_their_closed_gates(self) -> None:
         found = sorted(TOP.glob("tests/**/*.journal"))
@@ -97,17 +120,19 @@ class Reading(unittest.TestCase):
             f'10.0.0.2 - - [{at}] "POST /samples HTTP/1.1" 200 11 "-" "curl/7"\n'
             f'10.0.0.3 - ben [{at}] "POST /samples HTTP/1.1" 200 11 "-" "curl/7"\n'
             f'10.0.0.4 - eve [{at}] "POST /tick HTTP/1.1" 507 11 "-" "curl/7"\n'
+            f'10.0.0.5 - joe [{at}] "POST /upgrade HTTP/1.1" 200 11 "-" "curl/7"\n'
             "no line of a log\n"
         )
         run = run_tool("slo-journal", "--log", str(log), self.file)
         lines = run.stdout.splitlines()
         self.assertTrue(lines[1].endswith("[anna at 10.0.0.1]"), lines[1])
         self.assertTrue(lines[2].endswith("[10.0.0.2 or ben at 10.0.0.3]"), lines[2])
+        self.assertTrue(lines[7].endswith("[joe at 10.0.0.5]"), lines[7])
         self.assertNotIn("eve", run.stdout)
 
     def test_json_says_the_same(self) -> None:
         told = json.loads(run_tool("slo-journal", "--json", self.file).stdout)
-        self.assertEqual(len(told["entries"]), 8)
+        self.assertEqual(len(told["entries"]), 10)
         self.assertEqual(told["usage"]["exclusions"], [1, 2000])
         self.assertEqual((told["tail"], told["sound"]), (len(self.data) - 1, True))
 
@@ -118,11 +143,11 @@ class Reading(unittest.TestCase):
         (self.folder / "broken").write_bytes(broken)
         run = run_tool("slo-journal", str(self.folder / "broken"))
         self.assertEqual(run.returncode, 1)
-        self.assertIn(f"damaged at {place}: the gate reads as closed, and 4 records", run.stdout)
+        self.assertIn(f"damaged at {place}: the gate reads as closed, and 6 records", run.stdout)
         self.assertIn("lift m1", run.stdout)
 
     def test_one_record_behind_the_closed_gate_is_no_damage(self) -> None:
-        place = read_journal(self.data).records[7].place
+        place = read_journal(self.data).records[9].place
         stopped = self.data[:place] + b"\0" + self.data[place + 1 :]
         (self.folder / "stopped").write_bytes(stopped)
         run = run_tool("slo-journal", str(self.folder / "stopped"))
@@ -134,7 +159,7 @@ class Reading(unittest.TestCase):
         run = run_tool("slo-journal", str(self.folder / "foreign"))
         self.assertEqual(run.returncode, 1)
         self.assertIn("foreign: the letters at 1 are b'OSLOJRN2'", run.stdout)
-        self.assertIn("entries 8", run.stdout)
+        self.assertIn("entries 10", run.stdout)
 
     def test_an_entry_that_cant_follow_is_told_by_the_program(self) -> None:
         place = self.data.index(b"indicatorRef: g")

@@ -10,7 +10,7 @@ from fractions import Fraction
 from http.server import BaseHTTPRequestHandler, ThreadingHTTPServer
 from typing import Any
 
-from support import free_port
+from support import TOP, free_port, running_office
 
 from slo_tools.answers import Batch, SampleRow
 from slo_tools.office import Office, Pauses
@@ -88,7 +88,9 @@ class OfficeTest(Scripted):
             (405, {"error": "method"}, BadRequest),
             (409, {"amount": "1,2", "error": "conflict", "revision": 3, "row": 1}, Conflict),
             (413, {"error": "message"}, BadRequest),
+            (409, {"amount": "withdrawn", "error": "conflict", "revision": 3, "row": 1}, Conflict),
             (422, {"error": "early", "minute": 5, "origin": 9, "row": 1}, Unprocessable),
+            (422, {"error": "version", "row": 1}, Unprocessable),
             (431, {"error": "message"}, BadRequest),
             (500, {"error": "clock_range", "end": 1, "reading": 2}, ClockRange),
             (501, {"error": "message"}, BadRequest),
@@ -171,6 +173,42 @@ class OfficeTest(Scripted):
         self.assertIsNone(self.office.status())
         with self.assertRaises(NotFound):
             self.office.row("shop", "web", 5)
+
+    def test_whether_an_office_is_upgraded(self) -> None:
+        minute = 67_108_863
+        told = [
+            (422, {"error": "version", "row": 1}),
+            (422, {"error": "open_minute", "minute": minute, "moment": 9, "row": 1}),
+            (400, {"error": "body", "record": 1}),
+            (404, {"error": "not_found"}),
+        ]
+        self.answers = list(told)
+        self.assertEqual(
+            [self.office.is_upgraded("shop") for _ in told], [False, True, False, False]
+        )
+        asked = ("POST", "/samples", b"shop,upgraded,67108863,1,,\n", "close")
+        self.assertEqual(self.asked, [asked] * 4)
+
+    def test_an_upgrade(self) -> None:
+        self.answers = [(200, {"entry": 3}), (200, {"entry": None})]
+        self.assertEqual([self.office.upgrade(), self.office.upgrade()], [3, None])
+        self.assertEqual(self.asked, [("POST", "/upgrade", b"", "close")] * 2)
+
+    def test_an_office_is_upgraded_once(self) -> None:
+        with running_office(29_000_000) as office:
+            client = office.client()
+            client.define((TOP / "examples" / "targets.yaml").read_bytes())
+            client.define((TOP / "examples" / "shop.yaml").read_bytes())
+            withdrawn = [SampleRow("shop-good", "web", 29_000_000, 2, "")]
+            self.assertFalse(client.is_upgraded("shop-good"))
+            with self.assertRaisesRegex(Unprocessable, "^422 version row=1$"):
+                client.post_samples(withdrawn)
+            self.assertEqual((client.upgrade(), client.upgrade()), (2, None))
+            self.assertTrue(client.is_upgraded("shop-good"))
+            self.assertEqual(client.post_samples(withdrawn), Batch(3, 1, 0, 0, 0))
+            with self.assertRaises(Conflict) as caught:
+                client.post_samples([SampleRow("shop-good", "web", 29_000_000, 2, "1", 2)])
+            self.assertEqual(caught.exception.text("amount"), "withdrawn")
 
     def test_what_cant_stand_in_a_request(self) -> None:
         calls: list[Callable[[], object]] = [

@@ -173,16 +173,22 @@ class Rounds(unittest.TestCase):
         self.assertEqual(self.feed.round(), End.DONE)
 
     def test_how_long_there_is_room(self) -> None:
-        for has_query in (False, True):
-            self.office.has_rows_query = has_query
-            self.feed.round()
-            self.clock.seconds += 360
-            self.feed.round()
-            registry = self.feed.watch.registry
-            left = registry.get_sample_value("slo_feed_cells_left")
-            days = registry.get_sample_value("slo_feed_days_until_full")
-            self.assertIn(left, (2_000_000 - 36, 2_000_000 - 42))
-            self.assertAlmostEqual(days or 0, (left or 0) / 1440)
+        for has_query, upgraded, room in (
+            (False, False, 2_000_000 - 36),
+            (True, False, 2_000_000 - 36),
+            (False, True, 4_000_000 - 48),
+            (True, True, 4_000_000 - 48),
+        ):
+            with self.subTest(has_query=has_query, upgraded=upgraded):
+                self.office.has_rows_query, self.office.upgraded = has_query, upgraded
+                self.feed.round()
+                self.clock.seconds += 360
+                self.feed.round()
+                registry = self.feed.watch.registry
+                left = registry.get_sample_value("slo_feed_cells_left")
+                days = registry.get_sample_value("slo_feed_days_until_full")
+                self.assertEqual(left, room)
+                self.assertAlmostEqual(days or 0, room / 1440)
 
     def test_a_full_office(self) -> None:
         def full(rows: Sequence[SampleRow]) -> Batch:
@@ -272,6 +278,17 @@ class SendingTest(unittest.TestCase):
                 }
                 self.assertEqual(kept, {c: r[0] for c, r in self.office.kept.items()})
                 self.assertLess(self.office.batches, 900)
+
+    def test_withdrawn_rows_give_way_to_what_the_engine_says(self) -> None:
+        for has_query in (False, True):
+            with self.subTest(has_query=has_query):
+                self.setUp()
+                self.office.has_rows_query = has_query
+                for minute in range(0, 100, 7):
+                    self.office.kept["shop", "a", BEGIN + minute] = (minute % 3 + 1, "withdrawn")
+                sender = self.send(pending_rows(100))
+                self.assertEqual(self.totals(), [f"1,{n + 1}" for n in range(100)])
+                self.assertEqual(sender.sent.dropped, [])
 
     def test_corrections_go_in_small_batches(self) -> None:
         for minute in range(120):

@@ -18,7 +18,7 @@ from slo_tools.feed.revisions import pending, without_old
 from slo_tools.feed.sending import Sender, Sent
 from slo_tools.feed.state import State, write_state
 from slo_tools.feed.watch import LOG, Watch
-from slo_tools.office import ACCEPTED, CELLS, Office
+from slo_tools.office import ACCEPTED, CELLS, UPGRADED_ACCEPTED, UPGRADED_CELLS, Office
 from slo_tools.refusals import Full, Members, NoAnswer, NotFound, OfficeError
 
 CLOCKS_APART = 60.0
@@ -50,6 +50,7 @@ class Feed:
     _catalog: Optional[Catalog] = field(default=None, init=False)
     _catalog_at: float = field(default=0.0, init=False)
     _full: Optional[Members] = field(default=None, init=False)
+    _is_upgraded: bool = field(default=False, init=False)
     _engines: dict[DataSource, Engine] = field(default_factory=dict, init=False)
     _end: End = field(default=End.DONE, init=False)
     # A feed that begins reads the look-back at once, whatever its state says of it.
@@ -101,6 +102,8 @@ class Feed:
             self._catalog = read_catalog(self.office, self.config)
             self._catalog_at = now
             self._full = self.office.status()
+            if self._full is None and self._catalog.indicators:
+                self._is_upgraded = self.office.is_upgraded(self._catalog.indicators[0].sli)
             self._forget_if_restored(self._catalog.entries)
         for sli, why in self._catalog.left_out.items():
             LOG.debug("%s isn't fed: %s", sli, why)
@@ -291,7 +294,10 @@ class Feed:
             told = [self._full["cells"], self._full["accepted"]]
             left = min(limit - count for count, limit in told)
         else:
-            left = min(CELLS - self.state.made, ACCEPTED - self.state.accepted)
+            cells, accepted = CELLS, ACCEPTED
+            if self._is_upgraded:
+                cells, accepted = UPGRADED_CELLS, UPGRADED_ACCEPTED
+            left = min(cells - self.state.made, accepted - self.state.accepted)
         pace = sum(1440 / i.every * self._sources(i) for i in self._catalog.indicators)
         self.watch.room(left, left / pace if pace else float("inf"))
 
