@@ -19,7 +19,14 @@ def service(name: str, labels: str = "") -> str:
 
 def ratio(name: str) -> str:
     """An indicator of good and total events."""
-    return document("SLI", name, f"  ratioMetric:\n    total:\n{SOURCE}    good:\n{SOURCE}")
+    return ratio_of(name, "good")
+
+
+def ratio_of(name: str, reading: str) -> str:
+    """An indicator of `good` or `bad` events of all, or of ratios of `success` or `failure`."""
+    if reading in ("good", "bad"):
+        return document("SLI", name, f"  ratioMetric:\n    total:\n{SOURCE}    {reading}:\n{SOURCE}")
+    return document("SLI", name, f"  ratioMetric:\n    raw:\n{SOURCE}    rawType: {reading}\n")
 
 
 def threshold(name: str) -> str:

@@ -16,6 +16,7 @@ SCRIPTS = {
     "backups": "copies of the journal by what copies files",
     "edges": "closed descriptors, replaced journals, failed syncs, a report that reads alone",
     "lost_gate": "a disk that fails the write of a gate, and loses its power after a restart",
+    "random_sessions": "random sessions against the rules",
     "counter_lists": "lists of running counters",
 }
 MOST_SECONDS = 180
