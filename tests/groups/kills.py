@@ -1,7 +1,8 @@
 """Stops and faults of a real run: it is killed at each write and sync of its journal, and lets each of them fail once.
 
 What was answered before has to be in the file, once and in order, with at most one change more; and the session sent
-again over what is left has to end in the very file that a session without a fault leaves, but for the moments.
+again over what is left has to end in the very file that a session without a fault leaves, but for the moments. The
+session has changes of several kinds, and behind them the upgrade, a batch of withdrawn rows and one that brings some back.
 """
 from __future__ import annotations
 
@@ -19,7 +20,11 @@ def session(origin: int) -> bytes:
     batches = [b"".join(b"good,web,%d,1,%d,1000\n" % (origin + 1000 * k + i, i % 1000) for i in range(1000)) for k in range(3)]
     changes = [define(objects.service(f"service-{n}")) for n in range(4)] + [define(objects.ratio("good"))]
     changes += [message("POST", "/samples", batch) for batch in batches]
-    changes += [message("POST", "/samples", f"good,web,{origin},2,5,10\n"), message("PUT", "/zones/A/B", "EST5")]
+    changes += [message("POST", "/samples", f"good,web,{origin + 1},2,5,10\n"), message("PUT", "/zones/A/B", "EST5")]
+    changes += [message("POST", "/upgrade")]
+    # each batch keeps rows of its own, so that it is an entry also where it comes last
+    changes += [message("POST", "/samples", b"".join(b"good,web,%d,3,,\n" % (origin + i) for i in range(0, 2000, 2)))]
+    changes += [message("POST", "/samples", b"".join(b"good,web,%d,4,%d,1000\n" % (origin + i, i % 1000) for i in range(0, 2000, 14)))]
     return b"".join(changes)
 
 
@@ -49,7 +54,7 @@ def run(report: Report) -> None:
             ran = held.run(report.program, ["pipe"], whole.folder, data)
         except held.Absent as why:
             raise Skipped(str(why)) from None
-        assert ran.status == 0 and len(whole.records()) == 10, ran
+        assert ran.status == 0 and len(whole.records()) == 13, ran
     if not report.passed:
         return
     wanted = commands(whole)

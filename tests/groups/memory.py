@@ -52,6 +52,8 @@ REQUESTS = [
     message("POST", "/samples", ROWS),
     message("PUT", "/exclusions/night", f'{{"from":{ORIGIN + 5},"slo":"shop-slo","to":{ORIGIN + 7}}}'),
     message("POST", "/tick"),
+    message("POST", "/upgrade"),
+    message("POST", "/samples", "".join(f"shop-good,web,{ORIGIN + n},2,,\n" for n in range(0, 40, 2))),
     message("GET", f"/alerts/shop-slo/0/shop-alerts?from={ORIGIN}&to={ORIGIN + 60}"),
     message("GET", f"/burns/shop-slo/0?lookback=1h&at={ORIGIN + 60}"),
     message("GET", "/notices"),
