@@ -8,7 +8,7 @@ use Rattle.notice_box.specs.declared.Notice.{Notice}
 use Rattle.notice_box.specs.Box.{AreNumbered, notices_of}
 use Rattle.record_form.specs.declared.Command.{Command}
 use Rattle.record_form.specs.declared.Command.TheVariants.{Define, Remove, PutZone, Samples}
-use Rattle.record_form.specs.declared.Command.TheVariants.{Exclude, Lift, Tick, Take}
+use Rattle.record_form.specs.declared.Command.TheVariants.{Exclude, Lift, Tick, Take, Upgrade}
 use Rattle.record_form.specs.declared.Entry.{Entry}
 use Rattle.record_form.specs.declared.Outcome.TheVariants.{Changed}
 use Rattle.record_form.specs.declared.Refusal.TheVariants as refusals
@@ -47,6 +47,7 @@ taking (PutZone name bytes) number h = cc h
 taking (Samples rows) number h = cc h
 taking (Exclude value) number h = cc h
 taking (Lift id) number h = cc h
+taking Upgrade number h = cc h
 
 -- the notices that a legal history takes were made
 taken_within : (origin : ℕ) (h : List Entry) → IsLegal origin h → (number : ℕ)
