@@ -29,6 +29,7 @@ use Rattle.office_history.specs.History.{current_in, rows_in, rows_of}
 use Rattle.office_history.specs.Judges.{Judges, known_of}
 use Rattle.office_history.specs.Legal.{empty, followed, office}
 use Rattle.office_history.specs.Verdicts.{first_row_of}
+use Rattle.office_history.specs.Versions.{is_upgraded}
 use Rattle.office_derived.specs.Derived.{RowIsRead}
 use Rattle.office_derived.proofs.More.{catalog_more, rows_more}
 use Rattle.objective_days.proofs.Current.{any-current}
