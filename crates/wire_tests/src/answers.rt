@@ -1,40 +1,45 @@
 //! Bodies and heads written out by hand, and how many writes a reply takes.
+use crate::expectations::{expect, expect_text};
 use burn_core::State;
 use exact_fraction::{
     Bytes, Fraction, Label, Text, ZoneName, read_decimal, read_label, read_zone_name,
 };
 use notice_box::Notice;
 use object_terms::{Kind, Rule};
-use office_outside::{Failed, MemorySink, Plan};
+use office_outside::{MemorySink, Plan};
 use record_form::{BudgetRow, LimitName, Listed, Outcome, Refusal, YamlWord};
 use slice_method::Amount;
 use std::alloc::{AllocError, Global};
-use std::test::Fail;
+use std::process::Abort;
 use wire_replies::{Reply, bad_message, immediate_reply, render, write_reply};
 use wire_terms::{Allow, NoRequest};
 use yaml_terms::ProfileFault;
 
-fn label(text: &str) -> Result<Label, &'static str> {
-    read_label(text.as_bytes()).ok_or("no label")
+fn label(rt: &impl Abort, text: &str) -> Label {
+    read_label(text.as_bytes()).expect(rt, "a label")
 }
 
-fn zone(text: &str) -> Result<ZoneName, &'static str> {
-    read_zone_name(text.as_bytes()).ok_or("no zone's name")
+fn zone(rt: &impl Abort, text: &str) -> ZoneName {
+    read_zone_name(text.as_bytes()).expect(rt, "a zone's name")
 }
 
-/// Appends a line with the status and the body of an outcome's reply.
-fn note(alloc: Global, lines: &mut Vec<u8>, outcome: &Outcome) -> Result<(), AllocError> {
-    let reply = render(alloc, outcome);
-    let (status, body) = match &reply {
+/// The status and the body of a reply as a line.
+fn line_of(alloc: Global, reply: &Reply) -> Result<String, AllocError> {
+    let (status, body) = match reply {
         Reply::Full { status, body, .. } => (*status, body.as_bytes()),
         Reply::Small { status, body, .. } => (*status, body.as_bytes()),
         Reply::NoMemory => (503, b"no memory".as_slice()),
     };
-    let status = format!(in alloc; "{status} ")?;
-    lines.extend_from_slice(status.as_bytes())?;
-    lines.extend_from_slice(body)?;
-    lines.push(b'\n')?;
-    Ok(())
+    let body = String::from_utf8_lossy(alloc, body)?;
+    format!(in alloc; "{status} {body}\n")
+}
+
+/// Appends a line with the status and the body of an outcome's reply. The outcome ends here, and
+/// nothing ends early for want of memory, so that its end is proved once.
+fn note(rt: &(impl AllocGlobal + Abort), lines: &mut String, outcome: Outcome) {
+    let reply = render(rt.alloc(), &outcome);
+    let line = line_of(rt.alloc(), &reply).expect(rt, "memory");
+    lines.push_str(line.as_str()).expect(rt, "memory");
 }
 
 /// A line that begins with a blank goes on with the one before it.
@@ -65,74 +70,71 @@ const OUTCOMES: &str = r#"200 {"applied":2,"entry":0}
 503 no memory
 "#;
 
-/// Outcomes of changes, and faults.
-fn note_changes(alloc: Global, lines: &mut Vec<u8>) -> Result<(), AllocError> {
-    let changes = [
-        Outcome::Defined {
-            applied: 2,
-            entry: Some(0),
-        },
-        Outcome::Defined {
-            applied: 5,
-            entry: None,
-        },
-        Outcome::Sampled {
-            entry: Some(2),
-            new: 1,
-            newer: 0,
-            repeated: 0,
-            superseded: 0,
-        },
-        Outcome::Sampled {
-            entry: None,
-            new: 0,
-            newer: 0,
-            repeated: 1,
-            superseded: 0,
-        },
-        Outcome::Sampled {
-            entry: Some(u32::MAX),
-            new: u32::MAX,
-            newer: u32::MAX,
-            repeated: u32::MAX,
-            superseded: u32::MAX,
-        },
-        Outcome::Changed { entry: Some(6) },
-        Outcome::Changed { entry: None },
-        Outcome::Ticked {
-            entry: 3,
-            notices: 2,
-        },
-    ];
-    for outcome in &changes {
-        note(alloc, lines, outcome)?;
-    }
-    Ok(())
+/// Outcomes of changes.
+fn note_changes(rt: &(impl AllocGlobal + Abort), lines: &mut String) {
+    let defined = Outcome::Defined {
+        applied: 2,
+        entry: Some(0),
+    };
+    note(rt, lines, defined);
+    let again = Outcome::Defined {
+        applied: 5,
+        entry: None,
+    };
+    note(rt, lines, again);
+    note(rt, lines, sampled(Some(2), 1, 0));
+    note(rt, lines, sampled(None, 0, 1));
+    let most = Outcome::Sampled {
+        entry: Some(u32::MAX),
+        new: u32::MAX,
+        newer: u32::MAX,
+        repeated: u32::MAX,
+        superseded: u32::MAX,
+    };
+    note(rt, lines, most);
+    note(rt, lines, Outcome::Changed { entry: Some(6) });
+    note(rt, lines, Outcome::Changed { entry: None });
+    let ticked = Outcome::Ticked {
+        entry: 3,
+        notices: 2,
+    };
+    note(rt, lines, ticked);
 }
 
-fn note_faults(alloc: Global, lines: &mut Vec<u8>) -> Result<(), AllocError> {
-    let faults = [
-        Outcome::ClockRange {
-            end: 2_097_152,
-            reading: 2_097_152,
-        },
-        Outcome::DiskFault,
-        Outcome::JournalFull {
-            needed: u64::MAX,
-            tail: 268_435_456,
-        },
-        Outcome::NoMemory,
-    ];
-    for outcome in &faults {
-        note(alloc, lines, outcome)?;
+/// What becomes of samples of which so many are new and so many repeated.
+fn sampled(entry: Option<u32>, new: u32, repeated: u32) -> Outcome {
+    Outcome::Sampled {
+        entry,
+        new,
+        newer: 0,
+        repeated,
+        superseded: 0,
     }
-    Ok(())
+}
+
+fn note_objects(rt: &(impl AllocGlobal + Abort), lines: &mut String) {
+    let mut objects = Listed::new(rt.alloc());
+    let shop = (Kind::Service, label(rt, "shop"));
+    objects.push(shop).expect(rt, "memory");
+    let good = (Kind::Sli, label(rt, "shop-good"));
+    objects.push(good).expect(rt, "memory");
+    let list = Outcome::ObjectList {
+        entries: 2,
+        objects,
+    };
+    note(rt, lines, list);
+    note(rt, lines, Outcome::ObjectText(spec(rt)));
+}
+
+/// The text of an object.
+fn spec(rt: &(impl AllocGlobal + Abort)) -> Bytes {
+    Bytes::from_vec(Vec::from_slice(rt.alloc(), b"spec: {}").expect(rt, "memory"))
 }
 
 /// Two budgets: one spent five hundred times over, one without events.
-fn note_budgets(alloc: Global, lines: &mut Vec<u8>) -> Result<(), AllocError> {
-    let mut budgets = Listed::new(alloc);
-    budgets.push(BudgetRow {
+fn note_budgets(rt: &(impl AllocGlobal + Abort), lines: &mut String) {
+    let mut budgets = Listed::new(rt.alloc());
+    let spent = BudgetRow {
         burn: Some(Fraction::of(500, 1)),
         den: 20,
         error: Some(Fraction::of(1, 2)),
@@ -140,8 +142,9 @@ fn note_budgets(alloc: Global, lines: &mut Vec<u8>) -> Result<(), AllocError> {
         num: 10,
         objective: 0,
         remaining: Some(Fraction::of(-499, 1)),
-    })?;
-    budgets.push(BudgetRow {
+    };
+    budgets.push(spent).expect(rt, "memory");
+    let unused = BudgetRow {
         burn: None,
         den: 0,
         error: None,
@@ -149,107 +152,109 @@ fn note_budgets(alloc: Global, lines: &mut Vec<u8>) -> Result<(), AllocError> {
         num: 0,
         objective: 1,
         remaining: None,
-    })?;
+    };
+    budgets.push(unused).expect(rt, "memory");
     let outcome = Outcome::Budgets {
         at: 200,
         budgets,
         entries: 3,
     };
-    note(alloc, lines, &outcome)
+    note(rt, lines, outcome);
 }
 
-fn note_burns(alloc: Global, lines: &mut Vec<u8>) -> Result<(), AllocError> {
-    let burns = [
-        Outcome::Burn {
-            at: 200,
-            burn: Some(Fraction::of(500, 1)),
-            den: 20,
-            entries: 3,
-            num: 10,
-        },
-        Outcome::Burn {
-            at: 201,
-            burn: None,
-            den: 0,
-            entries: 3,
-            num: 0,
-        },
-    ];
-    for outcome in &burns {
-        note(alloc, lines, outcome)?;
-    }
-    Ok(())
+fn note_burns(rt: &(impl AllocGlobal + Abort), lines: &mut String) {
+    let some = Outcome::Burn {
+        at: 200,
+        burn: Some(Fraction::of(500, 1)),
+        den: 20,
+        entries: 3,
+        num: 10,
+    };
+    note(rt, lines, some);
+    let none = Outcome::Burn {
+        at: 201,
+        burn: None,
+        den: 0,
+        entries: 3,
+        num: 0,
+    };
+    note(rt, lines, none);
 }
 
-fn note_timelines(alloc: Global, lines: &mut Vec<u8>) -> Result<(), AllocError> {
-    let mut intervals = Listed::new(alloc);
-    intervals.push((1006, 1061))?;
-    intervals.push((1106, 1161))?;
+fn note_timelines(rt: &(impl AllocGlobal + Abort), lines: &mut String) {
+    let mut intervals = Listed::new(rt.alloc());
+    intervals.push((1006, 1061)).expect(rt, "memory");
+    intervals.push((1106, 1161)).expect(rt, "memory");
     let two = Outcome::Timeline {
         entries: 3,
         intervals,
         state: State::NoData,
     };
-    note(alloc, lines, &two)?;
+    note(rt, lines, two);
     let none = Outcome::Timeline {
         entries: 4,
-        intervals: Listed::new(alloc),
+        intervals: Listed::new(rt.alloc()),
         state: State::Breaching,
     };
-    note(alloc, lines, &none)
+    note(rt, lines, none);
 }
 
-fn note_objects(alloc: Global, lines: &mut Vec<u8>) -> Result<(), Fail> {
-    let mut objects = Listed::new(alloc);
-    objects.push((Kind::Service, label("shop")?))?;
-    objects.push((Kind::Sli, label("shop-good")?))?;
-    let outcome = Outcome::ObjectList {
-        entries: 2,
-        objects,
-    };
-    note(alloc, lines, &outcome)?;
-    let text = Outcome::ObjectText(Bytes::from_vec(Vec::from_slice(alloc, b"spec: {}")?));
-    note(alloc, lines, &text)?;
-    Ok(())
+/// No notices.
+fn no_notices(rt: &impl AllocGlobal) -> Outcome {
+    Outcome::Notices {
+        entries: 0,
+        notices: Listed::new(rt.alloc()),
+    }
 }
 
-fn note_notices(alloc: Global, lines: &mut Vec<u8>) -> Result<(), Fail> {
-    let mut notices = Listed::new(alloc);
-    notices.push(Notice {
+fn note_notices(rt: &(impl AllocGlobal + Abort), lines: &mut String) {
+    let mut notices = Listed::new(rt.alloc());
+    let notice = Notice {
         number: 1,
         at: 1010,
-        slo: label("shop-slo")?,
+        slo: label(rt, "shop-slo"),
         objective: 0,
-        policy: label("workbook-page")?,
+        policy: label(rt, "workbook-page"),
         state: State::Quiet,
-    })?;
+    };
+    notices.push(notice).expect(rt, "memory");
     let one = Outcome::Notices {
         entries: 4,
         notices,
     };
-    note(alloc, lines, &one)?;
-    let none = Outcome::Notices {
-        entries: 0,
-        notices: Listed::new(alloc),
+    note(rt, lines, one);
+    note(rt, lines, no_notices(rt));
+}
+
+fn note_faults(rt: &(impl AllocGlobal + Abort), lines: &mut String) {
+    let range = Outcome::ClockRange {
+        end: 2_097_152,
+        reading: 2_097_152,
     };
-    note(alloc, lines, &none)?;
-    Ok(())
+    note(rt, lines, range);
+    note(rt, lines, Outcome::DiskFault);
+    let full = Outcome::JournalFull {
+        needed: u64::MAX,
+        tail: 268_435_456,
+    };
+    note(rt, lines, full);
+    note(rt, lines, Outcome::NoMemory);
 }
 
 #[test]
-fn outcomes_have_their_bodies(rt: HostRuntime) -> Result<(), Fail> {
-    let alloc = rt.alloc();
-    let mut lines = Vec::new(alloc);
-    note_changes(alloc, &mut lines)?;
-    note_objects(alloc, &mut lines)?;
-    note_budgets(alloc, &mut lines)?;
-    note_burns(alloc, &mut lines)?;
-    note_timelines(alloc, &mut lines)?;
-    note_notices(alloc, &mut lines)?;
-    note_faults(alloc, &mut lines)?;
-    let wanted = OUTCOMES.replace(alloc, "\n ", "")?;
-    assert_eq!(rt; str::from_utf8(&lines), Ok(wanted.as_str()));
-    Ok(())
+fn outcomes_have_their_bodies(rt: HostRuntime) {
+    let mut lines = String::new(rt.alloc());
+    note_changes(&rt, &mut lines);
+    note_objects(&rt, &mut lines);
+    note_budgets(&rt, &mut lines);
+    note_burns(&rt, &mut lines);
+    note_timelines(&rt, &mut lines);
+    note_notices(&rt, &mut lines);
+    note_faults(&rt, &mut lines);
+    let wanted = OUTCOMES
+        .replace(rt.alloc(), "\n ", "")
+        .expect(&rt, "memory");
+    expect_text(&rt, "outcomes", &lines, &wanted);
 }
 
 const REFUSALS: &str = r#"507 {"error":"limit","which":"rows"}
@@ -284,148 +289,141 @@ const REFUSALS: &str = r#"507 {"error":"limit","which":"rows"}
 404 {"at":99,"error":"no_window"}
 "#;
 
-fn note_refusals(
-    alloc: Global,
-    lines: &mut Vec<u8>,
-    refusals: Vec<Refusal>,
-) -> Result<(), AllocError> {
-    for refusal in refusals {
-        note(alloc, lines, &Outcome::Refused(refusal))?;
-    }
-    Ok(())
+fn refuse(rt: &(impl AllocGlobal + Abort), lines: &mut String, refusal: Refusal) {
+    note(rt, lines, Outcome::Refused(refusal));
 }
 
-fn of_documents(alloc: Global) -> Result<Vec<Refusal>, Fail> {
-    let field = Text::from_string(String::from_str(alloc, "a\"\n")?);
-    let shop = label("shop")?;
-    let slo = label("shop-slo")?;
-    Ok(vec![in alloc;
-        Refusal::Limit {
-            which: LimitName::Rows
-        },
-        Refusal::Yaml {
-            line: 33,
-            which: YamlWord::Form(ProfileFault::TooDeep)
-        },
-        Refusal::Yaml {
-            line: 0,
-            which: YamlWord::NotUtf8
-        },
-        Refusal::Object {
-            document: 3,
-            field,
-            rule: Rule::UnknownField
-        },
-        Refusal::ReservedPolicy {
-            name: label("workbook-page")?
-        },
-        Refusal::ReservedZone { name: zone("UTC")? },
-        Refusal::Duplicate {
-            kind: Kind::Service,
-            name: shop
-        },
-        Refusal::Unresolved {
-            from_kind: Kind::Slo,
-            from_name: slo,
-            kind: Kind::Service,
-            name: shop
-        },
-        Refusal::NoSuchSlo {
-            kind: Kind::Slo,
-            name: slo
-        },
-        Refusal::NeedsOp { objective: 0, slo },
-    ]?)
+fn refuse_documents(rt: &(impl AllocGlobal + Abort), lines: &mut String) {
+    let which = LimitName::Rows;
+    refuse(rt, lines, Refusal::Limit { which });
+    let deep = YamlWord::Form(ProfileFault::TooDeep);
+    refuse_yaml(rt, lines, 33, deep);
+    refuse_yaml(rt, lines, 0, YamlWord::NotUtf8);
+    let field = String::from_str(rt.alloc(), "a\"\n").expect(rt, "memory");
+    let object = Refusal::Object {
+        document: 3,
+        field: Text::from_string(field),
+        rule: Rule::UnknownField,
+    };
+    refuse(rt, lines, object);
 }
 
-fn of_what_is_there(alloc: Global) -> Result<Vec<Refusal>, Fail> {
-    let rome = zone("Europe/Rome")?;
-    let name = label("shop-good")?;
-    let source = label("web")?;
-    Ok(vec![in alloc;
-        Refusal::UnknownZone { name: rome },
-        Refusal::HasSamples {
-            minute: 999,
-            name,
-            source
-        },
-        Refusal::NotFound,
-        Refusal::InUse {
-            by_kind: Kind::Slo,
-            by_name: label("shop-slo")?
-        },
-        Refusal::ZoneDiffers { name: rome },
-        Refusal::BadZone { name: rome },
-    ]?)
+fn refuse_yaml(rt: &(impl AllocGlobal + Abort), lines: &mut String, line: u32, which: YamlWord) {
+    refuse(rt, lines, Refusal::Yaml { line, which });
 }
 
-fn of_rows(alloc: Global) -> Result<Vec<Refusal>, Fail> {
+/// Refusals of a catalog: reserved names, and what objects refer to.
+fn refuse_objects(rt: &(impl AllocGlobal + Abort), lines: &mut String) {
+    let name = label(rt, "workbook-page");
+    refuse(rt, lines, Refusal::ReservedPolicy { name });
+    let name = zone(rt, "UTC");
+    refuse(rt, lines, Refusal::ReservedZone { name });
+    let (kind, name) = (Kind::Service, label(rt, "shop"));
+    refuse(rt, lines, Refusal::Duplicate { kind, name });
+    let slo = label(rt, "shop-slo");
+    let unresolved = Refusal::Unresolved {
+        from_kind: Kind::Slo,
+        from_name: slo,
+        kind,
+        name,
+    };
+    refuse(rt, lines, unresolved);
+    let kind = Kind::Slo;
+    refuse(rt, lines, Refusal::NoSuchSlo { kind, name: slo });
+    refuse(rt, lines, Refusal::NeedsOp { objective: 0, slo });
+}
+
+/// Refusals by what is there.
+fn refuse_by_what_is_there(rt: &(impl AllocGlobal + Abort), lines: &mut String) {
+    let name = zone(rt, "Europe/Rome");
+    refuse(rt, lines, Refusal::UnknownZone { name });
+    let sampled = Refusal::HasSamples {
+        minute: 999,
+        name: label(rt, "shop-good"),
+        source: label(rt, "web"),
+    };
+    refuse(rt, lines, sampled);
+    refuse(rt, lines, Refusal::NotFound);
+    let used = Refusal::InUse {
+        by_kind: Kind::Slo,
+        by_name: label(rt, "shop-slo"),
+    };
+    refuse(rt, lines, used);
+    refuse(rt, lines, Refusal::ZoneDiffers { name });
+    refuse(rt, lines, Refusal::BadZone { name });
+}
+
+fn refuse_rows(rt: &(impl AllocGlobal + Abort), lines: &mut String) {
+    let name = label(rt, "nope");
+    refuse(rt, lines, Refusal::UnknownSli { name, row: 1 });
+    refuse(rt, lines, Refusal::Version { row: 3 });
+    refuse(rt, lines, Refusal::WrongKind { row: 1 });
+    refuse(rt, lines, Refusal::Counts { row: 2 });
+    let early = Refusal::Early {
+        minute: 9,
+        origin: 10,
+        row: 1,
+    };
+    refuse(rt, lines, early);
+    let open = Refusal::OpenMinute {
+        minute: 1_000,
+        moment: 1_000,
+        row: 1,
+    };
+    refuse(rt, lines, open);
+}
+
+/// Refusals by the amount that is kept.
+fn refuse_by_amounts(rt: &(impl AllocGlobal + Abort), lines: &mut String) {
     let counts = Amount::Counts {
         part: 9_990,
         total: 10_000,
     };
-    let half = Amount::Value(read_decimal(b"0.50").ok().ok_or("no decimal")?);
-    Ok(vec![in alloc;
-        Refusal::UnknownSli {
-            name: label("nope")?,
-            row: 1
-        },
-        Refusal::Version { row: 3 },
-        Refusal::WrongKind { row: 1 },
-        Refusal::Counts { row: 2 },
-        Refusal::Early {
-            minute: 9,
-            origin: 10,
-            row: 1
-        },
-        Refusal::OpenMinute {
-            minute: 1_000,
-            moment: 1_000,
-            row: 1
-        },
-        Refusal::RowConflict {
-            amount: counts,
-            revision: 1,
-            row: 2
-        },
-        Refusal::RowConflict {
-            amount: half,
-            revision: 3,
-            row: 4
-        },
-        Refusal::RowConflict {
-            amount: Amount::Withdrawn,
-            revision: 2,
-            row: 1
-        },
-    ]?)
+    refuse_conflict(rt, lines, counts, 1, 2);
+    let half = read_decimal(b"0.50").ok().expect(rt, "a decimal");
+    refuse_conflict(rt, lines, Amount::Value(half), 3, 4);
+    refuse_conflict(rt, lines, Amount::Withdrawn, 2, 1);
 }
 
-fn of_the_rest(alloc: Global) -> Result<Vec<Refusal>, Fail> {
-    let slo = label("shop-slo")?;
-    Ok(vec![in alloc;
-        Refusal::Withdrawn { id: label("m1")? },
-        Refusal::ExclusionConflict {
-            from: 100,
-            slo,
-            to: 101
-        },
-        Refusal::Range,
-        Refusal::UnknownNotice { made: 4, number: 5 },
-        Refusal::NoWindow { at: 99 },
-    ]?)
+fn refuse_conflict(
+    rt: &(impl AllocGlobal + Abort),
+    lines: &mut String,
+    amount: Amount,
+    revision: u32,
+    row: u32,
+) {
+    let conflict = Refusal::RowConflict {
+        amount,
+        revision,
+        row,
+    };
+    refuse(rt, lines, conflict);
+}
+
+fn refuse_the_rest(rt: &(impl AllocGlobal + Abort), lines: &mut String) {
+    let id = label(rt, "m1");
+    refuse(rt, lines, Refusal::Withdrawn { id });
+    let conflict = Refusal::ExclusionConflict {
+        from: 100,
+        slo: label(rt, "shop-slo"),
+        to: 101,
+    };
+    refuse(rt, lines, conflict);
+    refuse(rt, lines, Refusal::Range);
+    refuse(rt, lines, Refusal::UnknownNotice { made: 4, number: 5 });
+    refuse(rt, lines, Refusal::NoWindow { at: 99 });
 }
 
 #[test]
-fn refusals_have_their_bodies(rt: HostRuntime) -> Result<(), Fail> {
-    let alloc = rt.alloc();
-    let mut lines = Vec::new(alloc);
-    note_refusals(alloc, &mut lines, of_documents(alloc)?)?;
-    note_refusals(alloc, &mut lines, of_what_is_there(alloc)?)?;
-    note_refusals(alloc, &mut lines, of_rows(alloc)?)?;
-    note_refusals(alloc, &mut lines, of_the_rest(alloc)?)?;
-    assert_eq!(rt; str::from_utf8(&lines), Ok(REFUSALS));
-    Ok(())
+fn refusals_have_their_bodies(rt: HostRuntime) {
+    let mut lines = String::new(rt.alloc());
+    refuse_documents(&rt, &mut lines);
+    refuse_objects(&rt, &mut lines);
+    refuse_by_what_is_there(&rt, &mut lines);
+    refuse_rows(&rt, &mut lines);
+    refuse_by_amounts(&rt, &mut lines);
+    refuse_the_rest(&rt, &mut lines);
+    expect_text(&rt, "refusals", &lines, REFUSALS);
 }
 
 const HEADS: &str = "\
@@ -444,46 +442,56 @@ Content-Length: 19\r\nConnection: close\r\n\r\n{\"error\":\"message\"}\
 HTTP/1.1 503 Service Unavailable\r\nContent-Type: application/json\r\n\
 Content-Length: 21\r\nConnection: close\r\n\r\n{\"error\":\"no_memory\"}";
 
+/// Writes a reply to an output that takes all.
+fn write(rt: &impl Abort, output: &mut MemorySink, reply: Reply, last: bool) {
+    let done = write_reply(&reply, last, output).is_ok();
+    expect(rt, done, "a reply is written");
+}
+
 #[test]
-fn replies_are_written_at_once(rt: HostRuntime) -> Result<(), Fail> {
-    let alloc = rt.alloc();
-    let none = Outcome::Notices {
-        entries: 0,
-        notices: Listed::new(alloc),
-    };
-    let text = Outcome::ObjectText(Bytes::from_vec(Vec::from_slice(alloc, b"spec: {}")?));
-    let rows = [
-        (render(alloc, &none), false),
-        (render(alloc, &text), true),
-        (immediate_reply(NoRequest::NotFound), false),
-        (immediate_reply(NoRequest::Method(Allow::PutDelete)), false),
-        (immediate_reply(NoRequest::Record(7)), false),
-        (bad_message(431), true),
-        (Reply::NoMemory, true),
-    ];
-    let mut output = MemorySink::new(alloc, Plan::smooth(alloc));
-    for (reply, last) in &rows {
-        assert_eq!(rt; write_reply(reply, *last, &mut output), Ok(()));
-    }
-    assert_eq!(rt; str::from_utf8(output.bytes()), Ok(HEADS));
-    assert_eq!(rt; output.plan().calls(), 7);
-    Ok(())
+fn replies_are_written_at_once(rt: HostRuntime) {
+    let mut output = MemorySink::new(rt.alloc(), Plan::smooth(rt.alloc()));
+    write(
+        &rt,
+        &mut output,
+        render(rt.alloc(), &no_notices(&rt)),
+        false,
+    );
+    let text = Outcome::ObjectText(spec(&rt));
+    write(&rt, &mut output, render(rt.alloc(), &text), true);
+    write(
+        &rt,
+        &mut output,
+        immediate_reply(NoRequest::NotFound),
+        false,
+    );
+    let method = immediate_reply(NoRequest::Method(Allow::PutDelete));
+    write(&rt, &mut output, method, false);
+    write(
+        &rt,
+        &mut output,
+        immediate_reply(NoRequest::Record(7)),
+        false,
+    );
+    write(&rt, &mut output, bad_message(431), true);
+    write(&rt, &mut output, Reply::NoMemory, true);
+    expect(&rt, output.bytes() == HEADS.as_bytes(), HEADS);
+    expect(&rt, output.plan().calls() == 7, "a call for each reply");
 }
 
 /// The reply to an object of so many bytes, over a sink whose second write fails.
-fn write_text(alloc: Global, size: usize) -> Result<(Result<(), Failed>, usize), AllocError> {
-    let text = Bytes::from_vec(vec![in alloc; b'#'; size]?);
-    let reply = render(alloc, &Outcome::ObjectText(text));
-    let failing = vec![in alloc; 1]?;
-    let mut output = MemorySink::new(alloc, Plan::new(failing, Vec::new(alloc)));
-    let done = write_reply(&reply, false, &mut output);
-    Ok((done, output.bytes().len()))
+fn write_text(rt: &(impl AllocGlobal + Abort), size: usize) -> (bool, usize) {
+    let text = vec![in rt.alloc(); b'#'; size].expect(rt, "memory");
+    let outcome = Outcome::ObjectText(Bytes::from_vec(text));
+    let failing = vec![in rt.alloc(); 1].expect(rt, "memory");
+    let mut output = MemorySink::new(rt.alloc(), Plan::new(failing, Vec::new(rt.alloc())));
+    let done = write_reply(&render(rt.alloc(), &outcome), false, &mut output).is_ok();
+    (done, output.bytes().len())
 }
 
 #[test]
-fn longer_replies_take_two_writes(rt: HostRuntime) -> Result<(), Fail> {
+fn longer_replies_take_two_writes(rt: HostRuntime) {
     // The head has 97 bytes.
-    assert_eq!(rt; write_text(rt.alloc(), 3_999)?, (Ok(()), 4_096));
-    assert_eq!(rt; write_text(rt.alloc(), 4_000)?, (Err(Failed), 97));
-    Ok(())
+    expect(&rt, write_text(&rt, 3_999) == (true, 4_096), "one write");
+    expect(&rt, write_text(&rt, 4_000) == (false, 97), "two writes");
 }

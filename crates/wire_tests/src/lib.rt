@@ -6,6 +6,8 @@
 #[cfg(test)]
 mod answers;
 #[cfg(test)]
+mod expectations;
+#[cfg(test)]
 mod records;
 #[cfg(test)]
 mod requests;

@@ -1,12 +1,14 @@
 //! What messages stand for: each route, each refusal, queries and bodies. A table is one text,
 //! since a proof of a test costs by its literals: a line has the request line, the body and what is
-//! wanted, with ` ~ ` between them. In a body `;` stands for the end of a line.
+//! wanted, with ` ~ ` between them.
+use crate::expectations::expect_text;
 use exact_fraction::Bytes;
 use message_heads::{Heard, read_request};
 use record_form::{Command, Query, Request, Rows};
 use sample_book::Exclusion;
 use slice_method::Amount;
 use std::alloc::{AllocError, Global};
+use std::process::Abort;
 use std::str;
 use wire_routes::{Routed, Routes};
 
@@ -142,6 +144,7 @@ const EXCLUSIONS: &str = "\
 {\"from\":1,\"slo\":\"a\",\"to\":2,\"x\":3} ~ Body
 [1,\"a\",2] ~ Body
 {\"from\":1,\"slo\":\"a\",\"to\":2} 3 ~ Body
+{\"slo\":\"~\"} ~ Body
  ~ Body";
 
 /// The text of bytes.
@@ -178,7 +181,7 @@ fn exclusion_text(alloc: Global, value: &Exclusion) -> Result<String, AllocError
 }
 
 /// A change in words.
-fn change_text(alloc: Global, command: &Command) -> Result<String, AllocError> {
+pub(crate) fn change_text(alloc: Global, command: &Command) -> Result<String, AllocError> {
     match command {
         Command::Define(documents) => {
             let text = text_of(documents);
@@ -224,94 +227,75 @@ fn query_text(alloc: Global, query: &Query) -> Result<String, AllocError> {
     }
 }
 
-/// What becomes of a message, in words.
-fn answer(alloc: Global, routes: &Routes, start: &str, body: &[u8]) -> Result<String, AllocError> {
-    let length = body.len();
-    let head = format!(in alloc; "{start} HTTP/1.1\r\nContent-Length: {length}\r\n\r\n")?;
-    let mut bytes = Vec::from_slice(alloc, head.as_bytes())?;
-    bytes.extend_from_slice(body)?;
-    let Heard::Whole(message, _) = read_request(&bytes) else {
-        return String::from_str(alloc, "no message");
-    };
-    match routes.request(alloc, &message, &bytes) {
-        Routed::Request(Request::Change(command)) => change_text(alloc, &command),
-        Routed::Request(Request::Ask(query)) => query_text(alloc, &query),
+/// What is routed, in words.
+fn routed_text(alloc: Global, routed: &Routed) -> Result<String, AllocError> {
+    match routed {
+        Routed::Request(Request::Change(command)) => change_text(alloc, command),
+        Routed::Request(Request::Ask(query)) => query_text(alloc, query),
         Routed::NoRequest(reason) => format!(in alloc; "{reason:?}"),
         Routed::NoMemory => Err(AllocError),
     }
 }
 
-/// The body of a line, where `;` ends lines.
-fn body_of(alloc: Global, written: &str) -> Result<Vec<u8>, AllocError> {
-    let mut body = Vec::new(alloc);
-    for byte in written.as_bytes() {
-        body.push(if *byte == b';' { b'\n' } else { *byte })?;
+/// A message with a body in which `;` ends lines, and `~` is a byte that is no character.
+fn message_of(alloc: Global, start: &str, body: &str) -> Result<Vec<u8>, AllocError> {
+    let length = body.len();
+    let head = format!(in alloc; "{start} HTTP/1.1\r\nContent-Length: {length}\r\n\r\n")?;
+    let mut bytes = Vec::from_slice(alloc, head.as_bytes())?;
+    for byte in body.as_bytes() {
+        bytes.push(match *byte {
+            b';' => b'\n',
+            b'~' => 0xff,
+            other => other,
+        })?;
     }
-    Ok(body)
+    Ok(bytes)
 }
 
-/// The first line of a table whose answer isn't the wanted one, with its answer.
-fn first_wrong(alloc: Global, front: &str, table: &str) -> Result<String, AllocError> {
-    let routes = Routes::new(alloc)?;
-    for line in table.split('\n') {
-        let whole = format!(in alloc; "{front}{line}")?;
-        let (start, rest) = whole.split_once(" ~ ").unwrap_or(("", ""));
-        let (body, wanted) = rest.split_once(" ~ ").unwrap_or(("", ""));
-        let told = answer(alloc, &routes, start, &body_of(alloc, body)?)?;
-        if told.as_str() != wanted {
-            return format!(in alloc; "{line}: {told}");
+/// What becomes of a message, in words.
+fn answer(rt: &(impl AllocGlobal + Abort), routes: &Routes, start: &str, body: &str) -> String {
+    let bytes = message_of(rt.alloc(), start, body).expect(rt, "memory");
+    match read_request(&bytes) {
+        Heard::Whole(message, _) => {
+            let routed = routes.request(rt.alloc(), &message, &bytes);
+            routed_text(rt.alloc(), &routed).expect(rt, "memory")
         }
+        _ => String::from_str(rt.alloc(), "no message").expect(rt, "memory"),
     }
-    Ok(String::new(alloc))
+}
+
+/// Each message of a table is answered as its line says, with this in front of the line.
+fn expect_answers(rt: &(impl AllocGlobal + Abort), front: &str, table: &str) {
+    let routes = Routes::new(rt.alloc()).expect(rt, "memory");
+    for line in table.split('\n') {
+        let whole = format!(in rt.alloc(); "{front}{line}").expect(rt, "memory");
+        let (start, rest) = whole.split_once(" ~ ").unwrap_or(("", ""));
+        let (body, wanted) = rest.split_once(" ~ ").unwrap_or(("", "no line"));
+        expect_text(rt, line, &answer(rt, &routes, start, body), wanted);
+    }
 }
 
 #[test]
 fn each_route_has_its_requests(rt: HostRuntime) {
-    assert_eq!(rt;
-        first_wrong(rt.alloc(), "", ROUTES)
-            .expect(&rt, "memory")
-            .as_str(),
-        ""
-    );
+    expect_answers(&rt, "", ROUTES);
 }
 
 #[test]
 fn paths_and_methods_are_refused_in_order(rt: HostRuntime) {
-    assert_eq!(rt;
-        first_wrong(rt.alloc(), "", REFUSALS)
-            .expect(&rt, "memory")
-            .as_str(),
-        ""
-    );
+    expect_answers(&rt, "", REFUSALS);
 }
 
 #[test]
 fn queries_are_of_their_keys(rt: HostRuntime) {
-    assert_eq!(rt;
-        first_wrong(rt.alloc(), "", QUERIES)
-            .expect(&rt, "memory")
-            .as_str(),
-        ""
-    );
+    expect_answers(&rt, "", QUERIES);
 }
 
 #[test]
 fn samples_are_rows(rt: HostRuntime) {
-    let wrong = first_wrong(rt.alloc(), "POST /samples ~ ", SAMPLES).expect(&rt, "memory");
-    assert_eq!(rt; wrong.as_str(), "");
+    expect_answers(&rt, "POST /samples ~ ", SAMPLES);
 }
 
 #[test]
 fn exclusions_are_objects_of_three_members(rt: HostRuntime) {
-    let front = "PUT /exclusions/night ~ ";
-    let wrong = first_wrong(rt.alloc(), front, EXCLUSIONS).expect(&rt, "memory");
-    assert_eq!(rt; wrong.as_str(), "");
-    let routes = Routes::new(rt.alloc()).expect(&rt, "memory");
-    let told = answer(
-        rt.alloc(),
-        &routes,
-        "PUT /exclusions/night",
-        b"{\"slo\":\"\xff\"}",
-    );
-    assert_eq!(rt; told.expect(&rt, "memory").as_str(), "Body");
+    expect_answers(&rt, "PUT /exclusions/night ~ ", EXCLUSIONS);
 }

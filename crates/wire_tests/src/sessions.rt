@@ -1,4 +1,5 @@
 //! Sessions over a counter that never has memory: what is asked, and what is answered without it.
+use crate::expectations::{expect, expect_text};
 use message_session::SessionEnd;
 use office_counter::Counter;
 use office_outside::{MemoryClock, MemorySink, MemorySource, Plan};
@@ -111,7 +112,7 @@ fn only_requests_are_asked(rt: HostRuntime) {
         let bytes = bytes_of(rt.alloc(), text).expect(&rt, "memory");
         let run = run_session(rt.alloc(), bytes, Plan::smooth(rt.alloc()));
         let shown = shown(rt.alloc(), &run).expect(&rt, "memory");
-        assert_eq!(rt; shown.as_str(), want, "{text}");
+        expect_text(&rt, text, &shown, want);
     }
 }
 
@@ -122,7 +123,7 @@ Content-Length: 21\r\nConnection: keep-alive\r\n\r\n{\"error\":\"not_found\"}";
 fn the_bytes_of_an_answer(rt: HostRuntime) {
     let bytes = bytes_of(rt.alloc(), "GET /nope HTTP/1.1||").expect(&rt, "memory");
     let run = run_session(rt.alloc(), bytes, Plan::smooth(rt.alloc()));
-    assert!(rt; run.output.bytes() == NOT_FOUND.as_bytes());
+    expect(&rt, run.output.bytes() == NOT_FOUND.as_bytes(), NOT_FOUND);
 }
 
 /// A batch of so many rows, as one request.
@@ -144,7 +145,8 @@ fn a_batch_of_many_pieces_is_asked_once(rt: HostRuntime) {
     let sizes = vec![in rt.alloc(); 4_096; 8].expect(&rt, "memory");
     let run = run_session(rt.alloc(), bytes, Plan::new(Vec::new(rt.alloc()), sizes));
     let shown = shown(rt.alloc(), &run).expect(&rt, "memory");
-    assert_eq!(rt; (shown.as_str(), run.counter.rows), ("Done 1 503", 1_000));
+    expect_text(&rt, "a batch", &shown, "Done 1 503");
+    expect(&rt, run.counter.rows == 1_000, "a thousand rows");
 }
 
 /// So many requests, and what comes of them: each is asked and answered, up to the 1,000th, whose
@@ -171,6 +173,6 @@ fn a_thousand_requests_are_the_most(rt: HostRuntime) {
         let (bytes, want) = many(rt.alloc(), count).expect(&rt, "memory");
         let run = run_session(rt.alloc(), bytes, Plan::smooth(rt.alloc()));
         let shown = shown(rt.alloc(), &run).expect(&rt, "memory");
-        assert!(rt; shown.as_str() == want.as_str(), "{count} requests");
+        expect_text(&rt, "requests", &shown, &want);
     }
 }
