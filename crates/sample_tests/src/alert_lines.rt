@@ -6,6 +6,7 @@ ghost use Rattle.window_sums.specs.Slices.{CountedDays, HasAtMost, counts_of};
 ghost use Rattle.alert_line.specs.Line.{Agrees, IsMinute, SameAlert};
 
 use crate::added_events::{add, method_of, start};
+use crate::expectations::{expect, expect_text};
 use alert_line::{AlertLine, Spans};
 use burn_core::{AlertRule, State};
 use exact_fraction::{Decimal, Op, read_decimal, read_number};
@@ -275,12 +276,12 @@ fn ask<R: Abort>(rt: &R, alloc: Global, row: &str, sums: &WindowSums) -> AlertLi
     let at = number(rt, words.next(), 2_097_151) as u32;
     assert!(rt; origin <= from && from <= to && origin <= at);
     let first = answer(alloc, &mut line, (from, to), at, sums).expect(rt, "memory");
-    assert_eq!(rt; first.as_str(), want, "{question}");
+    expect_text(rt, question, &first, want);
     let again = answer(alloc, &mut line, (from, to), at, sums).expect(rt, "memory");
-    assert_eq!(rt; again.as_str(), want, "{question}, known");
+    expect_text(rt, question, &again, want);
     line.mark(at, to);
     let forgotten = answer(alloc, &mut line, (from, to), at, sums).expect(rt, "memory");
-    assert_eq!(rt; forgotten.as_str(), want, "{question}, forgotten");
+    expect_text(rt, question, &forgotten, want);
     line
 }
 
@@ -302,16 +303,16 @@ fn marks_forget_their_minutes_alone(rt: HostRuntime) {
     let mut line = ask(&rt, rt.alloc(), row, &sums);
     line.mark(1_061, 1_061);
     for minute in 0..2_000 {
-        assert_eq!(rt;
-            line.known_at(minute).is_some(),
-            (895..1_200).contains(&minute)
-        );
+        let is_known = line.known_at(minute).is_some();
+        expect(&rt, is_known == (895..1_200).contains(&minute), "known");
     }
     line.mark(1_001, 1_061);
     for minute in 895..1_200 {
-        assert_eq!(rt;
-            line.known_at(minute).is_none(),
-            (1_001..1_061).contains(&minute)
+        let is_forgotten = line.known_at(minute).is_none();
+        expect(
+            &rt,
+            is_forgotten == (1_001..1_061).contains(&minute),
+            "forgotten",
         );
     }
 }

@@ -1,6 +1,7 @@
 //! Rows and exclusions that come to a book, and that each call succeeds, which no clause says.
 ghost use Rattle.std.specs.Prelude.{◌≡◌, []};
 
+use crate::expectations::{expect, expect_text};
 use exact_fraction::{Label, read_label};
 use sample_book::{Exclusion, Row, RowVerdict, SampleBook};
 use slice_method::Amount;
@@ -73,7 +74,8 @@ fn the_greatest_revision_counts(rt: HostRuntime) {
     let web = label(&rt, b"web");
     let mut book = empty_book(&rt, rt.alloc());
     for (revision, part, want) in BATCH {
-        assert_eq!(rt; word(take(&mut book, &row(web, revision, part))), want);
+        let told = word(take(&mut book, &row(web, revision, part)));
+        expect_text(&rt, "a row", told, want);
     }
     assert!(rt; book.row_at(0) == Some(row(web, 3, 1)) && book.cells() == 1);
     let_go(book);
@@ -101,7 +103,7 @@ fn a_batch_is_judged_and_not_put(rt: HostRuntime) {
     let book = empty_book(&rt, rt.alloc());
     let words = words_of_batch(rt.alloc(), &book, label(&rt, b"web")).expect(&rt, "memory");
     let wanted = ["new", "newer", "superseded", "repeated", "conflict"];
-    assert_eq!(rt; words.as_slice(), wanted.as_slice());
+    expect(&rt, words.as_slice() == wanted.as_slice(), "a batch");
     assert!(rt; book.cells() == 0);
     let_go(book);
 }
@@ -257,7 +259,8 @@ fn show_the_kept_row(book: &SampleBook, web: Label) -> bool {
 fn rows_are_judged_by_the_kept_one(rt: HostRuntime) {
     let web = label(&rt, b"web");
     let mut book = empty_book(&rt, rt.alloc());
-    assert_eq!(rt; word(take(&mut book, &row(web, 2, 9995))), "new");
+    let told = word(take(&mut book, &row(web, 2, 9995)));
+    expect_text(&rt, "a row", told, "new");
     assert!(rt; are_judged(&book, web, &AFTER) & show_the_kept_row(&book, web));
     let_go(book);
 }
@@ -268,7 +271,8 @@ fn room_is_no_row(rt: HostRuntime) {
     let web = label(&rt, b"web");
     let bar = label(&rt, b"bar");
     let mut book = empty_book(&rt, rt.alloc());
-    assert_eq!(rt; word(take(&mut book, &row(web, 2, 9995))), "new");
+    let told = word(take(&mut book, &row(web, 2, 9995)));
+    expect_text(&rt, "a row", told, "new");
     let alone = book.row_at(1).is_none();
     let roomy = book.make_room(slice::from_ref(&row(bar, 1, 1))).is_ok();
     let first = book.row_at(0) == Some(row(web, 2, 9995));

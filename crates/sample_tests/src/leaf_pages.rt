@@ -4,6 +4,7 @@ ghost use Rattle.std.specs.Int.{◌∣◌};
 ghost use Rattle.slo_terms.specs.Sums.{most_events};
 ghost use Rattle.sum_pages.specs.Pages.{HasAtMost};
 
+use crate::expectations::expect;
 use exact_fraction::Leaf;
 use std::alloc::Global;
 use std::marker::Brand;
@@ -61,7 +62,7 @@ fn a_minute_is_in_its_hour_and_day(rt: HostRuntime) {
         (1_501, [(0, 0), (0, 0), (0, 0)]),
     ];
     for (slot, want) in rows {
-        assert_eq!(rt; read(&pages, slot), want);
+        expect(&rt, read(&pages, slot) == want, "leaf, hour and day");
     }
 }
 
@@ -78,6 +79,6 @@ fn totals_follow_a_leaf_that_is_put_again(rt: HostRuntime) {
         (287, [(0, 0), (0, 0), (0, 0)]),
     ];
     for (slot, want) in rows {
-        assert_eq!(rt; read(&pages, slot), want);
+        expect(&rt, read(&pages, slot) == want, "leaf, hour and day");
     }
 }

@@ -1,5 +1,5 @@
-//! Tests of what stands between a row and a notice: readings, sums, burn rates, alerts.
-//! Stands on the crates from `slice_method` up to `notice_box`, and calls them as their users do.
+//! Tests of what stands between a row and a notice: readings, sums, burn rates, alerts; `budget`.
+//! Stands on the crates from `slice_method` up to `notice_box` and on `budget`, as users call them.
 //! Promises nothing by itself: each expected value was worked out apart from the code.
 #![tactic(auto)]
 
@@ -8,9 +8,13 @@ mod added_events;
 #[cfg(test)]
 mod alert_lines;
 #[cfg(test)]
+mod budget_pieces;
+#[cfg(test)]
 mod burn_rates;
 #[cfg(test)]
 mod counted_minutes;
+#[cfg(test)]
+mod expectations;
 #[cfg(test)]
 mod kept_samples;
 #[cfg(test)]

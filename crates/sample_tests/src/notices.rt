@@ -1,4 +1,5 @@
 //! Which changes of state are planned as notices, and the box in which notices wait.
+use crate::expectations::expect;
 use burn_core::{Flags, State};
 use exact_fraction::read_label;
 use notice_box::{Notice, NoticeBox, UnknownNotice, plan};
@@ -49,7 +50,7 @@ fn plans_give_notice_of_changes_whose_flag_is_set(rt: HostRuntime) {
     for (before, now, flags, want) in rows {
         let plan = plan(rt.alloc(), &before, &now, &[flags, flags, flags]).expect(&rt, "a plan");
         for place in 0..3 {
-            assert_eq!(rt; plan.get(place).copied(), want[place]);
+            expect(&rt, plan.get(place).copied() == want[place], "a plan");
         }
     }
 }
@@ -73,7 +74,7 @@ fn add<R: Abort>(rt: &R, notices: &mut NoticeBox) {
 #[test]
 fn a_notice_is_taken_once(rt: HostRuntime) {
     let mut notices = NoticeBox::new(rt.alloc());
-    assert_eq!(rt; notices.take(1), Err(UnknownNotice));
+    expect(&rt, notices.take(1) == Err(UnknownNotice), "no notice");
     add(&rt, &mut notices);
     let rows = [
         (0, Err(UnknownNotice)),
@@ -82,7 +83,7 @@ fn a_notice_is_taken_once(rt: HostRuntime) {
         (1, Ok(false)),
     ];
     for (number, waited) in rows {
-        assert_eq!(rt; notices.take(number), waited, "number {number}");
+        expect(&rt, notices.take(number) == waited, "a notice is taken");
     }
 }
 
@@ -121,9 +122,13 @@ fn take_six<R: Abort>(rt: &R, alloc: Global, notices: &mut NoticeBox) {
         (6, true, 0, [0, 0, 0, 0]),
     ];
     for (number, waited, waiting, first) in rows {
-        assert_eq!(rt; notices.take(number), Ok(waited));
-        assert_eq!(rt; notices.waiting(), waiting);
-        assert_eq!(rt; first_numbers(rt, alloc, notices), first);
+        expect(rt, notices.take(number) == Ok(waited), "a notice is taken");
+        expect(rt, notices.waiting() == waiting, "so many wait");
+        expect(
+            rt,
+            first_numbers(rt, alloc, notices) == first,
+            "the first that wait",
+        );
     }
 }
 
@@ -137,9 +142,13 @@ fn notices_wait_until_they_are_taken(rt: HostRuntime) {
     let mut notices = seven(&rt, rt.alloc());
     take_six(&rt, rt.alloc(), &mut notices);
     add(&rt, &mut notices);
-    assert_eq!(rt; notices.first_place(), Some(7));
-    assert_eq!(rt; notices.count(), 8);
+    expect(&rt, notices.first_place() == Some(7), "the first place");
+    expect(&rt, notices.count() == 8, "eight notices");
     for (place, want) in [(6, Some((7, false))), (7, Some((8, true))), (8, None)] {
-        assert_eq!(rt; kept_at(&notices, place), want);
+        expect(
+            &rt,
+            kept_at(&notices, place) == want,
+            "the notice of a place",
+        );
     }
 }

@@ -2,6 +2,7 @@
 ghost use Rattle.std.specs.Prelude.{◌≡◌, ◌≤◌, ◌*◌, ◌^◌};
 
 use crate::added_events::counts;
+use crate::expectations::expect;
 use exact_fraction::{Decimal, Leaf, Op};
 use slice_method::{Amount, Method, Reading, counts_of, leaf_of};
 
@@ -50,31 +51,37 @@ fn leaf(num: u64, den: u64) -> Leaf {
 #[test]
 fn amounts_count_by_their_reading(rt: HostRuntime) {
     let half = decimal(HALF);
-    assert_eq!(rt;
-        counts_of(Reading::Good, Op::Lte, half, parts(3, 10)),
-        counts(3, 10)
+    expect(
+        &rt,
+        counts_of(Reading::Good, Op::Lte, half, parts(3, 10)) == counts(3, 10),
+        "Good Lte",
     );
-    assert_eq!(rt;
-        counts_of(Reading::Bad, Op::Lte, half, parts(3, 10)),
-        counts(7, 10)
+    expect(
+        &rt,
+        counts_of(Reading::Bad, Op::Lte, half, parts(3, 10)) == counts(7, 10),
+        "Bad Lte",
     );
-    assert_eq!(rt;
-        counts_of(Reading::Threshold, Op::Lte, half, value(HALF)),
-        counts(1, 1)
+    expect(
+        &rt,
+        counts_of(Reading::Threshold, Op::Lte, half, value(HALF)) == counts(1, 1),
+        "Threshold Lte",
     );
-    assert_eq!(rt;
-        counts_of(Reading::Threshold, Op::Lt, half, value(HALF)),
-        counts(0, 1)
+    expect(
+        &rt,
+        counts_of(Reading::Threshold, Op::Lt, half, value(HALF)) == counts(0, 1),
+        "Threshold Lt",
     );
     let quarter = counts(250_000_000, 1_000_000_000);
-    assert_eq!(rt;
-        counts_of(Reading::RawSuccess, Op::Lte, half, value(250_000_000)),
-        quarter
+    expect(
+        &rt,
+        counts_of(Reading::RawSuccess, Op::Lte, half, value(250_000_000)) == quarter,
+        "RawSuccess Lte",
     );
     let rest = counts(750_000_000, 1_000_000_000);
-    assert_eq!(rt;
-        counts_of(Reading::RawFailure, Op::Lte, half, value(250_000_000)),
-        rest
+    expect(
+        &rt,
+        counts_of(Reading::RawFailure, Op::Lte, half, value(250_000_000)) == rest,
+        "RawFailure Lte",
     );
 }
 
@@ -82,23 +89,35 @@ fn amounts_count_by_their_reading(rt: HostRuntime) {
 fn withdrawn_rows_count_for_nothing(rt: HostRuntime) {
     let half = decimal(HALF);
     let good = counts_of(Reading::Good, Op::Lte, half, Amount::Withdrawn);
-    assert_eq!(rt; good, counts(0, 0));
+    expect(&rt, good == counts(0, 0), "good");
     let bad = counts_of(Reading::Bad, Op::Lte, half, Amount::Withdrawn);
-    assert_eq!(rt; bad, counts(0, 0));
+    expect(&rt, bad == counts(0, 0), "bad");
     let threshold = counts_of(Reading::Threshold, Op::Lte, half, Amount::Withdrawn);
-    assert_eq!(rt; threshold, counts(0, 0));
+    expect(&rt, threshold == counts(0, 0), "threshold");
     let success = counts_of(Reading::RawSuccess, Op::Lte, half, Amount::Withdrawn);
-    assert_eq!(rt; success, counts(0, 0));
+    expect(&rt, success == counts(0, 0), "success");
     let failure = counts_of(Reading::RawFailure, Op::Lte, half, Amount::Withdrawn);
-    assert_eq!(rt; failure, counts(0, 0));
+    expect(&rt, failure == counts(0, 0), "failure");
 }
 
 #[test]
 fn leaves_follow_the_method(rt: HostRuntime) {
-    assert_eq!(rt; leaf_of(Method::Occurrences, counts(2, 3)), leaf(2, 3));
-    assert_eq!(rt; slice_leaf(1, 2), leaf(1, 1));
-    assert_eq!(rt; slice_leaf(1, 3), leaf(0, 1));
-    assert_eq!(rt; slice_leaf(0, 0), leaf(0, 0));
-    assert_eq!(rt; ratio_leaf(1, 3), leaf(333_333_333, 1_000_000_000));
-    assert_eq!(rt; ratio_leaf(2, 3), leaf(666_666_666, 1_000_000_000));
+    expect(
+        &rt,
+        leaf_of(Method::Occurrences, counts(2, 3)) == leaf(2, 3),
+        "leaf_of(Method::Occurrences, counts(2, 3))",
+    );
+    expect(&rt, slice_leaf(1, 2) == leaf(1, 1), "slice_leaf(1, 2)");
+    expect(&rt, slice_leaf(1, 3) == leaf(0, 1), "slice_leaf(1, 3)");
+    expect(&rt, slice_leaf(0, 0) == leaf(0, 0), "slice_leaf(0, 0)");
+    expect(
+        &rt,
+        ratio_leaf(1, 3) == leaf(333_333_333, 1_000_000_000),
+        "ratio_leaf(1, 3)",
+    );
+    expect(
+        &rt,
+        ratio_leaf(2, 3) == leaf(666_666_666, 1_000_000_000),
+        "ratio_leaf(2, 3)",
+    );
 }

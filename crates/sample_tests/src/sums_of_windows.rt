@@ -4,6 +4,7 @@ ghost use Rattle.std.specs.Int.{◌∣◌};
 ghost use Rattle.window_sums.specs.Slices.{width_of};
 
 use crate::added_events::{NOTHING, add, counts, method_of, put, start};
+use crate::expectations::expect;
 use exact_fraction::Leaf;
 use slice_method::Method;
 use std::alloc::Global;
@@ -52,7 +53,7 @@ fn compare<R: Abort>(rt: &R, sums: &WindowSums, ranges: &[(u32, u32)], wants: &[
             num: *num,
             den: *den,
         };
-        assert_eq!(rt; sum(sums, *from, *to), want, "from {from} to {to}");
+        expect(rt, sum(sums, *from, *to) == want, "the sum of a range");
     }
 }
 
@@ -139,14 +140,18 @@ fn four_hundred_days(rt: HostRuntime) {
         add(&rt, &mut sums, minute, 1, 1, u64::from(minute));
     }
     let all = sum(&sums, 59, 575_941);
-    assert_eq!(rt; (all.num, all.den), (575_882, 575_882));
+    expect(
+        &rt,
+        (all.num, all.den) == (575_882, 575_882),
+        "the sum of all days",
+    );
 }
 
 #[test]
 fn slices_of_five_minutes(rt: HostRuntime) {
     let mut sums = start(rt.alloc(), method_of(5, Some(500_000_000)));
     put(&rt, &mut sums, 101, NOTHING, counts(0, 2), 0);
-    assert_eq!(rt; sum(&sums, 0, 105), Leaf { num: 0, den: 1 });
+    compare(&rt, &sums, &[(0, 105)], &[(0, 1)]);
     put(
         &rt,
         &mut sums,
@@ -155,9 +160,9 @@ fn slices_of_five_minutes(rt: HostRuntime) {
         counts(1, 2),
         1_000_000_002,
     );
-    assert_eq!(rt; sum(&sums, 0, 103), Leaf { num: 0, den: 0 });
-    assert_eq!(rt; sum(&sums, 0, 105), Leaf { num: 1, den: 1 });
-    assert_eq!(rt; sum(&sums, 101, 110), Leaf { num: 0, den: 0 });
+    compare(&rt, &sums, &[(0, 103)], &[(0, 0)]);
+    compare(&rt, &sums, &[(0, 105)], &[(1, 1)]);
+    compare(&rt, &sums, &[(101, 110)], &[(0, 0)]);
 }
 
 #[test]
@@ -165,11 +170,5 @@ fn ratios_are_rounded_slice_by_slice(rt: HostRuntime) {
     let mut sums = start(rt.alloc(), Method::RatioTimeslices { width: 1 });
     put(&rt, &mut sums, 7, NOTHING, counts(1, 3), 0);
     put(&rt, &mut sums, 1440, NOTHING, counts(2, 3), 1_000_000_003);
-    assert_eq!(rt;
-        sum(&sums, 0, 2_000),
-        Leaf {
-            num: 999_999_999,
-            den: 2_000_000_000
-        }
-    );
+    compare(&rt, &sums, &[(0, 2_000)], &[(999_999_999, 2_000_000_000)]);
 }
