@@ -1,14 +1,17 @@
 -- What the office's type keeps, and what the images of its disk stand for.
-use Rattle.std.proofs.Common.{◌≡◌, inl, inr, ⊎_elim, ℕ, List, [], ◌∷◌, ◌++◌, Option, Some}
-use Rattle.std.proofs.Common.{None}
-use Rattle.std.proofs.Common.{Bool, Result, refl, sym, ap, ◌∙◌, subst}
+use Rattle.std.proofs.Common.{◌≡◌, ◌<◌, ◌≤◌, ◌*◌, inl, inr, ⊎_elim, ℕ, List, [], ◌∷◌, ◌++◌, length}
+use Rattle.std.proofs.Common.{Option, Some, None, Bool, Result, refl, sym, ap, ◌∙◌, subst, arith}
+use Rattle.std.specs.List.{AllByRecursion}
+use Rattle.slo_limits.specs.declared.TheConstants.{MAX_ENTRIES, MAX_JOURNAL_BYTES}
 use Rattle.office_outside.specs.Disk.{All}
 use Rattle.office_outside.specs.Senses.{DiskSenses}
 use Rattle.record_form.specs.declared.Entry.{Entry}
+use Rattle.record_form.specs.Laws.{RecordsHaveSizes}
+use Rattle.record_form.specs.Ranges.{FitsRecord}
 use Rattle.record_form.specs.Records.{record_of}
 use Rattle.office_history.specs.History.{Office, with_entry}
 use Rattle.office_core.specs.Seen.{Machine}
-use Rattle.slo_journal.specs.File.{Stands, StandsInDoubt}
+use Rattle.slo_journal.specs.File.{Stands, StandsInDoubt, size_of, tail_of}
 use Rattle.slo_journal.specs.Keeping.{JournalOn, Keeps, Appended, Settled}
 use Rattle.slo_journal.specs.declared.AppendFault.{AppendFault}
 use Rattle.slo_journal.specs.declared.DiskFault.{DiskFault}
@@ -30,6 +33,17 @@ by_entry o e file d = ⊎_elim
     ))
     (by_gate o.origin (records o.history) (record_of e) file d)
 
+-- an entry takes ten bytes of the journal at least: its gate, its length and a record of five
+ten_each : RecordsHaveSizes → (h : List Entry) → AllByRecursion FitsRecord h →
+    10 * length h ≤ size_of (records h)
+ten_each law [] fit = omega arith
+ten_each law (e ∷ h) fit = omega (arith, (law e fit.0).least, ten_each law h fit.1)
+
+-- so the journal is full before the history has as many entries as it may
+pub few_entries : RecordsHaveSizes → (h : List Entry) → AllByRecursion FitsRecord h → (tail : ℕ) →
+    tail ≡ tail_of (records h) → tail < MAX_JOURNAL_BYTES → length h < MAX_ENTRIES
+few_entries law h fit tail is within = omega (arith, ten_each law h fit, is, within)
+
 -- facts by cases don't say whose senses they are about, so each lemma is told
 module _ {D : Type 0} (S : DiskSenses D) where
   pub doubted_of : (m : Machine) (doubt : Option (List ℕ)) (journal : JournalOn D)
@@ -43,6 +57,12 @@ module _ {D : Type 0} (S : DiskSenses D) where
   kept_of m doubt journal o none same k =
       subst (λ (d : Option (List ℕ)). OfficeIsKept S m d journal) (sym none)
       (subst (λ (p : Office). KeepsOffice S p journal) (sym same) k)
+
+  -- the closed gate stands behind the records of the history
+  pub tail_now : (m : Machine) (doubt : Option (List ℕ)) (journal : JournalOn D) →
+      OfficeIsKept S m doubt journal → journal.tail ≡ tail_of (records m.office.history)
+  tail_now m None journal k = k.tail
+  tail_now m (Some bytes) journal k = k.doubts.tail
 
   -- with one entry more
   pub keeps_more : (o : Office) (e : Entry) (journal : JournalOn D) →

@@ -1,7 +1,7 @@
 //! A machine and its journal.
-ghost use Rattle.std.specs.Prelude.{◌≡◌, ◌≤◌, ◌⊎◌, [], List, ℕ, Option, Some, None, IfOk, IfErr};
-ghost use Rattle.std.specs.Prelude.{length, take};
-ghost use Rattle.slo_limits.specs.declared.TheConstants.{MAX_MINUTE};
+ghost use Rattle.std.specs.Prelude.{◌≡◌, ◌<◌, ◌≤◌, ◌⊎◌, [], List, ℕ, Option, Some, None, IfOk};
+ghost use Rattle.std.specs.Prelude.{IfErr, length, take};
+ghost use Rattle.slo_limits.specs.declared.TheConstants.{MAX_ENTRIES, MAX_MINUTE};
 ghost use Rattle.office_outside.specs.Disk.{All, IsQuiet, LeavesOnly};
 ghost use Rattle.office_outside.specs.Faults.{RoseBy};
 ghost use Rattle.office_counter.specs.Steps.{HasRevisionsIn};
@@ -18,7 +18,7 @@ use crate::steps::change;
 use crate::{KeepFailed, KeepFault};
 use office_core::{Core, Prepared};
 use office_outside::Disk;
-use record_form::{Outcome, Request};
+use record_form::{Outcome, Request, laws};
 use slo_journal::{Journal, create, open};
 use slo_limits::RANGE_MINUTES;
 use std::alloc::Global;
@@ -156,6 +156,15 @@ impl<D: Disk + Drop> Office<D> {
         ensures whole { OfficeIsWhole self.now.office }
     {
         self.core.is_legal();
+    }
+
+    /// There are fewer entries than a history may have: a journal is full before. No work.
+    pub fn entries_are_few(&self)
+        ensures { length self.now.office.history < MAX_ENTRIES }
+    {
+        laws::records_have_sizes();
+        self.core.is_legal();
+        let _ = self.journal.tail();
     }
 
     /// The machine.
