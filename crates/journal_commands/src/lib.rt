@@ -1,15 +1,17 @@
-//! The commands that make a journal, serve one over a session or over doors, and report on one.
+//! The commands that make a journal, upgrade its office, serve it over a session or doors, report.
 //! Stands on the office that keeps its history, on counters, sessions, the serving and reports.
 //! Promises that the file at each moment is what the command may leave, and what is printed.
 #![tactic(auto)]
 
 mod doors;
 mod making;
+mod migrating;
 mod reporting;
 mod serving;
 mod writing;
 
 pub use doors::serve_journal;
 pub use making::{InitEnd, make_journal};
+pub use migrating::{MigrateEnd, UpgradeEnd, migrate_journal};
 pub use reporting::{PrintEnd, ReportEnd, print_report};
 pub use serving::{PipeEnd, run_session};
