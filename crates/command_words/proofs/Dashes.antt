@@ -140,7 +140,8 @@ none_named name ws h =
     (ap (option_map invocation.Generate) (none_number ws h))
     (none_in_both (bytes_eq name (codes "counters")) _ _
     (ap (option_map invocation.Counters) (none_counters ws h))
-    (ap (option_map invocation.Answer) (none_command name ws h)))))))
+    (none_in_both (bytes_eq name (codes "migrate")) _ _ (none_alone invocation.Migrate ws h)
+    (ap (option_map invocation.Answer) (none_command name ws h))))))))
 
 pub none_of : (ws : List (List ℕ)) → HasDash ws → asked_of ws ≡ None
 none_of [] h = cc h

@@ -27,11 +27,12 @@ module _ {A : Type 0} where
   mapped reads f is (Some x) a e =
       let same : f x ≡ a = cc e in subst (λ (b : Invocation). reads ≡ only_reads b) same (is x)
 
-pipes : (ws : List Text) → Reads false (asked_alone invocation.Pipe ws)
-pipes [] a e =
-    let same : invocation.Pipe ≡ a = cc e in subst (λ (b : Invocation). false ≡ only_reads b) same
-    refl
-pipes (w ∷ ws) a e = cc e
+-- a form that is its name alone
+alone : (asked : Invocation) → false ≡ only_reads asked → (ws : List Text)
+    → Reads false (asked_alone asked ws)
+alone asked is [] a e =
+    let same : asked ≡ a = cc e in subst (λ (b : Invocation). false ≡ only_reads b) same is
+alone asked is (w ∷ ws) a e = cc e
 
 others : (name : Text) (ws : List Text) → bytes_eq name (codes "report") ≡ false
     → Reads false (asked_named name ws)
@@ -39,14 +40,15 @@ others name ws other =
     rw other
     (in_both (bytes_eq name (codes "init")) _ _
     (mapped false invocation.Init (λ x. refl) (minute_asked ws))
-    (in_both (bytes_eq name (codes "pipe")) _ _ (pipes ws)
+    (in_both (bytes_eq name (codes "pipe")) _ _ (alone invocation.Pipe refl ws)
     (in_both (bytes_eq name (codes "serve")) _ _
     (mapped false invocation.Serve (λ x. refl) (port_asked ws))
     (in_both (bytes_eq name (codes "generate")) _ _
     (mapped false invocation.Generate (λ x. refl) (number_asked ws))
     (in_both (bytes_eq name (codes "counters")) _ _
     (mapped false invocation.Counters (λ x. refl) (counters_asked ws))
-    (mapped false invocation.Answer (λ x. refl) (command_named name ws)))))))
+    (in_both (bytes_eq name (codes "migrate")) _ _ (alone invocation.Migrate refl ws)
+    (mapped false invocation.Answer (λ x. refl) (command_named name ws))))))))
 
 reports : (ws : List Text) → Reads true (asked_of (codes "report" ∷ ws))
 reports ws = mapped true invocation.Report (λ x. refl) (minute_asked ws)

@@ -64,6 +64,10 @@ pipes : (ws : List Text) → ArePlain ws → Sorts (codes "pipe" ∷ ws)
 unfolding clap_on_literals
 pipes = no_word (codes "pipe") (refl, refl) (inl walks.pipe_0) (λ a ws. refl)
 
+migrates : (ws : List Text) → ArePlain ws → Sorts (codes "migrate" ∷ ws)
+unfolding clap_on_literals
+migrates = no_word (codes "migrate") (refl, refl) (inl walks.migrate_0) (λ a ws. refl)
+
 inits : (ws : List Text) → ArePlain ws → Sorts (codes "init" ∷ ws)
 unfolding clap_on_literals
 inits =
@@ -132,10 +136,10 @@ others : (w : Text) (ws : List Text) → is_dashed w ≡ false
     → bytes_eq (codes "init") w ≡ false → bytes_eq (codes "pipe") w ≡ false
     → bytes_eq (codes "report") w ≡ false → bytes_eq (codes "serve") w ≡ false
     → bytes_eq (codes "generate") w ≡ false → bytes_eq (codes "counters") w ≡ false
-    → Sorts (w ∷ ws)
-others w ws p budget check init pipe report serve generate counters =
+    → bytes_eq (codes "migrate") w ≡ false → Sorts (w ∷ ws)
+others w ws p budget check init pipe report serve generate counters migrate =
     inr (
-      no_name w ws p budget check init pipe report serve generate counters,
+      no_name w ws p budget check init pipe report serve generate counters migrate,
       rw (
         differs (codes "budget") w budget,
         differs (codes "check") w check,
@@ -145,6 +149,7 @@ others w ws p budget check init pipe report serve generate counters =
         differs (codes "serve") w serve,
         differs (codes "generate") w generate,
         differs (codes "counters") w counters,
+        differs (codes "migrate") w migrate,
       ) refl,
     )
 
@@ -170,7 +175,9 @@ all_words (w ∷ ws) h =
     (λ report. by_name (codes "serve") w ws serves p.1
     (λ serve. by_name (codes "generate") w ws generates p.1
     (λ generate. by_name (codes "counters") w ws counts p.1
-    (λ counters. others w ws p.0 budget check init pipe report serve generate counters))))))))
+    (λ counters. by_name (codes "migrate") w ws migrates p.1
+    (λ migrate. others w ws p.0 budget check init pipe report serve generate counters
+    migrate)))))))))
 
 -- words that `clap` took
 taken : (ws : List Text) (found : Option (Text × List Argument)) → ArePlain ws

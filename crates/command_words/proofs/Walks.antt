@@ -69,9 +69,9 @@ pub no_name : (w : Text) (ws : List Text) → IsPlain w
     → bytes_eq (codes "init") w ≡ false → bytes_eq (codes "pipe") w ≡ false
     → bytes_eq (codes "report") w ≡ false → bytes_eq (codes "serve") w ≡ false
     → bytes_eq (codes "generate") w ≡ false → bytes_eq (codes "counters") w ≡ false
-    → IsRefused (w ∷ ws)
+    → bytes_eq (codes "migrate") w ≡ false → IsRefused (w ∷ ws)
 unfolding clap_on_literals
-no_name w ws p budget check init pipe report serve generate counters =
+no_name w ws p budget check init pipe report serve generate counters migrate =
     rw (
       budget,
       check,
@@ -81,6 +81,7 @@ no_name w ws p budget check init pipe report serve generate counters =
       serve,
       generate,
       counters,
+      migrate,
       plain_dashes w p,
       plain_long w p,
       plain_short w p,
@@ -232,6 +233,10 @@ check_0 = (refl, refl)
 pub pipe_0 : IsTaken (codes "pipe" ∷ [])
 unfolding clap_on_literals
 pipe_0 = (refl, refl)
+
+pub migrate_0 : IsTaken (codes "migrate" ∷ [])
+unfolding clap_on_literals
+migrate_0 = (refl, refl)
 
 pub init_0 : IsTaken (codes "init" ∷ [])
 unfolding clap_on_literals

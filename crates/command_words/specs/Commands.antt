@@ -11,7 +11,7 @@ use Rattle.command_words.specs.declared.invocation.Invocation.{Invocation}
 use Rattle.command_words.specs.declared.invocation.Invocation.TheVariants.{Answer, Init, Pipe}
 use Rattle.command_words.specs.declared.invocation.Invocation.TheVariants.{Report}
 use Rattle.command_words.specs.declared.invocation.Invocation.TheVariants.{Counters, Generate}
-use Rattle.command_words.specs.declared.invocation.Invocation.TheVariants.{Serve}
+use Rattle.command_words.specs.declared.invocation.Invocation.TheVariants.{Migrate, Serve}
 use Rattle.command_words.specs.declared.invocation.CountersOrder.{CountersOrder}
 use Rattle.command_words.specs.declared.invocation.InputCommand.{InputCommand}
 use Rattle.command_words.specs.declared.invocation.InputCommand.TheVariants.{Budget, Check}
@@ -79,6 +79,7 @@ asked_named name words =
     else if bytes_eq name (codes "serve") then option_map Serve (port_asked words)
     else if bytes_eq name (codes "generate") then option_map Generate (number_asked words)
     else if bytes_eq name (codes "counters") then option_map Counters (counters_asked words)
+    else if bytes_eq name (codes "migrate") then asked_alone Migrate words
     else option_map Answer (command_named name words)
 
 -- What the words ask for; none where they are no form of a command.
@@ -100,6 +101,7 @@ IsSoundInvocation (Report at) = ⊤
 IsSoundInvocation (Serve port) = (1 ≤ port) × (port ≤ max_port)
 IsSoundInvocation (Generate number) = (1 ≤ number) × (number ≤ MAX_NUMBER)
 IsSoundInvocation (Counters order) = ⊤
+IsSoundInvocation Migrate = ⊤
 
 -- a command that reads the journal's file and changes nothing in it: a report
 abbrev pub only_reads : Invocation → Bool

@@ -10,7 +10,7 @@ use Rattle.command_words.specs.declared.invocation.Invocation.{Invocation}
 use Rattle.command_words.specs.declared.invocation.Invocation.TheVariants.{Answer, Init, Pipe}
 use Rattle.command_words.specs.declared.invocation.Invocation.TheVariants.{Report}
 use Rattle.command_words.specs.declared.invocation.Invocation.TheVariants.{Counters, Generate}
-use Rattle.command_words.specs.declared.invocation.Invocation.TheVariants.{Serve}
+use Rattle.command_words.specs.declared.invocation.Invocation.TheVariants.{Migrate, Serve}
 use Rattle.command_words.specs.declared.invocation.CountersOrder.{CountersOrder}
 use Rattle.command_words.specs.declared.invocation.InputCommand.{InputCommand}
 use Rattle.command_words.specs.declared.invocation.InputCommand.TheVariants.{Budget, Check}
@@ -61,6 +61,7 @@ asked_in name arguments =
     then option_map Generate (number_by (first_of (codes "number") arguments))
     else if bytes_eq name (codes "counters")
     then option_map Counters (counters_by (first_of (codes "sli") arguments))
+    else if bytes_eq name (codes "migrate") then Some Migrate
     else None
 
 -- what the command that was found asks for

@@ -48,6 +48,7 @@ pub(crate) fn forms<'a>(alloc: Global) -> Result<Command<'a>, AllocError>
     let serve = one_word(alloc, "serve", "port", true)?;
     let generate = one_word(alloc, "generate", "number", true)?;
     let counters = one_word(alloc, "counters", "sli", true)?;
+    let migrate = Command::new(alloc, "migrate");
     let program = Command::new(alloc, "slo_office")
         .no_binary_name(true)
         .disable_help_flag(true)
@@ -62,5 +63,6 @@ pub(crate) fn forms<'a>(alloc: Global) -> Result<Command<'a>, AllocError>
         .subcommand(report)?
         .subcommand(serve)?
         .subcommand(generate)?
-        .subcommand(counters)
+        .subcommand(counters)?
+        .subcommand(migrate)
 }

@@ -36,4 +36,6 @@ pub enum Invocation {
     Generate(u32),
     /// The sample rows of an indicator, from the readings of counters in the input.
     Counters(CountersOrder),
+    /// The upgrade of the journal's office.
+    Migrate,
 }

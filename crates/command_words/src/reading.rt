@@ -148,6 +148,7 @@ fn read_command(name: &str, words: &ArgMatches) -> Option<Invocation>
         "serve" => Some(Invocation::Serve(read_port(words, "port")?)),
         "generate" => Some(Invocation::Generate(read_number(words, "number")?)),
         "counters" => Some(Invocation::Counters(read_counters(words, "sli")?)),
+        "migrate" => Some(Invocation::Migrate),
         _ => None,
     }
 }

@@ -49,8 +49,11 @@ returns c =
     let generate =
     c.in_ok-subcommand-7.ensures.shape c.in_ok-generate.ensures.local
     ∙ ap₂ with_subcommand serve (ap top c.in_ok-generate.ensures.form) in
-    IfOk-weaker c.subcommand-8.result _ _
+    let counters =
+    c.in_ok-subcommand-8.ensures.shape c.in_ok-counters.ensures.local
+    ∙ ap₂ with_subcommand generate (ap top c.in_ok-counters.ensures.form) in
+    IfOk-weaker c.subcommand-9.result _ _
     (λ r h.
-    h.shape c.in_ok-counters.ensures.local
-    ∙ ap₂ with_subcommand generate (ap top c.in_ok-counters.ensures.form))
-    c.subcommand-8.ensures
+    h.shape c.new-migrate.ensures.local
+    ∙ ap₂ with_subcommand counters (ap top c.new-migrate.ensures.app))
+    c.subcommand-9.ensures
