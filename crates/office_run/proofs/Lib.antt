@@ -3,4 +3,5 @@ pub mod AnswerLemmas
 pub mod EndingLemmas
 pub mod WorldLemmas
 pub mod StatusLemmas
+pub mod MigrateLemmas
 pub mod ServerLemmas

@@ -9,5 +9,6 @@ pub mod Init
 pub mod Unopened
 pub mod Pipe
 pub mod Report
+pub mod Migrate
 pub mod Worlds
 pub mod Serve

@@ -5,9 +5,11 @@ use Rattle.office_outside.specs.Told.{HasNothingLeft}
 use Rattle.office_outside.specs.Senses.{DiskSenses}
 use Rattle.budget_command.specs.Input.{TakesAtMost}
 use Rattle.journal_commands.specs.Making.{Makes, journal_world}
+use Rattle.journal_commands.specs.Migrating.{Migrates}
 use Rattle.journal_commands.specs.Reporting.{Reports}
 use Rattle.journal_commands.specs.Serving.{EndsServing, session_outside}
 use Rattle.journal_commands.specs.declared.InitEnd.{InitEnd}
+use Rattle.journal_commands.specs.declared.MigrateEnd.{MigrateEnd}
 use Rattle.journal_commands.specs.declared.PipeEnd.{PipeEnd}
 use Rattle.journal_commands.specs.declared.ReportEnd.{ReportEnd}
 use Rattle.counters_command.specs.declared.CountersEnd.{CountersEnd}
@@ -16,12 +18,13 @@ use Rattle.office_run.specs.Counters.{SettledCounters, WritesRows}
 use Rattle.office_run.specs.Endings.{line_of_status}
 use Rattle.office_run.specs.Generate.{EndsGenerating, SettledGenerate}
 use Rattle.office_run.specs.Init.{SettledInit}
+use Rattle.office_run.specs.Migrate.{SettledMigrate}
 use Rattle.office_run.specs.Pipe.{SettledPipe}
 use Rattle.office_run.specs.Report.{SettledReport}
 use Rattle.office_run.specs.Runs.{IsStatus, Prints, PrintsPart, GainsLine, TellsRefusal}
 use Rattle.command_words.specs.declared.Invocation.{Invocation}
 use Rattle.command_words.specs.declared.Invocation.TheVariants.{Answer, Counters, Generate, Init}
-use Rattle.command_words.specs.declared.Invocation.TheVariants.{Pipe, Report, Serve}
+use Rattle.command_words.specs.declared.Invocation.TheVariants.{Migrate, Pipe, Report, Serve}
 use Rattle.command_words.specs.declared.InputCommand.{InputCommand}
 use Rattle.office_run.specs.declared.ending.TheConstants.{DONE, USAGE, READ_FAULT}
 use Rattle.office_run.specs.declared.ending.TheConstants.{WRITE_FAULT, NO_MEMORY, REFUSED}
@@ -132,6 +135,16 @@ pub record RunsInit {D : Type 0} (S : DiskSenses D) (origin : Option ℕ) (statu
       (journal_world after.disk after.to_come after.held)
   pub untaken : after.left ≡ before.left
 
+-- A run of `migrate`, by how the upgrade of the journal's office ended. The input isn't touched.
+pub record RunsMigrate {D : Type 0} (S : DiskSenses D) (status : ℕ) (before after : World D) :
+    Type 0 where
+  pub end : MigrateEnd
+  pub settled : SettledMigrate end status before.said after.said before.tellings after.tellings
+  pub migrates : Migrates S end
+      (journal_world before.disk before.to_come before.held)
+      (journal_world after.disk after.to_come after.held)
+  pub untaken : after.left ≡ before.left
+
 -- A run of `pipe`, by how the serving of the journal ended.
 pub record RunsPipe {D : Type 0} (S : DiskSenses D) (status : ℕ) (before after : World D) :
     Type 0 where
@@ -163,6 +176,7 @@ Does S (Some (Answer command)) status before after = RunsAnswer command status b
 Does S (Some (Generate number)) status before after = RunsGenerate number status before after
 Does S (Some (Counters order)) status before after = RunsCounters order.sli status before after
 Does S (Some (Init origin)) status before after = RunsInit S origin status before after
+Does S (Some Migrate) status before after = RunsMigrate S status before after
 Does S (Some Pipe) status before after = RunsPipe S status before after
 Does S (Some (Report at)) status before after = RunsReport S at status before after
 Does S (Some (Serve port)) status before after = IsUnheard before after
@@ -172,13 +186,14 @@ abbrev pub Runs : {D : Type 0} → DiskSenses D → Option Invocation → ℕ �
 Runs S asked status before after =
     RunsOutOfMemory status before after ⊎ Does S asked status before after
 
--- The clock and the disk belong to `init`, `pipe` and `report`.
+-- The clock and the disk belong to `init`, `migrate`, `pipe` and `report`.
 abbrev pub IsOffDisk : Option Invocation → Type 0
 IsOffDisk None = Unit {0}
 IsOffDisk (Some (Answer command)) = Unit {0}
 IsOffDisk (Some (Generate number)) = Unit {0}
 IsOffDisk (Some (Counters order)) = Unit {0}
 IsOffDisk (Some (Init origin)) = ⊥
+IsOffDisk (Some Migrate) = ⊥
 IsOffDisk (Some Pipe) = ⊥
 IsOffDisk (Some (Report at)) = ⊥
 IsOffDisk (Some (Serve port)) = ⊥
@@ -190,6 +205,7 @@ IsOffDoors (Some (Answer command)) = Unit {0}
 IsOffDoors (Some (Generate number)) = Unit {0}
 IsOffDoors (Some (Counters order)) = Unit {0}
 IsOffDoors (Some (Init origin)) = Unit {0}
+IsOffDoors (Some Migrate) = Unit {0}
 IsOffDoors (Some Pipe) = Unit {0}
 IsOffDoors (Some (Report at)) = Unit {0}
 IsOffDoors (Some (Serve port)) = ⊥

@@ -1,5 +1,5 @@
-//! The laws of statuses: what a status of `counters`, `generate`, `init`, `pipe`, `report` and
-//! `serve` says.
+//! The laws of statuses: what a status of `counters`, `generate`, `init`, `migrate`, `pipe`,
+//! `report` and `serve` says.
 ghost use Rattle.std.specs.Prelude.{◌≡◌, ◌≢◌, ◌<◌, ◌≤◌, ℕ, List, Option, Some};
 ghost use Rattle.message_session.specs.Sessions.{Reads};
 ghost use Rattle.office_outside.specs.Told.{Gained};
@@ -14,9 +14,10 @@ ghost use Rattle.turn_counter.specs.Turns.{TurnAsks};
 ghost use Rattle.visit_workers.specs.Visits.{visit_senses};
 ghost use Rattle.visit_workers.specs.Workers.{worker_senses};
 ghost use Rattle.office_run.specs.Generate.{PrintsSummary};
+ghost use Rattle.office_run.specs.Migrate.{IsMigrated, IsUnmigrated};
 ghost use Rattle.office_run.specs.Serve.{ServeStatusesSay};
-ghost use Rattle.office_run.specs.Worlds.{RunsCounters, RunsGenerate, RunsInit, RunsPipe};
-ghost use Rattle.office_run.specs.Worlds.{RunsReport, World};
+ghost use Rattle.office_run.specs.Worlds.{RunsCounters, RunsGenerate, RunsInit, RunsMigrate};
+ghost use Rattle.office_run.specs.Worlds.{RunsPipe, RunsReport, World};
 
 use crate::ending::{BAD_FILE, DONE, REFUSED};
 use office_doors::{Door, Doors};
@@ -57,6 +58,22 @@ pub fn statuses_of_init<D: Disk + Drop>()
     ensures taken { (origin : Option ℕ) (status : ℕ) (before after : World D)
         → RunsInit D.senses origin status before after → status ≢ REFUSED → (reading : ℕ)
         × Reads reading before.to_come after.to_come × (origin_by origin reading ≤ reading) }
+{}
+
+/// `migrate` ends with the status of a bad file only where the file has no header, or is damaged.
+/// It ends with that of a refusal only where the moment isn't below the end of the office's range
+/// or the journal is full, and the office is as it was. It is done only where the file stands for
+/// an office that is upgraded, now or before, and the output tells which.
+pub fn statuses_of_migrate<D: Disk + Drop>()
+    ensures bad_file { (status : ℕ) (before after : World D) → RunsMigrate D.senses status before
+        after → status ≡ BAD_FILE → (file : List ℕ) → D.senses.content before.disk ≡ Some file
+        → IsBad file }
+    ensures refused { (status : ℕ) (before after : World D) → RunsMigrate D.senses status before
+        after → status ≡ REFUSED → (reading : ℕ) × Reads reading before.to_come after.to_come
+        × IsUnmigrated D.senses reading before.held after.held before.disk after.disk }
+    ensures done { (status : ℕ) (before after : World D) → RunsMigrate D.senses status before after
+        → status ≡ DONE → (reading : ℕ) × Reads reading before.to_come after.to_come
+        × IsMigrated D.senses reading before.held after.held before.disk after.disk }
 {}
 
 /// `pipe` ends with the status of a bad file only where the file has no header, or is damaged.

@@ -11,6 +11,7 @@ mod generate;
 mod init;
 mod input;
 pub mod laws;
+mod migrate;
 mod pipe;
 mod report;
 mod running;

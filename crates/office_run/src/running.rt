@@ -16,6 +16,7 @@ use crate::ending::{DISK_FAULT, DONE, DOORS_FAULT, NO_MEMORY, READ_FAULT, USAGE,
 use crate::faults_sink::tell_status;
 use crate::generate::run_generate;
 use crate::init::run_init;
+use crate::migrate::run_migrate;
 use crate::pipe::run_pipe;
 use crate::report::run_report;
 use crate::serve::run_serve;
@@ -35,19 +36,20 @@ pub struct RunEnd<D: Drop> {
 /// Runs the program on these words, and answers the status that it ends with.
 ///
 /// `budget TARGET FROM TO` reads CSV records `source,minute,revision,good,total` and prints the
-/// error budget of the minutes in [FROM, TO). `check` reads OpenSLO documents, judges whether their
-/// objects can be defined together, and prints how many documents and objects there are. Where the
-/// source tells its bytes, what is printed and what is refused is the definition's answer on these
-/// bytes, however reads cut them. `init` and `init ORIGIN` make a journal on the disk, whose
-/// history begins at the clock's reading or at ORIGIN, in minutes since 1970-01-01T00:00Z, and
-/// print this origin. `pipe` opens the journal, and serves one session over the input and the
-/// output. `report` and `report AT` open the journal, and print the report over its history at the
-/// moment or at AT. `generate N` plays the sample stream of number N over an office in memory, and
-/// prints a summary. `counters SLI` reads CSV records of counters' readings,
-/// `source,minute,revision,good,total`, and writes a sample row of the indicator SLI for each
-/// difference between two of them, as it arises. `serve PORT` opens the journal, and serves it to
-/// the visitors of the doors at this port, by four workers that take turns. The disk is handed
-/// back.
+/// error budget of the minutes in [FROM, TO). `check` reads OpenSLO documents, judges whether
+/// their objects can be defined together, and prints how many documents and objects there are.
+/// Where the source tells its bytes, what is printed and what is refused is the definition's
+/// answer on these bytes, however reads cut them. `init` and `init ORIGIN` make a journal on the
+/// disk, whose history begins at the clock's reading or at ORIGIN, in minutes since
+/// 1970-01-01T00:00Z, and print this origin. `migrate` opens the journal, upgrades its office, and
+/// prints the place of the upgrade in its history, or that the office was upgraded before. `pipe`
+/// opens the journal, and serves one session over the input and the output. `report` and `report
+/// AT` open the journal, and print the report over its history at the moment or at AT. `generate
+/// N` plays the sample stream of number N over an office in memory, and prints a summary.
+/// `counters SLI` reads CSV records of counters' readings, `source,minute,revision,good,total`,
+/// and writes a sample row of the indicator SLI for each difference between two of them, as it
+/// arises. `serve PORT` opens the journal, and serves it to the visitors of the doors at this
+/// port, by four workers that take turns. The disk is handed back.
 pub fn run<
     R: AllocGlobal + Wait + Threads + Sync,
     S: Source,
@@ -129,6 +131,7 @@ pub fn run<
             RunEnd { status, disk }
         }
         Ok(Invocation::Init(origin)) => run_init(alloc, origin, output, faults, disk, clock),
+        Ok(Invocation::Migrate) => run_migrate(alloc, output, faults, disk, clock),
         Ok(Invocation::Pipe) => run_pipe(alloc, input, output, faults, disk, clock),
         Ok(Invocation::Report(at)) => run_report(alloc, at, output, faults, disk, clock),
         Ok(Invocation::Serve(port)) => run_serve(rt, alloc, port, output, faults, disk, doors),
