@@ -60,52 +60,88 @@ fn pattern(alloc: Global, length: usize, number: usize) -> Result<Vec<u8>, Alloc
     Ok(bytes)
 }
 
-/// Runs `pipe` again over what a stop or a fault left, and compares the last answer.
-fn again(
-    rt: &(impl AllocGlobal + Wait + Threads + Sync),
-    setting: &Setting,
-    file: &[u8],
-    input: &[u8],
-    whole: &Played,
-    tally: PlayTally,
-) -> Result<PlayTally, AllocError> {
-    let left = Setting {
-        file,
-        readings: setting.readings,
-        failing: "",
-        piece: setting.piece,
-    };
-    let played = left.play(rt, "pipe", input)?;
-    let alloc = rt.alloc();
-    let last = last_answer(alloc, played.output.bytes())?;
-    let wanted = last_answer(alloc, whole.output.bytes())?;
-    let is_same = last.as_str() == wanted.as_str();
-    Ok(PlayTally {
-        runs: tally.runs.saturating_add(1),
-        no_journal: tally
-            .no_journal
-            .saturating_add(u32::from(played.status == 3)),
-        same: tally.same.saturating_add(u32::from(is_same)),
-        left_out: tally.left_out,
-    })
+/// What is tried: the requests that come over each file that is left, and the last answer to them
+/// where nothing stops the run.
+#[derive(Drop)]
+struct Trial<'a> {
+    setting: Setting<'a>,
+    input: &'a [u8],
+    wanted: String,
+}
+
+impl<'a> Trial<'a> {
+    /// The trial of a run of these words that nothing stopped. Words that take no requests have
+    /// `pipe` behind them for the last answer.
+    fn of(
+        rt: &(impl AllocGlobal + Wait + Threads + Sync),
+        setting: Setting<'a>,
+        words: &str,
+        input: &'a [u8],
+        whole: &Played,
+    ) -> Result<Trial<'a>, AllocError> {
+        let mut trial = Trial {
+            setting,
+            input,
+            wanted: last_answer(rt.alloc(), whole.output.bytes())?,
+        };
+        if words != "pipe" {
+            let behind = trial.pipe_over(rt, whole.disk.bytes())?;
+            trial.wanted = last_answer(rt.alloc(), behind.output.bytes())?;
+        }
+        Ok(trial)
+    }
+
+    /// Runs `pipe` with the requests over a file.
+    fn pipe_over(
+        &self,
+        rt: &(impl AllocGlobal + Wait + Threads + Sync),
+        file: &[u8],
+    ) -> Result<Played, AllocError> {
+        let left = Setting {
+            file,
+            readings: self.setting.readings,
+            failing: "",
+            piece: self.setting.piece,
+        };
+        left.play(rt, "pipe", self.input)
+    }
+
+    /// Runs `pipe` over what a stop or a fault left, and compares the last answer.
+    fn again(
+        &self,
+        rt: &(impl AllocGlobal + Wait + Threads + Sync),
+        file: &[u8],
+        tally: PlayTally,
+    ) -> Result<PlayTally, AllocError> {
+        let played = self.pipe_over(rt, file)?;
+        let last = last_answer(rt.alloc(), played.output.bytes())?;
+        let is_same = last.as_str() == self.wanted.as_str();
+        Ok(PlayTally {
+            runs: tally.runs.saturating_add(1),
+            no_journal: tally
+                .no_journal
+                .saturating_add(u32::from(played.status == 3)),
+            same: tally.same.saturating_add(u32::from(is_same)),
+            left_out: tally.left_out,
+        })
+    }
 }
 
 /// Tries files that a stop after so many calls may leave: of all that may, the one nearest to the
 /// file as it reads at the end, and those nearest to patterns of bytes.
 fn after_stop(
     rt: &(impl AllocGlobal + Wait + Threads + Sync),
-    setting: &Setting,
-    input: &[u8],
+    trial: &Trial,
     whole: &Played,
     calls: usize,
     tally: PlayTally,
 ) -> Result<PlayTally, AllocError> {
     let file = whole.disk.after_stop(calls, whole.disk.bytes())?;
-    let mut tally = again(rt, setting, &file, input, whole, tally)?;
+    let mut tally = trial.again(rt, &file, tally)?;
     for number in 1..MOST_FILES {
         let wanted = pattern(rt.alloc(), whole.disk.bytes().len(), number - 1)?;
         let file = whole.disk.after_stop(calls, &wanted)?;
-        tally = again(rt, setting, &file, input, whole, tally)?;
+        tally = trial.again(rt, &file, tally)?;
     }
     Ok(tally)
 }
@@ -120,10 +156,11 @@ pub fn over_stops(
     input: &[u8],
 ) -> Result<String, AllocError> {
     let whole = setting.play(rt, words, input)?;
+    let trial = Trial::of(rt, *setting, words, input, &whole)?;
     let calls = whole.disk.calls().len();
     let mut tally = NOTHING;
     for count in 0..calls {
-        tally = after_stop(rt, setting, input, &whole, count, tally)?;
+        tally = after_stop(rt, &trial, &whole, count, tally)?;
     }
     tell(rt.alloc(), "stops", tally)
 }
@@ -131,8 +168,7 @@ pub fn over_stops(
 /// Tries the mixtures of one end; too many are left out, and counted.
 fn over_mixtures_at(
     rt: &(impl AllocGlobal + Wait + Threads + Sync),
-    setting: &Setting,
-    input: &[u8],
+    trial: &Trial,
     whole: &Played,
     calls: usize,
     mixtures: &Mixtures,
@@ -148,7 +184,7 @@ fn over_mixtures_at(
     for number in 0..count {
         let wanted = mixtures.at(rt.alloc(), number)?;
         let file = whole.disk.after_stop(calls, &wanted)?;
-        tally = again(rt, setting, &file, input, whole, tally)?;
+        tally = trial.again(rt, &file, tally)?;
     }
     Ok(tally)
 }
@@ -156,19 +192,18 @@ fn over_mixtures_at(
 /// Tries each mixture that a stop after so many calls may leave, over this byte.
 fn mixed_after_stop(
     rt: &(impl AllocGlobal + Wait + Threads + Sync),
-    setting: &Setting,
-    input: &[u8],
+    trial: &Trial,
     whole: &Played,
     calls: usize,
     fill: u8,
     tally: PlayTally,
 ) -> Result<PlayTally, AllocError> {
     let alloc = rt.alloc();
-    let torn = Torn::after(alloc, setting.file, &whole.disk, calls)?;
+    let torn = Torn::after(alloc, trial.setting.file, &whole.disk, calls)?;
     let mut tally = tally;
     for end in torn.ends() {
         let mixtures = torn.ending(alloc, end, fill)?;
-        tally = over_mixtures_at(rt, setting, input, whole, calls, &mixtures, tally)?;
+        tally = over_mixtures_at(rt, trial, whole, calls, &mixtures, tally)?;
     }
     Ok(tally)
 }
@@ -183,11 +218,12 @@ pub fn over_mixtures(
     input: &[u8],
 ) -> Result<String, AllocError> {
     let whole = setting.play(rt, words, input)?;
+    let trial = Trial::of(rt, *setting, words, input, &whole)?;
     let calls = whole.disk.calls().len();
     let mut tally = NOTHING;
     for count in 0..calls {
         for fill in FILLS {
-            tally = mixed_after_stop(rt, setting, input, &whole, count, fill, tally)?;
+            tally = mixed_after_stop(rt, &trial, &whole, count, fill, tally)?;
         }
     }
     let left_out = tally.left_out;
@@ -205,6 +241,7 @@ pub fn over_faults(
     input: &[u8],
 ) -> Result<String, AllocError> {
     let whole = setting.play(rt, words, input)?;
+    let trial = Trial::of(rt, *setting, words, input, &whole)?;
     let calls = whole.disk.calls().len();
     let mut tally = NOTHING;
     for count in 0..calls {
@@ -216,7 +253,7 @@ pub fn over_faults(
             piece: setting.piece,
         };
         let played = faulty.play(rt, words, input)?;
-        tally = again(rt, setting, played.disk.bytes(), input, &whole, tally)?;
+        tally = trial.again(rt, played.disk.bytes(), tally)?;
     }
     tell(rt.alloc(), "faults", tally)
 }
