@@ -66,7 +66,7 @@ def disks(report: Report) -> None:
         ended(sealed.run("init"), 4, "disk fault")
     office = Office(report.program, report.folder("shared"), ORIGIN)
     with report.case("a second program on one journal"), office.serving():
-        for word in ("pipe", "report", "init"):
+        for word in ("pipe", "report", "init", "migrate"):
             ended(office.run(word), 4, "disk fault")
 
 
@@ -79,6 +79,12 @@ def inputs_and_outputs(report: Report) -> None:
     for words in (["report"], ["generate", "1"], ["budget", "0.9", "0", "1"]):
         with report.case(f"{words[0]}: a full output"), open("/dev/full", "wb") as sink:
             ended(run_with(office, words, stdout=sink), 6, "write fault")
+    with report.case("migrate: a full output, and the upgrade is kept once"):
+        upgraded = Office(report.program, report.folder("upgraded"), ORIGIN)
+        with open("/dev/full", "wb") as sink:
+            ended(run_with(upgraded, ["migrate"], stdout=sink), 6, "write fault")
+        done = upgraded.run("migrate")
+        assert (done.returncode, done.stdout, len(records(upgraded.journal))) == (0, b"already upgraded\n", 1), done
     with report.case("pipe: a full output, and the change is kept once"):
         path = office.folder / "requests"
         path.write_bytes(TICK)
@@ -118,7 +124,7 @@ def words(report: Report) -> None:
     """Words of no form."""
     office = Office(report.program, report.folder("words"), ORIGIN)
     forms: list[list[str]] = [[], ["--help"], ["help"], ["-h"], ["Budget"], ["budget"], ["budget", "1", "0", "5"], ["budget", "0.9", "5", "4"], ["report", "007"],
-                  ["serve", "0"], ["serve", "65536"], ["serve", "08080"], ["generate", "0"], ["generate", "996"], ["init", "67108864"], ["pipe", "now"]]
+                  ["serve", "0"], ["serve", "65536"], ["serve", "08080"], ["generate", "0"], ["generate", "996"], ["init", "67108864"], ["pipe", "now"], ["migrate", "now"]]
     for given in forms:
         with report.case(f"words of no form: {' '.join(given) or 'none'}"):
             ended(office.run(*given), 2, "usage")

@@ -14,6 +14,9 @@ from office import Office, answers, define, message, minute_now
 from report import Report, Skipped
 
 CALLS = ("pwrite64", "fdatasync", "fsync")
+FATES: tuple[tuple[str, int | str], ...] = (("killed", held.KILL), ("failed", errno.EIO))
+# The record of the upgrade without its moment: its kind alone.
+UPGRADE = b"\x09"
 
 
 def session(origin: int) -> bytes:
@@ -45,6 +48,32 @@ def try_fault(report: Report, origin: int, data: bytes, wanted: list[bytes], cal
     assert sorted(commands(office)) == sorted(wanted), "another history after the session was sent again"
 
 
+def try_upgrade(report: Report, origin: int, call: str, number: int, fate: int | str) -> None:
+    """`migrate` at a fault: the file has one entry, or it and the upgrade, and a second run ends in both."""
+    office = Office(report.program, report.folder(f"migrate-{call}-{number}-{fate}"), origin)
+    office.ask([message("POST", "/tick")])
+    before = commands(office)
+    held.run(report.program, ["migrate"], office.folder, outside=held.Outside(faults={(call, number): fate}))
+    left = commands(office)
+    assert left in (before, before + [UPGRADE]), left
+    again = office.run("migrate")
+    assert (again.returncode, again.stdout) == (0, b"already upgraded\n" if UPGRADE in left else b"upgraded 1\n"), again
+    assert commands(office) == before + [UPGRADE], "another history behind the second run"
+
+
+def upgrades(report: Report, origin: int) -> None:
+    """Stops and faults of `migrate`."""
+    whole = Office(report.program, report.folder("migrate"), origin)
+    whole.ask([message("POST", "/tick")])
+    ran = held.run(report.program, ["migrate"], whole.folder)
+    assert (ran.status, ran.output) == (0, b"upgraded 1\n"), ran
+    for call in CALLS:
+        for name, fate in FATES:
+            with report.case(f"migrate {name} at each of {ran.calls[call]} calls of {call}"):
+                for number in range(ran.calls[call]):
+                    try_upgrade(report, origin, call, number, fate)
+
+
 def run(report: Report) -> None:
     origin = minute_now() - 100_000
     data = session(origin)
@@ -59,8 +88,8 @@ def run(report: Report) -> None:
         return
     wanted = commands(whole)
     for call in CALLS:
-        fates: tuple[tuple[str, int | str], ...] = (("killed", held.KILL), ("failed", errno.EIO))
-        for name, fate in fates:
+        for name, fate in FATES:
             with report.case(f"{name} at each of {ran.calls[call]} calls of {call}"):
                 for number in range(ran.calls[call]):
                     try_fault(report, origin, data, wanted, call, number, fate)
+    upgrades(report, origin)

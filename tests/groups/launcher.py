@@ -61,7 +61,7 @@ def run(report: Report) -> None:
     with report.case("--version and --help need no program"):
         assert checkout.run("--version").stdout == f"slo_office {checkout.version}\n".encode()
         told = checkout.run("--help").stdout.decode()
-        assert all(f"\n  {it}" in told for it in ("budget TARGET FROM TO", "check", "init [ORIGIN]", "pipe", "serve PORT", "report [AT]", "generate N")), told
+        assert all(f"\n  {it}" in told for it in ("budget TARGET FROM TO", "check", "init [ORIGIN]", "migrate", "pipe", "serve PORT", "report [AT]", "generate N")), told
     program = report.program.read_bytes()
     changed = bytearray(program)
     changed[len(changed) // 2] ^= 1

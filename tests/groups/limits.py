@@ -273,6 +273,11 @@ def journal(office: Office, _: int) -> None:
     it.want(sent(entry - 1, last), 200, '{"applied":1,"entry":null}')
     it.want(message("GET", "/objects"), 200, f'{{"entries":{entry},"objects":[{{"kind":"Service","name":"shop"}}]}}')
     it.settle()
+    full(message("POST", "/upgrade"), 4 + 1)
+    it.settle()
+    done = office.run("migrate")
+    assert (done.returncode, done.stderr) == (9, b"slo_office: journal full\n"), done
+    assert office.journal.stat().st_size == most
 
 
 def run(report: Report) -> None:
