@@ -1,79 +1,103 @@
 //! What no clause says of the disk in memory: that calls succeed, and which images can be had.
-use office_outside::{Disk, MemoryDisk, Plan};
+//! A script has a file and the numbers of the calls that fail, and then the calls with what comes
+//! of each. In what comes `_` is a byte 0.
+use crate::rows::{expect_row, numbers_of};
+use office_outside::{Disk, Failed, MemoryDisk, Plan};
 use std::alloc::{AllocError, Global};
-use std::test::Fail;
+use std::process::Abort;
 
-/// A disk of these bytes whose calls of these numbers fail.
-fn disk_of(alloc: Global, bytes: &[u8], failing: &[u64]) -> Result<MemoryDisk, AllocError> {
-    let plan = Plan::new(Vec::from_slice(alloc, failing)?, Vec::new(alloc));
-    MemoryDisk::new(alloc, Vec::from_slice(alloc, bytes)?, plan)
+/// A disk by the first line of a script.
+fn disk_of(alloc: Global, line: &str) -> Result<MemoryDisk, AllocError> {
+    let (file, failing) = line.split_once(' ').unwrap_or((line, ""));
+    let plan = Plan::new(numbers_of(alloc, failing)?, Vec::new(alloc));
+    MemoryDisk::new(alloc, Vec::from_slice(alloc, file.as_bytes())?, plan)
 }
 
-/// Writes the piece, or syncs where it is empty; whether that was done.
-fn is_done(disk: &mut MemoryDisk, at: u64, piece: &[u8]) -> bool {
-    if piece.is_empty() {
-        return disk.sync().is_ok();
-    }
-    disk.write_at(at, piece).is_ok()
+/// Bytes as letters.
+fn letters(alloc: Global, bytes: &[u8]) -> Result<String, AllocError> {
+    String::from_utf8_lossy(alloc, bytes)?.replace(alloc, "\0", "_")
+}
+
+fn done(alloc: Global, outcome: Result<(), Failed>) -> Result<String, AllocError> {
+    String::from_str(alloc, if outcome.is_ok() { "done" } else { "failed" })
 }
 
 /// How many of four bytes a read gives, and the bytes.
-fn read(disk: &mut MemoryDisk, at: u64) -> (Option<usize>, [u8; 4]) {
+fn read(alloc: Global, disk: &mut MemoryDisk, at: u64) -> Result<String, AllocError> {
     let mut piece = *b"....";
-    let count = disk.read_at(at, &mut piece).ok();
-    (count, piece)
+    let count = disk.read_at(at, &mut piece);
+    let bytes = letters(alloc, &piece)?;
+    match count {
+        Ok(count) => format!(in alloc; "{count} {bytes}"),
+        Err(_) => format!(in alloc; "failed {bytes}"),
+    }
+}
+
+/// The image of a stop after so many calls that is nearest to the wanted bytes.
+fn image(alloc: Global, disk: &MemoryDisk, calls: u64, wanted: &str) -> Result<String, AllocError> {
+    let image = disk.after_stop(calls as usize, wanted.as_bytes())?;
+    letters(alloc, &image)
+}
+
+/// What comes of a line's call.
+fn call(alloc: Global, disk: &mut MemoryDisk, line: &str) -> Result<String, AllocError> {
+    let mut words = line.split_ascii_whitespace();
+    let name = words.next().unwrap_or("");
+    let number = words.next().unwrap_or("").parse::<u64>().unwrap_or(0);
+    let text = words.next().unwrap_or("");
+    match name {
+        "write" => done(alloc, disk.write_at(number, text.as_bytes())),
+        "sync" => done(alloc, disk.sync()),
+        "read" => read(alloc, disk, number),
+        "stop" => image(alloc, disk, number, text),
+        _ => letters(alloc, disk.bytes()),
+    }
+}
+
+/// Plays a script.
+fn play(rt: &(impl AllocGlobal + Abort), script: &str) {
+    let (first, lines) = script.split_once('\n').expect(rt, "a disk");
+    let mut disk = disk_of(rt.alloc(), first).expect(rt, "memory");
+    for line in lines.lines() {
+        let (text, wanted) = line.split_once(" => ").expect(rt, "an outcome");
+        let told = call(rt.alloc(), &mut disk, text).expect(rt, "memory");
+        expect_row(rt, text, &told, wanted);
+    }
 }
 
 #[test]
-fn a_disk_reads_what_was_written(rt: HostRuntime) -> Result<(), Fail> {
-    let alloc = rt.alloc();
-    let mut disk = disk_of(alloc, b"abc", &[2, 5])?;
-    for (at, piece, done) in [
-        (5, b"xy".as_slice(), true),
-        (1, b"z", true),
-        (0, b"lost", false),
-    ] {
-        assert_eq!(rt; is_done(&mut disk, at, piece), done);
-    }
-    assert_eq!(rt; disk.bytes(), b"azc\0\0xy".as_slice());
-    for (at, count, bytes) in [
-        (0, Some(4), *b"azc\0"),
-        (4, Some(3), *b"\0xy."),
-        (0, None, *b"...."),
-        (7, Some(0), *b"...."),
-    ] {
-        assert_eq!(rt; read(&mut disk, at), (count, bytes));
-    }
-    Ok(())
+fn a_disk_reads_what_was_written(rt: HostRuntime) {
+    let script = "\
+abc 2 5
+write 5 xy => done
+write 1 z => done
+write 0 lost => failed
+file => azc__xy
+read 0 => 4 azc_
+read 4 => 3 _xy.
+read 0 => failed ....
+read 7 => 0 ....";
+    play(&rt, script);
 }
 
 #[test]
-fn a_stop_leaves_any_bytes_where_nothing_was_synced(rt: HostRuntime) -> Result<(), Fail> {
-    let alloc = rt.alloc();
-    let mut disk = disk_of(alloc, b"abcd", &[1, 2])?;
-    for (at, piece, done) in [
-        (1, b"xy".as_slice(), true),
-        (6, b"z", false),
-        (0, b"", false),
-        (0, b"q", true),
-        (0, b"", true),
-    ] {
-        assert_eq!(rt; is_done(&mut disk, at, piece), done);
-    }
-    for (calls, wanted, left) in [
-        (0, b"00000000".as_slice(), b"abcd".as_slice()),
-        (1, b"", b"abcd"),
-        (1, b"00000000", b"a00d"),
-        (1, b"ay", b"aycd"),
-        (2, b"00000000", b"a00d000"),
-        (2, b"axydz", b"axydz"),
-        (3, b"00000000", b"a00d000"),
-        (4, b"00000000", b"000d000"),
-        (5, b"00000000", b"qxyd"),
-        (99, b"", b"qxyd"),
-    ] {
-        let image = disk.after_stop(calls, wanted)?;
-        assert_eq!(rt; image.as_slice(), left, "after {calls} calls");
-    }
-    Ok(())
+fn a_stop_leaves_any_bytes_where_nothing_was_synced(rt: HostRuntime) {
+    let script = "\
+abcd 1 2
+write 1 xy => done
+write 6 z => failed
+sync => failed
+write 0 q => done
+sync => done
+stop 0 00000000 => abcd
+stop 1 => abcd
+stop 1 00000000 => a00d
+stop 1 ay => aycd
+stop 2 00000000 => a00d000
+stop 2 axydz => axydz
+stop 3 00000000 => a00d000
+stop 4 00000000 => 000d000
+stop 5 00000000 => qxyd
+stop 99 => qxyd";
+    play(&rt, script);
 }

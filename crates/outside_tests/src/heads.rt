@@ -1,6 +1,10 @@
-//! What is heard of messages at the corners of their form and their limits, and in pieces.
+//! What is heard of messages at the corners of their form and their limits, and in pieces. A row
+//! says by its first word what is told of a message. In a message `|` is a line feed, and `~` a
+//! byte that is no character.
+use crate::rows::{expect_row, message_of, number_of};
 use message_heads::{Heard, Hearing, hear, read_request};
 use std::alloc::{AllocError, Global};
+use std::process::Abort;
 
 /// The status of a bad message, 200 for a whole one, 100 where more has to come.
 fn status(bytes: &[u8]) -> u16 {
@@ -11,133 +15,60 @@ fn status(bytes: &[u8]) -> u16 {
     }
 }
 
+fn status_text(alloc: Global, bytes: &[u8]) -> Result<String, AllocError> {
+    let status = status(bytes);
+    format!(in alloc; "{status}")
+}
+
 /// `front`, so many times `part`, and `back`.
-fn text(alloc: Global, front: &[u8], part: &[u8], count: usize) -> Result<Vec<u8>, AllocError> {
+fn repeated(
+    alloc: Global,
+    front: &[u8],
+    part: &[u8],
+    count: usize,
+    back: &[u8],
+) -> Result<Vec<u8>, AllocError> {
     let mut bytes = Vec::new(alloc);
     bytes.extend_from_slice(front)?;
     for _ in 0..count {
         bytes.extend_from_slice(part)?;
     }
+    bytes.extend_from_slice(back)?;
     Ok(bytes)
 }
 
-#[test]
-fn each_message_has_its_status(rt: HostRuntime) {
-    let cases: [(&[u8], u16); 22] = [
-        (b"", 100),
-        (b"\r\n", 100),
-        (b"\x00", 400),
-        (b"GET / HTTP/1.1\r\n\r\n", 200),
-        (b"GET / HTTP/1.1\r\n\r", 100),
-        (b"GET / HTTP/1.0\n\n", 200),
-        (b"GET / HTTP/2.0\r\n\r\n", 400),
-        (b"GET /\xFF HTTP/1.1\r\n", 400),
-        (
-            b"GET / HTTP/1.1\r\nContent-Length: 5\r\nContent-Length: 5\r\n\r\n",
-            400,
-        ),
-        (b"GET / HTTP/1.1\r\nContent-Length: +5\r\n\r\n", 400),
-        (
-            b"GET / HTTP/1.1\r\nContent-Length: 00000000000000000005\r\n\r\n",
-            400,
-        ),
-        (b"GET / HTTP/1.1\r\nContent-Length:\r\n\r\n", 400),
-        (
-            b"GET / HTTP/1.1\r\nContent-Length: 0000000000000000000\r\n\r\n",
-            200,
-        ),
-        (b"GET / HTTP/1.1\r\nTransfer-Encoding: chunked\r\n\r\n", 501),
-        (b"GET / HTTP/1.1\r\nTransfer-Encoding:\r\n\r\n", 501),
-        (
-            b"GET / HTTP/1.1\r\nTransfer-Encoding: chunked\r\nContent-Length: x\r\n\r\n",
-            400,
-        ),
-        (
-            b"GET / HTTP/1.1\r\ntransfer-encoding: a\r\ncontent-length: 1048577\r\n\r\n",
-            501,
-        ),
-        (b"GET / HTTP/1.1\r\nContent-Length: 1048577\r\n\r\n", 413),
-        (
-            b"GET / HTTP/1.1\r\nContent-Length: 9999999999999999999\r\n\r\n",
-            413,
-        ),
-        (b"GET / HTTP/1.1\r\nContent-Length: 1048576\r\n\r\n", 100),
-        (b"GET / HTTP/1.1\r\nCONTENT-LENGTH: 5\r\n\r\nhell", 100),
-        (
-            b"GET / HTTP/1.1\r\nContent-Length: 05\r\n\r\nhello more",
-            200,
-        ),
-    ];
-    for (at, (bytes, want)) in cases.iter().enumerate() {
-        assert!(rt; status(bytes) == *want, "case {at}");
-    }
+/// The status of a message.
+fn heard(alloc: Global, text: &str) -> Result<String, AllocError> {
+    status_text(alloc, &message_of(alloc, text)?)
 }
 
-#[test]
-fn heads_end_at_their_limits(rt: HostRuntime) {
-    let front = b"GET / HTTP/1.1\r\n".as_slice();
-    // 16 bytes, and fields of 4: with 2,043 fields they are 8,188
-    let cases: [(usize, &[u8], u16); 9] = [
-        (64, b"\r\n", 200),
-        (65, b"\r\n", 431),
-        (65, b"", 100),
-        (65, b"\x00", 400),
-        (2043, b"xyz", 100),
-        (2043, b"xyzz", 431),
-        (2043, b"xyz\x00", 431),
-        (2043, b"xy\x00z", 400),
-        (63, b"b:\n\n", 200),
-    ];
-    for (at, (count, back, want)) in cases.iter().enumerate() {
-        let mut bytes = text(rt.alloc(), front, b"a:b\n", *count).expect(&rt, "memory");
-        bytes.extend_from_slice(back).expect(&rt, "memory");
-        assert!(rt; status(&bytes) == *want, "case {at}");
-    }
+/// The status of a head with so many fields of four bytes, and what stands behind them.
+fn fields(alloc: Global, text: &str) -> Result<String, AllocError> {
+    let (count, back) = text.split_once(' ').unwrap_or((text, ""));
+    let back = message_of(alloc, back)?;
+    let front = b"GET / HTTP/1.1\r\n";
+    let bytes = repeated(alloc, front, b"a:b\n", number_of(count), &back)?;
+    status_text(alloc, &bytes)
 }
 
-#[test]
-fn a_head_of_8192_bytes_is_whole(rt: HostRuntime) {
-    // 16 bytes beside the target's
-    for (count, want) in [(8176, 200), (8177, 431)] {
-        let mut bytes = text(rt.alloc(), b"GET /", b"x", count).expect(&rt, "memory");
-        bytes
-            .extend_from_slice(b" HTTP/1.1\n\n")
-            .expect(&rt, "memory");
-        assert!(rt;
-            bytes.len() == count + 16 && status(&bytes) == want,
-            "{count}"
-        );
-    }
+/// The length and the status of a message whose target has so many bytes.
+fn target(alloc: Global, count: &str) -> Result<String, AllocError> {
+    let count = number_of(count).saturating_sub(1);
+    let bytes = repeated(alloc, b"GET /", b"x", count, b" HTTP/1.1\n\n")?;
+    let (length, status) = (bytes.len(), status(&bytes));
+    format!(in alloc; "{length} {status}")
 }
 
-#[test]
-fn connections_close_as_they_say(rt: HostRuntime) {
-    let cases: [(&[u8], bool); 7] = [
-        (b"GET / HTTP/1.1\r\n\r\n", false),
-        (b"GET / HTTP/1.0\r\nConnection: keep-alive\r\n\r\n", true),
-        (b"GET / HTTP/1.1\r\nConnection: close\r\n\r\n", true),
-        (
-            b"GET / HTTP/1.1\r\nconnection: upgrade ,\tCLOSE \r\n\r\n",
-            true,
-        ),
-        (b"GET / HTTP/1.1\r\nConnection: close;q=1\r\n\r\n", false),
-        (
-            b"GET / HTTP/1.1\r\nConnection: a\r\nConnection: close\r\n\r\n",
-            true,
-        ),
-        (b"GET / HTTP/1.1\r\nConnections: close\r\n\r\n", false),
-    ];
-    for (at, (bytes, want)) in cases.iter().enumerate() {
-        match read_request(bytes) {
-            Heard::Whole(message, length) => {
-                assert!(rt;
-                    message.close == *want && length == bytes.len(),
-                    "case {at}"
-                );
-            }
-            _ => assert!(rt; false, "case {at} is whole"),
+/// Whether a whole message closes its connection.
+fn closes(alloc: Global, text: &str) -> Result<String, AllocError> {
+    let bytes = message_of(alloc, text)?;
+    let told = match read_request(&bytes) {
+        Heard::Whole(message, length) if length == bytes.len() => {
+            if message.close { "closes" } else { "stays" }
         }
-    }
+        _ => "not whole",
+    };
+    String::from_str(alloc, told)
 }
 
 /// How often a reader has to hear a message that comes in such pieces, and the place of its body.
@@ -158,17 +89,107 @@ fn hear_in_pieces(bytes: &[u8], piece: usize) -> (u32, (u32, u32)) {
     (calls, (0, 0))
 }
 
+/// The same of a message with a body of 70,000 bytes.
+fn long_body(alloc: Global, piece: &str) -> Result<String, AllocError> {
+    let head = b"POST /samples HTTP/1.1\r\nContent-Length: 70000\r\n\r\n";
+    let bytes = repeated(alloc, head, b"0123456789", 7_000, b"")?;
+    let (calls, (from, to)) = hear_in_pieces(&bytes, number_of(piece));
+    format!(in alloc; "{calls} calls, {from} to {to}")
+}
+
+/// What comes of a row.
+fn told(alloc: Global, row: &str) -> Result<String, AllocError> {
+    let (verb, text) = row.split_once(' ').unwrap_or((row, ""));
+    match verb {
+        "hear" => heard(alloc, text),
+        "fields" => fields(alloc, text),
+        "target" => target(alloc, text),
+        "close" => closes(alloc, text),
+        _ => long_body(alloc, text),
+    }
+}
+
+/// Holds what comes of each row to what is wanted.
+fn play(rt: &(impl AllocGlobal + Abort), rows: &str) {
+    for line in rows.lines() {
+        let (row, wanted) = line.split_once(" => ").expect(rt, "what is wanted");
+        let told = told(rt.alloc(), row).expect(rt, "memory");
+        expect_row(rt, row, &told, wanted);
+    }
+}
+
+#[test]
+fn each_message_has_its_status(rt: HostRuntime) {
+    let rows = "\
+hear => 100
+hear \r| => 100
+hear \0 => 400
+hear GET / HTTP/1.1\r|\r| => 200
+hear GET / HTTP/1.1\r|\r => 100
+hear GET / HTTP/1.0|| => 200
+hear GET / HTTP/2.0\r|\r| => 400
+hear GET /~ HTTP/1.1\r| => 400
+hear GET / HTTP/1.1\r|Content-Length: 5\r|Content-Length: 5\r|\r| => 400
+hear GET / HTTP/1.1\r|Content-Length: +5\r|\r| => 400
+hear GET / HTTP/1.1\r|Content-Length: 00000000000000000005\r|\r| => 400
+hear GET / HTTP/1.1\r|Content-Length:\r|\r| => 400
+hear GET / HTTP/1.1\r|Content-Length: 0000000000000000000\r|\r| => 200
+hear GET / HTTP/1.1\r|Transfer-Encoding: chunked\r|\r| => 501
+hear GET / HTTP/1.1\r|Transfer-Encoding:\r|\r| => 501
+hear GET / HTTP/1.1\r|Transfer-Encoding: chunked\r|Content-Length: x\r|\r| => 400
+hear GET / HTTP/1.1\r|transfer-encoding: a\r|content-length: 1048577\r|\r| => 501
+hear GET / HTTP/1.1\r|Content-Length: 1048577\r|\r| => 413
+hear GET / HTTP/1.1\r|Content-Length: 9999999999999999999\r|\r| => 413
+hear GET / HTTP/1.1\r|Content-Length: 1048576\r|\r| => 100
+hear GET / HTTP/1.1\r|CONTENT-LENGTH: 5\r|\r|hell => 100
+hear GET / HTTP/1.1\r|Content-Length: 05\r|\r|hello more => 200";
+    play(&rt, rows);
+}
+
+/// The line and its end have 16 bytes: with 2,043 fields they are 8,188.
+#[test]
+fn heads_end_at_their_limits(rt: HostRuntime) {
+    let rows = "\
+fields 64 \r| => 200
+fields 65 \r| => 431
+fields 65 => 100
+fields 65 \0 => 400
+fields 2043 xyz => 100
+fields 2043 xyzz => 431
+fields 2043 xyz\0 => 431
+fields 2043 xy\0z => 400
+fields 63 b:|| => 200";
+    play(&rt, rows);
+}
+
+#[test]
+fn a_head_of_8192_bytes_is_whole(rt: HostRuntime) {
+    let rows = "\
+target 8177 => 8192 200
+target 8178 => 8193 431";
+    play(&rt, rows);
+}
+
+#[test]
+fn connections_close_as_they_say(rt: HostRuntime) {
+    let rows = "\
+close GET / HTTP/1.1\r|\r| => stays
+close GET / HTTP/1.0\r|Connection: keep-alive\r|\r| => closes
+close GET / HTTP/1.1\r|Connection: close\r|\r| => closes
+close GET / HTTP/1.1\r|connection: upgrade ,\tCLOSE \r|\r| => closes
+close GET / HTTP/1.1\r|Connection: close;q=1\r|\r| => stays
+close GET / HTTP/1.1\r|Connection: a\r|Connection: close\r|\r| => closes
+close GET / HTTP/1.1\r|Connections: close\r|\r| => stays";
+    play(&rt, rows);
+}
+
+/// The head has 49 bytes.
 #[test]
 fn a_long_body_is_parsed_twice(rt: HostRuntime) {
-    let head = b"POST /samples HTTP/1.1\r\nContent-Length: 70000\r\n\r\n".as_slice();
-    let bytes = text(rt.alloc(), head, b"0123456789", 7000).expect(&rt, "memory");
-    // the head has 49 bytes
-    let cases: [(usize, u32); 4] = [(1, 50), (7, 8), (4096, 2), (100_000, 1)];
-    for (piece, calls) in cases {
-        let (made, body) = hear_in_pieces(&bytes, piece);
-        assert!(rt;
-            made == calls && body == (49, 70_049),
-            "pieces of {piece}: {made}"
-        );
-    }
+    let rows = "\
+pieces 1 => 50 calls, 49 to 70049
+pieces 7 => 8 calls, 49 to 70049
+pieces 4096 => 2 calls, 49 to 70049
+pieces 100000 => 1 calls, 49 to 70049";
+    play(&rt, rows);
 }

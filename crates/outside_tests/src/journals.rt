@@ -1,30 +1,48 @@
-//! Files byte for byte, what each stop leaves, and what becomes of each call that fails.
+//! Files byte for byte, what each stop leaves, and what becomes of each call that fails. A row says
+//! by its first word what is done. What owns a journal or a disk ends once, at its end, since the
+//! proof that all of it is let go is long.
 ghost use Rattle.std.specs.Prelude.{◌≡◌, None, true};
 ghost use Rattle.office_outside.specs.Faults.{HasCause};
 
+use crate::rows::{bytes_of, bytes_text, expect_row, number_of, numbers_of};
 use office_outside::{Disk, Failed, MemoryDisk, Plan};
-use slo_journal::{
-    AppendFault, CreateFault, Frame, Journal, OpenFault, ScanFault, create, frame_of, open,
-};
+use slo_journal::{AppendFault, Frame, Journal, Scan, ScanFault, create, frame_of, open};
 use std::alloc::{AllocError, Global};
-use std::test::Fail;
+use std::process::Abort;
 
 /// A tick at minute 500, as a record.
-const TICK: [u8; 5] = [0, 0, 1, 0xf4, 7];
+const TICK: &str = "0 0 1 244 7";
 
-/// The file of origin 0 and this record.
-const TICKED: [u8; 24] = [
-    1, b'O', b'S', b'L', b'O', b'J', b'R', b'N', b'1', 0, 0, 0, 0, 1, 0, 0, 0, 5, 0, 0, 1, 0xf4, 7,
-    0,
-];
+/// The file of origin 0 and this record: a header of 13 bytes, a gate, the record's length, the
+/// record and the closed gate.
+const TICKED: &str = "1 OSLOJRN1 0 0 0 0 1 0 0 0 5 0 0 1 244 7 0";
 
 /// The origin of a run's journal.
 const ORIGIN: u32 = 9;
 
+/// The bytes of words.
+fn bytes(rt: &(impl AllocGlobal + Abort), words: &str) -> Vec<u8> {
+    bytes_of(rt.alloc(), words).expect(rt, "memory")
+}
+
 /// A disk whose calls of these numbers fail.
-fn disk_of(alloc: Global, bytes: &[u8], failing: &[u64]) -> Result<MemoryDisk, AllocError> {
-    let plan = Plan::new(Vec::from_slice(alloc, failing)?, Vec::new(alloc));
-    MemoryDisk::new(alloc, Vec::from_slice(alloc, bytes)?, plan)
+fn disk_of(rt: &(impl AllocGlobal + Abort), file: &[u8], failing: &str) -> MemoryDisk {
+    let failing = numbers_of(rt.alloc(), failing).expect(rt, "memory");
+    let plan = Plan::new(failing, Vec::new(rt.alloc()));
+    let file = Vec::from_slice(rt.alloc(), file).expect(rt, "memory");
+    MemoryDisk::new(rt.alloc(), file, plan).expect(rt, "memory")
+}
+
+/// A record's frame. The records here have at most as many bytes as a record may.
+fn frame(rt: &(impl AllocGlobal + Abort), record: &[u8]) -> Frame {
+    assert!(rt; !record.is_empty() && record.len() <= 1_100_000);
+    frame_of(rt.alloc(), record).expect(rt, "memory")
+}
+
+/// The frame of a record of so many bytes, each of them 1.
+fn frame_of_size(rt: &(impl AllocGlobal + Abort), size: usize) -> Frame {
+    let record = vec![in rt.alloc(); 1u8; size].expect(rt, "memory");
+    frame(rt, &record)
 }
 
 /// How a call of a run ended.
@@ -56,31 +74,36 @@ fn added<D: Disk + Drop>(journal: &mut Journal<D>, frame: &Frame) -> Ended
     }
 }
 
-/// Makes a journal over these bytes and appends the two records, while these calls fail.
-fn run(
-    alloc: Global,
-    bytes: &[u8],
-    failing: &[u64],
-) -> Result<([Ended; 3], MemoryDisk), AllocError> {
-    let first = frame_of(alloc, &[5])?;
-    let second = frame_of(alloc, &[6, 7])?;
-    let mut journal = match create(disk_of(alloc, bytes, failing)?, ORIGIN) {
-        Ok(journal) => journal,
-        Err(failed) => return Ok((
+/// Appends the two records of a run.
+fn append_two(
+    rt: &(impl AllocGlobal + Abort),
+    mut journal: Journal<MemoryDisk>,
+) -> ([Ended; 3], MemoryDisk)
+    requires { journal.doubt ≡ None }
+{
+    let first = frame(rt, &[5]);
+    let second = frame(rt, &[6, 7]);
+    let one = added(&mut journal, &first);
+    let mut two = Ended::NotTried;
+    if !journal.in_doubt() {
+        two = added(&mut journal, &second);
+    }
+    ([Ended::Done, one, two], journal.give_back())
+}
+
+/// Makes a journal on a disk and appends the two records: how each ended, and the disk.
+fn run(rt: &(impl AllocGlobal + Abort), disk: MemoryDisk) -> ([Ended; 3], MemoryDisk) {
+    match create(disk, ORIGIN) {
+        Ok(journal) => append_two(rt, journal),
+        Err(failed) => (
             [Ended::Failed, Ended::NotTried, Ended::NotTried],
             failed.disk,
-        )),
-    };
-    let one = added(&mut journal, &first);
-    if journal.in_doubt() {
-        return Ok(([Ended::Done, one, Ended::NotTried], journal.give_back()));
+        ),
     }
-    let two = added(&mut journal, &second);
-    Ok(([Ended::Done, one, two], journal.give_back()))
 }
 
 /// What a file opens to: its records, the sum of all their bytes, and the fault behind them.
-#[derive(Clone, Copy, Debug, Drop, PartialEq, Eq)]
+#[derive(Clone, Copy, Drop)]
 struct Found {
     origin: u32,
     records: usize,
@@ -88,11 +111,32 @@ struct Found {
     fault: Option<ScanFault>,
 }
 
-/// Reads a disk to its closed gate, or to the first fault; None where it isn't opened.
-fn opened(alloc: Global, disk: MemoryDisk) -> Result<Option<Found>, AllocError> {
-    let Ok(mut scan) = open(alloc, disk) else {
-        return Ok(None);
-    };
+impl Found {
+    fn count(&mut self, record: &[u8]) {
+        self.records = self.records.saturating_add(1);
+        for byte in record.iter() {
+            self.sum = self.sum.saturating_add(*byte as usize);
+        }
+    }
+}
+
+/// Reads a record; whether there may be another one.
+fn read_next(scan: &mut Scan<MemoryDisk>, record: &mut Vec<u8>, found: &mut Found) -> bool {
+    match scan.next(record) {
+        Ok(true) => {
+            found.count(record);
+            true
+        }
+        Ok(false) => false,
+        Err(fault) => {
+            found.fault = Some(fault);
+            false
+        }
+    }
+}
+
+/// Reads to the closed gate, to the first fault, or 20 records.
+fn read_all(alloc: Global, mut scan: Scan<MemoryDisk>) -> Found {
     let mut found = Found {
         origin: scan.origin(),
         records: 0,
@@ -101,142 +145,293 @@ fn opened(alloc: Global, disk: MemoryDisk) -> Result<Option<Found>, AllocError> 
     };
     let mut record = Vec::new(alloc);
     for _ in 0..20 {
-        match scan.next(&mut record) {
-            Ok(true) => {
-                found.records = found.records.saturating_add(1);
-                for byte in record.iter() {
-                    found.sum = found.sum.saturating_add(*byte as usize);
-                }
+        if !read_next(&mut scan, &mut record, &mut found) {
+            break;
+        }
+    }
+    found
+}
+
+/// What a file opens to; None where it isn't opened.
+fn opened(rt: &(impl AllocGlobal + Abort), file: &[u8]) -> Option<Found> {
+    match open(rt.alloc(), disk_of(rt, file, "")) {
+        Ok(scan) => Some(read_all(rt.alloc(), scan)),
+        Err(_) => None,
+    }
+}
+
+/// How many records were found of which sum, and where the file is damaged.
+fn found_text(alloc: Global, found: Option<Found>) -> Result<String, AllocError> {
+    match found {
+        Some(
+            Found {
+                records,
+                sum,
+                fault: None,
+                ..
+            },
+        ) => format!(in alloc; "{records} of {sum}"),
+        Some(
+            Found {
+                records,
+                sum,
+                fault: Some(ScanFault::Damaged { at }),
+                ..
+            },
+        ) => format!(in alloc; "{records} of {sum}, damaged at {at}"),
+        Some(_) => String::from_str(alloc, "not read"),
+        None => String::from_str(alloc, "no journal"),
+    }
+}
+
+/// What a file of a row opens to.
+fn opened_text(rt: &(impl AllocGlobal + Abort), file: &[u8]) -> String {
+    found_text(rt.alloc(), opened(rt, file)).expect(rt, "memory")
+}
+
+/// The first bytes of the file of a tick.
+fn cut(rt: &(impl AllocGlobal + Abort), length: &str) -> Vec<u8> {
+    let mut file = bytes(rt, TICKED);
+    file.truncate(number_of(length));
+    file
+}
+
+/// The file of a tick with another byte at a place.
+fn put(rt: &(impl AllocGlobal + Abort), place_and_byte: &str) -> Vec<u8> {
+    let (place, byte) = place_and_byte.split_once(' ').unwrap_or(("", ""));
+    let mut file = bytes(rt, TICKED);
+    if let Some(old) = file.get_mut(number_of(place)) {
+        *old = byte.parse::<u8>().unwrap_or(0);
+    }
+    file
+}
+
+/// The file of two ticks, and what stands behind them in the place of the closed gate.
+fn behind(rt: &(impl AllocGlobal + Abort), words: &str) -> Vec<u8> {
+    let mut file = bytes(
+        rt,
+        "1 OSLOJRN1 0 0 0 0 1 0 0 0 5 0 0 1 244 7 1 0 0 0 5 0 0 1 244 7",
+    );
+    file.extend_from_slice(&bytes(rt, words))
+        .expect(rt, "memory");
+    file
+}
+
+/// Adds records of these sizes, and gives the disk.
+fn fill(
+    rt: &(impl AllocGlobal + Abort),
+    mut journal: Journal<MemoryDisk>,
+    sizes: &str,
+) -> MemoryDisk {
+    for size in sizes.split_ascii_whitespace() {
+        assert!(rt; !journal.in_doubt());
+        let frame = frame_of_size(rt, number_of(size));
+        assert!(rt; added(&mut journal, &frame) == Ended::Done);
+    }
+    journal.give_back()
+}
+
+/// The file of a journal of origin 0 with records of these sizes.
+fn filled(rt: &(impl AllocGlobal + Abort), sizes: &str) -> Vec<u8> {
+    match create(disk_of(rt, &[], ""), 0) {
+        Ok(journal) => {
+            let disk = fill(rt, journal, sizes);
+            disk.bytes().to_vec(rt.alloc()).expect(rt, "memory")
+        }
+        Err(_) => Vec::new(rt.alloc()),
+    }
+}
+
+/// Adds a tick, and gives the disk.
+fn add_tick(rt: &(impl AllocGlobal + Abort), mut journal: Journal<MemoryDisk>) -> MemoryDisk
+    requires { journal.doubt ≡ None }
+{
+    let frame = frame(rt, &bytes(rt, TICK));
+    assert!(rt; added(&mut journal, &frame) == Ended::Done);
+    journal.give_back()
+}
+
+/// The file of a journal of origin 0 with a tick, or why none is made over these bytes, and the
+/// bytes that are left.
+fn made(rt: &(impl AllocGlobal + Abort), words: &str) -> String {
+    let file = bytes(rt, words);
+    match create(disk_of(rt, &file, ""), 0) {
+        Ok(journal) => {
+            let disk = add_tick(rt, journal);
+            bytes_text(rt.alloc(), "Made", disk.bytes()).expect(rt, "memory")
+        }
+        Err(failed) => {
+            let fault = format!(in rt.alloc(); "{:?}", failed.fault).expect(rt, "memory");
+            bytes_text(rt.alloc(), fault.as_str(), failed.disk.bytes()).expect(rt, "memory")
+        }
+    }
+}
+
+/// What an image is: 0 without a header, one more than the records where it opens to the first
+/// records of a run, and 9 else.
+fn stage_of(rt: &(impl AllocGlobal + Abort), image: &[u8]) -> u64 {
+    let Some(found) = opened(rt, image) else {
+        return 0;
+    };
+    if found.origin != ORIGIN || found.fault.is_some() {
+        return 9;
+    }
+    match (found.records, found.sum) {
+        (0, 0) => 1,
+        (1, 5) => 2,
+        (2, 18) => 3,
+        _ => 9,
+    }
+}
+
+/// Whether a run that is stopped after so many calls may have left this image. The journal is made
+/// by so many calls, and each append takes four; what is in flight shows from its gate on.
+fn is_expected(calls: usize, made: usize, stage: u64) -> bool {
+    let done = calls.saturating_add(4).saturating_sub(made);
+    match done {
+        0..=2 => stage == 0,
+        3 => stage <= 1,
+        4..=6 => stage == 1,
+        7 => stage == 1 || stage == 2,
+        8..=10 => stage == 2,
+        11 => stage == 2 || stage == 3,
+        _ => stage == 3,
+    }
+}
+
+/// The stage of an image that a stop leaves.
+fn stage_after(
+    rt: &(impl AllocGlobal + Abort),
+    disk: &MemoryDisk,
+    calls: usize,
+    wanted: &[u8],
+) -> u64 {
+    let image = disk.after_stop(calls, wanted).expect(rt, "memory");
+    stage_of(rt, &image)
+}
+
+/// How many images are not as expected, of those that a stop after so many calls leaves: of what
+/// was in flight the first bytes came, and behind them other bytes or none.
+fn unexpected(
+    rt: &(impl AllocGlobal + Abort),
+    disk: &MemoryDisk,
+    calls: usize,
+    made: usize,
+) -> usize {
+    let whole = disk.bytes();
+    let mut count: usize = 0;
+    for kept in 0..whole.len() {
+        let mut wanted = Vec::from_slice(rt.alloc(), &whole[..kept]).expect(rt, "memory");
+        for fill in [0, 1, 2, 255] {
+            if !is_expected(calls, made, stage_after(rt, disk, calls, &wanted)) {
+                count = count.saturating_add(1);
             }
-            Ok(false) => return Ok(Some(found)),
-            Err(fault) => {
-                found.fault = Some(fault);
-                return Ok(Some(found));
-            }
+            wanted.truncate(kept);
+            wanted.resize(whole.len(), fill).expect(rt, "memory");
         }
     }
-    Err(AllocError)
+    count
 }
 
-/// The same of a file's bytes, without the origin and the sum.
-fn count_in(alloc: Global, bytes: &[u8]) -> Result<Option<(usize, Option<ScanFault>)>, AllocError> {
-    match opened(alloc, disk_of(alloc, bytes, &[])?)? {
-        Some(found) => Ok(Some((found.records, found.fault))),
-        None => Ok(None),
+/// A run over these bytes that is stopped after each of its calls: how it ended, how many calls it
+/// made behind those that made the journal, and how many images are not as expected.
+fn stopped(rt: &(impl AllocGlobal + Abort), made_and_file: &str) -> String {
+    let (made, words) = made_and_file.split_once(' ').unwrap_or((made_and_file, ""));
+    let made = number_of(made);
+    let file = bytes(rt, words);
+    let ([first, second, third], disk) = run(rt, disk_of(rt, &file, ""));
+    let more = disk.calls().len().saturating_sub(made);
+    let mut count: usize = 0;
+    for calls in 0..disk.calls().len().saturating_add(1) {
+        count = count.saturating_add(unexpected(rt, &disk, calls, made));
     }
+    format!(in rt.alloc();
+        "{first:?} {second:?} {third:?}, {more} more calls, {count} unexpected"
+    ).expect(rt, "memory")
 }
 
-/// The disk of a journal of origin 0 to which these records were added; None where one wasn't.
-fn filled(alloc: Global, records: &[Vec<u8>]) -> Result<Option<MemoryDisk>, AllocError> {
-    let Ok(mut journal) = create(disk_of(alloc, &[], &[])?, 0) else {
-        return Ok(None);
-    };
-    for record in records.iter() {
-        let frame = frame_with(alloc, record)?;
-        if journal.in_doubt() || added(&mut journal, &frame) != Ended::Done {
-            return Ok(None);
+/// The stages of a run's images right before the sync of its first record's gate, by that gate's
+/// byte: where it is 0, and how often it is that of one record where it is any other byte.
+fn gates(rt: &(impl AllocGlobal + Abort)) -> String {
+    let (_, disk) = run(rt, disk_of(rt, &[], ""));
+    let closed = stage_after(rt, &disk, 11, &[0; 14]);
+    let mut open: u32 = 0;
+    for gate in 1..=255 {
+        if stage_after(rt, &disk, 11, &[gate; 14]) == 2 {
+            open = open.saturating_add(1);
         }
     }
-    Ok(Some(journal.give_back()))
+    format!(in rt.alloc(); "{closed}, {open} times 2").expect(rt, "memory")
 }
 
-/// A record's frame. The records here have at most as many bytes as a record may.
-fn frame_with(alloc: Global, bytes: &[u8]) -> Result<Frame, AllocError> {
-    if bytes.is_empty() || bytes.len() > 1_100_000 {
-        return Err(AllocError);
+/// A run while these calls fail: how it ended, and what its file opens to.
+fn failed(rt: &(impl AllocGlobal + Abort), failing: &str) -> String {
+    let ([first, second, third], disk) = run(rt, disk_of(rt, &[], failing));
+    let found = opened_text(rt, disk.bytes());
+    format!(in rt.alloc(); "{first:?} {second:?} {third:?}, {found}").expect(rt, "memory")
+}
+
+/// An append whose gate isn't synced, and two settlings: how these end, whether the record is then
+/// in doubt, and where the closed gate stands.
+fn settle_twice(rt: &(impl AllocGlobal + Abort), mut journal: Journal<MemoryDisk>) -> String
+    requires { journal.doubt ≡ None }
+{
+    let frame = frame(rt, &bytes(rt, TICK));
+    assert!(rt; journal.append(&frame).is_err());
+    assert!(rt; journal.in_doubt());
+    let first = journal.settle().ok();
+    assert!(rt; journal.in_doubt());
+    let second = journal.settle().ok();
+    let (doubt, tail) = (journal.in_doubt(), journal.tail());
+    format!(in rt.alloc(); "{first:?} {second:?} {doubt} {tail}").expect(rt, "memory")
+}
+
+/// The same over an empty file while these calls fail.
+fn settled(rt: &(impl AllocGlobal + Abort), failing: &str) -> String {
+    match create(disk_of(rt, &[], failing), 0) {
+        Ok(journal) => settle_twice(rt, journal),
+        Err(_) => String::new(rt.alloc()),
     }
-    frame_of(alloc, bytes)
 }
 
-/// Why no journal is made on a disk, and the disk.
-fn refused(disk: MemoryDisk) -> Option<(CreateFault, MemoryDisk)> {
-    match create(disk, 7) {
-        Ok(_) => None,
-        Err(failed) => Some((failed.fault, failed.disk)),
+/// How two steps of a scan end, with the place and the length of what was read after each.
+fn two_steps(rt: &(impl AllocGlobal + Abort), mut scan: Scan<MemoryDisk>) -> String {
+    let mut record = bytes(rt, "old");
+    let first = scan.next(&mut record);
+    let (at, length) = (scan.at(), record.len());
+    let second = scan.next(&mut record);
+    let (then, more) = (scan.at(), record.len());
+    format!(in rt.alloc(); "{first:?} {at} {length}, {second:?} {then} {more}").expect(rt, "memory")
+}
+
+/// Two steps over the file of a tick while these calls fail, or why it isn't opened.
+fn scanned(rt: &(impl AllocGlobal + Abort), failing: &str) -> String {
+    match open(rt.alloc(), disk_of(rt, &bytes(rt, TICKED), failing)) {
+        Ok(scan) => two_steps(rt, scan),
+        Err(failed) => format!(in rt.alloc(); "{:?}", failed.fault).expect(rt, "memory"),
     }
 }
 
-#[test]
-fn a_journal_of_one_record_has_24_bytes(rt: HostRuntime) -> Result<(), Fail> {
-    let alloc = rt.alloc();
-    let tick = Vec::from_slice(alloc, &TICK)?;
-    let Some(disk) = filled(alloc, &[tick])? else {
-        assert!(rt; false, "not made");
-        return Ok(());
+/// Reads a tick and the closed gate: where this stands in the journal, or why none is opened; and
+/// how many calls the disk has had.
+fn get_ready(rt: &(impl AllocGlobal + Abort), mut scan: Scan<MemoryDisk>) -> String {
+    let mut record = Vec::new(rt.alloc());
+    assert!(rt; scan.next(&mut record) == Ok(true));
+    assert!(rt; scan.next(&mut record) == Ok(false));
+    let (tail, disk) = match scan.ready() {
+        Ok(journal) => (Ok(journal.tail()), journal.give_back()),
+        Err(failed) => (Err(failed.fault), failed.disk),
     };
-    assert_eq!(rt; disk.bytes(), TICKED.as_slice());
-    let Some((fault, disk)) = refused(disk) else {
-        assert!(rt; false, "made over a header");
-        return Ok(());
-    };
-    assert_eq!(rt; fault, CreateFault::AlreadyThere);
-    assert_eq!(rt; disk.bytes(), TICKED.as_slice());
-    Ok(())
+    let calls = disk.calls().len();
+    format!(in rt.alloc(); "{tail:?} {calls}").expect(rt, "memory")
 }
 
-#[test]
-fn a_file_opens_to_its_records_or_tells_where_it_is_damaged(rt: HostRuntime) -> Result<(), Fail> {
-    let alloc = rt.alloc();
-    for (length, expected) in [
-        (0, None),
-        (12, None),
-        (13, Some((0, Some(ScanFault::Damaged { at: 13 })))),
-        (20, Some((0, Some(ScanFault::Damaged { at: 13 })))),
-        (22, Some((0, Some(ScanFault::Damaged { at: 13 })))),
-        (23, Some((1, Some(ScanFault::Damaged { at: 23 })))),
-        (24, Some((1, None))),
-    ] {
-        assert_eq!(rt;
-            count_in(alloc, &TICKED[..length])?,
-            expected,
-            "cut after {length}"
-        );
+/// The same over the file of a tick while these calls fail.
+fn ready(rt: &(impl AllocGlobal + Abort), failing: &str) -> String {
+    match open(rt.alloc(), disk_of(rt, &bytes(rt, TICKED), failing)) {
+        Ok(scan) => get_ready(rt, scan),
+        Err(_) => String::new(rt.alloc()),
     }
-    for (place, byte, expected) in [
-        (0, 0, None),
-        (0, 255, Some((1, None))),
-        (1, b'o', None),
-        (8, b'2', None),
-        (9, 3, Some((1, None))),
-        (9, 4, None),
-        (13, 0, Some((0, None))),
-        (13, 255, Some((1, None))),
-        (17, 0, Some((0, Some(ScanFault::Damaged { at: 13 })))),
-        (17, 4, Some((1, Some(ScanFault::Damaged { at: 22 })))),
-        (15, 16, Some((0, Some(ScanFault::Damaged { at: 13 })))),
-        (23, 1, Some((1, Some(ScanFault::Damaged { at: 23 })))),
-    ] {
-        let mut bytes = TICKED.to_vec(alloc)?;
-        if let Some(old) = bytes.get_mut(place) {
-            *old = byte;
-        }
-        assert_eq!(rt; count_in(alloc, &bytes)?, expected, "{byte} at {place}");
-    }
-    Ok(())
-}
-
-/// Behind the header's 13 bytes and two records of 5, each with its gate and its length, a gate
-/// stands at 33.
-#[test]
-fn damage_behind_two_records_is_told_at_its_gate(rt: HostRuntime) -> Result<(), Fail> {
-    let alloc = rt.alloc();
-    let mut bytes = Vec::from_slice(alloc, &TICKED[..23])?;
-    bytes.extend_from_slice(&TICKED[13..23])?;
-    let damaged = Some((2, Some(ScanFault::Damaged { at: 33 })));
-    let longer = Some((3, Some(ScanFault::Damaged { at: 40 })));
-    for (behind, expected) in [
-        (b"".as_slice(), damaged),
-        (b"\x01", damaged),
-        (b"\x01\0\0\0\0", damaged),
-        (b"\x01\0\0\0\x02\x05", damaged),
-        (b"\x01\0\0\0\x02\x05\x06", longer),
-        (b"\0", Some((2, None))),
-    ] {
-        let mut file = bytes.to_vec(alloc)?;
-        file.extend_from_slice(behind)?;
-        assert_eq!(rt; count_in(alloc, &file)?, expected, "{behind:?}");
-    }
-    Ok(())
 }
 
 /// A disk that keeps nothing, so that a journal on it may be of any length: a read finds an empty
@@ -305,306 +500,191 @@ fn is_added(journal: &mut Journal<Blank>, frame: &Frame, times: u32) -> bool
     !journal.in_doubt()
 }
 
-/// How an append of five bytes ends behind 244 records of 1,100,000 bytes and one of `size`, with
-/// the places of the closed gate before and after it, where the disk fails once it was called so
-/// many times; None where the append isn't tried.
-fn last_of_many(
-    alloc: Global,
+/// How an append of five bytes ends behind 244 records of 1,100,000 bytes and one of this size,
+/// with the places of the closed gate before and after it.
+fn append_last(
+    rt: &(impl AllocGlobal + Abort),
+    mut journal: Journal<Blank>,
     size: usize,
-    calls: u32,
-) -> Result<Option<(u64, Result<(), AppendFault>, u64)>, AllocError> {
-    let many = frame_with(alloc, &vec![in alloc; 1u8; 1_100_000]?)?;
-    let one = frame_with(alloc, &vec![in alloc; 1u8; size]?)?;
-    let tick = frame_of(alloc, &TICK)?;
-    let Ok(mut journal) = create(Blank { calls, faults: 0 }, 0) else {
-        return Ok(None);
-    };
-    if !is_added(&mut journal, &many, 244) || !is_added(&mut journal, &one, 1) {
-        return Ok(None);
-    }
+) -> String {
+    assert!(rt; is_added(&mut journal, &frame_of_size(rt, 1_100_000), 244));
+    assert!(rt; is_added(&mut journal, &frame_of_size(rt, size), 1));
     let before = journal.tail();
-    let ended = journal.append(&tick);
-    Ok(Some((before, ended, journal.tail())))
+    let ended = journal.append(&frame(rt, &bytes(rt, TICK)));
+    let after = journal.tail();
+    format!(in rt.alloc(); "{before} {ended:?} {after}").expect(rt, "memory")
+}
+
+/// The same on a disk that fails once it was called so many times.
+fn last_of_many(rt: &(impl AllocGlobal + Abort), size_and_calls: &str) -> String {
+    let (size, calls) = size_and_calls.split_once(' ').unwrap_or(("", ""));
+    let calls = calls.parse::<u32>().unwrap_or(0);
+    match create(Blank { calls, faults: 0 }, 0) {
+        Ok(journal) => append_last(rt, journal, number_of(size)),
+        Err(_) => String::new(rt.alloc()),
+    }
+}
+
+/// What comes of a row.
+fn told(rt: &(impl AllocGlobal + Abort), row: &str) -> String {
+    let (verb, words) = row.split_once(' ').unwrap_or((row, ""));
+    match verb {
+        "make" => made(rt, words),
+        "cut" => opened_text(rt, &cut(rt, words)),
+        "put" => opened_text(rt, &put(rt, words)),
+        "behind" => opened_text(rt, &behind(rt, words)),
+        "fill" => opened_text(rt, &filled(rt, words)),
+        "last" => last_of_many(rt, words),
+        "stop" => stopped(rt, words),
+        "gates" => gates(rt),
+        "fail" => failed(rt, words),
+        "settle" => settled(rt, words),
+        "scan" => scanned(rt, words),
+        _ => ready(rt, words),
+    }
+}
+
+/// Holds what comes of each row to what is wanted.
+fn play(rt: &(impl AllocGlobal + Abort), rows: &str) {
+    for line in rows.lines() {
+        let (row, wanted) = line.split_once(" => ").expect(rt, "what is wanted");
+        expect_row(rt, row, &told(rt, row), wanted);
+    }
+}
+
+/// The second is made over a header.
+#[test]
+fn a_journal_of_one_record_has_24_bytes(rt: HostRuntime) {
+    let rows = "\
+make => Made 1 79 83 76 79 74 82 78 49 0 0 0 0 1 0 0 0 5 0 0 1 244 7 0
+make 1 OSLOJRN1 0 0 0 0 1 0 0 0 5 0 0 1 244 7 0 \
+=> AlreadyThere 1 79 83 76 79 74 82 78 49 0 0 0 0 1 0 0 0 5 0 0 1 244 7 0";
+    play(&rt, rows);
+}
+
+/// The file of a tick, cut after so many bytes or with another byte at a place. The bytes of the
+/// tick add up to 252.
+#[test]
+fn a_file_opens_to_its_records_or_tells_where_it_is_damaged(rt: HostRuntime) {
+    let rows = "\
+cut 0 => no journal
+cut 12 => no journal
+cut 13 => 0 of 0, damaged at 13
+cut 20 => 0 of 0, damaged at 13
+cut 22 => 0 of 0, damaged at 13
+cut 23 => 1 of 252, damaged at 23
+cut 24 => 1 of 252
+put 0 0 => no journal
+put 0 255 => 1 of 252
+put 1 111 => no journal
+put 8 50 => no journal
+put 9 3 => 1 of 252
+put 9 4 => no journal
+put 13 0 => 0 of 0
+put 13 255 => 1 of 252
+put 17 0 => 0 of 0, damaged at 13
+put 17 4 => 1 of 245, damaged at 22
+put 15 16 => 0 of 0, damaged at 13
+put 23 1 => 1 of 252, damaged at 23";
+    play(&rt, rows);
+}
+
+/// Behind the header's 13 bytes and two records of 5, each with its gate and its length, a gate
+/// stands at 33.
+#[test]
+fn damage_behind_two_records_is_told_at_its_gate(rt: HostRuntime) {
+    let rows = "\
+behind => 2 of 504, damaged at 33
+behind 1 => 2 of 504, damaged at 33
+behind 1 0 0 0 0 => 2 of 504, damaged at 33
+behind 1 0 0 0 2 5 => 2 of 504, damaged at 33
+behind 1 0 0 0 2 5 6 => 3 of 515, damaged at 40
+behind 0 => 2 of 504";
+    play(&rt, rows);
+}
+
+/// The size of the last record but one, and the calls after which the disk fails: up to the last
+/// record there are 988.
+#[test]
+fn the_closed_gate_stands_within_the_limit(rt: HostRuntime) {
+    let rows = "\
+last 34207 9999 => 268435445 Ok(()) 268435455
+last 34207 988 => 268435445 Err(NotKept) 268435445
+last 34208 988 => 268435446 Err(JournalFull { tail: 268435446, needed: 268435457 }) 268435446";
+    play(&rt, rows);
+}
+
+/// The calls that make a journal over these bytes.
+#[test]
+fn a_stop_leaves_the_acknowledged_records(rt: HostRuntime) {
+    let rows = "\
+stop 8 => Done Done Done, 8 more calls, 0 unexpected
+stop 6 0 => Done Done Done, 8 more calls, 0 unexpected
+stop 8 255 OSLOJRN2 0 0 0 0 0 => Done Done Done, 8 more calls, 0 unexpected
+stop 6 0 OSLOJRN1 0 0 0 8 0 => Done Done Done, 8 more calls, 0 unexpected";
+    play(&rt, rows);
 }
 
 #[test]
-fn the_closed_gate_stands_within_the_limit(rt: HostRuntime) -> Result<(), Fail> {
-    let alloc = rt.alloc();
-    let full = AppendFault::JournalFull {
-        tail: 268_435_446,
-        needed: 268_435_457,
-    };
-    // Up to the last record there are 988 calls.
-    for (size, calls, tail, ended, then) in [
-        (34_207, 9_999, 268_435_445, Ok(()), 268_435_455),
-        (
-            34_207,
-            988,
-            268_435_445,
-            Err(AppendFault::NotKept),
-            268_435_445,
-        ),
-        (34_208, 988, 268_435_446, Err(full), 268_435_446),
-    ] {
-        assert_eq!(rt;
-            last_of_many(alloc, size, calls)?,
-            Some((tail, ended, then)),
-            "{size} and {calls}"
-        );
-    }
-    Ok(())
-}
-
-/// What an image is: 0 without a header, one more than the records where it opens to the first
-/// records of a run, and 9 else.
-fn stage_of(alloc: Global, image: &[u8]) -> Result<u64, AllocError> {
-    let Some(found) = opened(alloc, disk_of(alloc, image, &[])?)? else {
-        return Ok(0);
-    };
-    if found.origin != ORIGIN || found.fault.is_some() {
-        return Ok(9);
-    }
-    match (found.records, found.sum) {
-        (0, 0) => Ok(1),
-        (1, 5) => Ok(2),
-        (2, 18) => Ok(3),
-        _ => Ok(9),
-    }
-}
-
-/// Whether a run that is stopped after so many calls may have left this image. The journal is made
-/// by so many calls, and each append takes four; what is in flight shows from its gate on.
-fn is_expected(calls: usize, made: usize, stage: u64) -> bool {
-    let done = calls.saturating_add(4).saturating_sub(made);
-    match done {
-        0..=2 => stage == 0,
-        3 => stage <= 1,
-        4..=6 => stage == 1,
-        7 => stage == 1 || stage == 2,
-        8..=10 => stage == 2,
-        11 => stage == 2 || stage == 3,
-        _ => stage == 3,
-    }
-}
-
-/// How many images are not as expected, of those that a stop after so many calls leaves: of what
-/// was in flight the first bytes came, and behind them other bytes or none.
-fn unexpected(
-    alloc: Global,
-    disk: &MemoryDisk,
-    calls: usize,
-    made: usize,
-) -> Result<usize, AllocError> {
-    let whole = disk.bytes();
-    let mut count: usize = 0;
-    for kept in 0..whole.len() {
-        let mut wanted = Vec::from_slice(alloc, &whole[..kept])?;
-        for fill in [0, 1, 2, 255] {
-            let image = disk.after_stop(calls, &wanted)?;
-            if !is_expected(calls, made, stage_of(alloc, &image)?) {
-                count = count.saturating_add(1);
-            }
-            wanted.truncate(kept);
-            wanted.resize(whole.len(), fill)?;
-        }
-    }
-    Ok(count)
+fn a_gate_of_any_byte_but_0_is_open(rt: HostRuntime) {
+    play(&rt, "gates => 1, 255 times 2");
 }
 
 #[test]
-fn a_stop_leaves_the_acknowledged_records(rt: HostRuntime) -> Result<(), Fail> {
-    let alloc = rt.alloc();
-    for (bytes, made) in [
-        (b"".as_slice(), 8),
-        (b"\0", 6),
-        (b"\xffOSLOJRN2\0\0\0\0\0", 8),
-        (b"\0OSLOJRN1\0\0\0\x08\0", 6),
-    ] {
-        let (ended, disk) = run(alloc, bytes, &[])?;
-        assert_eq!(rt; ended, [Ended::Done, Ended::Done, Ended::Done]);
-        assert_eq!(rt; disk.calls().len(), made + 8);
-        for calls in 0..made + 9 {
-            assert_eq!(rt;
-                unexpected(alloc, &disk, calls, made)?,
-                0,
-                "made in {made}, {calls} calls"
-            );
-        }
-    }
-    Ok(())
+fn a_call_that_fails_is_told(rt: HostRuntime) {
+    let rows = "\
+fail 0 => Failed NotTried NotTried, no journal
+fail 1 => Failed NotTried NotTried, no journal
+fail 2 => Failed NotTried NotTried, no journal
+fail 3 => Failed NotTried NotTried, no journal
+fail 4 => Failed NotTried NotTried, no journal
+fail 5 => Failed NotTried NotTried, no journal
+fail 6 => Failed NotTried NotTried, no journal
+fail 7 => Failed NotTried NotTried, 0 of 0
+fail 8 => Done NotKept Done, 1 of 13
+fail 9 => Done NotKept Done, 1 of 13
+fail 10 => Done SettledLost Done, 1 of 13
+fail 11 => Done SettledKept Done, 2 of 18
+fail 12 => Done Done NotKept, 1 of 5
+fail 13 => Done Done NotKept, 1 of 5
+fail 14 => Done Done SettledLost, 1 of 5
+fail 15 => Done Done SettledKept, 2 of 18
+fail 10 11 => Done InDoubt NotTried, 0 of 0
+fail 11 12 => Done InDoubt NotTried, 1 of 5
+fail 11 13 => Done InDoubt NotTried, 1 of 5
+fail 98 => Done Done Done, 2 of 18";
+    play(&rt, rows);
 }
 
 #[test]
-fn a_gate_of_any_byte_but_0_is_open(rt: HostRuntime) -> Result<(), Fail> {
-    let alloc = rt.alloc();
-    let (_, disk) = run(alloc, &[], &[])?;
-    for gate in 0..=255 {
-        let image = disk.after_stop(11, &[gate; 14])?;
-        assert_eq!(rt;
-            stage_of(alloc, &image)?,
-            if gate == 0 { 1 } else { 2 },
-            "gate {gate}"
-        );
-    }
-    Ok(())
+fn a_settling_that_fails_is_tried_again(rt: HostRuntime) {
+    let rows = "\
+settle 10 11 => None Some(false) false 13
+settle 11 12 => None Some(true) false 23
+settle 11 13 => None Some(true) false 23";
+    play(&rt, rows);
 }
 
 #[test]
-fn a_call_that_fails_is_told(rt: HostRuntime) -> Result<(), Fail> {
-    use Ended::{Done, Failed, InDoubt, NotKept, NotTried, SettledKept, SettledLost};
-    let alloc = rt.alloc();
-    for (one, other, expected, records) in [
-        (0, 99, [Failed, NotTried, NotTried], None),
-        (1, 99, [Failed, NotTried, NotTried], None),
-        (2, 99, [Failed, NotTried, NotTried], None),
-        (3, 99, [Failed, NotTried, NotTried], None),
-        (4, 99, [Failed, NotTried, NotTried], None),
-        (5, 99, [Failed, NotTried, NotTried], None),
-        (6, 99, [Failed, NotTried, NotTried], None),
-        (7, 99, [Failed, NotTried, NotTried], Some((0, 0))),
-        (8, 99, [Done, NotKept, Done], Some((1, 13))),
-        (9, 99, [Done, NotKept, Done], Some((1, 13))),
-        (10, 99, [Done, SettledLost, Done], Some((1, 13))),
-        (11, 99, [Done, SettledKept, Done], Some((2, 18))),
-        (12, 99, [Done, Done, NotKept], Some((1, 5))),
-        (13, 99, [Done, Done, NotKept], Some((1, 5))),
-        (14, 99, [Done, Done, SettledLost], Some((1, 5))),
-        (15, 99, [Done, Done, SettledKept], Some((2, 18))),
-        (10, 11, [Done, InDoubt, NotTried], Some((0, 0))),
-        (11, 12, [Done, InDoubt, NotTried], Some((1, 5))),
-        (11, 13, [Done, InDoubt, NotTried], Some((1, 5))),
-        (98, 99, [Done, Done, Done], Some((2, 18))),
-    ] {
-        let (ended, disk) = run(alloc, &[], &[one, other])?;
-        assert_eq!(rt; ended, expected, "calls {one} and {other}");
-        let left = disk_of(alloc, disk.bytes(), &[])?;
-        let found = opened(alloc, left)?.map(|f| (f.records, f.sum));
-        assert_eq!(rt; found, records, "calls {one} and {other}");
-    }
-    Ok(())
-}
-
-/// How an append ends whose gate isn't synced, and two settlings; whether the record is then in
-/// doubt, and where the closed gate stands.
-fn settled(
-    alloc: Global,
-    failing: &[u64],
-) -> Result<Option<(Option<bool>, Option<bool>, bool, u64)>, AllocError> {
-    let frame = frame_of(alloc, &TICK)?;
-    let Ok(mut journal) = create(disk_of(alloc, &[], failing)?, 0) else {
-        return Ok(None);
-    };
-    if journal.append(&frame).is_ok() || !journal.in_doubt() {
-        return Ok(None);
-    }
-    let first = journal.settle().ok();
-    if !journal.in_doubt() {
-        return Ok(None);
-    }
-    let second = journal.settle().ok();
-    Ok(Some((first, second, journal.in_doubt(), journal.tail())))
+fn records_pass_over_the_pieces_that_are_read(rt: HostRuntime) {
+    let row = "fill 1100000 1 524000 524600 3 1048571 1100000 2 => 8 of 4297177";
+    play(&rt, row);
 }
 
 #[test]
-fn a_settling_that_fails_is_tried_again(rt: HostRuntime) -> Result<(), Fail> {
-    let alloc = rt.alloc();
-    for (failing, kept, tail) in [
-        ([10, 11], false, 13),
-        ([11, 12], true, 23),
-        ([11, 13], true, 23),
-    ] {
-        let expected = Some((None, Some(kept), false, tail));
-        assert_eq!(rt; settled(alloc, &failing)?, expected, "{failing:?}");
-    }
-    Ok(())
+fn a_read_that_fails_is_told_and_tried_again(rt: HostRuntime) {
+    let rows = "\
+scan 0 => DiskFault
+scan 1 => DiskFault
+scan 2 => Err(DiskFault) 13 0, Ok(true) 23 5
+scan => Ok(true) 23 5, Ok(false) 23 0";
+    play(&rt, rows);
 }
 
 #[test]
-fn records_pass_over_the_pieces_that_are_read(rt: HostRuntime) -> Result<(), Fail> {
-    let alloc = rt.alloc();
-    let mut records = Vec::new(alloc);
-    for size in [1_100_000, 1, 524_000, 524_600, 3, 1_048_571, 1_100_000, 2] {
-        records.push(vec![in alloc; 1; size]?)?;
-    }
-    let Some(disk) = filled(alloc, &records)? else {
-        assert!(rt; false, "not made");
-        return Ok(());
-    };
-    let whole = Found {
-        origin: 0,
-        records: 8,
-        sum: 4_297_177,
-        fault: None,
-    };
-    assert_eq!(rt; opened(alloc, disk)?, Some(whole));
-    Ok(())
-}
-
-/// Why a disk isn't opened while its call of this number fails.
-fn not_opened(alloc: Global, failing: u64) -> Result<Option<OpenFault>, AllocError> {
-    match open(alloc, disk_of(alloc, &TICKED, &[failing])?) {
-        Ok(_) => Ok(None),
-        Err(failed) => Ok(Some(failed.fault)),
-    }
-}
-
-/// How two steps of a scan end while the call of this number fails, with the place and the length
-/// of what was read after each.
-fn two_steps(
-    alloc: Global,
-    failing: u64,
-) -> Result<Option<[(Result<bool, ScanFault>, u64, usize); 2]>, AllocError> {
-    let mut record = Vec::from_slice(alloc, b"old")?;
-    let Ok(mut scan) = open(alloc, disk_of(alloc, &TICKED, &[failing])?) else {
-        return Ok(None);
-    };
-    let one = (scan.next(&mut record), scan.at(), record.len());
-    let two = (scan.next(&mut record), scan.at(), record.len());
-    Ok(Some([one, two]))
-}
-
-#[test]
-fn a_read_that_fails_is_told_and_tried_again(rt: HostRuntime) -> Result<(), Fail> {
-    let alloc = rt.alloc();
-    assert_eq!(rt; not_opened(alloc, 0)?, Some(OpenFault::DiskFault));
-    assert_eq!(rt; not_opened(alloc, 1)?, Some(OpenFault::DiskFault));
-    let again = [(Err(ScanFault::DiskFault), 13, 0), (Ok(true), 23, 5)];
-    assert_eq!(rt; two_steps(alloc, 2)?, Some(again));
-    let whole = [(Ok(true), 23, 5), (Ok(false), 23, 0)];
-    assert_eq!(rt; two_steps(alloc, 99)?, Some(whole));
-    Ok(())
-}
-
-/// Where a journal's closed gate stands once all was read, or why the journal isn't opened then,
-/// while the call of this number fails; and how many calls its disk has had.
-fn ready_of(
-    alloc: Global,
-    failing: u64,
-) -> Result<Option<(Result<u64, OpenFault>, usize)>, AllocError> {
-    let mut record = Vec::new(alloc);
-    let Ok(mut scan) = open(alloc, disk_of(alloc, &TICKED, &[failing])?) else {
-        return Ok(None);
-    };
-    if scan.next(&mut record) != Ok(true) {
-        return Ok(None);
-    }
-    match scan.next(&mut record) {
-        Ok(false) => match scan.ready() {
-            Ok(journal) => {
-                let tail = journal.tail();
-                Ok(Some((Ok(tail), journal.give_back().calls().len())))
-            }
-            Err(failed) => Ok(Some((Err(failed.fault), failed.disk.calls().len()))),
-        },
-        Ok(true) => Ok(None),
-        Err(_) => Ok(None),
-    }
-}
-
-#[test]
-fn a_journal_stands_once_what_was_read_is_synced(rt: HostRuntime) -> Result<(), Fail> {
-    let alloc = rt.alloc();
-    assert_eq!(rt; ready_of(alloc, 99)?, Some((Ok(23), 5)));
-    assert_eq!(rt; ready_of(alloc, 4)?, Some((Err(OpenFault::DiskFault), 5)));
-    Ok(())
+fn a_journal_stands_once_what_was_read_is_synced(rt: HostRuntime) {
+    let rows = "\
+ready => Ok(23) 5
+ready 4 => Err(DiskFault) 5";
+    play(&rt, rows);
 }

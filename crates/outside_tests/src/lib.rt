@@ -10,6 +10,8 @@ mod heads;
 #[cfg(test)]
 mod journals;
 #[cfg(test)]
+mod rows;
+#[cfg(test)]
 mod sessions;
 #[cfg(test)]
 mod sources_and_sinks;

@@ -1,6 +1,8 @@
-//! Sessions over bytes in memory, at the corners, in pieces and beside faults.
+//! Sessions over bytes in memory, at the corners, in pieces and beside faults. A row says by its
+//! first word what is told of a session. In a message `|` is a line feed.
 ghost use Rattle.std.specs.Prelude.{◌≡◌, ◌+◌, ◌%◌};
 
+use crate::rows::{expect, expect_row, message_of, number_of};
 use message_heads::Message;
 use message_session::{Handler, SessionEnd, session};
 use office_outside::{
@@ -63,43 +65,66 @@ struct Outcome {
     next: u32,
 }
 
-/// The clock's readings are 0, 1, 2 and so on.
-fn run(alloc: Global, input: MemorySource, output: MemorySink) -> Result<Outcome, AllocError> {
+/// The clock's readings: 0, 1, 2 and so on.
+fn readings(alloc: Global) -> Result<Vec<u32>, AllocError> {
     let mut readings = Vec::new(alloc);
     for reading in 0..1_100 {
         readings.push(reading)?;
     }
-    let mut clock = MemoryClock::new(readings);
+    Ok(readings)
+}
+
+/// A session over these.
+fn run(rt: &(impl AllocGlobal + Abort), input: MemorySource, output: MemorySink) -> Outcome {
+    let mut clock = MemoryClock::new(readings(rt.alloc()).expect(rt, "memory"));
     let (mut input, mut output) = (input, output);
-    let end = session(alloc, &mut Echo, &mut input, &mut output, &mut clock);
+    let end = session(rt.alloc(), &mut Echo, &mut input, &mut output, &mut clock);
     let next = clock.minute();
-    Ok(Outcome {
+    Outcome {
         end,
         input,
         output,
         next,
-    })
+    }
 }
 
 /// A plan by which the call of a number fails, and the first calls move so many bytes each.
-fn plan(alloc: Global, failing: u64, size: usize, count: usize) -> Result<Plan, AllocError> {
-    let sizes = vec![in alloc; size; count]?;
-    let failing = vec![in alloc; failing; 1]?;
-    Ok(Plan::new(failing, sizes))
+fn plan(rt: &(impl AllocGlobal + Abort), failing: u64, size: usize, count: usize) -> Plan {
+    let sizes = vec![in rt.alloc(); size; count].expect(rt, "memory");
+    let failing = vec![in rt.alloc(); failing; 1].expect(rt, "memory");
+    Plan::new(failing, sizes)
+}
+
+/// A source of these bytes.
+fn source(rt: &(impl AllocGlobal + Abort), bytes: &[u8], reads: Plan) -> MemorySource {
+    let bytes = Vec::from_slice(rt.alloc(), bytes).expect(rt, "memory");
+    MemorySource::new(bytes, reads)
 }
 
 /// A session that reads and writes in pieces of one size.
-fn run_in_pieces(alloc: Global, bytes: &[u8], size: usize) -> Result<Outcome, AllocError> {
-    let reads = plan(alloc, u64::MAX, size, bytes.len())?;
-    let writes = plan(alloc, u64::MAX, size, bytes.len())?;
-    let input = MemorySource::new(Vec::from_slice(alloc, bytes)?, reads);
-    run(alloc, input, MemorySink::new(alloc, writes))
+fn run_in_pieces(rt: &(impl AllocGlobal + Abort), bytes: &[u8], size: usize) -> Outcome {
+    let reads = plan(rt, u64::MAX, size, bytes.len());
+    let writes = plan(rt, u64::MAX, size, bytes.len());
+    let input = source(rt, bytes, reads);
+    run(rt, input, MemorySink::new(rt.alloc(), writes))
 }
 
-/// Inputs, in which `|` is the end of a line, the end of the session, how often its clock was read,
-/// and its answers.
-fn table() -> &'static str {
-    "\
+/// The text of what a sink holds.
+fn held(output: &MemorySink) -> &str {
+    str::from_utf8(output.bytes()).unwrap_or("no text")
+}
+
+/// The end of a session over a text in pieces of one size, how often its clock was read, and its
+/// answers.
+fn in_pieces(rt: &(impl AllocGlobal + Abort), text: &str, size: usize) -> String {
+    let bytes = message_of(rt.alloc(), text).expect(rt, "memory");
+    let run = run_in_pieces(rt, &bytes, size);
+    format!(in rt.alloc(); "{:?} {} {}", run.end, run.next, held(&run.output)).expect(rt, "memory")
+}
+
+#[test]
+fn sessions_in_pieces(rt: HostRuntime) {
+    let rows = "\
 GET / HTTP/1.1|| => Done 1 00-.
  => Done 0
 GET / HTTP/1.1||GET /b HTTP/1.1|| => Done 2 00-.10-.
@@ -120,33 +145,12 @@ GET / HTTP/1.1||GET / HTTP/1.1|Content-Length: x||GET / HTTP/1.1|| => Done 1 00-
 GET / HTTP/1.1||GET / HTTP/1.1|Transfer-Encoding: chunked||0|| => Done 1 00-.501!
 GET / HTTP/1.1|Content-Length: 1048577|| => Done 0 413!
 \0GET / HTTP/1.1||GET / HTTP/1.1|| => Done 0 400!
-GET / HTTP/1.1||\0|GET / HTTP/1.1|| => Done 1 00-.400!"
-}
-
-/// The bytes of an input of the table.
-fn bytes_of(alloc: Global, text: &str) -> Result<Vec<u8>, AllocError> {
-    let mut bytes = Vec::new(alloc);
-    for byte in text.as_bytes() {
-        bytes.push(if *byte == b'|' { b'\n' } else { *byte })?;
-    }
-    Ok(bytes)
-}
-
-/// What a session came to, as the table has it.
-fn shown(alloc: Global, run: &Outcome) -> Result<String, AllocError> {
-    let answers = String::from_utf8_lossy(alloc, run.output.bytes())?;
-    format!(in alloc; "{:?} {} {answers}", run.end, run.next)
-}
-
-#[test]
-fn sessions_in_pieces(rt: HostRuntime) {
-    for row in table().lines() {
-        let (text, want) = row.split_once(" => ").expect(&rt, "an outcome");
-        let bytes = bytes_of(rt.alloc(), text).expect(&rt, "memory");
+GET / HTTP/1.1||\0|GET / HTTP/1.1|| => Done 1 00-.400!";
+    for line in rows.lines() {
+        let (text, wanted) = line.split_once(" => ").expect(&rt, "what is wanted");
         for size in [1, 7, 4_096] {
-            let run = run_in_pieces(rt.alloc(), &bytes, size).expect(&rt, "memory");
-            let shown = shown(rt.alloc(), &run).expect(&rt, "memory");
-            assert_eq!(rt; shown.trim_end(), want, "{text} by {size}");
+            let told = in_pieces(&rt, text, size);
+            expect_row(&rt, text, told.trim_end(), wanted);
         }
     }
 }
@@ -162,30 +166,75 @@ fn long_and_short(alloc: Global, target: usize, body: usize) -> Result<Vec<u8>, 
     Ok(bytes)
 }
 
-/// Both messages are answered however many pieces of 4,096 bytes they come in.
+/// The end of a session over such messages in pieces of 4,096 bytes, how often its clock was read,
+/// the reads up to the end of the input, and its answers.
+fn of_two(rt: &(impl AllocGlobal + Abort), target_and_body: &str) -> String {
+    let (target, body) = target_and_body.split_once(' ').unwrap_or(("", ""));
+    let bytes = long_and_short(rt.alloc(), number_of(target), number_of(body));
+    let run = run_in_pieces(rt, &bytes.expect(rt, "memory"), 4_096);
+    let (end, next, reads) = (run.end, run.next, run.input.plan().calls());
+    format!(in rt.alloc(); "{end:?} {next} {reads} {}", held(&run.output)).expect(rt, "memory")
+}
+
+/// The three messages of 16, 40 and 16 bytes, the last of which closes, and their answers.
+const THREE: &str = "GET / HTTP/1.1||POST / HTTP/1.1|Content-Length: 5||helloGET / HTTP/1.0||";
+
+/// The end of a session over them, of whose reads of seven bytes this one fails; how often the
+/// source failed, what is left of it, and the answers.
+fn failing_read(rt: &(impl AllocGlobal + Abort), call: &str) -> String {
+    let bytes = message_of(rt.alloc(), THREE).expect(rt, "memory");
+    let input = source(rt, &bytes, plan(rt, number_of(call) as u64, 7, 20));
+    let run = run(
+        rt,
+        input,
+        MemorySink::new(rt.alloc(), Plan::smooth(rt.alloc())),
+    );
+    let (end, faults, left) = (run.end, run.input.plan().faults(), run.input.left().len());
+    format!(in rt.alloc(); "{end:?} {faults} {left} {}", held(&run.output)).expect(rt, "memory")
+}
+
+/// The end of a session over them, of whose writes of one byte, and flushes, this one fails; how
+/// often the sink failed, and the answers.
+fn failing_write(rt: &(impl AllocGlobal + Abort), call: &str) -> String {
+    let bytes = message_of(rt.alloc(), THREE).expect(rt, "memory");
+    let input = source(rt, &bytes, Plan::smooth(rt.alloc()));
+    let writes = plan(rt, number_of(call) as u64, 1, 20);
+    let run = run(rt, input, MemorySink::new(rt.alloc(), writes));
+    let (end, faults) = (run.end, run.output.plan().faults());
+    format!(in rt.alloc(); "{end:?} {faults} {}", held(&run.output)).expect(rt, "memory")
+}
+
+/// What comes of a row.
+fn told(rt: &(impl AllocGlobal + Abort), row: &str) -> String {
+    let (verb, words) = row.split_once(' ').unwrap_or((row, ""));
+    match verb {
+        "two" => of_two(rt, words),
+        "read" => failing_read(rt, words),
+        _ => failing_write(rt, words),
+    }
+}
+
+/// Holds what comes of each row to what is wanted.
+fn play(rt: &(impl AllocGlobal + Abort), rows: &str) {
+    for line in rows.lines() {
+        let (row, wanted) = line.split_once(" => ").expect(rt, "what is wanted");
+        expect_row(rt, row, told(rt, row).trim_end(), wanted);
+    }
+}
+
+/// Both messages are answered however many pieces they come in: the first one fills a piece; it is
+/// a byte longer; three pieces with the second one; a head of more than one piece, and one that
+/// fills two; a body of the most bytes.
 #[test]
 fn messages_of_many_pieces(rt: HostRuntime) {
-    // bytes of the target and of the body, reads up to the end of the input, answers
-    let cases: [(usize, usize, u64, &[u8]); 6] = [
-        // the first message fills one piece; one piece and a byte; three pieces with the second one
-        (0, 4_058, 3, b"08b.10-."),
-        (0, 4_059, 3, b"09b.10-."),
-        (0, 10_007, 4, b"07b.10-."),
-        // a head of more than one piece, and one that fills two
-        (5_000, 3, 3, b"03b.10-."),
-        (8_157, 5, 4, b"05b.10-."),
-        (0, 1_048_576, 258, b"06b.10-."),
-    ];
-    for (target, body, reads, answers) in cases {
-        let bytes = long_and_short(rt.alloc(), target, body).expect(&rt, "memory");
-        let run = run_in_pieces(rt.alloc(), &bytes, 4_096).expect(&rt, "memory");
-        assert_eq!(rt; run.output.bytes(), answers, "{target} and {body}");
-        assert_eq!(rt;
-            (run.end, run.next, run.input.plan().calls()),
-            (SessionEnd::Done, 2, reads),
-            "{target} and {body}"
-        );
-    }
+    let rows = "\
+two 0 4058 => Done 2 3 08b.10-.
+two 0 4059 => Done 2 3 09b.10-.
+two 0 10007 => Done 2 4 07b.10-.
+two 5000 3 => Done 2 3 03b.10-.
+two 8157 5 => Done 2 4 05b.10-.
+two 0 1048576 => Done 2 258 06b.10-.";
+    play(&rt, rows);
 }
 
 /// So many short requests.
@@ -197,75 +246,79 @@ fn requests(alloc: Global, count: usize) -> Result<Vec<u8>, AllocError> {
     Ok(bytes)
 }
 
-/// So many answers to them that keep the session open, and then one that closes, or none.
-fn answers(alloc: Global, open: u32, closing: bool) -> Result<Vec<u8>, AllocError> {
+/// 999 answers to them that keep the session open, and then one that closes, or none.
+fn answers(alloc: Global, closing: bool) -> Result<Vec<u8>, AllocError> {
     let mut text = Vec::new(alloc);
-    for reading in 0..open {
+    for reading in 0..999 {
         text.extend_from_slice(&[digit(reading), b'0', b'-', b'.'])?;
     }
     if closing {
-        text.extend_from_slice(&[digit(open), b'0', b'-', b'!'])?;
+        text.extend_from_slice(b"90-!")?;
     }
     Ok(text)
+}
+
+/// Whether a session over these requests is done and has these answers.
+fn has_answers(
+    rt: &(impl AllocGlobal + Abort),
+    requests: &[u8],
+    answers: &[u8],
+    size: usize,
+) -> bool {
+    let run = run_in_pieces(rt, requests, size);
+    let read = run.next as usize == answers.len() / 4;
+    run.end == SessionEnd::Done && read && run.output.bytes() == answers
 }
 
 /// The 1,000th answer closes, and no request behind it is answered.
 #[test]
 fn a_thousand_answers_are_the_most(rt: HostRuntime) {
-    for (count, open, closing) in [(999, 999, false), (1_000, 999, true), (1_001, 999, true)] {
+    for count in [999, 1_000, 1_001] {
         let bytes = requests(rt.alloc(), count).expect(&rt, "memory");
-        let want = answers(rt.alloc(), open, closing).expect(&rt, "memory");
+        let wanted = answers(rt.alloc(), count > 999).expect(&rt, "memory");
         for size in [1, 7, 4_096] {
-            let run = run_in_pieces(rt.alloc(), &bytes, size).expect(&rt, "memory");
-            assert_eq!(rt;
-                (run.end, run.next as usize),
-                (SessionEnd::Done, want.len() / 4),
-                "{count} by {size}"
-            );
-            assert!(rt; run.output.bytes() == want.as_slice(), "{count} by {size}");
+            let are_they = has_answers(&rt, &bytes, &wanted, size);
+            expect(&rt, are_they, "as many answers, and the last one closes");
         }
     }
 }
 
-/// Three messages of 16, 40 and 16 bytes, the last of which closes, and their answers.
-const THREE: &str = "GET / HTTP/1.1||POST / HTTP/1.1|Content-Length: 5||helloGET / HTTP/1.0||";
-
-const ANSWERS: &[u8] = b"00-.15o.20-!";
-
-/// Reads of seven bytes, of which one fails: what was heard before is answered.
+/// What was heard before a read that fails is answered.
 #[test]
 fn failing_reads(rt: HostRuntime) {
-    let bytes = bytes_of(rt.alloc(), THREE).expect(&rt, "memory");
-    for (call, length) in [0, 0, 0, 4, 4, 4, 4, 4, 8, 8, 8].into_iter().enumerate() {
-        let reads = plan(rt.alloc(), call as u64, 7, 20).expect(&rt, "memory");
-        let bytes = bytes.clone().expect(&rt, "memory");
-        let output = MemorySink::new(rt.alloc(), Plan::smooth(rt.alloc()));
-        let run = run(rt.alloc(), MemorySource::new(bytes, reads), output).expect(&rt, "memory");
-        assert_eq!(rt;
-            (run.end, run.input.plan().faults()),
-            (SessionEnd::ReadFault, 1)
-        );
-        assert_eq!(rt; run.input.left().len(), 72 - 7 * call);
-        assert!(rt; ANSWERS.get(..length) == Some(run.output.bytes()));
-    }
+    let rows = "\
+read 0 => ReadFault 1 72
+read 1 => ReadFault 1 65
+read 2 => ReadFault 1 58
+read 3 => ReadFault 1 51 00-.
+read 4 => ReadFault 1 44 00-.
+read 5 => ReadFault 1 37 00-.
+read 6 => ReadFault 1 30 00-.
+read 7 => ReadFault 1 23 00-.
+read 8 => ReadFault 1 16 00-.15o.
+read 9 => ReadFault 1 9 00-.15o.
+read 10 => ReadFault 1 2 00-.15o.";
+    play(&rt, rows);
 }
 
 /// Writes of one byte, of which one fails, or the flush behind an answer.
 #[test]
 fn failing_writes(rt: HostRuntime) {
-    let bytes = bytes_of(rt.alloc(), THREE).expect(&rt, "memory");
-    for (call, length) in [0, 1, 2, 3, 4, 4, 5, 6, 7, 8, 8, 9, 10, 11, 12]
-        .into_iter()
-        .enumerate()
-    {
-        let writes = plan(rt.alloc(), call as u64, 1, 20).expect(&rt, "memory");
-        let bytes = bytes.clone().expect(&rt, "memory");
-        let input = MemorySource::new(bytes, Plan::smooth(rt.alloc()));
-        let run = run(rt.alloc(), input, MemorySink::new(rt.alloc(), writes)).expect(&rt, "memory");
-        assert_eq!(rt;
-            (run.end, run.output.plan().faults()),
-            (SessionEnd::WriteFault, 1)
-        );
-        assert!(rt; ANSWERS.get(..length) == Some(run.output.bytes()));
-    }
+    let rows = "\
+write 0 => WriteFault 1
+write 1 => WriteFault 1 0
+write 2 => WriteFault 1 00
+write 3 => WriteFault 1 00-
+write 4 => WriteFault 1 00-.
+write 5 => WriteFault 1 00-.
+write 6 => WriteFault 1 00-.1
+write 7 => WriteFault 1 00-.15
+write 8 => WriteFault 1 00-.15o
+write 9 => WriteFault 1 00-.15o.
+write 10 => WriteFault 1 00-.15o.
+write 11 => WriteFault 1 00-.15o.2
+write 12 => WriteFault 1 00-.15o.20
+write 13 => WriteFault 1 00-.15o.20-
+write 14 => WriteFault 1 00-.15o.20-!";
+    play(&rt, rows);
 }

@@ -1,12 +1,14 @@
 //! One worker over a counter of its own, which knows neither a desk nor an office.
+use crate::rows::{expect_row, numbers_of};
 use office_counter::Counter;
 use office_doors::{MemoryDoor, MemoryVisit, Visit};
 use office_outside::{MemoryClock, MemorySink, MemorySource, Plan};
 use office_session::SessionKit;
 use record_form::{Outcome, Request};
 use std::alloc::{AllocError, Global};
+use std::process::Abort;
 use std::sync::Wait;
-use visit_workers::{WorkEnd, work};
+use visit_workers::work;
 
 /// Counts how often it is asked, and never has memory to answer.
 #[derive(Drop)]
@@ -40,79 +42,72 @@ impl Counter for Count {
 }
 
 /// A visit with so many requests.
-fn visit(alloc: Global, requests: usize) -> Result<MemoryVisit<MemorySink>, AllocError> {
-    let mut bytes = Vec::new(alloc);
+fn visit(rt: &(impl AllocGlobal + Abort), requests: usize) -> MemoryVisit<MemorySink> {
+    let mut bytes = Vec::new(rt.alloc());
     for _ in 0..requests {
-        bytes.extend_from_slice(b"GET /notices HTTP/1.1\n\n")?;
+        bytes
+            .extend_from_slice(b"GET /notices HTTP/1.1\n\n")
+            .expect(rt, "memory");
     }
-    Ok(Visit {
-        input: MemorySource::new(bytes, Plan::smooth(alloc)),
-        output: MemorySink::new(alloc, Plan::smooth(alloc)),
-        clock: MemoryClock::new(Vec::new(alloc)),
-    })
+    Visit {
+        input: MemorySource::new(bytes, Plan::smooth(rt.alloc())),
+        output: MemorySink::new(rt.alloc(), Plan::smooth(rt.alloc())),
+        clock: MemoryClock::new(Vec::new(rt.alloc())),
+    }
 }
 
 /// Visits with two requests, none and three.
-fn visits(alloc: Global) -> Result<Vec<MemoryVisit<MemorySink>>, AllocError> {
-    let mut all = Vec::with_capacity(alloc, 3)?;
+fn visits(rt: &(impl AllocGlobal + Abort)) -> Vec<MemoryVisit<MemorySink>> {
+    let mut all = Vec::new(rt.alloc());
     for requests in [2, 0, 3] {
-        let one = visit(alloc, requests)?;
-        let _ = all.push(one);
+        all.push(visit(rt, requests)).expect(rt, "memory");
     }
-    Ok(all)
+    all
 }
 
-/// What a worker left of its counter and its door.
-#[derive(Drop)]
-struct Work {
-    end: WorkEnd,
-    counter: Count,
-    door: MemoryDoor<MemorySink>,
+/// How many answers a visit got. A body has no end of line, so the next answer's first line goes on
+/// from it.
+fn answers_to(alloc: Global, visit: &MemoryVisit<MemorySink>) -> Result<u32, AllocError> {
+    let text = String::from_utf8_lossy(alloc, visit.output.bytes())?;
+    let mut count = 0u32;
+    for line in text.lines() {
+        if line.split_once("HTTP/1.1 503 ").is_some() {
+            count = count.saturating_add(1);
+        }
+    }
+    Ok(count)
 }
 
-/// The work at a door whose calls of these numbers fail.
-fn work_at<R: Wait>(rt: &R, alloc: Global, failing: Vec<u64>) -> Result<Work, AllocError> {
-    let visits = visits(alloc)?;
-    let mut kit = SessionKit::new(alloc)?;
-    let mut door = MemoryDoor::new(alloc, visits, failing)?;
-    let mut counter = Count { asked: 0 };
-    let end = work(rt, alloc, &mut kit, &mut counter, &mut door);
-    Ok(Work { end, counter, door })
-}
-
-/// How many answers each visit got, in the order in which they came back. A body has no end of
-/// line, so the next answer's first line goes on from it.
+/// How many answers each visit got, in the order in which they came back.
 fn answers(alloc: Global, door: &MemoryDoor<MemorySink>) -> Result<String, AllocError> {
     let mut shown = String::new(alloc);
     for visit in door.back() {
-        let text = String::from_utf8_lossy(alloc, visit.output.bytes())?;
-        let mut count = 0u32;
-        for line in text.lines() {
-            if line.split_once("HTTP/1.1 503 ").is_some() {
-                count = count.saturating_add(1);
-            }
-        }
-        let one = format!(in alloc; "{count} ")?;
+        let count = answers_to(alloc, visit)?;
+        let one = format!(in alloc; " {count}")?;
         shown.push_str(one.as_str())?;
     }
     Ok(shown)
 }
 
+/// The work at a door whose calls of these numbers fail: its end, the door's faults, whether the
+/// door has ended, how often the counter was asked, and the answers of each visit.
+fn work_at(rt: &(impl AllocGlobal + Abort + Wait), failing: &str) -> String {
+    let failing = numbers_of(rt.alloc(), failing).expect(rt, "memory");
+    let mut kit = SessionKit::new(rt.alloc()).expect(rt, "memory");
+    let mut door = MemoryDoor::new(rt.alloc(), visits(rt), failing).expect(rt, "memory");
+    let mut counter = Count { asked: 0 };
+    let end = work(rt, rt.alloc(), &mut kit, &mut counter, &mut door);
+    let answers = answers(rt.alloc(), &door).expect(rt, "memory");
+    let (faults, ended, asked) = (door.faults(), door.ended(), counter.asked);
+    format!(in rt.alloc(); "{end:?} {faults} {ended}, {asked} of{answers}").expect(rt, "memory")
+}
+
 #[test]
 fn a_worker_serves_each_visit_by_its_own_counter(rt: HostRuntime) {
-    let alloc = rt.alloc();
-    let work = work_at(&rt, alloc, Vec::new(alloc)).expect(&rt, "memory");
-    let answers = answers(alloc, &work.door).expect(&rt, "memory");
-    assert_eq!(rt; (answers.as_str(), work.counter.asked), ("2 0 3 ", 5));
-    assert!(rt; work.end == WorkEnd::Done && work.door.ended());
+    expect_row(&rt, "", &work_at(&rt, ""), "Done 0 true, 5 of 2 0 3");
 }
 
 #[test]
 fn a_door_that_fails_ends_its_worker(rt: HostRuntime) {
-    let alloc = rt.alloc();
-    let failing = vec![in alloc; 1; 1].expect(&rt, "memory");
-    let work = work_at(&rt, alloc, failing).expect(&rt, "memory");
-    let answers = answers(alloc, &work.door).expect(&rt, "memory");
-    assert_eq!(rt; (answers.as_str(), work.counter.asked), ("2 ", 2));
-    assert!(rt; work.end == WorkEnd::DoorFault && work.door.faults() == 1);
+    expect_row(&rt, "1", &work_at(&rt, "1"), "DoorFault 1 false, 2 of 2");
 }
