@@ -25,6 +25,7 @@ PLAYED_BY_THE_GATE = {
 LEFT_OUT = {
     "the gate's write fails, and the batch comes again": "the calls on a file have other numbers: kills lets each fail",
     "the sync after the gate fails, and the batch comes again": "over a file each sync after one that failed fails too",
+    "the disk fails at each call of an upgrade": "the calls on a file have other numbers: kills lets each fail",
 }
 
 
