@@ -1,7 +1,7 @@
 """The limits that take longer than the gate has: each is reached at its number, and passed in several ways.
 
 The expected answers are worked out here, not taken from the program. The greatest two, of cells and of the journal's bytes,
-take two minutes and are tried with --whole alone.
+take four minutes and are tried with --whole alone.
 """
 from __future__ import annotations
 
@@ -190,16 +190,16 @@ def rows(*lines: str) -> bytes:
     return message("POST", "/samples", "".join(f"{it}\n" for it in lines))
 
 
-def fill(it: Wanted, origin: int, revision: int, entry: int, last: int) -> None:
-    """2,000,000 rows in 2,000 batches, the last of so many."""
+def fill(it: Wanted, origin: int, revision: int, entry: int, last: int, first: int = 0) -> None:
+    """2,000,000 rows from a row on in 2,000 batches, the last of so many."""
     for n in range(2000):
         count = 1000 if n < 1999 else last
-        it.want(samples(1000 * n, origin, revision, count), 200, sampled(entry + n, **{"new" if revision == 1 else "newer": count}))
+        it.want(samples(first + 1000 * n, origin, revision, count), 200, sampled(entry + n, **{"new" if revision == 1 else "newer": count}))
     it.settle()
 
 
 def cells(office: Office, origin: int) -> None:
-    """2,000,000 cells; and, by corrections of all of them but two, 4,000,000 accepted rows."""
+    """2,000,000 cells; by corrections of all of them but two, 4,000,000 accepted rows; and twice of both behind the upgrade."""
     it = Wanted(office)
     texts = [objects.service("shop"), objects.ratio("good"), objects.ratio("other"), objects.slo("shop-slo", "good", "  - target: 0.9\n")]
     it.want(define(*texts), 200, '{"applied":4,"entry":0}')
@@ -229,6 +229,22 @@ def cells(office: Office, origin: int) -> None:
     it.refused(rows(f"other,s0,{origin},1,1,1"), "cells")
     it.want(samples(1000, origin, 2), 200, sampled("null", repeated=1000))
     it.want(samples(1000, origin), 200, sampled("null", superseded=1000))
+    it.want(rows(f"good,s0,{origin},4,,"), 422, '{"error":"version","row":1}')
+    # the upgrade makes room for 2,000,000 cells and 4,000,000 rows more; a withdrawn row has its cell, and takes its room
+    it.want(message("POST", "/upgrade"), 200, '{"entry":4003}')
+    it.want(rows(f"other,s0,{origin},1,,"), 200, sampled(4004, new=1))
+    fill(it, origin, 1, 4005, 998, 2_000_000)
+    it.refused(rows(f"good,app,{origin},1,,", f"other,s1,{origin},1,1,1"), "cells")
+    it.want(rows(f"good,app,{origin},1,,"), 200, sampled(6005, new=1))
+    for more in (f"good,app,{origin + 1},1,,", f"other,s1,{origin},1,1,1"):
+        it.refused(rows(more, f"other,s0,{origin},2,1,1"), "cells")
+    it.want(rows(f"good,s0,{origin},4,,", f"other,s0,{origin},2,1,1"), 200, sampled(6006, newer=2))
+    # 6,000,002 rows were accepted; with 1,999,998 corrections none is let in
+    fill(it, origin, 2, 6007, 998, 2_000_000)
+    for more in (f"good,s0,{origin},5,1,1", f"other,s0,{origin},3,,"):
+        it.refused(rows(more), "accepted")
+    it.refused(rows(f"other,s1,{origin},1,1,1"), "cells")
+    it.want(rows(f"good,s0,{origin},4,,", f"good,s0,{origin},3,1,1", f"good,app,{origin},1,,"), 200, sampled("null", repeated=2, superseded=1))
     it.settle()
 
 
