@@ -38,14 +38,14 @@ where
 {
     let mut visit = door.next().ok().flatten()?;
     let mut piece = [0; ROOM];
-    let mut messages = 0;
+    let mut messages: usize = 0;
     for _ in 0..100 {
         match visit.input.read(&mut piece) {
             Ok(0) | Err(Failed) => break,
             Ok(count) => {
                 write_whole(&mut visit.output, &piece[..count]).ok()?;
                 visit.output.flush().ok()?;
-                messages += 1;
+                messages = messages.saturating_add(1);
             }
         }
     }
