@@ -80,8 +80,9 @@ class Stage:
     unflushed: list[int] = field(default_factory=list)
 
     def begin(self) -> None:
-        """A session begins without a file."""
+        """A session begins without a file, and without requests that one before left, since it was skipped."""
         self.write(b"")
+        self.request, self.body, self.input = "", "", b""
         self.faults, self.piece, self.whole, self.brief, self.out, self.unflushed = {}, None, False, False, [], []
 
     @property
