@@ -172,7 +172,7 @@ exclusions_more made made' value are none few is =
       few = omega (arith, few, length-append made ((value, true) ∷ []));
     })
 
-length_lifted : (made : List (Exclusion × Bool)) (id : List ℕ)
+pub length_lifted : (made : List (Exclusion × Bool)) (id : List ℕ)
     → length (after_lifting made id) ≡ length made
 length_lifted [] id = refl
 length_lifted (kept ∷ made) id = ap suc (length_lifted made id)

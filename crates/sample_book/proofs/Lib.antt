@@ -9,6 +9,6 @@ pub mod RoomLemmas
 pub mod IdLemmas
 pub mod BatchLemmas
 pub mod PutLemmas
-pub mod GroupLemmas
+pub mod ReachLemmas
 pub mod IndexLemmas
 pub mod LastRowLemmas

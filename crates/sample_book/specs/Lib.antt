@@ -2,7 +2,7 @@ pub mod Rows
 pub mod Standing
 pub mod Stored
 pub mod Exclusions
-pub mod ExclusionGroups
+pub mod Reaches
 pub mod Book
 pub mod Counting
 pub mod History

@@ -215,9 +215,7 @@ impl SampleBook {
         self.exclusions.at(place as usize)
     }
 
-    /// Whether a live exclusion of the objective has the minute. Where there are more than a few
-    /// exclusions, only those of the objective are looked at that are longer than a day, or begin
-    /// on the minute's day or the day before.
+    /// Whether a live exclusion of the objective has the minute, by one search among the live ones.
     pub fn is_excluded(&self, slo: Label, minute: u32) -> bool
         ensures { result ≡ is_excluded self.now.exclusions slo minute }
     {

@@ -8,6 +8,7 @@ mod book;
 mod current_rows;
 mod exclusions;
 pub mod laws;
+mod reaches;
 mod row;
 mod stored;
 mod tally;
