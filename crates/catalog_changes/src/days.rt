@@ -7,7 +7,6 @@ ghost use Rattle.office_derived.specs.Derived.{IsSound};
 use objective_days::passes_days_limit;
 use office_derived::Derived;
 use slo_catalog::Catalog;
-use slo_limits::RANGE_MINUTES;
 use std::alloc::{AllocError, Global};
 
 /// Whether there would be more pairs of an objective and a day with a row of its indicator than the
@@ -22,12 +21,5 @@ pub(crate) fn passes_days(
         (λ passes. passes ≡ nat_lt MAX_DAYS (objective_days catalog.now derived.now.book.rows)) }
 {
     derived.book.rows_are_current();
-    passes_days_limit(
-        alloc,
-        derived.origin,
-        derived.origin + RANGE_MINUTES,
-        catalog,
-        &derived.book,
-        &[],
-    )
+    passes_days_limit(alloc, catalog, &derived.book, &[])
 }

@@ -1,3 +1,3 @@
 pub mod Numbers
 pub mod Current
-pub mod Few
+pub mod Passing

@@ -1,7 +1,7 @@
 -- How many numbers a list has, each once: as many as are found in it, where all lie in a range.
-use Rattle.std.proofs.Common.{◌≡◌, ℕ, zero, suc, ◌+◌, ◌≤◌, ◌<◌, ◌==◌, ◌||◌, List, [], ◌∷◌, Bool}
-use Rattle.std.proofs.Common.{true, false, not, cond, if◌then◌else◌, refl, ap, sym, ◌∙◌, arith}
-use Rattle.std.proofs.Common.{filter, length, sum_by}
+use Rattle.std.proofs.Common.{◌≡◌, ℕ, zero, suc, ◌+◌, ◌≤◌, ◌<◌, ◌==◌, ◌&&◌, ◌||◌, List, [], ◌∷◌}
+use Rattle.std.proofs.Common.{Bool, true, false, not, cond, if◌then◌else◌, refl, ap, sym, ◌∙◌}
+use Rattle.std.proofs.Common.{arith, filter, length, sum_by}
 use Rattle.std.specs.List.{list_any, AllByRecursion}
 use Rattle.std.proofs.lemmas.List.Sums.{sum_by-cons}
 use Rattle.std.proofs.lemmas.Bool.Decides.{nat_tests}
@@ -114,49 +114,46 @@ counted xs first count h =
     ∙ sym (sum_over-amount_at (λ x. x) (λ x. 1) (first_of_each (λ a b. a == b) xs) first count)
     ∙ (λ i. sum_over (λ d. once xs d i) first count)
 
--- no more pass than there are
-pub passing_few : (test : ℕ → Bool) (first count : ℕ) → days_passing test first count ≤ count
+-- what passes one of two tests, never both, are as many as what passes each
+both_passing : (p q r : ℕ → Bool) → ((d : ℕ) → r d ≡ (p d || q d))
+    → ((d : ℕ) → (p d && q d) ≡ false) → (count : ℕ)
+    → days_passing r 0 count ≡ days_passing p 0 count + days_passing q 0 count
 unfolding sum_over
-passing_few test first zero = omega arith
-passing_few test first (suc count) = by (test (first + count)) (passing_few test first count)
+both_passing p q r all apart zero = refl
+both_passing p q r all apart (suc count) =
+    let rest = both_passing p q r all apart count in
+    let here = one (p (0 + count)) (q (0 + count)) (r (0 + count)) (all (0 + count))
+    (apart (0 + count)) in
+    omega (arith, rest, here)
   where
-    by : (b : Bool) → days_passing test first count ≤ count
-        → days_passing test first count + one_if b ≤ suc count
-    by true h = omega (arith, h)
-    by false h = omega (arith, h)
+    one : (a b c : Bool) → c ≡ (a || b) → (a && b) ≡ false → one_if c ≡ one_if a + one_if b
+    one true true c e f = cc f
+    one true false c e f = omega (arith, ap one_if e)
+    one false b c e f = omega (arith, ap one_if e)
 
--- one more
-pub passing_more : (test : ℕ → Bool) (first count : ℕ) → days_passing test first (count + 1)
-    ≡ days_passing test first count + one_if (test (first + count))
-unfolding sum_over
-passing_more test first count = let e : count + 1 ≡ suc count = omega arith in rw e refl
+-- numbers added up, which is at least each of them
+abbrev total_of : List ℕ → ℕ
+total_of [] = 0
+total_of (x ∷ xs) = x + total_of xs
 
-pub passing_none : (test : ℕ → Bool) (first : ℕ) → days_passing test first 0 ≡ 0
-unfolding sum_over
-passing_none test first = refl
+all_in : (xs : List ℕ) (n : ℕ) → total_of xs < n → AllByRecursion (IsIn 0 (0 + n)) xs
+all_in [] n h = tt
+all_in (x ∷ xs) n h = (
+  record { above = omega arith; below = omega (arith, h) },
+  all_in xs n (omega (arith, h)),
+)
 
--- tests that agree on the days let the same days pass
-pub passing_same : (p q : ℕ → Bool) (first count : ℕ)
-    → ((place : ℕ) → place < count → p (first + place) ≡ q (first + place))
-    → days_passing p first count ≡ days_passing q first count
-unfolding sum_over
-passing_same p q first zero h = refl
-passing_same p q first (suc count) h =
-    (λ i. passing_same p q first count (λ place l. h place (omega (arith, l))) i + one_if
-    (h count (omega arith) i))
-
--- a day that is counted where it passes
-pub passing_next : (test : ℕ → Bool) (first place count count' : ℕ) (passes : Bool) →
-    count ≡ days_passing test first place → passes ≡ test (first + place) →
-    count' ≡ cond passes (count + 1) count →
-    count' ≡ days_passing test first (place + 1)
-passing_next test first place count count' true so is e =
-    e ∙ ap (λ n. n + 1) so ∙ ap (λ b. days_passing test first place + one_if b) is
-    ∙ sym (passing_more test first place)
-passing_next test first place count count' false so is e =
-    e ∙ so ∙ nothing (days_passing test first place)
-    ∙ ap (λ b. days_passing test first place + one_if b) is
-    ∙ sym (passing_more test first place)
-  where
-    nothing : (n : ℕ) → n ≡ n + 0
-    nothing n = omega arith
+-- numbers of two lists that have none in common are as many, each once, as those of both
+pub counted-apart : (xs ys zs : List ℕ) →
+    ((d : ℕ) → list_any (λ x. x == d) zs ≡ (list_any (λ x. x == d) xs || list_any (λ x. x == d) ys))
+    → ((d : ℕ) → (list_any (λ x. x == d) xs && list_any (λ x. x == d) ys) ≡ false) →
+    length (first_of_each (λ a b. a == b) zs)
+    ≡ length (first_of_each (λ a b. a == b) xs) + length (first_of_each (λ a b. a == b) ys)
+counted-apart xs ys zs all apart =
+    let most = total_of xs + (total_of ys + total_of zs) in
+    let both = both_passing (λ d. list_any (λ x. x == d) xs) (λ d. list_any (λ x. x == d) ys)
+    (λ d. list_any (λ x. x == d) zs) all apart (suc most) in
+    let first = counted xs 0 (suc most) (all_in xs (suc most) (omega arith)) in
+    let second = counted ys 0 (suc most) (all_in ys (suc most) (omega arith)) in
+    let third = counted zs 0 (suc most) (all_in zs (suc most) (omega arith)) in
+    third ∙ both ∙ (λ i. sym first i + sym second i)

@@ -1,37 +1,22 @@
-//! The days of an indicator, counted.
-ghost use Rattle.std.specs.Prelude.{◌≡◌, ◌+◌, ◌-◌, ◌*◌, ◌/◌, ◌^◌, ◌<◌, ◌≤◌, ◌||◌, ◌++◌, List, ℕ};
-ghost use Rattle.std.specs.Prelude.{false, IfOk, length, slice_index_or};
-ghost use Rattle.std.specs.List.{All};
-ghost use Rattle.sample_book.specs.Rows.{current_rows};
-ghost use Rattle.office_history.specs.Batches.{days_of};
-ghost use Rattle.objective_days.specs.Days.{IsOnDays, IsWithin, has_day, is_counted, first_day};
-ghost use Rattle.objective_days.specs.Days.{day_count, days_passing};
+//! The days that rows bring to a book.
+ghost use Rattle.std.specs.Prelude.{◌≡◌, ◌<◌, ◌≤◌, ◌+◌, ◌/◌, ◌||◌, List, true, IfOk, OnOk};
+ghost use Rattle.std.specs.Prelude.{length, take};
+ghost use Rattle.std.specs.List.{list_any};
+ghost use Rattle.slo_limits.specs.declared.TheConstants.{MINUTES_A_DAY};
+ghost use Rattle.cell_index.specs.Cells.{is_cell_on};
+ghost use Rattle.cell_index.specs.Chains.{IsIndexed};
+ghost use Rattle.cell_index.specs.declared.Cell.{Cell};
+ghost use Rattle.sample_book.specs.LastRows.{is_on};
+ghost use Rattle.objective_days.specs.Days.{BringDays, has_day};
 
+use cell_index::CellIndex;
 use exact_fraction::Label;
 use sample_book::{Row, SampleBook};
 use slo_limits::MINUTES_A_DAY;
 use std::alloc::{AllocError, Global};
 
-/// Days, one behind another.
-#[derive(Clone, Copy)]
-pub(crate) struct Days {
-    /// The first, counted from 1970-01-01.
-    pub(crate) first: u32,
-    pub(crate) count: usize,
-}
-
-impl Days {
-    /// All days that have a minute of [origin, until).
-    pub(crate) fn of(origin: u32, until: u32) -> Days
-        ensures first { result.first ≡ first_day origin }
-        ensures count { result.count ≡ day_count origin until }
-    {
-        Days {
-            first: origin / MINUTES_A_DAY,
-            count: (until.saturating_sub(origin) / MINUTES_A_DAY) as usize + 2,
-        }
-    }
-}
+/// More rows than this aren't looked at: a place in an index is a `u32`.
+const MOST_ROWS: usize = 4_294_967_294;
 
 /// Whether a current row of the indicator lies on the day.
 fn has_row_on(book: &SampleBook, sli: Label, day: u32) -> bool
@@ -40,60 +25,82 @@ fn has_row_on(book: &SampleBook, sli: Label, day: u32) -> bool
     book.last_row_on(sli, day).is_some()
 }
 
-/// Whether a day is marked, or has a current row of the indicator.
-fn is_day(marked: bool, book: &SampleBook, sli: Label, day: u32) -> bool
-    ensures { result ≡ (has_day sli book.now.rows day || marked) }
+/// Whether a cell of the index is of the indicator, on the day.
+fn has_cell_on(new: &CellIndex, sli: Label, day: u32) -> bool
+    ensures { (cells : List Cell) → IsIndexed cells new.now
+        → result ≡ list_any (is_cell_on sli day) cells }
 {
-    marked || has_row_on(book, sli, day)
+    0 < new.last_on_day(sli, day)
 }
 
-/// On which of the days a row of the indicator lies.
-fn marked_days(alloc: Global, days: Days, sli: Label, rows: &[Row]) -> Result<Vec<bool>, AllocError>
-    requires { All (IsOnDays days.first days.count) rows.now }
-    ensures all { IfOk result (λ marks. length marks.items ≡ days.count) }
-    ensures marks { IfOk result (λ marks. (place : ℕ) → place < days.count → slice_index_or
-        marks.items place false ≡ has_day sli rows.now (days.first + place)) }
+/// Whether a row lies on another's day, and is of its indicator.
+fn is_of_day(before: &Row, row: &Row) -> bool
+    ensures { result ≡ is_on row.now.sli (row.now.minute / MINUTES_A_DAY) before.now }
 {
-    let mut marks = vec![in alloc; false; days.count]?;
-    for row in rows {
-        if row.sli == sli {
-            marks[(row.minute / MINUTES_A_DAY - days.first) as usize] = true;
-        }
+    before.sli == row.sli && before.minute / MINUTES_A_DAY == row.minute / MINUTES_A_DAY
+}
+
+/// Whether the row before a place lies on this one's day, and is of its indicator.
+fn is_day_of_last(rows: &[Row], place: usize, row: &Row) -> bool
+    requires { place ≤ length rows.now }
+    ensures { result ≡ true → has_day row.now.sli (take place rows.now)
+        (row.now.minute / MINUTES_A_DAY) ≡ true }
+{
+    if place == 0 {
+        return false;
     }
-    Ok(marks)
+    is_of_day(&rows[place - 1], row)
 }
 
-/// How many days are marked, or have a current row of the indicator.
-fn count_days(book: &SampleBook, sli: Label, first: u32, marks: &[bool]) -> u64
-    requires { first + length marks.now < 2 ^ 32 }
-    ensures { result ≡ days_passing (is_counted sli book.now.rows first marks.now) first (length
-        marks.now) }
+/// Whether a row of the book or a cell of the index is of the indicator, on the day.
+fn is_known(book: &SampleBook, new: &CellIndex, sli: Label, day: u32) -> bool
+    ensures { (cells : List Cell) → IsIndexed cells new.now
+        → result ≡ (has_day sli book.now.rows day || list_any (is_cell_on sli day) cells) }
 {
-    let mut count: u64 = 0;
-    for (place, marked) in marks.iter().enumerate() {
-        if is_day(*marked, book, sli, first + place as u32) {
-            count += 1;
-        }
-    }
-    count
+    let of_book = has_row_on(book, sli, day);
+    let of_index = has_cell_on(new, sli, day);
+    of_book | of_index
 }
 
-/// How many days have a current row of the indicator, once these rows came too.
-pub(crate) fn days_of(
-    alloc: Global,
-    days: Days,
+/// Adds the cell of a row to those of the days that the rows before it brought, where the row
+/// brings one more.
+fn bring(
     book: &SampleBook,
-    sli: Label,
-    more: &[Row],
-) -> Result<u64, AllocError>
-    requires days { days.first + days.count < 2 ^ 32 }
-    requires book { All (IsOnDays days.first days.count) book.now.rows }
-    requires more { All (IsOnDays days.first days.count) more.now }
-    ensures exact { IfOk result (λ count. count ≡ days_of (current_rows (book.now.rows ++
-        more.now)) sli) }
-    ensures few { IfOk result (λ count. count ≤ days.count) }
+    rows: &[Row],
+    place: usize,
+    new: &mut CellIndex,
+) -> Result<(), AllocError>
+    requires within { place < length rows.now }
+    requires few { length rows.now < 4294967295 }
+    requires brought { BringDays book.now.rows (take place rows.now) new.old }
+    ensures { OnOk result (BringDays book.now.rows (take (place + 1) rows.now) new.new) }
 {
-    book.rows_are_current();
-    let marks = marked_days(alloc, days, sli, more)?;
-    Ok(count_days(book, sli, days.first, &marks))
+    let row = rows[place];
+    if is_day_of_last(rows, place, &row) {
+        return Ok(());
+    }
+    if is_known(book, new, row.sli, row.minute / MINUTES_A_DAY) {
+        return Ok(());
+    }
+    new.reserve(1)?;
+    new.push(&row.cell());
+    Ok(())
+}
+
+/// The days that rows bring: a cell of each indicator and day that has none of the book's rows.
+pub(crate) fn new_days(
+    alloc: Global,
+    book: &SampleBook,
+    rows: &[Row],
+) -> Result<CellIndex, AllocError>
+    ensures { IfOk result (λ new. BringDays book.now.rows rows.now new) }
+{
+    if MOST_ROWS < rows.len() {
+        return Err(AllocError);
+    }
+    let mut new = CellIndex::new(alloc);
+    for place in 0..rows.len() {
+        bring(book, rows, place, &mut new)?;
+    }
+    Ok(new)
 }

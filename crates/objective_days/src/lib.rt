@@ -1,6 +1,6 @@
 //! How many pairs there are of an objective and a day that has rows, judged by their limit.
 //! Stands on the book of samples and the catalog, and on the definition over a history.
-//! Promises the count's test exactly, at a look-up for each day of an indicator at most.
+//! Promises the count's test exactly, at a look-up for each SLO and each day that rows bring.
 #![tactic(auto)]
 
 mod days;

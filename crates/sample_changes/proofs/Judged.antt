@@ -1,8 +1,7 @@
 -- A batch over what is kept is judged as over all rows that came, and what an accepted one keeps.
 use Rattle.std.proofs.Common.{◌≡◌, ℕ, ◌+◌, ◌≤◌, ◌<◌, ◌++◌, List, [], ◌∷◌, Bool, true, false, cond}
 use Rattle.std.proofs.Common.{nat_lt, refl, ap, sym, ◌∙◌, arith, length, Option, Some, None}
-use Rattle.std.specs.List.{list_any, All, AllByRecursion}
-use Rattle.std.proofs.lemmas.List.Elements.{All-from_recursion}
+use Rattle.std.specs.List.{list_any}
 use Rattle.std.proofs.lemmas.Bool.{ltb-true, ltb-false, le-ltb, lt-ltb}
 use Rattle.slo_limits.specs.declared.TheConstants as most
 use Rattle.sample_book.specs.declared.Row.{Row}
@@ -26,7 +25,6 @@ use Rattle.office_history.specs.Verdicts.{accepted, samples_verdict, unless_refu
 use Rattle.office_history.specs.Versions.{is_upgraded, most_cells, most_rows}
 use Rattle.office_derived.specs.declared.Derived.{Derived}
 use Rattle.office_derived.specs.Derived.{IsJudged, Reflects}
-use Rattle.objective_days.specs.Days.{IsWithin}
 use Rattle.record_form.specs.declared.Command.TheVariants as commands
 use Rattle.office_derived.specs.declared.Judged.{Judged}
 use Rattle.office_derived.specs.declared.Judged.TheVariants as judged
@@ -35,8 +33,7 @@ use Rattle.office_derived.specs.declared.Work.TheVariants as works
 use Rattle.office_derived.specs.Tallies.{changes, tally_of, tally_outcome}
 use Rattle.sample_changes.specs.Judging.{faultless_verdict, rows_fault, rows_verdict}
 use Rattle.sample_changes.specs.Works.{ComesTo}
-use Rattle.sample_changes.proofs.GoodRows.{IsGood, good_rows}
-use Rattle.sample_changes.proofs.Tallies.{accepted-more, any_put, count_put, verdicts_each}
+use Rattle.sample_changes.proofs.Tallies.{accepted-more, any_put, count_put}
 
 -- the verdict by what is counted
 abbrev by_parts : Bool → Option Refusal → ℕ → ℕ → ℕ → List RowVerdict → ℕ → Judgement
@@ -226,18 +223,6 @@ days_decide d moment rows vs tally found passes judged counted current is none f
     (omega (arith, batch_cells d.book.rows rows tally current tallied, few))
     (omega (arith, batch_taken d.accepted d.book.rows rows tally tallied, taken))
     days
-
-pub batch_within : (u : Bool) (origin m until : ℕ) (members : List Object) (kept rows : List Row)
-    → batch_fault u origin m members kept rows ≡ None → m ≤ until → All (IsWithin origin until) rows
-batch_within u origin m until members kept rows clean later =
-    All-from_recursion (IsWithin origin until) rows
-    (within rows (good_rows u origin m members 1 rows (verdicts kept rows)
-    (verdicts_each kept rows) clean))
-  where
-    within : (rows : List Row) → AllByRecursion (IsGood origin m members) rows
-        → AllByRecursion (IsWithin origin until) rows
-    within [] h = tt
-    within (row ∷ rows) h = ((h.0.begun, omega (arith, h.0.over, later)), within rows h.1)
 
 pub refused_by : (fault : Option Refusal) (refusal : Refusal) (otherwise : Judgement)
     → fault ≡ Some refusal → Refused refusal ≡ unless_refused fault otherwise

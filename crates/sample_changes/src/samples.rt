@@ -3,7 +3,6 @@ ghost use Rattle.std.specs.Prelude.{◌≡◌, ◌+◌, ◌<◌, ◌≤◌, ◌+
 ghost use Rattle.std.specs.Prelude.{OnOk, cond, length, map};
 ghost use Rattle.std.specs.Global.{Vec};
 ghost use Rattle.slo_limits.specs.declared.TheConstants.{MAX_BATCH_ROWS as most_rows};
-ghost use Rattle.slo_limits.specs.declared.TheConstants.{MAX_MINUTE, RANGE_MINUTES};
 ghost use Rattle.sample_book.specs.declared.RowVerdict.{RowVerdict};
 ghost use Rattle.sample_book.specs.Rows.{cell_of, current_rows, verdict_of};
 ghost use Rattle.sample_book.specs.History.{Came, Arrival, Gains, Holds, MayComeAll, MayComeAs};
@@ -30,17 +29,8 @@ use office_derived::{BatchTally, Derived, Judged, Work, accepted};
 use office_history::Judgement;
 use record_form::{LimitName, Outcome, Refusal, Rows};
 use sample_book::{Row, RowVerdict, SampleBook};
-use slo_limits::{MAX_BATCH_ROWS, RANGE_MINUTES};
+use slo_limits::MAX_BATCH_ROWS;
 use std::alloc::{AllocError, Global};
-
-/// A minute before which all rows of an office lie, and those that are over at the moment.
-fn end_of_rows(origin: u32, moment: u32) -> u32
-    requires { origin ≤ MAX_MINUTE }
-    ensures range { origin + RANGE_MINUTES ≤ result }
-    ensures moment { moment ≤ result }
-{
-    moment.max(origin + RANGE_MINUTES)
-}
 
 /// The first rule that rows break behind the limit of their number.
 fn rows_fault(
@@ -78,15 +68,7 @@ fn rows_fault(
     if row_limit(upgraded) < derived.accepted + (tally.new + tally.newer) {
         return Ok(Some(limit(LimitName::Accepted)));
     }
-    let end = end_of_rows(derived.origin, moment);
-    let passes = passes_days_limit(
-        alloc,
-        derived.origin,
-        end,
-        &derived.catalog,
-        &derived.book,
-        rows,
-    )?;
+    let passes = passes_days_limit(alloc, &derived.catalog, &derived.book, rows)?;
     if passes {
         return Ok(Some(limit(LimitName::Days)));
     }

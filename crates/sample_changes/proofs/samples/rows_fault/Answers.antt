@@ -5,7 +5,7 @@ use Rattle.sample_book.specs.Puts.{verdicts}
 use Rattle.sample_book.specs.Rows.{current_rows}
 use Rattle.office_history.specs.Batches.{batch_fault, count, objective_days}
 use Rattle.office_derived.specs.Tallies.{tally_of}
-use Rattle.sample_changes.proofs.Judged.{batch_cells, batch_clean, batch_taken, batch_within}
+use Rattle.sample_changes.proofs.Judged.{batch_cells, batch_clean, batch_taken}
 use Rattle.sample_changes.proofs.Judged.{days_decide, over_cells, over_taken}
 use Rattle.sample_changes.proofs.Tallies.{verdicts_each}
 use Rattle.sample_changes.proofs.samples.rows_fault.Goals as goal
@@ -63,16 +63,6 @@ returns-then-row_limit-derived c =
       c.row_limit.ensures.most,
       c.if-row_limit-derived.true,
     ))
-
-pub passes_days_limit-requires-clause-more : goal.passes_days_limit-requires-clause-more
-passes_days_limit-requires-clause-more c =
-    let a = c.args in
-    let d = a.derived.now in
-    batch_within d.upgraded d.origin a.moment c.end_of_rows-end.result d.catalog d.book.rows
-    a.rows.now
-    (batch_clean d.upgraded d.origin a.moment d.catalog d.book.rows a.rows.now a.verdicts.now
-    c.batch_fault.result c.requires.judged c.batch_fault.ensures c.in-None.is)
-    c.end_of_rows-end.ensures.moment
 
 pub returns-then-passes : goal.returns-then-passes
 returns-then-passes c =

@@ -1,0 +1,45 @@
+-- Members whose days pass the limit.
+use Rattle.std.proofs.Common.{◌≡◌, ℕ, ◌+◌, ◌<◌, ◌≤◌, List, ap, sym, ◌∙◌, arith, length, take}
+use Rattle.std.proofs.Common.{get_or, true, false, nat_lt}
+use Rattle.std.proofs.lemmas.Bool.{le-ltb, lt-ltb}
+use Rattle.std.proofs.lemmas.Grind.{common_steps}
+use Rattle.std.proofs.lemmas.List.Sums.{sum_by_more, sum_by_more_le}
+use Rattle.slo_limits.specs.declared.TheConstants.{MAX_DAYS}
+use Rattle.object_terms.specs.declared.Object.{Object}
+use Rattle.object_terms.specs.Slo.{slo_in}
+use Rattle.sample_book.specs.declared.Row.{Row}
+use Rattle.office_history.specs.Batches.{days_of_slo, objective_days}
+
+-- one member more
+pub passes_next : (members : List Object) (rows : List Row) (place total pairs : ℕ)
+    (o : Object) → place < length members → o ≡ get_or members place o →
+    total ≡ objective_days (take place members) rows → pairs ≡ days_of_slo rows (slo_in o.body) →
+    total + pairs ≡ objective_days (take (place + 1) members) rows
+passes_next members rows place total pairs o within is so here =
+    let all =
+    sum_by_more (λ (o : Object). days_of_slo rows (slo_in o.body)) members place o within in
+    let same : pairs ≡ days_of_slo rows (slo_in (get_or members place o).body) = here
+    ∙ ap (λ (o : Object). days_of_slo rows (slo_in o.body)) is in
+    omega (arith, all, so, same)
+
+-- members of which none is left, and whose days are within the limit
+pub passes_not : (members : List Object) (rows : List Row) (place total : ℕ) →
+    length members ≤ place → total ≡ objective_days (take place members) rows → total ≤ MAX_DAYS →
+    false ≡ nat_lt MAX_DAYS (objective_days members rows)
+passes_not members rows place total over is within =
+    let all : take place members ≡ members = grind (arith, common_steps) in
+    let same : total ≡ objective_days members rows = is
+    ∙ ap (λ (ms : List Object). objective_days ms rows) all in
+    sym (le-ltb MAX_DAYS (objective_days members rows) (omega (arith, same, within)))
+
+-- members whose days pass the limit already
+pub passes_already : (members : List Object) (rows : List Row) (place total pairs : ℕ)
+    (o : Object) → place < length members → o ≡ get_or members place o →
+    total ≡ objective_days (take place members) rows → pairs ≡ days_of_slo rows (slo_in o.body) →
+    MAX_DAYS < total + pairs → true ≡ nat_lt MAX_DAYS (objective_days members rows)
+passes_already members rows place total pairs o within is so here h =
+    let all =
+    sum_by_more_le (λ (o : Object). days_of_slo rows (slo_in o.body)) members place o within in
+    let same : pairs ≡ days_of_slo rows (slo_in (get_or members place o).body) = here
+    ∙ ap (λ (o : Object). days_of_slo rows (slo_in o.body)) is in
+    sym (lt-ltb MAX_DAYS (objective_days members rows) (omega (arith, all, so, same, h)))
