@@ -4,7 +4,8 @@
 
 Without sizes: 43,200 cells of one source, 432,000 of ten sources (30 days of each) and 2,000,000 of ten. Each office has
 one ratio indicator; its SLO has one objective and one binding, or five objectives and ten bindings, over 30 days. Beside
-these an office of 200 SLOs, of one objective and two bindings each. A figure is processor time of the program itself
+these an office of 200 SLOs, of one objective and two bindings each, with an opening of 2,000 minutes of a row and a
+tick, and one of five objectives beside 900 exclusions of two days. A figure is processor time of the program itself
 (Linux tells it, in nanoseconds), read while it waits for the next request: the least and the median of so many. A budget
 and a burn rate are a hundred requests in one write, by a hundred; where the kernel's probes can be used (as root, with
 tracefs) the call `Core::answer` alone is timed too, by the clock. Memory is the greatest so far. The journals lie in a
@@ -31,6 +32,7 @@ AIMS = {
     "a batch of 1,000 new rows": "1.5",
     "a batch of 1,000 corrections of the last rows": "2",
     "a batch of 1,000 corrections of the first rows": "2",
+    "a batch of 1,000 rows that stand": "1",
     "an exclusion of 30 days": "30",
     "its lifting": "30",
     "a budget over 30 days": "0.01",
@@ -45,6 +47,7 @@ AIMS = {
     "a definition that changes the target of one SLO": "",
     "a definition that changes the description of one SLO": "",
     "an opening": "3,300",
+    "an opening with 2,000 minutes of a row and a tick more": "",
     "memory after the opening, MB": "",
     "memory at the end, MB": "",
 }
@@ -196,6 +199,11 @@ def exclusions(office, session):
     office.note("its lifting", lifted)
 
 
+def standing(office, session, count):
+    """Batches that came before change nothing."""
+    office.note("a batch of 1,000 rows that stand", [took(session, office.batch(1000 * n)) for n in range(count)])
+
+
 def ticks(office, session):
     """What a tick takes once all bindings have their state, in the same minute."""
     took(session, message("POST", "/tick"))
@@ -231,9 +239,25 @@ def single(office, objectives, policies):
         answers(office, session)
         ticks(office, session)
         corrections(office, session, 20)
+        standing(office, session, 20)
         exclusions(office, session)
         office.note_memory("memory at the end, MB", session.memory())
         calendar(office, session)
+        session.end()
+
+
+def excluded(office):
+    """An office of five objectives beside 900 exclusions of two days, which lie before its rows."""
+    office.head = "5 objectives, 900 exclusions"
+    with tempfile.TemporaryDirectory(prefix="figures-") as folder:
+        office.make(folder, service() + [slo(0, 5, POLICIES)], left=5000)
+        before = (b'{"from":%d,"slo":"o0","to":%d}' % (office.origin + 50 * n, office.origin + 50 * n + 2880) for n in range(900))
+        office.pipe(folder, b"".join(message("PUT", f"/exclusions/y{n}", body) for n, body in enumerate(before)))
+        session = latency.Session(folder)
+        new_rows(office, session, 5)
+        corrections(office, session, 5)
+        standing(office, session, 5)
+        exclusions(office, session)
         session.end()
 
 
@@ -250,6 +274,15 @@ def rows_alone(office):
         session.end()
 
 
+def minutes(office, folder):
+    """What 2,000 minutes of a row and a tick add to an opening."""
+    for first in range(office.last, office.last + 2000, 500):
+        office.pipe(folder, b"".join(message("POST", "/samples", b"busy,s0,%d,1,999,1000\n" % (first + n)) + message("POST", "/tick") for n in range(500)))
+    session = latency.Session(folder)
+    office.note("an opening with 2,000 minutes of a row and a tick more", [spent(session)])
+    session.end()
+
+
 def many(office):
     """An office of 200 SLOs, each with one objective and two bindings."""
     office.head = "200 SLOs, 400 bindings"
@@ -262,8 +295,10 @@ def many(office):
         office.note("a definition that changes the description of one SLO", [took(session, office.define([slo(8, 1, POLICIES, description=f"As agreed, {n}.")])) for n in range(5)])
         new_rows(office, session, 5)
         corrections(office, session, 5)
+        standing(office, session, 5)
         office.note_memory("memory at the end, MB", session.memory())
         session.end()
+        minutes(office, folder)
 
 
 def table(size, columns):
@@ -285,7 +320,7 @@ def main(program, words):
     tables = []
     for cells, sources in sizes:
         columns = []
-        for part in (rows_alone, lambda it: single(it, 1, POLICIES[:1]), lambda it: single(it, 5, POLICIES), many):
+        for part in (rows_alone, lambda it: single(it, 1, POLICIES[:1]), lambda it: single(it, 5, POLICIES), excluded, many):
             office = Office(program, cells, sources, runs)
             part(office)
             columns.append((office.head, office.found))
