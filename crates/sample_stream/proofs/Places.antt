@@ -6,7 +6,7 @@ use Rattle.std.proofs.Common.{length-append}
 use Rattle.std.specs.List.{flat_map, range_with_len}
 use Rattle.office_outside.specs.Told.{Gained, GainedPrefix}
 use Rattle.office_outside.proofs.Gains.{gained_both, gained_then_prefix}
-use Rattle.sample_stream.proofs.Pieces.{part_of_first}
+use Rattle.request_texts.proofs.Pieces.{part_of_first}
 
 module _ (text : ℕ → List ℕ) where
   -- the texts of so many places, from one on

@@ -1,19 +1,10 @@
 -- The stream of a number.
-use Rattle.std.specs.Prelude.{ℕ, List, [], ◌++◌, length, codes, decimal}
+use Rattle.std.specs.Prelude.{ℕ, List, [], ◌++◌, codes}
 use Rattle.std.specs.List.{flat_map, range_with_len}
+use Rattle.request_texts.specs.Requests.{request}
 use Rattle.sample_stream.specs.Batches.{batch_of, corrections, rows_of}
 use Rattle.sample_stream.specs.declared.batch.Batch.{Batch}
 use Rattle.sample_stream.specs.declared.documents.TheConstants.{ALERT_TARGETS, SHOP}
-
--- the head of a request whose body has so many bytes (RFC 9112)
-unfoldable pub head_of : List ℕ → ℕ → List ℕ
-head_of line count =
-    line ++ (codes " HTTP/1.1\r\nHost: office\r\nContent-Length: " ++ (decimal count
-    ++ codes "\r\n\r\n"))
-
--- a request with its body
-abbrev pub request : List ℕ → List ℕ → List ℕ
-request line body = head_of line (length body) ++ body
 
 -- what the samples count, as documents
 unfoldable pub documents : List ℕ

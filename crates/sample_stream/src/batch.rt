@@ -4,8 +4,8 @@ ghost use Rattle.office_outside.specs.Faults.{HasCause};
 ghost use Rattle.office_outside.specs.Told.{Gained, GainedPrefix};
 ghost use Rattle.sample_stream.specs.Batches.{row_at, rows_of};
 
-use crate::line::Line;
 use office_outside::{Failed, Sink, write_whole};
+use request_texts::Line;
 
 /// Rows of minutes one after another, as they were counted first or corrected.
 #[derive(Clone, Copy, Debug)]

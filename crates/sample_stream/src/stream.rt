@@ -1,43 +1,18 @@
 //! The stream of a number.
-ghost use Rattle.std.specs.Prelude.{◌≡◌, ◌++◌, ◌+◌, ◌≤◌, [], OnOk, OnErr, codes, length};
+ghost use Rattle.std.specs.Prelude.{◌≡◌, ◌++◌, ◌≤◌, OnOk, OnErr, codes, length};
 ghost use Rattle.office_outside.specs.Faults.{HasCause};
 ghost use Rattle.office_outside.specs.Told.{Gained, GainedPrefix};
 ghost use Rattle.sample_stream.specs.Batches.{batch_of as batch_of_def, corrections};
-ghost use Rattle.sample_stream.specs.Stream.{batches, definitions, documents, head_of};
-ghost use Rattle.sample_stream.specs.Stream.{last_requests, questions, samples, stream_of};
+ghost use Rattle.sample_stream.specs.Stream.{batches, definitions, documents, last_requests};
+ghost use Rattle.sample_stream.specs.Stream.{questions, samples, stream_of};
 
 use crate::batch::{Batch, rows_length, write_rows};
 use crate::documents::{ALERT_TARGETS, SHOP};
-use crate::line::Line;
 use office_outside::{Failed, Sink, write_whole};
+use request_texts::{head, write_both};
 
 /// The greatest number of a stream: with its five other requests one session answers all of it.
 pub const MAX_NUMBER: u32 = 995;
-
-/// The head of a request whose body has so many bytes.
-fn head(line: &str, body: u64) -> Line
-    requires { length line.now ≤ 40 }
-    ensures { result ≡ head_of line.now body }
-{
-    let mut head = Line::new();
-    head.push(line);
-    head.push(" HTTP/1.1\r\nHost: office\r\nContent-Length: ");
-    head.push_number(body);
-    head.push("\r\n\r\n");
-    head
-}
-
-/// Writes one piece behind another. After `Failed` a prefix of both was written.
-fn write_both<K: Sink>(first: &[u8], second: &[u8], output: &mut K) -> Result<(), Failed>
-    ensures gained { OnOk result
-        (Gained (first.now ++ second.now) (K.held output.old) (K.held output.new)) }
-    ensures part { OnErr result
-        (GainedPrefix (first.now ++ second.now) (K.held output.old) (K.held output.new)) }
-    ensures cause { HasCause (K.faults output.old) (K.faults output.new) result }
-{
-    write_whole(output, first)?;
-    write_whole(output, second)
-}
 
 /// How many bytes the documents have.
 #[tactic(auto, unfolding(crate::specs::Stream::documents))]

@@ -1,6 +1,6 @@
 use Rattle.std.proofs.Common.{◌++◌, refl, List, ℕ}
 use Rattle.sample_stream.specs.Stream.{batches, definitions, last_requests, stream_of}
-use Rattle.sample_stream.proofs.Pieces.{part_behind, part_of_first}
+use Rattle.request_texts.proofs.Pieces.{part_behind, part_of_first}
 use Rattle.sample_stream.proofs.stream.generate.Goals as goal
 
 -- the requests behind the definitions

@@ -1,6 +1,7 @@
 use Rattle.std.proofs.Common.{◌≡◌, ◌++◌, ◌∙◌, ap, subst, codes, ℕ, List, length, OnOk, OnErr, refl}
 use Rattle.office_outside.specs.Told.{Gained, GainedPrefix}
-use Rattle.sample_stream.specs.Stream.{definitions, documents, head_of}
+use Rattle.request_texts.specs.Requests.{head_of}
+use Rattle.sample_stream.specs.Stream.{definitions, documents}
 use Rattle.sample_stream.specs.declared.documents.TheConstants.{ALERT_TARGETS, SHOP}
 use Rattle.sample_stream.proofs.stream.write_definitions.Goals as goal
 

@@ -1,5 +1,5 @@
 use Rattle.std.proofs.Common.{◌++◌, codes, append_assoc, List, ℕ}
-use Rattle.sample_stream.proofs.Pieces.{both_behind, part_behind, part_of_first}
+use Rattle.request_texts.proofs.Pieces.{both_behind, part_behind, part_of_first}
 use Rattle.sample_stream.proofs.stream.write_documents.Goals as goal
 
 -- the line between two documents, and the second one

@@ -3,7 +3,7 @@ use Rattle.office_outside.specs.Told.{Gained, GainedPrefix}
 use Rattle.sample_stream.specs.Batches.{batch_of, corrections}
 use Rattle.sample_stream.specs.Stream.{last_requests, questions, samples}
 use Rattle.sample_stream.specs.declared.batch.Batch.{Batch}
-use Rattle.sample_stream.proofs.Pieces.{both_behind, part_behind, part_of_first}
+use Rattle.request_texts.proofs.Pieces.{both_behind, part_behind, part_of_first}
 use Rattle.sample_stream.proofs.stream.write_last.Goals as goal
 
 -- the requests behind the corrections

@@ -1,6 +1,7 @@
 use Rattle.std.proofs.Common.{◌≡◌, ◌++◌, ◌∙◌, subst, append-nil, refl, List, ℕ, OnOk, OnErr, codes}
 use Rattle.office_outside.specs.Told.{Gained, GainedPrefix}
-use Rattle.sample_stream.specs.Stream.{head_of, questions}
+use Rattle.request_texts.specs.Requests.{head_of}
+use Rattle.sample_stream.specs.Stream.{questions}
 use Rattle.sample_stream.proofs.stream.write_questions.Goals as goal
 
 -- the heads are the requests

@@ -1,8 +1,9 @@
 use Rattle.std.proofs.Common.{◌≡◌, ◌++◌, codes, length, ℕ, List, refl}
 use Rattle.sample_stream.specs.Batches.{rows_of}
-use Rattle.sample_stream.specs.Stream.{head_of, samples}
+use Rattle.request_texts.specs.Requests.{head_of}
+use Rattle.sample_stream.specs.Stream.{samples}
 use Rattle.sample_stream.specs.declared.batch.Batch.{Batch}
-use Rattle.sample_stream.proofs.Pieces.{both_behind, part_behind, part_of_first}
+use Rattle.request_texts.proofs.Pieces.{both_behind, part_behind, part_of_first}
 use Rattle.sample_stream.proofs.stream.write_samples.Goals as goal
 
 -- a head and the rows are the request

@@ -41,7 +41,7 @@ module _ {T E : Type 0} (whole first second : List ℕ) (is : first ++ second �
       (gained_then_prefix first second a b c gained p))
 
 pub head_joined : (line count : List ℕ)
-    → ((([] ++ line) ++ codes " HTTP/1.1\r\nHost: office\r\nContent-Length: ") ++ count)
+    → ((line ++ codes " HTTP/1.1\r\nHost: office\r\nContent-Length: ") ++ count)
     ++ codes "\r\n\r\n"
     ≡ line ++ (codes " HTTP/1.1\r\nHost: office\r\nContent-Length: " ++ (count
     ++ codes "\r\n\r\n"))

@@ -1,6 +1,6 @@
 use Rattle.std.proofs.Common.{◌++◌, refl}
-use Rattle.sample_stream.proofs.Pieces.{part_behind}
-use Rattle.sample_stream.proofs.stream.write_both.Goals as goal
+use Rattle.request_texts.proofs.Pieces.{part_behind}
+use Rattle.request_texts.proofs.writing.write_both.Goals as goal
 
 pub returns-clause-part : goal.returns-clause-part
 returns-clause-part g c =
