@@ -1,0 +1,15 @@
+pub mod Parts
+pub mod Ranks
+pub mod Objects
+pub mod Steps
+pub mod Definitions
+pub mod ZoneMoves
+pub mod RowMoves
+pub mod Catalogs
+pub mod Histories
+pub mod Exclusions
+pub mod Assembly
+pub mod Whole
+pub mod Arriving
+pub mod Again
+pub mod AnswerLemmas

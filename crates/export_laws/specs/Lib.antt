@@ -1,0 +1,5 @@
+pub mod Replay
+pub mod Sendable
+pub mod Anew
+pub mod Alike
+pub mod Coming
