@@ -11,13 +11,14 @@ ghost use Rattle.record_form.specs.Ranges.{FitsRecord, IsEntryInRange};
 ghost use Rattle.office_history.specs.Alerts.{watched as watched_def};
 ghost use Rattle.office_history.specs.Answers.{Answers};
 ghost use Rattle.office_history.specs.Catalog.{catalog_in};
-ghost use Rattle.office_history.specs.History.{Office, current_in, end_of, moment_of, present};
-ghost use Rattle.office_history.specs.History.{with_entry};
+ghost use Rattle.office_history.specs.History.{Office, current_in, end_of, exclusions_in};
+ghost use Rattle.office_history.specs.History.{moment_of, present, with_entry};
 ghost use Rattle.office_history.specs.Legal.{IsLegal};
 ghost use Rattle.office_history.specs.Notices.{notices_in, waiting};
 ghost use Rattle.office_history.specs.Objectives.{measure_at as measure_at_def};
 ghost use Rattle.office_history.specs.Outcomes.{outcome_of};
 ghost use Rattle.office_history.specs.Versions.{is_upgraded, version_of};
+ghost use Rattle.office_history.specs.Zones.{zones_in};
 ghost use Rattle.office_derived.specs.Derived.{HasRoom, Stays, command_of, entry_of};
 ghost use Rattle.history_answers.specs.Learning.{KnowsAnswered};
 ghost use Rattle.history_answers.specs.States.{binding_state};
@@ -199,6 +200,28 @@ impl Core {
         ensures { result ≡ length (current_in self.now.office.history) }
     {
         self.derived.book.cells()
+    }
+
+    /// The zones that were put.
+    pub fn zones(&self) -> &Zones
+        ensures { result.now.kept ≡ zones_in self.now.office.history }
+    {
+        &self.derived.zones
+    }
+
+    /// The book of samples: the current rows, and the exclusions.
+    pub fn book(&self) -> &SampleBook
+        ensures rows { result.now.rows ≡ current_in self.now.office.history }
+        ensures exclusions { result.now.exclusions ≡ exclusions_in self.now.office.history }
+    {
+        &self.derived.book
+    }
+
+    /// Whether the history has an upgrade.
+    pub fn is_upgraded(&self) -> bool
+        ensures { result ≡ is_upgraded self.now.office.history }
+    {
+        self.derived.upgraded
     }
 
     /// The version of the history: 2 where it has an upgrade, and else 1.
