@@ -1,0 +1,14 @@
+//! What makes an office anew, as requests: a thousand of them at a time, written to a sink.
+//! Stands on the machine, on the requests in words, and on their texts.
+//! Promises the very bytes of the requests, or the first object that is too large for one.
+#![tactic(auto)]
+
+mod bodies;
+mod exporting;
+mod listing;
+mod requests;
+mod sizes;
+mod step;
+mod zones;
+
+pub use exporting::{ExportFault, export};
