@@ -16,7 +16,8 @@ use Rattle.budget_command.specs.Order.{budget_order}
 use Rattle.sample_stream.specs.declared.stream.TheConstants.{MAX_NUMBER}
 use Rattle.command_words.specs.Commands.{asked_alone, asked_named, asked_of, command_named}
 use Rattle.command_words.specs.Commands.{is_dashed, max_port, minute_asked, not_zero, number_asked}
-use Rattle.command_words.specs.Commands.{counters_asked, port_asked}
+use Rattle.command_words.specs.Commands.{counters_asked, part_asked, port_asked}
+use Rattle.command_words.specs.declared.reading.TheConstants.{MAX_PARTS}
 use Rattle.command_words.specs.declared.invocation.Invocation.TheVariants as invocation
 use Rattle.command_words.specs.declared.invocation.InputCommand.TheVariants as commands
 
@@ -93,6 +94,12 @@ none_port (w ∷ []) h =
     ap (option_and_then not_zero) (no_dashed_number max_port w (only_one w h))
 none_port (w ∷ v ∷ ws) h = refl
 
+none_part : (ws : List (List ℕ)) → HasDash ws → part_asked ws ≡ None
+none_part [] h = cc h
+none_part (w ∷ []) h =
+    ap (option_and_then not_zero) (no_dashed_number MAX_PARTS w (only_one w h))
+none_part (w ∷ v ∷ ws) h = refl
+
 none_counters : (ws : List (List ℕ)) → HasDash ws → counters_asked ws ≡ None
 none_counters [] h = cc h
 none_counters (w ∷ []) h = let dashed : is_dashed w ≡ true = only_one w h in rw dashed refl
@@ -141,7 +148,9 @@ none_named name ws h =
     (none_in_both (bytes_eq name (codes "counters")) _ _
     (ap (option_map invocation.Counters) (none_counters ws h))
     (none_in_both (bytes_eq name (codes "migrate")) _ _ (none_alone invocation.Migrate ws h)
-    (ap (option_map invocation.Answer) (none_command name ws h))))))))
+    (none_in_both (bytes_eq name (codes "export")) _ _
+    (ap (option_map invocation.Export) (none_part ws h))
+    (ap (option_map invocation.Answer) (none_command name ws h)))))))))
 
 pub none_of : (ws : List (List ℕ)) → HasDash ws → asked_of ws ≡ None
 none_of [] h = cc h

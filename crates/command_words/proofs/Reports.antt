@@ -1,13 +1,14 @@
--- Of the words that ask for a command those that begin with `report` ask for one that only reads.
-use Rattle.std.proofs.Common.{◌≡◌, Bool, true, false, List, [], ◌∷◌, Option, Some, None}
+-- Of the words that ask for a command those that begin with `report` or `export` ask for one that
+-- only reads.
+use Rattle.std.proofs.Common.{◌≡◌, ◌||◌, Bool, true, false, List, [], ◌∷◌, Option, Some, None}
 use Rattle.std.proofs.Common.{cond, codes, option_map, refl, sym, subst}
 use Rattle.std.specs.Str.{bytes_eq}
 use Rattle.std.proofs.lemmas.Slice.Eq.{bytes_eq-Decides}
 use Rattle.clap.specs.Walk.{Text}
 use Rattle.command_words.specs.Commands.{asked_alone, asked_named, asked_of, command_named}
 use Rattle.command_words.specs.Commands.{counters_asked, minute_asked, number_asked}
-use Rattle.command_words.specs.Commands.{only_reads, port_asked}
-use Rattle.command_words.specs.Matches.{begins_with_report}
+use Rattle.command_words.specs.Commands.{only_reads, part_asked, port_asked}
+use Rattle.command_words.specs.Matches.{begins_with_reader}
 use Rattle.command_words.specs.declared.invocation.Invocation.{Invocation}
 use Rattle.command_words.specs.declared.invocation.Invocation.TheVariants as invocation
 
@@ -35,9 +36,9 @@ alone asked is [] a e =
 alone asked is (w ∷ ws) a e = cc e
 
 others : (name : Text) (ws : List Text) → bytes_eq name (codes "report") ≡ false
-    → Reads false (asked_named name ws)
-others name ws other =
-    rw other
+    → bytes_eq name (codes "export") ≡ false → Reads false (asked_named name ws)
+others name ws other no_export =
+    rw (other, no_export)
     (in_both (bytes_eq name (codes "init")) _ _
     (mapped false invocation.Init (λ x. refl) (minute_asked ws))
     (in_both (bytes_eq name (codes "pipe")) _ _ (alone invocation.Pipe refl ws)
@@ -53,22 +54,28 @@ others name ws other =
 reports : (ws : List Text) → Reads true (asked_of (codes "report" ∷ ws))
 reports ws = mapped true invocation.Report (λ x. refl) (minute_asked ws)
 
-by_first : (name : Text) (ws : List Text)
-    → Reads (bytes_eq name (codes "report")) (asked_named name ws)
-by_first name ws = by (bytes_eq name (codes "report")) refl
-  where
-    is : Option Invocation
-    is = asked_named name ws
+exports : (ws : List Text) → Reads true (asked_of (codes "export" ∷ ws))
+exports ws = mapped true invocation.Export (λ x. refl) (part_asked ws)
 
-    by : (b : Bool) → bytes_eq name (codes "report") ≡ b
-        → Reads (bytes_eq name (codes "report")) is
-    by true e =
-        let same : name ≡ codes "report" = (bytes_eq-Decides name (codes "report")).0 e in
-        subst (λ (b : Bool). Reads b is) (sym e)
-        (subst (λ (v : Text). Reads true (asked_of (v ∷ ws))) (sym same) (reports ws))
-    by false e = subst (λ (b : Bool). Reads b is) (sym e) (others name ws e)
+-- words whose first one is this name
+by_name : (known name : Text) (ws : List Text) → Reads true (asked_of (known ∷ ws))
+    → bytes_eq name known ≡ true → Reads true (asked_of (name ∷ ws))
+by_name known name ws reads e =
+    let same : name ≡ known = (bytes_eq-Decides name known).0 e in
+    subst (λ (v : Text). Reads true (asked_of (v ∷ ws))) (sym same) reads
+
+by_first : (name : Text) (ws : List Text)
+    → Reads (bytes_eq name (codes "report") || bytes_eq name (codes "export"))
+    (asked_named name ws)
+by_first name ws = by (bytes_eq name (codes "report")) (bytes_eq name (codes "export")) refl refl
+  where
+    by : (a b : Bool) → bytes_eq name (codes "report") ≡ a → bytes_eq name (codes "export") ≡ b
+        → Reads (a || b) (asked_named name ws)
+    by true b e f = by_name (codes "report") name ws (reports ws) e
+    by false true e f = by_name (codes "export") name ws (exports ws) f
+    by false false e f = others name ws e f
 
 pub by_words : (ws : List Text) (a : Invocation) → asked_of ws ≡ Some a
-    → begins_with_report ws ≡ only_reads a
+    → begins_with_reader ws ≡ only_reads a
 by_words [] a e = cc e
 by_words (name ∷ ws) a e = by_first name ws a e

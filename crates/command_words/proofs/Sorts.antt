@@ -64,6 +64,12 @@ pipes : (ws : List Text) → ArePlain ws → Sorts (codes "pipe" ∷ ws)
 unfolding clap_on_literals
 pipes = no_word (codes "pipe") (refl, refl) (inl walks.pipe_0) (λ a ws. refl)
 
+exports : (ws : List Text) → ArePlain ws → Sorts (codes "export" ∷ ws)
+unfolding clap_on_literals
+exports =
+    one_word (codes "export") (codes "part") true (refl, refl) (inr (walks.export_0, refl))
+    walks.export_1 (λ a b ws. refl)
+
 migrates : (ws : List Text) → ArePlain ws → Sorts (codes "migrate" ∷ ws)
 unfolding clap_on_literals
 migrates = no_word (codes "migrate") (refl, refl) (inl walks.migrate_0) (λ a ws. refl)
@@ -136,10 +142,11 @@ others : (w : Text) (ws : List Text) → is_dashed w ≡ false
     → bytes_eq (codes "init") w ≡ false → bytes_eq (codes "pipe") w ≡ false
     → bytes_eq (codes "report") w ≡ false → bytes_eq (codes "serve") w ≡ false
     → bytes_eq (codes "generate") w ≡ false → bytes_eq (codes "counters") w ≡ false
-    → bytes_eq (codes "migrate") w ≡ false → Sorts (w ∷ ws)
-others w ws p budget check init pipe report serve generate counters migrate =
+    → bytes_eq (codes "migrate") w ≡ false → bytes_eq (codes "export") w ≡ false
+    → Sorts (w ∷ ws)
+others w ws p budget check init pipe report serve generate counters migrate export =
     inr (
-      no_name w ws p budget check init pipe report serve generate counters migrate,
+      no_name w ws p budget check init pipe report serve generate counters migrate export,
       rw (
         differs (codes "budget") w budget,
         differs (codes "check") w check,
@@ -150,6 +157,7 @@ others w ws p budget check init pipe report serve generate counters migrate =
         differs (codes "generate") w generate,
         differs (codes "counters") w counters,
         differs (codes "migrate") w migrate,
+        differs (codes "export") w export,
       ) refl,
     )
 
@@ -176,8 +184,9 @@ all_words (w ∷ ws) h =
     (λ serve. by_name (codes "generate") w ws generates p.1
     (λ generate. by_name (codes "counters") w ws counts p.1
     (λ counters. by_name (codes "migrate") w ws migrates p.1
-    (λ migrate. others w ws p.0 budget check init pipe report serve generate counters
-    migrate)))))))))
+    (λ migrate. by_name (codes "export") w ws exports p.1
+    (λ export. others w ws p.0 budget check init pipe report serve generate counters migrate
+    export))))))))))
 
 -- words that `clap` took
 taken : (ws : List Text) (found : Option (Text × List Argument)) → ArePlain ws

@@ -69,9 +69,10 @@ pub no_name : (w : Text) (ws : List Text) → IsPlain w
     → bytes_eq (codes "init") w ≡ false → bytes_eq (codes "pipe") w ≡ false
     → bytes_eq (codes "report") w ≡ false → bytes_eq (codes "serve") w ≡ false
     → bytes_eq (codes "generate") w ≡ false → bytes_eq (codes "counters") w ≡ false
-    → bytes_eq (codes "migrate") w ≡ false → IsRefused (w ∷ ws)
+    → bytes_eq (codes "migrate") w ≡ false → bytes_eq (codes "export") w ≡ false
+    → IsRefused (w ∷ ws)
 unfolding clap_on_literals
-no_name w ws p budget check init pipe report serve generate counters migrate =
+no_name w ws p budget check init pipe report serve generate counters migrate export =
     rw (
       budget,
       check,
@@ -82,6 +83,7 @@ no_name w ws p budget check init pipe report serve generate counters migrate =
       generate,
       counters,
       migrate,
+      export,
       plain_dashes w p,
       plain_long w p,
       plain_short w p,
@@ -233,6 +235,14 @@ check_0 = (refl, refl)
 pub pipe_0 : IsTaken (codes "pipe" ∷ [])
 unfolding clap_on_literals
 pipe_0 = (refl, refl)
+
+pub export_0 : IsRefused (codes "export" ∷ [])
+unfolding clap_on_literals
+export_0 = λ e. cc e
+
+pub export_1 : (a : Text) → IsPlain a → IsTaken (codes "export" ∷ a ∷ [])
+unfolding clap_on_literals
+export_1 a p_a = rw (plain_dashes a p_a, plain_long a p_a, plain_short a p_a) (refl, refl)
 
 pub migrate_0 : IsTaken (codes "migrate" ∷ [])
 unfolding clap_on_literals

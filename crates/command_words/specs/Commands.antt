@@ -11,7 +11,8 @@ use Rattle.command_words.specs.declared.invocation.Invocation.{Invocation}
 use Rattle.command_words.specs.declared.invocation.Invocation.TheVariants.{Answer, Init, Pipe}
 use Rattle.command_words.specs.declared.invocation.Invocation.TheVariants.{Report}
 use Rattle.command_words.specs.declared.invocation.Invocation.TheVariants.{Counters, Generate}
-use Rattle.command_words.specs.declared.invocation.Invocation.TheVariants.{Migrate, Serve}
+use Rattle.command_words.specs.declared.invocation.Invocation.TheVariants.{Export, Migrate, Serve}
+use Rattle.command_words.specs.declared.reading.TheConstants.{MAX_PARTS}
 use Rattle.command_words.specs.declared.invocation.CountersOrder.{CountersOrder}
 use Rattle.command_words.specs.declared.invocation.InputCommand.{InputCommand}
 use Rattle.command_words.specs.declared.invocation.InputCommand.TheVariants.{Budget, Check}
@@ -50,6 +51,11 @@ abbrev pub number_asked : List (List ℕ) → Option ℕ
 number_asked (word ∷ []) = option_and_then not_zero (plain_number_within MAX_NUMBER word)
 number_asked _ = None
 
+-- The number that the word behind `export` asks for, without leading zeros: that of a part.
+abbrev pub part_asked : List (List ℕ) → Option ℕ
+part_asked (word ∷ []) = option_and_then not_zero (plain_number_within MAX_PARTS word)
+part_asked _ = None
+
 -- the greatest port
 abbrev pub max_port : ℕ
 max_port = 65535
@@ -80,6 +86,7 @@ asked_named name words =
     else if bytes_eq name (codes "generate") then option_map Generate (number_asked words)
     else if bytes_eq name (codes "counters") then option_map Counters (counters_asked words)
     else if bytes_eq name (codes "migrate") then asked_alone Migrate words
+    else if bytes_eq name (codes "export") then option_map Export (part_asked words)
     else option_map Answer (command_named name words)
 
 -- What the words ask for; none where they are no form of a command.
@@ -102,8 +109,10 @@ IsSoundInvocation (Serve port) = (1 ≤ port) × (port ≤ max_port)
 IsSoundInvocation (Generate number) = (1 ≤ number) × (number ≤ MAX_NUMBER)
 IsSoundInvocation (Counters order) = ⊤
 IsSoundInvocation Migrate = ⊤
+IsSoundInvocation (Export part) = (1 ≤ part) × (part ≤ MAX_PARTS)
 
--- a command that reads the journal's file and changes nothing in it: a report
+-- a command that reads the journal's file and changes nothing in it: a report, or an export
 abbrev pub only_reads : Invocation → Bool
 only_reads (Report at) = true
+only_reads (Export part) = true
 only_reads _ = false

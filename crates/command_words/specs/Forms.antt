@@ -42,6 +42,9 @@ counters_form = one_word_form (codes "counters") (codes "sli") true
 abbrev pub migrate_form : App
 migrate_form = new_app (codes "migrate")
 
+abbrev pub export_form : App
+export_form = one_word_form (codes "export") (codes "part") true
+
 -- the program without its commands: no flag and no command for help, and a command has to be there
 abbrev pub bare_form : App
 bare_form = record {
@@ -65,4 +68,4 @@ abbrev pub whole_form : App
 whole_form =
     with_forms bare_form
     (budget_form ∷ check_form ∷ init_form ∷ pipe_form ∷ report_form ∷ serve_form
-    ∷ generate_form ∷ counters_form ∷ migrate_form ∷ [])
+    ∷ generate_form ∷ counters_form ∷ migrate_form ∷ export_form ∷ [])

@@ -1,16 +1,17 @@
 -- What the command that `clap` found asks for, with the arguments that it holds.
 use Rattle.std.specs.Prelude.{ℕ, List, [], ◌∷◌, Option, Some, None, codes, if◌then◌else◌}
-use Rattle.std.specs.Prelude.{Bool, false, option_map}
+use Rattle.std.specs.Prelude.{Bool, false, option_map, ◌||◌}
 use Rattle.std.specs.Str.{bytes_eq}
 use Rattle.clap.specs.Walk.{Row as Argument, Text, first_of}
 use Rattle.exact_fraction.specs.Label.{label_of}
 use Rattle.budget_command.specs.Order.{order_of}
-use Rattle.command_words.specs.Commands.{counters_for, minute_asked, number_asked, port_asked}
+use Rattle.command_words.specs.Commands.{counters_for, minute_asked, number_asked, part_asked}
+use Rattle.command_words.specs.Commands.{port_asked}
 use Rattle.command_words.specs.declared.invocation.Invocation.{Invocation}
 use Rattle.command_words.specs.declared.invocation.Invocation.TheVariants.{Answer, Init, Pipe}
 use Rattle.command_words.specs.declared.invocation.Invocation.TheVariants.{Report}
 use Rattle.command_words.specs.declared.invocation.Invocation.TheVariants.{Counters, Generate}
-use Rattle.command_words.specs.declared.invocation.Invocation.TheVariants.{Migrate, Serve}
+use Rattle.command_words.specs.declared.invocation.Invocation.TheVariants.{Export, Migrate, Serve}
 use Rattle.command_words.specs.declared.invocation.CountersOrder.{CountersOrder}
 use Rattle.command_words.specs.declared.invocation.InputCommand.{InputCommand}
 use Rattle.command_words.specs.declared.invocation.InputCommand.TheVariants.{Budget, Check}
@@ -24,6 +25,11 @@ minute_by (Some word) = minute_asked (word ∷ [])
 abbrev pub number_by : Option Text → Option ℕ
 number_by None = None
 number_by (Some word) = number_asked (word ∷ [])
+
+-- the part that a word asks for, where there is one
+abbrev pub part_by : Option Text → Option ℕ
+part_by None = None
+part_by (Some word) = part_asked (word ∷ [])
 
 -- the port that a word asks for, where there is one
 abbrev pub port_by : Option Text → Option ℕ
@@ -62,6 +68,8 @@ asked_in name arguments =
     else if bytes_eq name (codes "counters")
     then option_map Counters (counters_by (first_of (codes "sli") arguments))
     else if bytes_eq name (codes "migrate") then Some Migrate
+    else if bytes_eq name (codes "export")
+    then option_map Export (part_by (first_of (codes "part") arguments))
     else None
 
 -- what the command that was found asks for
@@ -69,7 +77,8 @@ abbrev pub asked_by : Option (Text × List Argument) → Option Invocation
 asked_by None = None
 asked_by (Some found) = asked_in found.0 found.1
 
--- whether the first word is the name of the command that only reads
-abbrev pub begins_with_report : List Text → Bool
-begins_with_report [] = false
-begins_with_report (name ∷ words) = bytes_eq name (codes "report")
+-- whether the first word is the name of a command that only reads
+abbrev pub begins_with_reader : List Text → Bool
+begins_with_reader [] = false
+begins_with_reader (name ∷ words) =
+    bytes_eq name (codes "report") || bytes_eq name (codes "export")

@@ -49,6 +49,7 @@ pub(crate) fn forms<'a>(alloc: Global) -> Result<Command<'a>, AllocError>
     let generate = one_word(alloc, "generate", "number", true)?;
     let counters = one_word(alloc, "counters", "sli", true)?;
     let migrate = Command::new(alloc, "migrate");
+    let export = one_word(alloc, "export", "part", true)?;
     let program = Command::new(alloc, "slo_office")
         .no_binary_name(true)
         .disable_help_flag(true)
@@ -64,5 +65,6 @@ pub(crate) fn forms<'a>(alloc: Global) -> Result<Command<'a>, AllocError>
         .subcommand(serve)?
         .subcommand(generate)?
         .subcommand(counters)?
-        .subcommand(migrate)
+        .subcommand(migrate)?
+        .subcommand(export)
 }

@@ -38,4 +38,6 @@ pub enum Invocation {
     Counters(CountersOrder),
     /// The upgrade of the journal's office.
     Migrate,
+    /// The requests of this part that make the journal's office anew, counted from 1.
+    Export(u32),
 }

@@ -8,4 +8,4 @@ mod invocation;
 mod reading;
 
 pub use invocation::{CountersOrder, InputCommand, Invocation};
-pub use reading::{WordsFault, only_reads, read_words};
+pub use reading::{MAX_PARTS, WordsFault, only_reads, read_words};

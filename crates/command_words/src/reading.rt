@@ -7,9 +7,9 @@ ghost use Rattle.clap.specs.Simple.{subcommand_rows_of as found_by};
 ghost use Rattle.clap.specs.Walk.{first_of, rows_of as arguments_of};
 ghost use Rattle.command_words.specs.Commands.{IsSound, IsSoundInvocation, asked_of};
 ghost use Rattle.command_words.specs.Commands.{is_dashed as dashed, only_reads as reads_alone};
-ghost use Rattle.command_words.specs.Matches.{begins_with_report as report_first};
+ghost use Rattle.command_words.specs.Matches.{begins_with_reader as reader_first};
 ghost use Rattle.command_words.specs.Matches.{asked_by, asked_in, minute_by, number_by};
-ghost use Rattle.command_words.specs.Matches.{counters_by, order_by, port_by};
+ghost use Rattle.command_words.specs.Matches.{counters_by, order_by, part_by, port_by};
 
 use crate::forms::forms;
 use crate::invocation::{CountersOrder, InputCommand, Invocation};
@@ -20,6 +20,10 @@ use exact_fraction::{read_label, read_plain_number};
 use sample_stream::MAX_NUMBER;
 use slo_limits::MAX_MINUTE;
 use std::alloc::Global;
+
+/// The greatest number of a part. The requests of the largest office are eleven parts; a script may
+/// count on until a part is empty.
+pub const MAX_PARTS: u32 = 100_000;
 
 /// Why the words ask for no command.
 #[derive(Clone, Copy, Debug, PartialEq, Eq)]
@@ -101,6 +105,18 @@ fn read_number(words: &ArgMatches, id: &str) -> Option<u32>
     Some(number as u32)
 }
 
+/// The number of a part of an export.
+fn read_part(words: &ArgMatches, id: &str) -> Option<u32>
+    ensures { result ≡ part_by (first_of id.now (arguments_of (found_of words.now))) }
+{
+    let text = word(words, id)?;
+    let part = read_plain_number(text.as_bytes(), u64::from(MAX_PARTS))?;
+    if part == 0 {
+        return None;
+    }
+    Some(part as u32)
+}
+
 /// The number of a port.
 fn read_port(words: &ArgMatches, id: &str) -> Option<u16>
     ensures { result ≡ port_by (first_of id.now (arguments_of (found_of words.now))) }
@@ -149,6 +165,7 @@ fn read_command(name: &str, words: &ArgMatches) -> Option<Invocation>
         "generate" => Some(Invocation::Generate(read_number(words, "number")?)),
         "counters" => Some(Invocation::Counters(read_counters(words, "sli")?)),
         "migrate" => Some(Invocation::Migrate),
+        "export" => Some(Invocation::Export(read_part(words, "part")?)),
         _ => None,
     }
 }
@@ -184,12 +201,12 @@ pub fn read_words(alloc: Global, words: &[String]) -> Result<Invocation, WordsFa
     }
 }
 
-/// Whether the first word is the name of the command that only reads.
-fn begins_with_report(words: &[String]) -> bool
-    ensures { result ≡ report_first (map string_bytes words.now) }
+/// Whether the first word is the name of a command that only reads.
+fn begins_with_reader(words: &[String]) -> bool
+    ensures { result ≡ reader_first (map string_bytes words.now) }
 {
     match words.first() {
-        Some(word) => word.as_str() == "report",
+        Some(word) => word.as_str() == "report" || word.as_str() == "export",
         None => false,
     }
 }
@@ -200,5 +217,5 @@ pub fn only_reads(words: &[String]) -> bool
     ensures { (asked : Invocation) → asked_of (map string_bytes words.now) ≡ Some asked
         → result ≡ reads_alone asked }
 {
-    begins_with_report(words)
+    begins_with_reader(words)
 }

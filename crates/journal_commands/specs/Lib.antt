@@ -1,4 +1,5 @@
 pub mod Doors
+pub mod Exporting
 pub mod Making
 pub mod Migrating
 pub mod Reporting

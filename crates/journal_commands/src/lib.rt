@@ -4,6 +4,7 @@
 #![tactic(auto)]
 
 mod doors;
+mod exporting;
 mod making;
 mod migrating;
 mod reporting;
@@ -11,6 +12,7 @@ mod serving;
 mod writing;
 
 pub use doors::serve_journal;
+pub use exporting::{ExportEnd, export_journal};
 pub use making::{InitEnd, make_journal};
 pub use migrating::{MigrateEnd, UpgradeEnd, migrate_journal};
 pub use reporting::{PrintEnd, ReportEnd, print_report};

@@ -3,6 +3,7 @@ pub mod Inputs
 pub mod Endings
 pub mod Answer
 pub mod Runs
+pub mod Export
 pub mod Generate
 pub mod Counters
 pub mod Init

@@ -4,10 +4,12 @@ use Rattle.office_outside.specs.Faults.{Rose}
 use Rattle.office_outside.specs.Told.{HasNothingLeft}
 use Rattle.office_outside.specs.Senses.{DiskSenses}
 use Rattle.budget_command.specs.Input.{TakesAtMost}
+use Rattle.journal_commands.specs.Exporting.{ExportsFrom}
 use Rattle.journal_commands.specs.Making.{Makes, journal_world}
 use Rattle.journal_commands.specs.Migrating.{Migrates}
 use Rattle.journal_commands.specs.Reporting.{Reports}
 use Rattle.journal_commands.specs.Serving.{EndsServing, session_outside}
+use Rattle.journal_commands.specs.declared.ExportEnd.{ExportEnd}
 use Rattle.journal_commands.specs.declared.InitEnd.{InitEnd}
 use Rattle.journal_commands.specs.declared.MigrateEnd.{MigrateEnd}
 use Rattle.journal_commands.specs.declared.PipeEnd.{PipeEnd}
@@ -16,6 +18,7 @@ use Rattle.counters_command.specs.declared.CountersEnd.{CountersEnd}
 use Rattle.office_run.specs.Commands.{most_taken}
 use Rattle.office_run.specs.Counters.{SettledCounters, WritesRows}
 use Rattle.office_run.specs.Endings.{line_of_status}
+use Rattle.office_run.specs.Export.{SettledExport}
 use Rattle.office_run.specs.Generate.{EndsGenerating, SettledGenerate}
 use Rattle.office_run.specs.Init.{SettledInit}
 use Rattle.office_run.specs.Migrate.{SettledMigrate}
@@ -23,7 +26,8 @@ use Rattle.office_run.specs.Pipe.{SettledPipe}
 use Rattle.office_run.specs.Report.{SettledReport}
 use Rattle.office_run.specs.Runs.{IsStatus, Prints, PrintsPart, GainsLine, TellsRefusal}
 use Rattle.command_words.specs.declared.Invocation.{Invocation}
-use Rattle.command_words.specs.declared.Invocation.TheVariants.{Answer, Counters, Generate, Init}
+use Rattle.command_words.specs.declared.Invocation.TheVariants.{Answer, Counters, Export}
+use Rattle.command_words.specs.declared.Invocation.TheVariants.{Generate, Init}
 use Rattle.command_words.specs.declared.Invocation.TheVariants.{Migrate, Pipe, Report, Serve}
 use Rattle.command_words.specs.declared.InputCommand.{InputCommand}
 use Rattle.office_run.specs.declared.ending.TheConstants.{DONE, USAGE, READ_FAULT}
@@ -163,6 +167,16 @@ pub record RunsReport {D : Type 0} (S : DiskSenses D) (at : Option ℕ) (status 
       (journal_world after.disk after.to_come after.held)
   pub untaken : after.left ≡ before.left
 
+-- A run of `export`, by how the export of the part ended. Neither the input nor the clock is
+-- touched.
+pub record RunsExport {D : Type 0} (S : DiskSenses D) (part status : ℕ) (before after : World D) :
+    Type 0 where
+  pub end : ExportEnd
+  pub settled : SettledExport end status before.said after.said before.tellings after.tellings
+  pub exports : ExportsFrom S part end before.held after.held before.disk after.disk
+  pub untaken : after.left ≡ before.left
+  pub unread : after.to_come ≡ before.to_come
+
 -- A run of `serve` neither reads its input nor its clock: visits have their own. What it does to
 -- the doors, the output and the disk is said by `RunsServe`.
 pub record IsUnheard {D : Type 0} (before after : World D) : Type 0 where
@@ -177,6 +191,7 @@ Does S (Some (Generate number)) status before after = RunsGenerate number status
 Does S (Some (Counters order)) status before after = RunsCounters order.sli status before after
 Does S (Some (Init origin)) status before after = RunsInit S origin status before after
 Does S (Some Migrate) status before after = RunsMigrate S status before after
+Does S (Some (Export part)) status before after = RunsExport S part status before after
 Does S (Some Pipe) status before after = RunsPipe S status before after
 Does S (Some (Report at)) status before after = RunsReport S at status before after
 Does S (Some (Serve port)) status before after = IsUnheard before after
@@ -186,7 +201,7 @@ abbrev pub Runs : {D : Type 0} → DiskSenses D → Option Invocation → ℕ �
 Runs S asked status before after =
     RunsOutOfMemory status before after ⊎ Does S asked status before after
 
--- The clock and the disk belong to `init`, `migrate`, `pipe` and `report`.
+-- The disk belongs to `init`, `migrate`, `pipe`, `report` and `export`.
 abbrev pub IsOffDisk : Option Invocation → Type 0
 IsOffDisk None = Unit {0}
 IsOffDisk (Some (Answer command)) = Unit {0}
@@ -194,9 +209,15 @@ IsOffDisk (Some (Generate number)) = Unit {0}
 IsOffDisk (Some (Counters order)) = Unit {0}
 IsOffDisk (Some (Init origin)) = ⊥
 IsOffDisk (Some Migrate) = ⊥
+IsOffDisk (Some (Export part)) = ⊥
 IsOffDisk (Some Pipe) = ⊥
 IsOffDisk (Some (Report at)) = ⊥
 IsOffDisk (Some (Serve port)) = ⊥
+
+-- The clock belongs to the same commands but `export`.
+abbrev pub IsOffClock : Option Invocation → Type 0
+IsOffClock (Some (Export part)) = Unit {0}
+IsOffClock asked = IsOffDisk asked
 
 -- The doors belong to `serve`.
 abbrev pub IsOffDoors : Option Invocation → Type 0
@@ -206,6 +227,7 @@ IsOffDoors (Some (Generate number)) = Unit {0}
 IsOffDoors (Some (Counters order)) = Unit {0}
 IsOffDoors (Some (Init origin)) = Unit {0}
 IsOffDoors (Some Migrate) = Unit {0}
+IsOffDoors (Some (Export part)) = Unit {0}
 IsOffDoors (Some Pipe) = Unit {0}
 IsOffDoors (Some (Report at)) = Unit {0}
 IsOffDoors (Some (Serve port)) = ⊥

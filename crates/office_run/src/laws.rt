@@ -7,6 +7,8 @@ ghost use Rattle.counters_command.specs.Answer.{EndsOver};
 ghost use Rattle.counters_command.specs.Laws.{GainsDifferences};
 ghost use Rattle.counters_command.specs.declared.CountersEnd.TheVariants.{Refused};
 ghost use Rattle.counters_command.specs.declared.CountersFault.{CountersFault};
+ghost use Rattle.object_terms.specs.declared.Kind.{Kind};
+ghost use Rattle.journal_commands.specs.Exporting.{IsTooLarge, IsWritten};
 ghost use Rattle.journal_commands.specs.Making.{HasHeader, origin_by};
 ghost use Rattle.journal_commands.specs.Reporting.{IsPrinted, IsUnprinted, OpensTo};
 ghost use Rattle.office_keep.specs.Opening.{IsBad};
@@ -16,7 +18,8 @@ ghost use Rattle.visit_workers.specs.Workers.{worker_senses};
 ghost use Rattle.office_run.specs.Generate.{PrintsSummary};
 ghost use Rattle.office_run.specs.Migrate.{IsMigrated, IsUnmigrated};
 ghost use Rattle.office_run.specs.Serve.{ServeStatusesSay};
-ghost use Rattle.office_run.specs.Worlds.{RunsCounters, RunsGenerate, RunsInit, RunsMigrate};
+ghost use Rattle.office_run.specs.Worlds.{RunsCounters, RunsExport, RunsGenerate, RunsInit};
+ghost use Rattle.office_run.specs.Worlds.{RunsMigrate};
 ghost use Rattle.office_run.specs.Worlds.{RunsPipe, RunsReport, World};
 
 use crate::ending::{BAD_FILE, DONE, REFUSED};
@@ -37,6 +40,22 @@ pub fn statuses_of_counters<D: Disk + Drop>()
         × EndsOver sli bytes (Refused fault) before.held after.held }
     ensures file { (sli : List ℕ) (status : ℕ) (before after : World D) →
         RunsCounters sli status before after → status ≢ BAD_FILE }
+{}
+
+/// `export` ends with the status of a bad file only where the file has no header, or is damaged. It
+/// ends with that of a refusal only where it names the first object that is too large of the office
+/// for which the file stands, and is done only where just the part's requests were written.
+pub fn statuses_of_export<D: Disk + Drop>()
+    ensures bad_file { (part status : ℕ) (before after : World D)
+        → RunsExport D.senses part status before after → status ≡ BAD_FILE → (file : List ℕ)
+        → D.senses.content before.disk ≡ Some file → IsBad file }
+    ensures refused { (part status : ℕ) (before after : World D)
+        → RunsExport D.senses part status before after → status ≡ REFUSED → (kind : Kind)
+        × (name : List ℕ) × OpensTo D.senses (IsTooLarge kind name before.held after.held)
+        before.disk after.disk }
+    ensures done { (part status : ℕ) (before after : World D)
+        → RunsExport D.senses part status before after → status ≡ DONE
+        → OpensTo D.senses (IsWritten part before.held after.held) before.disk after.disk }
 {}
 
 /// `generate` is done only where the summary of the stream was printed.

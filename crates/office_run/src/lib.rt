@@ -6,6 +6,7 @@
 mod answer;
 mod counters;
 mod ending;
+mod export;
 mod faults_sink;
 mod generate;
 mod init;

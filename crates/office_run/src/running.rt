@@ -8,11 +8,12 @@ ghost use Rattle.office_serving.specs.Serving.{serving_world};
 ghost use Rattle.visit_workers.specs.Visits.{visit_senses};
 ghost use Rattle.visit_workers.specs.Workers.{worker_senses};
 ghost use Rattle.office_run.specs.Serve.{RunsServe};
-ghost use Rattle.office_run.specs.Worlds.{IsOffDisk, IsOffDoors, Runs, world};
+ghost use Rattle.office_run.specs.Worlds.{IsOffClock, IsOffDisk, IsOffDoors, Runs, world};
 
 use crate::answer::run_answer;
 use crate::counters::run_counters;
 use crate::ending::{DISK_FAULT, DONE, DOORS_FAULT, NO_MEMORY, READ_FAULT, USAGE, WRITE_FAULT};
+use crate::export::run_export;
 use crate::faults_sink::tell_status;
 use crate::generate::run_generate;
 use crate::init::run_init;
@@ -49,7 +50,8 @@ pub struct RunEnd<D: Drop> {
 /// `counters SLI` reads CSV records of counters' readings, `source,minute,revision,good,total`,
 /// and writes a sample row of the indicator SLI for each difference between two of them, as it
 /// arises. `serve PORT` opens the journal, and serves it to the visitors of the doors at this
-/// port, by four workers that take turns. The disk is handed back.
+/// port, by four workers that take turns. `export K` opens the journal, and prints part K of the
+/// requests that make its office anew. The disk is handed back.
 pub fn run<
     R: AllocGlobal + Wait + Threads + Sync,
     S: Source,
@@ -94,9 +96,10 @@ pub fn run<
         (result.status ≡ USAGE) ⊎ (result.status ≡ NO_MEMORY) }
     ensures untouched { result.status ≡ USAGE → input.new ≡ input.old }
 
-    // `budget`, `check`, `generate` and `counters` don't call the disk, nor read the clock.
+    // `budget`, `check`, `generate` and `counters` don't call the disk, nor read the clock, and
+    // `export` doesn't read it.
     ensures off_disk { IsOffDisk (asked_of (map string_bytes words.now)) → result.disk ≡ disk }
-    ensures clockless { IsOffDisk (asked_of (map string_bytes words.now)) → clock.new ≡ clock.old }
+    ensures clockless { IsOffClock (asked_of (map string_bytes words.now)) → clock.new ≡ clock.old }
 
     // The doors are for `serve` alone.
     ensures doorless { IsOffDoors (asked_of (map string_bytes words.now)) → doors.new ≡ doors.old }
@@ -132,6 +135,7 @@ pub fn run<
         }
         Ok(Invocation::Init(origin)) => run_init(alloc, origin, output, faults, disk, clock),
         Ok(Invocation::Migrate) => run_migrate(alloc, output, faults, disk, clock),
+        Ok(Invocation::Export(part)) => run_export(alloc, part, output, faults, disk),
         Ok(Invocation::Pipe) => run_pipe(alloc, input, output, faults, disk, clock),
         Ok(Invocation::Report(at)) => run_report(alloc, at, output, faults, disk, clock),
         Ok(Invocation::Serve(port)) => run_serve(rt, alloc, port, output, faults, disk, doors),

@@ -52,8 +52,11 @@ returns c =
     let counters =
     c.in_ok-subcommand-8.ensures.shape c.in_ok-counters.ensures.local
     ∙ ap₂ with_subcommand generate (ap top c.in_ok-counters.ensures.form) in
-    IfOk-weaker c.subcommand-9.result _ _
+    let migrate =
+    c.in_ok-subcommand-9.ensures.shape c.new-migrate.ensures.local
+    ∙ ap₂ with_subcommand counters (ap top c.new-migrate.ensures.app) in
+    IfOk-weaker c.subcommand-10.result _ _
     (λ r h.
-    h.shape c.new-migrate.ensures.local
-    ∙ ap₂ with_subcommand counters (ap top c.new-migrate.ensures.app))
-    c.subcommand-9.ensures
+    h.shape c.in_ok-export.ensures.local
+    ∙ ap₂ with_subcommand migrate (ap top c.in_ok-export.ensures.form))
+    c.subcommand-10.ensures

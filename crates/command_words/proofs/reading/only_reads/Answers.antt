@@ -4,4 +4,4 @@ use Rattle.command_words.proofs.reading.only_reads.Goals as goal
 
 pub returns : goal.returns
 returns c asked is =
-    c.begins_with_report.ensures ∙ by_words (map string_bytes c.args.words.now) asked is
+    c.begins_with_reader.ensures ∙ by_words (map string_bytes c.args.words.now) asked is
