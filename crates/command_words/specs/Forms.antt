@@ -63,9 +63,14 @@ abbrev pub with_forms : App → List App → App
 with_forms program [] = program
 with_forms program (form ∷ forms) = with_forms (with_subcommand program form.top) forms
 
+-- the program with the commands up to `report`
+abbrev pub first_form : App
+first_form =
+    with_forms bare_form
+    (budget_form ∷ check_form ∷ init_form ∷ pipe_form ∷ report_form ∷ [])
+
 -- all commands
 abbrev pub whole_form : App
 whole_form =
-    with_forms bare_form
-    (budget_form ∷ check_form ∷ init_form ∷ pipe_form ∷ report_form ∷ serve_form
-    ∷ generate_form ∷ counters_form ∷ migrate_form ∷ export_form ∷ [])
+    with_forms first_form
+    (serve_form ∷ generate_form ∷ counters_form ∷ migrate_form ∷ export_form ∷ [])

@@ -3,7 +3,7 @@
 ghost use Rattle.std.specs.Prelude.{◌≡◌, IfOk, false};
 ghost use Rattle.clap.specs.Simple.{app_of};
 ghost use Rattle.clap.specs.declared.builder.command.Command.TheViews.{out-Command as fields_of};
-ghost use Rattle.command_words.specs.Forms.{budget_form, one_word_form, whole_form};
+ghost use Rattle.command_words.specs.Forms.{budget_form, first_form, one_word_form, whole_form};
 
 use clap::{Arg, Command};
 use std::alloc::{AllocError, Global};
@@ -36,20 +36,15 @@ fn one_word<'a>(
     Command::new(alloc, name).arg(word)
 }
 
-/// All commands.
-pub(crate) fn forms<'a>(alloc: Global) -> Result<Command<'a>, AllocError>
-    ensures { IfOk result (λ c. app_of c ≡ whole_form) }
+/// The program with the commands up to `report`.
+fn first_forms<'a>(alloc: Global) -> Result<Command<'a>, AllocError>
+    ensures { IfOk result (λ c. app_of c ≡ first_form) }
 {
     let budget = budget(alloc)?;
     let check = Command::new(alloc, "check");
     let init = one_word(alloc, "init", "origin", false)?;
     let pipe = Command::new(alloc, "pipe");
     let report = one_word(alloc, "report", "at", false)?;
-    let serve = one_word(alloc, "serve", "port", true)?;
-    let generate = one_word(alloc, "generate", "number", true)?;
-    let counters = one_word(alloc, "counters", "sli", true)?;
-    let migrate = Command::new(alloc, "migrate");
-    let export = one_word(alloc, "export", "part", true)?;
     let program = Command::new(alloc, "slo_office")
         .no_binary_name(true)
         .disable_help_flag(true)
@@ -61,7 +56,19 @@ pub(crate) fn forms<'a>(alloc: Global) -> Result<Command<'a>, AllocError>
         .subcommand(check)?
         .subcommand(init)?
         .subcommand(pipe)?
-        .subcommand(report)?
+        .subcommand(report)
+}
+
+/// All commands.
+pub(crate) fn forms<'a>(alloc: Global) -> Result<Command<'a>, AllocError>
+    ensures { IfOk result (λ c. app_of c ≡ whole_form) }
+{
+    let serve = one_word(alloc, "serve", "port", true)?;
+    let generate = one_word(alloc, "generate", "number", true)?;
+    let counters = one_word(alloc, "counters", "sli", true)?;
+    let migrate = Command::new(alloc, "migrate");
+    let export = one_word(alloc, "export", "part", true)?;
+    first_forms(alloc)?
         .subcommand(serve)?
         .subcommand(generate)?
         .subcommand(counters)?

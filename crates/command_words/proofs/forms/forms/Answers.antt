@@ -1,7 +1,6 @@
-use Rattle.std.proofs.Common.{ap, ap₂, true, ◌≡◌, ◌∙◌}
+use Rattle.std.proofs.Common.{ap, ap₂, ◌≡◌, ◌∙◌}
 use Rattle.std.proofs.lemmas.Result.{IfOk-weaker}
-use Rattle.clap.specs.Simple.{App, Shape, app_of, on_top, with_subcommand}
-use Rattle.command_words.specs.Forms.{bare_form}
+use Rattle.clap.specs.Simple.{App, Shape, with_subcommand}
 use Rattle.command_words.proofs.forms.forms.Goals as goal
 
 -- a command and a form that are one, with a subcommand that is its form
@@ -10,53 +9,20 @@ top form = form.top
 
 pub returns : goal.returns
 returns c =
-    let settings : App → App =
-    on_top
-    (λ (s : Shape). record s {
-      no_binary_name = true;
-      disable_help_flag = true;
-      disable_help_subcommand = true;
-      disable_version_flag = true;
-      subcommand_required = true;
-    }) in
-    let program : app_of c.subcommand_required-program.result ≡ bare_form =
-    rw (
-      c.subcommand_required-program.ensures,
-      c.disable_version_flag.ensures,
-      c.disable_help_subcommand.ensures,
-      c.disable_help_flag.ensures,
-      c.no_binary_name.ensures,
-    )
-    (ap settings c.new.ensures.app) in
-    let budget =
-    c.in_ok-subcommand.ensures.shape c.in_ok-budget.ensures.local
-    ∙ ap₂ with_subcommand program (ap top c.in_ok-budget.ensures.form) in
-    let check =
-    c.in_ok-subcommand-2.ensures.shape c.new-check.ensures.local
-    ∙ ap₂ with_subcommand budget (ap top c.new-check.ensures.app) in
-    let init =
-    c.in_ok-subcommand-3.ensures.shape c.in_ok-init.ensures.local
-    ∙ ap₂ with_subcommand check (ap top c.in_ok-init.ensures.form) in
-    let pipe =
-    c.in_ok-subcommand-4.ensures.shape c.new-pipe.ensures.local
-    ∙ ap₂ with_subcommand init (ap top c.new-pipe.ensures.app) in
-    let report =
-    c.in_ok-subcommand-5.ensures.shape c.in_ok-report.ensures.local
-    ∙ ap₂ with_subcommand pipe (ap top c.in_ok-report.ensures.form) in
     let serve =
-    c.in_ok-subcommand-6.ensures.shape c.in_ok-serve.ensures.local
-    ∙ ap₂ with_subcommand report (ap top c.in_ok-serve.ensures.form) in
+    c.in_ok-subcommand.ensures.shape c.in_ok-serve.ensures.local
+    ∙ ap₂ with_subcommand c.in_ok-first_forms.ensures (ap top c.in_ok-serve.ensures.form) in
     let generate =
-    c.in_ok-subcommand-7.ensures.shape c.in_ok-generate.ensures.local
+    c.in_ok-subcommand-2.ensures.shape c.in_ok-generate.ensures.local
     ∙ ap₂ with_subcommand serve (ap top c.in_ok-generate.ensures.form) in
     let counters =
-    c.in_ok-subcommand-8.ensures.shape c.in_ok-counters.ensures.local
+    c.in_ok-subcommand-3.ensures.shape c.in_ok-counters.ensures.local
     ∙ ap₂ with_subcommand generate (ap top c.in_ok-counters.ensures.form) in
     let migrate =
-    c.in_ok-subcommand-9.ensures.shape c.new-migrate.ensures.local
+    c.in_ok-subcommand-4.ensures.shape c.new-migrate.ensures.local
     ∙ ap₂ with_subcommand counters (ap top c.new-migrate.ensures.app) in
-    IfOk-weaker c.subcommand-10.result _ _
+    IfOk-weaker c.subcommand-5.result _ _
     (λ r h.
     h.shape c.in_ok-export.ensures.local
     ∙ ap₂ with_subcommand migrate (ap top c.in_ok-export.ensures.form))
-    c.subcommand-10.ensures
+    c.subcommand-5.ensures
