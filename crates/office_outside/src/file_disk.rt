@@ -8,12 +8,12 @@ use std::fs::File;
 use std::io;
 use std::rt::Files;
 
-/// The file `office.journal` of the working folder, opened at the first call, and locked until the
-/// disk is let go.
+/// The file `office.journal` of the working folder, opened at the first call.
 ///
-/// For changes it is made where it isn't there, and a second program that opens it is refused. For
-/// reading alone nothing is made or written: where there is no file it reads as an empty one, and
-/// beside a program that opened it for changes it is refused.
+/// For changes it is made where it isn't there, and locked until the disk is let go: a second
+/// program that opens it for changes is refused. For reading alone nothing is made, written or
+/// locked: where there is no file it reads as an empty one, and beside a program that changes it as
+/// far as that came.
 ///
 /// A sync that failed may have lost what was written before it, and a later one wouldn't tell; and
 /// what is written to a file that was moved away, put in another's place or cut is written for

@@ -74,16 +74,14 @@ impl OpenedFile {
         }))
     }
 
-    /// Opens the file to be read alone, and locks it against those that would change it.
+    /// Opens the file to be read alone. No lock is asked for, so it is read beside a program that
+    /// changes it too: what stands behind an open gate was written before that gate was opened.
     pub fn for_reading<R: Files<File = File>>(rt: &R) -> io::Result<OpenedFile> {
         let file = match open_to_read(rt) {
             Ok(file) => file,
             Err(error) if error.kind() == ErrorKind::NotFound => return Ok(OpenedFile::Missing),
             Err(error) => return Err(error),
         };
-        if file.try_lock_shared().is_err() {
-            return Err(ErrorKind::WouldBlock.into());
-        }
         identity_of(rt, &file)?;
         Ok(OpenedFile::Reading(file))
     }
