@@ -2,7 +2,6 @@
 ghost use Rattle.std.specs.Prelude.{◌≡◌, ◌≤◌, Err};
 ghost use Rattle.office_outside.specs.Faults.{RoseBy};
 ghost use Rattle.office_export.specs.Export.{Exports};
-ghost use Rattle.office_export.specs.declared.ExportFault.{ExportFault};
 ghost use Rattle.journal_commands.specs.Exporting.{ExportsFrom};
 
 use office_core::Core;

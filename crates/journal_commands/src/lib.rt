@@ -1,5 +1,5 @@
-//! The commands that make a journal, upgrade its office, serve it over a session or doors, report.
-//! Stands on the office that keeps its history, on counters, sessions, the serving and reports.
+//! The commands that make a journal, upgrade its office, serve it, report on it, or export it.
+//! Stands on the office that keeps its history, on counters, sessions, reports and exports.
 //! Promises that the file at each moment is what the command may leave, and what is printed.
 #![tactic(auto)]
 

@@ -5,4 +5,4 @@ pub mod WorldLemmas
 pub mod StatusLemmas
 pub mod MigrateLemmas
 pub mod ServerLemmas
-mod ExportStatuses
+pub mod ExportStatuses

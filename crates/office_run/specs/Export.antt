@@ -15,14 +15,20 @@ abbrev pub too_large_line : Kind → List ℕ → List ℕ
 too_large_line kind name =
     codes "slo_office: object too large " ++ (kind_word kind ++ (codes " " ++ (name ++ codes "\n")))
 
--- Each end of a part has its status, and the faults sink tells its line; where the line can't be
--- made for want of memory, that is the ending. Where the part was written, it tells nothing.
+-- The faults sink tells which object is too large; where the line can't be made for want of memory,
+-- that is the ending.
+abbrev pub SettledTooLarge : Kind → List ℕ → ℕ → Option (List ℕ) → Option (List ℕ) → ℕ → ℕ → Type 0
+SettledTooLarge kind name status old new before now =
+    EndsSaying statuses.REFUSED (too_large_line kind name) status old new before now
+    ⊎ EndsWith statuses.NO_MEMORY status old new before now
+
+-- Each end of a part has its status, and the faults sink tells its line. A part that was written
+-- tells nothing.
 abbrev pub SettledPart : {T : Type 0} → Result T ExportFault → ℕ → Option (List ℕ)
     → Option (List ℕ) → ℕ → ℕ → Type 0
 SettledPart (Ok done) status old new before now = (status ≡ statuses.DONE) × (new ≡ old)
 SettledPart (Err (faults.ObjectTooLarge kind name)) status old new before now =
-    EndsSaying statuses.REFUSED (too_large_line kind name) status old new before now
-    ⊎ EndsWith statuses.NO_MEMORY status old new before now
+    SettledTooLarge kind name status old new before now
 SettledPart (Err faults.WriteFault) status old new before now =
     EndsWith statuses.WRITE_FAULT status old new before now
 SettledPart (Err faults.NoMemory) status old new before now =

@@ -1,10 +1,9 @@
 //! `export K`: opens the journal, and writes a part of the requests that make its office anew.
-ghost use Rattle.std.specs.Prelude.{◌≡◌, ◌≢◌, ◌≤◌, Err, IfOk, string_bytes};
+ghost use Rattle.std.specs.Prelude.{◌≡◌, ◌≢◌, ◌≤◌, IfOk, string_bytes};
 ghost use Rattle.office_outside.specs.Faults.{RoseBy};
-ghost use Rattle.office_export.specs.declared.ExportFault.TheVariants.{ObjectTooLarge};
 ghost use Rattle.journal_commands.specs.Exporting.{ExportsFrom};
 ghost use Rattle.journal_commands.specs.declared.ExportEnd.{ExportEnd};
-ghost use Rattle.office_run.specs.Export.{SettledExport, SettledPart};
+ghost use Rattle.office_run.specs.Export.{SettledExport, SettledPart, SettledTooLarge};
 ghost use Rattle.office_run.specs.Export.{too_large_line as too_large_line_def};
 
 use crate::ending::{DISK_FAULT, DONE, NO_MEMORY, READ_FAULT, REFUSED, USAGE, WRITE_FAULT};
@@ -29,8 +28,8 @@ fn too_large_line(alloc: Global, kind: Kind, name: Label) -> Result<String, Allo
 
 /// The status of an object that is too large, whose line the faults sink is told.
 fn settle_too_large<E: Sink>(alloc: Global, kind: Kind, name: Label, faults: &mut E) -> u8
-    ensures { SettledPart (Err (ObjectTooLarge kind name)) result (E.held faults.old)
-        (E.held faults.new) (E.faults faults.old) (E.faults faults.new) }
+    ensures { SettledTooLarge kind name result (E.held faults.old) (E.held faults.new)
+        (E.faults faults.old) (E.faults faults.new) }
 {
     match too_large_line(alloc, kind, name) {
         Ok(line) => tell_as(faults, line.as_str(), REFUSED),

@@ -1,5 +1,5 @@
-//! The laws of statuses: what a status of `counters`, `generate`, `init`, `migrate`, `pipe`,
-//! `report` and `serve` says.
+//! The laws of statuses: what a status of `counters`, `export`, `generate`, `init`, `migrate`,
+//! `pipe`, `report` and `serve` says.
 ghost use Rattle.std.specs.Prelude.{◌≡◌, ◌≢◌, ◌<◌, ◌≤◌, ℕ, List, Option, Some};
 ghost use Rattle.message_session.specs.Sessions.{Reads};
 ghost use Rattle.office_outside.specs.Told.{Gained};
