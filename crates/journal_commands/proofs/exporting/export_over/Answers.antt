@@ -11,6 +11,6 @@ returns-in-Err-clause-exports g c =
     let text : List ℕ = part_text c.args.part c.args.core.now.office in
     let Part : Option (List ℕ) → Type 0 = λ new.
     GainedPrefix text (held c.args.output.now) new in
-    subst Part (sym c.in-Err.ensures.kept)
+    subst Part (sym c.flush.ensures.kept)
     (gained_is_prefix text (held c.args.output.now) (held c.export_core.new.output)
     c.in-Ok.ensures.exports.1)
