@@ -47,8 +47,8 @@ use Rattle.office_history.specs.Lists.{first_some}
 use Rattle.office_derived.specs.declared.Derived.{Derived}
 use Rattle.office_derived.specs.declared.Work.{Work}
 use Rattle.office_derived.specs.declared.Work.TheVariants as works
-use Rattle.office_derived.specs.declared.Judged.{Judged}
-use Rattle.office_derived.specs.declared.Judged.TheVariants as judged
+use Rattle.office_derived.specs.declared.Verdict.{Verdict}
+use Rattle.office_derived.specs.declared.Verdict.TheVariants as judged
 use Rattle.office_history.specs.Notices.{waiting}
 use Rattle.office_derived.specs.Zones.{KeptZones}
 use Rattle.kept_sums.specs.declared.SumsPlan.{SumsPlan}
@@ -69,7 +69,7 @@ use Rattle.catalog_changes.proofs.ReadingLemmas.{define_read, remove_read}
 
 -- a judgement over what is kept is one over the history
 pub judged_over : (o : Office) (moment : ℕ) (command : Command) (J : Judgement → Type 0)
-    (P : Work → Type 0) (result : Judged) →
+    (P : Work → Type 0) (result : Verdict Work) →
     ((j : Judgement) → J j → Judges o moment command j) →
     ((w : Work) → P w → (command_of w ≡ command) × IsFound o moment w) →
     IsJudgedBy J P result → IsJudged o moment command result

@@ -14,8 +14,8 @@ use Rattle.office_history.specs.Catalog.{text_objects}
 use Rattle.office_derived.specs.declared.Derived.{Derived}
 use Rattle.office_derived.specs.declared.Work.{Work}
 use Rattle.office_derived.specs.declared.Work.TheVariants as works
-use Rattle.office_derived.specs.declared.Judged.{Judged}
-use Rattle.office_derived.specs.declared.Judged.TheVariants as judged
+use Rattle.office_derived.specs.declared.Verdict.{Verdict}
+use Rattle.office_derived.specs.declared.Verdict.TheVariants as judged
 use Rattle.office_history.specs.Judges as judges
 use Rattle.definition_verdict.specs.declared.Definition.{Definition as Answered}
 use Rattle.definition_verdict.specs.Made.{in_words}
@@ -29,7 +29,7 @@ abbrev pub defined_verdict : Known → ℕ → Answered → Judgement
 defined_verdict known entries made = judges.defined_verdict known entries (in_words made)
 
 -- a judgement of these, with a work of these where it is accepted; or memory ran out
-abbrev pub IsJudgedBy : (Judgement → Type 0) → (Work → Type 0) → Judged → Type 0
+abbrev pub IsJudgedBy : (Judgement → Type 0) → (Work → Type 0) → Verdict Work → Type 0
 IsJudgedBy IsJudgement IsWork (judged.Ready work) = IsJudgement Accepted × IsWork work
 IsJudgedBy IsJudgement IsWork (judged.Same outcome) = IsJudgement (Same outcome)
 IsJudgedBy IsJudgement IsWork (judged.Refused refusal) = IsJudgement (Refused refusal)

@@ -23,7 +23,7 @@ use crate::sums_plan::plan_sums;
 use definition_verdict::{Definition, VerdictError, judge_definition};
 use exact_fraction::Bytes;
 use kept_sums::SumsPlan;
-use office_derived::{Derived, Judged, Work, accepted};
+use office_derived::{Derived, Verdict, Work, accepted};
 use office_history::Judgement;
 use record_form::{LimitName, Outcome, Refusal};
 use slo_catalog::Catalog;
@@ -104,37 +104,37 @@ fn text_and_plan(
 }
 
 /// What becomes of a text over what is kept.
-fn judged_text(alloc: Global, derived: &Derived, text: &Bytes) -> Judged
+fn judged_text(alloc: Global, derived: &Derived, text: &Bytes) -> Verdict<Work>
     requires { IsSound derived.now }
     ensures { IsJudgedBy (JudgesText (known_by derived.now) derived.now.entries text.now)
         (IsTextWork derived.now text.now) result }
 {
     let made = match definition_over(alloc, derived, text.as_bytes()) {
         Ok(made) => made,
-        Err(VerdictError::Refused(refusal)) => return Judged::Refused(refusal),
-        Err(VerdictError::NoMemory) => return Judged::NoMemory,
+        Err(VerdictError::Refused(refusal)) => return Verdict::Refused(refusal),
+        Err(VerdictError::NoMemory) => return Verdict::NoMemory,
     };
     let applied = made.objects as u64;
     match verdict_on(alloc, derived, &made, applied) {
         Ok(Judgement::Accepted) => match text_and_plan(alloc, derived, text, &made.catalog) {
-            Ok((text, plan)) => Judged::Ready(Work::Define {
+            Ok((text, plan)) => Verdict::Ready(Work::Define {
                 text,
                 catalog: made.catalog,
                 applied,
                 plan,
             }),
-            Err(AllocError) => Judged::NoMemory,
+            Err(AllocError) => Verdict::NoMemory,
         },
-        Ok(Judgement::Same(outcome)) => Judged::Same(outcome),
-        Ok(Judgement::Refused(refusal)) => Judged::Refused(refusal),
-        Err(AllocError) => Judged::NoMemory,
+        Ok(Judgement::Same(outcome)) => Verdict::Same(outcome),
+        Ok(Judgement::Refused(refusal)) => Verdict::Refused(refusal),
+        Err(AllocError) => Verdict::NoMemory,
     }
 }
 
 /// What becomes of a text of documents at a moment. The text, its documents, their objects and the
 /// catalog with them are judged first; then the limit of days, over that catalog; then whether the
 /// catalog stays as it is; and then the limit of entries.
-pub fn judge_define(alloc: Global, derived: &Derived, moment: u32, text: &Bytes) -> Judged
+pub fn judge_define(alloc: Global, derived: &Derived, moment: u32, text: &Bytes) -> Verdict<Work>
     requires { IsSound derived.now }
     ensures { (o : Office) → Reflects derived.now o → IsJudged o moment (Define text.now) result }
 {

@@ -16,7 +16,7 @@ use catalog_terms::{RemoveError, RemoveFault};
 use exact_fraction::Label;
 use kept_sums::SumsPlan;
 use object_terms::Kind;
-use office_derived::{Derived, Judged, Work, accepted};
+use office_derived::{Derived, Verdict, Work, accepted};
 use office_history::Judgement;
 use record_form::{Outcome, Refusal};
 use sample_book::{Row, SampleBook};
@@ -73,7 +73,7 @@ fn verdict_on(book: &SampleBook, entries: u32, kind: Kind, name: Label) -> Judge
 }
 
 /// What becomes of a removal over what is kept.
-fn judged_removal(alloc: Global, derived: &Derived, kind: Kind, name: Label) -> Judged
+fn judged_removal(alloc: Global, derived: &Derived, kind: Kind, name: Label) -> Verdict<Work>
     requires { IsSound derived.now }
     ensures { IsJudgedBy
         (λ j. j ≡ remove_verdict derived.now.catalog derived.now.book.rows derived.now.entries kind
@@ -81,21 +81,21 @@ fn judged_removal(alloc: Global, derived: &Derived, kind: Kind, name: Label) -> 
 {
     let catalog = match remove(alloc, &derived.catalog, kind, name) {
         Ok(catalog) => catalog,
-        Err(RemoveError::Fault(fault)) => return Judged::Refused(removal_fault(fault)),
-        Err(RemoveError::NoMemory) => return Judged::NoMemory,
+        Err(RemoveError::Fault(fault)) => return Verdict::Refused(removal_fault(fault)),
+        Err(RemoveError::NoMemory) => return Verdict::NoMemory,
     };
     match verdict_on(&derived.book, derived.entries, kind, name) {
         Judgement::Accepted => match plan_sums(alloc, derived, &catalog) {
-            Ok(plan) => Judged::Ready(Work::Remove {
+            Ok(plan) => Verdict::Ready(Work::Remove {
                 kind,
                 name,
                 catalog,
                 plan,
             }),
-            Err(AllocError) => Judged::NoMemory,
+            Err(AllocError) => Verdict::NoMemory,
         },
-        Judgement::Same(outcome) => Judged::Same(outcome),
-        Judgement::Refused(refusal) => Judged::Refused(refusal),
+        Judgement::Same(outcome) => Verdict::Same(outcome),
+        Judgement::Refused(refusal) => Verdict::Refused(refusal),
     }
 }
 
@@ -108,7 +108,7 @@ pub fn judge_remove(
     moment: u32,
     kind: Kind,
     name: Label,
-) -> Judged
+) -> Verdict<Work>
     requires { IsSound derived.now }
     ensures { (o : Office) → Reflects derived.now o → IsJudged o moment (Remove kind name) result }
 {

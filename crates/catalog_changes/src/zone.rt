@@ -19,7 +19,7 @@ ghost use Rattle.catalog_changes.specs.Judging.{IsJudgedBy, IsZoneWork};
 
 use crate::copies::copy_of;
 use exact_fraction::{Bytes, ZoneName};
-use office_derived::{Derived, Judged, Work, accepted};
+use office_derived::{Derived, Verdict, Work, accepted};
 use office_history::Judgement;
 use record_form::{LimitName, Outcome, Refusal};
 use slo_limits::{MAX_ZONE_BYTES, MAX_ZONES};
@@ -43,7 +43,7 @@ fn form_fault(name: ZoneName, bytes: &[u8]) -> Option<Refusal>
 }
 
 /// What becomes of bytes under a name that has none.
-fn judged_new(alloc: Global, derived: &Derived, name: ZoneName, bytes: &Bytes) -> Judged
+fn judged_new(alloc: Global, derived: &Derived, name: ZoneName, bytes: &Bytes) -> Verdict<Work>
     ensures { IsJudgedBy
         (λ j. j ≡ zone_verdict_beside None (length derived.now.zones.kept) derived.now.entries name
         bytes.now)
@@ -51,39 +51,39 @@ fn judged_new(alloc: Global, derived: &Derived, name: ZoneName, bytes: &Bytes) -
 {
     let zone = match read_zone(alloc, bytes.as_bytes()) {
         Ok(zone) => zone,
-        Err(ZoneFault::BadZone) => return Judged::Refused(Refusal::BadZone { name }),
-        Err(ZoneFault::NoMemory) => return Judged::NoMemory,
+        Err(ZoneFault::BadZone) => return Verdict::Refused(Refusal::BadZone { name }),
+        Err(ZoneFault::NoMemory) => return Verdict::NoMemory,
     };
     if MAX_ZONES as u64 <= derived.zones.count() {
-        return Judged::Refused(Refusal::Limit {
+        return Verdict::Refused(Refusal::Limit {
             which: LimitName::Zones,
         });
     }
     match accepted(derived.entries) {
         Judgement::Accepted => match copy_of(alloc, bytes) {
-            Ok(bytes) => Judged::Ready(Work::PutZone { name, bytes, zone }),
-            Err(AllocError) => Judged::NoMemory,
+            Ok(bytes) => Verdict::Ready(Work::PutZone { name, bytes, zone }),
+            Err(AllocError) => Verdict::NoMemory,
         },
-        Judgement::Same(outcome) => Judged::Same(outcome),
-        Judgement::Refused(refusal) => Judged::Refused(refusal),
+        Judgement::Same(outcome) => Verdict::Same(outcome),
+        Judgement::Refused(refusal) => Verdict::Refused(refusal),
     }
 }
 
 /// What becomes of a zone over what is kept.
-fn judged_zone(alloc: Global, derived: &Derived, name: ZoneName, bytes: &Bytes) -> Judged
+fn judged_zone(alloc: Global, derived: &Derived, name: ZoneName, bytes: &Bytes) -> Verdict<Work>
     ensures { IsJudgedBy
         (λ j. j ≡ zone_verdict derived.now.zones.kept derived.now.entries name bytes.now)
         (IsZoneWork name bytes.now) result }
 {
     if let Some(refusal) = form_fault(name, bytes.as_bytes()) {
-        return Judged::Refused(refusal);
+        return Verdict::Refused(refusal);
     }
     match derived.zones.bytes_of(name) {
         Some(kept) => {
             if kept == bytes.as_bytes() {
-                Judged::Same(Outcome::Changed { entry: None })
+                Verdict::Same(Outcome::Changed { entry: None })
             } else {
-                Judged::Refused(Refusal::ZoneDiffers { name })
+                Verdict::Refused(Refusal::ZoneDiffers { name })
             }
         }
         None => judged_new(alloc, derived, name, bytes),
@@ -99,7 +99,7 @@ pub fn judge_put_zone(
     moment: u32,
     name: ZoneName,
     bytes: &Bytes,
-) -> Judged
+) -> Verdict<Work>
     requires { IsSound derived.now }
     ensures { (o : Office) → Reflects derived.now o →
         IsJudged o moment (PutZone name bytes.now) result }

@@ -4,7 +4,8 @@ ghost use Rattle.slo_limits.specs.declared.TheConstants.{MAX_MINUTE, MAX_REVISIO
 ghost use Rattle.office_core.specs.Machine.{HasRevisions};
 
 use exact_fraction::{Bytes, Label, read_label};
-use office_core::{Core, Verdict};
+use office_core::Core;
+use office_derived::Verdict;
 use record_form::{Command, Listed};
 use sample_book::Row;
 use sample_stream::{ALERT_TARGETS, SHOP};

@@ -31,8 +31,8 @@ use Rattle.office_history.specs.Batches.{when}
 use Rattle.office_history.specs.Judges.{Judges}
 use Rattle.office_history.specs.Verdicts.{accepted, tick_verdict, unless_refused}
 use Rattle.office_derived.specs.declared.Derived.{Derived}
-use Rattle.office_derived.specs.declared.Judged.{Judged}
-use Rattle.office_derived.specs.declared.Judged.TheVariants as judged
+use Rattle.office_derived.specs.declared.Verdict.{Verdict}
+use Rattle.office_derived.specs.declared.Verdict.TheVariants as judged
 use Rattle.office_derived.specs.declared.Work.{Work}
 use Rattle.office_derived.specs.declared.Work.TheVariants as works
 use Rattle.office_derived.specs.Derived.{IsFound, IsJudged, IsSound, Reflects, command_of}
@@ -107,7 +107,7 @@ pub by_binding : (d : Derived) (o : Office) → Reflects d o → AreByBinding d.
 by_binding d o r = subst AreByBinding (sym r.states) (by_tick (last_of (ticks_in o)))
 
 -- what a judgement comes to, where it is accepted as this work
-abbrev pub judged_as : Judgement → Work → Judged
+abbrev pub judged_as : Judgement → Work → Verdict Work
 judged_as Accepted work = judged.Ready work
 judged_as (Same outcome) work = judged.Same outcome
 judged_as (Refused refusal) work = judged.Refused refusal

@@ -9,7 +9,7 @@ ghost use Rattle.office_derived.specs.declared.Work.TheVariants as works;
 ghost use Rattle.office_derived.specs.Derived.{IsJudged, IsNext, IsSound, Reflects, entry_of};
 
 use notice_box::{NoticeBox, UnknownNotice};
-use office_derived::{Derived, Judged, Work, accepted};
+use office_derived::{Derived, Verdict, Work, accepted};
 use office_history::Judgement;
 use record_form::{Outcome, Refusal};
 
@@ -40,15 +40,15 @@ fn take_judgement(notices: &NoticeBox, entries: u32, number: u32) -> Judgement
 }
 
 /// What becomes of the taking of the notice of a number, at any moment.
-pub fn judge_take(derived: &Derived, number: u32) -> Judged
+pub fn judge_take(derived: &Derived, number: u32) -> Verdict<Work>
     requires { IsSound derived.now }
     ensures { (o : Office) (moment : ℕ) → Reflects derived.now o
         → IsJudged o moment (Take number) result }
 {
     match take_judgement(&derived.notices, derived.entries, number) {
-        Judgement::Accepted => Judged::Ready(Work::Take(number)),
-        Judgement::Same(outcome) => Judged::Same(outcome),
-        Judgement::Refused(refusal) => Judged::Refused(refusal),
+        Judgement::Accepted => Verdict::Ready(Work::Take(number)),
+        Judgement::Same(outcome) => Verdict::Same(outcome),
+        Judgement::Refused(refusal) => Verdict::Refused(refusal),
     }
 }
 

@@ -21,7 +21,7 @@ use burn_core::State;
 use catalog_terms::Binding;
 use kept_lines::{KeptLines, states_over};
 use notice_box::NoticeBox;
-use office_derived::{Derived, Judged, Work, accepted};
+use office_derived::{Derived, Verdict, Work, accepted};
 use office_history::Judgement;
 use record_form::{LimitName, Outcome, Refusal};
 use slo_limits::MAX_NOTICES;
@@ -76,7 +76,12 @@ fn states_and_changes(
 }
 
 /// What becomes of a tick at a moment of the office's range. No line forgets a minute.
-pub fn judge_tick(alloc: Global, derived: &Derived, lines: &mut KeptLines, moment: u32) -> Judged
+pub fn judge_tick(
+    alloc: Global,
+    derived: &Derived,
+    lines: &mut KeptLines,
+    moment: u32,
+) -> Verdict<Work>
     requires sound { IsSound derived.now }
     requires begun { derived.now.origin ≤ moment }
     requires in_range { moment < end_of derived.now.origin }
@@ -89,12 +94,12 @@ pub fn judge_tick(alloc: Global, derived: &Derived, lines: &mut KeptLines, momen
     match states_and_changes(alloc, derived, lines, moment) {
         Ok((states, told)) => {
             match tick_judgement(&derived.notices, derived.entries, &told) {
-                Judgement::Accepted => Judged::Ready(Work::Tick { states, told }),
-                Judgement::Same(outcome) => Judged::Same(outcome),
-                Judgement::Refused(refusal) => Judged::Refused(refusal),
+                Judgement::Accepted => Verdict::Ready(Work::Tick { states, told }),
+                Judgement::Same(outcome) => Verdict::Same(outcome),
+                Judgement::Refused(refusal) => Verdict::Refused(refusal),
             }
         }
-        Err(_) => Judged::NoMemory,
+        Err(_) => Verdict::NoMemory,
     }
 }
 

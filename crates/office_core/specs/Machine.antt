@@ -15,6 +15,8 @@ use Rattle.office_history.specs.Judges.{Judges}
 use Rattle.office_history.specs.Legal.{IsLegal}
 use Rattle.office_derived.specs.declared.Derived.{Derived}
 use Rattle.office_derived.specs.Derived.{HasRoom, IsNext, IsSound, Reflects, entry_of}
+use Rattle.office_derived.specs.declared.Verdict.{Verdict}
+use Rattle.office_derived.specs.declared.Verdict.TheVariants as verdicts
 use Rattle.office_derived.specs.declared.Work.{Work}
 use Rattle.office_derived.specs.declared.Work.TheVariants as works
 use Rattle.kept_lines.specs.Lines.{HasLines, LinesKept}
@@ -22,8 +24,6 @@ use Rattle.kept_lines.specs.Plans.{IsLinesPlan}
 use Rattle.kept_lines.specs.declared.LinesPlan.{LinesPlan}
 use Rattle.object_terms.specs.declared.Object.{Object}
 use Rattle.office_core.specs.declared.machine.Pending.{Pending}
-use Rattle.office_core.specs.declared.machine.Verdict.{Verdict}
-use Rattle.office_core.specs.declared.machine.Verdict.TheVariants as verdicts
 use Rattle.office_core.specs.Seen.{Machine}
 
 abbrev pub office_of : Derived → List ℕ → Office
@@ -71,7 +71,7 @@ pub record MachineIsKept (d : Derived) (lines : LinesKept) (bytes : List ℕ) (s
 
 -- What the preparing of a command answers: its verdict over the history, unless memory ran out. An
 -- accepted one is pending, with its record; after every other answer nothing is.
-abbrev pub IsVerdict : Office → Entry → Verdict → Option Entry → Type 0
+abbrev pub IsVerdict : Office → Entry → Verdict (List ℕ) → Option Entry → Type 0
 IsVerdict o e (verdicts.Ready prepared) pending = Judges o e.moment e.command judgements.Accepted
     × (prepared ≡ record_of e) × (pending ≡ Some e)
 IsVerdict o e (verdicts.Same outcome) pending =

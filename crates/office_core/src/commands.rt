@@ -17,7 +17,7 @@ use catalog_changes::{
 };
 use kept_lines::{KeptLines, LinesPlan};
 use notice_changes::{apply_take, apply_tick, judge_take, judge_tick, room_for_tick};
-use office_derived::{Derived, Judged, Work};
+use office_derived::{Derived, Verdict, Work};
 use record_form::{Command, Outcome};
 use sample_changes::{
     apply_exclude, apply_samples, apply_upgrade, judge_exclude, judge_lift, judge_samples,
@@ -32,7 +32,7 @@ pub(crate) fn judge(
     lines: &mut KeptLines,
     moment: u32,
     command: &Command,
-) -> Judged
+) -> Verdict<Work>
     requires sound { IsSound derived.now }
     requires begun { derived.now.origin ≤ moment }
     requires in_range { moment < end_of derived.now.origin }

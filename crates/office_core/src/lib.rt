@@ -8,4 +8,4 @@ mod commands;
 mod lines;
 mod machine;
 
-pub use machine::{Core, Prepared, Verdict};
+pub use machine::{Core, Prepared};

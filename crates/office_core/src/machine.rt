@@ -42,8 +42,8 @@ use history_answers::{answer, state_of};
 use kept_lines::{KeptLines, LinesPlan, objective_sums, watched};
 use kept_sums::KeptSums;
 use notice_box::NoticeBox;
-use office_derived::{Derived, Judged, Work, Zones};
-use record_form::{Command, Outcome, Query, Refusal, write_command};
+use office_derived::{Derived, Verdict, Work, Zones};
+use record_form::{Command, Outcome, Query, write_command};
 use sample_book::SampleBook;
 use slo_catalog::Catalog;
 use slo_limits::RANGE_MINUTES;
@@ -80,15 +80,6 @@ impl Prepared {
     {
         &self.bytes
     }
-}
-
-/// What the preparing of a command comes to.
-#[derive(Drop)]
-pub enum Verdict {
-    Ready(Prepared),
-    Same(Outcome),
-    Refused(Refusal),
-    NoMemory,
 }
 
 /// The machine: a history of accepted entries, kept as their records, and what it comes to.
@@ -241,7 +232,7 @@ impl Core {
     /// Judges a command, and takes all memory that it needs where it is accepted. The entry is
     /// pending then; after every other answer nothing is. The sums stay as they are, but for their
     /// room, and no line forgets a minute.
-    pub fn prepare(&mut self, alloc: Global, moment: u32, command: &Command) -> Verdict
+    pub fn prepare(&mut self, alloc: Global, moment: u32, command: &Command) -> Verdict<Prepared>
         requires later { present self.old.office ≤ moment }
         requires in_range { moment < end_of self.old.office.origin }
         requires readable { moment ≤ MAX_MINUTE }
@@ -371,7 +362,7 @@ fn judge_and_make_room(
     lines: &mut KeptLines,
     moment: u32,
     command: &Command,
-) -> (Verdict, Option<Pending>)
+) -> (Verdict<Prepared>, Option<Pending>)
     requires kept { (spare : ℕ) × (pending : Option Pending)
         × MachineIsKept derived.old lines.old records.old.items spare pending }
     requires later { present (office_of derived.old records.old.items) ≤ moment }
@@ -389,10 +380,10 @@ fn judge_and_make_room(
 {
     notice_changes::laws::an_accepted_tick_tells_few();
     match judge(alloc, derived, lines, moment, command) {
-        Judged::Same(outcome) => (Verdict::Same(outcome), None),
-        Judged::Refused(refusal) => (Verdict::Refused(refusal), None),
-        Judged::NoMemory => (Verdict::NoMemory, None),
-        Judged::Ready(work) => {
+        Verdict::Same(outcome) => (Verdict::Same(outcome), None),
+        Verdict::Refused(refusal) => (Verdict::Refused(refusal), None),
+        Verdict::NoMemory => (Verdict::NoMemory, None),
+        Verdict::Ready(work) => {
             match make_ready(alloc, records, derived, lines, moment, command, &work) {
                 Ok((bytes, plan)) => (
                     Verdict::Ready(Prepared { bytes }),

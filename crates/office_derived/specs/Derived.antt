@@ -30,8 +30,8 @@ use Rattle.office_history.specs.Versions.{is_upgraded, most_cells, most_rows}
 use Rattle.office_derived.specs.declared.derived.Derived.{Derived}
 use Rattle.office_derived.specs.declared.work.Work.{Work}
 use Rattle.office_derived.specs.declared.work.Work.TheVariants as works
-use Rattle.office_derived.specs.declared.work.Judged.{Judged}
-use Rattle.office_derived.specs.declared.work.Judged.TheVariants as judged
+use Rattle.office_derived.specs.declared.verdict.Verdict.{Verdict}
+use Rattle.office_derived.specs.declared.verdict.Verdict.TheVariants as judged
 use Rattle.office_derived.specs.Tallies.{tally_of}
 
 -- the row's indicator is a member, and reads its amount, which counts at most 10^9 events
@@ -138,7 +138,7 @@ HasRoom d (works.PutZone name bytes zone) = 0 < d.zones.spare
 HasRoom d _ = Unit {0}
 
 -- what the judging of a command says of it
-abbrev pub IsJudged : Office → ℕ → Command → Judged → Type 0
+abbrev pub IsJudged : Office → ℕ → Command → Verdict Work → Type 0
 IsJudged o moment command (judged.Ready work) = Judges o moment command Accepted
     × (command_of work ≡ command) × IsFound o moment work
 IsJudged o moment command (judged.Same outcome) = Judges o moment command (Same outcome)

@@ -6,11 +6,13 @@
 mod accepting;
 mod derived;
 mod tally;
+mod verdict;
 mod work;
 mod zones;
 
 pub use accepting::accepted;
 pub use derived::Derived;
 pub use tally::BatchTally;
-pub use work::{Judged, Work};
+pub use verdict::Verdict;
+pub use work::Work;
 pub use zones::Zones;

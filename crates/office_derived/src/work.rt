@@ -6,7 +6,7 @@ use catalog_terms::Binding;
 use exact_fraction::{Bytes, Label, ZoneName};
 use kept_sums::SumsPlan;
 use object_terms::Kind;
-use record_form::{Outcome, Refusal, Rows};
+use record_form::Rows;
 use sample_book::{Exclusion, RowVerdict};
 use slo_catalog::Catalog;
 use zone_calendar::Zone;
@@ -50,13 +50,4 @@ pub enum Work {
     },
     Take(u32),
     Upgrade,
-}
-
-/// What the judging of a command comes to.
-#[derive(Drop)]
-pub enum Judged {
-    Ready(Work),
-    Same(Outcome),
-    Refused(Refusal),
-    NoMemory,
 }

@@ -14,7 +14,8 @@ ghost use Rattle.office_keep.specs.declared.fault.KeepFault.TheVariants.{DiskFau
 ghost use Rattle.slo_limits.specs.declared.TheConstants.{MAX_JOURNAL_BYTES};
 
 use crate::{KeepFault, laws};
-use office_core::{Core, Verdict};
+use office_core::Core;
+use office_derived::Verdict;
 use office_outside::Disk;
 use record_form::read_record;
 use slo_journal::{Scan, ScanFault};

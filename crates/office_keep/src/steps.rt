@@ -16,7 +16,8 @@ ghost use Rattle.office_keep.specs.Office.{Leaves, SettlesBy, StandsSettled};
 ghost use Rattle.office_keep.specs.Steps.{IsJudged, OfficeIsKept, KeepsOffice, Writes, entry_in};
 ghost use Rattle.office_keep.specs.Steps.{office_on};
 
-use office_core::{Core, Prepared, Verdict};
+use office_core::{Core, Prepared};
+use office_derived::Verdict;
 use office_outside::{Disk, Failed};
 use record_form::{Command, Outcome, laws};
 use slo_journal::{AppendFault, Journal, frame_of};

@@ -26,9 +26,10 @@ use Rattle.office_history.specs.Versions.{is_upgraded, most_cells, most_rows}
 use Rattle.office_derived.specs.declared.Derived.{Derived}
 use Rattle.office_derived.specs.Derived.{IsJudged, Reflects}
 use Rattle.record_form.specs.declared.Command.TheVariants as commands
-use Rattle.office_derived.specs.declared.Judged.{Judged}
-use Rattle.office_derived.specs.declared.Judged.TheVariants as judged
+use Rattle.office_derived.specs.declared.Verdict.{Verdict}
+use Rattle.office_derived.specs.declared.Verdict.TheVariants as judged
 use Rattle.office_derived.specs.declared.BatchTally.{BatchTally}
+use Rattle.office_derived.specs.declared.Work.{Work}
 use Rattle.office_derived.specs.declared.Work.TheVariants as works
 use Rattle.office_derived.specs.Tallies.{changes, tally_of, tally_outcome}
 use Rattle.sample_changes.specs.Judging.{faultless_verdict, rows_fault, rows_verdict}
@@ -240,7 +241,7 @@ faultless_by vs tally n e =
 
 -- what the judging comes to is what the history says
 pub comes_to : (d : Derived) (o : Office) (m : ℕ) (rows batch : List Row) (j : Judgement)
-    (tally : BatchTally) (each : List RowVerdict) (x : Judged) → Reflects d o → batch ≡ rows →
+    (tally : BatchTally) (each : List RowVerdict) (x : Verdict Work) → Reflects d o → batch ≡ rows →
     length batch ≤ most.MAX_BATCH_ROWS → j ≡ rows_verdict d.upgraded d.origin m d.catalog
     d.book.rows d.accepted d.entries batch → tally ≡ tally_of (verdicts d.book.rows batch) →
     each ≡ verdicts d.book.rows batch → ComesTo j batch tally each x →
@@ -263,7 +264,7 @@ comes_to d o m rows batch j tally each x r same few is counted judged_each h = b
         (current_in o.history) copy
     over copy e = (λ i. verdicts (r.rows i) batch) ∙ ap (verdicts (current_in o.history)) (sym e)
 
-    by : (x : Judged) → ComesTo j batch tally each x → IsJudged o m (commands.Samples rows) x
+    by : (x : Verdict Work) → ComesTo j batch tally each x → IsJudged o m (commands.Samples rows) x
     by (judged.Ready (works.Samples copy found becomes)) h = (
       sym (seen ∙ h.0),
       ap commands.Samples (h.1 ∙ same),

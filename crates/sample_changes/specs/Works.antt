@@ -7,9 +7,10 @@ use Rattle.sample_book.specs.declared.RowVerdict.TheVariants.{Conflict}
 use Rattle.office_history.specs.declared.Judgement.{Judgement}
 use Rattle.office_history.specs.declared.Judgement.TheVariants.{Accepted, Same, Refused}
 use Rattle.office_derived.specs.declared.BatchTally.{BatchTally}
+use Rattle.office_derived.specs.declared.Work.{Work}
 use Rattle.office_derived.specs.declared.Work.TheVariants as works
-use Rattle.office_derived.specs.declared.Judged.{Judged}
-use Rattle.office_derived.specs.declared.Judged.TheVariants as judged
+use Rattle.office_derived.specs.declared.Verdict.{Verdict}
+use Rattle.office_derived.specs.declared.Verdict.TheVariants as judged
 
 -- one row more
 abbrev pub tally_with : BatchTally → RowVerdict → BatchTally
@@ -40,7 +41,7 @@ tally_with tally (Superseded revision) = record {
 tally_with tally (Conflict kept) = tally
 
 -- what the judging of rows comes to: where they are accepted, the work of a copy of them
-abbrev pub ComesTo : Judgement → List Row → BatchTally → List RowVerdict → Judged → Type 0
+abbrev pub ComesTo : Judgement → List Row → BatchTally → List RowVerdict → Verdict Work → Type 0
 ComesTo judgement rows tally each (judged.Ready (works.Samples copy counted becomes)) =
     (judgement ≡ Accepted) × (copy ≡ rows) × (counted ≡ tally) × (becomes.items ≡ each)
 ComesTo judgement rows tally each (judged.Ready work) = ⊥

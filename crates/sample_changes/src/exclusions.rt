@@ -20,7 +20,7 @@ ghost use Rattle.office_derived.specs.Derived.{entry_of};
 use crate::faults::limit;
 use exact_fraction::Label;
 use object_terms::Kind;
-use office_derived::{Derived, Judged, Work, accepted};
+use office_derived::{Derived, Verdict, Work, accepted};
 use office_history::Judgement;
 use record_form::{LimitName, Outcome, Refusal};
 use sample_book::{Exclusion, SampleBook};
@@ -107,15 +107,15 @@ fn exclude_verdict(derived: &Derived, value: &Exclusion) -> Judgement
 }
 
 /// What becomes of an exclusion that comes, whatever the moment.
-pub fn judge_exclude(derived: &Derived, value: &Exclusion) -> Judged
+pub fn judge_exclude(derived: &Derived, value: &Exclusion) -> Verdict<Work>
     requires { IsSound derived.now }
     ensures { (o : Office) (moment : ℕ) → Reflects derived.now o → IsJudged o moment
         (commands.Exclude value.now) result }
 {
     match exclude_verdict(derived, value) {
-        Judgement::Accepted => Judged::Ready(Work::Exclude(*value)),
-        Judgement::Same(outcome) => Judged::Same(outcome),
-        Judgement::Refused(refusal) => Judged::Refused(refusal),
+        Judgement::Accepted => Verdict::Ready(Work::Exclude(*value)),
+        Judgement::Same(outcome) => Verdict::Same(outcome),
+        Judgement::Refused(refusal) => Verdict::Refused(refusal),
     }
 }
 
@@ -159,14 +159,14 @@ fn lift_verdict(book: &SampleBook, entries: u32, id: Label) -> Judgement
 }
 
 /// What becomes of the lifting of an exclusion that comes, whatever the moment.
-pub fn judge_lift(derived: &Derived, id: Label) -> Judged
+pub fn judge_lift(derived: &Derived, id: Label) -> Verdict<Work>
     ensures { (o : Office) (moment : ℕ) → Reflects derived.now o → IsJudged o moment (commands.Lift
         id) result }
 {
     match lift_verdict(&derived.book, derived.entries, id) {
-        Judgement::Accepted => Judged::Ready(Work::Lift(id)),
-        Judgement::Same(outcome) => Judged::Same(outcome),
-        Judgement::Refused(refusal) => Judged::Refused(refusal),
+        Judgement::Accepted => Verdict::Ready(Work::Lift(id)),
+        Judgement::Same(outcome) => Verdict::Same(outcome),
+        Judgement::Refused(refusal) => Verdict::Refused(refusal),
     }
 }
 

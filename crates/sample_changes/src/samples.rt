@@ -25,7 +25,7 @@ use crate::faults::{batch_fault, limit};
 use crate::tally::tally_of;
 use crate::upgrade::{cell_limit, row_limit};
 use objective_days::passes_days_limit;
-use office_derived::{BatchTally, Derived, Judged, Work, accepted};
+use office_derived::{BatchTally, Derived, Verdict, Work, accepted};
 use office_history::Judgement;
 use record_form::{LimitName, Outcome, Refusal, Rows};
 use sample_book::{Row, RowVerdict, SampleBook};
@@ -157,7 +157,7 @@ fn copy_of(alloc: Global, rows: &[Row]) -> Result<Rows, AllocError>
 }
 
 /// What the judging of rows comes to, with a copy of them where they are accepted.
-fn judged_rows(alloc: Global, rows: &[Row], found: BatchFound) -> Judged
+fn judged_rows(alloc: Global, rows: &[Row], found: BatchFound) -> Verdict<Work>
     ensures { ComesTo found.judgement rows.now found.tally found.verdicts.items result }
 {
     let BatchFound {
@@ -166,31 +166,31 @@ fn judged_rows(alloc: Global, rows: &[Row], found: BatchFound) -> Judged
         verdicts,
     } = found;
     match judgement {
-        Judgement::Same(outcome) => Judged::Same(outcome),
-        Judgement::Refused(refusal) => Judged::Refused(refusal),
+        Judgement::Same(outcome) => Verdict::Same(outcome),
+        Judgement::Refused(refusal) => Verdict::Refused(refusal),
         Judgement::Accepted => match copy_of(alloc, rows) {
-            Ok(rows) => Judged::Ready(Work::Samples {
+            Ok(rows) => Verdict::Ready(Work::Samples {
                 rows,
                 tally,
                 verdicts,
             }),
-            Err(_) => Judged::NoMemory,
+            Err(_) => Verdict::NoMemory,
         },
     }
 }
 
 /// What becomes of samples that come at a moment, with a copy of them where they are accepted.
-pub fn judge_samples(alloc: Global, derived: &Derived, moment: u32, rows: &Rows) -> Judged
+pub fn judge_samples(alloc: Global, derived: &Derived, moment: u32, rows: &Rows) -> Verdict<Work>
     requires { IsSound derived.now }
     ensures { (o : Office) → Reflects derived.now o → IsJudged o moment (commands.Samples rows.now)
         result }
 {
     let batch = rows.as_slice();
     if MAX_BATCH_ROWS < batch.len() {
-        return Judged::Refused(limit(LimitName::Rows));
+        return Verdict::Refused(limit(LimitName::Rows));
     }
     match rows_judgement(alloc, derived, moment, batch) {
-        Err(_) => Judged::NoMemory,
+        Err(_) => Verdict::NoMemory,
         Ok(found) => judged_rows(alloc, batch, found),
     }
 }

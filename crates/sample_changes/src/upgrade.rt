@@ -10,7 +10,7 @@ ghost use Rattle.office_history.specs.Versions.{most_cells, most_rows};
 ghost use Rattle.office_derived.specs.declared.Work.TheVariants as works;
 ghost use Rattle.office_derived.specs.Derived.{IsJudged, IsNext, IsSound, Reflects, entry_of};
 
-use office_derived::{Derived, Judged, Work, accepted};
+use office_derived::{Derived, Verdict, Work, accepted};
 use office_history::Judgement;
 use record_form::Outcome;
 use slo_limits::{MAX_ACCEPTED_ROWS, MAX_CELLS, MAX_UPGRADED_CELLS, MAX_UPGRADED_ROWS};
@@ -50,14 +50,14 @@ fn upgrade_verdict(upgraded: bool, entries: u32) -> Judgement
 }
 
 /// What becomes of an upgrade that comes, whatever the moment.
-pub fn judge_upgrade(derived: &Derived) -> Judged
+pub fn judge_upgrade(derived: &Derived) -> Verdict<Work>
     ensures { (o : Office) (moment : ℕ) → Reflects derived.now o → IsJudged o moment
         commands.Upgrade result }
 {
     match upgrade_verdict(derived.upgraded, derived.entries) {
-        Judgement::Accepted => Judged::Ready(Work::Upgrade),
-        Judgement::Same(outcome) => Judged::Same(outcome),
-        Judgement::Refused(refusal) => Judged::Refused(refusal),
+        Judgement::Accepted => Verdict::Ready(Work::Upgrade),
+        Judgement::Same(outcome) => Verdict::Same(outcome),
+        Judgement::Refused(refusal) => Verdict::Refused(refusal),
     }
 }
 
