@@ -38,7 +38,7 @@ pub enum ExportFault {
 
 /// Why a request isn't written.
 #[derive(Clone, Copy)]
-enum Stop {
+enum StepError {
     Write,
     Memory,
 }
@@ -61,23 +61,23 @@ fn write_step<K: Sink>(
     step: Step,
     body: &mut Vec<u8>,
     output: &mut K,
-) -> Result<(), Stop>
+) -> Result<(), StepError>
     ensures gained { (upgraded : Bool) → OnOk result (Gained (text_at (content upgraded
         zones.now.kept catalog.now book.now.rows book.now.exclusions) step)
         (K.held output.old) (K.held output.new)) }
     ensures part { (upgraded : Bool) → OnErr result (GainedPrefix (text_at (content upgraded
         zones.now.kept catalog.now book.now.rows book.now.exclusions) step)
         (K.held output.old) (K.held output.new)) }
-    ensures write { result ≡ Err Stop.Write → RoseBy K.faults output.old output.new }
+    ensures write { result ≡ Err StepError.Write → RoseBy K.faults output.old output.new }
     ensures later { K.faults output.old ≤ K.faults output.new }
 {
     match make_request(zones, catalog, book, step, body) {
         Ok(Some(head)) => match write_both(head.as_bytes(), body, output) {
             Ok(()) => Ok(()),
-            Err(_) => Err(Stop::Write),
+            Err(_) => Err(StepError::Write),
         },
         Ok(None) => Ok(()),
-        Err(_) => Err(Stop::Memory),
+        Err(_) => Err(StepError::Memory),
     }
 }
 
@@ -89,14 +89,14 @@ fn write_steps<K: Sink>(
     book: &SampleBook,
     steps: &[Step],
     output: &mut K,
-) -> Result<(), Stop>
+) -> Result<(), StepError>
     ensures gained { (upgraded : Bool) → OnOk result (Gained (flat_map (text_at (content upgraded
         zones.now.kept catalog.now book.now.rows book.now.exclusions)) steps.now)
         (K.held output.old) (K.held output.new)) }
     ensures part { (upgraded : Bool) → OnErr result (GainedPrefix (flat_map (text_at (content
         upgraded zones.now.kept catalog.now book.now.rows book.now.exclusions)) steps.now)
         (K.held output.old) (K.held output.new)) }
-    ensures write { result ≡ Err Stop.Write → RoseBy K.faults output.old output.new }
+    ensures write { result ≡ Err StepError.Write → RoseBy K.faults output.old output.new }
     ensures later { K.faults output.old ≤ K.faults output.new }
 {
     let mut body = Vec::new(alloc);
@@ -143,7 +143,7 @@ pub fn export<K: Sink>(
     };
     match write_steps(alloc, zones, catalog, book, part_of(&steps, part), output) {
         Ok(()) => Ok(()),
-        Err(Stop::Write) => Err(ExportFault::WriteFault),
-        Err(Stop::Memory) => Err(ExportFault::NoMemory),
+        Err(StepError::Write) => Err(ExportFault::WriteFault),
+        Err(StepError::Memory) => Err(ExportFault::NoMemory),
     }
 }
