@@ -26,6 +26,7 @@ LEFT_OUT = {
     "the gate's write fails, and the batch comes again": "the calls on a file have other numbers: kills lets each fail",
     "the sync after the gate fails, and the batch comes again": "over a file each sync after one that failed fails too",
     "the disk fails at each call of an upgrade": "the calls on a file have other numbers: kills lets each fail",
+    "the disk fails at each call of an export, and a part's last flush fails": "the calls on a file have other numbers: export lets each fail",
 }
 
 
@@ -67,6 +68,7 @@ class Stage:
     program: Path
     folder: Path
     saved: bytes = b""
+    exported: bytes = b""
     readings: list[int] = field(default_factory=list)
     faults: dict[tuple[str, int], int | str] = field(default_factory=dict)
     piece: int | None = None
@@ -124,6 +126,8 @@ class Stage:
             self.input += int(count) * repeated.replace("\\", "\r\n").encode()
         elif kind == "stream":
             raise Skipped("a sample stream as an input")
+        elif kind == "exported":
+            self.input += self.exported
         else:
             self.request = text
 
@@ -183,7 +187,10 @@ class Stage:
         except held.Absent as why:
             raise Skipped(str(why)) from None
         self.input, self.faults = b"", {}
-        show = whole if self.whole else counted if self.brief else shown
+        is_export = words.startswith("export ")
+        if is_export:
+            self.exported = ran.output
+        show = whole if self.whole or is_export else counted if self.brief else shown
         self.out.append(f"$ {words}\n{show(ran.output)}status {ran.status}\n{shown(ran.errors)}")
         self.brief = False
 

@@ -16,6 +16,7 @@ pub struct Stage {
     alloc: Global,
     file: Vec<u8>,
     saved: Vec<u8>,
+    exported: Vec<u8>,
     readings: Vec<u32>,
     failing: String,
     piece: usize,
@@ -55,6 +56,11 @@ fn two_numbers(line: &str) -> Option<(u32, u32)> {
     Some((first.parse::<u32>().ok()?, second.parse::<u32>().ok()?))
 }
 
+/// Whether these words ask for an export, which writes requests and no answers.
+fn is_export(words: &str) -> bool {
+    words.starts_with("export ")
+}
+
 /// Puts bytes in the place of others.
 fn copy_over(old: &mut Vec<u8>, bytes: &[u8]) -> Result<(), AllocError> {
     old.clear();
@@ -90,6 +96,7 @@ impl Stage {
             alloc,
             file: Vec::new(alloc),
             saved: Vec::new(alloc),
+            exported: Vec::new(alloc),
             readings: Vec::new(alloc),
             failing: String::new(alloc),
             piece: usize::MAX,
@@ -165,8 +172,12 @@ impl Stage {
     }
 
     /// Sends a request line, or the bytes that stand behind `raw`, where `\` is a line's end, or
-    /// the sample stream of a number.
+    /// the sample stream of a number, or the requests of the last export.
     fn send(&mut self, text: &str) -> Result<(), AllocError> {
+        if text == "exported" {
+            let requests = String::from_utf8_lossy(self.alloc, &self.exported)?;
+            return self.input.push_str(requests.as_str());
+        }
         if let Some(bytes) = text.strip_prefix("raw ") {
             return push_raw(&mut self.input, bytes);
         }
@@ -239,6 +250,9 @@ impl Stage {
         self.input.clear();
         self.failing.clear();
         copy_over(&mut self.file, played.disk.bytes())?;
+        if is_export(words) {
+            copy_over(&mut self.exported, played.output.bytes())?;
+        }
         self.note(words, &played)?;
         self.brief = false;
         Ok(())
@@ -316,7 +330,7 @@ impl Stage {
         self.out.push_str("$ ")?;
         self.out.push_str(words)?;
         self.out.push('\n')?;
-        if self.whole {
+        if self.whole || is_export(words) {
             show_whole(self.alloc, &mut self.out, played.output.bytes())?;
         } else if self.brief {
             show_count(self.alloc, &mut self.out, played.output.bytes())?;
