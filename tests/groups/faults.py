@@ -28,9 +28,9 @@ def run_with(office: Office, words: list[str], stdin: Any = subprocess.DEVNULL, 
 def journals(report: Report) -> None:
     """Files that are no journal, that were cut, and that are there already."""
     office = Office(report.program, report.folder("journals"))
-    for word in ("pipe", "report"):
-        with report.case(f"{word}: no journal"):
-            ended(office.run(word), 3, "file not a journal")
+    for words in (["pipe"], ["report"], ["export", "1"]):
+        with report.case(f"{words[0]}: no journal"):
+            ended(office.run(*words), 3, "file not a journal")
     with report.case("init: above the clock"):
         ended(office.run("init", "67108863"), 9, "origin above clock")
         assert not office.journal.exists() or not office.journal.read_bytes(), "a journal was begun"
@@ -40,9 +40,10 @@ def journals(report: Report) -> None:
     office.ask([TICK])
     whole = office.journal.read_bytes()
     for size, line in ((0, "file not a journal"), (12, "file not a journal"), (13, "file damaged at 13"), (20, "file damaged at 13"), (23, "file damaged at 23")):
-        with report.case(f"report: a journal cut after {size} bytes"):
+        with report.case(f"report and export: a journal cut after {size} bytes"):
             office.journal.write_bytes(whole[:size])
             ended(office.run("report"), 3, line)
+            ended(office.run("export", "2"), 3, line)
             assert office.journal.read_bytes() == whole[:size], "it was changed"
     with report.case("report: bytes behind the last gate mean nothing"):
         office.journal.write_bytes(whole + b"\x01garbage")
@@ -55,7 +56,7 @@ def disks(report: Report) -> None:
     """A folder in place of the journal, a folder that can't be written to, a journal that another program has."""
     office = Office(report.program, report.folder("folder"))
     office.journal.mkdir()
-    for words in (["init"], ["pipe"], ["report"]):
+    for words in (["init"], ["pipe"], ["report"], ["export", "1"]):
         with report.case(f"{words[0]}: a folder in the journal's place"):
             ended(office.run(*words), 4, "disk fault")
     with report.case("init: a folder that can't be written to"):
@@ -66,8 +67,9 @@ def disks(report: Report) -> None:
         ended(sealed.run("init"), 4, "disk fault")
     office = Office(report.program, report.folder("shared"), ORIGIN)
     with report.case("a second program on one journal"), office.serving():
-        for word in ("pipe", "report", "init", "migrate"):
+        for word in ("pipe", "init", "migrate"):
             ended(office.run(word), 4, "disk fault")
+        assert office.run("report").returncode == office.run("export", "1").returncode == 0
 
 
 def inputs_and_outputs(report: Report) -> None:
@@ -124,7 +126,8 @@ def words(report: Report) -> None:
     """Words of no form."""
     office = Office(report.program, report.folder("words"), ORIGIN)
     forms: list[list[str]] = [[], ["--help"], ["help"], ["-h"], ["Budget"], ["budget"], ["budget", "1", "0", "5"], ["budget", "0.9", "5", "4"], ["report", "007"],
-                  ["serve", "0"], ["serve", "65536"], ["serve", "08080"], ["generate", "0"], ["generate", "996"], ["init", "67108864"], ["pipe", "now"], ["migrate", "now"]]
+                  ["serve", "0"], ["serve", "65536"], ["serve", "08080"], ["generate", "0"], ["generate", "996"], ["init", "67108864"], ["pipe", "now"], ["migrate", "now"],
+                  ["export"], ["export", "0"], ["export", "01"], ["export", "100001"], ["export", "1", "2"], ["export", "-1"]]
     for given in forms:
         with report.case(f"words of no form: {' '.join(given) or 'none'}"):
             ended(office.run(*given), 2, "usage")

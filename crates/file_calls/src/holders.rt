@@ -5,7 +5,7 @@ use office_outside::{Disk, FileDisk};
 use std::alloc::AllocError;
 use std::fs;
 
-/// Beside a disk for changes each other is refused, until it is let go.
+/// Beside a disk for changes another one for changes is refused, and one to read isn't.
 fn beside_changes(rt: HostRuntime) -> Result<String, AllocError> {
     let mut first = FileDisk::new(rt, false);
     let held = end_of(first.sync());
@@ -21,7 +21,7 @@ fn beside_changes(rt: HostRuntime) -> Result<String, AllocError> {
     )
 }
 
-/// Beside a disk that only reads another may read, and none may change.
+/// Beside a disk that only reads another may read, and one may change.
 fn beside_reads(rt: HostRuntime) -> Result<String, AllocError> {
     let mut first = FileDisk::new(rt, true);
     let held = read_from(rt.alloc(), &mut first, 0)?;
