@@ -4,7 +4,8 @@ A small library before the C library's (it is compiled by `cc`) answers the call
 of such a session has to be the one of the session that nothing was refused to, or one of them `no_memory`, and all others,
 the journal's records and all that the same session sent again is answered then those of an office that was never sent
 that request. Where the run ends with 7 and `no memory`, that is before its first answer, and the office is as before.
-In short one growth of each few is refused, and with --whole each of them.
+In short one growth of each few is refused, and with --whole each of them. Of an export over such a journal each growth is
+refused: it ends with 7 behind a prefix of the part, or as it does.
 """
 from __future__ import annotations
 
@@ -120,6 +121,22 @@ def judge(came: Came, plain: Came, without: list[Came], nothing: Came) -> int | 
     return refused[0]
 
 
+def try_exports(report: Report, trials: Trials) -> None:
+    """The journal is that of the last session."""
+    whole = trials.office.run("export", "1", env=dict(trials.words, REFUSED="-1"))
+    before, count, ended = trials.office.journal.read_bytes(), int(trials.counted.read_text()), 0
+    with report.case(f"export: each of {count} growths refused"):
+        assert whole.returncode == 0 and whole.stdout.startswith(b"POST /upgrade HTTP/1.1\r\n"), whole
+        for refused in range(1, count + 1):
+            done = trials.office.run("export", "1", env=dict(trials.words, REFUSED=str(refused)))
+            if done.returncode == 7:
+                ended += 1
+                assert whole.stdout.startswith(done.stdout) and done.stderr == b"slo_office: no memory\n", (refused, done)
+            else:
+                assert (done.returncode, done.stdout, done.stderr) == (0, whole.stdout, b""), (refused, done)
+        assert ended > 0 and trials.office.journal.read_bytes() == before
+
+
 def run(report: Report) -> None:
     with report.case("a library that refuses growths"):
         trials = Trials(report, compiled(report.room))
@@ -138,3 +155,4 @@ def run(report: Report) -> None:
             found[which] = found.get(which, 0) + 1
     with report.case("some end the run, and some a request of each kind that takes memory"):
         assert found.get("the run", 0) > 0 and sum(isinstance(it, int) for it in found) >= len(REQUESTS) // 2, found
+    try_exports(report, trials)

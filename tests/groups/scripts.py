@@ -18,6 +18,7 @@ SCRIPTS = {
     "lost_gate": "a disk that fails the write of a gate, and loses its power after a restart",
     "random_sessions": "random sessions against the rules",
     "counter_lists": "lists of running counters",
+    "exports": "random offices, exported and made anew",
 }
 MOST_SECONDS = 180
 
