@@ -11,7 +11,8 @@ not. When the time is over the program is killed, and then:
   same link and on any two links;
 - each copy of the file that `cp` made while it was written opens, to the journal's first records;
 - the same changes, sent in the journal's order to a new office over one link after another, leave the same records
-  (but for their moments), and `report` at the same minute prints the same text.
+  (but for their moments), and `report` at the same minute prints the same text;
+- its export is what the journal says, and the office that it makes exports the same bytes and reports the same.
 """
 from __future__ import annotations
 
@@ -26,6 +27,7 @@ import time
 from dataclasses import dataclass, field
 from pathlib import Path
 
+import exported
 import objects
 from office import Link, Lost, Office, Server, define, message, minute_now
 from report import Report
@@ -347,6 +349,14 @@ def played_again(office: Office, other: Office, found: Soaked, span: Span) -> No
     assert office.report(span.now) == other.report(span.now), "another report"
 
 
+def made_anew(office: Office, room: Path, span: Span) -> None:
+    parts = exported.parts(office)
+    assert exported.requests(b"".join(parts)) == exported.wanted(office), "an export that isn't what the journal says"
+    copy = exported.made(office.program, room, span.origin, parts)
+    assert exported.parts(copy) == parts, "the copy's export is another one"
+    assert exported.same_report(office, copy, span.now), "another report"
+
+
 def run(report: Report) -> None:
     now = minute_now()
     span = Span(now - 40_000, now, 600.0 if report.whole else 30.0)
@@ -367,3 +377,5 @@ def run(report: Report) -> None:
     quick = Path("/dev/shm") if os.access("/dev/shm", os.W_OK) else report.room
     with report.case("the same changes over one link after another"), tempfile.TemporaryDirectory(dir=quick) as room:
         played_again(office, Office(report.program, Path(room), span.origin), found, span)
+    with report.case("its export, and the office that it makes"), tempfile.TemporaryDirectory(dir=quick) as room:
+        made_anew(office, Path(room), span)
