@@ -5,8 +5,8 @@ use Rattle.office_export.specs.Export.{part_text}
 use Rattle.journal_commands.proofs.exporting.export_over.Goals as goal
 
 -- what was written whole and not passed on is a prefix of itself
-pub returns-in-Err-clause-exports : goal.returns-in-Err-clause-exports
-returns-in-Err-clause-exports g c =
+pub returns-in-Err-flush-clause-exports : goal.returns-in-Err-flush-clause-exports
+returns-in-Err-flush-clause-exports g c =
     let held = g.K.Sink.held in
     let text : List ℕ = part_text c.args.part c.args.core.now.office in
     let Part : Option (List ℕ) → Type 0 = λ new.
