@@ -6,5 +6,7 @@ use Rattle.journal_commands.proofs.exporting.export_core.Goals as goal
 pub returns-clause-exports : goal.returns-clause-exports
 returns-clause-exports g c =
     c.export.ensures.exports c.args.core.now.office c.is_legal.ensures.legal
-    (λ i. content (sym c.is_upgraded.ensures i) (sym c.zones.ensures i) (sym c.catalog.ensures i)
-    (sym c.book.ensures.rows i) (sym c.book.ensures.exclusions i))
+    (λ i.
+    content (sym c.is_upgraded.ensures i) (sym c.zones-zones.ensures i)
+    (sym c.catalog-catalog.ensures i) (sym c.book-book.ensures.rows i)
+    (sym c.book-book.ensures.exclusions i))
