@@ -22,17 +22,20 @@ SettledTooLarge kind name status old new before now =
     EndsSaying statuses.REFUSED (too_large_line kind name) status old new before now
     ⊎ EndsWith statuses.NO_MEMORY status old new before now
 
--- Each end of a part has its status, and the faults sink tells its line. A part that was written
--- tells nothing.
+-- Each fault of a part has its status, and the faults sink tells its line.
+abbrev pub SettledFault : ExportFault → ℕ → Option (List ℕ) → Option (List ℕ) → ℕ → ℕ → Type 0
+SettledFault (faults.ObjectTooLarge kind name) status old new before now =
+    SettledTooLarge kind name status old new before now
+SettledFault faults.WriteFault status old new before now =
+    EndsWith statuses.WRITE_FAULT status old new before now
+SettledFault faults.NoMemory status old new before now =
+    EndsWith statuses.NO_MEMORY status old new before now
+
+-- A part that was written tells nothing, and one that wasn't its fault.
 abbrev pub SettledPart : {T : Type 0} → Result T ExportFault → ℕ → Option (List ℕ)
     → Option (List ℕ) → ℕ → ℕ → Type 0
 SettledPart (Ok done) status old new before now = (status ≡ statuses.DONE) × (new ≡ old)
-SettledPart (Err (faults.ObjectTooLarge kind name)) status old new before now =
-    SettledTooLarge kind name status old new before now
-SettledPart (Err faults.WriteFault) status old new before now =
-    EndsWith statuses.WRITE_FAULT status old new before now
-SettledPart (Err faults.NoMemory) status old new before now =
-    EndsWith statuses.NO_MEMORY status old new before now
+SettledPart (Err fault) status old new before now = SettledFault fault status old new before now
 
 -- An export over the journal that was opened ends so, and a journal that wasn't opened so.
 abbrev pub SettledExport : ExportEnd → ℕ → Option (List ℕ) → Option (List ℕ) → ℕ → ℕ → Type 0

@@ -3,7 +3,8 @@ ghost use Rattle.std.specs.Prelude.{◌≡◌, ◌≢◌, ◌≤◌, IfOk, strin
 ghost use Rattle.office_outside.specs.Faults.{RoseBy};
 ghost use Rattle.journal_commands.specs.Exporting.{ExportsFrom};
 ghost use Rattle.journal_commands.specs.declared.ExportEnd.{ExportEnd};
-ghost use Rattle.office_run.specs.Export.{SettledExport, SettledPart, SettledTooLarge};
+ghost use Rattle.office_run.specs.Export.{SettledExport, SettledFault, SettledPart};
+ghost use Rattle.office_run.specs.Export.{SettledTooLarge};
 ghost use Rattle.office_run.specs.Export.{too_large_line as too_large_line_def};
 
 use crate::ending::{DISK_FAULT, DONE, NO_MEMORY, READ_FAULT, REFUSED, USAGE, WRITE_FAULT};
@@ -37,6 +38,18 @@ fn settle_too_large<E: Sink>(alloc: Global, kind: Kind, name: Label, faults: &mu
     }
 }
 
+/// The status of a fault of a part, whose line the faults sink is told.
+fn settle_fault<E: Sink>(alloc: Global, fault: ExportFault, faults: &mut E) -> u8
+    ensures { SettledFault fault result (E.held faults.old) (E.held faults.new)
+        (E.faults faults.old) (E.faults faults.new) }
+{
+    match fault {
+        ExportFault::ObjectTooLarge { kind, name } => settle_too_large(alloc, kind, name, faults),
+        ExportFault::WriteFault => tell_status(faults, WRITE_FAULT),
+        ExportFault::NoMemory => tell_status(faults, NO_MEMORY),
+    }
+}
+
 /// The status of how a part ended, whose line the faults sink is told.
 fn settle_part<E: Sink>(alloc: Global, end: Result<(), ExportFault>, faults: &mut E) -> u8
     ensures { SettledPart end result (E.held faults.old) (E.held faults.new)
@@ -44,11 +57,7 @@ fn settle_part<E: Sink>(alloc: Global, end: Result<(), ExportFault>, faults: &mu
 {
     match end {
         Ok(()) => DONE,
-        Err(ExportFault::ObjectTooLarge { kind, name }) => {
-            settle_too_large(alloc, kind, name, faults)
-        }
-        Err(ExportFault::WriteFault) => tell_status(faults, WRITE_FAULT),
-        Err(ExportFault::NoMemory) => tell_status(faults, NO_MEMORY),
+        Err(fault) => settle_fault(alloc, fault, faults),
     }
 }
 
