@@ -1,0 +1,9 @@
+pub mod Digits
+pub mod Paths
+pub mod Heads
+pub mod Rows
+pub mod Exclusions
+pub mod Changes
+pub mod Streams
+pub mod Asking
+pub mod Exports
