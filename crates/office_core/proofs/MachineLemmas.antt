@@ -13,8 +13,6 @@ use Rattle.sample_book.proofs.HistoryLemmas.{rows-held, exclusions-held}
 use Rattle.record_form.specs.declared.Entry.{Entry}
 use Rattle.record_form.specs.Records.{record_of}
 use Rattle.record_form.specs.Ranges.{FitsRecord}
-use Rattle.record_form.specs.Histories.{AreRecords, history_of}
-use Rattle.record_form.specs.Laws.{NoBytesAreNoHistory, OneRecordMore}
 use Rattle.office_history.specs.declared.Judgement.TheVariants.{Accepted}
 use Rattle.office_history.specs.History.{Office, with_entry, arrivals_in, present, end_of}
 use Rattle.office_history.specs.Judges.{Judges}
@@ -39,22 +37,17 @@ use Rattle.office_core.specs.Forgetting.{ForgetsOnlyNear}
 use Rattle.office_core.specs.Machine.{HasLinesPlan, IsReady, IsReadyIf, MachineIsKept, office_of}
 use Rattle.office_core.specs.Machine.{pending_of}
 
--- the office of the bytes with one record more
-pub office_next : OneRecordMore → (d d' : Derived) (bytes bytes' : List ℕ) (e : Entry) →
-    AreRecords bytes → FitsRecord e → bytes' ≡ bytes ++ record_of e →
-    Reflects d' (with_entry (office_of d bytes) e) →
-    office_of d' bytes' ≡ with_entry (office_of d bytes) e
-office_next law d d' bytes bytes' e r f is reflects i = record {
-  origin = reflects.origin i;
-  history = (ap history_of is ∙ (law bytes e r f).history) i;
-}
+-- the office with one entry more
+pub office_next : (d d' : Derived) (old new : List Entry) (e : Entry) → new ≡ old ++ e ∷ [] →
+    Reflects d' (with_entry (office_of d old) e) →
+    office_of d' new ≡ with_entry (office_of d old) e
+office_next d d' old new e is reflects i =
+    record { origin = reflects.origin i; history = is i }
 
--- What a commit is given: the entry that is pending, with its record.
-pub record IsCommitted (d d' : Derived) (old new : List ℕ) (e : Entry) : Type 0 where
-  pub records : AreRecords old
+-- What a commit is given: the entry that is pending, which has a record.
+pub record IsCommitted (d d' : Derived) (old : List Entry) (e : Entry) : Type 0 where
   pub fits : FitsRecord e
-  pub bytes : new ≡ old ++ record_of e
-  pub legal : IsLegal d.origin (history_of old)
+  pub legal : IsLegal d.origin old
   pub follows : MayFollow (office_of d old) e
   pub reflects : Reflects d' (with_entry (office_of d old) e)
 
@@ -62,56 +55,70 @@ follows_next : (d : Derived) (o : Office) (p : Pending) → IsNext d o p.moment 
     → MayFollow o (entry_of p.moment p.work)
 follows_next d o p n = record { in_range = n.in_range; later = n.later; accepted = n.accepted }
 
-pub committed : (d d' : Derived) (lines : LinesKept) (bytes bytes' piece : List ℕ) (spare : ℕ)
-    (kept : Option Pending) (p : Pending) (e : Entry) → MachineIsKept d lines bytes spare kept →
-    Some p ≡ kept →
-    pending_of kept ≡ Some e → piece ≡ record_of e → bytes' ≡ bytes ++ piece →
-    ((o : Office) → IsNext d o p.moment p.work
-    → Reflects d' (with_entry o (entry_of p.moment p.work))) → IsCommitted d d' bytes bytes' e
-committed d d' lines bytes bytes' piece spare kept p e k is pending piece-is added applied =
-    let ready : IsReady d lines (office_of d bytes) spare p =
-    subst (IsReadyIf d lines (office_of d bytes) spare) (sym is) k.ready in
-    let same : entry_of p.moment p.work ≡ e = cc (ap pending_of is ∙ pending) in
+-- for the one that is pending there is room
+pub ready_of : (d : Derived) (lines : LinesKept) (history : List Entry) (spare places : ℕ)
+    (kept : Option Pending) (p : Pending) → MachineIsKept d lines history spare places kept
+    → Some p ≡ kept → IsReady d lines (office_of d history) spare places p
+ready_of d lines history spare places kept p k is =
+    subst (IsReadyIf d lines (office_of d history) spare places) (sym is) k.ready
+
+-- and the entry is its
+pub pending_is : (kept : Option Pending) (p : Pending) (e : Entry) → Some p ≡ kept
+    → pending_of kept ≡ Some e → entry_of p.moment p.work ≡ e
+pending_is kept p e is pending = cc (ap pending_of is ∙ pending)
+
+pub committed : (d d' : Derived) (lines : LinesKept) (history : List Entry) (spare places : ℕ)
+    (kept : Option Pending) (p : Pending) (e : Entry)
+    → MachineIsKept d lines history spare places kept → Some p ≡ kept → pending_of kept ≡ Some e
+    → ((o : Office) → IsNext d o p.moment p.work
+    → Reflects d' (with_entry o (entry_of p.moment p.work))) → IsCommitted d d' history e
+committed d d' lines history spare places kept p e k is pending applied =
+    let ready = ready_of d lines history spare places kept p k is in
+    let same = pending_is kept p e is pending in
     record {
-      records = k.records;
       fits = subst FitsRecord same ready.fits;
-      bytes = added ∙ ap (λ bs. bytes ++ bs) piece-is;
       legal = k.legal;
-      follows = subst (MayFollow (office_of d bytes)) same
-          (follows_next d (office_of d bytes) p ready.next);
-      reflects = subst (λ (e : Entry). Reflects d' (with_entry (office_of d bytes) e)) same
-          (applied (office_of d bytes) ready.next);
+      follows = subst (MayFollow (office_of d history)) same
+          (follows_next d (office_of d history) p ready.next);
+      reflects = subst (λ (e : Entry). Reflects d' (with_entry (office_of d history) e)) same
+          (applied (office_of d history) ready.next);
     }
 
+-- the record of the pending one has its room
+pub has_spare : (d : Derived) (lines : LinesKept) (history : List Entry) (spare places : ℕ)
+    (kept : Option Pending) (p : Pending) (e : Entry) (piece : List ℕ)
+    → MachineIsKept d lines history spare places kept → Some p ≡ kept → pending_of kept ≡ Some e
+    → piece ≡ record_of e → length piece ≤ spare
+has_spare d lines history spare places kept p e piece k is pending spelled =
+    subst (λ (bytes : List ℕ). length bytes ≤ spare)
+    (ap record_of (pending_is kept p e is pending) ∙ sym spelled)
+    (ready_of d lines history spare places kept p k is).bytes
+
 -- and what the lines forget is what its entry allows
-pub forgotten : (d : Derived) (lines : LinesKept) (bytes : List ℕ) (spare : ℕ)
+pub forgotten : (d : Derived) (lines : LinesKept) (history : List Entry) (spare places : ℕ)
     (kept : Option Pending) (p : Pending) (e : Entry) (new : List WatchLine) →
-    MachineIsKept d lines bytes spare kept → Some p ≡ kept → pending_of kept ≡ Some e →
+    MachineIsKept d lines history spare places kept → Some p ≡ kept → pending_of kept ≡ Some e →
     ((o : Office) → IsNext d o p.moment p.work →
     ForgetsOnlyNear o (entry_of p.moment p.work) lines.kept new) →
-    ForgetsOnlyNear (office_of d bytes) e lines.kept new
-forgotten d lines bytes spare kept p e new k is pending forgets =
-    let ready : IsReady d lines (office_of d bytes) spare p =
-    subst (IsReadyIf d lines (office_of d bytes) spare) (sym is) k.ready in
-    let same : entry_of p.moment p.work ≡ e = cc (ap pending_of is ∙ pending) in
-    subst (λ (e : Entry). ForgetsOnlyNear (office_of d bytes) e lines.kept new) same
-    (forgets (office_of d bytes) ready.next)
+    ForgetsOnlyNear (office_of d history) e lines.kept new
+forgotten d lines history spare places kept p e new k is pending forgets =
+    subst (λ (e : Entry). ForgetsOnlyNear (office_of d history) e lines.kept new)
+    (pending_is kept p e is pending)
+    (forgets (office_of d history) (ready_of d lines history spare places kept p k is).next)
 
-pub kept_next : OneRecordMore → (d d' : Derived)
-    (lines : LinesKept) (bytes bytes' : List ℕ) (spare : ℕ) (pending : Option Pending) (e : Entry) →
-    IsCommitted d d' bytes bytes' e → IsSound d' →
-    HasLines d' lines.kept → pending ≡ None → MachineIsKept d' lines bytes' spare pending
-kept_next law d d' lines bytes bytes' spare pending e k sound right none =
-    let one = law bytes e k.records k.fits in
-    let next = office_next law d d' bytes bytes' e k.records k.fits k.bytes k.reflects in
+pub kept_next : (d d' : Derived) (lines : LinesKept) (old new : List Entry) (spare places : ℕ)
+    (pending : Option Pending) (e : Entry) → IsCommitted d d' old e → new ≡ old ++ e ∷ []
+    → IsSound d' → HasLines d' lines.kept → pending ≡ None
+    → MachineIsKept d' lines new spare places pending
+kept_next d d' lines old new spare places pending e k is sound right none =
+    let next = office_next d d' old new e is k.reflects in
     record {
-      records = subst AreRecords (sym k.bytes) one.records;
       sound = sound;
       reflects = subst (Reflects d') (sym next) k.reflects;
       legal = subst (λ (o : Office). IsLegal o.origin o.history) (sym next)
           (followed e k.legal k.follows);
       lines_right = right;
-      ready = subst (IsReadyIf d' lines (office_of d' bytes') spare) (sym none) tt;
+      ready = subst (IsReadyIf d' lines (office_of d' new) spare places) (sym none) tt;
     }
 
 -- the present isn't before the origin
@@ -129,19 +136,17 @@ present_fits a [] few all = few
 present_fits a (e ∷ h) few all =
     present_fits (max a e.moment) h (omega (arith, few, all.0.moment)) all.1
 
-pub readable : (d : Derived) (lines : LinesKept)
-    (bytes : List ℕ) (spare : ℕ) (pending : Option Pending)
-    → MachineIsKept d lines bytes spare pending
-    → present (office_of d bytes) ≤ most.MAX_MINUTE
-readable d lines bytes spare pending k =
-    present_fits d.origin (history_of bytes) (omega (arith, k.sound.origin)) k.records.fit
+pub readable : (d : Derived) (history : List Entry) → IsSound d → AllByRecursion FitsRecord history
+    → present (office_of d history) ≤ most.MAX_MINUTE
+readable d history sound fit = present_fits d.origin history (omega (arith, sound.origin)) fit
 
 -- the entry that is pending has a record
 pub pending_fits : (d : Derived) (lines : LinesKept)
-    (o : Office) (spare : ℕ) (pending : Option Pending) → IsReadyIf d lines o spare pending
+    (o : Office) (spare places : ℕ) (pending : Option Pending)
+    → IsReadyIf d lines o spare places pending
     → IfSome (pending_of pending) FitsRecord
-pending_fits d lines o spare None ready = tt
-pending_fits d lines o spare (Some p) ready = ready.fits
+pending_fits d lines o spare places None ready = tt
+pending_fits d lines o spare places (Some p) ready = ready.fits
 
 -- more room changes nothing else
 pub stays_reflects : (d d' : Derived) (o : Office) → Stays d d' → Reflects d o → Reflects d' o
@@ -162,9 +167,9 @@ stays_reflects d d' o s r = record {
   numbers = r.numbers;
 }
 
-office_stays : (d d' : Derived) (bytes : List ℕ) → Stays d d'
-    → office_of d bytes ≡ office_of d' bytes
-office_stays d d' bytes s i = record { origin = sym s.origin i; history = history_of bytes }
+office_stays : (d d' : Derived) (history : List Entry) → Stays d d'
+    → office_of d history ≡ office_of d' history
+office_stays d d' history s i = record { origin = sym s.origin i; history = history }
 
 -- the lines stay right where all but the room stays
 pub lines_stay : (d d' : Derived) (lines : LinesKept) → Stays d d' → HasLines d lines.kept
@@ -219,86 +224,87 @@ plan_learnt d lines lines' (works.Tick states told) plan same has = tt
 plan_learnt d lines lines' (works.Take number) plan same has = tt
 plan_learnt d lines lines' works.Upgrade plan same has = tt
 
-ready_learnt : (d : Derived) (lines lines' : LinesKept) (o : Office) (spare : ℕ)
-    (pending : Option Pending) → lines'.spare ≡ lines.spare → IsReadyIf d lines o spare pending →
-    IsReadyIf d lines' o spare pending
-ready_learnt d lines lines' o spare None same ready = tt
-ready_learnt d lines lines' o spare (Some p) same ready = record {
+ready_learnt : (d : Derived) (lines lines' : LinesKept) (o : Office) (spare places : ℕ)
+    (pending : Option Pending) → lines'.spare ≡ lines.spare
+    → IsReadyIf d lines o spare places pending → IsReadyIf d lines' o spare places pending
+ready_learnt d lines lines' o spare places None same ready = tt
+ready_learnt d lines lines' o spare places (Some p) same ready = record {
   next = ready.next;
   room = ready.room;
   fits = ready.fits;
   bytes = ready.bytes;
+  place = ready.place;
   plan = plan_learnt d lines lines' p.work p.plan same ready.plan;
 }
 
 -- lines that know more are kept as well
-pub lines_learnt : (d : Derived) (lines lines' : LinesKept) (bytes : List ℕ) (spare : ℕ)
-    (pending : Option Pending) → MachineIsKept d lines bytes spare pending
-    → HasLines d lines'.kept →
-    lines'.spare ≡ lines.spare → MachineIsKept d lines' bytes spare pending
-lines_learnt d lines lines' bytes spare pending k right same = record {
-  records = k.records;
+pub lines_learnt : (d : Derived) (lines lines' : LinesKept) (history : List Entry)
+    (spare places : ℕ) (pending : Option Pending)
+    → MachineIsKept d lines history spare places pending → HasLines d lines'.kept →
+    lines'.spare ≡ lines.spare → MachineIsKept d lines' history spare places pending
+lines_learnt d lines lines' history spare places pending k right same = record {
   sound = k.sound;
   reflects = k.reflects;
   legal = k.legal;
   lines_right = right;
-  ready = ready_learnt d lines lines' (office_of d bytes) spare pending same k.ready;
+  ready =
+      ready_learnt d lines lines' (office_of d history) spare places pending same k.ready;
 }
 
 -- the machine whose derived part got room, with nothing pending
-pub kept_stays : (d d' : Derived) (lines lines' : LinesKept) (bytes bytes' : List ℕ)
-    (spare spare' : ℕ) (pending pending' : Option Pending) →
-    MachineIsKept d lines bytes spare pending → Stays d d' →
-    HasLines d lines'.kept → bytes' ≡ bytes → pending' ≡ None →
-    MachineIsKept d' lines' bytes' spare' pending'
-kept_stays d d' lines lines' bytes bytes' spare spare' pending pending' k s right is none =
-    subst (λ (bs : List ℕ). MachineIsKept d' lines' bs spare' pending') (sym is) (record {
-      records = k.records;
+pub kept_stays : (d d' : Derived) (lines lines' : LinesKept) (old new : List Entry)
+    (spare spare' places places' : ℕ) (pending pending' : Option Pending) →
+    MachineIsKept d lines old spare places pending → Stays d d' →
+    HasLines d lines'.kept → new ≡ old → pending' ≡ None →
+    MachineIsKept d' lines' new spare' places' pending'
+kept_stays d d' lines lines' old new spare spare' places places' pending pending' k s right is
+    none =
+    subst (λ (h : List Entry). MachineIsKept d' lines' h spare' places' pending') (sym is) (record {
       sound = sound_stays d d' s k.sound;
-      reflects = subst (Reflects d') (office_stays d d' bytes s)
-          (stays_reflects d d' (office_of d bytes) s k.reflects);
-      legal = subst (λ n. IsLegal n (history_of bytes)) (sym s.origin) k.legal;
+      reflects = subst (Reflects d') (office_stays d d' old s)
+          (stays_reflects d d' (office_of d old) s k.reflects);
+      legal = subst (λ n. IsLegal n old) (sym s.origin) k.legal;
       lines_right = lines_stay d d' lines' s right;
-      ready = subst (IsReadyIf d' lines' (office_of d' bytes) spare') (sym none) tt;
+      ready = subst (IsReadyIf d' lines' (office_of d' old) spare' places') (sym none) tt;
     })
 
 -- the machine with a command that was accepted and found room
-pub kept_ready : (d d' : Derived) (lines lines' : LinesKept)
-    (bytes bytes' : List ℕ) (spare spare' : ℕ) (pending pending' : Option Pending) (p : Pending) →
-    MachineIsKept d lines bytes spare pending → Stays d d' →
-    HasLines d lines'.kept → HasLinesPlan d lines' p.work p.plan → bytes' ≡ bytes →
-    pending' ≡ Some p → present (office_of d bytes) ≤ p.moment →
-    p.moment < end_of d.origin → Judges (office_of d bytes) p.moment (command_of p.work) Accepted →
-    IsFound (office_of d bytes) p.moment p.work →
+pub kept_ready : (d d' : Derived) (lines lines' : LinesKept) (old new : List Entry)
+    (spare spare' places places' : ℕ) (pending pending' : Option Pending) (p : Pending) →
+    MachineIsKept d lines old spare places pending → Stays d d' →
+    HasLines d lines'.kept → HasLinesPlan d lines' p.work p.plan → new ≡ old →
+    pending' ≡ Some p → present (office_of d old) ≤ p.moment →
+    p.moment < end_of d.origin → Judges (office_of d old) p.moment (command_of p.work) Accepted →
+    IsFound (office_of d old) p.moment p.work →
     HasRoom d' p.work → FitsRecord (entry_of p.moment p.work) →
-    length (record_of (entry_of p.moment p.work)) ≤ spare'
-    → MachineIsKept d' lines' bytes' spare' pending'
-kept_ready d d' lines lines' bytes bytes' spare spare' pending pending' p k s right planned is some
-    later in_range accepted found room fits few =
-    let reflects : Reflects d' (office_of d bytes) =
-    stays_reflects d d' (office_of d bytes) s k.reflects in
-    let next : IsNext d' (office_of d bytes) p.moment p.work = record {
+    length (record_of (entry_of p.moment p.work)) ≤ spare' → 1 ≤ places'
+    → MachineIsKept d' lines' new spare' places' pending'
+kept_ready d d' lines lines' old new spare spare' places places' pending pending' p k s right
+    planned is some later in_range accepted found room fits few place =
+    let reflects : Reflects d' (office_of d old) =
+    stays_reflects d d' (office_of d old) s k.reflects in
+    let next : IsNext d' (office_of d old) p.moment p.work = record {
       reflects = reflects;
       later = later;
       in_range = in_range;
       accepted = accepted;
       found = found;
     } in
-    let same = office_stays d d' bytes s in
-    let ready : IsReady d' lines' (office_of d' bytes) spare' p = record {
+    let same = office_stays d d' old s in
+    let ready : IsReady d' lines' (office_of d' old) spare' places' p = record {
       next = subst (λ (o : Office). IsNext d' o p.moment p.work) same next;
       room = room;
       fits = fits;
       bytes = few;
+      place = place;
       plan = plan_stays d d' lines' p.work p.plan s planned;
     } in
-    subst (λ (bs : List ℕ). MachineIsKept d' lines' bs spare' pending') (sym is) (record {
-      records = k.records;
+    subst (λ (h : List Entry). MachineIsKept d' lines' h spare' places' pending') (sym is) (record {
       sound = sound_stays d d' s k.sound;
       reflects = subst (Reflects d') same reflects;
-      legal = subst (λ n. IsLegal n (history_of bytes)) (sym s.origin) k.legal;
+      legal = subst (λ n. IsLegal n old) (sym s.origin) k.legal;
       lines_right = lines_stay d d' lines' s right;
-      ready = subst (IsReadyIf d' lines' (office_of d' bytes) spare') (sym some) ready;
+      ready = subst (IsReadyIf d' lines' (office_of d' old) spare' places') (sym some) ready;
     })
 
 -- a new machine keeps what the empty history says
@@ -347,18 +353,17 @@ none_watched d lines none no_lines =
       all = λ w is. cc is.watches;
     }))
 
-pub kept_new : NoBytesAreNoHistory →
-    (d : Derived) (lines : LinesKept) (bytes : List ℕ) (spare : ℕ) → lines.kept ≡ [] → bytes ≡ [] →
+pub kept_new : (d : Derived) (lines : LinesKept) (history : List Entry) (spare places : ℕ) →
+    lines.kept ≡ [] → history ≡ [] →
     d.origin ≤ most.MAX_MINUTE → d.entries ≡ 0 → d.present ≡ d.origin → d.catalog ≡ [] →
     d.zones.kept ≡ [] →
     Holds [] d.book.rows d.book.exclusions → d.sums.kept ≡ [] → d.accepted ≡ 0 →
-    d.upgraded ≡ false → d.notices.made ≡ [] → d.states.items ≡ [] → MachineIsKept d lines bytes
-    spare None
-kept_new law d lines bytes spare no_lines is origin entries now catalog zones held sums accepted
-    upgraded notices states =
+    d.upgraded ≡ false → d.notices.made ≡ [] → d.states.items ≡ [] → MachineIsKept d lines history
+    spare places None
+kept_new d lines history spare places no_lines is origin entries now catalog zones held sums
+    accepted upgraded notices states =
     let rows : d.book.rows ≡ [] = rows-held [] d.book.rows d.book.exclusions held in
-    subst (λ (bs : List ℕ). MachineIsKept d lines bs spare None) (sym is) (record {
-      records = law.0;
+    subst (λ (h : List Entry). MachineIsKept d lines h spare places None) (sym is) (record {
       sound = record {
         origin = omega (arith, origin);
         entries = omega (arith, entries);
@@ -371,10 +376,8 @@ kept_new law d lines bytes spare no_lines is origin entries now catalog zones he
         placed = none_of (IsPlaced d.origin) d.book.rows rows;
         sums = none_kept d.catalog d.book.exclusions d.book.rows d.sums.kept catalog sums;
       };
-      reflects = subst (λ (h : List Entry). Reflects d (record { origin = d.origin; history = h }))
-          (sym law.1)
-          (empty_reflects d entries now catalog zones held accepted upgraded notices states);
-      legal = subst (IsLegal d.origin) (sym law.1) empty;
+      reflects = empty_reflects d entries now catalog zones held accepted upgraded notices states;
+      legal = empty;
       lines_right = none_watched d lines catalog no_lines;
       ready = tt;
     })

@@ -27,6 +27,7 @@ use Rattle.sample_book.proofs.book.SampleBook.TheSendSync as book
 use Rattle.notice_box.proofs.notice_box.NoticeBox.TheSendSync as notices
 use Rattle.zone_calendar.proofs.zone.Zone.TheSendSync as zone
 use Rattle.exact_fraction.proofs.text.Bytes.TheSendSync as bytes
+use Rattle.entry_records.proofs.entry_records.EntryRecords.TheSendSync as records
 use Rattle.kept_sums.specs.contracts.kept.ObjectiveSums as objective
 use Rattle.kept_sums.specs.contracts.plan.SumsPlan as plan
 use Rattle.kept_sums.proofs.kept.KeptSums.TheSendSync as sums
@@ -150,4 +151,6 @@ pending_send = search (work_send, lines_plan_send, sendable, crosses) depth 40 f
 
 pub core_send : IsSend core.the_row
 core_send =
-    search (pending_send, derived_send, lines.the_send, sendable, crosses) depth 40 fits 100000
+    search (records.the_send, pending_send, derived_send, lines.the_send, sendable, crosses) depth
+    40
+    fits 100000

@@ -8,7 +8,6 @@ use Rattle.record_form.specs.declared.Command.TheVariants.{Samples}
 use Rattle.record_form.specs.declared.Entry.{Entry}
 use Rattle.record_form.specs.Records.{record_of}
 use Rattle.record_form.specs.Ranges.{FitsRecord}
-use Rattle.record_form.specs.Histories.{AreRecords, history_of}
 use Rattle.office_history.specs.declared.Judgement.TheVariants as judgements
 use Rattle.office_history.specs.History.{Office}
 use Rattle.office_history.specs.Judges.{Judges}
@@ -26,8 +25,8 @@ use Rattle.object_terms.specs.declared.Object.{Object}
 use Rattle.office_core.specs.declared.machine.Pending.{Pending}
 use Rattle.office_core.specs.Seen.{Machine}
 
-abbrev pub office_of : Derived → List ℕ → Office
-office_of d bytes = record { origin = d.origin; history = history_of bytes }
+abbrev pub office_of : Derived → List Entry → Office
+office_of d history = record { origin = d.origin; history = history }
 
 abbrev pub pending_of : Option Pending → Option Entry
 pending_of None = None
@@ -46,28 +45,28 @@ HasLinesPlan d lines (works.Define text catalog applied sums) plan =
 HasLinesPlan d lines (works.Remove kind name catalog sums) plan = HasLinesFor d lines catalog plan
 HasLinesPlan d lines _ plan = Unit {0}
 
--- an entry can be added with no memory
-pub record IsReady (d : Derived) (lines : LinesKept) (o : Office) (spare : ℕ) (p : Pending) :
+-- an entry can be added with no memory: there is room for its bytes and its place among the records
+pub record IsReady (d : Derived) (lines : LinesKept) (o : Office) (spare places : ℕ) (p : Pending) :
     Type 0 where
   pub next : IsNext d o p.moment p.work
   pub room : HasRoom d p.work
   pub fits : FitsRecord (entry_of p.moment p.work)
   pub bytes : length (record_of (entry_of p.moment p.work)) ≤ spare
+  pub place : 1 ≤ places
   pub plan : HasLinesPlan d lines p.work p.plan
 
-abbrev pub IsReadyIf : Derived → LinesKept → Office → ℕ → Option Pending → Type 0
-IsReadyIf d lines o spare None = Unit {0}
-IsReadyIf d lines o spare (Some p) = IsReady d lines o spare p
+abbrev pub IsReadyIf : Derived → LinesKept → Office → ℕ → ℕ → Option Pending → Type 0
+IsReadyIf d lines o spare places None = Unit {0}
+IsReadyIf d lines o spare places (Some p) = IsReady d lines o spare places p
 
 -- what the machine keeps is what its history says
-pub record MachineIsKept (d : Derived) (lines : LinesKept) (bytes : List ℕ) (spare : ℕ)
-    (pending : Option Pending) : Type 0 where
-  pub records : AreRecords bytes
+pub record MachineIsKept (d : Derived) (lines : LinesKept) (history : List Entry)
+    (spare places : ℕ) (pending : Option Pending) : Type 0 where
   pub sound : IsSound d
-  pub reflects : Reflects d (office_of d bytes)
-  pub legal : IsLegal d.origin (history_of bytes)
+  pub reflects : Reflects d (office_of d history)
+  pub legal : IsLegal d.origin history
   pub lines_right : HasLines d lines.kept
-  pub ready : IsReadyIf d lines (office_of d bytes) spare pending
+  pub ready : IsReadyIf d lines (office_of d history) spare places pending
 
 -- What the preparing of a command answers: its verdict over the history, unless memory ran out. An
 -- accepted one is pending, with its record; after every other answer nothing is.

@@ -1,6 +1,7 @@
 //! The machine over its history.
-ghost use Rattle.std.specs.Prelude.{◌-◌, vec_capacity, vec_len, ◌≡◌, ◌≤◌, ◌<◌, ◌+◌, ◌⊎◌, ℕ, Option};
-ghost use Rattle.std.specs.Prelude.{[], Some, None, IfOk, OnOk, IfSome, length, nat_lt};
+ghost use Rattle.std.specs.Prelude.{◌≡◌, ◌≤◌, ◌<◌, ◌+◌, ◌⊎◌, ℕ, Option};
+ghost use Rattle.std.specs.Prelude.{[], Some, None, IfOk, OnOk, IfSome, length, nat_lt, option_map};
+ghost use Rattle.std.specs.Prelude.{slice_get};
 ghost use Rattle.std.specs.List.{AllByRecursion};
 ghost use Rattle.slo_limits.specs.declared.TheConstants.{MAX_MINUTE};
 ghost use Rattle.record_form.specs.declared.Command.{Command};
@@ -37,6 +38,7 @@ use alert_line::AlertLine;
 use burn_core::State;
 use catalog_measures::measure_at;
 use catalog_terms::Binding;
+use entry_records::EntryRecords;
 use exact_fraction::Label;
 use history_answers::{answer, state_of};
 use kept_lines::{KeptLines, LinesPlan, objective_sums, watched};
@@ -85,28 +87,27 @@ impl Prepared {
 /// The machine: a history of accepted entries, kept as their records, and what it comes to.
 #[derive(Drop)]
 pub struct Core {
-    records: Vec<u8>,
+    records: EntryRecords,
     derived: Derived,
     lines: KeptLines,
     pending: Option<Pending>,
 }
 
 impl Model for Core {
-    ghost use Rattle.std.specs.Prelude.{◌-◌, vec_capacity, vec_len};
     ghost use Rattle.office_core.specs.Machine.{MachineIsKept, office_of, pending_of};
     ghost use Rattle.office_core.specs.Seen.{Machine};
 
     ghost Value = { Machine };
 
     ghost view = { λ a. record {
-      office = office_of a.derived a.records.items;
+      office = office_of a.derived a.records.history;
       pending = pending_of a.pending;
       sums = a.derived.sums.kept;
       lines = a.lines.kept;
     } };
 
-    ghost invariant = { λ a. MachineIsKept a.derived a.lines a.records.items
-        (vec_capacity a.records - vec_len a.records) a.pending };
+    ghost invariant = { λ a. MachineIsKept a.derived a.lines a.records.history a.records.spare
+        a.records.places a.pending };
 }
 
 impl Core {
@@ -117,10 +118,9 @@ impl Core {
             ≡ record { origin = origin; history = [] }) }
         ensures pending { IfOk result (λ core. core.pending ≡ None) }
     {
-        record_form::laws::no_bytes_are_no_history();
         let book = SampleBook::new(alloc)?;
         Ok(Core {
-            records: Vec::new(alloc),
+            records: EntryRecords::new(alloc),
             derived: Derived {
                 origin,
                 entries: 0,
@@ -148,7 +148,7 @@ impl Core {
         ensures origin { self.now.office.origin ≤ MAX_MINUTE }
         ensures present { present self.now.office ≤ MAX_MINUTE }
     {
-        let _present = self.derived.present;
+        self.records.fit();
     }
 
     /// The moment of a request that is read at a reading of the clock: not before the present.
@@ -170,6 +170,14 @@ impl Core {
         ensures { result ≡ length self.now.office.history }
     {
         self.derived.entries
+    }
+
+    /// The record of the entry at a place, from 0; none exactly where the history ends before it.
+    pub fn record_at(&self, place: u32) -> Option<&[u8]>
+        ensures { option_map (λ r. r.now) result
+            ≡ option_map record_of (slice_get self.now.office.history place) }
+    {
+        self.records.at(place)
     }
 
     /// The minute at which the history begins.
@@ -271,8 +279,7 @@ impl Core {
         let Some(Pending { moment, work, plan }) = self.pending.take() else {
             unreachable!()
         };
-        record_form::laws::one_record_more();
-        self.records.extend_from_slice(value.bytes()).unwrap();
+        self.records.push(value.bytes());
         apply(&mut self.derived, &mut self.lines, moment, work, plan)
     }
 
@@ -357,23 +364,23 @@ impl Core {
 /// What becomes of a command, and the entry for which room was made.
 fn judge_and_make_room(
     alloc: Global,
-    records: &mut Vec<u8>,
+    records: &mut EntryRecords,
     derived: &mut Derived,
     lines: &mut KeptLines,
     moment: u32,
     command: &Command,
 ) -> (Verdict<Prepared>, Option<Pending>)
-    requires kept { (spare : ℕ) × (pending : Option Pending)
-        × MachineIsKept derived.old lines.old records.old.items spare pending }
-    requires later { present (office_of derived.old records.old.items) ≤ moment }
+    requires kept { (spare : ℕ) × (places : ℕ) × (pending : Option Pending)
+        × MachineIsKept derived.old lines.old records.old.history spare places pending }
+    requires later { present (office_of derived.old records.old.history) ≤ moment }
     requires in_range { moment < end_of derived.old.origin }
     requires readable { moment ≤ MAX_MINUTE }
     requires revisions { HasRevisions command.now }
-    ensures kept { MachineIsKept derived.new lines.new records.new.items
-        (vec_capacity records.new - vec_len records.new) result.1 }
-    ensures office { office_of derived.new records.new.items
-        ≡ office_of derived.old records.old.items }
-    ensures verdict { IsVerdict (office_of derived.old records.old.items)
+    ensures kept { MachineIsKept derived.new lines.new records.new.history records.new.spare
+        records.new.places result.1 }
+    ensures office { office_of derived.new records.new.history
+        ≡ office_of derived.old records.old.history }
+    ensures verdict { IsVerdict (office_of derived.old records.old.history)
         (record { moment = moment; command = command.now }) result.0 (pending_of result.1) }
     ensures sums { CountTheSame derived.old.sums.kept derived.new.sums.kept }
     ensures know { AllKnow lines.old.kept lines.new.kept }
@@ -398,7 +405,7 @@ fn judge_and_make_room(
 /// Makes room for an entry, and gives its record and what it makes of the lines.
 fn make_ready(
     alloc: Global,
-    records: &mut Vec<u8>,
+    records: &mut EntryRecords,
     derived: &mut Derived,
     lines: &mut KeptLines,
     moment: u32,
@@ -410,12 +417,12 @@ fn make_ready(
     requires range { IsEntryInRange (record { moment = moment; command = command.now }) }
     requires lines { HasLines derived.old lines.old.kept }
     ensures stays { Stays derived.old derived.new }
-    ensures records { records.new.items ≡ records.old.items }
+    ensures records { records.new.history ≡ records.old.history }
     ensures room { OnOk result (HasRoom derived.new work.now) }
     ensures bytes { IfOk result (λ made. made.0.items ≡ record_of (entry_of moment work.now)) }
     ensures fits { OnOk result (FitsRecord (entry_of moment work.now)) }
-    ensures spare { IfOk result (λ made. length made.0.items ≤ vec_capacity records.new
-        - vec_len records.new) }
+    ensures spare { IfOk result (λ made. length made.0.items ≤ records.new.spare) }
+    ensures places { OnOk result (1 ≤ records.new.places) }
     ensures plan { IfOk result (λ made. HasLinesPlan derived.old lines.new work.now made.1) }
     ensures lines { lines.new.kept ≡ lines.old.kept }
 {

@@ -11,10 +11,10 @@ use Rattle.office_core.proofs.machine.Core.answer.Goals as goal
 
 pub answer-requires-clause-begun : goal.answer-requires-clause-begun
 answer-requires-clause-begun c =
-    let later : present (office_of c.self.inside.derived c.self.inside.records.items)
+    let later : present (office_of c.self.inside.derived c.self.inside.records.history)
     ≤ c.args.moment = subst (λ (m : Machine). present m.office ≤ c.args.moment)
     (sym c.self.view_is) c.requires.later in
-    omega (arith, begun (office_of c.self.inside.derived c.self.inside.records.items), later)
+    omega (arith, begun (office_of c.self.inside.derived c.self.inside.records.history), later)
 
 pub returns-clause-know : goal.returns-clause-know
 returns-clause-know c =

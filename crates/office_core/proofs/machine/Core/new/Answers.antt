@@ -18,8 +18,6 @@ invariant_of-result c =
       notices = c.new-6.result;
       states = c.new-7.result;
     } in
-    kept_new c.no_bytes_are_no_history.ensures d c.new-8.result c.new-2.result.items _
-    c.new-8.ensures
-    c.new-2.ensures.items
+    kept_new d c.new-8.result c.new-2.result.history _ _ c.new-8.ensures c.new-2.ensures
     c.requires refl refl c.new-3.ensures c.new-4.ensures c.in_ok-book.ensures.history
     c.new-5.ensures refl refl c.new-6.ensures c.new-7.ensures.items

@@ -7,7 +7,7 @@ use Rattle.office_core.proofs.machine.Core.sums_of.Goals as goal
 pub returns-in-Some-clause-sums : goal.returns-in-Some-clause-sums
 returns-in-Some-clause-sums c =
     let d = c.self.inside.derived in
-    lent_sums d (office_of d c.self.inside.records.items) c.args.self.now
+    lent_sums d (office_of d c.self.inside.records.history) c.args.self.now
     c.self.invariant.reflects (ap (λ (m : Machine). m.office) c.self.view_is) c.args.slo
     c.args.objective c.in-Some.measure c.objective_sums.result.now d.sums.kept
     (ap (λ (m : Machine). m.sums) c.self.view_is) (sym c.in-Some.is ∙ c.measure_at.ensures.value)
