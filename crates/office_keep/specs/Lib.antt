@@ -3,3 +3,4 @@ pub mod Office
 pub mod Steps
 pub mod Laws
 pub mod Opening
+pub mod Adopting

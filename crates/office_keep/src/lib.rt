@@ -3,11 +3,13 @@
 //! Promises that a stop at any moment leaves a file that opens to every acknowledged change.
 #![tactic(auto)]
 
+mod adopting;
 mod fault;
 pub mod laws;
 mod office;
 mod opening;
 mod steps;
 
+pub use adopting::Adopted;
 pub use fault::{KeepFailed, KeepFault};
 pub use office::{Office, let_go};

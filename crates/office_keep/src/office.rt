@@ -6,19 +6,22 @@ ghost use Rattle.office_outside.specs.Disk.{All, IsQuiet, LeavesOnly};
 ghost use Rattle.office_outside.specs.Faults.{RoseBy};
 ghost use Rattle.office_counter.specs.Steps.{HasRevisionsIn};
 ghost use Rattle.slo_journal.specs.Front.{HasNoHeader, IsHeader, IsMaking};
+ghost use Rattle.record_form.specs.Ranges.{FitsRecord};
+ghost use Rattle.office_keep.specs.Adopting.{Adopts, IsBlamedFor, LeavesAdopting};
 ghost use Rattle.office_keep.specs.Files.{OfficeIsWhole};
 ghost use Rattle.office_keep.specs.Office.{IsBlamed, LeavesBy, Performs, SettlesBy, StandsSettled};
 ghost use Rattle.office_keep.specs.Opening.{IsFoundOn, IsOpened};
 ghost use Rattle.office_keep.specs.declared.fault.KeepFault.TheVariants.{AlreadyThere, DiskFault};
 ghost use Rattle.office_keep.specs.declared.fault.KeepFault.TheVariants.{NoMemory};
 
+use crate::adopting::adopt;
 use crate::fault::{fault_of_create, fault_of_open};
 use crate::opening::load;
 use crate::steps::change;
-use crate::{KeepFailed, KeepFault};
+use crate::{Adopted, KeepFailed, KeepFault};
 use office_core::{Core, Prepared};
 use office_outside::Disk;
-use record_form::{Outcome, Request, laws};
+use record_form::{Entry, Outcome, Request, laws};
 use slo_journal::{Journal, create, open};
 use slo_limits::RANGE_MINUTES;
 use std::alloc::Global;
@@ -237,6 +240,43 @@ impl<D: Disk + Drop> Office<D> {
         let done = self.do_in_range(alloc, reading, request);
         self.disk_stands();
         done
+    }
+
+    /// Adopts an entry of another office, with its own moment: writes it and adds it, where it may
+    /// follow the history.
+    pub fn adopt(&mut self, alloc: Global, entry: &Entry) -> Adopted
+        requires none { self.old.doubt ≡ None }
+        requires fits { FitsRecord entry.now }
+        ensures ended { Adopts self.old entry.now result self.new }
+        ensures any_moment { LeavesOnly D.senses self.old.disk self.new.disk
+            (LeavesAdopting self.old.office entry.now) }
+        ensures stands { All (StandsSettled self.new.office self.new.doubt)
+            (D.senses.images self.new.disk) }
+        ensures whole { OfficeIsWhole self.new.office }
+        ensures cause { IsBlamedFor (D.senses.faults self.old.disk) (D.senses.faults self.new.disk)
+            result }
+    {
+        let adopted = self.adopt_alone(alloc, entry);
+        self.disk_stands();
+        adopted
+    }
+
+    fn adopt_alone(&mut self, alloc: Global, entry: &Entry) -> Adopted
+        requires none { self.old.doubt ≡ None }
+        requires fits { FitsRecord entry.now }
+        ensures ended { Adopts self.old entry.now result self.new }
+        ensures any_moment { LeavesOnly D.senses self.old.disk self.new.disk
+            (LeavesAdopting self.old.office entry.now) }
+        ensures cause { IsBlamedFor (D.senses.faults self.old.disk) (D.senses.faults self.new.disk)
+            result }
+    {
+        adopt(
+            alloc,
+            &mut self.core,
+            &mut self.journal,
+            &mut self.doubt,
+            entry,
+        )
     }
 
     /// Tells a moment past the range, or does what is asked.

@@ -146,7 +146,7 @@ fn judge(
 }
 
 /// Keeps the entry for which room was made: writes it, and adds it once it is on the disk.
-fn keep<D: Disk + Drop>(
+pub(crate) fn keep<D: Disk + Drop>(
     alloc: Global,
     core: &mut Core,
     journal: &mut Journal<D>,
