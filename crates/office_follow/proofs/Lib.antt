@@ -1,0 +1,6 @@
+mod EntryLemmas
+mod HeadLemmas
+mod PieceLemmas
+mod PlaceLemmas
+pub mod PointLemmas
+mod LeadLemmas

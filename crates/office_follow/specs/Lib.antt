@@ -1,0 +1,4 @@
+pub mod Followed
+pub mod Heads
+pub mod Pieces
+pub mod Points
