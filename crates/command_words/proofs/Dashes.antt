@@ -150,7 +150,8 @@ none_named name ws h =
     (none_in_both (bytes_eq name (codes "migrate")) _ _ (none_alone invocation.Migrate ws h)
     (none_in_both (bytes_eq name (codes "export")) _ _
     (ap (option_map invocation.Export) (none_part ws h))
-    (ap (option_map invocation.Answer) (none_command name ws h)))))))))
+    (none_in_both (bytes_eq name (codes "follow")) _ _ (none_alone invocation.Follow ws h)
+    (ap (option_map invocation.Answer) (none_command name ws h))))))))))
 
 pub none_of : (ws : List (List ℕ)) → HasDash ws → asked_of ws ≡ None
 none_of [] h = cc h

@@ -49,7 +49,8 @@ others name ws other no_export =
     (in_both (bytes_eq name (codes "counters")) _ _
     (mapped false invocation.Counters (λ x. refl) (counters_asked ws))
     (in_both (bytes_eq name (codes "migrate")) _ _ (alone invocation.Migrate refl ws)
-    (mapped false invocation.Answer (λ x. refl) (command_named name ws))))))))
+    (in_both (bytes_eq name (codes "follow")) _ _ (alone invocation.Follow refl ws)
+    (mapped false invocation.Answer (λ x. refl) (command_named name ws)))))))))
 
 reports : (ws : List Text) → Reads true (asked_of (codes "report" ∷ ws))
 reports ws = mapped true invocation.Report (λ x. refl) (minute_asked ws)

@@ -74,6 +74,10 @@ migrates : (ws : List Text) → ArePlain ws → Sorts (codes "migrate" ∷ ws)
 unfolding clap_on_literals
 migrates = no_word (codes "migrate") (refl, refl) (inl walks.migrate_0) (λ a ws. refl)
 
+follows : (ws : List Text) → ArePlain ws → Sorts (codes "follow" ∷ ws)
+unfolding clap_on_literals
+follows = no_word (codes "follow") (refl, refl) (inl walks.follow_0) (λ a ws. refl)
+
 inits : (ws : List Text) → ArePlain ws → Sorts (codes "init" ∷ ws)
 unfolding clap_on_literals
 inits =
@@ -143,10 +147,11 @@ others : (w : Text) (ws : List Text) → is_dashed w ≡ false
     → bytes_eq (codes "report") w ≡ false → bytes_eq (codes "serve") w ≡ false
     → bytes_eq (codes "generate") w ≡ false → bytes_eq (codes "counters") w ≡ false
     → bytes_eq (codes "migrate") w ≡ false → bytes_eq (codes "export") w ≡ false
+    → bytes_eq (codes "follow") w ≡ false
     → Sorts (w ∷ ws)
-others w ws p budget check init pipe report serve generate counters migrate export =
+others w ws p budget check init pipe report serve generate counters migrate export follow =
     inr (
-      no_name w ws p budget check init pipe report serve generate counters migrate export,
+      no_name w ws p budget check init pipe report serve generate counters migrate export follow,
       rw (
         differs (codes "budget") w budget,
         differs (codes "check") w check,
@@ -158,6 +163,7 @@ others w ws p budget check init pipe report serve generate counters migrate expo
         differs (codes "counters") w counters,
         differs (codes "migrate") w migrate,
         differs (codes "export") w export,
+        differs (codes "follow") w follow,
       ) refl,
     )
 
@@ -185,8 +191,9 @@ all_words (w ∷ ws) h =
     (λ generate. by_name (codes "counters") w ws counts p.1
     (λ counters. by_name (codes "migrate") w ws migrates p.1
     (λ migrate. by_name (codes "export") w ws exports p.1
-    (λ export. others w ws p.0 budget check init pipe report serve generate counters migrate
-    export))))))))))
+    (λ export. by_name (codes "follow") w ws follows p.1
+    (λ follow. others w ws p.0 budget check init pipe report serve generate counters migrate
+    export follow)))))))))))
 
 -- words that `clap` took
 taken : (ws : List Text) (found : Option (Text × List Argument)) → ArePlain ws

@@ -70,9 +70,10 @@ pub no_name : (w : Text) (ws : List Text) → IsPlain w
     → bytes_eq (codes "report") w ≡ false → bytes_eq (codes "serve") w ≡ false
     → bytes_eq (codes "generate") w ≡ false → bytes_eq (codes "counters") w ≡ false
     → bytes_eq (codes "migrate") w ≡ false → bytes_eq (codes "export") w ≡ false
+    → bytes_eq (codes "follow") w ≡ false
     → IsRefused (w ∷ ws)
 unfolding clap_on_literals
-no_name w ws p budget check init pipe report serve generate counters migrate export =
+no_name w ws p budget check init pipe report serve generate counters migrate export follow =
     rw (
       budget,
       check,
@@ -84,6 +85,7 @@ no_name w ws p budget check init pipe report serve generate counters migrate exp
       counters,
       migrate,
       export,
+      follow,
       plain_dashes w p,
       plain_long w p,
       plain_short w p,
@@ -247,6 +249,10 @@ export_1 a p_a = rw (plain_dashes a p_a, plain_long a p_a, plain_short a p_a) (r
 pub migrate_0 : IsTaken (codes "migrate" ∷ [])
 unfolding clap_on_literals
 migrate_0 = (refl, refl)
+
+pub follow_0 : IsTaken (codes "follow" ∷ [])
+unfolding clap_on_literals
+follow_0 = (refl, refl)
 
 pub init_0 : IsTaken (codes "init" ∷ [])
 unfolding clap_on_literals

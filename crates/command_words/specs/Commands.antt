@@ -11,7 +11,8 @@ use Rattle.command_words.specs.declared.invocation.Invocation.{Invocation}
 use Rattle.command_words.specs.declared.invocation.Invocation.TheVariants.{Answer, Init, Pipe}
 use Rattle.command_words.specs.declared.invocation.Invocation.TheVariants.{Report}
 use Rattle.command_words.specs.declared.invocation.Invocation.TheVariants.{Counters, Generate}
-use Rattle.command_words.specs.declared.invocation.Invocation.TheVariants.{Export, Migrate, Serve}
+use Rattle.command_words.specs.declared.invocation.Invocation.TheVariants.{Export, Follow}
+use Rattle.command_words.specs.declared.invocation.Invocation.TheVariants.{Migrate, Serve}
 use Rattle.command_words.specs.declared.reading.TheConstants.{MAX_PARTS}
 use Rattle.command_words.specs.declared.invocation.CountersOrder.{CountersOrder}
 use Rattle.command_words.specs.declared.invocation.InputCommand.{InputCommand}
@@ -87,6 +88,7 @@ asked_named name words =
     else if bytes_eq name (codes "counters") then option_map Counters (counters_asked words)
     else if bytes_eq name (codes "migrate") then asked_alone Migrate words
     else if bytes_eq name (codes "export") then option_map Export (part_asked words)
+    else if bytes_eq name (codes "follow") then asked_alone Follow words
     else option_map Answer (command_named name words)
 
 -- What the words ask for; none where they are no form of a command.
@@ -110,6 +112,7 @@ IsSoundInvocation (Generate number) = (1 ≤ number) × (number ≤ MAX_NUMBER)
 IsSoundInvocation (Counters order) = ⊤
 IsSoundInvocation Migrate = ⊤
 IsSoundInvocation (Export part) = (1 ≤ part) × (part ≤ MAX_PARTS)
+IsSoundInvocation Follow = ⊤
 
 -- a command that reads the journal's file and changes nothing in it: a report, or an export
 abbrev pub only_reads : Invocation → Bool

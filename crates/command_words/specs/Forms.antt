@@ -45,6 +45,9 @@ migrate_form = new_app (codes "migrate")
 abbrev pub export_form : App
 export_form = one_word_form (codes "export") (codes "part") true
 
+abbrev pub follow_form : App
+follow_form = new_app (codes "follow")
+
 -- the program without its commands: no flag and no command for help, and a command has to be there
 abbrev pub bare_form : App
 bare_form = record {
@@ -73,4 +76,5 @@ first_form =
 abbrev pub whole_form : App
 whole_form =
     with_forms first_form
-    (serve_form ∷ generate_form ∷ counters_form ∷ migrate_form ∷ export_form ∷ [])
+    (serve_form ∷ generate_form ∷ counters_form ∷ migrate_form ∷ export_form ∷ follow_form
+    ∷ [])

@@ -11,7 +11,8 @@ use Rattle.command_words.specs.declared.invocation.Invocation.{Invocation}
 use Rattle.command_words.specs.declared.invocation.Invocation.TheVariants.{Answer, Init, Pipe}
 use Rattle.command_words.specs.declared.invocation.Invocation.TheVariants.{Report}
 use Rattle.command_words.specs.declared.invocation.Invocation.TheVariants.{Counters, Generate}
-use Rattle.command_words.specs.declared.invocation.Invocation.TheVariants.{Export, Migrate, Serve}
+use Rattle.command_words.specs.declared.invocation.Invocation.TheVariants.{Export, Follow}
+use Rattle.command_words.specs.declared.invocation.Invocation.TheVariants.{Migrate, Serve}
 use Rattle.command_words.specs.declared.invocation.CountersOrder.{CountersOrder}
 use Rattle.command_words.specs.declared.invocation.InputCommand.{InputCommand}
 use Rattle.command_words.specs.declared.invocation.InputCommand.TheVariants.{Budget, Check}
@@ -70,6 +71,7 @@ asked_in name arguments =
     else if bytes_eq name (codes "migrate") then Some Migrate
     else if bytes_eq name (codes "export")
     then option_map Export (part_by (first_of (codes "part") arguments))
+    else if bytes_eq name (codes "follow") then Some Follow
     else None
 
 -- what the command that was found asks for

@@ -68,10 +68,12 @@ pub(crate) fn forms<'a>(alloc: Global) -> Result<Command<'a>, AllocError>
     let counters = one_word(alloc, "counters", "sli", true)?;
     let migrate = Command::new(alloc, "migrate");
     let export = one_word(alloc, "export", "part", true)?;
+    let follow = Command::new(alloc, "follow");
     first_forms(alloc)?
         .subcommand(serve)?
         .subcommand(generate)?
         .subcommand(counters)?
         .subcommand(migrate)?
-        .subcommand(export)
+        .subcommand(export)?
+        .subcommand(follow)
 }

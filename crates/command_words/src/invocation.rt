@@ -28,6 +28,8 @@ pub enum Invocation {
     Init(Option<u32>),
     /// A session over the journal.
     Pipe,
+    /// The feeds of the input, followed over the journal.
+    Follow,
     /// The report at this minute, or else at the moment.
     Report(Option<u32>),
     /// Sessions over the journal, for all that come to this port.

@@ -166,6 +166,7 @@ fn read_command(name: &str, words: &ArgMatches) -> Option<Invocation>
         "counters" => Some(Invocation::Counters(read_counters(words, "sli")?)),
         "migrate" => Some(Invocation::Migrate),
         "export" => Some(Invocation::Export(read_part(words, "part")?)),
+        "follow" => Some(Invocation::Follow),
         _ => None,
     }
 }

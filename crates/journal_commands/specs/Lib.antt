@@ -4,3 +4,4 @@ pub mod Making
 pub mod Migrating
 pub mod Reporting
 pub mod Serving
+pub mod Following

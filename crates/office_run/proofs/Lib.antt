@@ -6,3 +6,4 @@ pub mod StatusLemmas
 pub mod MigrateLemmas
 pub mod ServerLemmas
 pub mod ExportStatuses
+pub mod FollowLemmas

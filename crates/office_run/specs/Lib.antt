@@ -4,6 +4,7 @@ pub mod Endings
 pub mod Answer
 pub mod Runs
 pub mod Export
+pub mod Follow
 pub mod Generate
 pub mod Counters
 pub mod Init

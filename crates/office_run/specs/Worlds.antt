@@ -5,11 +5,13 @@ use Rattle.office_outside.specs.Told.{HasNothingLeft}
 use Rattle.office_outside.specs.Senses.{DiskSenses}
 use Rattle.budget_command.specs.Input.{TakesAtMost}
 use Rattle.journal_commands.specs.Exporting.{ExportsFrom}
+use Rattle.journal_commands.specs.Following.{EndsFollowing, follow_world}
 use Rattle.journal_commands.specs.Making.{Makes, journal_world}
 use Rattle.journal_commands.specs.Migrating.{Migrates}
 use Rattle.journal_commands.specs.Reporting.{Reports}
 use Rattle.journal_commands.specs.Serving.{EndsServing, session_outside}
 use Rattle.journal_commands.specs.declared.ExportEnd.{ExportEnd}
+use Rattle.journal_commands.specs.declared.FollowingEnd.{FollowingEnd}
 use Rattle.journal_commands.specs.declared.InitEnd.{InitEnd}
 use Rattle.journal_commands.specs.declared.MigrateEnd.{MigrateEnd}
 use Rattle.journal_commands.specs.declared.PipeEnd.{PipeEnd}
@@ -19,6 +21,7 @@ use Rattle.office_run.specs.Commands.{most_taken}
 use Rattle.office_run.specs.Counters.{SettledCounters, WritesRows}
 use Rattle.office_run.specs.Endings.{line_of_status}
 use Rattle.office_run.specs.Export.{SettledExport}
+use Rattle.office_run.specs.Follow.{SettledFollow}
 use Rattle.office_run.specs.Generate.{EndsGenerating, SettledGenerate}
 use Rattle.office_run.specs.Init.{SettledInit}
 use Rattle.office_run.specs.Migrate.{SettledMigrate}
@@ -27,7 +30,7 @@ use Rattle.office_run.specs.Report.{SettledReport}
 use Rattle.office_run.specs.Runs.{IsStatus, Prints, PrintsPart, GainsLine, TellsRefusal}
 use Rattle.command_words.specs.declared.Invocation.{Invocation}
 use Rattle.command_words.specs.declared.Invocation.TheVariants.{Answer, Counters, Export}
-use Rattle.command_words.specs.declared.Invocation.TheVariants.{Generate, Init}
+use Rattle.command_words.specs.declared.Invocation.TheVariants.{Follow, Generate, Init}
 use Rattle.command_words.specs.declared.Invocation.TheVariants.{Migrate, Pipe, Report, Serve}
 use Rattle.command_words.specs.declared.InputCommand.{InputCommand}
 use Rattle.office_run.specs.declared.ending.TheConstants.{DONE, USAGE, READ_FAULT}
@@ -157,6 +160,16 @@ pub record RunsPipe {D : Type 0} (S : DiskSenses D) (status : ℕ) (before after
   pub serves : EndsServing S end (session_outside before.left before.to_come before.held)
       (session_outside after.left after.to_come after.held) before.disk after.disk
 
+-- A run of `follow`, by how following over the journal ended. The clock isn't read.
+pub record RunsFollow {D : Type 0} (S : DiskSenses D) (status : ℕ) (before after : World D) :
+    Type 0 where
+  pub end : FollowingEnd
+  pub settled : SettledFollow end status before.said after.said before.tellings after.tellings
+  pub follows : EndsFollowing S end
+      (follow_world before.disk before.left before.reads before.held)
+      (follow_world after.disk after.left after.reads after.held)
+  pub unread : after.to_come ≡ before.to_come
+
 -- A run of `report`, by how the printing of the report ended. The input isn't touched.
 pub record RunsReport {D : Type 0} (S : DiskSenses D) (at : Option ℕ) (status : ℕ)
     (before after : World D) : Type 0 where
@@ -193,6 +206,7 @@ Does S (Some (Init origin)) status before after = RunsInit S origin status befor
 Does S (Some Migrate) status before after = RunsMigrate S status before after
 Does S (Some (Export part)) status before after = RunsExport S part status before after
 Does S (Some Pipe) status before after = RunsPipe S status before after
+Does S (Some Follow) status before after = RunsFollow S status before after
 Does S (Some (Report at)) status before after = RunsReport S at status before after
 Does S (Some (Serve port)) status before after = IsUnheard before after
 
@@ -201,7 +215,7 @@ abbrev pub Runs : {D : Type 0} → DiskSenses D → Option Invocation → ℕ �
 Runs S asked status before after =
     RunsOutOfMemory status before after ⊎ Does S asked status before after
 
--- The disk belongs to `init`, `migrate`, `pipe`, `report` and `export`.
+-- The disk belongs to `init`, `migrate`, `pipe`, `follow`, `report` and `export`.
 abbrev pub IsOffDisk : Option Invocation → Type 0
 IsOffDisk None = Unit {0}
 IsOffDisk (Some (Answer command)) = Unit {0}
@@ -211,12 +225,14 @@ IsOffDisk (Some (Init origin)) = ⊥
 IsOffDisk (Some Migrate) = ⊥
 IsOffDisk (Some (Export part)) = ⊥
 IsOffDisk (Some Pipe) = ⊥
+IsOffDisk (Some Follow) = ⊥
 IsOffDisk (Some (Report at)) = ⊥
 IsOffDisk (Some (Serve port)) = ⊥
 
--- The clock belongs to the same commands but `export`.
+-- The clock belongs to the same commands but `follow` and `export`.
 abbrev pub IsOffClock : Option Invocation → Type 0
 IsOffClock (Some (Export part)) = Unit {0}
+IsOffClock (Some Follow) = Unit {0}
 IsOffClock asked = IsOffDisk asked
 
 -- The doors belong to `serve`.
@@ -229,5 +245,6 @@ IsOffDoors (Some (Init origin)) = Unit {0}
 IsOffDoors (Some Migrate) = Unit {0}
 IsOffDoors (Some (Export part)) = Unit {0}
 IsOffDoors (Some Pipe) = Unit {0}
+IsOffDoors (Some Follow) = Unit {0}
 IsOffDoors (Some (Report at)) = Unit {0}
 IsOffDoors (Some (Serve port)) = ⊥

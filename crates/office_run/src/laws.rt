@@ -1,5 +1,5 @@
-//! The laws of statuses: what a status of `counters`, `export`, `generate`, `init`, `migrate`,
-//! `pipe`, `report` and `serve` says.
+//! The laws of statuses: what a status of `counters`, `export`, `follow`, `generate`, `init`,
+//! `migrate`, `pipe`, `report` and `serve` says.
 ghost use Rattle.std.specs.Prelude.{◌≡◌, ◌≢◌, ◌<◌, ◌≤◌, ℕ, List, Option, Some};
 ghost use Rattle.message_session.specs.Sessions.{Reads};
 ghost use Rattle.office_outside.specs.Told.{Gained};
@@ -15,11 +15,12 @@ ghost use Rattle.office_keep.specs.Opening.{IsBad};
 ghost use Rattle.turn_counter.specs.Turns.{TurnAsks};
 ghost use Rattle.visit_workers.specs.Visits.{visit_senses};
 ghost use Rattle.visit_workers.specs.Workers.{worker_senses};
+ghost use Rattle.office_run.specs.Follow.{LeadsRun};
 ghost use Rattle.office_run.specs.Generate.{PrintsSummary};
 ghost use Rattle.office_run.specs.Migrate.{IsMigrated, IsUnmigrated};
 ghost use Rattle.office_run.specs.Serve.{ServeStatusesSay};
-ghost use Rattle.office_run.specs.Worlds.{RunsCounters, RunsExport, RunsGenerate, RunsInit};
-ghost use Rattle.office_run.specs.Worlds.{RunsMigrate};
+ghost use Rattle.office_run.specs.Worlds.{RunsCounters, RunsExport, RunsFollow, RunsGenerate};
+ghost use Rattle.office_run.specs.Worlds.{RunsInit, RunsMigrate};
 ghost use Rattle.office_run.specs.Worlds.{RunsPipe, RunsReport, World};
 
 use crate::ending::{BAD_FILE, DONE, REFUSED};
@@ -57,6 +58,19 @@ pub fn statuses_of_export<D: Disk + Drop>()
         → RunsExport D.senses part status before after → status ≡ DONE
         → OpensTo D.senses (IsWritten part before.held after.held) before.disk after.disk }
 {}
+
+/// `follow` ends with the status of a bad file only where the file has no header, or is damaged.
+/// Over feeds of fronts of a legal history, where the file stands for a front of it, it leads to
+/// that history.
+pub fn statuses_of_follow<D: Disk + Drop>()
+    ensures bad_file { (status : ℕ) (before after : World D)
+        → RunsFollow D.senses status before after → status ≡ BAD_FILE → (file : List ℕ)
+        → D.senses.content before.disk ≡ Some file → IsBad file }
+    ensures leads { (status : ℕ) (before after : World D) → RunsFollow D.senses status before after
+        → LeadsRun D.senses status before.disk after.disk before.left }
+{
+    office_keep::laws::one_history();
+}
 
 /// `generate` is done only where the summary of the stream was printed.
 pub fn statuses_of_generate<D: Disk + Drop>()

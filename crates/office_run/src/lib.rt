@@ -8,6 +8,7 @@ mod counters;
 mod ending;
 mod export;
 mod faults_sink;
+mod follow;
 mod generate;
 mod init;
 mod input;

@@ -15,6 +15,7 @@ use crate::counters::run_counters;
 use crate::ending::{DISK_FAULT, DONE, DOORS_FAULT, NO_MEMORY, READ_FAULT, USAGE, WRITE_FAULT};
 use crate::export::run_export;
 use crate::faults_sink::tell_status;
+use crate::follow::run_follow;
 use crate::generate::run_generate;
 use crate::init::run_init;
 use crate::migrate::run_migrate;
@@ -44,14 +45,15 @@ pub struct RunEnd<D: Drop> {
 /// disk, whose history begins at the clock's reading or at ORIGIN, in minutes since
 /// 1970-01-01T00:00Z, and print this origin. `migrate` opens the journal, upgrades its office, and
 /// prints the place of the upgrade in its history, or that the office was upgraded before. `pipe`
-/// opens the journal, and serves one session over the input and the output. `report` and `report
-/// AT` open the journal, and print the report over its history at the moment or at AT. `generate
-/// N` plays the sample stream of number N over an office in memory, and prints a summary.
-/// `counters SLI` reads CSV records of counters' readings, `source,minute,revision,good,total`,
-/// and writes a sample row of the indicator SLI for each difference between two of them, as it
-/// arises. `serve PORT` opens the journal, and serves it to the visitors of the doors at this
-/// port, by four workers that take turns. `export K` opens the journal, and prints part K of the
-/// requests that make its office anew. The disk is handed back.
+/// opens the journal, and serves one session over the input and the output. `follow` opens the
+/// journal, follows the feeds of the input over it, and prints how many entries there are.
+/// `report` and `report AT` open the journal, and print the report over its history at the moment
+/// or at AT. `generate N` plays the sample stream of number N over an office in memory, and prints
+/// a summary. `counters SLI` reads CSV records of counters' readings,
+/// `source,minute,revision,good,total`, and writes a sample row of the indicator SLI for each
+/// difference between two of them, as it arises. `serve PORT` opens the journal, and serves it to
+/// the visitors of the doors at this port, by four workers that take turns. `export K` opens the
+/// journal, and prints part K of the requests that make its office anew. The disk is handed back.
 pub fn run<
     R: AllocGlobal + Wait + Threads + Sync,
     S: Source,
@@ -97,7 +99,7 @@ pub fn run<
     ensures untouched { result.status ≡ USAGE → input.new ≡ input.old }
 
     // `budget`, `check`, `generate` and `counters` don't call the disk, nor read the clock, and
-    // `export` doesn't read it.
+    // `follow` and `export` don't read it.
     ensures off_disk { IsOffDisk (asked_of (map string_bytes words.now)) → result.disk ≡ disk }
     ensures clockless { IsOffClock (asked_of (map string_bytes words.now)) → clock.new ≡ clock.old }
 
@@ -137,6 +139,7 @@ pub fn run<
         Ok(Invocation::Migrate) => run_migrate(alloc, output, faults, disk, clock),
         Ok(Invocation::Export(part)) => run_export(alloc, part, output, faults, disk),
         Ok(Invocation::Pipe) => run_pipe(alloc, input, output, faults, disk, clock),
+        Ok(Invocation::Follow) => run_follow(alloc, input, output, faults, disk),
         Ok(Invocation::Report(at)) => run_report(alloc, at, output, faults, disk, clock),
         Ok(Invocation::Serve(port)) => run_serve(rt, alloc, port, output, faults, disk, doors),
     }

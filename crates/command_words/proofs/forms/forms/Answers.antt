@@ -21,8 +21,11 @@ returns c =
     let migrate =
     c.in_ok-subcommand-4.ensures.shape c.new-migrate.ensures.local
     ∙ ap₂ with_subcommand counters (ap top c.new-migrate.ensures.app) in
-    IfOk-weaker c.subcommand-5.result _ _
+    let export =
+    c.in_ok-subcommand-5.ensures.shape c.in_ok-export.ensures.local
+    ∙ ap₂ with_subcommand migrate (ap top c.in_ok-export.ensures.form) in
+    IfOk-weaker c.subcommand-6.result _ _
     (λ r h.
-    h.shape c.in_ok-export.ensures.local
-    ∙ ap₂ with_subcommand migrate (ap top c.in_ok-export.ensures.form))
-    c.subcommand-5.ensures
+    h.shape c.new-follow.ensures.local
+    ∙ ap₂ with_subcommand export (ap top c.new-follow.ensures.app))
+    c.subcommand-6.ensures

@@ -1,0 +1,25 @@
+use Rattle.std.proofs.Common.{refl}
+use Rattle.journal_commands.specs.Following.{follow_world}
+use Rattle.journal_commands.proofs.Following.{ends_opened}
+use Rattle.journal_commands.proofs.following.follow_journal.Goals as goal
+
+pub returns-in-Ok-clause-ends : goal.returns-in-Ok-clause-ends
+returns-in-Ok-clause-ends g c =
+    let D = g.D.Disk in
+    let S = g.S.Source in
+    let held = g.K.Sink.held in
+    let over = c.follow_over in
+    ends_opened D.senses over.result.0
+    (follow_world c.args.disk (S.left c.args.input.now) (S.faults c.args.input.now)
+    (held c.args.output.now))
+    (follow_world over.result.1 (S.left over.new.input) (S.faults over.new.input)
+    (held over.new.output))
+    (record {
+      office = c.in-Ok.office;
+      opened = c.in-Ok.ensures.opened;
+      so = over.ensures.ends;
+    })
+
+pub returns-in-Err-clause-ends : goal.returns-in-Err-clause-ends
+returns-in-Err-clause-ends g c =
+    (c.in-Err.ensures.found, c.in-Err.ensures.quiet_err, refl, refl)
