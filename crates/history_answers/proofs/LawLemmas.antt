@@ -98,3 +98,4 @@ one_answer o moment (queries.Timeline slo objective policy from to) a b of_a of_
     one_timeline o moment from to (watched (catalog_in o.history)
     (record { slo = slo; objective = objective; policy = policy })) a b of_a of_b
 one_answer o moment queries.Notices a b of_a of_b = both _ a b of_a of_b
+one_answer o moment (queries.Entries from) a b of_a of_b = both _ a b of_a of_b

@@ -9,10 +9,12 @@ ghost use Rattle.history_answers.specs.Learning.{KnowsAnswered};
 
 use crate::budget_list::budget_list;
 use crate::burn_rate::burn_rate;
+use crate::entries::entries;
 use crate::notice_list::notice_list;
 use crate::object_list::{object_list, object_text};
 use crate::timeline::timeline;
 use catalog_terms::Binding;
+use entry_records::EntryRecords;
 use kept_lines::KeptLines;
 use office_derived::Derived;
 use record_form::{Outcome, Query};
@@ -22,6 +24,7 @@ fn answered(
     alloc: Global,
     derived: &Derived,
     lines: &mut KeptLines,
+    records: &EntryRecords,
     moment: u32,
     query: &Query,
 ) -> Result<Outcome, AllocError>
@@ -29,7 +32,7 @@ fn answered(
     requires begun { derived.now.origin ≤ moment }
     requires in_range { moment < end_of derived.now.origin }
     requires lines { HasLines derived.now lines.old.kept }
-    ensures answer { (o : Office) → Reflects derived.now o
+    ensures answer { (o : Office) → Reflects derived.now o → records.now.history ≡ o.history
         → IfOk result (Answers o moment query.now) }
     ensures lines { HasLines derived.now lines.new.kept }
     ensures know { AllKnow lines.old.kept lines.new.kept }
@@ -61,15 +64,18 @@ fn answered(
             timeline(derived, lines, moment, &binding, from, to)
         }
         Query::Notices => notice_list(alloc, derived),
+        Query::Entries { from } => entries(alloc, derived, records, from),
     }
 }
 
-/// The answer to a query at a moment of the office's range, or `NoMemory` where memory ran out. No
-/// line forgets a minute, and a timeline that is given has its minutes known.
+/// The answer to a query at a moment of the office's range, or `NoMemory` where memory ran out. The
+/// records are those of the history. No line forgets a minute, and a timeline that is given has its
+/// minutes known.
 pub fn answer(
     alloc: Global,
     derived: &Derived,
     lines: &mut KeptLines,
+    records: &EntryRecords,
     moment: u32,
     query: &Query,
 ) -> Outcome
@@ -77,14 +83,14 @@ pub fn answer(
     requires begun { derived.now.origin ≤ moment }
     requires in_range { moment < end_of derived.now.origin }
     requires lines { HasLines derived.now lines.old.kept }
-    ensures answer { (o : Office) → Reflects derived.now o
+    ensures answer { (o : Office) → Reflects derived.now o → records.now.history ≡ o.history
         → (Answers o moment query.now result ⊎ (result ≡ Outcome.NoMemory)) }
     ensures lines { HasLines derived.now lines.new.kept }
     ensures know { AllKnow lines.old.kept lines.new.kept }
     ensures learnt { KnowsAnswered derived.now.catalog lines.new.kept query.now result }
     ensures spare { lines.new.spare ≡ lines.old.spare }
 {
-    match answered(alloc, derived, lines, moment, query) {
+    match answered(alloc, derived, lines, records, moment, query) {
         Ok(outcome) => outcome,
         Err(_) => Outcome::NoMemory,
     }

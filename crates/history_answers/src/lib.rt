@@ -1,12 +1,13 @@
 //! What a query answers over a history.
 //! Stands on what is kept beside the history, and on the sums and states of objectives.
-//! Promises each answer to be the history's, for all six queries, or that memory ran out.
+//! Promises each answer to be the history's, for all seven queries, or that memory ran out.
 #![tactic(auto)]
 
 mod answering;
 mod asked;
 mod budget_list;
 mod burn_rate;
+mod entries;
 pub mod laws;
 mod notice_list;
 mod object_list;

@@ -296,7 +296,14 @@ impl Core {
         ensures learnt { KnowsAnswered (catalog_in self.old.office.history) self.new.lines query.now
             result }
     {
-        answer(alloc, &self.derived, &mut self.lines, moment, query)
+        answer(
+            alloc,
+            &self.derived,
+            &mut self.lines,
+            &self.records,
+            moment,
+            query,
+        )
     }
 
     /// The state of a binding at a minute; none exactly where there is no such binding. The

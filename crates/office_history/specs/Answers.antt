@@ -1,6 +1,6 @@
 -- What a query answers over a history.
 use Rattle.std.specs.Prelude.{◌≡◌, ℕ, ◌+◌, ◌-◌, ◌||◌, ◌==◌, Bool, cond, nat_lt, nat_le, List, []}
-use Rattle.std.specs.Prelude.{◌∷◌, map, filter, take, length, Option, Some, None, ◌&&◌, true}
+use Rattle.std.specs.Prelude.{◌∷◌, map, filter, take, drop, length, Option, Some, None, ◌&&◌, true}
 use Rattle.slo_limits.specs.declared.TheConstants.{MAX_LOOKBACK, MAX_NOTICES_IN_ANSWER}
 use Rattle.slo_limits.specs.declared.TheConstants.{MAX_TIMELINE}
 use Rattle.exact_fraction.specs.declared.Leaf.{Leaf}
@@ -12,12 +12,14 @@ use Rattle.object_terms.specs.declared.Slo.{Slo}
 use Rattle.catalog_terms.specs.Keys.{member_of}
 use Rattle.burn_core.specs.Timeline.{AreSpansOf}
 use Rattle.notice_box.specs.declared.Notice.{Notice}
+use Rattle.entry_records.specs.Feeds.{feed_of}
 use Rattle.record_form.specs.declared.BudgetRow.{BudgetRow}
 use Rattle.record_form.specs.declared.Outcome.{Outcome}
 use Rattle.record_form.specs.declared.Outcome.TheVariants.{ObjectList, ObjectText, Budgets, Burn}
-use Rattle.record_form.specs.declared.Outcome.TheVariants.{Timeline, Notices, Refused}
+use Rattle.record_form.specs.declared.Outcome.TheVariants.{Timeline, Notices, Feed, Refused}
 use Rattle.record_form.specs.declared.Query.{Query}
 use Rattle.record_form.specs.declared.Query.TheVariants as queries
+use Rattle.record_form.specs.Records.{record_of}
 use Rattle.record_form.specs.declared.Refusal.{Refusal}
 use Rattle.record_form.specs.declared.Refusal.TheVariants as refusals
 use Rattle.office_history.specs.declared.measure.Measure.{Measure}
@@ -115,6 +117,11 @@ abbrev pub first_waiting : List (Notice × Bool) → List Notice
 first_waiting made =
     take MAX_NOTICES_IN_ANSWER (map (λ kept. kept.0) (filter (λ kept. kept.1) made))
 
+-- the feed of the entries from a position on, which isn't behind the end of the history
+abbrev pub feed_answer : Office → ℕ → Outcome
+feed_answer o from = cond (nat_lt (length o.history) from) (Refused refusals.Range)
+    (Feed (feed_of o.origin from (map record_of (drop from o.history))))
+
 -- the answer to a query at a moment
 abbrev pub Answers : Office → ℕ → Query → Outcome → Type 0
 Answers o moment queries.Objects outcome =
@@ -132,3 +139,4 @@ Answers o moment (queries.Timeline slo objective policy from to) outcome =
     (record { slo = slo; objective = objective; policy = policy })) outcome
 Answers o moment queries.Notices outcome =
     outcome ≡ Notices (length o.history) (first_waiting (notices_in o))
+Answers o moment (queries.Entries from) outcome = outcome ≡ feed_answer o from

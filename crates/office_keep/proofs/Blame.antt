@@ -1,9 +1,10 @@
 -- Neither a judgement nor an answer blames the disk.
 use Rattle.std.proofs.Common.{◌≡◌, ℕ, ◌+◌, ◌-◌, ◌||◌, ◌==◌, Bool, true, false, cond, nat_lt, List}
 use Rattle.std.proofs.Common.{[], ◌∷◌, length, Option, Some, None, Result, Ok, Err, refl, sym, ap}
-use Rattle.std.proofs.Common.{◌∙◌}
+use Rattle.std.proofs.Common.{◌∙◌, drop, map}
 use Rattle.std.specs.List.{list_any}
 use Rattle.std.specs.Str.{bytes_eq}
+use Rattle.entry_records.specs.Feeds.{feed_of}
 use Rattle.slo_limits.specs.declared.TheConstants as most
 use Rattle.burn_core.specs.declared.State.{State}
 use Rattle.burn_core.specs.Timeline.{AreSpansOf}
@@ -22,6 +23,7 @@ use Rattle.office_history.specs.Definitions.{Known}
 use Rattle.record_form.specs.declared.Command.{Command}
 use Rattle.record_form.specs.declared.Command.TheVariants.{Define, Remove, PutZone, Samples}
 use Rattle.record_form.specs.declared.Command.TheVariants.{Exclude, Lift, Tick, Take, Upgrade}
+use Rattle.record_form.specs.Records.{record_of}
 use Rattle.record_form.specs.declared.LimitName.TheVariants as limits
 use Rattle.record_form.specs.declared.Outcome.{Outcome}
 use Rattle.record_form.specs.declared.Outcome.TheVariants as outcomes
@@ -285,6 +287,12 @@ by_timeline o moment from to (Some w) outcome is =
     (λ range. ap blames range)
     is
 
+by_feed : (o : Office) (from : ℕ) (past : Bool)
+    → blames (cond past (outcomes.Refused refusals.Range)
+    (outcomes.Feed (feed_of o.origin from (map record_of (drop from o.history))))) ≡ false
+by_feed o from true = refl
+by_feed o from false = refl
+
 answers_so : (o : Office) (moment : ℕ) (query : Query) (outcome : Outcome) →
     Answers o moment query outcome → blames outcome ≡ false
 answers_so o moment queries.Objects outcome is = ap blames is
@@ -301,6 +309,8 @@ answers_so o moment (queries.Timeline slo objective policy from to) outcome is =
     (watched (catalog_in o.history) (record { slo = slo; objective = objective; policy = policy }))
     outcome is
 answers_so o moment queries.Notices outcome is = ap blames is
+answers_so o moment (queries.Entries from) outcome is =
+    ap blames is ∙ by_feed o from (nat_lt (length o.history) from)
 
 -- nor does an answer
 pub answer_no_fault : (o : Office) (moment : ℕ) (query : Query) (outcome : Outcome) →

@@ -79,6 +79,7 @@ fn adopted_without(outcome: &Outcome) -> Adopted
         | Outcome::Burn { .. }
         | Outcome::Timeline { .. }
         | Outcome::Notices { .. }
+        | Outcome::Feed(_)
         | Outcome::Refused(_)
         | Outcome::ClockRange { .. }
         | Outcome::DiskFault => Adopted::DiskFault,

@@ -76,6 +76,7 @@ failure_of (outcomes.Budgets at budgets entries) = None
 failure_of (outcomes.Burn at burn den entries num) = None
 failure_of (outcomes.Timeline entries intervals state) = None
 failure_of (outcomes.Notices entries notices) = None
+failure_of (outcomes.Feed bytes) = None
 failure_of (outcomes.Refused refusal) = Some (reply_of refusal)
 failure_of (outcomes.ClockRange end reading) = Some (500, codes "clock_range")
 failure_of outcomes.DiskFault = Some (500, codes "disk_fault")

@@ -73,6 +73,8 @@ pub enum Outcome {
         entries: u32,
         notices: NoticeRows,
     },
+    /// The feed of the entries from the position that was asked for.
+    Feed(Bytes),
     Refused(Refusal),
     /// The moment isn't below the end of the office's range; `reading` is the moment.
     ClockRange {
@@ -112,7 +114,8 @@ impl Outcome {
             | Outcome::Budgets { .. }
             | Outcome::Burn { .. }
             | Outcome::Timeline { .. }
-            | Outcome::Notices { .. } => None,
+            | Outcome::Notices { .. }
+            | Outcome::Feed(_) => None,
         }
     }
 }

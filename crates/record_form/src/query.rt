@@ -37,6 +37,10 @@ pub enum Query {
     },
     /// The notices that nobody has taken.
     Notices,
+    /// The feed of the entries from a position on.
+    Entries {
+        from: u32,
+    },
 }
 
 /// What one turn of the desk performs.

@@ -5,7 +5,7 @@ use Rattle.http.specs.StatusCode.{reason_phrase}
 use Rattle.wire_terms.specs.declared.no_request.Allow.{Allow}
 use Rattle.wire_terms.specs.declared.no_request.Allow.TheVariants as allow
 use Rattle.wire_replies.specs.declared.reply.Form.{Form}
-use Rattle.wire_replies.specs.declared.reply.Form.TheVariants.{Json, Yaml}
+use Rattle.wire_replies.specs.declared.reply.Form.TheVariants.{Json, Octets, Yaml}
 use Rattle.wire_replies.specs.Answers.{Answer}
 
 -- the phrase of a status, as `http` has it (RFC 9110, section 15); of another number there is none
@@ -15,6 +15,7 @@ phrase_of status = unwrap_or (reason_phrase status) []
 abbrev pub type_of : Form → List ℕ
 type_of Json = codes "application/json"
 type_of Yaml = codes "application/yaml"
+type_of Octets = codes "application/octet-stream"
 
 -- the line of the methods that a resource has (RFC 9110, section 10.2.1), where the
 -- answer names them

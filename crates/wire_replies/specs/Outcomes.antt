@@ -6,10 +6,10 @@ use Rattle.record_form.specs.declared.outcome.Outcome.{Outcome}
 use Rattle.record_form.specs.declared.outcome.Outcome.TheVariants.{Defined, Sampled, Changed}
 use Rattle.record_form.specs.declared.outcome.Outcome.TheVariants.{Ticked, ObjectList, ObjectText}
 use Rattle.record_form.specs.declared.outcome.Outcome.TheVariants.{Budgets, Burn, Timeline, Notices}
-use Rattle.record_form.specs.declared.outcome.Outcome.TheVariants.{Refused, ClockRange, DiskFault}
-use Rattle.record_form.specs.declared.outcome.Outcome.TheVariants.{JournalFull, NoMemory}
+use Rattle.record_form.specs.declared.outcome.Outcome.TheVariants.{Feed, Refused, ClockRange}
+use Rattle.record_form.specs.declared.outcome.Outcome.TheVariants.{DiskFault, JournalFull, NoMemory}
 use Rattle.wire_terms.specs.declared.no_request.Allow.TheVariants.{None}
-use Rattle.wire_replies.specs.declared.reply.Form.TheVariants.{Yaml}
+use Rattle.wire_replies.specs.declared.reply.Form.TheVariants.{Octets, Yaml}
 use Rattle.wire_replies.specs.Answers.{Answer, error_data, json, no_memory_answer, object_of, whole}
 use Rattle.wire_replies.specs.Bodies.{budgets_data, burn_data, changed_data, defined_data}
 use Rattle.wire_replies.specs.Bodies.{notices_data, objects_data, sampled_data, ticked_data}
@@ -45,6 +45,7 @@ answer_of (Budgets at budgets entries) = json 200 (budgets_data at budgets entri
 answer_of (Burn at burn den entries num) = json 200 (burn_data at burn den entries num)
 answer_of (Timeline entries intervals state) = json 200 (timeline_data entries intervals state)
 answer_of (Notices entries notices) = json 200 (notices_data entries notices)
+answer_of (Feed feed) = record { status = 200; form = Octets; allow = None; body = feed }
 answer_of (Refused refusal) = json (reply_of refusal).0 (refusal_data refusal)
 answer_of (ClockRange end reading) = json 500 (clock_range_data end reading)
 answer_of DiskFault = json 500 (error_data (codes "disk_fault"))
@@ -66,5 +67,6 @@ is_short (Budgets at budgets entries) = false
 is_short (Burn at burn den entries num) = false
 is_short (Timeline entries intervals state) = false
 is_short (Notices entries notices) = false
+is_short (Feed feed) = false
 is_short (Refused refusal) = false
 is_short NoMemory = false

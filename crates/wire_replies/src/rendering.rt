@@ -3,7 +3,6 @@ ghost use Rattle.std.specs.Prelude.{◌≡◌, ◌⊎◌, IfOk, true, false};
 ghost use Rattle.serde_json.specs.Data.{Data};
 ghost use Rattle.serde_json.specs.Written.{compact_text};
 ghost use Rattle.wire_terms.specs.declared.no_request.Allow.TheVariants.{None};
-ghost use Rattle.wire_replies.specs.declared.reply.Form.TheVariants.{Yaml};
 ghost use Rattle.wire_replies.specs.declared.reply.Reply.TheVariants.{NoMemory};
 ghost use Rattle.wire_replies.specs.Answers.{IsShownBy, in_json, is_small, json, shown_answer};
 ghost use Rattle.wire_replies.specs.Outcomes.{answer_of, is_short};
@@ -54,15 +53,15 @@ fn full(alloc: Global, status: u16, value: Result<Value, AllocError>) -> Reply
     }
 }
 
-/// A reply with an object's text.
-fn object_text(alloc: Global, text: &[u8]) -> Reply
+/// A reply whose body is there already: an object's text, or a feed.
+fn as_it_is(alloc: Global, form: Form, text: &[u8]) -> Reply
     ensures { IsShownBy
-        (record { status = 200; form = Yaml; allow = None; body = text.now }) result }
+        (record { status = 200; form = form; allow = None; body = text.now }) result }
 {
     match Vec::from_slice(alloc, text) {
         Ok(body) => Reply::Full {
             status: 200,
-            form: Form::Yaml,
+            form,
             allow: Allow::None,
             body: Bytes::from_vec(body),
         },
@@ -92,7 +91,7 @@ pub fn render(alloc: Global, value: &Outcome) -> Reply
             entries,
             objects: listed,
         } => full(alloc, 200, objects(alloc, *entries, listed.as_slice())),
-        Outcome::ObjectText(text) => object_text(alloc, text.as_bytes()),
+        Outcome::ObjectText(text) => as_it_is(alloc, Form::Yaml, text.as_bytes()),
         Outcome::Budgets {
             at,
             budgets: rows,
@@ -118,6 +117,7 @@ pub fn render(alloc: Global, value: &Outcome) -> Reply
             entries,
             notices: rows,
         } => full(alloc, 200, notices(alloc, *entries, rows.as_slice())),
+        Outcome::Feed(feed) => as_it_is(alloc, Form::Octets, feed.as_bytes()),
         Outcome::Refused(refusal) => full(alloc, refusal.status(), refusal_value(alloc, refusal)),
         Outcome::ClockRange { end, reading } => small(500, clock_range(*end, *reading)),
         Outcome::DiskFault => disk_fault(),

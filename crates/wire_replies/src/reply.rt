@@ -11,6 +11,8 @@ pub enum Form {
     Json,
     /// `application/yaml`.
     Yaml,
+    /// `application/octet-stream`.
+    Octets,
 }
 
 /// A body of at most 128 bytes: that of any reply to a change that was made, in all its digits.

@@ -28,11 +28,12 @@ fn phrase(status: u16) -> &'static str
 
 fn type_of(form: Form) -> &'static str
     ensures text { result.now ≡ type_of form }
-    ensures short { length result.now ≤ 16 }
+    ensures short { length result.now ≤ 24 }
 {
     match form {
         Form::Json => "application/json",
         Form::Yaml => "application/yaml",
+        Form::Octets => "application/octet-stream",
     }
 }
 

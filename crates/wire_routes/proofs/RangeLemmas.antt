@@ -29,7 +29,7 @@ use Rattle.wire_routes.specs.declared.place.Place.TheVariants as place
 use Rattle.wire_routes.specs.declared.routed.Routed.{Routed}
 use Rattle.wire_routes.specs.declared.routed.Routed.TheVariants as routed
 use Rattle.wire_routes.specs.Exclusions.{exclusion_of}
-use Rattle.wire_routes.specs.Keys.{alerts_keys, budgets_keys, burns_keys}
+use Rattle.wire_routes.specs.Keys.{alerts_keys, budgets_keys, burns_keys, entries_keys}
 use Rattle.wire_routes.specs.Ranges.{IsRequestInRange, IsRoutedInRange}
 use Rattle.wire_routes.specs.Requests.{Answer, IsRoutedAs, answer_at, exclusion_answer}
 use Rattle.wire_routes.specs.Requests.{samples_answer}
@@ -179,6 +179,11 @@ in_range (place.Alerts s n l) Get query body few = keyed _ (alerts_keys query)
 in_range (place.Alerts s n l) Post query body few = tt
 in_range (place.Alerts s n l) Put query body few = tt
 in_range (place.Alerts s n l) Other query body few = tt
+in_range place.Entries Delete query body few = tt
+in_range place.Entries Get query body few = keyed _ (entries_keys query)
+in_range place.Entries Post query body few = tt
+in_range place.Entries Put query body few = tt
+in_range place.Entries Other query body few = tt
 
 pub told : (p : Place) (m : Method) (query : Option (List ℕ)) (body : List ℕ) (r : Routed)
     → length body ≤ MAX_BODY_BYTES

@@ -16,6 +16,7 @@ use Rattle.wire_routes.specs.declared.place.Place.{Place}
 use Rattle.wire_routes.specs.declared.place.Place.TheVariants.{Objects, Object, Zone, Samples}
 use Rattle.wire_routes.specs.declared.place.Place.TheVariants.{Exclusion, Tick, Notices, Take}
 use Rattle.wire_routes.specs.declared.place.Place.TheVariants.{Upgrade, Budgets, Burns, Alerts}
+use Rattle.wire_routes.specs.declared.place.Place.TheVariants.{Entries}
 use Rattle.wire_routes.specs.Cuts.{after_word, cut_at, number32}
 use Rattle.wire_routes.specs.Places.{IsPath}
 use Rattle.wire_routes.specs.Readers.{route_of, fixed_at, object_of, object_at, zone_at}
@@ -119,6 +120,7 @@ there path (Burns s n) (digits, at, legal, number) = ap burns_at at
     ∙ burns_there s digits n legal number
 there path (Alerts s n l) (digits, at, legal, number, named) = ap alerts_at at
     ∙ alerts_there s digits l n legal number named
+there path Entries at = fixed_there (codes "/entries") path Entries at
 
 -- what a reader finds is the path's
 
@@ -247,3 +249,5 @@ back route.Budgets path p h = (let (n, is, at, legal) =
     labelled (codes "/budgets/") path (λ n. Budgets n) p h in subst (IsPath path) is (at, legal))
 back route.Burns path p h = burns_back path p h
 back route.Alerts path p h = alerts_back path p h
+back route.Entries path p h =
+    (let (at, is) = fixed_back (codes "/entries") path Entries p h in subst (IsPath path) is at)

@@ -13,14 +13,15 @@ use Rattle.wire_routes.specs.declared.place.Place.{Place}
 use Rattle.wire_routes.specs.declared.place.Place.TheVariants.{Objects, Object, Zone, Samples}
 use Rattle.wire_routes.specs.declared.place.Place.TheVariants.{Exclusion, Tick, Notices, Take}
 use Rattle.wire_routes.specs.declared.place.Place.TheVariants.{Upgrade, Budgets, Burns, Alerts}
+use Rattle.wire_routes.specs.declared.place.Place.TheVariants.{Entries}
 use Rattle.wire_routes.specs.Laws.{OneAnswer, SomeAnswer}
 use Rattle.wire_routes.specs.Places.{Finds, IsPath}
 use Rattle.wire_routes.specs.Readers.{place_by, route_of}
 use Rattle.wire_routes.specs.Requests.{answer_of}
 use Rattle.wire_routes.specs.Table.{table, alerts_route, budgets_route, burns_route}
-use Rattle.wire_routes.specs.Table.{exclusion_route, notices_route, object_route, objects_route}
-use Rattle.wire_routes.specs.Table.{samples_route, take_route, tick_route, upgrade_route}
-use Rattle.wire_routes.specs.Table.{zone_route}
+use Rattle.wire_routes.specs.Table.{entries_route, exclusion_route, notices_route, object_route}
+use Rattle.wire_routes.specs.Table.{objects_route, samples_route, take_route, tick_route}
+use Rattle.wire_routes.specs.Table.{upgrade_route, zone_route}
 use Rattle.wire_routes.proofs.CutLemmas.{IsPart, digits_part, label_part, word_part, zone_parts}
 use Rattle.wire_routes.proofs.ReaderLemmas.{back, there}
 use Rattle.wire_routes.proofs.SeekLemmas.{seek_last, seek_literal, seek_name, seek_rest}
@@ -93,6 +94,10 @@ first_notices = refl
 first_upgrade : first table (codes "/upgrade") ≡ Some upgrade_route.1
 unfolding matchit_on_literals
 first_upgrade = refl
+
+first_entries : first table (codes "/entries") ≡ Some entries_route.1
+unfolding matchit_on_literals
+first_entries = refl
 
 kind_part : (k : Kind) → IsPart (kind_word k)
 kind_part kinds.DataSource = word_part _ refl refl
@@ -170,6 +175,7 @@ located path (Alerts s n l) (digits, at, legal, number, named) = (
       (digits_part digits n number) (label_part l named),
   refl,
 )
+located path Entries at = (entries_route.1, ap (first table) at ∙ first_entries, refl)
 
 same_route : (s r : RouteOf Route) → Some s ≡ Some r → s ≡ r
 same_route s r e = cc e

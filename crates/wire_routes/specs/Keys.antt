@@ -1,4 +1,4 @@
--- The keys of the routes: `at`, `from` and `to` are minutes below 2^32, `lookback` is a duration.
+-- The keys of the routes: `at`, `from` and `to` are numbers below 2^32, `lookback` is a duration.
 use Rattle.std.specs.Prelude.{ℕ, List, Option, Some, None, option_map, option_and_then, codes}
 use Rattle.std.specs.Result.{result_ok}
 use Rattle.slo_duration.specs.declared.duration.Duration.{Duration}
@@ -37,3 +37,8 @@ stretch_of from to = option_and_then (λ f. option_map (λ t. (f, t)) (option_an
 abbrev pub alerts_keys : Option (List ℕ) → Option (ℕ × ℕ)
 alerts_keys query =
     option_and_then (λ p. stretch_of p.0 p.1) (key_values query (codes "from") (codes "to"))
+
+-- the key `from` of a feed, a position, which is needed
+abbrev pub entries_keys : Option (List ℕ) → Option ℕ
+entries_keys query = option_and_then (λ p. option_and_then number32 p.0)
+    (key_values query (codes "from") (codes "from"))

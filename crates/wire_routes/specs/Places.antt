@@ -8,6 +8,7 @@ use Rattle.wire_routes.specs.declared.place.Place.{Place}
 use Rattle.wire_routes.specs.declared.place.Place.TheVariants.{Objects, Object, Zone, Samples}
 use Rattle.wire_routes.specs.declared.place.Place.TheVariants.{Exclusion, Tick, Notices, Take}
 use Rattle.wire_routes.specs.declared.place.Place.TheVariants.{Upgrade, Budgets, Burns, Alerts}
+use Rattle.wire_routes.specs.declared.place.Place.TheVariants.{Entries}
 
 -- the path is the place's, slashes (47) and all
 abbrev pub IsPath : List ℕ → Place → Type 0
@@ -29,6 +30,7 @@ IsPath path (Burns slo objective) =
 IsPath path (Alerts slo objective policy) =
     (digits : List ℕ) × (path ≡ codes "/alerts/" ++ (slo ++ 47 ∷ (digits ++ 47 ∷ policy)))
     × (is_label slo ≡ true) × (number32 digits ≡ Some objective) × (is_label policy ≡ true)
+IsPath path Entries = path ≡ codes "/entries"
 
 -- the place that the path names, or that it names none
 abbrev pub Finds : List ℕ → Option Place → Type 0

@@ -9,6 +9,7 @@ use Rattle.wire_routes.specs.declared.place.Place.{Place}
 use Rattle.wire_routes.specs.declared.place.Place.TheVariants.{Objects, Object, Zone, Samples}
 use Rattle.wire_routes.specs.declared.place.Place.TheVariants.{Exclusion, Tick, Notices, Take}
 use Rattle.wire_routes.specs.declared.place.Place.TheVariants.{Upgrade, Budgets, Burns, Alerts}
+use Rattle.wire_routes.specs.declared.place.Place.TheVariants.{Entries}
 use Rattle.wire_routes.specs.declared.place.Route.{Route}
 use Rattle.wire_routes.specs.declared.place.Route.TheVariants as route
 
@@ -26,6 +27,7 @@ route_of Upgrade = route.Upgrade
 route_of (Budgets slo) = route.Budgets
 route_of (Burns slo objective) = route.Burns
 route_of (Alerts slo objective policy) = route.Alerts
+route_of Entries = route.Entries
 
 abbrev pub fixed_at : List ℕ → Place → List ℕ → Option Place
 fixed_at word place path = cond (bytes_eq path word) (Some place) None
@@ -92,3 +94,4 @@ place_by route.Upgrade path = fixed_at (codes "/upgrade") Upgrade path
 place_by route.Budgets path = budgets_at path
 place_by route.Burns path = burns_at path
 place_by route.Alerts path = alerts_at path
+place_by route.Entries path = fixed_at (codes "/entries") Entries path

@@ -21,7 +21,7 @@ use Rattle.wire_routes.specs.declared.place.Place.TheVariants as place
 use Rattle.wire_routes.specs.declared.routed.Routed.{Routed}
 use Rattle.wire_routes.specs.declared.routed.Routed.TheVariants as routed
 use Rattle.wire_routes.specs.Exclusions.{exclusion_of}
-use Rattle.wire_routes.specs.Keys.{alerts_keys, budgets_keys, burns_keys}
+use Rattle.wire_routes.specs.Keys.{alerts_keys, budgets_keys, burns_keys, entries_keys}
 use Rattle.wire_routes.specs.Methods.{method_of}
 use Rattle.wire_routes.specs.Places.{Finds}
 use Rattle.wire_routes.specs.Samples.{samples_of}
@@ -86,6 +86,8 @@ answer_at (place.Burns slo objective) _ query body = Err (no_request.Method allo
 answer_at (place.Alerts slo objective policy) Get query body =
     with_keys (λ k. ask.Timeline slo objective policy k.0 k.1) (alerts_keys query)
 answer_at (place.Alerts slo objective policy) _ query body = Err (no_request.Method allow.Get)
+answer_at place.Entries Get query body = with_keys (λ from. ask.Entries from) (entries_keys query)
+answer_at place.Entries _ query body = Err (no_request.Method allow.Get)
 
 -- a path without a route comes first of all
 abbrev pub answer_of : Option Place → Said → Answer

@@ -6,6 +6,7 @@ use Rattle.wire_routes.specs.declared.place.Route.{Route}
 use Rattle.wire_routes.specs.declared.place.Route.TheVariants.{Objects, Object, Zone, Samples}
 use Rattle.wire_routes.specs.declared.place.Route.TheVariants.{Exclusion, Tick, Notices, Take}
 use Rattle.wire_routes.specs.declared.place.Route.TheVariants.{Upgrade, Budgets, Burns, Alerts}
+use Rattle.wire_routes.specs.declared.place.Route.TheVariants.{Entries}
 
 abbrev pub RouteTable : Type 0
 RouteTable = TableOf (RouteOf Route)
@@ -30,6 +31,9 @@ abbrev pub burns_route : List ℕ × RouteOf Route
 burns_route =
     route_at (codes "/burns/" ++ (param_token ∷ codes "/" ++ (param_token ∷ [])))
     (codes "/burns/{slo}/{objective}") ((8, 11) ∷ (14, 23) ∷ []) Burns
+
+abbrev pub entries_route : List ℕ × RouteOf Route
+entries_route = route_at (codes "/entries") (codes "/entries") [] Entries
 
 abbrev pub exclusion_route : List ℕ × RouteOf Route
 exclusion_route =
@@ -69,5 +73,6 @@ zone_route =
 -- in the order of their patterns, a longer one before what it begins with
 abbrev pub table : RouteTable
 table =
-    alerts_route ∷ budgets_route ∷ burns_route ∷ exclusion_route ∷ take_route ∷ notices_route
-    ∷ object_route ∷ objects_route ∷ samples_route ∷ tick_route ∷ upgrade_route ∷ zone_route ∷ []
+    alerts_route ∷ budgets_route ∷ burns_route ∷ entries_route ∷ exclusion_route ∷ take_route
+    ∷ notices_route ∷ object_route ∷ objects_route ∷ samples_route ∷ tick_route ∷ upgrade_route
+    ∷ zone_route ∷ []

@@ -1,7 +1,7 @@
 //! The keys of the routes that have any.
 ghost use Rattle.std.specs.Prelude.{◌≡◌};
-ghost use Rattle.wire_routes.specs.Keys.{alerts_keys, budgets_keys, burns_keys, lookback_of};
-ghost use Rattle.wire_routes.specs.Keys.{minute_or_none};
+ghost use Rattle.wire_routes.specs.Keys.{alerts_keys, budgets_keys, burns_keys, entries_keys};
+ghost use Rattle.wire_routes.specs.Keys.{lookback_of, minute_or_none};
 ghost use Rattle.wire_routes.specs.Queries.{bytes_of};
 
 use crate::cuts::read_number32;
@@ -55,4 +55,12 @@ pub(crate) fn alerts_keys(query: Option<&[u8]>) -> Option<(u32, u32)>
     let from = read_number32(from?)?;
     let to = read_number32(to?)?;
     Some((from, to))
+}
+
+/// The key `from` of `/entries`; none where the query isn't of that form.
+pub(crate) fn entries_keys(query: Option<&[u8]>) -> Option<u32>
+    ensures { result ≡ entries_keys (bytes_of query.entry) }
+{
+    let (from, _) = read_query(query, b"from", b"from")?;
+    read_number32(from?)
 }

@@ -30,6 +30,8 @@ pub enum Route {
     Burns,
     /// `/alerts/{slo}/{objective}/{policy}`
     Alerts,
+    /// `/entries`
+    Entries,
 }
 
 /// A route's path with the values of its parts.
@@ -65,4 +67,5 @@ pub enum Place {
         objective: u32,
         policy: Label,
     },
+    Entries,
 }

@@ -110,5 +110,6 @@ pub(crate) fn place_by(route: Route, path: &[u8]) -> Option<Place>
         Route::Budgets => budgets_at(path),
         Route::Burns => burns_at(path),
         Route::Alerts => alerts_at(path),
+        Route::Entries => fixed_at(path, b"/entries", Place::Entries),
     }
 }

@@ -15,7 +15,7 @@ ghost use Rattle.wire_routes.specs.Samples.{samples_of};
 
 use crate::exclusion::read_exclusion;
 use crate::find::Routes;
-use crate::keys::{alerts_keys, budgets_keys, burns_keys};
+use crate::keys::{alerts_keys, budgets_keys, burns_keys, entries_keys};
 use crate::method::{Method, method_of};
 use crate::place::Place;
 use crate::routed::Routed;
@@ -250,6 +250,19 @@ fn alerts(slo: Label, objective: u32, policy: Label, method: Method, query: Opti
     }
 }
 
+fn entries(method: Method, query: Option<&[u8]>) -> Routed
+    ensures { (body : List ℕ)
+        → IsRoutedAs (answer_at place.Entries method (bytes_of query.entry) body) result }
+{
+    match method {
+        Method::Get => match entries_keys(query) {
+            Some(from) => Routed::Request(Request::Ask(Query::Entries { from })),
+            None => Routed::NoRequest(NoRequest::Query),
+        },
+        Method::Delete | Method::Post | Method::Put | Method::Other => other_methods(Allow::Get),
+    }
+}
+
 /// What a method asks at a place.
 fn answer_at(
     alloc: Global,
@@ -278,6 +291,7 @@ fn answer_at(
             objective,
             policy,
         } => alerts(*slo, *objective, *policy, method, query),
+        Place::Entries => entries(method, query),
     }
 }
 

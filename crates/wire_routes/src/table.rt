@@ -23,5 +23,6 @@ pub(crate) fn make_router(alloc: Global) -> Result<Router<Route>, InsertError>
     router.insert("/budgets/{slo}", Route::Budgets)?;
     router.insert("/burns/{slo}/{objective}", Route::Burns)?;
     router.insert("/alerts/{slo}/{objective}/{policy}", Route::Alerts)?;
+    router.insert("/entries", Route::Entries)?;
     Ok(router)
 }

@@ -431,6 +431,8 @@ HTTP/1.1 200 OK\r\nContent-Type: application/json\r\n\
 Content-Length: 26\r\nConnection: keep-alive\r\n\r\n{\"entries\":0,\"notices\":[]}\
 HTTP/1.1 200 OK\r\nContent-Type: application/yaml\r\n\
 Content-Length: 8\r\nConnection: close\r\n\r\nspec: {}\
+HTTP/1.1 200 OK\r\nContent-Type: application/octet-stream\r\n\
+Content-Length: 8\r\nConnection: keep-alive\r\n\r\nspec: {}\
 HTTP/1.1 404 Not Found\r\nContent-Type: application/json\r\n\
 Content-Length: 21\r\nConnection: keep-alive\r\n\r\n{\"error\":\"not_found\"}\
 HTTP/1.1 405 Method Not Allowed\r\nContent-Type: application/json\r\n\
@@ -459,6 +461,8 @@ fn replies_are_written_at_once(rt: HostRuntime) {
     );
     let text = Outcome::ObjectText(spec(&rt));
     write(&rt, &mut output, render(rt.alloc(), &text), true);
+    let feed = Outcome::Feed(spec(&rt));
+    write(&rt, &mut output, render(rt.alloc(), &feed), false);
     write(
         &rt,
         &mut output,

@@ -30,7 +30,8 @@ POST /notices/4294967295/take ~  ~ take 4294967295
 POST /upgrade ~ x ~ upgrade
 GET /budgets/shop-slo ~  ~ budgets shop-slo None
 GET /burns/shop-slo/1?lookback=1h ~  ~ burn shop-slo 1 1 Hour None
-GET /alerts/shop-slo/0/fast?from=2&to=9 ~  ~ timeline shop-slo 0 fast 2 9";
+GET /alerts/shop-slo/0/fast?from=2&to=9 ~  ~ timeline shop-slo 0 fast 2 9
+GET /entries?from=007 ~ x ~ entries 7";
 
 const REFUSALS: &str = "\
 GET / ~  ~ NotFound
@@ -47,6 +48,7 @@ PUT /zones/ ~  ~ NotFound
 PUT /zones/a%20b ~  ~ NotFound
 POST /samples/ ~  ~ NotFound
 POST /upgrade/ ~  ~ NotFound
+GET /entries/?from=0 ~  ~ NotFound
 PUT /exclusions/a/b ~  ~ NotFound
 POST /notices/4294967296/take ~  ~ NotFound
 POST /notices/+1/take ~  ~ NotFound
@@ -68,10 +70,14 @@ POST /notices ~  ~ Method(Get)
 GET /notices/1/take ~  ~ Method(Post)
 POST /budgets/shop?at=x ~  ~ Method(Get)
 POST /burns/shop/0 ~  ~ Method(Get)
-DELETE /alerts/shop/0/fast ~  ~ Method(Get)";
+DELETE /alerts/shop/0/fast ~  ~ Method(Get)
+POST /entries ~  ~ Method(Get)";
 
 const QUERIES: &str = "\
 GET /objects? ~  ~ Query
+GET /entries ~  ~ Query
+GET /entries?from=0&at=1 ~  ~ Query
+GET /entries?from=4294967296 ~  ~ Query
 POST /tick?x=1 ~  ~ Query
 POST /upgrade?x ~  ~ Query
 POST /samples?x=1 ~ none ~ Query
@@ -224,6 +230,7 @@ fn query_text(alloc: Global, query: &Query) -> Result<String, AllocError> {
             to,
         } => format!(in alloc; "timeline {slo} {objective} {policy} {from} {to}"),
         Query::Notices => String::from_str(alloc, "notices"),
+        Query::Entries { from } => format!(in alloc; "entries {from}"),
     }
 }
 

@@ -15,3 +15,6 @@ returns-in-Burn-clause-know c = all_know c.args.lines.now.kept
 
 pub returns-in-Notices-clause-know : goal.returns-in-Notices-clause-know
 returns-in-Notices-clause-know c = all_know c.args.lines.now.kept
+
+pub returns-in-Entries-clause-know : goal.returns-in-Entries-clause-know
+returns-in-Entries-clause-know c = all_know c.args.lines.now.kept

@@ -23,3 +23,6 @@ returns-in-Burns c = rw c.in-Burns.is (c.burns.ensures c.args.body.now)
 
 pub returns-in-Alerts : goal.returns-in-Alerts
 returns-in-Alerts c = rw c.in-Alerts.is (c.alerts.ensures c.args.body.now)
+
+pub returns-in-Entries : goal.returns-in-Entries
+returns-in-Entries c = rw c.in-Entries.is (c.entries.ensures c.args.body.now)

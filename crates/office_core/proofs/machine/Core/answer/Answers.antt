@@ -1,5 +1,7 @@
-use Rattle.std.proofs.Common.{◌≤◌, List, subst, sym, arith}
+use Rattle.std.proofs.Common.{◌≡◌, ◌≤◌, ◌⊎◌, List, refl, subst, sym, arith}
 use Rattle.object_terms.specs.declared.Object.{Object}
+use Rattle.record_form.specs.declared.Outcome.TheVariants.{NoMemory}
+use Rattle.office_history.specs.Answers.{Answers}
 use Rattle.office_history.specs.Catalog.{catalog_in}
 use Rattle.office_history.specs.History.{present}
 use Rattle.history_answers.specs.Learning.{KnowsAnswered}
@@ -29,3 +31,10 @@ returns-clause-learnt c =
     c.self.view_is
     (subst (λ (os : List Object). KnowsAnswered os kept c.args.query.now c.answer.result)
     c.self.invariant.reflects.catalog c.answer.ensures.learnt)
+
+pub returns-clause-answer : goal.returns-clause-answer
+returns-clause-answer c =
+    subst (λ (m : Machine). Answers m.office c.args.moment c.args.query.now c.answer.result
+    ⊎ (c.answer.result ≡ NoMemory)) c.self.view_is
+    (c.answer.ensures.answer (office_of c.self.inside.derived c.self.inside.records.history)
+    c.self.invariant.reflects refl)
