@@ -48,7 +48,7 @@ invariant_of-self c =
     c.apply.ensures.reflects in
     kept_next d c.apply.new.derived c.apply.new.lines k.history c.push.new.self.history _ _
     c.take.new.self e r
-    (c.push.ensures e (record { spelled = c.bytes.ensures ∙ c.requires.2; fits = r.fits }))
+    (c.push.ensures.history e (record { spelled = c.bytes.ensures ∙ c.requires.2; fits = r.fits }))
     c.apply.ensures.sound c.apply.ensures.lines c.take.ensures.after
 
 pub returns-clause-office : goal.returns-clause-office
@@ -61,7 +61,7 @@ returns-clause-office c e pending =
     (ap (λ (m : Machine). m.pending) c.self.view_is ∙ pending)
     c.apply.ensures.reflects in
     office_next d c.apply.new.derived k.history c.push.new.self.history e
-    (c.push.ensures e
+    (c.push.ensures.history e
     (record { spelled = c.bytes.ensures ∙ c.requires.2 ∙ ap record_of same; fits = r.fits }))
     r.reflects
     ∙ ap (λ (m : Machine). with_entry m.office e) c.self.view_is
