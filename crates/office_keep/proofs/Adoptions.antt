@@ -1,7 +1,8 @@
 -- What the adopting of an entry comes to.
-use Rattle.std.proofs.Common.{◌≡◌, inl, inr, ℕ, ◌≤◌, nat_lt, cond, Bool, true, false, List, length}
-use Rattle.std.proofs.Common.{Option, Some, None, refl, sym, ap, ◌∙◌, subst, arith}
+use Rattle.std.proofs.Common.{◌≡◌, inl, inr, ℕ, ◌≤◌, nat_lt, cond, Bool, true, false, List, ◌∷◌}
+use Rattle.std.proofs.Common.{[], length, Option, Some, None, refl, sym, ap, ◌∙◌, subst, arith}
 use Rattle.std.specs.List.{AllByRecursion}
+use Rattle.std.specs.Prelude.{IfSome}
 use Rattle.slo_limits.specs.declared.TheConstants.{MAX_JOURNAL_BYTES}
 use Rattle.office_outside.specs.Disk.{LeavesOnly, OnlyNow}
 use Rattle.office_outside.specs.Senses.{DiskSenses}
@@ -24,7 +25,7 @@ use Rattle.office_counter.specs.Steps.{needed_for, place_of, with_made}
 use Rattle.slo_journal.specs.File.{Stands}
 use Rattle.slo_journal.specs.Keeping as keeping
 use Rattle.slo_journal.specs.Keeping.{JournalOn}
-use Rattle.office_keep.specs.Adopting.{AdoptsTo, LeavesAdopting, adopted_by}
+use Rattle.office_keep.specs.Adopting.{AdoptsTo, IsPrepared, LeavesAdopting, adopted_by}
 use Rattle.office_keep.specs.declared.adopting.Adopted.TheVariants as ends
 use Rattle.office_keep.specs.Files.{records}
 use Rattle.office_keep.specs.Steps.{OfficeIsKept, KeepsOffice, Writes, entry_in, fails}
@@ -96,6 +97,13 @@ blames o e outcome place new doubt (fails told at same none) is = told
 blames o e outcome place new doubt (stays_in_doubt told at same some) is = told
 blames o e outcome place new doubt (is_written told at grown none) is =
     blamed o e (nat_lt MAX_JOURNAL_BYTES (needed_for o e)) outcome place told at is
+
+-- what was made ready where it may follow
+pub prepared_as : (o : Office) (e : Entry) (pending : Option Entry) (found : Option (List ℕ))
+    (bytes : List ℕ) → found ≡ Some bytes → IfSome found (IsPrepared o e pending)
+    → IsPrepared o e pending bytes
+prepared_as o e pending found bytes is prepared =
+    subst (λ (x : Option (List ℕ)). IfSome x (IsPrepared o e pending)) is prepared
 
 module _ {D : Type 0} (S : DiskSenses D) where
   -- an office with nothing in doubt keeps its journal
