@@ -3,7 +3,7 @@ use Rattle.std.proofs.Common.{◌≡◌, inl, inr, ℕ, ◌+◌, ◌≤◌, not,
 use Rattle.std.proofs.Common.{true, false}
 use Rattle.std.proofs.Common.{Option, Some, None, Result, Ok, Err, refl, sym, ap, ◌∙◌, arith, take}
 use Rattle.std.proofs.Common.{drop, bytes_eq, length-append}
-use Rattle.std.specs.Prelude.{◌==◌}
+use Rattle.std.specs.Prelude.{◌==◌, IfErr, IfOk}
 use Rattle.std.proofs.lemmas.Bool.{ltb-false}
 use Rattle.std.proofs.lemmas.List.{take-append-le}
 use Rattle.std.proofs.Math.Seq.{drop-append_seam}
@@ -69,6 +69,20 @@ no_head_here o at piece end (Some left) (Some rest) taken long read = inr (inr (
   some_left piece left rest taken.1 long,
   head_is o at piece left rest (Err end) taken.0 taken.1 long read,
 ))
+
+pub heads_read : (o : Office) (at : ℕ) (piece : List ℕ) (old new : Option (List ℕ))
+    (r : Result (ℕ × ℕ) FollowEnd) → IsTaken at 20 piece old new → length piece ≡ 20
+    → r ≡ head_of o at piece → IfOk r (λ head. IsHeadRead o at head old new)
+heads_read o at piece old new (Ok head) taken long read =
+    head_read_here o at piece head old new taken long read
+heads_read o at piece old new (Err end) taken long read = tt
+
+pub heads_lack : (o : Office) (at : ℕ) (piece : List ℕ) (old new : Option (List ℕ))
+    (r : Result (ℕ × ℕ) FollowEnd) → IsTaken at 20 piece old new → length piece ≡ 20
+    → r ≡ head_of o at piece → IfErr r (LacksHead o at old)
+heads_lack o at piece old new (Ok head) taken long read = tt
+heads_lack o at piece old new (Err end) taken long read =
+    no_head_here o at piece end old new taken long read
 
 pub lacks_head : (o : Office) (at : ℕ) (old : Option (List ℕ)) (end : FollowEnd)
     → LacksPiece at 20 old end → LacksHead o at old end

@@ -1,6 +1,7 @@
 -- From one point of following to the next.
-use Rattle.std.proofs.Common.{◌≡◌, inl, inr, ℕ, suc, ◌+◌, ◌≤◌, List, [], length, Option, Some, None}
-use Rattle.std.proofs.Common.{Ok, Err, refl, sym, ap, ◌∙◌, subst, arith, drop, ⊤}
+use Rattle.std.proofs.Common.{◌≡◌, inl, inr, ℕ, suc, ◌+◌, ◌-◌, ◌≤◌, List, [], length, Option, Some}
+use Rattle.std.proofs.Common.{None, Result, Ok, Err, refl, sym, ap, ◌∙◌, subst, arith, drop}
+use Rattle.std.specs.Prelude.{IfErr, IfOk}
 use Rattle.office_outside.specs.Disk.{All, LeavesOnly, OnlyNow}
 use Rattle.office_outside.specs.Faults.{Rose}
 use Rattle.office_outside.specs.Senses.{DiskSenses}
@@ -189,14 +190,28 @@ module _ {D : Type 0} (S : DiskSenses D) where
   leaves_feed one old more position new none g = goes_out one old position new
       (subst (λ (n : ℕ). GoesOn S one old (Inside n position) new) none g)
 
+  -- one entry of those that are left is the next
+  pub goes_next : (one : Place) (old : Point D) (more position : ℕ) (new : Point D) → 1 ≤ more
+      → GoesOn S one old (Inside more position) new
+      → GoesOn S one old (Inside (suc (more - 1)) position) new
+  goes_next one old more position new some g =
+      subst (λ (n : ℕ). GoesOn S one old (Inside n position) new) (omega (arith, some)) g
+
+  pub goes_up : (one : Place) (old : Point D) (more position : ℕ) (new : Point D)
+      → GoesOn S one old (Inside more (suc position)) new
+      → GoesOn S one old (Inside more (position + 1)) new
+  goes_up one old more position new g =
+      subst (λ (n : ℕ). GoesOn S one old (Inside more n) new) (omega arith) g
+
   -- one way after another
   pub goes_then : (one : Place) (a : Point D) (two : Place) (b : Point D) (three : Place)
       (c : Point D) → GoesOn S one a two b → GoesOn S two b three c → GoesOn S one a three c
   goes_then one a two b three c first second = record {
     none = second.none;
     comes = λ last end f. first.comes last end (second.comes last end f);
-    moments = leaves_then first.moments second.moments
-        (λ file left. (left.0, first.comes left.0 ends.NoMemory left.1, left.2));
+    moments = leaves_then first.moments (leaves_weaker second.moments
+        (λ file left. (left.0, first.comes left.0 ends.NoMemory left.1, left.2)))
+        (λ file left. left);
     disk_later = omega (arith, first.disk_later, second.disk_later);
     later = omega (arith, first.later, second.later);
   }
@@ -210,8 +225,9 @@ module _ {D : Type 0} (S : DiskSenses D) where
       → EndsFrom S one a end new faults
   ends_then one a two b end new faults first second = record {
     comes = first.comes new.office end second.comes;
-    moments = leaves_then first.moments second.moments
-        (λ file left. (left.0, first.comes left.0 ends.NoMemory left.1, left.2));
+    moments = leaves_then first.moments (leaves_weaker second.moments
+        (λ file left. (left.0, first.comes left.0 ends.NoMemory left.1, left.2)))
+        (λ file left. left);
     disk_later = omega (arith, first.disk_later, second.disk_later);
     disk_failed = λ is. rose_then (S.faults a.office.disk) (S.faults b.office.disk)
         (S.faults new.disk)
@@ -220,6 +236,22 @@ module _ {D : Type 0} (S : DiskSenses D) where
     later = omega (arith, first.later, second.later);
     failed = λ is. rose_then a.faults b.faults faults first.later (second.failed is);
   }
+
+  -- the same where they may not have come
+  pub goes_then_ok : (one : Place) (a : Point D) (two : Place) (b : Point D) (three : Place)
+      (c : ℕ → Point D) (r : Result ℕ FollowEnd) → GoesOn S one a two b
+      → IfOk r (λ now. GoesOn S two b three (c now)) → IfOk r (λ now. GoesOn S one a three (c now))
+  goes_then_ok one a two b three c (Ok now) first second =
+      goes_then one a two b three (c now) first second
+  goes_then_ok one a two b three c (Err end) first second = tt
+
+  pub ends_then_err : (one : Place) (a : Point D) (two : Place) (b : Point D) (new : OfficeOn D)
+      (faults : ℕ) (r : Result ℕ FollowEnd) → GoesOn S one a two b
+      → IfErr r (λ end. EndsFrom S two b end new faults)
+      → IfErr r (λ end. EndsFrom S one a end new faults)
+  ends_then_err one a two b new faults (Ok now) first second = tt
+  ends_then_err one a two b new faults (Err end) first second =
+      ends_then one a two b end new faults first second
 
   module _ (old new : OfficeOn D) (at count position size : ℕ) (e : Entry)
       (left rest : Option (List ℕ)) (faults now : ℕ)
