@@ -1,7 +1,7 @@
 -- An entry that is read, or isn't.
-use Rattle.std.proofs.Common.{◌≡◌, inl, inr, ℕ, ◌+◌, ◌<◌, ◌≤◌, ◌&&◌, Bool, true, false, cond}
+use Rattle.std.proofs.Common.{◌≡◌, inl, inr, ℕ, ◌+◌, ◌≤◌, ◌&&◌, Bool, true, false, cond}
 use Rattle.std.proofs.Common.{nat_le}
-use Rattle.std.proofs.Common.{List, [], ◌++◌, length, Option, Some, None, Result, Ok, Err}
+use Rattle.std.proofs.Common.{List, [], ◌++◌, length, Option, Some, None, Ok, Err}
 use Rattle.std.proofs.Common.{sym, ap, ◌∙◌, subst, arith, take, drop}
 use Rattle.std.proofs.lemmas.Bool.Decides.{nat_tests}
 use Rattle.std.proofs.Math.Seq.{take-append_seam, drop-append_seam}
@@ -14,7 +14,7 @@ use Rattle.follow_terms.specs.declared.FollowEnd.{FollowEnd}
 use Rattle.follow_terms.specs.declared.FollowEnd.TheVariants as ends
 use Rattle.follow_terms.specs.Pieces.{behind, entry_or, length_read, numeral, piece_end}
 use Rattle.follow_terms.specs.Pieces.{record_read}
-use Rattle.office_follow.specs.Pieces.{EndsEntry, EndsSize, IsEntryRead, IsSizeRead, IsTaken}
+use Rattle.office_follow.specs.Pieces.{EndsEntry, IsEntryRead, IsSizeRead, IsTaken}
 use Rattle.office_follow.specs.Pieces.{IsNoEntry, LacksEntry, LacksPiece, LacksSize}
 use Rattle.office_follow.proofs.PieceLemmas.{numeral_front, piece_cut}
 

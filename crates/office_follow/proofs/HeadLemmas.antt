@@ -1,5 +1,5 @@
 -- A head that is read, or isn't.
-use Rattle.std.proofs.Common.{◌≡◌, inl, inr, ℕ, ◌+◌, ◌≤◌, not, nat_lt, Bool, List, [], ◌++◌, length}
+use Rattle.std.proofs.Common.{◌≡◌, inl, inr, ℕ, ◌≤◌, not, nat_lt, Bool, List, ◌++◌, length}
 use Rattle.std.proofs.Common.{true, false}
 use Rattle.std.proofs.Common.{Option, Some, None, Result, Ok, Err, refl, sym, ap, ◌∙◌, arith, take}
 use Rattle.std.proofs.Common.{drop, bytes_eq, length-append}
@@ -13,7 +13,7 @@ use Rattle.office_history.specs.History.{Office}
 use Rattle.follow_terms.specs.declared.FollowEnd.{FollowEnd}
 use Rattle.follow_terms.specs.declared.FollowEnd.TheVariants as ends
 use Rattle.follow_terms.specs.Pieces.{behind, end_where, head_read, numeral, piece_end}
-use Rattle.office_follow.specs.Heads.{EndsHead, IsHeadRead, LacksHead, head_of}
+use Rattle.office_follow.specs.Heads.{IsHeadRead, LacksHead, head_of}
 use Rattle.office_follow.specs.Pieces.{IsTaken, LacksPiece}
 use Rattle.office_follow.proofs.PieceLemmas.{numeral_front}
 

@@ -1,19 +1,16 @@
 -- Following true feeds, with what a stop leaves.
-use Rattle.std.proofs.Common.{◌≡◌, ℕ, ◌≤◌, List, length, Option, Some, subst, take}
-use Rattle.office_outside.specs.Disk.{LeavesOnly}
+use Rattle.std.proofs.Common.{ℕ, List, Option, subst}
 use Rattle.office_outside.specs.Senses.{DiskSenses}
 use Rattle.office_outside.proofs.Moments.{leaves_weaker}
-use Rattle.record_form.specs.declared.Entry.{Entry}
 use Rattle.office_history.specs.History.{Office}
-use Rattle.office_history.specs.Legal.{IsLegal, office}
 use Rattle.office_keep.specs.Files.{StandsFor}
 use Rattle.office_keep.specs.Office.{OfficeOn}
 use Rattle.follow_terms.specs.declared.FollowEnd.{FollowEnd}
 use Rattle.follow_terms.specs.declared.FollowEnd.TheVariants as ends
 use Rattle.follow_terms.specs.Follows.{Between, Follows}
-use Rattle.follow_terms.specs.Prefixes.{Asked, AreFeedsOf, furthest}
-use Rattle.follow_laws.specs.Laws.{HasFollowed, IsKeepable, LeadsToTheHistory}
-use Rattle.office_follow.specs.Followed.{IsLedTo, LeadsTo, StandsForFront}
+use Rattle.follow_terms.specs.Prefixes.{furthest}
+use Rattle.follow_laws.specs.Laws.{HasFollowed, LeadsToTheHistory}
+use Rattle.office_follow.specs.Followed.{LeadsTo, StandsForFront}
 use Rattle.office_follow.specs.Points.{EndsFrom, FollowsWhere, LeavesFollowed, point}
 
 module _ {D : Type 0} (S : DiskSenses D) where

@@ -1,7 +1,7 @@
 -- What becomes of an entry at its position.
 use Rattle.std.proofs.Common.{◌≡◌, inl, inr, ℕ, zero, suc, ◌≤◌, List, [], ◌∷◌, length, Option, Some}
 use Rattle.std.proofs.Common.{None}
-use Rattle.std.proofs.Common.{Result, Ok, Err, refl, sym, ap, ◌∙◌, subst, arith, ◌++◌}
+use Rattle.std.proofs.Common.{Result, Ok, Err, refl, sym, ap, ◌∙◌, subst, arith}
 use Rattle.std.proofs.Common.{length-append}
 use Rattle.std.specs.Prelude.{option_map, slice_get, IfErr, OnOk, ◌+◌}
 use Rattle.office_outside.specs.Disk.{All, LeavesOnly, OnlyNow}
@@ -9,8 +9,7 @@ use Rattle.office_outside.specs.Senses.{DiskSenses}
 use Rattle.office_outside.proofs.Moments.{leaves_still, leaves_weaker}
 use Rattle.record_form.specs.declared.Entry.{Entry}
 use Rattle.record_form.specs.Records.{record_of}
-use Rattle.office_history.specs.History.{Office, with_entry}
-use Rattle.office_history.specs.Legal.{MayFollow}
+use Rattle.office_history.specs.History.{Office}
 use Rattle.office_keep.specs.declared.Adopted.{Adopted}
 use Rattle.office_keep.specs.declared.Adopted.TheVariants as adopted
 use Rattle.office_keep.specs.Adopting.{AdoptsTo, LeavesAdopting}

@@ -1,6 +1,6 @@
 -- From one point of following to the next.
-use Rattle.std.proofs.Common.{◌≡◌, inl, inr, ℕ, suc, ◌+◌, ◌-◌, ◌≤◌, List, [], length, Option, Some}
-use Rattle.std.proofs.Common.{None, Result, Ok, Err, refl, sym, ap, ◌∙◌, subst, arith, drop}
+use Rattle.std.proofs.Common.{◌≡◌, inl, inr, ℕ, suc, ◌+◌, ◌-◌, ◌≤◌, List, length, Option, Some}
+use Rattle.std.proofs.Common.{None, Result, Ok, Err, refl, sym, subst, arith}
 use Rattle.std.specs.Prelude.{IfErr, IfOk}
 use Rattle.office_outside.specs.Disk.{All, LeavesOnly, OnlyNow}
 use Rattle.office_outside.specs.Faults.{Rose}
@@ -9,7 +9,6 @@ use Rattle.office_outside.proofs.Moments.{leaves_still, leaves_then, leaves_weak
 use Rattle.record_form.specs.declared.Entry.{Entry}
 use Rattle.office_history.specs.History.{Office, with_entry}
 use Rattle.office_history.specs.Legal.{MayFollow}
-use Rattle.office_keep.specs.Files.{StandsFor}
 use Rattle.office_keep.specs.Office.{OfficeOn, StandsSettled}
 use Rattle.follow_terms.specs.declared.FollowEnd.{FollowEnd}
 use Rattle.follow_terms.specs.declared.FollowEnd.TheVariants as ends
@@ -17,8 +16,8 @@ use Rattle.follow_terms.specs.Follows.{Place, Between, Inside, Follows, IsOutsid
 use Rattle.follow_terms.specs.Follows.{disk_ends}
 use Rattle.follow_terms.specs.Follows.{done, feed_ends, head_ends, head_passes, illegal, is_held}
 use Rattle.follow_terms.specs.Follows.{length_ends, no_memory, outside, record_ends, taken}
-use Rattle.office_follow.specs.Heads.{EndsHead, IsHeadRead, LacksHead}
-use Rattle.office_follow.specs.Pieces.{EndsEntry, IsEntryRead, LacksEntry}
+use Rattle.office_follow.specs.Heads.{IsHeadRead, LacksHead}
+use Rattle.office_follow.specs.Pieces.{IsEntryRead, LacksEntry}
 use Rattle.office_follow.specs.Points.{EndsFrom, FollowsFrom, FollowsWhere, GoesOn, IsOut, IsThere}
 use Rattle.office_follow.specs.Points.{LeavesFollowed, LeavesPlacing, Point, by_outside, may_not}
 use Rattle.office_follow.specs.Points.{not_kept, other_held, point, was_held, was_taken}

@@ -1,6 +1,6 @@
-use Rattle.std.proofs.Common.{ℕ, suc, ◌+◌, ◌-◌, arith, subst}
+use Rattle.std.proofs.Common.{suc, ◌-◌, arith}
 use Rattle.follow_terms.specs.Follows.{Inside}
-use Rattle.office_follow.specs.Points.{GoesOn, point}
+use Rattle.office_follow.specs.Points.{point}
 use Rattle.office_follow.proofs.PointLemmas.{ends_then, goes_next, goes_still, goes_then, goes_up}
 use Rattle.office_follow.proofs.PointLemmas.{leaves_feed}
 use Rattle.office_follow.proofs.entries.follow_entries.Goals as goal

@@ -1,4 +1,4 @@
-use Rattle.std.proofs.Common.{◌≡◌, ◌≤◌, ◌+◌, length, None}
+use Rattle.std.proofs.Common.{◌≤◌, length}
 use Rattle.entry_records.specs.declared.limits.TheConstants.{MAX_FEEDS_BYTES}
 use Rattle.follow_terms.specs.Follows.{Inside}
 use Rattle.office_follow.specs.Points.{GoesOn, point}

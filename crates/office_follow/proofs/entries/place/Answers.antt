@@ -1,4 +1,4 @@
-use Rattle.std.proofs.Common.{◌≡◌, sym, ap, ◌∙◌, refl, arith, Option, None, List, ℕ, length}
+use Rattle.std.proofs.Common.{sym, ap, ◌∙◌, refl, arith}
 use Rattle.std.specs.Prelude.{option_map, slice_get}
 use Rattle.std.proofs.lemmas.Slice.Eq.{bytes_eq-Decides}
 use Rattle.record_form.specs.Records.{record_of}

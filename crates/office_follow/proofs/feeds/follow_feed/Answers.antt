@@ -1,4 +1,4 @@
-use Rattle.std.proofs.Common.{Err, ◌≡◌, ℕ, ◌+◌, ap, ◌∙◌, subst}
+use Rattle.std.proofs.Common.{Err, ℕ, ◌+◌, ap, ◌∙◌, subst}
 use Rattle.office_history.specs.History.{Office}
 use Rattle.follow_terms.specs.Follows.{Between, Inside}
 use Rattle.office_follow.specs.Heads.{IsHeadRead, LacksHead}
