@@ -43,7 +43,7 @@ use Rattle.office_history.specs.Objectives.{measure_at, measure_of, measures_nam
 use Rattle.office_history.specs.Objectives.{measures_with, reading_named, slo_named}
 use Rattle.office_history.specs.Windows.{BeginsBy, BeginsIn, WindowBegins}
 use Rattle.office_history.specs.Zones.{bytes_named, utc, zone_named, zones_in}
-use Rattle.export_laws.specs.Alike.{AsksNoNotices, SameAnswers, with_entries}
+use Rattle.export_laws.specs.Alike.{AsksWhatIsSent, SameAnswers, with_entries}
 use Rattle.export_laws.specs.Replay.{IsEqualOffice}
 use Rattle.export_laws.proofs.Again.{same_alerts, same_states, same_sums}
 
@@ -275,7 +275,7 @@ module _ (a b : Office) (e : AreAlike a b) where
   object_plain None = refl
   object_plain (Some o) = refl
 
-  pub answers_alike : (moment : ℕ) (query : Query) (outcome : Outcome) → AsksNoNotices query
+  pub answers_alike : (moment : ℕ) (query : Query) (outcome : Outcome) → AsksWhatIsSent query
       → Answers a moment query outcome → Answers b moment query (with_entries entries outcome)
   answers_alike moment queries.Objects outcome asks h =
       ap (with_entries entries) h
@@ -300,6 +300,7 @@ module _ (a b : Office) (e : AreAlike a b) where
       (with_entries entries outcome)) (sym e.catalog)
       (timeline_alike moment from to (watched here binding) outcome (watch_there here binding) h)
   answers_alike moment queries.Notices outcome asks h = absurd asks
+  answers_alike moment (queries.Entries from) outcome asks h = absurd asks
 
 pub same_answers : SameAnswers
 same_answers old new moment query outcome e asks = (

@@ -46,15 +46,16 @@ with_entries n (Burn at burn den entries num) = Burn at burn den n num
 with_entries n (Timeline entries intervals state) = Timeline n intervals state
 with_entries n outcome = outcome
 
--- notices aren't sent
-abbrev pub AsksNoNotices : Query → Type 0
-AsksNoNotices queries.Notices = ⊥
-AsksNoNotices _ = Unit {0}
+-- notices aren't sent, and the entries are others
+abbrev pub AsksWhatIsSent : Query → Type 0
+AsksWhatIsSent queries.Notices = ⊥
+AsksWhatIsSent (queries.Entries from) = ⊥
+AsksWhatIsSent _ = Unit {0}
 
 -- an equal office answers each other query alike, but for the count of its entries
 abbrev pub SameAnswers : Type 0
 SameAnswers = (old new : Office) (moment : ℕ) (query : Query) (outcome : Outcome)
-    → IsEqualOffice old new → AsksNoNotices query
+    → IsEqualOffice old new → AsksWhatIsSent query
     → (Answers old moment query outcome
     → Answers new moment query (with_entries (length new.history) outcome))
     × (Answers new moment query outcome
