@@ -13,8 +13,7 @@ with_lengths [] rest = rest
 with_lengths (r ∷ rs) rest = to_be_bytes w32 (length r) ++ (r ++ with_lengths rs rest)
 
 -- A feed, and what follows it: the mark, and in four bytes each the office's origin, the position
--- of
--- the first record in the history, and how many records there are; then the records.
+-- of the first record in the history, and how many records there are; then the records.
 abbrev pub feed_text : ℕ → ℕ → List (List ℕ) → List ℕ → List ℕ
 feed_text origin first records rest = feed_mark ++ (to_be_bytes w32 origin
     ++ (to_be_bytes w32 first ++ (to_be_bytes w32 (length records) ++ with_lengths records rest)))

@@ -73,8 +73,7 @@ pub data Follows : Place → Office → ℕ → List ℕ → Office → FollowEn
       → Follows (Inside (suc count) position) o at left last end
 
 -- The input, read as feeds of an office of this origin from a place on, says at a position the
--- record
--- of that entry.
+-- record of that entry.
 pub data Says (origin : ℕ) : Place → List ℕ → ℕ → Entry → Type 0 where
   from_head : {left : List ℕ} {position : ℕ} {e : Entry} → take 8 left ≡ feed_mark
       → numeral 8 left ≡ origin

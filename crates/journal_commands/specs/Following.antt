@@ -29,8 +29,7 @@ follow_world disk left reads held =
     record { disk = disk; left = left; reads = reads; held = held }
 
 -- How the end of following is told: where all was followed, by a line on the output, or a part of
--- it
--- where the output failed; else by nothing there.
+-- it where the output failed; else by nothing there.
 abbrev pub TellsEnd : FollowEnd → ℕ → FollowingEnd → Option (List ℕ) → Option (List ℕ) → Type 0
 TellsEnd end entries ends.Done old new =
     (end ≡ follow_ends.Done) × Gained (entries_line entries) old new
@@ -53,8 +52,7 @@ pub record EndsOverOffice {D : Type 0} (S : DiskSenses D) (office : OfficeOn D)
   pub handed_back : new.disk ≡ last.disk
 
 -- What each end says: the input was followed over the office that was opened, or nothing was
--- touched
--- but the disk, on which no image came up.
+-- touched but the disk, on which no image came up.
 abbrev pub EndsFollowing : {D : Type 0} → DiskSenses D → FollowingEnd → FollowWorld D
     → FollowWorld D → Type 0
 EndsFollowing S (ends.Unopened why) old new = IsFoundOn S why old.disk

@@ -114,8 +114,9 @@ pub fn follow_journal<D: Disk + Drop, S: Source, K: Sink>(
         (follow_world result.1 (S.left input.new) (S.faults input.new) (K.held output.new)) }
     ensures untouched { (why : KeepFault) → result.0 ≡ FollowingEnd.Unopened why
         → (input.new ≡ input.old) × (output.new ≡ output.old) }
-    ensures disk { (result.0 ≡ FollowingEnd.Stopped follow_ends.DiskFault)
-        ⊎ (result.0 ≡ FollowingEnd.Unopened KeepFault.DiskFault)
+    ensures disk { result.0 ≡ FollowingEnd.Stopped follow_ends.DiskFault
+        → RoseBy D.senses.faults disk result.1 }
+    ensures unopened { result.0 ≡ FollowingEnd.Unopened KeepFault.DiskFault
         → RoseBy D.senses.faults disk result.1 }
     ensures read { result.0 ≡ FollowingEnd.Stopped follow_ends.ReadFault
         → RoseBy S.faults input.old input.new }

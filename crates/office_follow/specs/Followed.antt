@@ -13,8 +13,7 @@ use Rattle.follow_laws.specs.Laws.{HasFollowed, IsKeepable}
 use Rattle.office_follow.specs.Points.{EndsFrom, point}
 
 -- An office followed an input from its start to this end; the images of its disk stand for it, or
--- for
--- it with the entry in doubt, and its history is legal.
+-- for it with the entry in doubt, and its history is legal.
 pub record HasFollowedInput {D : Type 0} (S : DiskSenses D) (old : OfficeOn D)
     (left : Option (List ℕ)) (faults : ℕ) (end : FollowEnd) (new : OfficeOn D) (now : ℕ)
     : Type 0 where

@@ -44,8 +44,7 @@ LeavesFollowed place p file =
     (o : Office) × FollowsFrom place p o ends.NoMemory × StandsFor o file
 
 -- From one point it went on to another, with nothing in doubt: what following comes to from there
--- on
--- it comes to from the first one on, and so a stop meanwhile left.
+-- on it comes to from the first one on, and so a stop meanwhile left.
 pub record GoesOn {D : Type 0} (S : DiskSenses D) (one : Place) (old : Point D) (two : Place)
     (new : Point D) : Type 0 where
   pub none : new.office.doubt ≡ None

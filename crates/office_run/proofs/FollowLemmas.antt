@@ -1,6 +1,6 @@
 -- What the statuses of `follow` say.
 use Rattle.std.proofs.Common.{◌≡◌, ◌⊎◌, inl, inr, ℕ, zero, suc, ◌≤◌, List, [], ◌∷◌, length, take}
-use Rattle.std.proofs.Common.{Option, Some, None, refl, sym, ap, ◌∙◌, subst, arith}
+use Rattle.std.proofs.Common.{Option, Some, refl, sym, ap, ◌∙◌, subst, arith}
 use Rattle.std.specs.List.{AllByRecursion}
 use Rattle.office_outside.specs.Disk.{All, IsQuiet, LeavesOnly}
 use Rattle.office_outside.specs.Senses.{DiskSenses}
@@ -10,7 +10,7 @@ use Rattle.office_history.specs.History.{Office}
 use Rattle.office_history.specs.Legal.{office}
 use Rattle.office_keep.specs.Files.{StandsFor}
 use Rattle.office_keep.specs.Laws.{OneHistory}
-use Rattle.office_keep.specs.Office.{OfficeOn, StandsSettled}
+use Rattle.office_keep.specs.Office.{OfficeOn}
 use Rattle.office_keep.specs.Opening.{IsBad, Opens}
 use Rattle.follow_terms.specs.declared.FollowEnd.{FollowEnd}
 use Rattle.follow_terms.specs.declared.FollowEnd.TheVariants as follow
@@ -19,6 +19,7 @@ use Rattle.office_follow.specs.Followed.{StandsForFront}
 use Rattle.journal_commands.specs.Following.{EndsFollowing, EndsOverOffice, FollowWorld}
 use Rattle.journal_commands.specs.declared.FollowingEnd.{FollowingEnd}
 use Rattle.journal_commands.specs.declared.FollowingEnd.TheVariants as ends
+use Rattle.journal_commands.proofs.Sessions.{as_opened}
 use Rattle.office_run.specs.Follow.{LeadsRun, LeavesFronts, SettledFollow, SettledStop}
 use Rattle.office_run.specs.declared.ending.TheConstants.{BAD_FILE, DONE}
 use Rattle.office_run.proofs.StatusLemmas.{unopened_bad, unopened_not_done}
@@ -96,14 +97,6 @@ fitting_front zero (e ∷ g) all = tt
 fitting_front (suc n) [] all = tt
 fitting_front (suc n) (e ∷ g) all = (all.0, fitting_front n g all.1)
 
--- with nothing in doubt each image stands for the office
-settled_stands : {D : Type 0} (S : DiskSenses D) (o : Office) (doubt : Option Entry) (disk : D)
-    → doubt ≡ None → All (StandsSettled o doubt) (S.images disk)
-    → All (StandsFor o) (S.images disk)
-settled_stands S o None disk none all = λ file image.
-    let s = all file image in subst (λ (p : Office). StandsFor p file) s.1 s.2
-settled_stands S o (Some e) disk none all = absurd cc
-
 module _ (law : OneHistory) (status : ℕ) (said told : Option (List ℕ)) (before now : ℕ) where
   -- over the office that was opened
   fronts : {D : Type 0} (S : DiskSenses D) (first last : FollowWorld D) (end : FollowingEnd)
@@ -131,8 +124,7 @@ module _ (law : OneHistory) (status : ℕ) (said told : Option (List ℕ)) (befo
             subst (λ d. All (StandsFor (office origin (take (furthest g n asked) g))) (S.images d))
             (sym over.handed_back)
             (subst (λ (p : Office). All (StandsFor p) (S.images over.last.disk)) same
-            (settled_stands S over.last.office over.last.doubt over.last.disk clear
-            over.followed.stands));
+            (as_opened S over.last clear over.followed.stands));
       })
 
   pub follow_leads : {D : Type 0} (S : DiskSenses D) (first last : FollowWorld D)

@@ -1,6 +1,6 @@
 use Rattle.std.proofs.Common.{refl}
 use Rattle.journal_commands.specs.Following.{follow_world}
-use Rattle.journal_commands.proofs.Following.{ends_opened}
+use Rattle.journal_commands.proofs.Following.{ends_opened, was_opened}
 use Rattle.journal_commands.proofs.following.follow_journal.Goals as goal
 
 pub returns-in-Ok-clause-ends : goal.returns-in-Ok-clause-ends
@@ -23,3 +23,14 @@ returns-in-Ok-clause-ends g c =
 pub returns-in-Err-clause-ends : goal.returns-in-Err-clause-ends
 returns-in-Err-clause-ends g c =
     (c.in-Err.ensures.found, c.in-Err.ensures.quiet_err, refl, refl)
+
+-- over an office that was opened it doesn't end unopened
+pub returns-in-Ok-clause-untouched : goal.returns-in-Ok-clause-untouched
+returns-in-Ok-clause-untouched g c = λ why is.
+    absurd (was_opened g.D.Disk.senses c.follow_over.result.0 _ _ c.in-Ok.office why
+    c.follow_over.ensures.ends is)
+
+pub returns-in-Ok-clause-unopened : goal.returns-in-Ok-clause-unopened
+returns-in-Ok-clause-unopened g c = λ is.
+    absurd (was_opened g.D.Disk.senses c.follow_over.result.0 _ _ c.in-Ok.office _
+    c.follow_over.ensures.ends is)
