@@ -151,6 +151,11 @@ pending_send = search (work_send, lines_plan_send, sendable, crosses) depth 40 f
 
 pub core_send : IsSend core.the_row
 core_send =
-    search (records.the_send, pending_send, derived_send, lines.the_send, sendable, crosses) depth
-    40
-    fits 100000
+    search (
+      records.the_send,
+      pending_send,
+      derived_send,
+      lines.the_send,
+      sendable,
+      crosses,
+    ) depth 40 fits 100000
