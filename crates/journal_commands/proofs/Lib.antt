@@ -1,3 +1,3 @@
 pub mod Sessions
 pub mod Upgrading
-mod Following
+pub mod FollowEnds

@@ -1,6 +1,6 @@
 use Rattle.std.proofs.Common.{refl}
 use Rattle.journal_commands.specs.Following.{follow_world}
-use Rattle.journal_commands.proofs.Following.{ends_opened, was_opened}
+use Rattle.journal_commands.proofs.FollowEnds.{ends_opened, was_opened}
 use Rattle.journal_commands.proofs.following.follow_journal.Goals as goal
 
 pub returns-in-Ok-clause-ends : goal.returns-in-Ok-clause-ends

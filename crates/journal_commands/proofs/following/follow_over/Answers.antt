@@ -1,7 +1,7 @@
 use Rattle.std.proofs.Common.{ℕ, subst, sym}
 use Rattle.office_outside.specs.Faults.{RoseBy}
 use Rattle.journal_commands.specs.Following.{TellsEnd}
-use Rattle.journal_commands.proofs.Following.{came_so}
+use Rattle.journal_commands.proofs.FollowEnds.{came_so}
 use Rattle.journal_commands.proofs.following.follow_over.Goals as goal
 
 pub returns-clause-ends : goal.returns-clause-ends

@@ -1,7 +1,7 @@
 use Rattle.std.proofs.Common.{ap, subst, sym}
 use Rattle.follow_terms.specs.declared.FollowEnd.{FollowEnd}
 use Rattle.journal_commands.specs.Following.{TellsEnd}
-use Rattle.journal_commands.proofs.Following.{told_entries}
+use Rattle.journal_commands.proofs.FollowEnds.{told_entries}
 use Rattle.journal_commands.proofs.following.tell_end.Goals as goal
 
 pub returns-in-Done-clause-tells : goal.returns-in-Done-clause-tells
