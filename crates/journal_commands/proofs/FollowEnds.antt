@@ -40,8 +40,8 @@ module _ {D : Type 0} (S : DiskSenses D) (end : FollowingEnd) (old new : FollowW
   pub was_opened : (o : OfficeOn D) (why : KeepFault) → EndsOverOffice S o end old new
       → end ≡ ends.Unopened why → ⊥
   was_opened o why over is =
-      subst (λ (t : FollowingEnd). TellsEnd over.came_to (length over.last.office.history) t old.held
-      new.held) is over.told
+      subst (λ (t : FollowingEnd).
+      TellsEnd over.came_to (length over.last.office.history) t old.held new.held) is over.told
 
 pub ends_opened : {D : Type 0} (S : DiskSenses D) (end : FollowingEnd) (old new : FollowWorld D)
     → Opens S (λ office. EndsOverOffice S office end old new) old.disk
