@@ -1,7 +1,7 @@
 -- Records at their places.
 use Rattle.std.proofs.Common.{◌≡◌, ℕ, zero, suc, ◌+◌, ◌-◌, ◌≤◌, ◌<◌, List, [], ◌∷◌, ◌++◌, length}
 use Rattle.std.proofs.Common.{take}
-use Rattle.std.proofs.Common.{drop, Option, Some, None, refl, sym, ap, subst, ◌∙◌, append_assoc}
+use Rattle.std.proofs.Common.{drop, Some, None, refl, sym, ap, subst, ◌∙◌, append_assoc}
 use Rattle.std.proofs.Common.{arith}
 use Rattle.std.proofs.Common.{length-append}
 use Rattle.std.specs.Prelude.{slice_get, slice_index, option_map}
@@ -9,12 +9,11 @@ use Rattle.std.proofs.Math.Seq.{take-append_seam, drop-append-add}
 use Rattle.std.proofs.lemmas.List.{append-nil}
 use Rattle.std.proofs.Common.{map}
 use Rattle.std.proofs.lemmas.List.{length-map, map-append}
-use Rattle.std.specs.List.{AllByRecursion}
 use Rattle.record_form.specs.declared.Entry.{Entry}
 use Rattle.record_form.specs.Records.{record_of}
-use Rattle.record_form.specs.Ranges.{FitsRecord, IsRecord}
+use Rattle.record_form.specs.Ranges.{IsRecord}
 use Rattle.record_form.specs.Histories.{AreRecords, history_of}
-use Rattle.record_form.specs.Laws.{OneRecordMore, RecordsHaveSizes, NoBytesAreNoHistory}
+use Rattle.record_form.specs.Laws.{OneRecordMore, RecordsHaveSizes}
 use Rattle.entry_records.specs.Kept.{joined, ends_from, start_of, Holds, IsAt, IsKept, records_in}
 
 -- one record more behind the others

@@ -1,10 +1,10 @@
 -- What goes into a feed.
-use Rattle.std.proofs.Common.{◌≡◌, ℕ, suc, ◌+◌, ◌-◌, ◌<◌, ◌≤◌, Bool, true, false, cond, nat_lt}
+use Rattle.std.proofs.Common.{◌≡◌, ℕ, ◌+◌, ◌-◌, ◌≤◌, Bool, true, false, cond, nat_lt}
 use Rattle.std.proofs.Common.{List}
-use Rattle.std.proofs.Common.{[], ◌∷◌, ◌++◌, length, refl, sym, ap, ◌∙◌, arith}
+use Rattle.std.proofs.Common.{[], ◌∷◌, ◌++◌, length, refl, ap, arith}
 use Rattle.std.proofs.lemmas.Bool.{ltb-false, ltb-true}
 use Rattle.entry_records.specs.declared.limits.TheConstants.{MAX_FEED_BYTES}
-use Rattle.entry_records.specs.Feeds.{that_fit, fed, room_behind}
+use Rattle.entry_records.specs.Feeds.{that_fit, room_behind}
 use Rattle.entry_records.specs.Laws.{GoIntoFeed, FedAreMost, IsTooMuch, sized}
 
 -- those that fit into a room

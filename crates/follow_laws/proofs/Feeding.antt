@@ -1,9 +1,9 @@
 -- True feeds.
-use Rattle.std.proofs.Common.{◌≡◌, ℕ, zero, suc, ◌+◌, ◌<◌, ◌≤◌, max, List, [], ◌∷◌, ◌++◌, length}
+use Rattle.std.proofs.Common.{◌≡◌, ℕ, zero, suc, ◌+◌, ◌≤◌, max, List, [], ◌∷◌, ◌++◌, length}
 use Rattle.std.proofs.Common.{refl}
 use Rattle.std.proofs.Common.{sym, ap, ◌∙◌, subst, arith, drop, take, Some, map, length-append}
-use Rattle.std.proofs.Common.{append_assoc, append-nil}
-use Rattle.std.specs.Prelude.{slice_get, ◌^◌}
+use Rattle.std.proofs.Common.{append_assoc}
+use Rattle.std.specs.Prelude.{slice_get}
 use Rattle.std.specs.Int.{w32, to_be_bytes}
 use Rattle.std.specs.List.{AllByRecursion}
 use Rattle.std.proofs.lemmas.List.{take-append-drop}
@@ -12,15 +12,14 @@ use Rattle.record_form.specs.declared.Entry.{Entry}
 use Rattle.record_form.specs.Records.{record_of}
 use Rattle.record_form.specs.Ranges.{FitsRecord}
 use Rattle.record_form.specs.Laws.{EntriesAreReadBack, RecordsHaveSizes}
-use Rattle.office_history.specs.History.{Office, with_entry}
+use Rattle.office_history.specs.History.{Office}
 use Rattle.office_history.specs.Legal.{IsLegal, MayFollow, office}
 use Rattle.catalog_changes.specs.Laws.{EachMayFollow}
 use Rattle.follow_terms.specs.declared.FollowEnd.{FollowEnd}
-use Rattle.follow_terms.specs.declared.FollowEnd.TheVariants as ends
 use Rattle.entry_records.specs.Feeds.{feed_text, with_lengths}
 use Rattle.follow_terms.specs.Pieces.{piece_end}
-use Rattle.follow_terms.specs.Follows.{Place, Between, Inside, Follows}
-use Rattle.follow_terms.specs.Prefixes.{Asked, AreFeedsOf, CanBeAsked, feeds_text, furthest}
+use Rattle.follow_terms.specs.Follows.{Between, Inside, Follows}
+use Rattle.follow_terms.specs.Prefixes.{Asked, CanBeAsked, feeds_text, furthest}
 use Rattle.follow_terms.specs.Prefixes.{records_fed}
 use Rattle.follow_laws.specs.Laws.{LeadsToTheHistory, HasFollowed, IsKeepable}
 use Rattle.follow_laws.proofs.Keeping.{keeps}
@@ -30,7 +29,7 @@ use Rattle.follow_laws.proofs.StepLemmas.{after_feed, Steps, rests, unlike, goes
 use Rattle.follow_laws.proofs.StepLemmas.{steps}
 use Rattle.follow_laws.proofs.StepLemmas.{ends_there}
 use Rattle.follow_laws.proofs.FrontLemmas.{at_drop, below_drop, next_drop, next_take, in_front}
-use Rattle.follow_laws.proofs.FrontLemmas.{take_length, all_at, IsFront, fed_front, dropped}
+use Rattle.follow_laws.proofs.FrontLemmas.{take_length, all_at, fed_front, dropped}
 
 -- what is known of legal histories and of records
 pub record Known (origin : ℕ) (g : List Entry) : Type 0 where

@@ -1,13 +1,12 @@
 -- What was held stays.
-use Rattle.std.proofs.Common.{◌≡◌, ℕ, suc, ◌+◌, List, [], ◌∷◌, ◌++◌, length, refl, sym, ap, ◌∙◌}
+use Rattle.std.proofs.Common.{◌≡◌, ℕ, suc, ◌+◌, List, [], ◌∷◌, ◌++◌, length, refl, sym, ◌∙◌}
 use Rattle.std.proofs.Common.{subst}
 use Rattle.std.proofs.Common.{append-nil, append_assoc, arith, drop, take, length-append, Ok, Some}
 use Rattle.record_form.specs.declared.Entry.{Entry}
 use Rattle.record_form.specs.Records.{entry_of}
 use Rattle.office_history.specs.History.{Office}
-use Rattle.follow_terms.specs.declared.FollowEnd.{FollowEnd}
-use Rattle.follow_terms.specs.Pieces.{head_read, length_read, record_read, numeral}
-use Rattle.follow_terms.specs.Follows.{Place, Between, Inside, Follows, done, outside, head_ends}
+use Rattle.follow_terms.specs.Pieces.{head_read, length_read, record_read}
+use Rattle.follow_terms.specs.Follows.{Place, Between, Inside, done, outside, head_ends}
 use Rattle.follow_terms.specs.Follows.{head_passes, feed_ends, length_ends, record_ends, differs}
 use Rattle.follow_terms.specs.Follows.{is_held, illegal, disk_ends, taken, Says, from_head}
 use Rattle.follow_terms.specs.Follows.{from_next}

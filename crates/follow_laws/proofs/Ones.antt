@@ -1,7 +1,7 @@
 -- An input has one end, but for those of the outside and the disk.
-use Rattle.std.proofs.Common.{◌≡◌, ℕ, suc, ◌+◌, ◌≤◌, List, [], ◌∷◌, length, refl, sym, ap, ◌∙◌}
+use Rattle.std.proofs.Common.{◌≡◌, ℕ, suc, ◌+◌, ◌≤◌, List, [], length, refl, sym, ap, ◌∙◌}
 use Rattle.std.proofs.Common.{subst}
-use Rattle.std.proofs.Common.{arith, drop, Ok, Err, Some, None, Option, Result}
+use Rattle.std.proofs.Common.{arith, drop, Ok, Err, Some, None, Result}
 use Rattle.std.specs.Prelude.{slice_get}
 use Rattle.std.proofs.lemmas.Option.{slice_get_past}
 use Rattle.record_form.specs.declared.Entry.{Entry}
@@ -11,9 +11,9 @@ use Rattle.office_history.specs.Legal.{MayFollow}
 use Rattle.follow_terms.specs.declared.FollowEnd.{FollowEnd}
 use Rattle.follow_terms.specs.declared.FollowEnd.TheVariants as ends
 use Rattle.follow_terms.specs.Pieces.{head_read, length_read, record_read}
-use Rattle.follow_terms.specs.Follows.{Place, Between, Inside, Follows, done, outside, head_ends}
+use Rattle.follow_terms.specs.Follows.{Between, Inside, Follows, done, outside, head_ends}
 use Rattle.follow_terms.specs.Follows.{head_passes, feed_ends, length_ends, record_ends, differs}
-use Rattle.follow_terms.specs.Follows.{is_held, illegal, disk_ends, taken, IsOutside, IsDiskEnd}
+use Rattle.follow_terms.specs.Follows.{is_held, illegal, disk_ends, taken}
 use Rattle.follow_laws.specs.Laws.{IsFree, by_outside, by_disk, Agree, one_free, other_free, alike}
 use Rattle.follow_laws.specs.Laws.{HasOneEnd}
 

@@ -1,26 +1,26 @@
 -- What is read.
-use Rattle.std.proofs.Common.{◌≡◌, ℕ, suc, ◌+◌, ◌<◌, ◌≤◌, Bool, true, false, not, ◌&&◌, cond}
+use Rattle.std.proofs.Common.{◌≡◌, ℕ, ◌+◌, ◌<◌, ◌≤◌, Bool, true, false, not, ◌&&◌, cond}
 use Rattle.std.proofs.Common.{nat_lt}
-use Rattle.std.proofs.Common.{nat_le, List, [], ◌∷◌, ◌++◌, length, refl, sym, ap, ◌∙◌, subst, arith}
-use Rattle.std.proofs.Common.{append-nil, append_assoc, drop, take, length-append, Ok, Err, Some}
+use Rattle.std.proofs.Common.{nat_le, List, [], ◌++◌, length, refl, sym, ap, ◌∙◌, arith}
+use Rattle.std.proofs.Common.{append-nil, take, Ok, Err, Some}
 use Rattle.std.proofs.Common.{None}
 use Rattle.std.proofs.Common.{Option, Result, bytes_eq, min}
 use Rattle.std.specs.Prelude.{◌==◌, ◌^◌}
-use Rattle.std.specs.Int.{w32, to_be_bytes, from_be_bytes}
-use Rattle.std.proofs.lemmas.Bool.{le-ltb, ltb-false, eq-eqb, eqb-true}
+use Rattle.std.specs.Int.{w32, to_be_bytes}
+use Rattle.std.proofs.lemmas.Bool.{le-ltb, eq-eqb, eqb-true}
 use Rattle.std.proofs.lemmas.Bool.Decides.{nat_tests}
 use Rattle.std.proofs.lemmas.Nat.{from_be_bytes-to_be_bytes_4}
 use Rattle.std.proofs.lemmas.Slice.Eq.{bytes_eq-Decides}
-use Rattle.std.proofs.Math.Seq.{take-append_seam, drop-append_seam}
+use Rattle.std.proofs.Math.Seq.{take-append_seam}
 use Rattle.slo_limits.specs.declared.TheConstants.{MAX_RECORD_BYTES}
 use Rattle.record_form.specs.declared.Entry.{Entry}
 use Rattle.record_form.specs.Records.{entry_of, record_of, whole}
 use Rattle.record_form.specs.Ranges.{FitsRecord}
-use Rattle.record_form.specs.Laws.{EntriesAreReadBack, RecordsHaveSizes}
+use Rattle.record_form.specs.Laws.{EntriesAreReadBack}
 use Rattle.office_history.specs.History.{Office}
 use Rattle.follow_terms.specs.declared.FollowEnd.{FollowEnd}
 use Rattle.follow_terms.specs.declared.FollowEnd.TheVariants as ends
-use Rattle.entry_records.specs.Feeds.{feed_mark, feed_text, with_lengths}
+use Rattle.entry_records.specs.Feeds.{feed_mark, feed_text}
 use Rattle.follow_terms.specs.Pieces.{head_read, length_read, record_read, numeral, behind}
 use Rattle.follow_terms.specs.Pieces.{piece_end}
 use Rattle.follow_terms.specs.Pieces.{end_where, entry_or}

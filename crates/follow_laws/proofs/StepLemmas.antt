@@ -1,10 +1,9 @@
 -- One step of following over what is true.
-use Rattle.std.proofs.Common.{◌≡◌, ℕ, suc, ◌+◌, ◌<◌, ◌≤◌, Bool, true, false, cond, nat_lt, List, []}
-use Rattle.std.proofs.Common.{◌∷◌, ◌++◌, length, refl, sym, ap, ◌∙◌, subst, arith, drop, take, Ok}
+use Rattle.std.proofs.Common.{◌≡◌, ℕ, suc, ◌+◌, ◌≤◌, Bool, true, false, nat_lt, List, []}
+use Rattle.std.proofs.Common.{length, refl, sym, ap, ◌∙◌, subst, arith, drop, Ok}
 use Rattle.std.proofs.Common.{Err}
-use Rattle.std.proofs.Common.{Some, None, Option, Result, length-append}
+use Rattle.std.proofs.Common.{Some, None, Option, Result}
 use Rattle.std.specs.Prelude.{slice_get}
-use Rattle.std.specs.Int.{w32, to_be_bytes}
 use Rattle.std.proofs.lemmas.Bool.{ltb-false}
 use Rattle.record_form.specs.declared.Entry.{Entry}
 use Rattle.record_form.specs.Records.{record_of}
@@ -13,7 +12,7 @@ use Rattle.office_history.specs.Legal.{MayFollow}
 use Rattle.follow_terms.specs.declared.FollowEnd.{FollowEnd}
 use Rattle.follow_terms.specs.declared.FollowEnd.TheVariants as ends
 use Rattle.follow_terms.specs.Pieces.{head_read, length_read, record_read, behind, end_where}
-use Rattle.follow_terms.specs.Follows.{Place, Between, Inside, Follows, done, outside, head_ends}
+use Rattle.follow_terms.specs.Follows.{Between, Inside, Follows, done, outside, head_ends}
 use Rattle.follow_terms.specs.Follows.{head_passes, feed_ends, length_ends, record_ends, differs}
 use Rattle.follow_terms.specs.Follows.{is_held, illegal, disk_ends, taken, IsOutside, read_fault}
 use Rattle.follow_terms.specs.Follows.{no_memory, IsDiskEnd, journal_full, disk_fault}

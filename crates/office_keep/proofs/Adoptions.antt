@@ -1,6 +1,6 @@
 -- What the adopting of an entry comes to.
-use Rattle.std.proofs.Common.{◌≡◌, inl, inr, ℕ, ◌≤◌, nat_lt, cond, Bool, true, false, List, ◌∷◌}
-use Rattle.std.proofs.Common.{[], length, Option, Some, None, refl, sym, ap, ◌∙◌, subst, arith}
+use Rattle.std.proofs.Common.{◌≡◌, inl, inr, ℕ, nat_lt, cond, Bool, true, false, List, ◌∷◌}
+use Rattle.std.proofs.Common.{[], Option, Some, None, refl, sym, ap, ◌∙◌, subst}
 use Rattle.std.specs.List.{AllByRecursion}
 use Rattle.std.specs.Prelude.{IfSome}
 use Rattle.slo_limits.specs.declared.TheConstants.{MAX_JOURNAL_BYTES}
@@ -16,7 +16,7 @@ use Rattle.record_form.specs.declared.Outcome.{Outcome}
 use Rattle.record_form.specs.declared.Outcome.TheVariants as outcomes
 use Rattle.record_form.specs.Ranges.{Fits, FitsRow}
 use Rattle.record_form.specs.Records.{record_of}
-use Rattle.office_history.specs.History.{Office, with_entry}
+use Rattle.office_history.specs.History.{Office}
 use Rattle.office_history.specs.Legal.{MayFollow}
 use Rattle.office_history.specs.Outcomes.{outcome_of, tail_of}
 use Rattle.office_core.specs.Machine.{HasRevision, HasRevisions}

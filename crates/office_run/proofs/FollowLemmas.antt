@@ -1,8 +1,8 @@
 -- What the statuses of `follow` say.
-use Rattle.std.proofs.Common.{◌≡◌, ◌⊎◌, inl, inr, ℕ, zero, suc, ◌≤◌, List, [], ◌∷◌, length, take}
+use Rattle.std.proofs.Common.{◌≡◌, inl, inr, ℕ, zero, suc, List, [], ◌∷◌, take}
 use Rattle.std.proofs.Common.{Option, Some, refl, sym, ap, ◌∙◌, subst, arith}
 use Rattle.std.specs.List.{AllByRecursion}
-use Rattle.office_outside.specs.Disk.{All, IsQuiet, LeavesOnly}
+use Rattle.office_outside.specs.Disk.{All, LeavesOnly}
 use Rattle.office_outside.specs.Senses.{DiskSenses}
 use Rattle.record_form.specs.declared.Entry.{Entry}
 use Rattle.record_form.specs.Ranges.{FitsRecord}
@@ -20,9 +20,9 @@ use Rattle.journal_commands.specs.Following.{EndsFollowing, EndsOverOffice, Foll
 use Rattle.journal_commands.specs.declared.FollowingEnd.{FollowingEnd}
 use Rattle.journal_commands.specs.declared.FollowingEnd.TheVariants as ends
 use Rattle.journal_commands.proofs.Sessions.{as_opened}
-use Rattle.office_run.specs.Follow.{LeadsRun, LeavesFronts, SettledFollow, SettledStop}
+use Rattle.office_run.specs.Follow.{LeadsRun, SettledFollow, SettledStop}
 use Rattle.office_run.specs.declared.ending.TheConstants.{BAD_FILE, DONE}
-use Rattle.office_run.proofs.StatusLemmas.{unopened_bad, unopened_not_done}
+use Rattle.office_run.proofs.StatusLemmas.{unopened_bad}
 
 module _ (status : ℕ) (old new : Option (List ℕ)) (before now : ℕ) where
   -- a stop of following is no bad file

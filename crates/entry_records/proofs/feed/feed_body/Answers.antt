@@ -1,9 +1,8 @@
-use Rattle.std.proofs.Common.{◌≡◌, ◌∙◌, ◌+◌, ◌-◌, ◌≤◌, ◌<◌, ℕ, List, length, ap, sym, arith, drop}
-use Rattle.std.proofs.Common.{subst, rules}
+use Rattle.std.proofs.Common.{◌≡◌, ◌∙◌, ◌+◌, ◌-◌, ℕ, List, length, ap, sym, arith, drop}
+use Rattle.std.proofs.Common.{rules}
 use Rattle.std.proofs.Common.{◌++◌, []}
 use Rattle.std.specs.Int.{w32, to_be_bytes}
-use Rattle.std.specs.Prelude.{slice_get, Some, None}
-use Rattle.std.proofs.lemmas.Bool.Decides.{nat_tests}
+use Rattle.std.specs.Prelude.{slice_get, Some}
 use Rattle.entry_records.specs.Kept.{records_in}
 use Rattle.entry_records.specs.Feeds.{fed, room_behind, with_lengths}
 use Rattle.entry_records.proofs.KeptLemmas.{kept_few, kept_records}

@@ -1,4 +1,4 @@
-use Rattle.std.proofs.Common.{◌≡◌, ◌+◌, ◌-◌, ◌≤◌, ℕ, length, drop}
+use Rattle.std.proofs.Common.{◌+◌, ◌-◌, ◌≤◌, length, drop}
 use Rattle.entry_records.specs.Feeds.{fed, room_behind, that_fit}
 use Rattle.entry_records.specs.Kept.{IsSoFar, records_in}
 use Rattle.entry_records.proofs.feed.feed_body.Given as goal

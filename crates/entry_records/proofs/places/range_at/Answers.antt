@@ -1,4 +1,4 @@
-use Rattle.std.proofs.Common.{◌≡◌, ◌∙◌, ap, sym, arith}
+use Rattle.std.proofs.Common.{◌∙◌, sym}
 use Rattle.entry_records.specs.Kept.{records_in}
 use Rattle.entry_records.proofs.KeptLemmas.{at_place, nothing_at}
 use Rattle.entry_records.proofs.places.range_at.Goals as goal

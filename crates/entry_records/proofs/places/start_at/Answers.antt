@@ -1,4 +1,4 @@
-use Rattle.std.proofs.Common.{◌≡◌, ◌∙◌, ◌<◌, ◌-◌, ℕ, List, length, ap, sym, subst}
+use Rattle.std.proofs.Common.{◌∙◌, ◌<◌, ◌-◌, ℕ, List, length, ap, subst}
 use Rattle.std.specs.Prelude.{slice_index}
 use Rattle.entry_records.proofs.KeptLemmas.{begins_at}
 use Rattle.entry_records.proofs.places.start_at.Goals as goal

@@ -1,4 +1,4 @@
-use Rattle.std.proofs.Common.{◌≡◌, ◌∙◌, ap, sym, map, drop, List, ℕ}
+use Rattle.std.proofs.Common.{◌∙◌, ap, map, drop, List, ℕ}
 use Rattle.record_form.specs.Records.{record_of}
 use Rattle.entry_records.specs.Feeds.{feed_of}
 use Rattle.entry_records.specs.Kept.{Entries}

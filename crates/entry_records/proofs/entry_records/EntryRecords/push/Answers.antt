@@ -1,5 +1,5 @@
-use Rattle.std.proofs.Common.{◌≡◌, ◌∙◌, ◌≤◌, ◌++◌, ◌∷◌, [], length, ap, sym, arith, if◌then◌else◌}
-use Rattle.std.proofs.Common.{subst, rules}
+use Rattle.std.proofs.Common.{◌≡◌, ◌∙◌, ◌≤◌, ◌++◌, ◌∷◌, [], length, ap, if◌then◌else◌}
+use Rattle.std.proofs.Common.{rules}
 use Rattle.std.specs.Result.{is_ok}
 use Rattle.entry_records.proofs.KeptLemmas.{kept_push}
 use Rattle.entry_records.proofs.entry_records.EntryRecords.push.Goals as goal
