@@ -3,12 +3,14 @@ use Rattle.journal_commands.specs.Following.{follow_world}
 use Rattle.journal_commands.proofs.FollowEnds.{ends_opened, was_opened}
 use Rattle.journal_commands.proofs.following.follow_journal.Goals as goal
 
+-- the disk before the opening is no part of what was followed
 pub returns-in-Ok-clause-ends : goal.returns-in-Ok-clause-ends
 returns-in-Ok-clause-ends g c =
     let D = g.D.Disk in
     let S = g.S.Source in
     let held = g.K.Sink.held in
     let over = c.follow_over in
+    let ends = over.ensures.ends in
     ends_opened D.senses over.result.0
     (follow_world c.args.disk (S.left c.args.input.now) (S.faults c.args.input.now)
     (held c.args.output.now))
@@ -17,7 +19,14 @@ returns-in-Ok-clause-ends g c =
     (record {
       office = c.in-Ok.office;
       opened = c.in-Ok.ensures.opened;
-      so = over.ensures.ends;
+      so = record {
+        last = ends.last;
+        came_to = ends.came_to;
+        followed = ends.followed;
+        leads = ends.leads;
+        told = ends.told;
+        handed_back = ends.handed_back;
+      };
     })
 
 pub returns-in-Err-clause-ends : goal.returns-in-Err-clause-ends
