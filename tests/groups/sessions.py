@@ -11,7 +11,7 @@ from dataclasses import dataclass, field
 from pathlib import Path
 
 import held
-from office import TOP, message
+from office import TOP, Answer, answers, message
 from report import Report, Skipped
 
 WORKED = TOP / "crates" / "worked_sessions"
@@ -22,11 +22,14 @@ PLAYED_BY_THE_GATE = {
     "failing doors": "doors in memory",
     "failing next": "doors in memory",
 }
+# The most bytes of a feed that are shown.
+MOST_SHOWN = 100
 LEFT_OUT = {
     "the gate's write fails, and the batch comes again": "the calls on a file have other numbers: kills lets each fail",
     "the sync after the gate fails, and the batch comes again": "over a file each sync after one that failed fails too",
     "the disk fails at each call of an upgrade": "the calls on a file have other numbers: kills lets each fail",
     "the disk fails at each call of an export, and a part's last flush fails": "the calls on a file have other numbers: export lets each fail",
+    "the disk fails at each call of following": "the calls on a file have other numbers: following lets each fail",
 }
 
 
@@ -41,11 +44,18 @@ def parts(text: str) -> dict[str, list[str]]:
 
 def shown(output: bytes) -> str:
     """The answers of an output, a line each: status, `close` where it closes, methods where it names them, the body."""
-    text, lines = output.decode(errors="replace"), ""
+    text, lines = output.decode("latin-1"), ""
     for answer in text.split("HTTP/1.1 "):
         head, end, body = answer.partition("\r\n\r\n")
-        lines += f"{shown_head(head)}{body}\n" if end else answer
+        lines += f"{shown_head(head)}{shown_body(head, body)}\n" if end else answer
     return lines
+
+
+def shown_body(head: str, body: str) -> str:
+    """Of a feed its bytes in digits of 16, or how many there are."""
+    if "application/octet-stream" not in head:
+        return body
+    return f"{len(body)} bytes" if len(body) > MOST_SHOWN else body.encode("latin-1").hex()
 
 
 def shown_head(head: str) -> str:
@@ -78,6 +88,7 @@ class Stage:
     request: str = ""
     body: str = ""
     input: bytes = b""
+    answered: bytes = b""
     out: list[str] = field(default_factory=list)
     unflushed: list[int] = field(default_factory=list)
 
@@ -128,6 +139,10 @@ class Stage:
             raise Skipped("a sample stream as an input")
         elif kind == "exported":
             self.input += self.exported
+        elif kind == "bytes":
+            self.input += bytes.fromhex(rest)
+        elif kind == "answer":
+            self.input += self.answered
         else:
             self.request = text
 
@@ -190,6 +205,8 @@ class Stage:
         is_export = words.startswith("export ")
         if is_export:
             self.exported = ran.output
+        if words == "pipe":
+            self.answered = (answers(ran.output) or [Answer(0, b"")])[-1].body
         show = whole if self.whole or is_export else counted if self.brief else shown
         self.out.append(f"$ {words}\n{show(ran.output)}status {ran.status}\n{shown(ran.errors)}")
         self.brief = False

@@ -5,12 +5,11 @@ use sample_stream::{MAX_NUMBER, generate};
 use std::alloc::{AllocError, Global};
 
 /// Appends the sample stream of a number.
-pub fn push_stream(alloc: Global, input: &mut String, number: &str) -> Result<(), AllocError> {
+pub fn push_stream(alloc: Global, input: &mut Vec<u8>, number: &str) -> Result<(), AllocError> {
     let number = number.parse::<u32>().unwrap_or(0).min(MAX_NUMBER);
     let mut stream = MemorySink::new(alloc, Plan::smooth(alloc));
     if generate(number, &mut stream).is_err() {
         return Err(AllocError);
     }
-    let text = String::from_utf8_lossy(alloc, stream.bytes())?;
-    input.push_str(text.as_str())
+    input.extend_from_slice(stream.bytes())
 }

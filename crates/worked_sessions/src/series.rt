@@ -49,21 +49,21 @@ pub fn push_series(alloc: Global, body: &mut String, line: &str) -> Result<(), A
 /// Appends a request with the length of its body.
 pub fn push_request(
     alloc: Global,
-    input: &mut String,
+    input: &mut Vec<u8>,
     request: &str,
     body: &str,
 ) -> Result<(), AllocError> {
     let length = body.len();
-    input.push_str(request)?;
+    input.extend_from_slice(request.as_bytes())?;
     let head = format!(in alloc; " HTTP/1.1\r\nContent-Length: {length}\r\n\r\n")?;
-    input.push_str(head.as_str())?;
-    input.push_str(body)
+    input.extend_from_slice(head.as_bytes())?;
+    input.extend_from_slice(body.as_bytes())
 }
 
 /// Appends a request for each of so many numbers from the first on, in the place of each `@`.
 pub fn push_requests(
     alloc: Global,
-    input: &mut String,
+    input: &mut Vec<u8>,
     request: &str,
     body: &str,
     numbers: (u32, u32),

@@ -2,14 +2,26 @@
 
 use std::alloc::{AllocError, Global};
 
+/// The most bytes of a feed that are shown.
+const MOST_SHOWN: usize = 100;
+
+/// Bytes as a text that has a letter for each of them.
+fn letters_of(alloc: Global, bytes: &[u8]) -> Result<String, AllocError> {
+    let mut text = String::new(alloc);
+    for byte in bytes {
+        text.push(*byte as char)?;
+    }
+    Ok(text)
+}
+
 /// Appends the answers that an output holds, a line each: the status, `close` where the answer
 /// closes, the methods where it names them, and the body.
 pub fn show_answers(alloc: Global, out: &mut String, bytes: &[u8]) -> Result<(), AllocError> {
-    let text = String::from_utf8_lossy(alloc, bytes)?;
+    let text = letters_of(alloc, bytes)?;
     for answer in text.as_str().split("HTTP/1.1 ") {
         if let Some((head, body)) = answer.split_once("\r\n\r\n") {
             show_head(out, head)?;
-            out.push_str(body)?;
+            show_body(alloc, out, head, body)?;
             out.push('\n')?;
         } else {
             out.push_str(answer)?;
@@ -56,6 +68,38 @@ fn show_head(out: &mut String, head: &str) -> Result<(), AllocError> {
     Ok(())
 }
 
+/// Appends an answer's body: of a feed its bytes in digits of 16, or how many there are.
+fn show_body(alloc: Global, out: &mut String, head: &str, body: &str) -> Result<(), AllocError> {
+    if !head.contains("application/octet-stream") {
+        return out.push_str(body);
+    }
+    let count = body.chars().count();
+    if count > MOST_SHOWN {
+        let told = format!(in alloc; "{count} bytes")?;
+        return out.push_str(told.as_str());
+    }
+    for letter in body.chars() {
+        let byte = (letter as u32 % 256) as u8;
+        let digits = format!(in alloc; "{byte:02x}")?;
+        out.push_str(digits.as_str())?;
+    }
+    Ok(())
+}
+
+/// The body of the last answer that an output holds.
+pub fn body_of(alloc: Global, bytes: &[u8]) -> Result<Vec<u8>, AllocError> {
+    let text = letters_of(alloc, bytes)?;
+    let mut body = Vec::new(alloc);
+    if let Some((_, last)) = text.as_str().rsplit_once("HTTP/1.1 ") {
+        if let Some((_, letters)) = last.split_once("\r\n\r\n") {
+            for letter in letters.chars() {
+                body.push((letter as u32 % 256) as u8)?;
+            }
+        }
+    }
+    Ok(body)
+}
+
 /// Appends the answers with their whole heads, without the carriage returns.
 pub fn show_whole(alloc: Global, out: &mut String, bytes: &[u8]) -> Result<(), AllocError> {
     let text = String::from_utf8_lossy(alloc, bytes)?;
@@ -76,11 +120,11 @@ pub fn show_file(alloc: Global, out: &mut String, bytes: &[u8]) -> Result<(), Al
     out.push('\n')
 }
 
-/// The last answer that an output holds.
+/// The last answer that an output holds, or all of it where it holds none.
 pub fn last_answer(alloc: Global, bytes: &[u8]) -> Result<String, AllocError> {
     let text = String::from_utf8_lossy(alloc, bytes)?;
     match text.as_str().rsplit_once("HTTP/1.1 ") {
         Some((_, last)) => String::from_str(alloc, last),
-        None => Ok(String::new(alloc)),
+        None => Ok(text),
     }
 }

@@ -3,10 +3,11 @@
 use crate::playing::{Played, Setting};
 use crate::sampling::push_stream;
 use crate::series::{push_request, push_requests, push_series};
-use crate::show::{show_answers, show_count, show_file, show_whole};
+use crate::show::{body_of, show_answers, show_count, show_file, show_whole};
 use crate::trials::{over_faults, over_mixtures, over_prefixes, over_stops};
 use crate::visitors::serve_visitors;
 use std::alloc::{AllocError, Global};
+use std::str;
 use std::sync::Wait;
 use std::thread::Threads;
 
@@ -25,7 +26,8 @@ pub struct Stage {
     times: Option<(u32, u32)>,
     request: String,
     body: String,
-    input: String,
+    input: Vec<u8>,
+    answered: Vec<u8>,
     visitors: Vec<Vec<u8>>,
     pairs: bool,
     out: String,
@@ -40,12 +42,29 @@ fn push_readings(readings: &mut Vec<u32>, line: &str) -> Result<(), AllocError> 
 }
 
 /// Appends a text in which `\` stands for a line's end.
-fn push_raw(input: &mut String, text: &str) -> Result<(), AllocError> {
+fn push_raw(input: &mut Vec<u8>, text: &str) -> Result<(), AllocError> {
     for (place, part) in text.split("\\").enumerate() {
         if place > 0 {
-            input.push_str("\r\n")?;
+            input.extend_from_slice(b"\r\n")?;
         }
-        input.push_str(part)?;
+        input.extend_from_slice(part.as_bytes())?;
+    }
+    Ok(())
+}
+
+/// Appends the bytes that pairs of digits of 16 spell.
+fn push_pairs(input: &mut Vec<u8>, digits: &str) -> Result<(), AllocError> {
+    for pair in digits.as_bytes().chunks_exact(2) {
+        let pair = str::from_utf8(pair).unwrap_or("");
+        input.push(u8::from_str_radix(pair, 16).unwrap_or(0))?;
+    }
+    Ok(())
+}
+
+/// Appends the bytes of groups of such pairs.
+fn push_bytes(input: &mut Vec<u8>, line: &str) -> Result<(), AllocError> {
+    for digits in line.split_ascii_whitespace() {
+        push_pairs(input, digits)?;
     }
     Ok(())
 }
@@ -68,7 +87,7 @@ fn copy_over(old: &mut Vec<u8>, bytes: &[u8]) -> Result<(), AllocError> {
 }
 
 /// Appends a text as often as the number before it says.
-fn push_many(input: &mut String, line: &str) -> Result<(), AllocError> {
+fn push_many(input: &mut Vec<u8>, line: &str) -> Result<(), AllocError> {
     if let Some((number, text)) = line.split_once(" ") {
         for _ in 0..number.parse::<u32>().unwrap_or(0) {
             push_raw(input, text)?;
@@ -105,7 +124,8 @@ impl Stage {
             times: None,
             request: String::new(alloc),
             body: String::new(alloc),
-            input: String::new(alloc),
+            input: Vec::new(alloc),
+            answered: Vec::new(alloc),
             visitors: Vec::new(alloc),
             pairs: false,
             out: String::new(alloc),
@@ -172,11 +192,11 @@ impl Stage {
     }
 
     /// Sends a request line, or the bytes that stand behind `raw`, where `\` is a line's end, or
-    /// the sample stream of a number, or the requests of the last export.
+    /// behind `bytes`, in digits of 16, or the sample stream of a number, or the requests of the
+    /// last export, or the body of the last answer of `pipe`.
     fn send(&mut self, text: &str) -> Result<(), AllocError> {
         if text == "exported" {
-            let requests = String::from_utf8_lossy(self.alloc, &self.exported)?;
-            return self.input.push_str(requests.as_str());
+            return self.input.extend_from_slice(&self.exported);
         }
         if let Some(bytes) = text.strip_prefix("raw ") {
             return push_raw(&mut self.input, bytes);
@@ -187,6 +207,12 @@ impl Stage {
         if let Some(number) = text.strip_prefix("stream ") {
             return push_stream(self.alloc, &mut self.input, number);
         }
+        if let Some(digits) = text.strip_prefix("bytes ") {
+            return push_bytes(&mut self.input, digits);
+        }
+        if text == "answer" {
+            return self.input.extend_from_slice(&self.answered);
+        }
         self.request.push_str(text)
     }
 
@@ -196,7 +222,7 @@ impl Stage {
         let request = self.request.as_str();
         let body = self.body.as_str();
         if request.is_empty() {
-            self.input.push_str(body)?;
+            self.input.extend_from_slice(body.as_bytes())?;
         } else if let Some(numbers) = self.times {
             push_requests(self.alloc, &mut self.input, request, body, numbers)?;
             self.times = None;
@@ -246,12 +272,15 @@ impl Stage {
         rt: &(impl AllocGlobal + Wait + Threads + Sync),
         words: &str,
     ) -> Result<(), AllocError> {
-        let played = self.setting().play(rt, words, self.input.as_bytes())?;
+        let played = self.setting().play(rt, words, &self.input)?;
         self.input.clear();
         self.failing.clear();
         copy_over(&mut self.file, played.disk.bytes())?;
         if is_export(words) {
             copy_over(&mut self.exported, played.output.bytes())?;
+        }
+        if words == "pipe" {
+            self.answered = body_of(self.alloc, played.output.bytes())?;
         }
         self.note(words, &played)?;
         self.brief = false;
@@ -260,7 +289,7 @@ impl Stage {
 
     /// Takes the requests so far as those of a visitor of a server.
     fn end_visitor(&mut self) -> Result<(), AllocError> {
-        let bytes = self.input.as_bytes().to_vec(self.alloc)?;
+        let bytes = self.input.to_vec(self.alloc)?;
         self.input.clear();
         self.visitors.push(bytes)?;
         Ok(())
@@ -311,7 +340,7 @@ impl Stage {
         rt: &(impl AllocGlobal + Wait + Threads + Sync),
         trial: &str,
     ) -> Result<(), AllocError> {
-        let input = self.input.as_bytes();
+        let input = self.input.as_slice();
         let told = if let Some(words) = trial.strip_prefix("stop of ") {
             over_stops(rt, &self.setting(), words, input)?
         } else if let Some(words) = trial.strip_prefix("mixture of ") {

@@ -60,39 +60,42 @@ fn pattern(alloc: Global, length: usize, number: usize) -> Result<Vec<u8>, Alloc
     Ok(bytes)
 }
 
-/// What is tried: the requests that come over each file that is left, and the last answer to them
-/// where nothing stops the run.
+/// What is tried: what runs over each file that is left, with which input, and the last answer to
+/// it where nothing stops the run.
 #[derive(Drop)]
 struct Trial<'a> {
     setting: Setting<'a>,
+    words: &'a str,
     input: &'a [u8],
     wanted: String,
 }
 
 impl<'a> Trial<'a> {
-    /// The trial of a run of these words that nothing stopped. Words that take no requests have
-    /// `pipe` behind them for the last answer.
+    /// The trial of a run of these words that nothing stopped. `pipe` and `follow` come again with
+    /// their input; words that take none have `pipe` behind them for the last answer.
     fn of(
         rt: &(impl AllocGlobal + Wait + Threads + Sync),
         setting: Setting<'a>,
-        words: &str,
+        words: &'a str,
         input: &'a [u8],
         whole: &Played,
     ) -> Result<Trial<'a>, AllocError> {
+        let takes_input = words == "pipe" || words == "follow";
         let mut trial = Trial {
             setting,
+            words: if takes_input { words } else { "pipe" },
             input,
             wanted: last_answer(rt.alloc(), whole.output.bytes())?,
         };
-        if words != "pipe" {
-            let behind = trial.pipe_over(rt, whole.disk.bytes())?;
+        if !takes_input {
+            let behind = trial.run_over(rt, whole.disk.bytes())?;
             trial.wanted = last_answer(rt.alloc(), behind.output.bytes())?;
         }
         Ok(trial)
     }
 
-    /// Runs `pipe` with the requests over a file.
-    fn pipe_over(
+    /// Runs the words with the input over a file.
+    fn run_over(
         &self,
         rt: &(impl AllocGlobal + Wait + Threads + Sync),
         file: &[u8],
@@ -103,17 +106,17 @@ impl<'a> Trial<'a> {
             failing: "",
             piece: self.setting.piece,
         };
-        left.play(rt, "pipe", self.input)
+        left.play(rt, self.words, self.input)
     }
 
-    /// Runs `pipe` over what a stop or a fault left, and compares the last answer.
+    /// Runs the words over what a stop or a fault left, and compares the last answer.
     fn again(
         &self,
         rt: &(impl AllocGlobal + Wait + Threads + Sync),
         file: &[u8],
         tally: PlayTally,
     ) -> Result<PlayTally, AllocError> {
-        let played = self.pipe_over(rt, file)?;
+        let played = self.run_over(rt, file)?;
         let last = last_answer(rt.alloc(), played.output.bytes())?;
         let is_same = last.as_str() == self.wanted.as_str();
         Ok(PlayTally {
@@ -146,9 +149,8 @@ fn after_stop(
     Ok(tally)
 }
 
-/// Stops a run after each of its disk calls in turn, runs `pipe` over files that may be left, with
-/// the same requests, and tells how many files were no journal, and how many gave the same last
-/// answer.
+/// Stops a run after each of its disk calls in turn, runs it again over files that may be left, and
+/// tells how many files were no journal, and how many gave the same last answer.
 pub fn over_stops(
     rt: &(impl AllocGlobal + Wait + Threads + Sync),
     setting: &Setting,
@@ -208,7 +210,7 @@ fn mixed_after_stop(
     Ok(tally)
 }
 
-/// Stops a run after each of its disk calls in turn, and runs `pipe` over each file in which each
+/// Stops a run after each of its disk calls in turn, and runs it again over each file in which each
 /// byte that isn't synced is as it was or as it was written, and which ends at any place that the
 /// stop allows. Tells the same, and for how many ends there were too many such files.
 pub fn over_mixtures(
@@ -233,7 +235,7 @@ pub fn over_mixtures(
     Ok(told)
 }
 
-/// Lets each disk call of a run fail in turn, runs `pipe` over what it left, and tells the same.
+/// Lets each disk call of a run fail in turn, runs it again over what it left, and tells the same.
 pub fn over_faults(
     rt: &(impl AllocGlobal + Wait + Threads + Sync),
     setting: &Setting,
