@@ -1,5 +1,8 @@
-"""Feeds of entries, and the command `follow`: the rows worked out by hand, every end with its status, its line and the
-file behind it, feeds cut and changed at each byte of their front, and copies of offices that are stopped at random.
+"""Feeds of entries, and the command `follow`, held against their rules in plain Python (`tests/feeds.py`).
+
+Every end with its status, its line and the file behind it; feeds cut behind each byte and changed at each; records that
+fill a feed to the byte; stops, faults and refused memory; and random histories, of which copies take feeds in random
+order and then answer and go on as the office does.
 """
 from __future__ import annotations
 
@@ -7,291 +10,331 @@ import errno
 import os
 import random
 import signal
-import struct
 import subprocess
-import time
-from pathlib import Path
+from collections.abc import Iterator, Sequence
 
 import held
 import objects
-from office import Answer, Office, answers, define, message, minute_now
+from feeds import MOST_FEED_BYTES, MOST_FEEDS_BYTES, Rules, definition, feed, feed_of, followed, journal, moment, of_history, of_moments, tick, upgrade
+from groups import kept, memory
+from office import Answer, Office, answers, message, minute_now
 from report import Report, Skipped
 
-MARK = b"OSLOFEED"
-MOST_FEED_BYTES = 1_048_576
-MOST_FEEDS_BYTES = 536_870_912
-MOST_RECORD_BYTES = 1_100_000
-TICK = struct.pack(">IB", 500, 7)
-SCRIPT = Path(__file__).resolve().parents[2] / "examples" / "serve" / "follower" / "follow_office"
+MINUTE = 1_000_000
 
 
-def feed(origin: int, first: int, records: list[bytes]) -> bytes:
-    """A feed of these records, whatever they are and however many."""
-    body = b"".join(struct.pack(">I", len(record)) + record for record in records)
-    return MARK + struct.pack(">III", origin, first, len(records)) + body
-
-
-def told(office: Office, *messages: bytes) -> list[Answer]:
-    """The answers at a minute that lies in the range of an office of origin 0."""
-    try:
-        ran = held.run(office.program, ["pipe"], office.folder, b"".join(messages), held.Outside([1_000_000]))
-    except held.Absent as why:
-        raise Skipped(str(why)) from None
-    assert ran.status == 0, ran
-    return answers(ran.output)
-
-
-def asked(office: Office, start: int) -> bytes:
-    """The feed that an office answers from a position on."""
-    (answer,) = told(office, message("GET", f"/entries?from={start}"))
-    assert answer.status == 200, answer
-    return answer.body
-
-
-def journal(origin: int, records: list[bytes]) -> bytes:
-    """A journal's file of these records."""
-    body = b"".join(b"\x01" + struct.pack(">I", len(record)) + record for record in records)
-    return b"\x01OSLOJRN1" + struct.pack(">I", origin) + body + b"\x00"
-
-
-def made(report: Report, name: str, origin: int, records: list[bytes] | None = None) -> Office:
+def made(report: Report, name: str, origin: int, records: Sequence[bytes] = ()) -> Office:
     """An office in a folder of its own, with a journal of these records."""
     office = Office(report.program, report.folder(name))
-    office.journal.write_bytes(journal(origin, records or []))
+    office.journal.write_bytes(journal(origin, records))
     return office
 
 
-def followed(office: Office, data: bytes, status: int, line: str, records: list[bytes]) -> None:
-    """One run of `follow`: where it is done the line goes to the output, else behind the program's name to the errors."""
+def asked(office: Office, *targets: str, minute: int = MINUTE) -> list[Answer]:
+    """The answers to these questions, at a minute that lies in the office's range."""
+    return kept.asked_at(office, minute, [message("GET", it) for it in targets], len(targets))
+
+
+def ended(office: Office, data: bytes, line: str, records: Sequence[bytes]) -> None:
+    """One run of `follow`: where all is followed the line goes to the output, else behind the program's name to the errors."""
     done = office.run("follow", data=data)
-    out, said = (f"{line}\n".encode(), b"") if status == 0 else (b"", f"slo_office: {line}\n".encode())
+    wanted = (0, f"{line}\n".encode(), b"") if line.startswith("entries ") else (9, b"", f"slo_office: {line}\n".encode())
     got = (done.returncode, done.stdout, done.stderr)
-    assert got == (status, out, said), f"{got}, wanted {status} {out!r} {said!r}"
-    assert office.records() == records, f"{len(office.records())} records, wanted {len(records)}"
+    assert got == wanted, f"{got}, wanted {wanted}"
+    assert office.records() == list(records), f"{len(office.records())} records, wanted {len(records)}"
 
 
-def worked(report: Report) -> None:
-    """The feed of an office with one tick, byte by byte, and what following it comes to."""
-    office = made(report, "worked", 0, [TICK])
-    with report.case("the feed of a tick, that behind it, and a position behind the end"):
-        assert asked(office, 0).hex(" ") == "4f 53 4c 4f 46 45 45 44 00 00 00 00 00 00 00 00 00 00 00 01 00 00 00 05 00 00 01 f4 07"
-        assert asked(office, 1) == MARK + struct.pack(">III", 0, 1, 0)
-        (answer,) = told(office, message("GET", "/entries?from=2"))
-        assert (answer.status, answer.body) == (422, b'{"error":"range"}'), answer
-    with report.case("the route has one method and one key"):
-        wrong = [("POST", "/entries"), ("GET", "/entries"), ("GET", "/entries?at=1"), ("GET", "/entries?from=x")]
-        got = told(office, *[message(*it) for it in wrong])
-        assert [it.status for it in got] == [405, 400, 400, 400], str(got)
-    data = feed(0, 0, [TICK])
-    copy = made(report, "copy", 0)
-    with report.case("a fresh copy takes the tick once"):
-        followed(copy, data, 0, "entries 1", [TICK])
-        followed(copy, data, 0, "entries 1", [TICK])
-        followed(copy, b"", 0, "entries 1", [TICK])
-        assert copy.journal.read_bytes() == office.journal.read_bytes()
+def by_rules(office: Office, origin: int, data: bytes, rules: Rules) -> str:
+    """One run of `follow`, which has to end as the rules say."""
+    line, records = followed(origin, office.records(), data, rules)
+    ended(office, data, line, records)
+    return line
 
 
-def refused(report: Report) -> None:
-    """Every end of following that the bytes and the office decide."""
-    later = struct.pack(">IB", 600, 7)
-    fresh = made(report, "fresh", 0)
+def ends(report: Report) -> None:
+    """Every end that the bytes and the office decide, worked out by hand and by the rules."""
+    one, later = tick(500), tick(600)
+    data = feed(0, 0, [one])
     cases = [
-        ("gap", feed(0, 3, [TICK]), "gap at 3"),
-        ("a gap of no entries", feed(0, 3, []), "gap at 3"),
-        ("cut in the record", feed(0, 0, [TICK])[:-1], "cut"),
-        ("cut behind the head", feed(0, 0, [TICK])[:20], "cut"),
-        ("cut in the head", b"OSLO", "cut"),
-        ("no feed", b"x" * 20, "feed broken at 0"),
-        ("a length of 0", feed(0, 0, [b""]) + b"more", "feed broken at 20"),
-        ("a length of one more than a record has", MARK + struct.pack(">IIII", 0, 0, 1, MOST_RECORD_BYTES + 1), "feed broken at 20"),
-        ("bytes that are no record", feed(0, 0, [b"\x00\x00\x01\xf4\x0a"]), "feed broken at 20"),
-        ("another origin", feed(5, 0, [TICK]), "other origin 5"),
-        ("an entry past the range", feed(0, 0, [struct.pack(">IB", 2_097_152, 7)]), "illegal at 0"),
-        ("an entry that is refused", feed(0, 0, [struct.pack(">IBI", 500, 8, 9)]), "illegal at 0"),
+        ("a feed", [], data, "entries 1"),
+        ("a feed that is held", [one], data, "entries 1"),
+        ("nothing", [one], b"", "entries 1"),
+        ("feeds that overlap", [one], feed(0, 0, [one, later]) + feed(0, 1, [later, later]), "entries 3"),
+        ("a feed of nothing behind the end", [one], feed(0, 1, []), "entries 1"),
+        ("a gap", [], feed(0, 3, [one]), "gap at 3"),
+        ("a gap of no entries", [one], feed(0, 3, []), "gap at 3"),
+        ("cut in a record", [], data[:-1], "cut"),
+        ("cut behind a head", [], data[:20], "cut"),
+        ("cut in a head", [], b"OSLO", "cut"),
+        ("no feed", [], b"x" * 20, "feed broken at 0"),
+        ("no feed behind one", [], data + b"!" * 20, "feed broken at 29"),
+        ("a length of 0", [], feed(0, 0, [b""]) + b"more", "feed broken at 20"),
+        ("a length of one more than a record has", [], feed(0, 0, [])[:16] + b"\0\0\0\1\0\x10\xc8\xe1", "feed broken at 20"),
+        ("bytes that are no record", [], feed(0, 0, [b"\0\0\1\xf4\x0a"]), "feed broken at 20"),
+        ("another origin", [], feed(5, 3, [one]), "other origin 5"),
+        ("another entry at a position that is held", [tick(400)], data, "diverges at 0"),
+        ("another one behind one that is held", [one, later], feed(0, 0, [one, one]), "diverges at 1"),
+        ("an entry past the range", [], feed(0, 0, [tick(2_097_152)]), "illegal at 0"),
+        ("an entry of an earlier moment", [later], feed(0, 1, [one]), "illegal at 1"),
+        ("a second upgrade", [], feed(0, 0, [upgrade(5), upgrade(6)]), "illegal at 1"),
     ]
-    for name, data, line in cases:
-        with report.case(f"refused: {name}"):
-            followed(fresh, data, 9, line, [])
-    with report.case("what came before an end stays"):
-        copy = made(report, "stays", 0)
-        followed(copy, feed(0, 0, [TICK, later]) + feed(0, 7, []), 9, "gap at 7", [TICK, later])
-        followed(copy, feed(0, 0, [TICK]) + b"!" * 20, 9, f"feed broken at {len(feed(0, 0, [TICK]))}", [TICK, later])
-        followed(copy, feed(0, 0, [TICK, TICK]), 9, "diverges at 1", [TICK, later])
-        followed(copy, feed(0, 2, [TICK]), 9, "illegal at 2", [TICK, later])
-    with report.case("another entry at a position that is held"):
-        copy = made(report, "diverges", 0, [struct.pack(">IB", 400, 7)])
-        followed(copy, feed(0, 0, [TICK]), 9, "diverges at 0", [struct.pack(">IB", 400, 7)])
-    with report.case("a copy of another origin"):
-        copy = made(report, "origin", 5)
-        followed(copy, feed(0, 0, [TICK]), 9, "other origin 0", [])
+    for number, (name, records, data, line) in enumerate(cases):
+        office = made(report, f"end-{number}", 0, records)
+        with report.case(f"ends: {name}"):
+            assert by_rules(office, 0, data, of_moments(0)) == line, f"by the rules not {line}"
 
 
-def bytes_of_the_front(report: Report) -> None:
-    """A feed of two entries cut behind each byte, and with each byte of its head and first length changed."""
-    later = struct.pack(">IB", 600, 7)
-    data = feed(0, 0, [TICK, later])
-    copy = made(report, "bytes", 0)
-    with report.case("cut behind each byte"):
-        for size in range(1, len(data)):
-            copy.journal.write_bytes(journal(0, []))
-            taken = [TICK] if size >= 29 else []
-            followed(copy, data[:size], 9, "cut", taken)
-    with report.case("each byte of the front changed"):
-        for at in range(24):
-            copy.journal.write_bytes(journal(0, []))
-            other = data[:at] + bytes([data[at] ^ 1]) + data[at + 1 :]
-            done = copy.run("follow", data=other)
-            line = done.stderr.decode().removeprefix("slo_office: ").rstrip("\n")
-            if at < 8:
-                assert line == "feed broken at 0", (at, line)
-            elif at < 12:
-                assert line == f"other origin {1 << 8 * (11 - at)}", (at, line)
-            elif at < 16:
-                assert line == f"gap at {1 << 8 * (15 - at)}", (at, line)
-            elif at < 19:
-                assert (line, copy.records()) == ("cut", [TICK, later]), (at, line)
-            elif at == 19:
-                assert (line, copy.records()) == ("cut", [TICK, later]), (at, line)
-            else:
-                assert done.returncode == 9 and not copy.records(), (at, line)
+def changed(data: bytes, whole: bool) -> Iterator[bytes]:
+    """The bytes cut behind each of them; with each bit changed of the head and the first length; or of all bytes."""
+    yield from (data[:size] for size in range(len(data)))
+    for at in range(len(data) if whole else 24):
+        yield from (data[:at] + bytes([data[at] ^ 1 << bit]) + data[at + 1 :] for bit in range(8))
+
+
+def bytes_of_feeds(report: Report) -> None:
+    """Two feeds that overlap, cut and changed, over copies that have none, one and three of their records."""
+    records = [tick(500), upgrade(600), tick(600)]
+    data = feed(0, 0, records[:2]) + feed(0, 1, records[1:])
+    office = made(report, "bytes", 0)
+    for count in (0, 1, 3):
+        with report.case(f"feeds cut and changed at each byte, over {count} records"):
+            for other in changed(data, report.whole):
+                office.journal.write_bytes(journal(0, records[:count]))
+                by_rules(office, 0, other, of_moments(0))
+
+
+def service(minute: int, size: int, number: int = 0) -> bytes:
+    """A record of so many bytes, that defines a service with a name to be shown of its own."""
+    text = objects.service("shop", f'  displayName: "{number}"\n').encode() + b"#"
+    return definition(minute, text + b"x" * (size - 9 - len(text) - 1) + b"\n")
 
 
 def sizes(report: Report) -> None:
-    """The greatest feed, one record more, one record alone that is greater, and the most bytes of feeds."""
-    big = struct.pack(">IBI", 500, 1, MOST_FEED_BYTES) + b"#" * MOST_FEED_BYTES
-    with report.case("records that fill a feed to the byte, and one byte more"):
-        room = MOST_FEED_BYTES - 20
-        ticks = [struct.pack(">IB", 500 + n, 7) for n in range(room // 9)]
-        office = made(report, "full", 0, [*ticks, struct.pack(">IB", 200_000, 7)])
-        whole = asked(office, 0)
-        assert struct.unpack(">I", whole[16:20]) == (len(ticks),), whole[:20]
-        assert len(whole) <= MOST_FEED_BYTES < len(whole) + 9
-        rest = asked(office, len(ticks))
-        copy = made(report, "full-copy", 0)
-        done = copy.run("follow", data=whole + rest)
-        assert (done.returncode, done.stdout) == (0, f"entries {len(ticks) + 1}\n".encode()), done
-        assert copy.journal.read_bytes() == office.journal.read_bytes()
-    with report.case("a record that is greater than a feed stands alone"):
-        assert len(big) == 1_048_585
-        copy = made(report, "big", 0)
-        done = copy.run("follow", data=feed(0, 0, [big]))
-        # its text is no document, so it may not follow, and it is read whole
-        assert (done.returncode, done.stderr) == (9, b"slo_office: illegal at 0\n"), done
-    if not report.whole:
-        return
-    with report.case("536,870,912 bytes of feeds that are held already, and one byte more"):
-        records = [struct.pack(">IB", 500 + n, 7) for n in range(100_000)]
-        copy = made(report, "much", 0, records)
-        one = feed(0, 0, records)
-        data = one * (MOST_FEEDS_BYTES // len(one))
-        data += feed(0, 0, []) * ((MOST_FEEDS_BYTES - len(data)) // 20)
-        if (left := MOST_FEEDS_BYTES - len(data)) == 0:
-            followed(copy, data, 0, "entries 100000", records)
-        followed(copy, data + b"x" * (left + 1), 9, "input too large" if left < 20 else "cut", records)
+    """Feeds as long as may be, and records that make them longer."""
+    room = MOST_FEED_BYTES - 20
+    half = service(500, 500_000)
+    rest = room - 4 - len(half) - 4
+    ticks = [tick(500)] * ((room - 8 - len(half)) // 9)
+    last = room - 4 - len(half) - 9 * len(ticks) - 4
+    histories = [
+        ("two records fill a feed to the byte", [half, service(500, rest, 1)], 2),
+        ("the second record is one byte longer", [half, service(500, rest + 1, 1)], 1),
+        ("one record more behind a full feed", [half, service(500, rest, 1), tick(500)], 2),
+        ("ticks, and a record, fill a feed to the byte", [half, *ticks[:-20], service(500, last + 180, 1)], len(ticks) - 18),
+        ("ticks, and a record that is one byte longer", [half, *ticks[:-20], service(500, last + 181, 1)], len(ticks) - 19),
+        ("a record that is longer than a feed stands alone", [tick(500), service(500, 1_048_585), tick(500)], 1),
+    ]
+    for number, (name, records, count) in enumerate(histories):
+        office, copy = made(report, f"sizes-{number}", 0, records), made(report, f"sizes-{number}-copy", 0)
+        with report.case(f"sizes: {name}"):
+            data, at = b"", 0
+            while at < len(records):
+                (answer,) = asked(office, f"/entries?from={at}")
+                assert answer == Answer(200, feed_of(0, at, records)), f"another feed from {at}: {answer.status}, {len(answer.body)} bytes"
+                assert at or int.from_bytes(answer.body[16:20], "big") == count, f"not {count} records"
+                data, at = data + answer.body, at + int.from_bytes(answer.body[16:20], "big")
+            ended(copy, data, f"entries {len(records)}", records)
+
+
+def most_bytes(report: Report) -> None:
+    """536,870,912 bytes of feeds that are held already, one byte more, and an input that ends just there."""
+    big, small = service(500, 1_048_585), tick(600)
+    long, short, bare = feed(0, 0, [big]), feed(0, 1, [small]), feed(0, 2, [])
+    count = MOST_FEEDS_BYTES // len(long) - 1
+    left = MOST_FEEDS_BYTES - count * len(long)
+    # 29 bytes and 20 bytes come to each number that is large enough
+    few = next(n for n in range(20) if (left - n * len(short)) % len(bare) == 0)
+    whole = long * count + short * few + bare * ((left - few * len(short)) // len(bare))
+    assert len(whole) == MOST_FEEDS_BYTES
+    copy = made(report, "most", 0, [big, small])
+    cases = [
+        ("as many as may be", whole, "entries 2"),
+        ("and one more", whole + b"O", "input too large"),
+        ("and a feed more", whole + short, "input too large"),
+        ("ends inside the last feed", whole[:-10], "cut"),
+        ("ends there inside a feed", (whole[:-20] + long)[:MOST_FEEDS_BYTES], "cut"),
+        ("goes on there inside a feed", (whole[:-20] + long)[: MOST_FEEDS_BYTES + 1], "input too large"),
+        ("broken in its last feed", whole[:-20] + b"x" * 20, f"feed broken at {MOST_FEEDS_BYTES - 20}"),
+    ]
+    for name, data, line in cases:
+        with report.case(f"536,870,912 bytes of feeds: {name}"):
+            ended(copy, data, line, [big, small])
 
 
 def faults(report: Report) -> None:
-    """An input that fails, an output that is full, no journal, one that is held, words of another form."""
-    copy = made(report, "faults", 0)
-    with report.case("an input that fails"):
+    """An input that fails, an output that is full, no journal, a cut one, one that is held, words of no form."""
+    one, copy = tick(500), made(report, "faults", 0)
+    data = feed(0, 0, [one])
+
+    def end(done: subprocess.CompletedProcess[bytes], status: int, line: str) -> None:
+        assert (done.returncode, done.stdout, done.stderr) == (status, b"", f"slo_office: {line}\n".encode()), str(done)
+
+    with report.case("an input that can't be read"):
         place = os.open(copy.folder, os.O_RDONLY)
         done = subprocess.run([copy.program, "follow"], cwd=copy.folder, stdin=place, capture_output=True, timeout=60)
         os.close(place)
-        assert (done.returncode, done.stdout, done.stderr) == (5, b"", b"slo_office: read fault\n"), str(done)
+        end(done, 5, "read fault")
     with report.case("an output that is full: what was taken stays"), open("/dev/full", "wb") as full:
-        done = subprocess.run([copy.program, "follow"], cwd=copy.folder, input=feed(0, 0, [TICK]), stdout=full, stderr=subprocess.PIPE, timeout=60)
+        done = subprocess.run([copy.program, "follow"], cwd=copy.folder, input=data, stdout=full, stderr=subprocess.PIPE, timeout=60)
         assert (done.returncode, done.stderr) == (6, b"slo_office: write fault\n"), str(done)
-        assert copy.records() == [TICK]
-    with report.case("no journal, and words of another form"):
+        assert copy.records() == [one]
+    with report.case("no journal, an empty one is left"):
         empty = Office(report.program, report.folder("none"))
-        done = empty.run("follow")
-        assert (done.returncode, done.stderr) == (3, b"slo_office: file not a journal\n"), str(done)
-        done = copy.run("follow", "0")
-        assert (done.returncode, done.stderr) == (2, b"slo_office: usage\n"), str(done)
+        end(empty.run("follow", data=data), 3, "file not a journal")
+        assert empty.journal.read_bytes() == b""
+    with report.case("a journal that was cut"):
+        whole = copy.journal.read_bytes()
+        copy.journal.write_bytes(whole[:20])
+        end(copy.run("follow", data=data), 3, "file damaged at 13")
+        assert copy.journal.read_bytes() == whole[:20]
+        copy.journal.write_bytes(whole)
+    with report.case("words of no form"):
+        end(copy.run("follow", "0", data=data), 2, "usage")
     with report.case("a journal that another program has"), copy.serving():
-        done = copy.run("follow", data=feed(0, 0, [TICK]))
-        assert (done.returncode, done.stderr) == (4, b"slo_office: disk fault\n"), str(done)
+        end(copy.run("follow", data=data), 4, "disk fault")
 
 
 def stops(report: Report) -> None:
     """Following is killed at each write and sync of the journal, and lets each of them fail once: a front is left, and
     followed again it is whole."""
-    ticks = [struct.pack(">IB", 500 + n, 7) for n in range(3)]
-    data = feed(0, 0, ticks)
+    records = [tick(500), service(500, 200), tick(600)]
+    data = feed(0, 0, records[:2]) + feed(0, 1, records[1:])
     whole = made(report, "whole", 0)
     with report.case("following without a fault"):
         try:
             ran = held.run(report.program, ["follow"], whole.folder, data)
         except held.Absent as why:
             raise Skipped(str(why)) from None
-        assert (ran.status, whole.records()) == (0, ticks), ran
-    if len(whole.records()) != len(ticks):
+        assert (ran.status, whole.records()) == (0, records), ran
+    if len(whole.records()) != len(records):
         return
-    for call in ("pwrite64", "fdatasync", "fsync"):
-        fates: tuple[tuple[str, int | str], ...] = (("killed", held.KILL), ("failed", errno.EIO))
+    fates: tuple[tuple[str, int | str], ...] = (("killed", held.KILL), ("failed", errno.EIO))
+    for call in ("pwrite64", "fdatasync", "fsync", "pread64", "input"):
         for name, fate in fates:
             with report.case(f"following {name} at each of {ran.calls[call]} calls of {call}"):
                 for number in range(ran.calls[call]):
                     copy = made(report, f"{call}-{number}-{fate}", 0)
                     again = held.run(report.program, ["follow"], copy.folder, data, held.Outside(faults={(call, number): fate}))
                     left = copy.records()
-                    assert left == ticks[: len(left)], "no front"
-                    assert fate == held.KILL or again.status in (0, 4), again
-                    followed(copy, data, 0, "entries 3", ticks)
+                    assert left == records[: len(left)], "no front"
+                    assert again.status == (5 if call == "input" else 4) or fate == held.KILL and again.status == -signal.SIGKILL, again
+                    ended(copy, data, "entries 3", records)
 
 
-def at_random(report: Report) -> None:
-    """An office that takes batches, and a copy by the script of the example, both stopped at random."""
-    rounds = 50 if report.whole else 5
-    origin = minute_now() - 10_000
-    first = Office(report.program, report.folder("first"), origin)
-    (answer,) = first.ask([define(objects.ratio("shop-good"))])
-    assert answer.status == 200, answer
-    folder = report.folder("second")
-    chance = random.Random(11)
-    sent = 0
-    with report.case(f"{rounds} rounds: the copy is a front, and what was fetched is there"):
-        for number in range(rounds):
-            with first.serving() as server:
-                writer = subprocess.Popen(["sh", "-c", f"""
-                    n={sent}; while [ $n -lt {sent + 200} ]; do
-                    echo shop-good,web,$(( {origin} + n )),1,1,2 | curl -s --data-binary @- {server.base}/samples > /dev/null || exit
-                    n=$((n + 1)); done"""])
-                fetching = subprocess.Popen([SCRIPT, server.base], cwd=folder, env={**os.environ, "SLO_OFFICE": str(report.program)}, stdout=subprocess.DEVNULL, stderr=subprocess.DEVNULL)
-                time.sleep(chance.random())
-                if chance.random() < 0.5:
-                    fetching.send_signal(signal.SIGKILL)
-                fetching.wait()
-                (at, _) = (len(copied(folder)), number)
-                server.child.kill()
-                writer.kill()
-                writer.wait()
-            kept = first.records()
-            copy = copied(folder)
-            assert copy == kept[: len(copy)] and len(copy) >= at, f"round {number}: {len(copy)} of {len(kept)}"
-            sent = max(sent, len(kept))
-    with report.case("the copy catches up, and answers as the office does"), first.serving() as server:
-        done = subprocess.run([SCRIPT, server.base], cwd=folder, env={**os.environ, "SLO_OFFICE": str(report.program)}, capture_output=True)
-        assert done.returncode == 0, done
-        assert copied(folder) == first.records()
-    copy = Office(report.program, folder)
-    with report.case("the same report"):
-        assert copy.report(minute_now()) == first.report(minute_now())
+def questions(count: int, origin: int, now: int) -> list[str]:
+    """All that an office of a random history of so many entries can be asked."""
+    found = ["/notices", "/objects", "/objects/Service/shop", *(f"/entries?from={at}" for at in range(0, count + 2, 7))]
+    for kind, names in (("SLI", ("good", "waits")), ("AlertCondition", ("c1", "c2")), ("AlertPolicy", ("p1", "p2"))):
+        found += [f"/objects/{kind}/{name}" for name in names]
+    for name in (f"s{n}" for n in range(5)):
+        found.append(f"/objects/SLO/{name}")
+        found += [f"/budgets/{name}?at={at}" for at in range(origin, now + 1, 997)]
+        for number in range(3):
+            found += [f"/burns/{name}/{number}?lookback={it}" for it in ("5m", "1h", "1d")]
+            found += [f"/alerts/{name}/{number}/{it}?from={origin}&to={now}" for it in kept.POLICIES]
+    return found
 
 
-def copied(folder: Path) -> list[bytes]:
-    """The records of a copy, where there is one already."""
-    path = folder / "office.journal"
-    if not path.exists() or path.stat().st_size < 14:
-        return []
-    return Office(Path("/bin/false"), folder).records()
+def random_history(report: Report, seed: int) -> None:
+    """An office of random changes; its feeds, and copies from random fronts that take some of them in random order; and
+    one that takes all, answers alike, and goes on as the office does."""
+    chance = random.Random(f"feeds {seed}")
+    now = minute_now()
+    origin = now - chance.choice((7_000, 20_000))
+    office = Office(report.program, report.folder(f"random-{seed}"), origin)
+    changes = list(kept.requests(seed, origin, now))
+    end = chance.randrange(40, len(changes))
+    cuts = [0, *sorted(chance.sample(range(1, end), 3)), end]
+    for part, (first, last) in enumerate(zip(cuts, cuts[1:])):
+        kept.asked_at(office, now + part, changes[first:last], last - first)
+    now += len(cuts)
+    history = office.records()
+    assert len(history) > 12, "too few entries to say much"
+    fronts = [len(history), *chance.sample(range(len(history)), 5)]
+    for reached in fronts:
+        front = made(report, f"front-{seed}-{reached}", origin, history[:reached])
+        for at, answer in enumerate(asked(front, *(f"/entries?from={it}" for it in range(reached + 2)), minute=now)):
+            wanted = Answer(200, feed_of(origin, at, history[:reached])) if at <= reached else Answer(422, b'{"error":"range"}')
+            assert answer == wanted, f"the feed from {at} of {reached} entries"
+    copy = made(report, f"copy-{seed}", origin)
+    gaps = 0
+    for _ in range(60 if report.whole else 20):
+        copy.journal.write_bytes(journal(origin, history[: chance.choice(fronts)]))
+        pairs = ((chance.choice(fronts), chance.random()) for _ in range(chance.choice((1, 2, 5, 9))))
+        data = b"".join(feed_of(origin, round(share * reached), history[:reached]) for reached, share in pairs)
+        gaps += by_rules(copy, origin, data, of_history(history)).startswith("gap ")
+    assert gaps, "no feed behind a gap"
+    by_rules(copy, origin, feed_of(origin, 0, history) + feed_of(origin, len(history), history), of_history(history))
+    assert copy.journal.read_bytes() == office.journal.read_bytes(), "another file"
+    compare(office, copy, questions(len(history), origin, now), now)
+    # the office is lost: its copy goes on from there as the office would have
+    left, right = (kept.asked_at(it, now, changes[end:], len(changes) - end) for it in (office, copy))
+    assert left == right and office.records() == copy.records(), "they don't go on alike"
+    compare(office, copy, questions(len(office.records()), origin, now), now)
+
+
+def compare(office: Office, copy: Office, targets: list[str], minute: int) -> None:
+    """Both give the same answers, byte for byte, and the same report."""
+    left, right = (asked(it, *targets, minute=minute) for it in (office, copy))
+    assert sum(it.status == 200 for it in left) > len(targets) // 8, "too few answers to say much"
+    for target, one, other in zip(targets, left, right, strict=True):
+        assert one == other, f"{target}: {one} of the office, {other} of its copy"
+    present = moment(office.records()[-1])
+    assert office.report(present) == copy.report(present), "another report"
+
+
+def refused_memory(report: Report) -> None:
+    """A growth of memory is refused, to `follow` and to an office that answers a feed, each in turn; in short some of them."""
+    office, copy = (Office(report.program, report.folder(f"refused-{name}"), memory.ORIGIN) for name in ("office", "copy"))
+    stride = 1 if report.whole else memory.STRIDE
+    bare, counted, counts = copy.journal.read_bytes(), report.room / "counted", [0]
+    with report.case(f"one of each {stride} growths refused"):
+        words = dict(os.environ, LD_PRELOAD=str(memory.compiled(report.room)), COUNTED=str(counted))
+        assert all(it.status == 200 for it in office.ask(memory.REQUESTS))
+        history = office.records()
+        data = feed_of(memory.ORIGIN, 0, history)
+        question = message("GET", "/entries?from=0")
+
+        def tried(number: int) -> tuple[str, str]:
+            """How both end with this growth refused."""
+            env = dict(words, REFUSED=str(number))
+            copy.journal.write_bytes(bare)
+            return told(office.run("pipe", data=question, env=env)), told(copy.run("follow", data=data, env=env))
+
+        def told(done: subprocess.CompletedProcess[bytes]) -> str:
+            counts.append(int(counted.read_text()))
+            if done.returncode == 7:
+                assert (done.stdout, done.stderr) == (b"", b"slo_office: no memory\n"), done
+                return "no memory"
+            assert (done.returncode, done.stderr) == (0, b""), done
+            (it,) = answers(done.stdout) or [Answer(200, done.stdout)]
+            assert it in (memory.NO_MEMORY, Answer(200, data), Answer(200, b"entries %d\n" % len(history))), it
+            return "all" if it.status == 200 else "refused"
+
+        assert tried(-1) == ("all", "all")
+        seen: set[tuple[str, str]] = set()
+        for number in range(1, max(counts) + 1, stride):
+            ways = tried(number)
+            seen |= {*zip(("office", "copy"), ways)}
+            left = copy.records()
+            assert left == history[: len(left)] and (ways[1] != "all" or left == history), f"growth {number}: no front"
+            ended(copy, data, f"entries {len(history)}", history)
+        assert {("copy", "no memory"), ("office", "no memory"), ("office", "refused")} <= seen, seen
+
+
+def random_histories(report: Report) -> None:
+    for seed in range(25 if report.whole else 1):
+        with report.case(f"a random history, its feeds and copies, seed {seed}"):
+            random_history(report, seed)
 
 
 def run(report: Report) -> None:
-    worked(report)
-    refused(report)
-    bytes_of_the_front(report)
+    ends(report)
+    bytes_of_feeds(report)
     sizes(report)
+    if report.whole:
+        most_bytes(report)
     faults(report)
     stops(report)
-    at_random(report)
+    refused_memory(report)
+    random_histories(report)
