@@ -8,6 +8,7 @@ from __future__ import annotations
 import subprocess
 
 import objects
+from feeds import feed, moment, tick
 from office import Answer, Office, define, message, minute_now
 from report import Report
 
@@ -248,7 +249,7 @@ def cells(office: Office, origin: int) -> None:
     it.settle()
 
 
-def journal(office: Office, _: int) -> None:
+def journal(office: Office, origin: int) -> None:
     """A journal of 268,435,456 bytes."""
     it = Wanted(office)
     most, room = 268_435_456, 1_048_576
@@ -291,9 +292,11 @@ def journal(office: Office, _: int) -> None:
     it.settle()
     full(message("POST", "/upgrade"), 4 + 1)
     it.settle()
-    done = office.run("migrate")
-    assert (done.returncode, done.stderr) == (9, b"slo_office: journal full\n"), done
-    assert office.journal.stat().st_size == most
+    one_more = feed(origin, entry, [tick(moment(office.records()[-1]))])
+    for words, data in (("migrate", b""), ("follow", one_more)):
+        done = office.run(words, data=data)
+        assert (done.returncode, done.stderr) == (9, b"slo_office: journal full\n"), done
+        assert office.journal.stat().st_size == most
 
 
 def run(report: Report) -> None:
