@@ -25,6 +25,10 @@ same_cell a b = cell_eq (cell_of a) (cell_of b)
 abbrev pub current_rows : List Row → List Row
 current_rows = current same_cell (λ row. row.revision)
 
+-- the row of a cell, where it has one
+abbrev pub row_of_cell : List Row → Cell → Option Row
+row_of_cell rows cell = find (λ row. cell_eq cell (cell_of row)) rows
+
 -- the row that is kept of this row's cell
 abbrev pub kept_of : List Row → Row → Option Row
 kept_of rows row = find (same_cell row) rows

@@ -14,14 +14,15 @@ ghost use Rattle.sample_book.specs.Exclusions.{Excluded, HaveOwnIds, IsLive, Lif
 ghost use Rattle.sample_book.specs.Exclusions.{exclusion_of, is_excluded, after_lifting};
 ghost use Rattle.sample_book.specs.History.{Came, Changed, Gains, Holds, is_put};
 ghost use Rattle.sample_book.specs.Puts.{IsPutInto, verdicts};
-ghost use Rattle.sample_book.specs.Rows.{MayPutAs, cell_of, current_rows, room_for, verdict_of};
+ghost use Rattle.sample_book.specs.Rows.{MayPutAs, cell_of, current_rows, room_for, row_of_cell};
+ghost use Rattle.sample_book.specs.Rows.{verdict_of};
 
 use crate::batch::check_batch;
 use crate::current_rows::CurrentRows;
 use crate::exclusions::{Exclusion, Exclusions};
 use crate::row::{Row, RowVerdict};
 use crate::tally::{counts_at, first_of};
-use cell_index::CellIndex;
+use cell_index::{Cell, CellIndex};
 use exact_fraction::{Decimal, Label, Op};
 use slice_method::{Counts, Reading};
 use std::alloc::{AllocError, Global};
@@ -148,6 +149,13 @@ impl SampleBook {
         if before < self.rows.len() {
             self.index.push(&row.cell());
         }
+    }
+
+    /// The current row of a cell, by a look-up.
+    pub fn row_of_cell(&self, cell: &Cell) -> Option<Row>
+        ensures { result ≡ row_of_cell self.now.rows cell.now }
+    {
+        self.rows.of_cell(cell)
     }
 
     /// The current row at a place of the list, from 0.

@@ -7,7 +7,8 @@ ghost use Rattle.sample_book.specs.History.{MayComeAs, is_put, room_after, rows_
 ghost use Rattle.sample_book.specs.Puts.{IsPutInto, later_of};
 ghost use Rattle.sample_book.specs.Rows.{MayPutAs, cell_of, current_rows, kept_of};
 ghost use Rattle.cell_index.specs.Cells.{cell_eq};
-ghost use Rattle.sample_book.specs.Rows.{new_cells, room_for, verdict_of, verdict_where};
+ghost use Rattle.sample_book.specs.Rows.{new_cells, room_for, row_of_cell, verdict_of};
+ghost use Rattle.sample_book.specs.Rows.{verdict_where};
 ghost use Rattle.sample_book.specs.Standing.{IsInStep, row_stored, rows_stored};
 
 use crate::row::{Row, RowVerdict};
@@ -71,14 +72,21 @@ impl CurrentRows {
         row_stored(&self.cells.at(place), &self.stored[place])
     }
 
+    /// The row of a cell.
+    pub(crate) fn of_cell(&self, cell: &Cell) -> Option<Row>
+        ensures { result ≡ row_of_cell self.now.rows cell.now }
+    {
+        match kept_place(&self.cells, self.stored.len(), cell) {
+            Some(place) => Some(row_stored(&self.cells.at(place), &self.stored[place])),
+            None => None,
+        }
+    }
+
     /// The row that is kept of a row's cell.
     fn kept(&self, row: &Row) -> Option<Row>
         ensures { result ≡ kept_of self.now.rows row.now }
     {
-        match kept_place(&self.cells, self.stored.len(), &row.cell()) {
-            Some(place) => Some(row_stored(&self.cells.at(place), &self.stored[place])),
-            None => None,
-        }
+        self.of_cell(&row.cell())
     }
 
     /// What becomes of an arriving row.
