@@ -1,8 +1,10 @@
 //! The entries of a history, kept as their records.
-ghost use Rattle.std.specs.Prelude.{◌≡◌, ◌≤◌, ◌++◌, ◌∷◌, [], length, map, drop, slice_get};
+ghost use Rattle.std.specs.Prelude.{◌≡◌, ◌≤◌, ◌<◌, ◌^◌, ◌++◌, ◌∷◌, [], length, map, drop};
+ghost use Rattle.std.specs.Prelude.{slice_get};
 ghost use Rattle.std.specs.Prelude.{OnOk, IfOk, option_map};
 ghost use Rattle.std.specs.List.{AllByRecursion};
 ghost use Rattle.record_form.specs.declared.Entry.{Entry};
+ghost use Rattle.record_form.specs.Histories.{records_of};
 ghost use Rattle.record_form.specs.Records.{record_of};
 ghost use Rattle.record_form.specs.Ranges.{FitsRecord, IsRecord};
 ghost use Rattle.entry_records.specs.Feeds.{feed_of};
@@ -58,6 +60,14 @@ impl EntryRecords {
         ensures { result ≡ length self.now.history }
     {
         self.ends.len() as u32
+    }
+
+    /// How many bytes the records have together.
+    pub fn size(&self) -> u64
+        ensures value { result ≡ length (records_of self.now.history) }
+        ensures few { result < 2 ^ 32 }
+    {
+        self.bytes.len() as u64
     }
 
     /// No work: each entry has a record.

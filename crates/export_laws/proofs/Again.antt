@@ -38,11 +38,11 @@ abbrev Zones : Type 0
 Zones = List (List ℕ × List ℕ)
 
 -- none of them comes before a zone
-abbrev NoneBefore : List ℕ × List ℕ → Zones → Type 0
+abbrev pub NoneBefore : List ℕ × List ℕ → Zones → Type 0
 NoneBefore z zs =
     AllByRecursion (λ (y : List ℕ × List ℕ). (slice_cmp nat_cmp z.0 y.0 ≡ Greater) → ⊥) zs
 
-abbrev AreByName : Zones → Type 0
+abbrev pub AreByName : Zones → Type 0
 AreByName [] = Unit {0}
 AreByName (z ∷ zs) = NoneBefore z zs × AreByName zs
 
@@ -56,7 +56,7 @@ first_put z (y ∷ ys) h = by (slice_cmp nat_cmp z.0 y.0) refl
     by Equal e = refl
     by Greater e = absurd (h.0 e)
 
-again_by_name : (zs : Zones) → AreByName zs → zones_by_name zs ≡ zs
+pub again_by_name : (zs : Zones) → AreByName zs → zones_by_name zs ≡ zs
 again_by_name [] h = refl
 again_by_name (z ∷ zs) h = ap (with_zone z) (again_by_name zs h.1) ∙ first_put z zs h.0
 
@@ -115,7 +115,7 @@ by_name_put z (y ∷ ys) h = by (slice_cmp nat_cmp z.0 y.0) refl (by_name_put z 
     )
     by Greater e more = (none_put y z ys (back e) h.0, more)
 
-are_by_name : (zs : Zones) → AreByName (zones_by_name zs)
+pub are_by_name : (zs : Zones) → AreByName (zones_by_name zs)
 are_by_name [] = tt
 are_by_name (z ∷ zs) = by_name_put z (zones_by_name zs) (are_by_name zs)
 

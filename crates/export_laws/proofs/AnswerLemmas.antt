@@ -1,15 +1,16 @@
 -- Offices that say the same of the SLOs of their catalog answer alike.
-use Rattle.std.proofs.Common.{◌≡◌, ◌∙◌, ℕ, zero, suc, ◌+◌, ◌-◌, ◌==◌, ◌||◌, ◌&&◌, Bool, true, false}
-use Rattle.std.proofs.Common.{cond}
+use Rattle.std.proofs.Common.{◌≡◌, ◌∙◌, ℕ, zero, suc, ◌+◌, ◌-◌, ◌*◌, min, ◌==◌, ◌||◌, ◌&&◌, Bool}
+use Rattle.std.proofs.Common.{true, false, cond}
 use Rattle.std.proofs.Common.{List, [], ◌∷◌, map, refl, sym, ap, subst, length, Option, Some, None}
 use Rattle.std.proofs.Common.{is_some, option_and_then, bytes_eq, nat_lt, nat_le}
 use Rattle.std.specs.Prelude.{slice_get}
-use Rattle.std.specs.List.{AllByRecursion, list_any}
+use Rattle.std.specs.List.{AllByRecursion, list_any, range_with_len}
 use Rattle.slo_limits.specs.declared.TheConstants.{MAX_LOOKBACK, MAX_TIMELINE}
 use Rattle.slo_duration.specs.Minutes.{minutes_of}
 use Rattle.zone_calendar.specs.Zone.{ZoneText, utc_text}
 use Rattle.zone_calendar.specs.ZoneBytes.{zone_of}
 use Rattle.object_terms.specs.declared.Calendar.{Calendar}
+use Rattle.object_terms.specs.declared.Kind.TheVariants as kinds
 use Rattle.object_terms.specs.declared.Object.{Object}
 use Rattle.object_terms.specs.declared.Objective.{Objective}
 use Rattle.object_terms.specs.declared.Slo.{Slo}
@@ -17,9 +18,11 @@ use Rattle.object_terms.specs.declared.TimeWindow.{TimeWindow}
 use Rattle.catalog_terms.specs.declared.Binding.{Binding}
 use Rattle.catalog_terms.specs.Bindings.{bindings}
 use Rattle.catalog_terms.specs.Keys.{member_of}
+use Rattle.sample_book.specs.Rows.{row_of_cell}
 use Rattle.slice_method.specs.declared.Reading.{Reading}
 use Rattle.burn_core.specs.declared.AlertRule.{AlertRule}
 use Rattle.burn_core.specs.Timeline.{AreSpansOf}
+use Rattle.record_form.specs.declared.BudgetRow.{BudgetRow}
 use Rattle.record_form.specs.declared.Outcome.{Outcome}
 use Rattle.record_form.specs.declared.Outcome.TheVariants as outcomes
 use Rattle.record_form.specs.declared.Outcome.TheVariants.{ObjectList, Budgets, Timeline}
@@ -27,25 +30,35 @@ use Rattle.record_form.specs.declared.Query.{Query}
 use Rattle.record_form.specs.declared.Query.TheVariants as queries
 use Rattle.record_form.specs.declared.Refusal.{Refusal}
 use Rattle.record_form.specs.declared.Refusal.TheVariants as refusals
+use Rattle.record_form.specs.declared.WindowRow.{WindowRow}
 use Rattle.office_history.specs.declared.Measure.{Measure}
 use Rattle.office_history.specs.Alerts.{Watch, is_watch_active, rule_named, same_binding, state_at}
 use Rattle.office_history.specs.Alerts.{watch_with, watched}
-use Rattle.office_history.specs.Answers.{Answers, AnswersBudgets, AnswersTimeline, asked_at}
-use Rattle.office_history.specs.Answers.{budget_row, budget_rows, budgets_from, burn_answer}
-use Rattle.office_history.specs.Answers.{burn_fault, burn_over, is_outside, is_timeline}
-use Rattle.office_history.specs.Answers.{object_answer, refused_or}
+use Rattle.office_history.specs.declared.TheConstants.{MAX_WINDOWS}
+use Rattle.office_history.specs.Answers.{Answers, AnswersBudgets, AnswersTimeline, AnswersWindows}
+use Rattle.office_history.specs.Answers.{are_asked, asked_at, budget_row, budget_rows}
+use Rattle.office_history.specs.Answers.{budgets_from, burn_answer, burn_fault, burn_over}
+use Rattle.office_history.specs.Answers.{counted_until, is_outside, is_stretch, is_timeline}
+use Rattle.office_history.specs.Answers.{object_answer, refused_or, row_answer, sums_answer}
+use Rattle.office_history.specs.Answers.{window_rows, windows_of}
 use Rattle.office_history.specs.Batches.{when}
 use Rattle.office_history.specs.Catalog.{catalog_in}
 use Rattle.office_history.specs.Counts.{sum_between}
-use Rattle.office_history.specs.History.{Office, end_of}
+use Rattle.office_history.specs.History.{Office, current_in, end_of}
+use Rattle.office_history.specs.Names.{names_in_order}
 use Rattle.office_history.specs.Notices.{samples_in}
 use Rattle.office_history.specs.Objectives.{measure_at, measure_of, measures_named, measures_of}
 use Rattle.office_history.specs.Objectives.{measures_with, reading_named, slo_named}
-use Rattle.office_history.specs.Windows.{BeginsBy, BeginsIn, WindowBegins}
+use Rattle.office_history.specs.Stretches.{stretches_between, sums_over}
+use Rattle.office_history.specs.Windows.{AreStartsIn, BeginsBy, BeginsIn, IsFirstFrom, IsStart}
+use Rattle.office_history.specs.Windows.{IsStartBy, IsStartIn, WindowBegins}
 use Rattle.office_history.specs.Zones.{bytes_named, utc, zone_named, zones_in}
+use Rattle.export_terms.specs.Zones.{zones_by_name}
+use Rattle.export_terms.proofs.NameLemmas.{names_by_name}
 use Rattle.export_laws.specs.Alike.{AsksWhatIsSent, SameAnswers, with_entries}
 use Rattle.export_laws.specs.Replay.{IsEqualOffice}
-use Rattle.export_laws.proofs.Again.{same_alerts, same_states, same_sums}
+use Rattle.export_laws.proofs.Again.{again_by_name, are_by_name, same_alerts, same_states}
+use Rattle.export_laws.proofs.Again.{same_sums}
 
 abbrev IsThere : List Object → Measure → Type 0
 IsThere members m = is_some (slo_named members m.slo) ≡ true
@@ -64,6 +77,18 @@ pub record AreAlike (a b : Office) : Type 0 where
   pub states : (w : Watch) (minute : ℕ) → IsThere (catalog_in a.history) w.measure
       → state_at b.origin (samples_in b.history) w minute
       ≡ state_at a.origin (samples_in a.history) w minute
+  pub rows : current_in b.history ≡ current_in a.history
+  pub names : names_in_order (map (λ kept. kept.0) (zones_in b.history))
+      ≡ names_in_order (map (λ kept. kept.0) (zones_in a.history))
+
+-- zones by name have the same names in their order
+same_names : (zs : List (List ℕ × List ℕ))
+    → names_in_order (map (λ (y : List ℕ × List ℕ). y.0) (zones_by_name zs))
+    ≡ names_in_order (map (λ (y : List ℕ × List ℕ). y.0) zs)
+same_names zs =
+    sym (names_by_name (zones_by_name zs))
+    ∙ ap (map (λ (y : List ℕ × List ℕ). y.0)) (again_by_name (zones_by_name zs) (are_by_name zs))
+    ∙ names_by_name zs
 
 alike : (old new : Office) → IsEqualOffice old new → AreAlike old new
 alike old new e = record {
@@ -73,6 +98,9 @@ alike old new e = record {
   sums = λ m from to there. same_sums old new m from to e there;
   alerts = λ w minute there. same_alerts old new w minute e there;
   states = λ w minute there. same_states old new w minute e there;
+  rows = e.rows;
+  names = ap (λ (zs : List (List ℕ × List ℕ)). names_in_order (map (λ kept. kept.0) zs)) e.zones
+      ∙ same_names (zones_in old.history);
 }
 
 -- it is so both ways
@@ -84,6 +112,8 @@ other_way a b e = record {
   sums = λ m from to there. sym (e.sums m from to (here m there));
   alerts = λ w minute there. sym (e.alerts w minute (here w.measure there));
   states = λ w minute there. sym (e.states w minute (here w.measure there));
+  rows = sym e.rows;
+  names = sym e.names;
 }
   where
     here : (m : Measure) → IsThere (catalog_in b.history) m → IsThere (catalog_in a.history) m
@@ -268,12 +298,116 @@ module _ (a b : Office) (e : AreAlike a b) where
       timeline = ap (λ n. nat_le n from && nat_le from to && nat_le to moment
           && nat_le (to - from) MAX_TIMELINE) (sym e.origin)
 
-  -- ALL OF THEM
+  -- OBJECTS, ROWS AND SUMS
 
   object_plain : (o : Option Object)
       → with_entries entries (object_answer o) ≡ object_answer o
   object_plain None = refl
   object_plain (Some o) = refl
+
+  row_alike : (sli source : List ℕ) (minute : ℕ) (found : Option Object)
+      → with_entries entries (row_answer a sli source minute found)
+      ≡ row_answer b sli source minute found
+  row_alike sli source minute None = refl
+  row_alike sli source minute (Some member) =
+      λ i. outcomes.Row entries (row_of_cell (sym e.rows i)
+      (record { sli = sli; source = source; minute = minute }))
+
+  sums_alike : (moment from to step : ℕ) (o : Option Measure)
+      → ((m : Measure) → o ≡ Some m → IsThere here m)
+      → with_entries entries (sums_answer a moment from to step o)
+      ≡ sums_answer b moment from to step o
+  sums_alike moment from to step None there = refl
+  sums_alike moment from to step (Some m) there =
+      by (are_asked a.origin moment from to step)
+      ∙ (λ i. cond (are_asked (sym e.origin i) moment from to step)
+      (outcomes.Sums moment entries (map (λ k. sym (e.sums m (from + k * step)
+      (min (from + k * step + step) to) (there m refl)) i)
+      (range_with_len 0 (stretches_between from to step)))) (outcomes.Refused refusals.Range))
+    where
+      by : (c : Bool) → with_entries entries (cond c (outcomes.Sums moment (length a.history)
+          (sums_over (samples_in a.history) m from to step)) (outcomes.Refused refusals.Range))
+          ≡ cond c (outcomes.Sums moment entries (sums_over (samples_in a.history) m from to step))
+          (outcomes.Refused refusals.Range)
+      by true = refl
+      by false = refl
+
+  -- WINDOWS
+
+  rows_of_windows : (moment : ℕ) (ms : List Measure) → AllByRecursion (IsThere here) ms
+      → (starts : List ℕ) (next : Option ℕ)
+      → window_rows (λ from to. budget_rows (samples_in a.history) from (counted_until moment to) 0
+      ms) starts next
+      ≡ window_rows (λ from to. budget_rows (samples_in b.history) from (counted_until moment to) 0
+      ms) starts next
+  rows_of_windows moment ms h starts next = ap
+      (λ (budgets : ℕ → Option ℕ → List BudgetRow). window_rows budgets starts next)
+      (λ i from to. rows_alike from (counted_until moment to) 0 ms h i)
+
+  windows_plain : (moment : ℕ) (name : List ℕ) (starts : List ℕ) (next : Option ℕ)
+      → with_entries entries (windows_of a moment (measures_named here name) starts next)
+      ≡ windows_of b moment (measures_named (catalog_in b.history) name) starts next
+  windows_plain moment name starts next =
+      by (nat_lt MAX_WINDOWS (length starts))
+      ∙ (λ i. cond (nat_lt MAX_WINDOWS (length starts)) (outcomes.Refused refusals.Range)
+      (outcomes.Windows moment entries
+      (rows_of_windows moment (measures_named here name) (measures_there here name) starts next i)))
+      ∙ (λ i. windows_of b moment (measures_named (sym e.catalog i) name) starts next)
+    where
+      rows : List WindowRow
+      rows = window_rows (λ from to. budget_rows (samples_in a.history) from
+          (counted_until moment to) 0 (measures_named here name)) starts next
+
+      by : (c : Bool) → with_entries entries (cond c (outcomes.Refused refusals.Range)
+          (outcomes.Windows moment (length a.history) rows))
+          ≡ cond c (outcomes.Refused refusals.Range) (outcomes.Windows moment entries rows)
+      by true = refl
+      by false = refl
+
+  starts_alike : (window : TimeWindow)
+      → IsStart (zones_in a.history) window (end_of a.origin)
+      ≡ IsStart (zones_in b.history) window (end_of b.origin)
+  starts_alike window =
+      by window.calendar ∙ (λ i. IsStart (zones_in b.history) window (end_of (sym e.origin i)))
+    where
+      zone : (name : List ℕ)
+          → zone_named (zones_in a.history) name ≡ zone_named (zones_in b.history) name
+      zone name = ap (λ o. cond (bytes_eq name utc) (Some utc_text) (option_and_then zone_of o))
+          (sym (e.bytes name))
+
+      by : (c : Option Calendar)
+          → IsStartBy (zones_in a.history) window.duration.span (end_of a.origin) c
+          ≡ IsStartBy (zones_in b.history) window.duration.span (end_of a.origin) c
+      by None = refl
+      by (Some calendar) = λ i. IsStartIn (zone calendar.time_zone i) calendar
+          window.duration.span (end_of a.origin)
+
+  windows_alike : (moment : ℕ) (name : List ℕ) (from to : ℕ) (s : Option Slo) (outcome : Outcome)
+      → AnswersWindows a moment name from to s outcome
+      → AnswersWindows b moment name from to s (with_entries entries outcome)
+  windows_alike moment name from to None outcome h = ap (with_entries entries) h
+  windows_alike moment name from to (Some slo) outcome h =
+      subst (λ (c : Bool). cond c
+      ((starts : List ℕ) × (next : Option ℕ) × AreStartsIn
+      (IsStart (zones_in b.history) slo.time_window (end_of b.origin)) from to starts
+      × IsFirstFrom (IsStart (zones_in b.history) slo.time_window (end_of b.origin)) to next
+      × (with_entries entries outcome
+      ≡ windows_of b moment (measures_named (catalog_in b.history) name) starts next))
+      (with_entries entries outcome ≡ outcomes.Refused refusals.Range))
+      (λ i. is_stretch (sym e.origin i) moment from to)
+      (either_way (is_stretch a.origin moment from to) _ _ _ _
+      (λ p. (
+        p.0,
+        p.1,
+        subst (λ (Starts : ℕ → Type 0). AreStartsIn Starts from to p.0)
+            (starts_alike slo.time_window) p.2,
+        subst (λ (Starts : ℕ → Type 0). IsFirstFrom Starts to p.1)
+            (starts_alike slo.time_window) p.3,
+        ap (with_entries entries) p.4 ∙ windows_plain moment name p.0 p.1,
+      ))
+      (λ r. ap (with_entries entries) r) h)
+
+  -- ALL OF THEM
 
   pub answers_alike : (moment : ℕ) (query : Query) (outcome : Outcome) → AsksWhatIsSent query
       → Answers a moment query outcome → Answers b moment query (with_entries entries outcome)
@@ -301,6 +435,23 @@ module _ (a b : Office) (e : AreAlike a b) where
       (timeline_alike moment from to (watched here binding) outcome (watch_there here binding) h)
   answers_alike moment queries.Notices outcome asks h = absurd asks
   answers_alike moment (queries.Entries from) outcome asks h = absurd asks
+  answers_alike moment (queries.Row sli source minute) outcome asks h =
+      ap (with_entries entries) h
+      ∙ row_alike sli source minute (member_of here kinds.Sli sli)
+      ∙ (λ i. row_answer b sli source minute (member_of (sym e.catalog i) kinds.Sli sli))
+  answers_alike moment queries.Exclusions outcome asks h = absurd asks
+  answers_alike moment queries.Zones outcome asks h =
+      ap (with_entries entries) h ∙ ap (outcomes.Zones entries) (sym e.names)
+  answers_alike moment queries.Status outcome asks h = absurd asks
+  answers_alike moment (queries.Sums slo objective from to step) outcome asks h =
+      ap (with_entries entries) h
+      ∙ sums_alike moment from to step (measure_at here slo objective)
+      (measure_there here slo objective)
+      ∙ (λ i. sums_answer b moment from to step (measure_at (sym e.catalog i) slo objective))
+  answers_alike moment (queries.Windows slo from to) outcome asks h =
+      subst (λ (members : List Object). AnswersWindows b moment slo from to
+      (slo_named members slo) (with_entries entries outcome)) (sym e.catalog)
+      (windows_alike moment slo from to (slo_named here slo) outcome h)
 
 pub same_answers : SameAnswers
 same_answers old new moment query outcome e asks = (

@@ -9,9 +9,9 @@ use Rattle.record_form.specs.declared.Outcome.{Outcome}
 use Rattle.record_form.specs.declared.Outcome.TheVariants.{JournalFull}
 use Rattle.record_form.specs.declared.Request.TheVariants.{Change}
 use Rattle.office_history.specs.declared.Judgement.TheVariants.{Accepted}
-use Rattle.office_history.specs.History.{Office, moment_of, end_of}
+use Rattle.office_history.specs.History.{Office, moment_of, end_of, tail_of}
 use Rattle.office_history.specs.Legal.{IsLegal, MayFollow, office, empty}
-use Rattle.office_history.specs.Outcomes.{outcome_by, outcome_of, tail_of}
+use Rattle.office_history.specs.Outcomes.{outcome_by, outcome_of}
 use Rattle.office_counter.specs.Steps.{Comes, past, comes, with_made, made_by, needed_for}
 use Rattle.history_laws.specs.Judged.{OneJudgement}
 use Rattle.export_terms.specs.Moves.{moves}

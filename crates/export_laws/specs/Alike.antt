@@ -1,7 +1,8 @@
 -- What an equal office says like the first one.
 use Rattle.std.specs.Prelude.{◌≡◌, ℕ, is_some, length, true}
 use Rattle.record_form.specs.declared.Outcome.{Outcome}
-use Rattle.record_form.specs.declared.Outcome.TheVariants.{ObjectList, Budgets, Burn, Timeline}
+use Rattle.record_form.specs.declared.Outcome.TheVariants.{ObjectList, Budgets, Burn, Timeline, Row}
+use Rattle.record_form.specs.declared.Outcome.TheVariants.{Zones, Sums, Windows}
 use Rattle.record_form.specs.declared.Query.{Query}
 use Rattle.record_form.specs.declared.Query.TheVariants as queries
 use Rattle.office_history.specs.declared.Measure.{Measure}
@@ -44,12 +45,19 @@ with_entries n (ObjectList entries objects) = ObjectList n objects
 with_entries n (Budgets at budgets entries) = Budgets at budgets n
 with_entries n (Burn at burn den entries num) = Burn at burn den n num
 with_entries n (Timeline entries intervals state) = Timeline n intervals state
+with_entries n (Row entries row) = Row n row
+with_entries n (Zones entries zones) = Zones n zones
+with_entries n (Sums at entries sums) = Sums at n sums
+with_entries n (Windows at entries windows) = Windows at n windows
 with_entries n outcome = outcome
 
--- notices aren't sent, and the entries are others
+-- notices and earlier rows aren't sent, of the exclusions only those of the catalog's SLOs, and the
+-- entries are others
 abbrev pub AsksWhatIsSent : Query → Type 0
 AsksWhatIsSent queries.Notices = ⊥
 AsksWhatIsSent (queries.Entries from) = ⊥
+AsksWhatIsSent queries.Exclusions = ⊥
+AsksWhatIsSent queries.Status = ⊥
 AsksWhatIsSent _ = Unit {0}
 
 -- an equal office answers each other query alike, but for the count of its entries

@@ -33,8 +33,8 @@ pub fn moves_make_an_equal_office()
 }
 
 /// An equal office has the same moves, says of each SLO of its catalog the same sums, alerts and
-/// states, and answers each query but those for notices and entries alike, but for the count of its
-/// entries.
+/// states, and answers each query but those for notices, entries, exclusions and how full it is
+/// alike, but for the count of its entries.
 pub fn equal_offices_answer_alike()
     ensures moves { SameMoves }
     ensures sums { SameSums }

@@ -1,6 +1,6 @@
 -- Two outcomes that answer one query over one office are the same.
-use Rattle.std.proofs.Common.{◌≡◌, ℕ, Bool, true, false, cond, length, List, Option, Some, None}
-use Rattle.std.proofs.Common.{sym, ap, ◌∙◌}
+use Rattle.std.proofs.Common.{◌≡◌, ◌+◌, ℕ, Bool, true, false, cond, length, List, [], ◌∷◌, Option}
+use Rattle.std.proofs.Common.{Some, None, refl, sym, ap, subst, arith, ◌∙◌}
 use Rattle.slo_duration.specs.declared.duration.Duration.{Duration}
 use Rattle.zone_calendar.specs.Starts.{is_counted, start_at}
 use Rattle.zone_calendar.specs.Zone.{ZoneText}
@@ -17,11 +17,13 @@ use Rattle.office_history.specs.History.{Office, end_of}
 use Rattle.office_history.specs.Catalog.{catalog_in}
 use Rattle.office_history.specs.Zones.{zones_in}
 use Rattle.office_history.specs.Objectives.{slo_named, measures_named}
-use Rattle.office_history.specs.Windows.{BeginsIn, BeginsBy, WindowBegins}
+use Rattle.office_history.specs.Windows.{AreStartsIn, BeginsIn, BeginsBy, IsFirstFrom, IsStart}
+use Rattle.office_history.specs.Windows.{WindowBegins}
 use Rattle.office_history.specs.Alerts.{Watch, watched, state_at, is_watch_active}
 use Rattle.office_history.specs.Notices.{samples_in}
-use Rattle.office_history.specs.Answers.{Answers, AnswersBudgets, AnswersTimeline, asked_at}
-use Rattle.office_history.specs.Answers.{budgets_from, is_outside, is_timeline}
+use Rattle.office_history.specs.Answers.{Answers, AnswersBudgets, AnswersTimeline, AnswersWindows}
+use Rattle.office_history.specs.Answers.{asked_at, budgets_from, is_outside, is_stretch}
+use Rattle.office_history.specs.Answers.{is_timeline, windows_of}
 use Rattle.history_answers.proofs.SpanLemmas.{spans_are_one}
 
 both : (x a b : Outcome) → a ≡ x → b ≡ x → a ≡ b
@@ -86,6 +88,54 @@ one_timeline o moment from to (Some w) a b of_a of_b =
     (both (Refused refusals.Range))
     a b of_a of_b
 
+the_least : (Starts : ℕ → Type 0) (from a b : ℕ) → IsFirstFrom Starts from (Some a)
+    → IsFirstFrom Starts from (Some b) → a ≡ b
+the_least Starts from a b of_a of_b =
+    omega (arith, of_a.2 b of_b.0 of_b.1, of_b.2 a of_a.0 of_a.1)
+
+-- there is one first start from a minute on, or none
+one_first : (Starts : ℕ → Type 0) (from : ℕ) (a b : Option ℕ) → IsFirstFrom Starts from a
+    → IsFirstFrom Starts from b → a ≡ b
+one_first Starts from None None of_a of_b = refl
+one_first Starts from None (Some b) of_a of_b = absurd (omega (arith, of_a b of_b.0, of_b.1))
+one_first Starts from (Some a) None of_a of_b = absurd (omega (arith, of_b a of_a.0, of_a.1))
+one_first Starts from (Some a) (Some b) of_a of_b =
+    ap Some (the_least Starts from a b of_a of_b)
+
+-- and one list of starts in a stretch
+one_list : (Starts : ℕ → Type 0) (from to : ℕ) (xs ys : List ℕ) → AreStartsIn Starts from to xs
+    → AreStartsIn Starts from to ys → xs ≡ ys
+one_list Starts from to [] [] of_x of_y = refl
+one_list Starts from to [] (y ∷ ys) of_x of_y =
+    absurd (omega (arith, of_x y of_y.0.0 of_y.0.1, of_y.1))
+one_list Starts from to (x ∷ xs) [] of_x of_y =
+    absurd (omega (arith, of_y x of_x.0.0 of_x.0.1, of_x.1))
+one_list Starts from to (x ∷ xs) (y ∷ ys) of_x of_y =
+    let same = the_least Starts from x y of_x.0 of_y.0 in
+    let rest = one_list Starts (x + 1) to xs ys of_x.2
+    (subst (λ n. AreStartsIn Starts (n + 1) to ys) (sym same) of_y.2) in
+    λ i. same i ∷ rest i
+
+one_windows : (o : Office) (moment : ℕ) (name : List ℕ) (from to : ℕ) (slo : Option Slo)
+    (a b : Outcome) → AnswersWindows o moment name from to slo a
+    → AnswersWindows o moment name from to slo b → a ≡ b
+one_windows o moment name from to None a b of_a of_b = both _ a b of_a of_b
+one_windows o moment name from to (Some slo) a b of_a of_b =
+    let Starts = IsStart (zones_in o.history) slo.time_window (end_of o.origin) in
+    let measures = measures_named (catalog_in o.history) name in
+    choice (is_stretch o.origin moment from to)
+    (λ x. (starts : List ℕ) × (next : Option ℕ) × AreStartsIn
+    (IsStart (zones_in o.history) slo.time_window (end_of o.origin)) from to starts
+    × IsFirstFrom (IsStart (zones_in o.history) slo.time_window (end_of o.origin)) to next
+    × (x ≡ windows_of o moment (measures_named (catalog_in o.history) name) starts next))
+    (λ x. x ≡ Refused refusals.Range)
+    (λ x y of_x of_y.
+    let starts = one_list Starts from to of_x.0 of_y.0 of_x.2 of_y.2 in
+    let next = one_first Starts to of_x.1 of_y.1 of_x.3 of_y.3 in
+    of_x.4 ∙ (λ i. windows_of o moment measures (starts i) (next i)) ∙ sym of_y.4)
+    (both (Refused refusals.Range))
+    a b of_a of_b
+
 pub one_answer : (o : Office) (moment : ℕ) (query : Query) (a b : Outcome)
     → Answers o moment query a → Answers o moment query b → a ≡ b
 one_answer o moment queries.Objects a b of_a of_b = both _ a b of_a of_b
@@ -99,3 +149,11 @@ one_answer o moment (queries.Timeline slo objective policy from to) a b of_a of_
     (record { slo = slo; objective = objective; policy = policy })) a b of_a of_b
 one_answer o moment queries.Notices a b of_a of_b = both _ a b of_a of_b
 one_answer o moment (queries.Entries from) a b of_a of_b = both _ a b of_a of_b
+one_answer o moment (queries.Row sli source minute) a b of_a of_b = both _ a b of_a of_b
+one_answer o moment queries.Exclusions a b of_a of_b = both _ a b of_a of_b
+one_answer o moment queries.Zones a b of_a of_b = both _ a b of_a of_b
+one_answer o moment queries.Status a b of_a of_b = both _ a b of_a of_b
+one_answer o moment (queries.Sums slo objective from to step) a b of_a of_b =
+    both _ a b of_a of_b
+one_answer o moment (queries.Windows slo from to) a b of_a of_b =
+    one_windows o moment slo from to (slo_named (catalog_in o.history) slo) a b of_a of_b

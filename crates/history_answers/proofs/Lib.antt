@@ -1,5 +1,9 @@
 mod BudgetLemmas
 mod LawLemmas
+mod ListLemmas
 mod SpanLemmas
+mod StartLemmas
+mod StatusLemmas
 mod SumLemmas
 mod TimelineLemmas
+mod WindowLemmas

@@ -29,7 +29,7 @@ use slo_limits::{MAX_OBJECTIVES, RANGE_MINUTES};
 use std::alloc::{AllocError, Global};
 
 /// The budgets of objectives, by their numbers, counted over [from, at).
-fn budget_rows(
+pub(crate) fn budget_rows(
     alloc: Global,
     derived: &Derived,
     measures: &[Measure],

@@ -28,6 +28,16 @@ fn sum_of<L: Ledger>(sums: &WindowSums, from: u32, to: u32, blank: Blank) -> Lea
     sums.sum(from, to, &mut steps)
 }
 
+/// The same, for a caller that counts no steps either.
+pub(crate) fn sum_in(sums: &WindowSums, from: u32, to: u32) -> Leaf
+    requires order { from ≤ to }
+    ensures value { result ≡ sum_of_slices (width_of sums.now.method) (leaf_at sums.now) from to }
+    ensures part { result.num ≤ result.den }
+    ensures few { result.den ≤ most_events }
+{
+    sum_of::<Brand>(sums, from, to, Blank::new(1))
+}
+
 /// What an objective counts in [from, to). Takes no memory.
 pub(crate) fn sum_between(derived: &Derived, measure: &Measure, from: u32, to: u32) -> Leaf
     requires sound { IsSound derived.now }
@@ -38,5 +48,5 @@ pub(crate) fn sum_between(derived: &Derived, measure: &Measure, from: u32, to: u
     ensures few { result.den ≤ most_events }
 {
     let sums = objective_sums(derived, measure);
-    sum_of::<Brand>(sums, from, to, Blank::new(1))
+    sum_in(sums, from, to)
 }

@@ -11,7 +11,8 @@ use office_derived::Zones;
 use slo_duration::{Duration, rolling_minutes};
 use zone_calendar::{Zone, last_start};
 
-fn is_utc(name: ZoneName) -> bool
+/// Whether a name is that of the zone that is always there.
+pub(crate) fn is_utc(name: ZoneName) -> bool
     ensures { result ≡ bytes_eq name utc }
 {
     name.as_bytes() == b"UTC".as_slice()

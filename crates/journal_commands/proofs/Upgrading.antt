@@ -18,8 +18,8 @@ use Rattle.record_form.specs.declared.Refusal.TheVariants as refusals
 use Rattle.record_form.specs.declared.Request.TheVariants.{Change}
 use Rattle.office_history.specs.declared.Judgement.{Judgement}
 use Rattle.office_history.specs.declared.Judgement.TheVariants.{Accepted, Refused, Same}
-use Rattle.office_history.specs.History.{Office, end_of, moment_of, with_entry}
-use Rattle.office_history.specs.Outcomes.{outcome_by, tail_of}
+use Rattle.office_history.specs.History.{Office, end_of, moment_of, tail_of, with_entry}
+use Rattle.office_history.specs.Outcomes.{outcome_by}
 use Rattle.office_history.specs.Versions.{is_upgrade, is_upgraded}
 use Rattle.office_counter.specs.Steps as steps
 use Rattle.office_counter.specs.Steps.{Comes, made_by, needed_for, with_made}

@@ -12,8 +12,7 @@ use Rattle.record_form.specs.declared.Entry.{Entry}
 use Rattle.record_form.specs.declared.Outcome.{Outcome}
 use Rattle.record_form.specs.declared.Outcome.TheVariants as outcomes
 use Rattle.record_form.specs.declared.Request.TheVariants.{Change}
-use Rattle.office_history.specs.History.{Office, end_of, moment_of}
-use Rattle.office_history.specs.Outcomes.{tail_of}
+use Rattle.office_history.specs.History.{Office, end_of, moment_of, tail_of}
 use Rattle.office_history.specs.Versions.{is_upgraded}
 use Rattle.office_counter.specs.Steps.{Comes, needed_for, with_made}
 use Rattle.office_keep.specs.Files.{StandsFor}

@@ -1,10 +1,12 @@
--- Members whose days pass the limit.
-use Rattle.std.proofs.Common.{◌≡◌, ℕ, ◌+◌, ◌<◌, ◌≤◌, List, ap, sym, ◌∙◌, arith, length, take}
-use Rattle.std.proofs.Common.{get_or, true, false, nat_lt}
-use Rattle.std.proofs.lemmas.Bool.{le-ltb, lt-ltb}
+-- The days of members, and whether they pass the limit.
+use Rattle.std.proofs.Common.{◌≡◌, ℕ, ◌+◌, ◌<◌, ◌≤◌, List, ap, sym, ◌∙◌, arith, length, take, refl}
+use Rattle.std.proofs.Common.{get_or, Bool, true, false, cond, nat_lt, Option, Some, None}
+use Rattle.std.proofs.lemmas.Bool.{le-ltb, lt-ltb, ltb-false}
 use Rattle.std.proofs.lemmas.Grind.{common_steps}
 use Rattle.std.proofs.lemmas.List.Sums.{sum_by_more, sum_by_more_le}
-use Rattle.slo_limits.specs.declared.TheConstants.{MAX_DAYS}
+use Rattle.slo_limits.specs.declared.TheConstants.{MAX_DAYS, MAX_OBJECTS}
+use Rattle.catalog_terms.specs.declared.CatalogLimit.{CatalogLimit}
+use Rattle.catalog_terms.specs.Limits.{else_within, first_limit}
 use Rattle.object_terms.specs.declared.Object.{Object}
 use Rattle.object_terms.specs.Slo.{slo_in}
 use Rattle.sample_book.specs.declared.Row.{Row}
@@ -43,3 +45,25 @@ passes_already members rows place total pairs o within is so here h =
     let same : pairs ≡ days_of_slo rows (slo_in (get_or members place o).body) = here
     ∙ ap (λ (o : Object). days_of_slo rows (slo_in o.body)) is in
     sym (lt-ltb MAX_DAYS (objective_days members rows) (omega (arith, all, so, same, h)))
+
+-- members of which none is left
+pub counted_all : (members : List Object) (rows : List Row) (place total : ℕ) →
+    length members ≤ place → total ≡ objective_days (take place members) rows →
+    total ≡ objective_days members rows
+counted_all members rows place total over is =
+    let all : take place members ≡ members = grind (arith, common_steps) in
+    is ∙ ap (λ (ms : List Object). objective_days ms rows) all
+
+-- a count within its limit
+at_most : (most count : ℕ) (limit : CatalogLimit) (rest : Option CatalogLimit)
+    → else_within most count limit rest ≡ None → count ≤ most
+at_most most count limit rest e = by (nat_lt most count) refl e
+  where
+    by : (b : Bool) → nat_lt most count ≡ b → cond b (Some limit) rest ≡ None → count ≤ most
+    by true f g = cc g
+    by false f g = ltb-false most count f
+
+-- a catalog has no more members than the limit
+pub few_members : (members : List Object) → first_limit members ≡ None
+    → length members ≤ MAX_OBJECTS
+few_members members none = at_most MAX_OBJECTS (length members) _ _ none

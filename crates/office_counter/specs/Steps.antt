@@ -16,10 +16,10 @@ use Rattle.record_form.specs.Records.{record_of}
 use Rattle.office_history.specs.declared.Judgement.{Judgement}
 use Rattle.office_history.specs.declared.Judgement.TheVariants.{Accepted, Refused, Same}
 use Rattle.office_history.specs.Answers.{Answers}
-use Rattle.office_history.specs.History.{Office, end_of, moment_of, with_entry}
+use Rattle.office_history.specs.History.{Office, end_of, moment_of, tail_of, with_entry}
 use Rattle.office_history.specs.Judges.{Judges}
 use Rattle.office_history.specs.Legal.{IsLegal}
-use Rattle.office_history.specs.Outcomes.{outcome_by, tail_of}
+use Rattle.office_history.specs.Outcomes.{outcome_by}
 
 -- the entry of a command at a moment
 abbrev pub entry_of : ℕ → Command → Entry

@@ -1,5 +1,6 @@
--- Each item with those before it, and one item more.
-use Rattle.std.proofs.Common.{◌≡◌, List, [], ◌∷◌, ◌++◌, refl, ap, sym, ◌∙◌, map}
+-- Each item with those before it, one item more, and what stands at a place.
+use Rattle.std.proofs.Common.{◌≡◌, List, [], ◌∷◌, ◌++◌, refl, ap, sym, ◌∙◌, map, ℕ, zero, suc, ◌+◌}
+use Rattle.std.proofs.Common.{◌≤◌, ◌<◌, arith, length, take, drop, get_or}
 use Rattle.std.specs.List.{flat_map}
 use Rattle.std.proofs.lemmas.List.{append-nil, map-append}
 use Rattle.std.proofs.lemmas.Grind.{flat_map-append}
@@ -52,3 +53,31 @@ pub last-push : {A : Type 0} (xs : List A) (x : A) → last_of (xs ++ x ∷ []) 
 last-push [] x = refl
 last-push (y ∷ []) x = refl
 last-push (y ∷ z ∷ xs) x = last-push (z ∷ xs) x
+
+-- from a place on, a list is what stands there and what is behind it
+pub from_index : {A : Type 0} (place : ℕ) (xs : List A) (x d : A) → place < length xs
+    → x ≡ get_or xs place d → drop place xs ≡ x ∷ drop (place + 1) xs
+from_index zero [] x d h e = absurd (omega (arith, h))
+from_index zero (y ∷ xs) x d h e = ap (λ z. z ∷ xs) (sym e)
+from_index (suc n) [] x d h e = absurd (omega (arith, h))
+from_index (suc n) (y ∷ xs) x d h e =
+    let f : suc n + 1 ≡ suc (n + 1) = omega arith in
+    from_index n xs x d (omega (arith, h)) e ∙ ap (λ k. x ∷ drop k (y ∷ xs)) (sym f)
+
+-- what stands before the next place
+pub to_index : {A : Type 0} (place : ℕ) (xs : List A) (x d : A) → place < length xs
+    → x ≡ get_or xs place d → take (place + 1) xs ≡ take place xs ++ x ∷ []
+to_index zero [] x d h e = absurd (omega (arith, h))
+to_index zero (y ∷ xs) x d h e = ap (λ z. z ∷ []) (sym e)
+to_index (suc n) [] x d h e = absurd (omega (arith, h))
+to_index (suc n) (y ∷ xs) x d h e =
+    let f : suc n + 1 ≡ suc (n + 1) = omega arith in
+    ap (λ k. take k (y ∷ xs)) f
+    ∙ ap (λ zs. y ∷ zs) (to_index n xs x d (omega (arith, h)) e)
+
+-- behind the last place there is nothing
+pub all_past : {A : Type 0} (place : ℕ) (xs : List A) → length xs ≤ place → drop place xs ≡ []
+all_past zero [] h = refl
+all_past zero (y ∷ xs) h = absurd (omega (arith, h))
+all_past (suc n) [] h = refl
+all_past (suc n) (y ∷ xs) h = all_past n xs (omega (arith, h))

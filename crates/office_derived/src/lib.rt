@@ -7,12 +7,16 @@ mod accepting;
 mod derived;
 mod tally;
 mod verdict;
+mod versions;
 mod work;
+mod zone_names;
 mod zones;
 
 pub use accepting::accepted;
 pub use derived::Derived;
 pub use tally::BatchTally;
 pub use verdict::Verdict;
+pub use versions::{cell_limit, row_limit};
 pub use work::Work;
+pub use zone_names::names_in_order;
 pub use zones::Zones;

@@ -11,6 +11,7 @@ use Rattle.std.proofs.lemmas.Bool.Decides.{nat_tests}
 use Rattle.std.proofs.lemmas.List.{length-drop}
 use Rattle.sample_book.specs.declared.Exclusion.{Exclusion}
 use Rattle.sample_book.specs.declared.Row.{Row}
+use Rattle.office_derived.proofs.Lists.{all_past, from_index}
 use Rattle.object_terms.specs.declared.Kind.{Kind}
 use Rattle.object_terms.specs.declared.Object.{Object}
 use Rattle.catalog_terms.specs.Keys.{is_kind}
@@ -34,27 +35,6 @@ from_place (suc n) (y ∷ xs) x h =
     let e : suc n + 1 ≡ suc (n + 1) = omega arith in
     from_place n xs x h ∙ ap (λ k. x ∷ drop k (y ∷ xs)) (sym e)
 
--- the same of what an index gives
-pub from_index : {A : Type 0} (place : ℕ) (xs : List A) (x d : A) → place < length xs
-    → x ≡ get_or xs place d → drop place xs ≡ x ∷ drop (place + 1) xs
-from_index zero [] x d h e = absurd (omega (arith, h))
-from_index zero (y ∷ xs) x d h e = ap (λ z. z ∷ xs) (sym e)
-from_index (suc n) [] x d h e = absurd (omega (arith, h))
-from_index (suc n) (y ∷ xs) x d h e =
-    let f : suc n + 1 ≡ suc (n + 1) = omega arith in
-    from_index n xs x d (omega (arith, h)) e ∙ ap (λ k. x ∷ drop k (y ∷ xs)) (sym f)
-
--- what stands before the next place
-pub to_index : {A : Type 0} (place : ℕ) (xs : List A) (x d : A) → place < length xs
-    → x ≡ get_or xs place d → take (place + 1) xs ≡ take place xs ++ x ∷ []
-to_index zero [] x d h e = absurd (omega (arith, h))
-to_index zero (y ∷ xs) x d h e = ap (λ z. z ∷ []) (sym e)
-to_index (suc n) [] x d h e = absurd (omega (arith, h))
-to_index (suc n) (y ∷ xs) x d h e =
-    let f : suc n + 1 ≡ suc (n + 1) = omega arith in
-    ap (λ k. take k (y ∷ xs)) f
-    ∙ ap (λ zs. y ∷ zs) (to_index n xs x d (omega (arith, h)) e)
-
 -- behind the last place there is nothing
 pub past_place : {A : Type 0} (place : ℕ) (xs : List A) → slice_get xs place ≡ None
     → drop place xs ≡ []
@@ -62,12 +42,6 @@ past_place zero [] h = refl
 past_place zero (y ∷ xs) h = cc h
 past_place (suc n) [] h = refl
 past_place (suc n) (y ∷ xs) h = past_place n xs h
-
-pub all_past : {A : Type 0} (place : ℕ) (xs : List A) → length xs ≤ place → drop place xs ≡ []
-all_past zero [] h = refl
-all_past zero (y ∷ xs) h = absurd (omega (arith, h))
-all_past (suc n) [] h = refl
-all_past (suc n) (y ∷ xs) h = all_past n xs (omega (arith, h))
 
 -- so far, the next, and the rest
 pub next_of : {A : Type 0} (before next rest all : List A) → before ++ (next ++ rest) ≡ all

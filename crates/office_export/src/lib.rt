@@ -9,6 +9,5 @@ mod listing;
 mod requests;
 mod sizes;
 mod step;
-mod zones;
 
 pub use exporting::{ExportFault, export};

@@ -7,10 +7,9 @@ ghost use Rattle.office_export.specs.Steps.{row_steps, step_if, steps_of, steps_
 ghost use Rattle.office_export.specs.Steps.{upgrade_steps, zone_steps};
 
 use crate::step::Step;
-use crate::zones::names_in_order;
 use exact_fraction::ZoneName;
 use object_terms::Kind;
-use office_derived::Zones;
+use office_derived::{Zones, names_in_order};
 use sample_book::{Exclusion, SampleBook};
 use slo_catalog::{Catalog, slo_in};
 use std::alloc::{AllocError, Global};

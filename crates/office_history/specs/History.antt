@@ -1,5 +1,6 @@
--- What a history of entries says of the present, of rows, exclusions and zones.
+-- What a history of entries says of the present, of rows and exclusions, and of its journal.
 use Rattle.std.specs.Prelude.{ℕ, Bool, List, [], ◌∷◌, ◌++◌, fold, max, map, length, filter, ◌+◌}
+use Rattle.std.specs.Prelude.{sum_by}
 use Rattle.std.specs.List.{flat_map}
 use Rattle.slo_limits.specs.declared.TheConstants.{RANGE_MINUTES}
 use Rattle.sample_book.specs.declared.Row.{Row}
@@ -8,6 +9,7 @@ use Rattle.sample_book.specs.Exclusions.{Change, Excluded, Lifted}
 use Rattle.sample_book.specs.Rows.{current_rows}
 use Rattle.sample_book.specs.Puts.{verdicts}
 use Rattle.sample_book.specs.History.{Arrival, Came, Changed, exclusions_of, is_put}
+use Rattle.record_form.specs.Records.{record_of}
 use Rattle.record_form.specs.declared.Command.{Command}
 use Rattle.record_form.specs.declared.Command.TheVariants.{Samples, Exclude, Lift}
 use Rattle.record_form.specs.declared.Entry.{Entry}
@@ -71,3 +73,7 @@ arrivals_of _ = []
 -- what happens to the book of samples, in order
 abbrev pub arrivals_in : List Entry → List Arrival
 arrivals_in history = flat_map (λ (e : Entry). arrivals_of e.command) history
+
+-- where the last gate of a journal of these entries stands
+abbrev pub tail_of : List Entry → ℕ
+tail_of history = 13 + sum_by (λ (e : Entry). 5 + length (record_of e)) history

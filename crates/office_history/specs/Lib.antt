@@ -1,14 +1,17 @@
 pub mod Lists
+pub mod Names
 pub mod History
 pub mod Zones
 pub mod Catalog
 pub mod Objectives
 pub mod Counts
+pub mod Stretches
 pub mod Windows
 pub mod Alerts
 pub mod Notices
 pub mod Versions
 pub mod Batches
+pub mod Status
 pub mod Verdicts
 pub mod Readings
 pub mod KnownZones

@@ -1,5 +1,5 @@
 -- What an accepted command answers, and what a request answers whatever becomes of it.
-use Rattle.std.specs.Prelude.{◌≡◌, ℕ, ◌+◌, cond, nat_lt, List, length, sum_by, Some}
+use Rattle.std.specs.Prelude.{◌≡◌, ℕ, ◌+◌, cond, nat_lt, length, Some}
 use Rattle.slo_limits.specs.declared.TheConstants.{MAX_JOURNAL_BYTES}
 use Rattle.record_form.specs.Records.{record_of}
 use Rattle.record_form.specs.declared.Command.{Command}
@@ -13,7 +13,7 @@ use Rattle.record_form.specs.declared.Request.{Request}
 use Rattle.record_form.specs.declared.Request.TheVariants.{Change, Ask}
 use Rattle.office_history.specs.declared.judgement.Judgement.{Judgement}
 use Rattle.office_history.specs.declared.judgement.Judgement.TheVariants as judgements
-use Rattle.office_history.specs.History.{Office, moment_of, end_of, rows_in}
+use Rattle.office_history.specs.History.{Office, moment_of, end_of, rows_in, tail_of}
 use Rattle.office_history.specs.Catalog.{text_objects}
 use Rattle.office_history.specs.Notices.{told_at}
 use Rattle.sample_book.specs.Puts.{verdicts}
@@ -34,10 +34,6 @@ outcome_of o moment Tick =
     Ticked (length o.history) (length (told_at o (record { moment = moment; command = Tick })))
 outcome_of o moment (Take number) = Changed (Some (length o.history))
 outcome_of o moment Upgrade = Changed (Some (length o.history))
-
--- where the last gate of a journal of these entries stands
-abbrev pub tail_of : List Entry → ℕ
-tail_of history = 13 + sum_by (λ e. 5 + length (record_of e)) history
 
 -- what is answered where there is room in the journal for one entry more
 abbrev pub if_it_fits : ℕ → ℕ → Outcome → Outcome

@@ -6,8 +6,10 @@
 
 mod judgement;
 mod measure;
+mod questions;
 mod readings;
 
 pub use judgement::Judgement;
 pub use measure::Measure;
+pub use questions::{MAX_SUMS, MAX_SUMS_MINUTES, MAX_WINDOWS};
 pub use readings::reading_of;

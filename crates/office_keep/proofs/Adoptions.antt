@@ -16,9 +16,9 @@ use Rattle.record_form.specs.declared.Outcome.{Outcome}
 use Rattle.record_form.specs.declared.Outcome.TheVariants as outcomes
 use Rattle.record_form.specs.Ranges.{Fits, FitsRow}
 use Rattle.record_form.specs.Records.{record_of}
-use Rattle.office_history.specs.History.{Office}
+use Rattle.office_history.specs.History.{Office, tail_of}
 use Rattle.office_history.specs.Legal.{MayFollow}
-use Rattle.office_history.specs.Outcomes.{outcome_of, tail_of}
+use Rattle.office_history.specs.Outcomes.{outcome_of}
 use Rattle.office_core.specs.Machine.{HasRevision, HasRevisions}
 use Rattle.office_core.specs.Seen.{Machine}
 use Rattle.office_counter.specs.Steps.{needed_for, place_of, with_made}

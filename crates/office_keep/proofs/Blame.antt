@@ -14,6 +14,7 @@ use Rattle.sample_book.specs.declared.RowVerdict.{RowVerdict}
 use Rattle.sample_book.specs.Exclusions.{exclusion_of}
 use Rattle.sample_book.specs.History.{is_put}
 use Rattle.sample_book.specs.Puts.{verdicts}
+use Rattle.object_terms.specs.declared.Kind.TheVariants as kinds
 use Rattle.object_terms.specs.declared.Object.{Object}
 use Rattle.object_terms.specs.declared.Slo.{Slo}
 use Rattle.catalog_terms.specs.declared.RemoveFault.{RemoveFault}
@@ -36,9 +37,13 @@ use Rattle.office_history.specs.declared.Judgement.{Judgement}
 use Rattle.office_history.specs.declared.Judgement.TheVariants.{Accepted, Refused, Same}
 use Rattle.office_history.specs.declared.Measure.{Measure}
 use Rattle.office_history.specs.Alerts.{Watch, is_watch_active, state_at, watched}
-use Rattle.office_history.specs.Answers.{Answers, AnswersBudgets, AnswersTimeline, asked_at}
+use Rattle.office_history.specs.Answers.{Answers, AnswersBudgets, AnswersTimeline, AnswersWindows}
+use Rattle.office_history.specs.Answers.{asked_at, budget_rows, counted_until, is_stretch}
 use Rattle.office_history.specs.Answers.{budgets_from, burn_answer, burn_fault, burn_over}
 use Rattle.office_history.specs.Answers.{is_outside, is_timeline, object_answer, refused_or}
+use Rattle.office_history.specs.Answers.{are_asked, row_answer, sums_answer, window_rows}
+use Rattle.office_history.specs.Answers.{windows_of}
+use Rattle.office_history.specs.declared.TheConstants.{MAX_WINDOWS}
 use Rattle.office_history.specs.Batches.{objective_days, batch_outcome, when}
 use Rattle.office_history.specs.Catalog.{catalog_in}
 use Rattle.office_history.specs.Counts.{sum_between}
@@ -48,13 +53,14 @@ use Rattle.office_history.specs.Lists.{first_some}
 use Rattle.office_history.specs.Notices.{notices_in, samples_in, told_at, waiting}
 use Rattle.office_history.specs.Objectives.{measure_at, measures_named, slo_named}
 use Rattle.office_history.specs.Outcomes.{outcome_of}
+use Rattle.office_history.specs.Stretches.{sums_over}
 use Rattle.office_history.specs.Verdicts.{accepted, exclude_verdict_beside, first_row_of}
 use Rattle.office_history.specs.Verdicts.{is_waiting, lift_verdict_of, new_exclusion_fault}
 use Rattle.office_history.specs.Verdicts.{new_zone_fault, same_content, samples_fault}
 use Rattle.office_history.specs.Verdicts.{unless_refused, unless_removal, unless_sampled}
 use Rattle.office_history.specs.Verdicts.{upgrade_verdict, zone_verdict_beside}
 use Rattle.office_history.specs.Versions.{is_upgraded}
-use Rattle.office_history.specs.Windows.{WindowBegins}
+use Rattle.office_history.specs.Windows.{AreStartsIn, IsFirstFrom, IsStart, WindowBegins}
 use Rattle.slo_duration.specs.Minutes.{minutes_of}
 use Rattle.office_history.specs.Zones.{bytes_named, utc, zones_in}
 
@@ -293,6 +299,56 @@ by_feed : (o : Office) (from : ℕ) (past : Bool)
 by_feed o from true = refl
 by_feed o from false = refl
 
+by_row : (o : Office) (sli source : List ℕ) (minute : ℕ) (found : Option Object) →
+    blames (row_answer o sli source minute found) ≡ false
+by_row o sli source minute None = refl
+by_row o sli source minute (Some member) = refl
+
+by_sums : (o : Office) (moment from to step : ℕ) (found : Option Measure) →
+    blames (sums_answer o moment from to step found) ≡ false
+by_sums o moment from to step None = refl
+by_sums o moment from to step (Some m) = by (are_asked o.origin moment from to step)
+  where
+    by : (b : Bool) → blames (cond b (outcomes.Sums moment (length o.history)
+        (sums_over (samples_in o.history) m from to step))
+        (outcomes.Refused refusals.Range)) ≡ false
+    by true = refl
+    by false = refl
+
+by_rows : (o : Office) (moment : ℕ) (measures : List Measure) (starts : List ℕ)
+    (next : Option ℕ) → blames (windows_of o moment measures starts next) ≡ false
+by_rows o moment measures starts next = by (nat_lt MAX_WINDOWS (length starts))
+  where
+    by : (b : Bool) → blames (cond b (outcomes.Refused refusals.Range)
+        (outcomes.Windows moment (length o.history) (window_rows (λ from to. budget_rows
+        (samples_in o.history) from (counted_until moment to) 0 measures) starts next))) ≡ false
+    by true = refl
+    by false = refl
+
+by_begun : (o : Office) (moment : ℕ) (measures : List Measure) (outcome : Outcome)
+    (are : List ℕ → Type 0) (is : Option ℕ → Type 0) →
+    ((starts : List ℕ) × (next : Option ℕ) × are starts × is next
+    × (outcome ≡ windows_of o moment measures starts next)) → blames outcome ≡ false
+by_begun o moment measures outcome are is told =
+    ap blames told.4 ∙ by_rows o moment measures told.0 told.1
+
+by_windows : (o : Office) (moment : ℕ) (name : List ℕ) (from to : ℕ) (found : Option Slo)
+    (outcome : Outcome) → AnswersWindows o moment name from to found outcome
+    → blames outcome ≡ false
+by_windows o moment name from to None outcome is = ap blames is
+by_windows o moment name from to (Some slo) outcome is =
+    pick (is_stretch o.origin moment from to)
+    ((starts : List ℕ) × (next : Option ℕ) × AreStartsIn
+    (IsStart (zones_in o.history) slo.time_window (end_of o.origin)) from to starts
+    × IsFirstFrom (IsStart (zones_in o.history) slo.time_window (end_of o.origin)) to next
+    × (outcome ≡ windows_of o moment (measures_named (catalog_in o.history) name) starts next))
+    (outcome ≡ outcomes.Refused refusals.Range) (blames outcome ≡ false)
+    (by_begun o moment (measures_named (catalog_in o.history) name) outcome
+    (AreStartsIn (IsStart (zones_in o.history) slo.time_window (end_of o.origin)) from to)
+    (IsFirstFrom (IsStart (zones_in o.history) slo.time_window (end_of o.origin)) to))
+    (λ range. ap blames range)
+    is
+
 answers_so : (o : Office) (moment : ℕ) (query : Query) (outcome : Outcome) →
     Answers o moment query outcome → blames outcome ≡ false
 answers_so o moment queries.Objects outcome is = ap blames is
@@ -311,6 +367,16 @@ answers_so o moment (queries.Timeline slo objective policy from to) outcome is =
 answers_so o moment queries.Notices outcome is = ap blames is
 answers_so o moment (queries.Entries from) outcome is =
     ap blames is ∙ by_feed o from (nat_lt (length o.history) from)
+answers_so o moment (queries.Row sli source minute) outcome is =
+    ap blames is ∙ by_row o sli source minute (member_of (catalog_in o.history) kinds.Sli sli)
+answers_so o moment queries.Exclusions outcome is = ap blames is
+answers_so o moment queries.Zones outcome is = ap blames is
+answers_so o moment queries.Status outcome is = ap blames is
+answers_so o moment (queries.Sums slo objective from to step) outcome is =
+    ap blames is
+    ∙ by_sums o moment from to step (measure_at (catalog_in o.history) slo objective)
+answers_so o moment (queries.Windows slo from to) outcome is =
+    by_windows o moment slo from to (slo_named (catalog_in o.history) slo) outcome is
 
 -- nor does an answer
 pub answer_no_fault : (o : Office) (moment : ℕ) (query : Query) (outcome : Outcome) →

@@ -80,6 +80,12 @@ fn adopted_without(outcome: &Outcome) -> Adopted
         | Outcome::Timeline { .. }
         | Outcome::Notices { .. }
         | Outcome::Feed(_)
+        | Outcome::Row { .. }
+        | Outcome::Exclusions { .. }
+        | Outcome::Zones { .. }
+        | Outcome::Status(_)
+        | Outcome::Sums { .. }
+        | Outcome::Windows { .. }
         | Outcome::Refused(_)
         | Outcome::ClockRange { .. }
         | Outcome::DiskFault => Adopted::DiskFault,

@@ -1,7 +1,7 @@
 -- Histories are read back from their records, and one record more is one entry more.
-use Rattle.std.proofs.Common.{◌≡◌, ℕ, zero, suc, ◌+◌, ◌≤◌, List, [], ◌∷◌, ◌++◌, length, Option}
+use Rattle.std.proofs.Common.{◌≡◌, ℕ, zero, suc, ◌+◌, ◌*◌, ◌≤◌, List, [], ◌∷◌, ◌++◌, length, Option}
 use Rattle.std.proofs.Common.{Some, None, refl, sym, ap, subst, ◌∙◌, arith, length-append}
-use Rattle.std.specs.Prelude.{Result, Ok, Err, IfOk, IfSome}
+use Rattle.std.specs.Prelude.{Result, Ok, Err, IfOk, IfSome, sum_by}
 use Rattle.std.specs.List.{AllByRecursion}
 use Rattle.std.specs.declared.alloc.AllocError.{AllocError}
 use Rattle.sample_book.specs.declared.row.Row.{Row}
@@ -134,6 +134,16 @@ one_more bytes e are fits =
         fit = subst (AllByRecursion FitsRecord) (sym history) fit;
       };
     }
+
+pub add_up : (es : List Entry) → length (records_of es) + 5 * length es
+    ≡ sum_by (λ (e : Entry). 5 + length (record_of e)) es
+add_up [] = refl
+add_up (e ∷ es) = omega (
+  arith,
+  ap length (entry_exact.front e [] (records_of es)),
+  length-append (entry.write e []) (records_of es),
+  add_up es,
+)
 
 pub no_bytes : AreRecords [] × (history_of [] ≡ [])
 unfolding history_of

@@ -1,5 +1,6 @@
 -- Laws of records.
-use Rattle.std.specs.Prelude.{◌≡◌, ◌++◌, ◌∷◌, [], ◌≤◌, ℕ, List, length, Some, slice_get}
+use Rattle.std.specs.Prelude.{◌≡◌, ◌++◌, ◌∷◌, [], ◌≤◌, ◌+◌, ◌*◌, ℕ, List, length, Some, slice_get}
+use Rattle.std.specs.Prelude.{sum_by}
 use Rattle.std.specs.List.{AllByRecursion}
 use Rattle.slo_limits.specs.declared.TheConstants.{MAX_RECORD_BYTES}
 use Rattle.record_form.specs.declared.command.Command.TheVariants.{Upgrade}
@@ -40,6 +41,12 @@ pub record AddsOne (bytes : List ℕ) (e : Entry) : Type 0 where
 -- So it is behind the records of any history.
 abbrev pub OneRecordMore : Type 0
 OneRecordMore = (bytes : List ℕ) (e : Entry) → AreRecords bytes → FitsRecord e → AddsOne bytes e
+
+-- The records of a history have the lengths of its entries' records, one behind another: with five
+-- bytes more for each, its gate and its length, as many as they take in a journal.
+abbrev pub RecordsAddUp : Type 0
+RecordsAddUp = (history : List Entry) → length (records_of history) + 5 * length history
+    ≡ sum_by (λ (e : Entry). 5 + length (record_of e)) history
 
 -- No bytes are the records of no entries.
 abbrev pub NoBytesAreNoHistory : Type 0

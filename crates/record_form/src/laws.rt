@@ -1,7 +1,7 @@
 //! What holds of records: laws without code, for whoever keeps them.
 ghost use Rattle.record_form.specs.Laws.{EntriesAreReadBack, HistoriesAreReadBack};
 ghost use Rattle.record_form.specs.Laws.{NoBytesAreNoHistory, NoRecordBeginsAnother, OneRecordMore};
-ghost use Rattle.record_form.specs.Laws.{RecordsHaveSizes, UpgradesHaveTheirKind};
+ghost use Rattle.record_form.specs.Laws.{RecordsAddUp, RecordsHaveSizes, UpgradesHaveTheirKind};
 
 /// An entry is read back from its record, whatever follows.
 pub fn an_entry_is_read_back()
@@ -26,6 +26,11 @@ pub fn a_history_is_read_back()
 /// Records with one more behind them are those of the history with that entry at its end.
 pub fn one_record_more()
     ensures { OneRecordMore }
+{}
+
+/// The records of a history are as long as those of its entries together.
+pub fn records_add_up()
+    ensures { RecordsAddUp }
 {}
 
 /// No bytes stand for the empty history.

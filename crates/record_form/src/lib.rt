@@ -15,6 +15,8 @@ mod outcome;
 mod query;
 mod reading;
 mod refusal;
+mod status;
+mod window_row;
 mod writing;
 mod yaml_word;
 
@@ -24,9 +26,13 @@ pub use entry::Entry;
 pub use fields::MAX_EXCLUDED_MINUTE;
 pub use limit_name::LimitName;
 pub use listed::Listed;
-pub use outcome::{Intervals, NoticeRows, ObjectNames, Outcome};
+pub use outcome::{
+    ExclusionRows, Intervals, NoticeRows, ObjectNames, Outcome, SumList, ZoneNames,
+};
 pub use query::{Query, Request};
 pub use reading::read_record;
 pub use refusal::Refusal;
+pub use status::{OfficeStatus, Used};
+pub use window_row::{WindowRow, WindowRows};
 pub use writing::{write_command, write_record};
 pub use yaml_word::YamlWord;

@@ -3,10 +3,13 @@
 use crate::budget_row::BudgetRows;
 use crate::listed::Listed;
 use crate::refusal::Refusal;
+use crate::status::OfficeStatus;
+use crate::window_row::WindowRows;
 use burn_core::State;
-use exact_fraction::{Bytes, Fraction, Label};
+use exact_fraction::{Bytes, Fraction, Label, Leaf, ZoneName};
 use notice_box::Notice;
 use object_terms::Kind;
+use sample_book::{Exclusion, Row};
 
 /// Kinds and names of objects, by kind and then by name.
 pub type ObjectNames = Listed<(Kind, Label)>;
@@ -16,6 +19,15 @@ pub type Intervals = Listed<(u32, u32)>;
 
 /// Notices by their numbers.
 pub type NoticeRows = Listed<Notice>;
+
+/// Sums of stretches of minutes, one behind another.
+pub type SumList = Listed<Leaf>;
+
+/// Exclusions in the order in which they were made, each with whether it is live.
+pub type ExclusionRows = Listed<(Exclusion, bool)>;
+
+/// Names of zones by their bytes.
+pub type ZoneNames = Listed<ZoneName>;
 
 /// The answer to a request. `entry` is the position of the entry that a change made, none where the
 /// change was there already; `entries` is the length of the history at the answer.
@@ -75,6 +87,32 @@ pub enum Outcome {
     },
     /// The feed of the entries from the position that was asked for.
     Feed(Bytes),
+    /// The row is none where the cell has none.
+    Row {
+        entries: u32,
+        row: Option<Row>,
+    },
+    /// All that were made.
+    Exclusions {
+        entries: u32,
+        exclusions: ExclusionRows,
+    },
+    /// The zones that were put, beside `UTC`.
+    Zones {
+        entries: u32,
+        zones: ZoneNames,
+    },
+    Status(OfficeStatus),
+    Sums {
+        at: u32,
+        entries: u32,
+        sums: SumList,
+    },
+    Windows {
+        at: u32,
+        entries: u32,
+        windows: WindowRows,
+    },
     Refused(Refusal),
     /// The moment isn't below the end of the office's range; `reading` is the moment.
     ClockRange {
@@ -115,7 +153,13 @@ impl Outcome {
             | Outcome::Burn { .. }
             | Outcome::Timeline { .. }
             | Outcome::Notices { .. }
-            | Outcome::Feed(_) => None,
+            | Outcome::Feed(_)
+            | Outcome::Row { .. }
+            | Outcome::Exclusions { .. }
+            | Outcome::Zones { .. }
+            | Outcome::Status(_)
+            | Outcome::Sums { .. }
+            | Outcome::Windows { .. } => None,
         }
     }
 }

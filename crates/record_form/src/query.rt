@@ -41,6 +41,33 @@ pub enum Query {
     Entries {
         from: u32,
     },
+    /// The current row of an SLI, a source and a minute.
+    Row {
+        sli: Label,
+        source: Label,
+        minute: u32,
+    },
+    /// All exclusions, lifted ones too.
+    Exclusions,
+    /// The zones that were put.
+    Zones,
+    /// How full the office is.
+    Status,
+    /// The sums of an objective over stretches of `step` minutes, one behind another from `from`
+    /// on, the last one cut at `to`.
+    Sums {
+        slo: Label,
+        objective: u32,
+        from: u32,
+        to: u32,
+        step: u32,
+    },
+    /// The windows of an SLO's calendar that begin in [from, to), with their budgets.
+    Windows {
+        slo: Label,
+        from: u32,
+        to: u32,
+    },
 }
 
 /// What one turn of the desk performs.

@@ -23,9 +23,8 @@ ghost use Rattle.sample_changes.specs.Works.{ComesTo};
 
 use crate::faults::{batch_fault, limit};
 use crate::tally::tally_of;
-use crate::upgrade::{cell_limit, row_limit};
 use objective_days::passes_days_limit;
-use office_derived::{BatchTally, Derived, Verdict, Work, accepted};
+use office_derived::{BatchTally, Derived, Verdict, Work, accepted, cell_limit, row_limit};
 use office_history::Judgement;
 use record_form::{LimitName, Outcome, Refusal, Rows};
 use sample_book::{Row, RowVerdict, SampleBook};

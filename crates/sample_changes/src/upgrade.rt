@@ -1,43 +1,15 @@
-//! The upgrade of an office, and what it has room for then.
-ghost use Rattle.std.specs.Prelude.{◌≡◌, ◌≤◌, ℕ};
-ghost use Rattle.slo_limits.specs.declared.TheConstants.{MAX_UPGRADED_CELLS as greatest_cells};
-ghost use Rattle.slo_limits.specs.declared.TheConstants.{MAX_UPGRADED_ROWS as greatest_rows};
+//! The upgrade of an office.
+ghost use Rattle.std.specs.Prelude.{◌≡◌, ℕ};
 ghost use Rattle.record_form.specs.declared.Command.TheVariants as commands;
 ghost use Rattle.office_history.specs.History.{Office, with_entry};
 ghost use Rattle.office_history.specs.Outcomes.{outcome_of};
 ghost use Rattle.office_history.specs.Verdicts.{upgrade_verdict as upgrade_verdict_def};
-ghost use Rattle.office_history.specs.Versions.{most_cells, most_rows};
 ghost use Rattle.office_derived.specs.declared.Work.TheVariants as works;
 ghost use Rattle.office_derived.specs.Derived.{IsJudged, IsNext, IsSound, Reflects, entry_of};
 
 use office_derived::{Derived, Verdict, Work, accepted};
 use office_history::Judgement;
 use record_form::Outcome;
-use slo_limits::{MAX_ACCEPTED_ROWS, MAX_CELLS, MAX_UPGRADED_CELLS, MAX_UPGRADED_ROWS};
-
-/// The most cells of an office.
-pub(crate) fn cell_limit(upgraded: bool) -> u32
-    ensures most { result ≡ most_cells upgraded }
-    ensures few { result ≤ greatest_cells }
-{
-    if upgraded {
-        MAX_UPGRADED_CELLS
-    } else {
-        MAX_CELLS
-    }
-}
-
-/// The most rows that an office takes, corrections among them.
-pub(crate) fn row_limit(upgraded: bool) -> u32
-    ensures most { result ≡ most_rows upgraded }
-    ensures few { result ≤ greatest_rows }
-{
-    if upgraded {
-        MAX_UPGRADED_ROWS
-    } else {
-        MAX_ACCEPTED_ROWS
-    }
-}
 
 fn upgrade_verdict(upgraded: bool, entries: u32) -> Judgement
     ensures { result ≡ upgrade_verdict_def upgraded entries }

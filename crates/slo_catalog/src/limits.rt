@@ -4,6 +4,7 @@ ghost use Rattle.catalog_terms.specs.Limits.{catalog_bytes, count_of_kind as cou
 ghost use Rattle.catalog_terms.specs.Limits.{first_limit as first_limit_def};
 
 use crate::bindings::bindings_of;
+use crate::catalog::Catalog;
 use crate::member::Member;
 use crate::members::Members;
 use catalog_terms::CatalogLimit;
@@ -56,4 +57,16 @@ pub(crate) fn first_limit(
         return Ok(Some(CatalogLimit::Bindings));
     }
     Ok(None)
+}
+
+impl Catalog {
+    ghost use Rattle.std.specs.Prelude.{◌≡◌};
+    ghost use Rattle.catalog_terms.specs.Limits.{count_of_kind as count_of_kind_def};
+
+    /// How many members are of that kind.
+    pub fn count_of(&self, kind: Kind) -> usize
+        ensures { result ≡ count_of_kind_def kind self.now }
+    {
+        count_of_kind(kind, self.members())
+    }
 }

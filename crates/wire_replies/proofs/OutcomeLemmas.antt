@@ -5,8 +5,10 @@ use Rattle.record_form.specs.declared.outcome.Outcome.{Outcome}
 use Rattle.record_form.specs.declared.outcome.Outcome.TheVariants.{Defined, Sampled, Changed}
 use Rattle.record_form.specs.declared.outcome.Outcome.TheVariants.{Ticked, ObjectList, ObjectText}
 use Rattle.record_form.specs.declared.outcome.Outcome.TheVariants.{Budgets, Burn, Timeline, Notices}
-use Rattle.record_form.specs.declared.outcome.Outcome.TheVariants.{Feed, Refused, ClockRange}
-use Rattle.record_form.specs.declared.outcome.Outcome.TheVariants.{DiskFault, JournalFull, NoMemory}
+use Rattle.record_form.specs.declared.outcome.Outcome.TheVariants.{Feed, Row, Exclusions, Zones}
+use Rattle.record_form.specs.declared.outcome.Outcome.TheVariants.{Status, Sums, Windows}
+use Rattle.record_form.specs.declared.outcome.Outcome.TheVariants.{Refused, ClockRange, DiskFault}
+use Rattle.record_form.specs.declared.outcome.Outcome.TheVariants.{JournalFull, NoMemory}
 use Rattle.wire_replies.specs.Laws.{status_by}
 use Rattle.wire_replies.specs.Outcomes.{answer_of}
 
@@ -22,6 +24,12 @@ status_is (Burn at burn den entries num) = refl
 status_is (Timeline entries intervals state) = refl
 status_is (Notices entries notices) = refl
 status_is (Feed feed) = refl
+status_is (Row entries row) = refl
+status_is (Exclusions entries exclusions) = refl
+status_is (Zones entries zones) = refl
+status_is (Status status) = refl
+status_is (Sums at entries sums) = refl
+status_is (Windows at entries windows) = refl
 status_is (Refused refusal) = refl
 status_is (ClockRange end reading) = refl
 status_is DiskFault = refl

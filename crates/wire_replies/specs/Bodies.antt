@@ -1,12 +1,21 @@
 -- The bodies of the answers of status 200, but for an object's text.
-use Rattle.std.specs.Prelude.{ℕ, List, [], ◌∷◌, map, Option, Some, None, codes}
-use Rattle.serde_json.specs.Data.{Data, null, string, array}
+use Rattle.std.specs.Prelude.{ℕ, Bool, List, [], ◌∷◌, map, Option, Some, None, codes}
+use Rattle.serde_json.specs.Data.{Data, null, boolean, string, array}
 use Rattle.serde_json.specs.View.{items_of}
 use Rattle.burn_core.specs.Alert.{state_word}
 use Rattle.burn_core.specs.declared.alert.State.{State}
+use Rattle.exact_fraction.specs.DecimalText.{decimal_text}
 use Rattle.exact_fraction.specs.Ratio.{Ratio, fraction_text}
+use Rattle.exact_fraction.specs.declared.leaf.Leaf.{Leaf}
 use Rattle.notice_box.specs.declared.notice.Notice.{Notice}
 use Rattle.record_form.specs.declared.budget_row.BudgetRow.{BudgetRow}
+use Rattle.record_form.specs.declared.status.OfficeStatus.{OfficeStatus}
+use Rattle.record_form.specs.declared.status.Used.{Used}
+use Rattle.record_form.specs.declared.window_row.WindowRow.{WindowRow}
+use Rattle.sample_book.specs.declared.exclusions.Exclusion.{Exclusion}
+use Rattle.sample_book.specs.declared.row.Row.{Row}
+use Rattle.slice_method.specs.declared.amount.Amount.{Amount}
+use Rattle.slice_method.specs.declared.amount.Amount.TheVariants.{Counts, Value, Withdrawn}
 use Rattle.object_terms.specs.Scalars.{kind_word}
 use Rattle.object_terms.specs.declared.kind.Kind.{Kind}
 use Rattle.wire_replies.specs.Answers.{object_of, whole}
@@ -15,7 +24,7 @@ use Rattle.wire_replies.specs.Answers.{object_of, whole}
 abbrev pub list_of : {T : Type 0} → (T → Data) → List T → Data
 list_of content items = array (items_of (map content items))
 
--- the position of an entry, or null where the change made none
+-- a number, or null where there is none
 abbrev pub entry_data : Option ℕ → Data
 entry_data None = null
 entry_data (Some n) = whole n
@@ -121,4 +130,99 @@ notices_data entries notices =
     object_of ((codes "entries", whole entries) ∷ (
       codes "notices",
       list_of notice_data notices,
+    ) ∷ [])
+
+-- {"amount":9990,"revision":1,"total":10000}: two numbers for counts; a value as a decimal, and
+-- null; null and null for a withdrawn row
+abbrev pub amount_data : ℕ → Amount → Data
+amount_data revision (Counts part total) =
+    object_of ((codes "amount", whole part) ∷ (codes "revision", whole revision) ∷ (
+      codes "total",
+      whole total,
+    ) ∷ [])
+amount_data revision (Value value) =
+    object_of ((codes "amount", string (decimal_text value)) ∷ (
+      codes "revision",
+      whole revision,
+    ) ∷ (codes "total", null) ∷ [])
+amount_data revision Withdrawn =
+    object_of ((codes "amount", null) ∷ (codes "revision", whole revision) ∷ (
+      codes "total",
+      null,
+    ) ∷ [])
+
+-- what a row says of its cell, or null where there is none
+abbrev pub sample_data : Option Row → Data
+sample_data None = null
+sample_data (Some row) = amount_data row.revision row.amount
+
+-- {"entries":3,"row":{"amount":9990,"revision":1,"total":10000}}
+abbrev pub found_row_data : ℕ → Option Row → Data
+found_row_data entries row =
+    object_of ((codes "entries", whole entries) ∷ (codes "row", sample_data row) ∷ [])
+
+-- {"from":100,"id":"m1","live":true,"slo":"shop-slo","to":101}
+abbrev pub kept_exclusion_data : Exclusion × Bool → Data
+kept_exclusion_data x =
+    object_of ((codes "from", whole x.0.from) ∷ (codes "id", string x.0.id) ∷ (
+      codes "live",
+      boolean x.1,
+    )
+    ∷ (codes "slo", string x.0.slo) ∷ (codes "to", whole x.0.to) ∷ [])
+
+-- {"entries":4,"exclusions":[..]}
+abbrev pub exclusions_data : ℕ → List (Exclusion × Bool) → Data
+exclusions_data entries exclusions =
+    object_of ((codes "entries", whole entries) ∷ (
+      codes "exclusions",
+      list_of kept_exclusion_data exclusions,
+    ) ∷ [])
+
+-- {"entries":4,"zones":["America/New_York"]}
+abbrev pub zones_data : ℕ → List (List ℕ) → Data
+zones_data entries zones =
+    object_of ((codes "entries", whole entries) ∷ (codes "zones", list_of string zones) ∷ [])
+
+-- [1,200]
+abbrev pub used_data : Used → Data
+used_data used = array (items_of (whole used.count ∷ whole used.limit ∷ []))
+
+-- {"accepted":[1,4000000],"at":1000,..,"version":1,"zones":[0,50]}
+abbrev pub status_data : OfficeStatus → Data
+status_data s =
+    object_of ((codes "accepted", used_data s.accepted) ∷ (codes "at", whole s.at)
+    ∷ (codes "bindings", used_data s.bindings) ∷ (codes "bytes", used_data s.bytes)
+    ∷ (codes "cells", used_data s.cells) ∷ (codes "days", used_data s.days)
+    ∷ (codes "entries", whole s.entries) ∷ (codes "exclusions", used_data s.exclusions)
+    ∷ (codes "last", entry_data s.last) ∷ (codes "notices", used_data s.notices)
+    ∷ (codes "objects", used_data s.objects) ∷ (codes "origin", whole s.origin)
+    ∷ (codes "slis", used_data s.slis) ∷ (codes "slos", used_data s.slos)
+    ∷ (codes "version", whole s.version) ∷ (codes "zones", used_data s.zones) ∷ [])
+
+-- [9990,10000]
+abbrev pub sum_data : Leaf → Data
+sum_data sum = array (items_of (whole sum.num ∷ whole sum.den ∷ []))
+
+-- {"at":1000,"entries":3,"sums":[[9990,10000]]}
+abbrev pub sums_data : ℕ → ℕ → List Leaf → Data
+sums_data at entries sums =
+    object_of ((codes "at", whole at) ∷ (codes "entries", whole entries) ∷ (
+      codes "sums",
+      list_of sum_data sums,
+    ) ∷ [])
+
+-- {"budgets":[..],"from":0,"to":44640}
+abbrev pub window_data : WindowRow → Data
+window_data w =
+    object_of ((codes "budgets", list_of budget_data w.budgets) ∷ (
+      codes "from",
+      whole w.from,
+    ) ∷ (codes "to", entry_data w.to) ∷ [])
+
+-- {"at":1000,"entries":3,"windows":[..]}
+abbrev pub windows_data : ℕ → ℕ → List WindowRow → Data
+windows_data at entries windows =
+    object_of ((codes "at", whole at) ∷ (codes "entries", whole entries) ∷ (
+      codes "windows",
+      list_of window_data windows,
     ) ∷ [])

@@ -1,18 +1,24 @@
 //! Outcomes of status 200 as values of JSON.
 ghost use Rattle.std.specs.Prelude.{◌≡◌, IfOk};
+ghost use Rattle.serde_json.specs.Data.{string};
 ghost use Rattle.serde_json.specs.View.{view};
-ghost use Rattle.wire_replies.specs.Bodies.{budget_data, budgets_data, burn_data, fraction_data};
-ghost use Rattle.wire_replies.specs.Bodies.{interval_data, notice_data, notices_data};
-ghost use Rattle.wire_replies.specs.Bodies.{object_data, objects_data, timeline_data};
+ghost use Rattle.wire_replies.specs.Bodies.{amount_data, budget_data, budgets_data, burn_data};
+ghost use Rattle.wire_replies.specs.Bodies.{entry_data, status_data, sum_data, sums_data};
+ghost use Rattle.wire_replies.specs.Bodies.{exclusions_data, found_row_data, fraction_data};
+ghost use Rattle.wire_replies.specs.Bodies.{interval_data, kept_exclusion_data, notice_data};
+ghost use Rattle.wire_replies.specs.Bodies.{notices_data, object_data, objects_data, sample_data};
+ghost use Rattle.wire_replies.specs.Bodies.{timeline_data, window_data, windows_data, zones_data};
 ghost use Rattle.wire_replies.specs.Values.{IsValue};
 
 use crate::in_json::{InJson, list_value};
 use burn_core::State;
-use exact_fraction::{Fraction, Label};
+use exact_fraction::{Fraction, Label, Leaf, ZoneName};
 use notice_box::Notice;
 use object_terms::Kind;
-use record_form::BudgetRow;
+use record_form::{BudgetRow, OfficeStatus, WindowRow};
+use sample_book::{Exclusion, Row};
 use serde_json::{Value, json};
+use slice_method::Amount;
 use std::alloc::{AllocError, Global};
 
 fn fraction_value(alloc: Global, fraction: Option<Fraction>) -> Result<Value, AllocError>
@@ -128,4 +134,151 @@ pub(crate) fn notices(alloc: Global, entries: u32, notices: &[Notice]) -> Result
 {
     let notices = list_value(alloc, notices)?;
     json!(in alloc; {"entries": entries, "notices": notices})
+}
+
+/// What an amount and its revision say.
+fn amount_value(alloc: Global, revision: u32, amount: Amount) -> Result<Value, AllocError>
+    ensures { IfOk result (IsValue (amount_data revision amount)) }
+{
+    match amount {
+        Amount::Counts { part, total } => {
+            json!(in alloc; {"amount": part, "revision": revision, "total": total})
+        }
+        Amount::Value(value) => {
+            let text = format!(in alloc; "{value}")?;
+            json!(in alloc; {"amount": text.as_str(), "revision": revision, "total": null})
+        }
+        Amount::Withdrawn => {
+            json!(in alloc; {"amount": null, "revision": revision, "total": null})
+        }
+    }
+}
+
+fn sample_value(alloc: Global, row: Option<Row>) -> Result<Value, AllocError>
+    ensures { IfOk result (IsValue (sample_data row)) }
+{
+    match row {
+        Some(row) => amount_value(alloc, row.revision, row.amount),
+        None => Ok(Value::Null),
+    }
+}
+
+pub(crate) fn row(alloc: Global, entries: u32, row: Option<Row>) -> Result<Value, AllocError>
+    ensures { IfOk result (IsValue (found_row_data entries row)) }
+{
+    let row = sample_value(alloc, row)?;
+    json!(in alloc; {"entries": entries, "row": row})
+}
+
+impl InJson for (Exclusion, bool) {
+    ghost content = { kept_exclusion_data };
+
+    fn value(&self, alloc: Global) -> Result<Value, AllocError> {
+        json!(in alloc; {
+            "from": self.0.from,
+            "id": self.0.id.as_str(),
+            "live": self.1,
+            "slo": self.0.slo.as_str(),
+            "to": self.0.to
+        })
+    }
+}
+
+pub(crate) fn exclusions(
+    alloc: Global,
+    entries: u32,
+    exclusions: &[(Exclusion, bool)],
+) -> Result<Value, AllocError>
+    ensures { IfOk result (IsValue (exclusions_data entries exclusions.now)) }
+{
+    let exclusions = list_value(alloc, exclusions)?;
+    json!(in alloc; {"entries": entries, "exclusions": exclusions})
+}
+
+impl InJson for ZoneName {
+    ghost content = { string };
+
+    fn value(&self, alloc: Global) -> Result<Value, AllocError> {
+        Ok(Value::String(String::from_str(alloc, self.as_str())?))
+    }
+}
+
+pub(crate) fn zones(alloc: Global, entries: u32, zones: &[ZoneName]) -> Result<Value, AllocError>
+    ensures { IfOk result (IsValue (zones_data entries zones.now)) }
+{
+    let zones = list_value(alloc, zones)?;
+    json!(in alloc; {"entries": entries, "zones": zones})
+}
+
+fn minute_value(minute: Option<u32>) -> Value
+    ensures { IsValue (entry_data minute) result }
+{
+    match minute {
+        Some(minute) => Value::from(minute),
+        None => Value::Null,
+    }
+}
+
+pub(crate) fn status(alloc: Global, status: &OfficeStatus) -> Result<Value, AllocError>
+    ensures { IfOk result (IsValue (status_data status.now)) }
+{
+    json!(in alloc; {
+        "accepted": [status.accepted.count, status.accepted.limit],
+        "at": status.at,
+        "bindings": [status.bindings.count, status.bindings.limit],
+        "bytes": [status.bytes.count, status.bytes.limit],
+        "cells": [status.cells.count, status.cells.limit],
+        "days": [status.days.count, status.days.limit],
+        "entries": status.entries,
+        "exclusions": [status.exclusions.count, status.exclusions.limit],
+        "last": minute_value(status.last),
+        "notices": [status.notices.count, status.notices.limit],
+        "objects": [status.objects.count, status.objects.limit],
+        "origin": status.origin,
+        "slis": [status.slis.count, status.slis.limit],
+        "slos": [status.slos.count, status.slos.limit],
+        "version": status.version,
+        "zones": [status.zones.count, status.zones.limit]
+    })
+}
+
+impl InJson for Leaf {
+    ghost content = { sum_data };
+
+    fn value(&self, alloc: Global) -> Result<Value, AllocError> {
+        json!(in alloc; [self.num, self.den])
+    }
+}
+
+pub(crate) fn sums(
+    alloc: Global,
+    at: u32,
+    entries: u32,
+    sums: &[Leaf],
+) -> Result<Value, AllocError>
+    ensures { IfOk result (IsValue (sums_data at entries sums.now)) }
+{
+    let sums = list_value(alloc, sums)?;
+    json!(in alloc; {"at": at, "entries": entries, "sums": sums})
+}
+
+impl InJson for WindowRow {
+    ghost content = { window_data };
+
+    fn value(&self, alloc: Global) -> Result<Value, AllocError> {
+        let budgets = list_value(alloc, self.budgets.as_slice())?;
+        json!(in alloc; {"budgets": budgets, "from": self.from, "to": minute_value(self.to)})
+    }
+}
+
+pub(crate) fn windows(
+    alloc: Global,
+    at: u32,
+    entries: u32,
+    windows: &[WindowRow],
+) -> Result<Value, AllocError>
+    ensures { IfOk result (IsValue (windows_data at entries windows.now)) }
+{
+    let windows = list_value(alloc, windows)?;
+    json!(in alloc; {"at": at, "entries": entries, "windows": windows})
 }

@@ -8,7 +8,9 @@ ghost use Rattle.wire_replies.specs.Answers.{IsShownBy, in_json, is_small, json,
 ghost use Rattle.wire_replies.specs.Outcomes.{answer_of, is_short};
 ghost use Rattle.wire_replies.specs.Values.{IsValue};
 
-use crate::bodies::{budgets, burn, notices, objects, timeline};
+use crate::bodies::{
+    budgets, burn, exclusions, notices, objects, row, status, sums, timeline, windows, zones,
+};
 use crate::refusals::refusal_value;
 use crate::reply::{Form, Reply, SmallBody};
 use crate::small::{changed, clock_range, defined, disk_fault, journal_full, sampled, ticked};
@@ -118,6 +120,37 @@ pub fn render(alloc: Global, value: &Outcome) -> Reply
             notices: rows,
         } => full(alloc, 200, notices(alloc, *entries, rows.as_slice())),
         Outcome::Feed(feed) => as_it_is(alloc, Form::Octets, feed.as_bytes()),
+        Outcome::Row {
+            entries,
+            row: found,
+        } => full(alloc, 200, row(alloc, *entries, *found)),
+        Outcome::Exclusions {
+            entries,
+            exclusions: rows,
+        } => full(alloc, 200, exclusions(alloc, *entries, rows.as_slice())),
+        Outcome::Zones {
+            entries,
+            zones: names,
+        } => full(alloc, 200, zones(alloc, *entries, names.as_slice())),
+        Outcome::Status(fullness) => full(alloc, 200, status(alloc, fullness)),
+        Outcome::Sums {
+            at,
+            entries,
+            sums: listed,
+        } => full(
+            alloc,
+            200,
+            sums(alloc, *at, *entries, listed.as_slice()),
+        ),
+        Outcome::Windows {
+            at,
+            entries,
+            windows: listed,
+        } => full(
+            alloc,
+            200,
+            windows(alloc, *at, *entries, listed.as_slice()),
+        ),
         Outcome::Refused(refusal) => full(alloc, refusal.status(), refusal_value(alloc, refusal)),
         Outcome::ClockRange { end, reading } => small(500, clock_range(*end, *reading)),
         Outcome::DiskFault => disk_fault(),

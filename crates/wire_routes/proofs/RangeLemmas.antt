@@ -29,7 +29,8 @@ use Rattle.wire_routes.specs.declared.place.Place.TheVariants as place
 use Rattle.wire_routes.specs.declared.routed.Routed.{Routed}
 use Rattle.wire_routes.specs.declared.routed.Routed.TheVariants as routed
 use Rattle.wire_routes.specs.Exclusions.{exclusion_of}
-use Rattle.wire_routes.specs.Keys.{alerts_keys, budgets_keys, burns_keys, entries_keys}
+use Rattle.wire_routes.specs.Keys.{budgets_keys, burns_keys, entries_keys, stretch_keys}
+use Rattle.wire_routes.specs.Keys.{sums_keys}
 use Rattle.wire_routes.specs.Ranges.{IsRequestInRange, IsRoutedInRange}
 use Rattle.wire_routes.specs.Requests.{Answer, IsRoutedAs, answer_at, exclusion_answer}
 use Rattle.wire_routes.specs.Requests.{samples_answer}
@@ -175,7 +176,7 @@ in_range (place.Burns s n) Post query body few = tt
 in_range (place.Burns s n) Put query body few = tt
 in_range (place.Burns s n) Other query body few = tt
 in_range (place.Alerts s n l) Delete query body few = tt
-in_range (place.Alerts s n l) Get query body few = keyed _ (alerts_keys query)
+in_range (place.Alerts s n l) Get query body few = keyed _ (stretch_keys query)
 in_range (place.Alerts s n l) Post query body few = tt
 in_range (place.Alerts s n l) Put query body few = tt
 in_range (place.Alerts s n l) Other query body few = tt
@@ -184,6 +185,36 @@ in_range place.Entries Get query body few = keyed _ (entries_keys query)
 in_range place.Entries Post query body few = tt
 in_range place.Entries Put query body few = tt
 in_range place.Entries Other query body few = tt
+in_range (place.Row s u n) Delete query body few = tt
+in_range (place.Row s u n) Get query body few = plain query _ tt
+in_range (place.Row s u n) Post query body few = tt
+in_range (place.Row s u n) Put query body few = tt
+in_range (place.Row s u n) Other query body few = tt
+in_range place.Exclusions Delete query body few = tt
+in_range place.Exclusions Get query body few = plain query _ tt
+in_range place.Exclusions Post query body few = tt
+in_range place.Exclusions Put query body few = tt
+in_range place.Exclusions Other query body few = tt
+in_range place.Zones Delete query body few = tt
+in_range place.Zones Get query body few = plain query _ tt
+in_range place.Zones Post query body few = tt
+in_range place.Zones Put query body few = tt
+in_range place.Zones Other query body few = tt
+in_range place.Status Delete query body few = tt
+in_range place.Status Get query body few = plain query _ tt
+in_range place.Status Post query body few = tt
+in_range place.Status Put query body few = tt
+in_range place.Status Other query body few = tt
+in_range (place.Sums s n) Delete query body few = tt
+in_range (place.Sums s n) Get query body few = keyed _ (sums_keys query)
+in_range (place.Sums s n) Post query body few = tt
+in_range (place.Sums s n) Put query body few = tt
+in_range (place.Sums s n) Other query body few = tt
+in_range (place.Windows s) Delete query body few = tt
+in_range (place.Windows s) Get query body few = keyed _ (stretch_keys query)
+in_range (place.Windows s) Post query body few = tt
+in_range (place.Windows s) Put query body few = tt
+in_range (place.Windows s) Other query body few = tt
 
 pub told : (p : Place) (m : Method) (query : Option (List ℕ)) (body : List ℕ) (r : Routed)
     → length body ≤ MAX_BODY_BYTES

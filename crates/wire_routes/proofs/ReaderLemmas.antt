@@ -17,11 +17,14 @@ use Rattle.wire_routes.specs.declared.place.Place.TheVariants.{Objects, Object, 
 use Rattle.wire_routes.specs.declared.place.Place.TheVariants.{Exclusion, Tick, Notices, Take}
 use Rattle.wire_routes.specs.declared.place.Place.TheVariants.{Upgrade, Budgets, Burns, Alerts}
 use Rattle.wire_routes.specs.declared.place.Place.TheVariants.{Entries}
+use Rattle.wire_routes.specs.declared.place.Place.TheVariants.{Row, Exclusions, Zones, Status, Sums}
+use Rattle.wire_routes.specs.declared.place.Place.TheVariants.{Windows}
 use Rattle.wire_routes.specs.Cuts.{after_word, cut_at, number32}
 use Rattle.wire_routes.specs.Places.{IsPath}
 use Rattle.wire_routes.specs.Readers.{route_of, fixed_at, object_of, object_at, zone_at}
 use Rattle.wire_routes.specs.Readers.{exclusion_at, take_of, take_at, budgets_at, burns_of}
-use Rattle.wire_routes.specs.Readers.{burns_at, alerts_of, alerts_in, alerts_at, place_by}
+use Rattle.wire_routes.specs.Readers.{burns_at, alerts_of, alerts_in, alerts_at, row_of, row_in}
+use Rattle.wire_routes.specs.Readers.{row_at, sums_of, sums_at, windows_at, place_by}
 use Rattle.wire_routes.proofs.CutLemmas.{then_back, map_back, cond_back, after_back, cut_joined}
 use Rattle.wire_routes.proofs.CutLemmas.{cut_back, label_part, digits_part}
 
@@ -102,6 +105,26 @@ alerts_there slo digits policy n is number legal =
       label_there policy legal,
     ) refl
 
+row_there : (sli source digits : List ℕ) (n : ℕ) → is_label sli ≡ true → is_label source ≡ true
+    → number32 digits ≡ Some n
+    → row_at (codes "/samples/" ++ (sli ++ 47 ∷ (source ++ 47 ∷ digits))) ≡ Some (Row sli source n)
+row_there sli source digits n is legal number =
+    rw (
+      cut_joined 47 sli (source ++ 47 ∷ digits) (label_part sli is).plain,
+      cut_joined 47 source digits (label_part source legal).plain,
+      label_there sli is,
+      label_there source legal,
+      number,
+    ) refl
+
+sums_there : (slo digits : List ℕ) (n : ℕ) → is_label slo ≡ true → number32 digits ≡ Some n
+    → sums_at (codes "/sums/" ++ (slo ++ 47 ∷ digits)) ≡ Some (Sums slo n)
+sums_there slo digits n is number = rw (
+  cut_joined 47 slo digits (label_part slo is).plain,
+  label_there slo is,
+  number,
+) refl
+
 fixed_there : (word path : List ℕ) (p : Place) → path ≡ word → fixed_at word p path ≡ Some p
 fixed_there word path p at = rw ((bytes_eq-Decides path word).1 at) refl
 
@@ -121,6 +144,14 @@ there path (Burns s n) (digits, at, legal, number) = ap burns_at at
 there path (Alerts s n l) (digits, at, legal, number, named) = ap alerts_at at
     ∙ alerts_there s digits l n legal number named
 there path Entries at = fixed_there (codes "/entries") path Entries at
+there path (Row s u n) (digits, at, legal, named, number) = ap row_at at
+    ∙ row_there s u digits n legal named number
+there path Exclusions at = fixed_there (codes "/exclusions") path Exclusions at
+there path Zones at = fixed_there (codes "/zones") path Zones at
+there path Status at = fixed_there (codes "/status") path Status at
+there path (Sums s n) (digits, at, legal, number) = ap sums_at at
+    ∙ sums_there s digits n legal number
+there path (Windows s) (at, legal) = ap windows_at at ∙ rw legal refl
 
 -- what a reader finds is the path's
 
@@ -228,6 +259,48 @@ alerts_back path p h =
       named,
     )
 
+row_back : (path : List ℕ) (p : Place) → row_at path ≡ Some p → IsPath path p
+row_back path p h =
+    let (rest, begins, more) = then_back (after_word (codes "/samples/") path)
+    (λ rest. option_and_then (λ p. row_in p.0 p.1) (cut_at 47 rest)) p h in
+    let (parts, cut, inner) = then_back (cut_at 47 rest) (λ p. row_in p.0 p.1) p more in
+    let (ends, cut_again, made) =
+    then_back (cut_at 47 parts.1) (λ q. row_of parts.0 q.0 q.1) p inner in
+    let (s, label, sourced) = then_back (label_of parts.0) (λ s. option_and_then
+    (λ u. option_map (λ n. Row s u n) (number32 ends.1)) (label_of ends.0)) p made in
+    let (u, source, found) = then_back (label_of ends.0)
+    (λ u. option_map (λ n. Row s u n) (number32 ends.1)) p sourced in
+    let (n, number, is) = map_back (number32 ends.1) (λ n. Row s u n) p found in
+    let (same, legal) = label_back parts.0 s label in
+    let (same_source, named) = label_back ends.0 u source in
+    subst (IsPath path) is (
+      ends.1,
+      behind (codes "/samples/") path rest (s ++ 47 ∷ (u ++ 47 ∷ ends.1)) begins
+          (cut_back 47 rest parts.0 parts.1 cut ∙ ap (λ x. x ++ 47 ∷ parts.1) same
+          ∙ ap (λ x. s ++ 47 ∷ x) (cut_back 47 parts.1 ends.0 ends.1 cut_again
+          ∙ ap (λ x. x ++ 47 ∷ ends.1) same_source)),
+      legal,
+      named,
+      number,
+    )
+
+sums_back : (path : List ℕ) (p : Place) → sums_at path ≡ Some p → IsPath path p
+sums_back path p h =
+    let (rest, begins, more) = then_back (after_word (codes "/sums/") path)
+    (λ rest. option_and_then (λ p. sums_of p.0 p.1) (cut_at 47 rest)) p h in
+    let (parts, cut, made) = then_back (cut_at 47 rest) (λ p. sums_of p.0 p.1) p more in
+    let (s, label, found) =
+    then_back (label_of parts.0) (λ s. option_map (λ n. Sums s n) (number32 parts.1)) p made in
+    let (n, number, is) = map_back (number32 parts.1) (λ n. Sums s n) p found in
+    let (same, legal) = label_back parts.0 s label in
+    subst (IsPath path) is (
+      parts.1,
+      behind (codes "/sums/") path rest (s ++ 47 ∷ parts.1) begins
+          (cut_back 47 rest parts.0 parts.1 cut ∙ ap (λ x. x ++ 47 ∷ parts.1) same),
+      legal,
+      number,
+    )
+
 pub back : (r : Route) (path : List ℕ) (p : Place) → place_by r path ≡ Some p → IsPath path p
 back route.Objects path p h =
     (let (at, is) = fixed_back (codes "/objects") path Objects p h in subst (IsPath path) is at)
@@ -251,3 +324,13 @@ back route.Burns path p h = burns_back path p h
 back route.Alerts path p h = alerts_back path p h
 back route.Entries path p h =
     (let (at, is) = fixed_back (codes "/entries") path Entries p h in subst (IsPath path) is at)
+back route.Row path p h = row_back path p h
+back route.Exclusions path p h = (let (at, is) =
+    fixed_back (codes "/exclusions") path Exclusions p h in subst (IsPath path) is at)
+back route.Zones path p h =
+    (let (at, is) = fixed_back (codes "/zones") path Zones p h in subst (IsPath path) is at)
+back route.Status path p h =
+    (let (at, is) = fixed_back (codes "/status") path Status p h in subst (IsPath path) is at)
+back route.Sums path p h = sums_back path p h
+back route.Windows path p h = (let (n, is, at, legal) =
+    labelled (codes "/windows/") path (λ n. Windows n) p h in subst (IsPath path) is (at, legal))

@@ -14,14 +14,17 @@ use Rattle.wire_routes.specs.declared.place.Place.TheVariants.{Objects, Object, 
 use Rattle.wire_routes.specs.declared.place.Place.TheVariants.{Exclusion, Tick, Notices, Take}
 use Rattle.wire_routes.specs.declared.place.Place.TheVariants.{Upgrade, Budgets, Burns, Alerts}
 use Rattle.wire_routes.specs.declared.place.Place.TheVariants.{Entries}
+use Rattle.wire_routes.specs.declared.place.Place.TheVariants.{Row, Exclusions, Zones, Status, Sums}
+use Rattle.wire_routes.specs.declared.place.Place.TheVariants.{Windows}
 use Rattle.wire_routes.specs.Laws.{OneAnswer, SomeAnswer}
 use Rattle.wire_routes.specs.Places.{Finds, IsPath}
 use Rattle.wire_routes.specs.Readers.{place_by, route_of}
 use Rattle.wire_routes.specs.Requests.{answer_of}
 use Rattle.wire_routes.specs.Table.{table, alerts_route, budgets_route, burns_route}
-use Rattle.wire_routes.specs.Table.{entries_route, exclusion_route, notices_route, object_route}
-use Rattle.wire_routes.specs.Table.{objects_route, samples_route, take_route, tick_route}
-use Rattle.wire_routes.specs.Table.{upgrade_route, zone_route}
+use Rattle.wire_routes.specs.Table.{entries_route, exclusion_route, exclusions_route}
+use Rattle.wire_routes.specs.Table.{notices_route, object_route, objects_route, row_route}
+use Rattle.wire_routes.specs.Table.{samples_route, status_route, sums_route, take_route, tick_route}
+use Rattle.wire_routes.specs.Table.{upgrade_route, windows_route, zone_route, zones_route}
 use Rattle.wire_routes.proofs.CutLemmas.{IsPart, digits_part, label_part, word_part, zone_parts}
 use Rattle.wire_routes.proofs.ReaderLemmas.{back, there}
 use Rattle.wire_routes.proofs.SeekLemmas.{seek_last, seek_literal, seek_name, seek_rest}
@@ -58,12 +61,25 @@ first_budgets y n c d =
     seek_literal (codes "/budgets/") table (y ∷ n) budgets_route.1
     (seek_last y n budgets_route.1 c d)
 
+first_windows : (y : ℕ) (n : List ℕ) → y < 256 → has_slash (y ∷ n) ≡ false
+    → first table (codes "/windows/" ++ (y ∷ n)) ≡ Some windows_route.1
+first_windows y n c d =
+    seek_literal (codes "/windows/") table (y ∷ n) windows_route.1
+    (seek_last y n windows_route.1 c d)
+
 first_burns : (x : ℕ) (k : List ℕ) (y : ℕ) (n : List ℕ) → x < 256 → has_slash (x ∷ k) ≡ false
     → y < 256 → has_slash (y ∷ n) ≡ false
     → first table (codes "/burns/" ++ ((x ∷ k) ++ 47 ∷ y ∷ n)) ≡ Some burns_route.1
 first_burns x k y n a b c d =
     seek_literal (codes "/burns/") table ((x ∷ k) ++ 47 ∷ y ∷ n) burns_route.1
     (seek_name x k (256 ∷ []) (y ∷ n) burns_route.1 a b ∙ seek_last y n burns_route.1 c d)
+
+first_sums : (x : ℕ) (k : List ℕ) (y : ℕ) (n : List ℕ) → x < 256 → has_slash (x ∷ k) ≡ false
+    → y < 256 → has_slash (y ∷ n) ≡ false
+    → first table (codes "/sums/" ++ ((x ∷ k) ++ 47 ∷ y ∷ n)) ≡ Some sums_route.1
+first_sums x k y n a b c d =
+    seek_literal (codes "/sums/") table ((x ∷ k) ++ 47 ∷ y ∷ n) sums_route.1
+    (seek_name x k (256 ∷ []) (y ∷ n) sums_route.1 a b ∙ seek_last y n sums_route.1 c d)
 
 first_alerts : (x : ℕ) (k : List ℕ) (y : ℕ) (n : List ℕ) (z : ℕ) (l : List ℕ)
     → x < 256 → has_slash (x ∷ k) ≡ false → y < 256 → has_slash (y ∷ n) ≡ false → z < 256
@@ -74,6 +90,16 @@ first_alerts x k y n z l a b c d e f =
     seek_literal (codes "/alerts/") table ((x ∷ k) ++ 47 ∷ ((y ∷ n) ++ 47 ∷ z ∷ l)) alerts_route.1
     (seek_name x k (256 ∷ 47 ∷ 256 ∷ []) ((y ∷ n) ++ 47 ∷ z ∷ l) alerts_route.1 a b
     ∙ seek_name y n (256 ∷ []) (z ∷ l) alerts_route.1 c d ∙ seek_last z l alerts_route.1 e f)
+
+first_row : (x : ℕ) (k : List ℕ) (y : ℕ) (n : List ℕ) (z : ℕ) (l : List ℕ)
+    → x < 256 → has_slash (x ∷ k) ≡ false → y < 256 → has_slash (y ∷ n) ≡ false → z < 256
+    → has_slash (z ∷ l) ≡ false
+    → first table (codes "/samples/" ++ ((x ∷ k) ++ 47 ∷ ((y ∷ n) ++ 47 ∷ z ∷ l)))
+    ≡ Some row_route.1
+first_row x k y n z l a b c d e f =
+    seek_literal (codes "/samples/") table ((x ∷ k) ++ 47 ∷ ((y ∷ n) ++ 47 ∷ z ∷ l)) row_route.1
+    (seek_name x k (256 ∷ 47 ∷ 256 ∷ []) ((y ∷ n) ++ 47 ∷ z ∷ l) row_route.1 a b
+    ∙ seek_name y n (256 ∷ []) (z ∷ l) row_route.1 c d ∙ seek_last z l row_route.1 e f)
 
 first_objects : first table (codes "/objects") ≡ Some objects_route.1
 unfolding matchit_on_literals
@@ -99,6 +125,18 @@ first_entries : first table (codes "/entries") ≡ Some entries_route.1
 unfolding matchit_on_literals
 first_entries = refl
 
+first_exclusions : first table (codes "/exclusions") ≡ Some exclusions_route.1
+unfolding matchit_on_literals
+first_exclusions = refl
+
+first_zones : first table (codes "/zones") ≡ Some zones_route.1
+unfolding matchit_on_literals
+first_zones = refl
+
+first_status : first table (codes "/status") ≡ Some status_route.1
+unfolding matchit_on_literals
+first_status = refl
+
 kind_part : (k : Kind) → IsPart (kind_word k)
 kind_part kinds.DataSource = word_part _ refl refl
 kind_part kinds.Service = word_part _ refl refl
@@ -120,10 +158,21 @@ burns_first : (k n : List ℕ) → IsPart k → IsPart n
 burns_first k n a b =
     rw (a.is, b.is) (first_burns a.first a.rest b.first b.rest a.byte a.router b.byte b.router)
 
+sums_first : (k n : List ℕ) → IsPart k → IsPart n
+    → first table (codes "/sums/" ++ (k ++ 47 ∷ n)) ≡ Some sums_route.1
+sums_first k n a b =
+    rw (a.is, b.is) (first_sums a.first a.rest b.first b.rest a.byte a.router b.byte b.router)
+
 alerts_first : (k n l : List ℕ) → IsPart k → IsPart n → IsPart l
     → first table (codes "/alerts/" ++ (k ++ 47 ∷ (n ++ 47 ∷ l))) ≡ Some alerts_route.1
 alerts_first k n l a b c =
     rw (a.is, b.is, c.is) (first_alerts a.first a.rest b.first b.rest c.first c.rest a.byte a.router
+    b.byte b.router c.byte c.router)
+
+row_first : (k n l : List ℕ) → IsPart k → IsPart n → IsPart l
+    → first table (codes "/samples/" ++ (k ++ 47 ∷ (n ++ 47 ∷ l))) ≡ Some row_route.1
+row_first k n l a b c =
+    rw (a.is, b.is, c.is) (first_row a.first a.rest b.first b.rest c.first c.rest a.byte a.router
     b.byte b.router c.byte c.router)
 
 take_first : (n : List ℕ) → IsPart n
@@ -137,6 +186,10 @@ exclusion_first n a = rw a.is (first_exclusion a.first a.rest a.byte a.router)
 budgets_first : (n : List ℕ) → IsPart n
     → first table (codes "/budgets/" ++ n) ≡ Some budgets_route.1
 budgets_first n a = rw a.is (first_budgets a.first a.rest a.byte a.router)
+
+windows_first : (n : List ℕ) → IsPart n
+    → first table (codes "/windows/" ++ n) ≡ Some windows_route.1
+windows_first n a = rw a.is (first_windows a.first a.rest a.byte a.router)
 
 -- a place's path has the place's route
 located : (path : List ℕ) (p : Place) → IsPath path p
@@ -176,6 +229,23 @@ located path (Alerts s n l) (digits, at, legal, number, named) = (
   refl,
 )
 located path Entries at = (entries_route.1, ap (first table) at ∙ first_entries, refl)
+located path (Row s u n) (digits, at, legal, named, number) = (
+  row_route.1,
+  ap (first table) at ∙ row_first s u digits (label_part s legal) (label_part u named)
+      (digits_part digits n number),
+  refl,
+)
+located path Exclusions at = (exclusions_route.1, ap (first table) at ∙ first_exclusions, refl)
+located path Zones at = (zones_route.1, ap (first table) at ∙ first_zones, refl)
+located path Status at = (status_route.1, ap (first table) at ∙ first_status, refl)
+located path (Sums s n) (digits, at, legal, number) = (
+  sums_route.1,
+  ap (first table) at
+      ∙ sums_first s digits (label_part s legal) (digits_part digits n number),
+  refl,
+)
+located path (Windows s) (at, legal) =
+    (windows_route.1, ap (first table) at ∙ windows_first s (label_part s legal), refl)
 
 same_route : (s r : RouteOf Route) → Some s ≡ Some r → s ≡ r
 same_route s r e = cc e

@@ -9,6 +9,8 @@ use Rattle.wire_routes.specs.declared.place.Place.TheVariants.{Objects, Object, 
 use Rattle.wire_routes.specs.declared.place.Place.TheVariants.{Exclusion, Tick, Notices, Take}
 use Rattle.wire_routes.specs.declared.place.Place.TheVariants.{Upgrade, Budgets, Burns, Alerts}
 use Rattle.wire_routes.specs.declared.place.Place.TheVariants.{Entries}
+use Rattle.wire_routes.specs.declared.place.Place.TheVariants.{Row, Exclusions, Zones, Status, Sums}
+use Rattle.wire_routes.specs.declared.place.Place.TheVariants.{Windows}
 
 -- the path is the place's, slashes (47) and all
 abbrev pub IsPath : List ℕ → Place → Type 0
@@ -31,6 +33,16 @@ IsPath path (Alerts slo objective policy) =
     (digits : List ℕ) × (path ≡ codes "/alerts/" ++ (slo ++ 47 ∷ (digits ++ 47 ∷ policy)))
     × (is_label slo ≡ true) × (number32 digits ≡ Some objective) × (is_label policy ≡ true)
 IsPath path Entries = path ≡ codes "/entries"
+IsPath path (Row sli source minute) =
+    (digits : List ℕ) × (path ≡ codes "/samples/" ++ (sli ++ 47 ∷ (source ++ 47 ∷ digits)))
+    × (is_label sli ≡ true) × (is_label source ≡ true) × (number32 digits ≡ Some minute)
+IsPath path Exclusions = path ≡ codes "/exclusions"
+IsPath path Zones = path ≡ codes "/zones"
+IsPath path Status = path ≡ codes "/status"
+IsPath path (Sums slo objective) =
+    (digits : List ℕ) × (path ≡ codes "/sums/" ++ (slo ++ 47 ∷ digits)) × (is_label slo ≡ true)
+    × (number32 digits ≡ Some objective)
+IsPath path (Windows slo) = (path ≡ codes "/windows/" ++ slo) × (is_label slo ≡ true)
 
 -- the place that the path names, or that it names none
 abbrev pub Finds : List ℕ → Option Place → Type 0

@@ -15,13 +15,14 @@ bytes_of query = option_map (λ q. q.now) query
 abbrev pub items_of : List ℕ → List (List ℕ)
 items_of query = slice_split (λ b. b == 38) query
 
--- the key of an item is one of two
-abbrev pub has_key : List ℕ → List ℕ → Option (List ℕ × List ℕ) → Bool
-has_key first second None = false
-has_key first second (Some item) = bytes_eq item.0 first || bytes_eq item.0 second
+-- the key of an item is one of three
+abbrev pub has_key : List ℕ → List ℕ → List ℕ → Option (List ℕ × List ℕ) → Bool
+has_key first second third None = false
+has_key first second third (Some item) =
+    bytes_eq item.0 first || (bytes_eq item.0 second || bytes_eq item.0 third)
 
-abbrev pub is_known : List ℕ → List ℕ → List ℕ → Bool
-is_known first second item = has_key first second (cut_at 61 item)
+abbrev pub is_known : List ℕ → List ℕ → List ℕ → List ℕ → Bool
+is_known first second third item = has_key first second third (cut_at 61 item)
 
 -- the value of an item that has the key
 abbrev pub value_in : List ℕ → List ℕ × List ℕ → Option (List ℕ)
@@ -40,19 +41,21 @@ only_of [] = Some None
 only_of (value ∷ []) = Some (Some value)
 only_of _ = None
 
--- the values of two keys, where no item has another key, and none is there twice
-abbrev pub key_values_in : List (List ℕ) → List ℕ → List ℕ
-    → Option (Option (List ℕ) × Option (List ℕ))
-key_values_in items first second =
-    cond (list_all (is_known first second) items)
-    (option_and_then (λ a. option_map (λ b. (a, b)) (only_of (values_of second items)))
+-- the values of three keys, which may be one key or two, where no item has another key, and none
+-- is there twice
+abbrev pub key_values_in : List (List ℕ) → List ℕ → List ℕ → List ℕ
+    → Option (Option (List ℕ) × Option (List ℕ) × Option (List ℕ))
+key_values_in items first second third =
+    cond (list_all (is_known first second third) items)
+    (option_and_then (λ a. option_and_then (λ b. option_map (λ c. (a, b, c))
+    (only_of (values_of third items))) (only_of (values_of second items)))
     (only_of (values_of first items))) None
 
 -- the same of a target, which may have no query
-abbrev pub key_values : Option (List ℕ) → List ℕ → List ℕ
-    → Option (Option (List ℕ) × Option (List ℕ))
-key_values None first second = Some (None, None)
-key_values (Some query) first second = key_values_in (items_of query) first second
+abbrev pub key_values : Option (List ℕ) → List ℕ → List ℕ → List ℕ
+    → Option (Option (List ℕ) × Option (List ℕ) × Option (List ℕ))
+key_values None first second third = Some (None, None, None)
+key_values (Some query) first second third = key_values_in (items_of query) first second third
 
 -- the items that a reader has left
 abbrev pub items_left : Option (List ℕ) → List (List ℕ)

@@ -10,6 +10,8 @@ use Rattle.wire_routes.specs.declared.place.Place.TheVariants.{Objects, Object, 
 use Rattle.wire_routes.specs.declared.place.Place.TheVariants.{Exclusion, Tick, Notices, Take}
 use Rattle.wire_routes.specs.declared.place.Place.TheVariants.{Upgrade, Budgets, Burns, Alerts}
 use Rattle.wire_routes.specs.declared.place.Place.TheVariants.{Entries}
+use Rattle.wire_routes.specs.declared.place.Place.TheVariants.{Row, Exclusions, Zones, Status, Sums}
+use Rattle.wire_routes.specs.declared.place.Place.TheVariants.{Windows}
 use Rattle.wire_routes.specs.declared.place.Route.{Route}
 use Rattle.wire_routes.specs.declared.place.Route.TheVariants as route
 
@@ -28,6 +30,12 @@ route_of (Budgets slo) = route.Budgets
 route_of (Burns slo objective) = route.Burns
 route_of (Alerts slo objective policy) = route.Alerts
 route_of Entries = route.Entries
+route_of (Row sli source minute) = route.Row
+route_of Exclusions = route.Exclusions
+route_of Zones = route.Zones
+route_of Status = route.Status
+route_of (Sums slo objective) = route.Sums
+route_of (Windows slo) = route.Windows
 
 abbrev pub fixed_at : List ℕ → Place → List ℕ → Option Place
 fixed_at word place path = cond (bytes_eq path word) (Some place) None
@@ -80,6 +88,30 @@ abbrev pub alerts_at : List ℕ → Option Place
 alerts_at path = option_and_then (λ rest. option_and_then (λ p. alerts_in p.0 p.1) (cut_at 47 rest))
     (after_word (codes "/alerts/") path)
 
+abbrev pub row_of : List ℕ → List ℕ → List ℕ → Option Place
+row_of sli source digits =
+    option_and_then (λ s. option_and_then (λ u. option_map (λ n. Row s u n) (number32 digits))
+    (label_of source)) (label_of sli)
+
+abbrev pub row_in : List ℕ → List ℕ → Option Place
+row_in sli rest = option_and_then (λ q. row_of sli q.0 q.1) (cut_at 47 rest)
+
+abbrev pub row_at : List ℕ → Option Place
+row_at path = option_and_then (λ rest. option_and_then (λ p. row_in p.0 p.1) (cut_at 47 rest))
+    (after_word (codes "/samples/") path)
+
+abbrev pub sums_of : List ℕ → List ℕ → Option Place
+sums_of slo digits =
+    option_and_then (λ s. option_map (λ n. Sums s n) (number32 digits)) (label_of slo)
+
+abbrev pub sums_at : List ℕ → Option Place
+sums_at path = option_and_then (λ rest. option_and_then (λ p. sums_of p.0 p.1) (cut_at 47 rest))
+    (after_word (codes "/sums/") path)
+
+abbrev pub windows_at : List ℕ → Option Place
+windows_at path = option_and_then (λ rest. option_map (λ n. Windows n) (label_of rest))
+    (after_word (codes "/windows/") path)
+
 -- the place of that route that a path names
 abbrev pub place_by : Route → List ℕ → Option Place
 place_by route.Objects path = fixed_at (codes "/objects") Objects path
@@ -95,3 +127,9 @@ place_by route.Budgets path = budgets_at path
 place_by route.Burns path = burns_at path
 place_by route.Alerts path = alerts_at path
 place_by route.Entries path = fixed_at (codes "/entries") Entries path
+place_by route.Row path = row_at path
+place_by route.Exclusions path = fixed_at (codes "/exclusions") Exclusions path
+place_by route.Zones path = fixed_at (codes "/zones") Zones path
+place_by route.Status path = fixed_at (codes "/status") Status path
+place_by route.Sums path = sums_at path
+place_by route.Windows path = windows_at path

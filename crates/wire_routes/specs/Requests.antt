@@ -21,7 +21,8 @@ use Rattle.wire_routes.specs.declared.place.Place.TheVariants as place
 use Rattle.wire_routes.specs.declared.routed.Routed.{Routed}
 use Rattle.wire_routes.specs.declared.routed.Routed.TheVariants as routed
 use Rattle.wire_routes.specs.Exclusions.{exclusion_of}
-use Rattle.wire_routes.specs.Keys.{alerts_keys, budgets_keys, burns_keys, entries_keys}
+use Rattle.wire_routes.specs.Keys.{budgets_keys, burns_keys, entries_keys, stretch_keys}
+use Rattle.wire_routes.specs.Keys.{sums_keys}
 use Rattle.wire_routes.specs.Methods.{method_of}
 use Rattle.wire_routes.specs.Places.{Finds}
 use Rattle.wire_routes.specs.Samples.{samples_of}
@@ -84,10 +85,25 @@ answer_at (place.Burns slo objective) Get query body =
     with_keys (λ k. ask.Burn slo objective k.0 k.1) (burns_keys query)
 answer_at (place.Burns slo objective) _ query body = Err (no_request.Method allow.Get)
 answer_at (place.Alerts slo objective policy) Get query body =
-    with_keys (λ k. ask.Timeline slo objective policy k.0 k.1) (alerts_keys query)
+    with_keys (λ k. ask.Timeline slo objective policy k.0 k.1) (stretch_keys query)
 answer_at (place.Alerts slo objective policy) _ query body = Err (no_request.Method allow.Get)
 answer_at place.Entries Get query body = with_keys (λ from. ask.Entries from) (entries_keys query)
 answer_at place.Entries _ query body = Err (no_request.Method allow.Get)
+answer_at (place.Row sli source minute) Get query body =
+    without_keys query (Ok (Ask (ask.Row sli source minute)))
+answer_at (place.Row sli source minute) _ query body = Err (no_request.Method allow.Get)
+answer_at place.Exclusions Get query body = without_keys query (Ok (Ask ask.Exclusions))
+answer_at place.Exclusions _ query body = Err (no_request.Method allow.Get)
+answer_at place.Zones Get query body = without_keys query (Ok (Ask ask.Zones))
+answer_at place.Zones _ query body = Err (no_request.Method allow.Get)
+answer_at place.Status Get query body = without_keys query (Ok (Ask ask.Status))
+answer_at place.Status _ query body = Err (no_request.Method allow.Get)
+answer_at (place.Sums slo objective) Get query body =
+    with_keys (λ k. ask.Sums slo objective k.0 k.1 k.2) (sums_keys query)
+answer_at (place.Sums slo objective) _ query body = Err (no_request.Method allow.Get)
+answer_at (place.Windows slo) Get query body =
+    with_keys (λ k. ask.Windows slo k.0 k.1) (stretch_keys query)
+answer_at (place.Windows slo) _ query body = Err (no_request.Method allow.Get)
 
 -- a path without a route comes first of all
 abbrev pub answer_of : Option Place → Said → Answer

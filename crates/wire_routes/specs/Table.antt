@@ -7,6 +7,8 @@ use Rattle.wire_routes.specs.declared.place.Route.TheVariants.{Objects, Object, 
 use Rattle.wire_routes.specs.declared.place.Route.TheVariants.{Exclusion, Tick, Notices, Take}
 use Rattle.wire_routes.specs.declared.place.Route.TheVariants.{Upgrade, Budgets, Burns, Alerts}
 use Rattle.wire_routes.specs.declared.place.Route.TheVariants.{Entries}
+use Rattle.wire_routes.specs.declared.place.Route.TheVariants.{Row, Exclusions, Zones, Status, Sums}
+use Rattle.wire_routes.specs.declared.place.Route.TheVariants.{Windows}
 
 abbrev pub RouteTable : Type 0
 RouteTable = TableOf (RouteOf Route)
@@ -40,6 +42,9 @@ exclusion_route =
     route_at (codes "/exclusions/" ++ (param_token ∷ [])) (codes "/exclusions/{id}")
     ((13, 15) ∷ []) Exclusion
 
+abbrev pub exclusions_route : List ℕ × RouteOf Route
+exclusions_route = route_at (codes "/exclusions") (codes "/exclusions") [] Exclusions
+
 abbrev pub take_route : List ℕ × RouteOf Route
 take_route =
     route_at (codes "/notices/" ++ (param_token ∷ codes "/take")) (codes "/notices/{n}/take")
@@ -56,8 +61,22 @@ object_route =
 abbrev pub objects_route : List ℕ × RouteOf Route
 objects_route = route_at (codes "/objects") (codes "/objects") [] Objects
 
+abbrev pub row_route : List ℕ × RouteOf Route
+row_route =
+    route_at (codes "/samples/" ++ (param_token ∷ codes "/"
+    ++ (param_token ∷ codes "/" ++ (param_token ∷ []))))
+    (codes "/samples/{sli}/{source}/{minute}") ((10, 13) ∷ (16, 22) ∷ (25, 31) ∷ []) Row
+
 abbrev pub samples_route : List ℕ × RouteOf Route
 samples_route = route_at (codes "/samples") (codes "/samples") [] Samples
+
+abbrev pub status_route : List ℕ × RouteOf Route
+status_route = route_at (codes "/status") (codes "/status") [] Status
+
+abbrev pub sums_route : List ℕ × RouteOf Route
+sums_route =
+    route_at (codes "/sums/" ++ (param_token ∷ codes "/" ++ (param_token ∷ [])))
+    (codes "/sums/{slo}/{objective}") ((7, 10) ∷ (13, 22) ∷ []) Sums
 
 abbrev pub tick_route : List ℕ × RouteOf Route
 tick_route = route_at (codes "/tick") (codes "/tick") [] Tick
@@ -65,14 +84,23 @@ tick_route = route_at (codes "/tick") (codes "/tick") [] Tick
 abbrev pub upgrade_route : List ℕ × RouteOf Route
 upgrade_route = route_at (codes "/upgrade") (codes "/upgrade") [] Upgrade
 
+abbrev pub windows_route : List ℕ × RouteOf Route
+windows_route =
+    route_at (codes "/windows/" ++ (param_token ∷ [])) (codes "/windows/{slo}") ((10, 13) ∷ [])
+    Windows
+
 abbrev pub zone_route : List ℕ × RouteOf Route
 zone_route =
     route_at (codes "/zones/" ++ (catch_all_token ∷ [])) (codes "/zones/{*name}") ((9, 13) ∷ [])
     Zone
 
+abbrev pub zones_route : List ℕ × RouteOf Route
+zones_route = route_at (codes "/zones") (codes "/zones") [] Zones
+
 -- in the order of their patterns, a longer one before what it begins with
 abbrev pub table : RouteTable
 table =
-    alerts_route ∷ budgets_route ∷ burns_route ∷ entries_route ∷ exclusion_route ∷ take_route
-    ∷ notices_route ∷ object_route ∷ objects_route ∷ samples_route ∷ tick_route ∷ upgrade_route
-    ∷ zone_route ∷ []
+    alerts_route ∷ budgets_route ∷ burns_route ∷ entries_route ∷ exclusion_route ∷ exclusions_route
+    ∷ take_route ∷ notices_route ∷ object_route ∷ objects_route ∷ row_route ∷ samples_route
+    ∷ status_route ∷ sums_route ∷ tick_route ∷ upgrade_route ∷ windows_route ∷ zone_route
+    ∷ zones_route ∷ []

@@ -1,7 +1,7 @@
 //! The keys of the routes that have any.
 ghost use Rattle.std.specs.Prelude.{◌≡◌};
-ghost use Rattle.wire_routes.specs.Keys.{alerts_keys, budgets_keys, burns_keys, entries_keys};
-ghost use Rattle.wire_routes.specs.Keys.{lookback_of, minute_or_none};
+ghost use Rattle.wire_routes.specs.Keys.{budgets_keys, burns_keys, entries_keys, lookback_of};
+ghost use Rattle.wire_routes.specs.Keys.{minute_or_none, stretch_keys, sums_keys};
 ghost use Rattle.wire_routes.specs.Queries.{bytes_of};
 
 use crate::cuts::read_number32;
@@ -33,7 +33,7 @@ fn read_lookback(text: &[u8]) -> Option<Duration>
 pub(crate) fn budgets_keys(query: Option<&[u8]>) -> Option<Option<u32>>
     ensures { result ≡ budgets_keys (bytes_of query.entry) }
 {
-    let (at, _) = read_query(query, b"at", b"at")?;
+    let (at, _, _) = read_query(query, b"at", b"at", b"at")?;
     minute_or_none(at)
 }
 
@@ -41,17 +41,17 @@ pub(crate) fn budgets_keys(query: Option<&[u8]>) -> Option<Option<u32>>
 pub(crate) fn burns_keys(query: Option<&[u8]>) -> Option<(Duration, Option<u32>)>
     ensures { result ≡ burns_keys (bytes_of query.entry) }
 {
-    let (lookback, at) = read_query(query, b"lookback", b"at")?;
+    let (lookback, at, _) = read_query(query, b"lookback", b"at", b"at")?;
     let lookback = read_lookback(lookback?)?;
     let at = minute_or_none(at)?;
     Some((lookback, at))
 }
 
-/// The keys `from` and `to` of `/alerts`; none where the query isn't of that form.
-pub(crate) fn alerts_keys(query: Option<&[u8]>) -> Option<(u32, u32)>
-    ensures { result ≡ alerts_keys (bytes_of query.entry) }
+/// The keys `from` and `to` of `/alerts` and `/windows`; none where the query isn't of that form.
+pub(crate) fn stretch_keys(query: Option<&[u8]>) -> Option<(u32, u32)>
+    ensures { result ≡ stretch_keys (bytes_of query.entry) }
 {
-    let (from, to) = read_query(query, b"from", b"to")?;
+    let (from, to, _) = read_query(query, b"from", b"to", b"to")?;
     let from = read_number32(from?)?;
     let to = read_number32(to?)?;
     Some((from, to))
@@ -61,6 +61,17 @@ pub(crate) fn alerts_keys(query: Option<&[u8]>) -> Option<(u32, u32)>
 pub(crate) fn entries_keys(query: Option<&[u8]>) -> Option<u32>
     ensures { result ≡ entries_keys (bytes_of query.entry) }
 {
-    let (from, _) = read_query(query, b"from", b"from")?;
+    let (from, _, _) = read_query(query, b"from", b"from", b"from")?;
     read_number32(from?)
+}
+
+/// The keys `from`, `to` and `step` of `/sums`; none where the query isn't of that form.
+pub(crate) fn sums_keys(query: Option<&[u8]>) -> Option<(u32, u32, u32)>
+    ensures { result ≡ sums_keys (bytes_of query.entry) }
+{
+    let (from, to, step) = read_query(query, b"from", b"to", b"step")?;
+    let from = read_number32(from?)?;
+    let to = read_number32(to?)?;
+    let step = read_number32(step?)?;
+    Some((from, to, step))
 }

@@ -32,6 +32,18 @@ pub enum Route {
     Alerts,
     /// `/entries`
     Entries,
+    /// `/samples/{sli}/{source}/{minute}`
+    Row,
+    /// `/exclusions`
+    Exclusions,
+    /// `/zones`
+    Zones,
+    /// `/status`
+    Status,
+    /// `/sums/{slo}/{objective}`
+    Sums,
+    /// `/windows/{slo}`
+    Windows,
 }
 
 /// A route's path with the values of its parts.
@@ -68,4 +80,19 @@ pub enum Place {
         policy: Label,
     },
     Entries,
+    Row {
+        sli: Label,
+        source: Label,
+        minute: u32,
+    },
+    Exclusions,
+    Zones,
+    Status,
+    Sums {
+        slo: Label,
+        objective: u32,
+    },
+    Windows {
+        slo: Label,
+    },
 }

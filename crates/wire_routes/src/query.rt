@@ -47,22 +47,22 @@ impl<'a> Items<'a> {
     }
 }
 
-fn is_known(item: &[u8], first: &[u8], second: &[u8]) -> bool
-    ensures { result ≡ is_known first.now second.now item.now }
+fn is_known(item: &[u8], first: &[u8], second: &[u8], third: &[u8]) -> bool
+    ensures { result ≡ is_known first.now second.now third.now item.now }
 {
     match cut_at(item, b'=') {
-        Some((key, _)) => key == first || key == second,
+        Some((key, _)) => key == first || (key == second || key == third),
         None => false,
     }
 }
 
 /// Whether each item has one of the keys.
-fn all_known(query: &[u8], first: &[u8], second: &[u8]) -> bool
-    ensures { result ≡ list_all (is_known first.now second.now) (items_of query.now) }
+fn all_known(query: &[u8], first: &[u8], second: &[u8], third: &[u8]) -> bool
+    ensures { result ≡ list_all (is_known first.now second.now third.now) (items_of query.now) }
 {
     let mut items = Items::new(query);
     'items: while let Some(item) = items.next() {
-        if !is_known(item, first, second) {
+        if !is_known(item, first, second, third) {
             return false;
         }
     }
@@ -95,23 +95,26 @@ fn only<'a>(query: &'a [u8], key: &[u8]) -> Option<Option<&'a [u8]>>
     Some(found)
 }
 
-/// The values of two keys, each where it is there; none where an item is no `key=value` with one of
-/// the keys, or a key is there twice.
+/// The values of three keys, each where it is there; none where an item is no `key=value` with one
+/// of the keys, or a key is there twice. A route of one key or two names a key again.
 pub(crate) fn read_query<'a>(
     query: Option<&'a [u8]>,
     first: &[u8],
     second: &[u8],
-) -> Option<(Option<&'a [u8]>, Option<&'a [u8]>)>
-    ensures { option_map (λ p. (option_map (λ v. v.now) p.0, option_map (λ v. v.now) p.1)) result
-        ≡ key_values (bytes_of query.entry) first.now second.now }
+    third: &[u8],
+) -> Option<(Option<&'a [u8]>, Option<&'a [u8]>, Option<&'a [u8]>)>
+    ensures { option_map (λ p. (option_map (λ v. v.now) p.0, option_map (λ v. v.now) p.1,
+        option_map (λ v. v.now) p.2)) result
+        ≡ key_values (bytes_of query.entry) first.now second.now third.now }
 {
     let Some(query) = query else {
-        return Some((None, None));
+        return Some((None, None, None));
     };
-    if !all_known(query, first, second) {
+    if !all_known(query, first, second, third) {
         return None;
     }
     let a = only(query, first)?;
     let b = only(query, second)?;
-    Some((a, b))
+    let c = only(query, third)?;
+    Some((a, b, c))
 }

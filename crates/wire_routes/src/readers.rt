@@ -1,8 +1,8 @@
 //! The places of paths, by their routes.
 ghost use Rattle.std.specs.Prelude.{◌≡◌};
 ghost use Rattle.wire_routes.specs.Readers.{alerts_at, alerts_in, budgets_at, burns_at};
-ghost use Rattle.wire_routes.specs.Readers.{exclusion_at, fixed_at, object_at, place_by, take_at};
-ghost use Rattle.wire_routes.specs.Readers.{zone_at};
+ghost use Rattle.wire_routes.specs.Readers.{exclusion_at, fixed_at, object_at, place_by, row_at};
+ghost use Rattle.wire_routes.specs.Readers.{row_in, sums_at, take_at, windows_at, zone_at};
 
 use crate::cuts::{after_word, cut_at, read_number32};
 use crate::place::{Place, Route};
@@ -93,6 +93,46 @@ fn alerts_at(path: &[u8]) -> Option<Place>
     alerts_in(slo, rest)
 }
 
+fn row_in(sli: &[u8], rest: &[u8]) -> Option<Place>
+    ensures { result ≡ row_in sli.now rest.now }
+{
+    let (source, digits) = cut_at(rest, b'/')?;
+    let sli = read_label(sli)?;
+    let source = read_label(source)?;
+    let minute = read_number32(digits)?;
+    Some(Place::Row {
+        sli,
+        source,
+        minute,
+    })
+}
+
+fn row_at(path: &[u8]) -> Option<Place>
+    ensures { result ≡ row_at path.now }
+{
+    let rest = after_word(path, b"/samples/")?;
+    let (sli, rest) = cut_at(rest, b'/')?;
+    row_in(sli, rest)
+}
+
+fn sums_at(path: &[u8]) -> Option<Place>
+    ensures { result ≡ sums_at path.now }
+{
+    let rest = after_word(path, b"/sums/")?;
+    let (slo, digits) = cut_at(rest, b'/')?;
+    let slo = read_label(slo)?;
+    let objective = read_number32(digits)?;
+    Some(Place::Sums { slo, objective })
+}
+
+fn windows_at(path: &[u8]) -> Option<Place>
+    ensures { result ≡ windows_at path.now }
+{
+    let rest = after_word(path, b"/windows/")?;
+    let slo = read_label(rest)?;
+    Some(Place::Windows { slo })
+}
+
 /// The place of that route that a path names.
 pub(crate) fn place_by(route: Route, path: &[u8]) -> Option<Place>
     ensures { result ≡ place_by route path.now }
@@ -111,5 +151,11 @@ pub(crate) fn place_by(route: Route, path: &[u8]) -> Option<Place>
         Route::Burns => burns_at(path),
         Route::Alerts => alerts_at(path),
         Route::Entries => fixed_at(path, b"/entries", Place::Entries),
+        Route::Row => row_at(path),
+        Route::Exclusions => fixed_at(path, b"/exclusions", Place::Exclusions),
+        Route::Zones => fixed_at(path, b"/zones", Place::Zones),
+        Route::Status => fixed_at(path, b"/status", Place::Status),
+        Route::Sums => sums_at(path),
+        Route::Windows => windows_at(path),
     }
 }

@@ -15,7 +15,7 @@ ghost use Rattle.wire_routes.specs.Samples.{samples_of};
 
 use crate::exclusion::read_exclusion;
 use crate::find::Routes;
-use crate::keys::{alerts_keys, budgets_keys, burns_keys, entries_keys};
+use crate::keys::{budgets_keys, burns_keys, entries_keys, stretch_keys, sums_keys};
 use crate::method::{Method, method_of};
 use crate::place::Place;
 use crate::routed::Routed;
@@ -236,7 +236,7 @@ fn alerts(slo: Label, objective: u32, policy: Label, method: Method, query: Opti
         body) result }
 {
     match method {
-        Method::Get => match alerts_keys(query) {
+        Method::Get => match stretch_keys(query) {
             Some((from, to)) => Routed::Request(Request::Ask(Query::Timeline {
                 slo,
                 objective,
@@ -257,6 +257,89 @@ fn entries(method: Method, query: Option<&[u8]>) -> Routed
     match method {
         Method::Get => match entries_keys(query) {
             Some(from) => Routed::Request(Request::Ask(Query::Entries { from })),
+            None => Routed::NoRequest(NoRequest::Query),
+        },
+        Method::Delete | Method::Post | Method::Put | Method::Other => other_methods(Allow::Get),
+    }
+}
+
+fn row(sli: Label, source: Label, minute: u32, method: Method, query: Option<&[u8]>) -> Routed
+    ensures { (body : List ℕ)
+        → IsRoutedAs (answer_at (place.Row sli source minute) method (bytes_of query.entry) body)
+        result }
+{
+    match method {
+        Method::Get => without_keys(
+            query,
+            Request::Ask(Query::Row {
+                sli,
+                source,
+                minute,
+            }),
+        ),
+        Method::Delete | Method::Post | Method::Put | Method::Other => other_methods(Allow::Get),
+    }
+}
+
+fn exclusions(method: Method, query: Option<&[u8]>) -> Routed
+    ensures { (body : List ℕ)
+        → IsRoutedAs (answer_at place.Exclusions method (bytes_of query.entry) body) result }
+{
+    match method {
+        Method::Get => without_keys(query, Request::Ask(Query::Exclusions)),
+        Method::Delete | Method::Post | Method::Put | Method::Other => other_methods(Allow::Get),
+    }
+}
+
+fn zones(method: Method, query: Option<&[u8]>) -> Routed
+    ensures { (body : List ℕ)
+        → IsRoutedAs (answer_at place.Zones method (bytes_of query.entry) body) result }
+{
+    match method {
+        Method::Get => without_keys(query, Request::Ask(Query::Zones)),
+        Method::Delete | Method::Post | Method::Put | Method::Other => other_methods(Allow::Get),
+    }
+}
+
+fn status(method: Method, query: Option<&[u8]>) -> Routed
+    ensures { (body : List ℕ)
+        → IsRoutedAs (answer_at place.Status method (bytes_of query.entry) body) result }
+{
+    match method {
+        Method::Get => without_keys(query, Request::Ask(Query::Status)),
+        Method::Delete | Method::Post | Method::Put | Method::Other => other_methods(Allow::Get),
+    }
+}
+
+fn sums(slo: Label, objective: u32, method: Method, query: Option<&[u8]>) -> Routed
+    ensures { (body : List ℕ)
+        → IsRoutedAs (answer_at (place.Sums slo objective) method (bytes_of query.entry) body)
+        result }
+{
+    match method {
+        Method::Get => match sums_keys(query) {
+            Some((from, to, step)) => Routed::Request(Request::Ask(Query::Sums {
+                slo,
+                objective,
+                from,
+                to,
+                step,
+            })),
+            None => Routed::NoRequest(NoRequest::Query),
+        },
+        Method::Delete | Method::Post | Method::Put | Method::Other => other_methods(Allow::Get),
+    }
+}
+
+fn windows(slo: Label, method: Method, query: Option<&[u8]>) -> Routed
+    ensures { (body : List ℕ)
+        → IsRoutedAs (answer_at (place.Windows slo) method (bytes_of query.entry) body) result }
+{
+    match method {
+        Method::Get => match stretch_keys(query) {
+            Some((from, to)) => {
+                Routed::Request(Request::Ask(Query::Windows { slo, from, to }))
+            }
             None => Routed::NoRequest(NoRequest::Query),
         },
         Method::Delete | Method::Post | Method::Put | Method::Other => other_methods(Allow::Get),
@@ -292,6 +375,16 @@ fn answer_at(
             policy,
         } => alerts(*slo, *objective, *policy, method, query),
         Place::Entries => entries(method, query),
+        Place::Row {
+            sli,
+            source,
+            minute,
+        } => row(*sli, *source, *minute, method, query),
+        Place::Exclusions => exclusions(method, query),
+        Place::Zones => zones(method, query),
+        Place::Status => status(method, query),
+        Place::Sums { slo, objective } => sums(*slo, *objective, method, query),
+        Place::Windows { slo } => windows(*slo, method, query),
     }
 }
 

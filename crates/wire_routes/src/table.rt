@@ -24,5 +24,11 @@ pub(crate) fn make_router(alloc: Global) -> Result<Router<Route>, InsertError>
     router.insert("/burns/{slo}/{objective}", Route::Burns)?;
     router.insert("/alerts/{slo}/{objective}/{policy}", Route::Alerts)?;
     router.insert("/entries", Route::Entries)?;
+    router.insert("/samples/{sli}/{source}/{minute}", Route::Row)?;
+    router.insert("/exclusions", Route::Exclusions)?;
+    router.insert("/zones", Route::Zones)?;
+    router.insert("/status", Route::Status)?;
+    router.insert("/sums/{slo}/{objective}", Route::Sums)?;
+    router.insert("/windows/{slo}", Route::Windows)?;
     Ok(router)
 }

@@ -2,12 +2,15 @@
 use crate::expectations::{expect, expect_text};
 use burn_core::State;
 use exact_fraction::{
-    Bytes, Fraction, Label, Text, ZoneName, read_decimal, read_label, read_zone_name,
+    Bytes, Fraction, Label, Leaf, Text, ZoneName, read_decimal, read_label, read_zone_name,
 };
 use notice_box::Notice;
 use object_terms::{Kind, Rule};
 use office_outside::{MemorySink, Plan};
-use record_form::{BudgetRow, LimitName, Listed, Outcome, Refusal, YamlWord};
+use record_form::{
+    BudgetRow, LimitName, Listed, OfficeStatus, Outcome, Refusal, Used, WindowRow, YamlWord,
+};
+use sample_book::{Exclusion, Row};
 use slice_method::Amount;
 use std::alloc::{AllocError, Global};
 use std::process::Abort;
@@ -64,6 +67,19 @@ const OUTCOMES: &str = r#"200 {"applied":2,"entry":0}
 200 {"entries":4,"notices":[
  {"at":1010,"number":1,"objective":0,"policy":"workbook-page","slo":"shop-slo","state":"quiet"}]}
 200 {"entries":0,"notices":[]}
+200 {"entries":4,"row":null}
+200 {"entries":4,"row":{"amount":9990,"revision":1,"total":10000}}
+200 {"entries":4,"row":{"amount":"0.5","revision":2,"total":null}}
+200 {"entries":4,"row":{"amount":null,"revision":3,"total":null}}
+200 {"entries":4,"exclusions":[{"from":100,"id":"m1","live":true,"slo":"shop-slo","to":101},
+ {"from":7,"id":"a","live":false,"slo":"shop-slo","to":9}]}
+200 {"entries":4,"zones":["Europe/Rome"]}
+200 {"accepted":[1,2],"at":3,"bindings":[4,5],"bytes":[6,18446744073709551615],"cells":[7,8],
+ "days":[9,10],"entries":11,"exclusions":[12,13],"last":null,"notices":[14,15],"objects":[16,17],
+ "origin":18,"slis":[19,20],"slos":[21,22],"version":2,"zones":[23,24]}
+200 {"at":9,"entries":4,"sums":[[9990,10000],[0,0]]}
+200 {"at":9,"entries":4,"windows":[{"budgets":[],"from":0,"to":7},
+ {"budgets":[],"from":7,"to":null}]}
 500 {"end":2097152,"error":"clock_range","reading":2097152}
 500 {"error":"disk_fault"}
 507 {"error":"journal_full","needed":18446744073709551615,"tail":268435456}
@@ -226,6 +242,119 @@ fn note_notices(rt: &(impl AllocGlobal + Abort), lines: &mut String) {
     note(rt, lines, no_notices(rt));
 }
 
+/// What the row of a cell comes to, with an amount or without a row.
+fn note_row(rt: &(impl AllocGlobal + Abort), lines: &mut String, found: Option<(u32, Amount)>) {
+    let row = match found {
+        Some((revision, amount)) => Some(Row {
+            sli: label(rt, "shop-good"),
+            source: label(rt, "web"),
+            minute: 7,
+            revision,
+            amount,
+        }),
+        None => None,
+    };
+    note(rt, lines, Outcome::Row { entries: 4, row });
+}
+
+fn note_rows(rt: &(impl AllocGlobal + Abort), lines: &mut String) {
+    note_row(rt, lines, None);
+    let counts = Amount::Counts {
+        part: 9990,
+        total: 10000,
+    };
+    note_row(rt, lines, Some((1, counts)));
+    let half = read_decimal(b"0.5").expect(rt, "a decimal");
+    note_row(rt, lines, Some((2, Amount::Value(half))));
+    note_row(rt, lines, Some((3, Amount::Withdrawn)));
+}
+
+/// An exclusion of `shop-slo`.
+fn exclusion(rt: &impl Abort, id: &str, from: u32, to: u32) -> Exclusion {
+    Exclusion {
+        id: label(rt, id),
+        slo: label(rt, "shop-slo"),
+        from,
+        to,
+    }
+}
+
+fn note_lists(rt: &(impl AllocGlobal + Abort), lines: &mut String) {
+    let mut exclusions = Listed::new(rt.alloc());
+    let live = (exclusion(rt, "m1", 100, 101), true);
+    exclusions.push(live).expect(rt, "memory");
+    let lifted = (exclusion(rt, "a", 7, 9), false);
+    exclusions.push(lifted).expect(rt, "memory");
+    let made = Outcome::Exclusions {
+        entries: 4,
+        exclusions,
+    };
+    note(rt, lines, made);
+    let mut zones = Listed::new(rt.alloc());
+    zones.push(zone(rt, "Europe/Rome")).expect(rt, "memory");
+    note(rt, lines, Outcome::Zones { entries: 4, zones });
+}
+
+fn used(count: u64, limit: u64) -> Used {
+    Used { count, limit }
+}
+
+fn note_status(rt: &(impl AllocGlobal + Abort), lines: &mut String) {
+    let status = OfficeStatus {
+        accepted: used(1, 2),
+        at: 3,
+        bindings: used(4, 5),
+        bytes: used(6, u64::MAX),
+        cells: used(7, 8),
+        days: used(9, 10),
+        entries: 11,
+        exclusions: used(12, 13),
+        last: None,
+        notices: used(14, 15),
+        objects: used(16, 17),
+        origin: 18,
+        slis: used(19, 20),
+        slos: used(21, 22),
+        version: 2,
+        zones: used(23, 24),
+    };
+    note(rt, lines, Outcome::Status(status));
+}
+
+fn note_stretches(rt: &(impl AllocGlobal + Abort), lines: &mut String) {
+    let mut sums = Listed::new(rt.alloc());
+    let some = Leaf {
+        num: 9990,
+        den: 10000,
+    };
+    sums.push(some).expect(rt, "memory");
+    sums.push(Leaf { num: 0, den: 0 }).expect(rt, "memory");
+    let two = Outcome::Sums {
+        at: 9,
+        entries: 4,
+        sums,
+    };
+    note(rt, lines, two);
+    let mut windows = Listed::new(rt.alloc());
+    windows.push(window(rt, 0, Some(7))).expect(rt, "memory");
+    windows.push(window(rt, 7, None)).expect(rt, "memory");
+    let both = Outcome::Windows {
+        at: 9,
+        entries: 4,
+        windows,
+    };
+    note(rt, lines, both);
+}
+
+/// A window of an SLO without objectives.
+fn window(rt: &impl AllocGlobal, from: u32, to: Option<u32>) -> WindowRow {
+    WindowRow {
+        budgets: Listed::new(rt.alloc()),
+        from,
+        to,
+    }
+}
+
 fn note_faults(rt: &(impl AllocGlobal + Abort), lines: &mut String) {
     let range = Outcome::ClockRange {
         end: 2_097_152,
@@ -250,6 +379,10 @@ fn outcomes_have_their_bodies(rt: HostRuntime) {
     note_burns(&rt, &mut lines);
     note_timelines(&rt, &mut lines);
     note_notices(&rt, &mut lines);
+    note_rows(&rt, &mut lines);
+    note_lists(&rt, &mut lines);
+    note_status(&rt, &mut lines);
+    note_stretches(&rt, &mut lines);
     note_faults(&rt, &mut lines);
     let wanted = OUTCOMES
         .replace(rt.alloc(), "\n ", "")

@@ -31,7 +31,13 @@ POST /upgrade ~ x ~ upgrade
 GET /budgets/shop-slo ~  ~ budgets shop-slo None
 GET /burns/shop-slo/1?lookback=1h ~  ~ burn shop-slo 1 1 Hour None
 GET /alerts/shop-slo/0/fast?from=2&to=9 ~  ~ timeline shop-slo 0 fast 2 9
-GET /entries?from=007 ~ x ~ entries 7";
+GET /entries?from=007 ~ x ~ entries 7
+GET /samples/shop-good/web/0570239 ~ x ~ row shop-good web 570239
+GET /exclusions ~ x ~ exclusions
+GET /zones ~ x ~ zones
+GET /status ~ x ~ status
+GET /sums/shop-slo/1?from=2&to=9&step=3 ~ x ~ sums shop-slo 1 2 9 3
+GET /windows/shop-slo?from=2&to=9 ~ x ~ windows shop-slo 2 9";
 
 const REFUSALS: &str = "\
 GET / ~  ~ NotFound
@@ -58,6 +64,14 @@ GET /burns/shop/x?lookback=1h ~  ~ NotFound
 GET /burns/shop?lookback=1h ~  ~ NotFound
 GET /alerts/shop/0?from=1&to=2 ~  ~ NotFound
 GET /alerts/shop/0/fast/x?from=1&to=2 ~  ~ NotFound
+GET /samples/a/b ~  ~ NotFound
+GET /samples/a/b/4294967296 ~  ~ NotFound
+GET /samples/a/b/1/ ~  ~ NotFound
+GET /exclusions/ ~  ~ NotFound
+GET /zones/ ~  ~ NotFound
+GET /status/ ~  ~ NotFound
+GET /sums/shop?from=1&to=2&step=1 ~  ~ NotFound
+GET /windows/shop/0?from=1&to=2 ~  ~ NotFound
 HEAD /objects ~  ~ Method(PostGet)
 get /objects ~  ~ Method(PostGet)
 PUT /objects/SLO/shop?x=1 ~  ~ Method(GetDelete)
@@ -71,7 +85,13 @@ GET /notices/1/take ~  ~ Method(Post)
 POST /budgets/shop?at=x ~  ~ Method(Get)
 POST /burns/shop/0 ~  ~ Method(Get)
 DELETE /alerts/shop/0/fast ~  ~ Method(Get)
-POST /entries ~  ~ Method(Get)";
+POST /entries ~  ~ Method(Get)
+POST /samples/a/b/1 ~  ~ Method(Get)
+POST /exclusions ~  ~ Method(Get)
+PUT /zones ~  ~ Method(Get)
+POST /status?x=1 ~  ~ Method(Get)
+POST /sums/shop/0 ~  ~ Method(Get)
+DELETE /windows/shop ~  ~ Method(Get)";
 
 const QUERIES: &str = "\
 GET /objects? ~  ~ Query
@@ -105,7 +125,18 @@ GET /burns/shop/0?lookback=1h&at=x ~  ~ Query
 GET /alerts/shop/0/fast?to=2&from=9 ~  ~ timeline shop 0 fast 9 2
 GET /alerts/shop/0/fast?from=1 ~  ~ Query
 GET /alerts/shop/0/fast?to=1 ~  ~ Query
-GET /alerts/shop/0/fast?from=1&to=2&at=3 ~  ~ Query";
+GET /alerts/shop/0/fast?from=1&to=2&at=3 ~  ~ Query
+GET /samples/a/b/1?at=1 ~  ~ Query
+GET /status? ~  ~ Query
+GET /sums/shop/0?step=003&to=2&from=1 ~  ~ sums shop 0 1 2 3
+GET /sums/shop/0?to=2&from=1 ~  ~ Query
+GET /sums/shop/0?step=1&to=2 ~  ~ Query
+GET /sums/shop/0?step=1&from=2 ~  ~ Query
+GET /sums/shop/0?step=1&to=2&from=1&to=2 ~  ~ Query
+GET /sums/shop/0?step=1&to=2&from=1&at=2 ~  ~ Query
+GET /sums/shop/0?step=4294967296&to=2&from=1 ~  ~ Query
+GET /windows/shop?to=2&from=1&step=1 ~  ~ Query
+GET /windows/shop?to=2 ~  ~ Query";
 
 const SAMPLES: &str = "\
 ;; ~ samples
@@ -231,6 +262,22 @@ fn query_text(alloc: Global, query: &Query) -> Result<String, AllocError> {
         } => format!(in alloc; "timeline {slo} {objective} {policy} {from} {to}"),
         Query::Notices => String::from_str(alloc, "notices"),
         Query::Entries { from } => format!(in alloc; "entries {from}"),
+        Query::Row {
+            sli,
+            source,
+            minute,
+        } => format!(in alloc; "row {sli} {source} {minute}"),
+        Query::Exclusions => String::from_str(alloc, "exclusions"),
+        Query::Zones => String::from_str(alloc, "zones"),
+        Query::Status => String::from_str(alloc, "status"),
+        Query::Sums {
+            slo,
+            objective,
+            from,
+            to,
+            step,
+        } => format!(in alloc; "sums {slo} {objective} {from} {to} {step}"),
+        Query::Windows { slo, from, to } => format!(in alloc; "windows {slo} {from} {to}"),
     }
 }
 

@@ -5,6 +5,6 @@ use Rattle.history_answers.proofs.sums.sum_between.Goals as goal
 
 pub returns-clause-value : goal.returns-clause-value
 returns-clause-value c =
-    c.sum_of.ensures.value
+    c.sum_in.ensures.value
     ∙ seen_sum (samples_of c.args.derived.now.book) c.args.measure.now
     c.objective_sums-sums.result.now c.args.from c.args.to c.objective_sums-sums.ensures.sums

@@ -26,3 +26,21 @@ returns-in-Alerts c = rw c.in-Alerts.is (c.alerts.ensures c.args.body.now)
 
 pub returns-in-Entries : goal.returns-in-Entries
 returns-in-Entries c = rw c.in-Entries.is (c.entries.ensures c.args.body.now)
+
+pub returns-in-Row : goal.returns-in-Row
+returns-in-Row c = rw c.in-Row.is (c.row.ensures c.args.body.now)
+
+pub returns-in-Exclusions : goal.returns-in-Exclusions
+returns-in-Exclusions c = rw c.in-Exclusions.is (c.exclusions.ensures c.args.body.now)
+
+pub returns-in-Zones : goal.returns-in-Zones
+returns-in-Zones c = rw c.in-Zones.is (c.zones.ensures c.args.body.now)
+
+pub returns-in-Status : goal.returns-in-Status
+returns-in-Status c = rw c.in-Status.is (c.status.ensures c.args.body.now)
+
+pub returns-in-Sums : goal.returns-in-Sums
+returns-in-Sums c = rw c.in-Sums.is (c.sums.ensures c.args.body.now)
+
+pub returns-in-Windows : goal.returns-in-Windows
+returns-in-Windows c = rw c.in-Windows.is (c.windows.ensures c.args.body.now)

@@ -6,6 +6,12 @@ pub returns : goal.returns
 unfolding matchit_on_literals
 returns c =
     rw (
+      c.in_ok-insert-19.ensures.1,
+      c.in_ok-insert-18.ensures.1,
+      c.in_ok-insert-17.ensures.1,
+      c.in_ok-insert-16.ensures.1,
+      c.in_ok-insert-15.ensures.1,
+      c.in_ok-insert-14.ensures.1,
       c.in_ok-insert-13.ensures.1,
       c.in_ok-insert-12.ensures.1,
       c.in_ok-insert-11.ensures.1,

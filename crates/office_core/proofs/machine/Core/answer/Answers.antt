@@ -37,4 +37,4 @@ returns-clause-answer c =
     subst (λ (m : Machine). Answers m.office c.args.moment c.args.query.now c.answer.result
     ⊎ (c.answer.result ≡ NoMemory)) c.self.view_is
     (c.answer.ensures.answer (office_of c.self.inside.derived c.self.inside.records.history)
-    c.self.invariant.reflects refl)
+    c.self.invariant.reflects refl c.self.invariant.legal)

@@ -13,6 +13,7 @@ with_name name [] = name ∷ []
 with_name name (n ∷ ns) = match_ordering (slice_cmp nat_cmp name n) (name ∷ n ∷ ns) (name ∷ n ∷ ns)
     (n ∷ with_name name ns)
 
+-- the names by their bytes
 abbrev pub names_in_order : List (List ℕ) → List (List ℕ)
 names_in_order [] = []
 names_in_order (n ∷ ns) = with_name n (names_in_order ns)

@@ -1,6 +1,6 @@
 use Rattle.std.proofs.Common.{◌≡◌, ◌≤◌, ◌-◌, ◌++◌, length, take, drop}
-use Rattle.office_export.specs.Names.{with_name}
-use Rattle.office_export.proofs.zones.place_of.Given as goal
+use Rattle.office_history.specs.Names.{with_name}
+use Rattle.office_derived.proofs.zone_names.place_of.Given as goal
 
 abbrev pub decreases-loop-place : goal.decreases-loop-place
 decreases-loop-place l = length l.names - l.place

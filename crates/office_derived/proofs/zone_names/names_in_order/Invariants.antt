@@ -1,6 +1,6 @@
 use Rattle.std.proofs.Common.{◌≡◌, ◌≤◌, drop, length}
-use Rattle.office_export.specs.Names.{names_in_order}
-use Rattle.office_export.proofs.zones.names_in_order.Given as goal
+use Rattle.office_history.specs.Names.{names_in_order}
+use Rattle.office_derived.proofs.zone_names.names_in_order.Given as goal
 
 abbrev pub decreases-loop-left : goal.decreases-loop-left
 decreases-loop-left l = l.left

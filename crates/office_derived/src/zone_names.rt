@@ -1,9 +1,9 @@
 //! The names of zones, in the order of their bytes.
 ghost use Rattle.std.specs.Prelude.{◌≡◌, ◌≤◌, IfOk, insert, length, map};
-ghost use Rattle.office_export.specs.Names.{is_behind, names_in_order, with_name};
+ghost use Rattle.office_history.specs.Names.{is_behind, names_in_order, with_name};
 
+use crate::zones::Zones;
 use exact_fraction::ZoneName;
-use office_derived::Zones;
 use std::alloc::{AllocError, Global};
 use std::cmp::Ordering;
 
@@ -33,7 +33,7 @@ fn place_of(names: &[ZoneName], name: &ZoneName) -> usize
 }
 
 /// The names of zones, by their bytes.
-pub(crate) fn names_in_order(alloc: Global, zones: &Zones) -> Result<Vec<ZoneName>, AllocError>
+pub fn names_in_order(alloc: Global, zones: &Zones) -> Result<Vec<ZoneName>, AllocError>
     ensures { IfOk result (λ names. names.items
         ≡ names_in_order (map (λ kept. kept.0) zones.now.kept)) }
 {
