@@ -38,6 +38,11 @@ AIMS = {
     "a budget over 30 days": "0.01",
     "a burn rate over an hour": "0.003",
     "a budget of one of 20,000 calendar days": "0.01",
+    "sums over 30 days in 720 stretches": "0.5",
+    "sums over 400 days in 2,000 stretches": "4",
+    "twelve windows of months": "0.2",
+    "the row of a cell": "0.01",
+    "the status": "0.02",
     "a budget, the call alone": "0.01",
     "a burn rate over an hour, the call alone": "0.003",
     "a timeline of 44,640 minutes, first": "8",
@@ -55,6 +60,7 @@ AIMS = {
 
 ROLLING = "  - duration: 30d\n    isRolling: true\n"
 DAILY = "  - duration: 1d\n    calendar:\n      startTime: 1971-01-01 00:00:00\n      timeZone: UTC\n"
+MONTHLY = DAILY.replace("1d", "1M")
 
 
 def slo(number, objectives, policies, target=0.99, description="As agreed.", window=ROLLING):
@@ -170,6 +176,16 @@ def answers(office, session):
     at = office.last
     for what, target in (("a budget over 30 days", f"/budgets/o0?at={at}"), ("a burn rate over an hour", f"/burns/o0/0?lookback=1h&at={at}")):
         office.note(what, [took_each(session, message("GET", target), 100) for _ in range(3)])
+    for what, target in asked(office):
+        office.note(what, [took_each(session, message("GET", target), 20) for _ in range(3)])
+
+
+def asked(office):
+    """Sums over stretches, a row, and how full the office is."""
+    begin = office.origin
+    return [("sums over 30 days in 720 stretches", f"/sums/o0/0?from={office.first}&to={office.first + MONTH}&step=60"),
+            ("sums over 400 days in 2,000 stretches", f"/sums/o0/0?from={begin}&to={begin + 576_000}&step=288"),
+            ("the row of a cell", f"/samples/busy/s0/{office.last - 1}"), ("the status", "/status")]
 
 
 def new_rows(office, session, count):
@@ -185,8 +201,11 @@ def corrections(office, session, count):
 def calendar(office, session):
     """The window has to be found among days from 1971 on."""
     session.ask(office.define([slo(9, 1, [], window=DAILY)]))
-    asked = message("GET", f"/budgets/o9?at={office.last}")
-    office.note("a budget of one of 20,000 calendar days", [took_each(session, asked, 20) for _ in range(3)])
+    day = message("GET", f"/budgets/o9?at={office.last}")
+    office.note("a budget of one of 20,000 calendar days", [took_each(session, day, 20) for _ in range(3)])
+    session.ask(office.define([slo(8, 1, [], window=MONTHLY)]))
+    months = message("GET", f"/windows/o8?from={office.origin}&to={office.origin + 12 * 43_800}")
+    office.note("twelve windows of months", [took_each(session, months, 20) for _ in range(3)])
 
 
 def exclusions(office, session):
