@@ -1,8 +1,8 @@
 """An office in plain Python, by the rules of docs/rules.md and the answers of docs/api.md alone.
 
 It keeps what was accepted and nothing beside: each answer is computed from scratch over the current rows, by fractions.
-Objects come as values and not as documents, windows are rolling, and no limit but those of cells and accepted rows is
-known. It is told each request as a call with the clock's reading, and gives status and body of its answer.
+Objects come as values and not as documents, windows are rolling, zones are bytes, and no limit but those of cells and
+accepted rows is judged. It is told each request as a call with the clock's reading, and gives status and body of its answer.
 """
 from __future__ import annotations
 
@@ -24,6 +24,8 @@ OPS: dict[str, Callable[[Any, Any], bool]] = {"gt": gt, "gte": ge, "lt": lt, "lt
 BUILT_IN = {"workbook-page": [(60, 5, Fraction("14.4")), (360, 30, Fraction(6))], "workbook-ticket": [(4320, 360, Fraction(1))]}
 # The most cells and accepted rows, and those of an upgraded office.
 ROOM = {False: (2_000_000, 4_000_000), True: (4_000_000, 8_000_000)}
+# What an office has at most of all else that its status counts.
+MOST = {"bindings": 400, "bytes": 268_435_456, "days": 80_000, "exclusions": 2_000, "notices": 100_000, "objects": 2_000, "slis": 200, "slos": 200, "zones": 50}
 
 
 @dataclass(frozen=True)
@@ -145,6 +147,9 @@ class Office:
     states: dict[tuple[str, int, str], str] = field(default_factory=dict)
     notices: list[dict[str, Any]] = field(default_factory=list)
     taken: set[int] = field(default_factory=set)
+    zones: dict[str, str] = field(default_factory=dict)
+    # Objects of kinds of which no answer here speaks.
+    others: int = 0
 
     def ask(self, reading: int, what: str, *words: Any) -> Answer:
         """The answer to a request, which is the name of a method here and what it is given behind the moment."""
@@ -283,6 +288,17 @@ class Office:
         is_change, self.is_upgraded = not self.is_upgraded, True
         return self.changed(moment, is_change)
 
+    def put_zone(self, moment: int, name: str, text: str) -> Answer:
+        """A zone, by bytes that are one."""
+        if name == "UTC":
+            raise Refused(422, "reserved", name=name)
+        if name in self.zones:
+            if self.zones[name] != text:
+                raise Refused(409, "zone_differs", name=name)
+            return self.changed(moment, False)
+        self.zones[name] = text
+        return self.changed(moment, True)
+
     # What the rows count for
 
     def counts(self, row: Row, objective: Objective) -> tuple[int, int]:
@@ -408,6 +424,60 @@ class Office:
 
     def waiting(self, moment: int) -> Answer:
         return answer(200, entries=self.entries, notices=[it for it in self.notices if it["number"] not in self.taken][:1000])
+
+    def sums_over(self, moment: int, slo: str, number: int, begin: int, end: int, step: int) -> Answer:
+        """The sums over stretches of `step` minutes from `begin` on, the last one cut at `end`."""
+        self.objective(slo, number)
+        if not self.origin <= begin <= end <= moment or step == 0 or end - begin > 576_000 or -(-(end - begin) // step) > 2_000:
+            raise Refused(*RANGE)
+        slices = self.sums(slo, number)
+        return answer(200, at=moment, entries=self.entries, sums=[slices.between(it, min(it + step, end)) for it in range(begin, end, step)])
+
+    def windows(self, moment: int, slo: str, begin: int, end: int) -> Answer:
+        """A rolling window has no start."""
+        if slo not in self.slos:
+            raise Refused(*NOT_FOUND)
+        if not self.origin <= begin <= end <= moment:
+            raise Refused(*RANGE)
+        return answer(200, at=moment, entries=self.entries, windows=[])
+
+    def row(self, moment: int, sli: str, source: str, minute: int) -> Answer:
+        """The current row of a cell."""
+        if sli not in self.slis:
+            raise Refused(*NOT_FOUND)
+        found = self.rows.get((sli, source, minute))
+        if found is None:
+            return answer(200, entries=self.entries, row=None)
+        amount: Any = found.amount
+        total = None
+        if isinstance(amount, tuple):
+            amount, total = amount
+        elif amount is not None:
+            amount = text_of(amount)
+        return answer(200, entries=self.entries, row={"amount": amount, "revision": found.revision, "total": total})
+
+    def excluded(self, moment: int) -> Answer:
+        """All exclusions, in the order in which they were made."""
+        made = [{"from": begin, "id": name, "live": name not in self.lifted, "slo": slo, "to": end} for name, (slo, begin, end) in self.exclusions.items()]
+        return answer(200, entries=self.entries, exclusions=made)
+
+    def zone_names(self, moment: int) -> Answer:
+        return answer(200, entries=self.entries, zones=sorted(self.zones, key=str.encode))
+
+    def status(self, moment: int) -> Answer:
+        """How full the office is. The bytes of its journal, which aren't known here, are null."""
+        days = {sli: len({row.minute // 1440 for row in self.rows.values() if row.sli == sli}) for sli in self.slis}
+        pairs = [(len(slo.objectives), slo) for slo in self.slos.values()]
+        counts = {
+            "bindings": sum(count * sum(map(self.has_rule, slo.policies)) for count, slo in pairs), "bytes": None,
+            "days": sum(count * days[slo.sli] for count, slo in pairs), "exclusions": len(self.exclusions),
+            "notices": len(self.notices) - len(self.taken), "objects": self.others + sum(map(len, (self.slis, self.slos, self.conditions, self.policies))),
+            "slis": len(self.slis), "slos": len(self.slos), "zones": len(self.zones),
+        }
+        cells, accepted = ROOM[self.is_upgraded]
+        used = {name: [count, MOST[name]] for name, count in counts.items()}
+        return answer(200, **used, accepted=[self.accepted, accepted], at=moment, cells=[len(self.rows), cells], entries=self.entries,
+                      last=self.present if self.entries else None, origin=self.origin, version=2 if self.is_upgraded else 1)
 
     def report(self, at: int) -> str:
         """The text of `report AT`."""

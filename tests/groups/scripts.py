@@ -19,6 +19,7 @@ SCRIPTS = {
     "random_sessions": "random sessions against the rules",
     "counter_lists": "lists of running counters",
     "exports": "random offices, exported and made anew",
+    "calendar_months": "the windows of calendars against Python's zones",
 }
 MOST_SECONDS = 180
 
