@@ -54,6 +54,24 @@ small_amount reading op value amounts.Withdrawn minute form few =
 pub small_none : (minute : ℕ) → IsSmall (record { minute = minute; counts = no_counts })
 small_none minute = record { part = omega arith; few = omega arith }
 
+-- a row of the indicator counts for nothing where its minute is excluded, and else for its amount
+pub counts-excluded : (m : Measure) (made : List (Exclusion × Bool)) (row : Row)
+    → is_excluded made m.slo row.minute ≡ true → row_counts m made row ≡ no_counts
+counts-excluded m made row h =
+    (λ i. cond (is_of m.sli row && not (h i)) (counts m.reading m.op m.value row.amount) no_counts)
+    ∙ none (is_of m.sli row)
+  where
+    none : (b : Bool)
+        → cond (b && false) (counts m.reading m.op m.value row.amount) no_counts ≡ no_counts
+    none true = refl
+    none false = refl
+
+pub counts-own : (m : Measure) (made : List (Exclusion × Bool)) (row : Row)
+    → is_of m.sli row ≡ true → is_excluded made m.slo row.minute ≡ false
+    → row_counts m made row ≡ counts m.reading m.op m.value row.amount
+counts-own m made row own h =
+    (λ i. cond (own i && not (h i)) (counts m.reading m.op m.value row.amount) no_counts)
+
 -- what a row counts for is small
 pub small_row : (m : Measure) (made : List (Exclusion × Bool)) (row : Row) → RowFits m row
     → IsSmall (share_by (row_counts m made) row)

@@ -12,10 +12,10 @@ ghost use Rattle.kept_sums.specs.Replacing.{HasMoved, MayFollow};
 ghost use Rattle.kept_sums.specs.Replacing.{changes_counts as changes_counts_def};
 ghost use Rattle.kept_sums.specs.Sums.{RowFits, HasItsDay, SumsAreKept};
 
-use crate::counting::{changes_counts, replaced_counts, row_counts};
+use crate::counting::{changes_counts, counts_near, replaced_counts};
 use crate::exchange::exchange;
 use office_history::Measure;
-use sample_book::{Row, RowVerdict, SampleBook};
+use sample_book::{ExclusionHint, Row, RowVerdict, SampleBook};
 use std::alloc::AllocError;
 use window_sums::WindowSums;
 
@@ -27,6 +27,7 @@ fn follow_row(
     book: &SampleBook,
     row: &Row,
     verdict: &RowVerdict,
+    hint: &mut ExclusionHint,
 )
     requires may { (came : List Row) × MayFollow measure.now book.now.exclusions row.now verdict.now
         sums.old came }
@@ -42,8 +43,8 @@ fn follow_row(
     if !changes_counts(measure, row, verdict) {
         return;
     }
-    let old = replaced_counts(measure, book, verdict);
-    let new = row_counts(measure, book, row);
+    let old = replaced_counts(measure, book, verdict, hint);
+    let new = counts_near(measure, book, row, hint);
     exchange(sums, row.minute, old, new);
 }
 
@@ -71,8 +72,9 @@ pub(crate) fn count_batch(
         → counts_of sums.new slice ≡ counts_of sums.old slice }
 {
     book.rows_are_current();
+    let mut hint = ExclusionHint::new();
     for (place, row) in rows.iter().enumerate() {
-        follow_row(sums, measure, book, row, &verdicts[place]);
+        follow_row(sums, measure, book, row, &verdicts[place], &mut hint);
     }
 }
 

@@ -1,5 +1,6 @@
 //! What rows count for in an objective.
 ghost use Rattle.std.specs.Prelude.{◌≡◌, ◌<◌, Some, length, slice_get, true};
+ghost use Rattle.sample_book.specs.Counting.{is_of};
 ghost use Rattle.sample_book.specs.Exclusions.{excludes};
 ghost use Rattle.sample_book.specs.History.{is_put as is_put_def};
 ghost use Rattle.kept_sums.specs.Replacing.{FitsReplaced, changes_counts as changes_counts_def};
@@ -9,7 +10,7 @@ ghost use Rattle.kept_sums.specs.Walks.{made_on};
 
 use exact_fraction::Label;
 use office_history::Measure;
-use sample_book::{Exclusion, Row, RowVerdict, SampleBook};
+use sample_book::{Exclusion, ExclusionHint, Row, RowVerdict, SampleBook};
 use slice_method::{Counts, counts_of};
 
 /// What a row counts for that is of another indicator, or whose minute is excluded.
@@ -26,25 +27,63 @@ pub fn row_at(book: &SampleBook, place: u32) -> Row
     }
 }
 
-/// What a row counts for in an objective.
-pub fn row_counts(measure: &Measure, book: &SampleBook, row: &Row) -> Counts
+/// What a row of the objective's indicator counts for in it, in a walk over rows: whether its
+/// minute is excluded is looked for first where the look before ended.
+pub(crate) fn own_counts(
+    measure: &Measure,
+    book: &SampleBook,
+    row: &Row,
+    hint: &mut ExclusionHint,
+) -> Counts
+    requires own { is_of measure.now.sli row.now ≡ true }
+    requires fits { RowFits measure.now row.now }
+    ensures { result ≡ row_counts_def measure.now book.now.exclusions row.now }
+{
+    let excluded = book.excluded_near(measure.slo, row.minute, hint);
+    if excluded {
+        return NO_COUNTS;
+    }
+    counts_of(measure.reading, measure.op, measure.value, row.amount)
+}
+
+/// What a row counts for in an objective, in a walk over rows.
+pub(crate) fn counts_near(
+    measure: &Measure,
+    book: &SampleBook,
+    row: &Row,
+    hint: &mut ExclusionHint,
+) -> Counts
     requires { RowFits measure.now row.now }
     ensures { result ≡ row_counts_def measure.now book.now.exclusions row.now }
 {
-    if row.sli == measure.sli && !book.is_excluded(measure.slo, row.minute) {
-        counts_of(measure.reading, measure.op, measure.value, row.amount)
+    if row.sli == measure.sli {
+        own_counts(measure, book, row, hint)
     } else {
         NO_COUNTS
     }
 }
 
+/// What a row counts for in an objective.
+pub fn row_counts(measure: &Measure, book: &SampleBook, row: &Row) -> Counts
+    requires { RowFits measure.now row.now }
+    ensures { result ≡ row_counts_def measure.now book.now.exclusions row.now }
+{
+    let mut hint = ExclusionHint::new();
+    counts_near(measure, book, row, &mut hint)
+}
+
 /// What the row counts for whose place another takes.
-pub(crate) fn replaced_counts(measure: &Measure, book: &SampleBook, verdict: &RowVerdict) -> Counts
+pub(crate) fn replaced_counts(
+    measure: &Measure,
+    book: &SampleBook,
+    verdict: &RowVerdict,
+    hint: &mut ExclusionHint,
+) -> Counts
     requires { FitsReplaced measure.now verdict.now }
     ensures { result ≡ replaced_counts_def measure.now book.now.exclusions verdict.now }
 {
     match verdict {
-        RowVerdict::Newer(kept) => row_counts(measure, book, kept),
+        RowVerdict::Newer(kept) => counts_near(measure, book, kept, hint),
         _ => NO_COUNTS,
     }
 }
@@ -74,20 +113,23 @@ pub fn excludes_minute(value: &Exclusion, slo: Label, minute: u32) -> bool
     value.slo == slo && value.from <= minute && minute < value.to
 }
 
-/// What a row counts for with an exclusion beside those of the book, or without it.
+/// What a row of the objective's indicator counts for with an exclusion beside those of the book,
+/// or without it.
 pub(crate) fn counts_on(
     measure: &Measure,
     book: &SampleBook,
     value: &Exclusion,
     taken: bool,
     row: &Row,
+    hint: &mut ExclusionHint,
 ) -> Counts
-    requires { RowFits measure.now row.now }
+    requires own { is_of measure.now.sli row.now ≡ true }
+    requires fits { RowFits measure.now row.now }
     ensures { result
         ≡ row_counts_def measure.now (made_on book.now.exclusions value.now taken) row.now }
 {
     if taken && excludes_minute(value, measure.slo, row.minute) {
         return NO_COUNTS;
     }
-    row_counts(measure, book, row)
+    own_counts(measure, book, row, hint)
 }

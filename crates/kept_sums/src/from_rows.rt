@@ -6,10 +6,10 @@ ghost use Rattle.slo_limits.specs.declared.TheConstants.{MAX_SUMMED_ROWS};
 ghost use Rattle.window_sums.specs.Slices.{width_of};
 ghost use Rattle.kept_sums.specs.Sums.{RowFits, SumsAreKept};
 
-use crate::counting::{NO_COUNTS, row_at, row_counts};
+use crate::counting::{NO_COUNTS, counts_near, row_at};
 use crate::exchange::exchange;
 use office_history::Measure;
-use sample_book::SampleBook;
+use sample_book::{ExclusionHint, SampleBook};
 use std::alloc::{AllocError, Global};
 use window_sums::WindowSums;
 
@@ -29,11 +29,12 @@ pub fn sums_over(
     ensures { IfOk result (SumsAreKept measure.now book.now.exclusions book.now.rows) }
 {
     let mut sums = WindowSums::new(alloc, measure.method);
+    let mut hint = ExclusionHint::new();
     let mut next = book.last_row(measure.sli);
     while let Some(place) = next {
         let row = row_at(book, place);
         sums.reserve(row.minute)?;
-        let counts = row_counts(measure, book, &row);
+        let counts = counts_near(measure, book, &row, &mut hint);
         exchange(&mut sums, row.minute, NO_COUNTS, counts);
         next = book.row_before(place);
     }

@@ -14,7 +14,7 @@ ghost use Rattle.kept_sums.specs.Walks.{IsChanged, followed, made_on};
 use crate::counting::{counts_on, row_at};
 use crate::exchange::exchange;
 use office_history::Measure;
-use sample_book::{Exclusion, Row, SampleBook};
+use sample_book::{Exclusion, ExclusionHint, Row, SampleBook};
 use slo_limits::MINUTES_A_DAY;
 use window_sums::WindowSums;
 
@@ -36,6 +36,7 @@ fn follow_on_row(
     from: u32,
     to: u32,
     row: &Row,
+    hint: &mut ExclusionHint,
 )
     requires begun { value.now.from ≤ from }
     requires order { from ≤ to }
@@ -56,8 +57,8 @@ fn follow_on_row(
     if !is_between(from, to, row.minute) {
         return;
     }
-    let old = counts_on(measure, book, value, !taken, row);
-    let new = counts_on(measure, book, value, taken, row);
+    let old = counts_on(measure, book, value, !taken, row, hint);
+    let new = counts_on(measure, book, value, taken, row, hint);
     exchange(sums, row.minute, old, new);
 }
 
@@ -88,10 +89,13 @@ fn follow_between(
     if to <= from {
         return;
     }
+    let mut hint = ExclusionHint::new();
     let mut next = book.last_row_on(measure.sli, from / MINUTES_A_DAY);
     while let Some(place) = next {
         let row = row_at(book, place);
-        follow_on_row(sums, measure, book, value, taken, from, to, &row);
+        follow_on_row(
+            sums, measure, book, value, taken, from, to, &row, &mut hint,
+        );
         next = book.row_before_on(place);
     }
 }

@@ -3,7 +3,7 @@
 use Rattle.std.proofs.Common.{◌≡◌, ℕ, zero, suc, ◌+◌, ◌-◌, ◌<◌, ◌≤◌, ◌&&◌, ◌||◌, Bool, true, false}
 use Rattle.std.proofs.Common.{cond, nat_le, nat_lt, refl, ap, sym, ◌∙◌, arith, subst}
 use Rattle.std.proofs.Common.{List, [], ◌∷◌, ◌++◌, length, map, filter, take, drop, set, get_or}
-use Rattle.std.proofs.Common.{append_assoc, drop-cons, max, nat_cmp}
+use Rattle.std.proofs.Common.{append_assoc, drop-cons, max, nat_cmp, slice_get}
 use Rattle.std.specs.List.{list_any}
 use Rattle.std.specs.List.Sorted.{IsPartitionPoint, IsPartitionedBy, IsPermutation, IsSortedBy}
 use Rattle.std.specs.List.Sorted.{IsSortedByKey}
@@ -27,9 +27,9 @@ use Rattle.std.proofs.lemmas.List.Sorted.{sorted_far}
 use Rattle.std.proofs.lemmas.Map.Text.{is_eq-slice_cmp}
 use Rattle.std.proofs.lemmas.Slice.Eq.{bytes_eq-Decides}
 use Rattle.sample_book.specs.Exclusions.{excludes, is_excluded}
-use Rattle.sample_book.specs.Reaches.{AreOrdered, AreReaches, all_joined, begins_by, end_of}
-use Rattle.sample_book.specs.Reaches.{has_minute, joined, joined_after, live_reaches, place_cmp}
-use Rattle.sample_book.specs.Reaches.{reach_of, start_of}
+use Rattle.sample_book.specs.Reaches.{AreOrdered, AreReaches, HaveBegun, all_joined, begins_at}
+use Rattle.sample_book.specs.Reaches.{begins_by, end_of, has_minute, is_reach_of, joined}
+use Rattle.sample_book.specs.Reaches.{joined_after, live_reaches, place_cmp, reach_of, start_of}
 use Rattle.sample_book.specs.declared.exclusions.Exclusion.{Exclusion}
 use Rattle.sample_book.specs.declared.reaches.Reach.{Reach}
 
@@ -446,6 +446,78 @@ partitioned slo minute reaches order = λ i j d le within begun.
     le-upto Less h = refl
     le-upto Equal h = refl
     le-upto Greater h = cc h
+
+-- one that is there begins by then, or doesn't
+begins-there : (slo : List ℕ) (minute : ℕ) (reaches : List Reach) (place : ℕ) (d : Reach)
+    → begins_at slo minute (slice_get reaches place) ≡ true
+    → (place < length reaches) × (begins_by slo minute (get_or reaches place d) ≡ true)
+begins-there slo minute [] place d h = cc h
+begins-there slo minute (x ∷ xs) zero d h = (omega arith, h)
+begins-there slo minute (x ∷ xs) (suc k) d h =
+    let rest = begins-there slo minute xs k d h in (omega (arith, rest.0), rest.1)
+
+not-there : (slo : List ℕ) (minute : ℕ) (reaches : List Reach) (place : ℕ) (d : Reach)
+    → begins_at slo minute (slice_get reaches place) ≡ false → place < length reaches
+    → begins_by slo minute (get_or reaches place d) ≡ false
+not-there slo minute [] place d h within = absurd (omega (arith, within))
+not-there slo minute (x ∷ xs) zero d h within = h
+not-there slo minute (x ∷ xs) (suc k) d h within =
+    not-there slo minute xs k d h (omega (arith, within))
+
+-- where the last of so many begins by then, and the next one doesn't, just those do
+pub begun_between : (slo : List ℕ) (minute : ℕ) (reaches : List Reach) (count : ℕ)
+    → AreOrdered reaches
+    → (0 < count → begins_at slo minute (slice_get reaches (count - 1)) ≡ true)
+    → begins_at slo minute (slice_get reaches count) ≡ false
+    → HaveBegun slo minute reaches count
+begun_between slo minute reaches count order last next = record {
+  within = few count last;
+  begun = (
+      λ k d low less.
+          let some : 0 < count = omega (arith, less) in
+          let there = begins-there slo minute reaches (count - 1) d (last some) in
+          partitioned slo minute reaches order k (count - 1) d (omega (arith, less)) there.0
+          there.1,
+      λ k d low inside. behind k d low inside (begins_by slo minute (get_or reaches k d)) refl,
+  );
+}
+  where
+    few : (n : ℕ) → (0 < n → begins_at slo minute (slice_get reaches (n - 1)) ≡ true)
+        → n ≤ length reaches
+    few zero h = omega arith
+    few (suc n) h =
+        let e : suc n - 1 ≡ n = omega arith in
+        let none : Reach = record { slo = []; from = 0; to = 0 } in
+        let there = begins-there slo minute reaches n none
+        (subst (λ (k : ℕ). begins_at slo minute (slice_get reaches k) ≡ true) e
+        (h (omega arith))) in
+        omega (arith, there.0)
+
+    behind : (k : ℕ) (d : Reach) → count ≤ k → k < length reaches → (b : Bool)
+        → begins_by slo minute (get_or reaches k d) ≡ b
+        → begins_by slo minute (get_or reaches k d) ≡ false
+    behind k d low inside false e = e
+    behind k d low inside true e =
+        let here : begins_by slo minute (get_or reaches count d) ≡ true =
+        partitioned slo minute reaches order count k d low inside e in
+        let no_more : begins_by slo minute (get_or reaches count d) ≡ false =
+        not-there slo minute reaches count d next (omega (arith, low, inside)) in
+        cc (here, no_more)
+
+-- where none is of an objective, none has a minute of it
+pub none_of : (slo : List ℕ) (minute : ℕ) (reaches : List Reach)
+    → list_any (is_reach_of slo) reaches ≡ false
+    → list_any (has_minute slo minute) reaches ≡ false
+none_of slo minute [] h = refl
+none_of slo minute (x ∷ xs) h = by (bytes_eq x.slo slo) (none_of slo minute xs) h
+  where
+    by : (own : Bool)
+        → (list_any (is_reach_of slo) xs ≡ false → list_any (has_minute slo minute) xs ≡ false)
+        → (own || list_any (is_reach_of slo) xs) ≡ false
+        → (((own && nat_le x.from minute) && nat_lt minute x.to)
+        || list_any (has_minute slo minute) xs) ≡ false
+    by true rest h = cc h
+    by false rest h = rest h
 
 -- one that has the minute begins by then
 begun : (slo : List ℕ) (minute : ℕ) (x : Reach) → has_minute slo minute x ≡ true

@@ -1,8 +1,8 @@
 -- How far live exclusions reach, in the order in which an excluded minute is looked for.
 use Rattle.std.specs.Prelude.{◌≡◌, ◌≤◌, ◌+◌, ◌&&◌, ℕ, Bool, List, [], ◌∷◌, length, map, filter, max}
-use Rattle.std.specs.Prelude.{nat_le, nat_lt, if◌then◌else◌}
+use Rattle.std.specs.Prelude.{false, nat_le, nat_lt, true, if◌then◌else◌, None, Option, Some}
 use Rattle.std.specs.List.{list_any}
-use Rattle.std.specs.List.Sorted.{IsSortedByKey}
+use Rattle.std.specs.List.Sorted.{IsPartitionPoint, IsSortedByKey}
 use Rattle.std.specs.Str.{bytes_eq}
 use Rattle.std.specs.Cmp.Lexicographic.{slice_cmp}
 use Rattle.std.specs.Ordering.{is_le, nat_cmp, ordering_then}
@@ -38,6 +38,21 @@ end_of reach = (reach.slo, reach.to)
 -- a reach begins at or before a minute of an objective
 abbrev pub begins_by : List ℕ → ℕ → Reach → Bool
 begins_by slo minute reach = is_le (place_cmp (start_of reach) (slo, minute))
+
+-- a reach that may be there is, and begins at or before a minute of an objective
+abbrev pub begins_at : List ℕ → ℕ → Option Reach → Bool
+begins_at slo minute None = false
+begins_at slo minute (Some reach) = begins_by slo minute reach
+
+-- just the first so many of them begin at or before a minute of an objective
+pub record HaveBegun (slo : List ℕ) (minute : ℕ) (reaches : List Reach) (count : ℕ) : Type 0 where
+  pub within : count ≤ length reaches
+  pub begun : IsPartitionPoint (λ reach. begins_by slo minute reach ≡ true)
+      (λ reach. begins_by slo minute reach ≡ false) reaches count
+
+-- a reach is of an objective
+abbrev pub is_reach_of : List ℕ → Reach → Bool
+is_reach_of slo reach = bytes_eq reach.slo slo
 
 -- a reach is of an objective, and ends behind a minute
 abbrev pub goes_past : List ℕ → ℕ → Reach → Bool

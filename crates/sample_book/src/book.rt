@@ -20,6 +20,7 @@ ghost use Rattle.sample_book.specs.Rows.{verdict_of};
 use crate::batch::check_batch;
 use crate::current_rows::CurrentRows;
 use crate::exclusions::{Exclusion, Exclusions};
+use crate::reaches::ExclusionHint;
 use crate::row::{Row, RowVerdict};
 use crate::tally::{counts_at, first_of};
 use cell_index::{Cell, CellIndex};
@@ -228,6 +229,22 @@ impl SampleBook {
         ensures { result ≡ is_excluded self.now.exclusions slo minute }
     {
         self.exclusions.is_excluded(slo, minute)
+    }
+
+    /// The same for minutes near one another, as those of a walk over rows: most are told by the
+    /// place where the look before ended, and the others by a search.
+    pub fn excluded_near(&self, slo: Label, minute: u32, hint: &mut ExclusionHint) -> bool
+        ensures { result ≡ is_excluded self.now.exclusions slo minute }
+    {
+        self.exclusions.excluded_near(slo, minute, hint)
+    }
+
+    /// Whether an exclusion of the objective is live: else none of its minutes is excluded.
+    pub fn has_exclusions(&self, slo: Label) -> bool
+        ensures { result ≡ false
+            → (minute : ℕ) → is_excluded self.now.exclusions slo minute ≡ false }
+    {
+        self.exclusions.has_live(slo)
     }
 
     /// The first current row of an indicator, by a look-up.

@@ -1,10 +1,11 @@
 //! Stretches of time that are excluded afterwards.
 ghost use Rattle.std.specs.Prelude.{ℕ, List, ◌||◌, ◌≡◌, ◌+◌, ◌<◌, ◌≤◌, ◌++◌, ◌∷◌, [], true, Some};
-ghost use Rattle.std.specs.Prelude.{None, OnOk, length, map, slice_get};
+ghost use Rattle.std.specs.Prelude.{None, OnOk, false, length, map, slice_get};
 ghost use Rattle.sample_book.specs.Exclusions.{HaveOwnIds, excludes, exclusion_of, is_excluded};
 ghost use Rattle.sample_book.specs.Exclusions.{after_lifting};
 
-use crate::reaches::{Reach, is_reached, make_reaches};
+use crate::reaches::{ExclusionHint, Reach, has_reach_of, is_reached, is_reached_near};
+use crate::reaches::make_reaches;
 use exact_fraction::Label;
 use std::alloc::{AllocError, Global};
 use std::marker::Model;
@@ -102,6 +103,20 @@ impl Exclusions {
         ensures { result ≡ is_excluded self.now.made slo minute }
     {
         is_reached(&self.reaches, slo, minute)
+    }
+
+    /// The same, by a look at the place where the look before ended.
+    pub(crate) fn excluded_near(&self, slo: Label, minute: u32, hint: &mut ExclusionHint) -> bool
+        ensures { result ≡ is_excluded self.now.made slo minute }
+    {
+        is_reached_near(&self.reaches, slo, minute, hint)
+    }
+
+    /// Whether an exclusion of the objective is live: else none of its minutes is excluded.
+    pub(crate) fn has_live(&self, slo: Label) -> bool
+        ensures { result ≡ false → (minute : ℕ) → is_excluded self.now.made slo minute ≡ false }
+    {
+        has_reach_of(&self.reaches, slo)
     }
 
     /// Makes room for so many exclusions.

@@ -16,4 +16,5 @@ mod tally;
 pub use book::SampleBook;
 pub use current_rows::CurrentRows;
 pub use exclusions::Exclusion;
+pub use reaches::ExclusionHint;
 pub use row::{Row, RowVerdict};

@@ -40,7 +40,7 @@ exchange-requires-clause-may c =
       facts.before,
       facts.after,
       subst (λ n. MayReplace c.args.sums.now minute c.replaced_counts-old.result n facts.before
-          facts.after) (sym c.row_counts-new.ensures)
+          facts.after) (sym c.counts_near-new.ensures)
           (subst (λ m. MayReplace c.args.sums.now minute m (row_counts c.args.measure.now
           c.args.book.now.exclusions c.args.row.now) facts.before facts.after)
           (sym c.replaced_counts-old.ensures) facts.may),
@@ -57,7 +57,7 @@ returns-clause-kept c = λ came may.
     record {
       method = c.exchange.ensures.method ∙ may.kept.method;
       counted = subst (IsSumOf c.exchange.new.sums)
-          (ap (λ n. among facts.before row.minute n facts.after) c.row_counts-new.ensures
+          (ap (λ n. among facts.before row.minute n facts.after) c.counts_near-new.ensures
           ∙ sym facts.put)
           (c.exchange.ensures.counted facts.before facts.after
           (subst (λ n. IsSumOf c.args.sums.now (among facts.before row.minute n facts.after))

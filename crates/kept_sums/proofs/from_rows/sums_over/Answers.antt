@@ -32,8 +32,8 @@ loop-next-init c =
       days = days_behind m c.new-sums.result rows c.last_row-next.result c.last_row-next.ensures;
     }
 
-pub row_counts-counts-requires : goal.row_counts-counts-requires
-row_counts-counts-requires c = all_at (RowFits c.args.measure.now) c.args.book.now.rows
+pub counts_near-counts-requires : goal.counts_near-counts-requires
+counts_near-counts-requires c = all_at (RowFits c.args.measure.now) c.args.book.now.rows
     c.in-Some.place
     c.row_at-row.result c.row_at-row.ensures c.requires.forms
 
@@ -53,7 +53,7 @@ exchange-requires-clause-may c =
       facts.before,
       facts.after,
       subst (λ n. MayReplace c.reserve.new.self row.minute no_counts n facts.before facts.after)
-          (sym c.row_counts-counts.ensures) facts.may,
+          (sym c.counts_near-counts.ensures) facts.may,
     )
 
 pub loop-next-smaller : goal.loop-next-smaller
@@ -78,7 +78,7 @@ loop-next-preserved c =
     (walking_same (is_of m.sli) (λ row. no_counts) h rows (Some c.in-Some.place) c.loop-next.sums
     c.reserve.new.self c.reserve.ensures.method c.reserve.ensures.counts w) in
     let counted = subst (IsSumOf new)
-    (ap (λ n. among facts.before row.minute n facts.after) c.row_counts-counts.ensures
+    (ap (λ n. among facts.before row.minute n facts.after) c.counts_near-counts.ensures
     ∙ facts.put) (c.exchange.ensures.counted facts.before facts.after facts.may.counted) in
     let same_sli : row.sli ≡ m.sli =
     (bytes_eq-Decides row.sli m.sli).0 (w.place.1 row c.row_at-row.ensures) in
