@@ -23,13 +23,7 @@ fn last_from(
     ensures { IsLastFrom (IsStartIn (Some zone.now) calendar.now step horizon) from at result }
 {
     match last_start(zone, &calendar.start_time, step, horizon, at) {
-        Some(start) => {
-            if start < from {
-                None
-            } else {
-                Some(start)
-            }
-        }
+        Some(start) => { if start < from { None } else { Some(start) } }
         None => None,
     }
 }

@@ -13,8 +13,7 @@ use entry_records::EntryRecords;
 use object_terms::Kind;
 use objective_days::count_days;
 use office_derived::{Derived, cell_limit, row_limit};
-use record_form::laws;
-use record_form::{OfficeStatus, Outcome, Used};
+use record_form::{OfficeStatus, Outcome, Used, laws};
 use slo_limits::{
     MAX_BINDINGS, MAX_DAYS, MAX_EXCLUSIONS, MAX_JOURNAL_BYTES, MAX_NOTICES, MAX_OBJECTS, MAX_SLIS,
     MAX_SLOS, MAX_ZONES,
@@ -53,20 +52,11 @@ fn status_of(derived: &Derived, moment: u32, tail: u64, bindings: usize) -> Offi
             u64::from(derived.book.cells()),
             u64::from(cell_limit(derived.upgraded)),
         ),
-        days: used(
-            count_days(catalog, &derived.book),
-            u64::from(MAX_DAYS),
-        ),
+        days: used(count_days(catalog, &derived.book), u64::from(MAX_DAYS)),
         entries: derived.entries,
-        exclusions: used(
-            u64::from(derived.book.exclusions()),
-            MAX_EXCLUSIONS as u64,
-        ),
+        exclusions: used(u64::from(derived.book.exclusions()), MAX_EXCLUSIONS as u64),
         last: last_moment(derived.entries, derived.present),
-        notices: used(
-            u64::from(derived.notices.waiting()),
-            u64::from(MAX_NOTICES),
-        ),
+        notices: used(u64::from(derived.notices.waiting()), u64::from(MAX_NOTICES)),
         objects: used(catalog.members().len() as u64, MAX_OBJECTS as u64),
         origin: derived.origin,
         slis: used(catalog.count_of(Kind::Sli) as u64, MAX_SLIS as u64),

@@ -163,8 +163,12 @@ fn window_row(
     requires objectives { AllByRecursion (IsObjective derived.now.catalog) measures.now }
     requires few { length measures.now ≤ MAX_OBJECTIVES }
     requires order { from ≤ counted_until_def moment to }
-    ensures { IfOk result (λ row. row ≡ record { from = from; to = to; budgets = rows_def
-        (samples_of derived.now.book) from (counted_until_def moment to) 0 measures.now }) }
+    ensures { IfOk result (λ row. row ≡ record {
+      from = from;
+      to = to;
+      budgets = rows_def
+          (samples_of derived.now.book) from (counted_until_def moment to) 0 measures.now;
+    }) }
 {
     let until = counted_until(moment, to);
     let rows = budget_rows(alloc, derived, measures, from, until)?;

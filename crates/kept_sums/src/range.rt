@@ -93,9 +93,7 @@ fn follow_between(
     let mut next = book.last_row_on(measure.sli, from / MINUTES_A_DAY);
     while let Some(place) = next {
         let row = row_at(book, place);
-        follow_on_row(
-            sums, measure, book, value, taken, from, to, &row, &mut hint,
-        );
+        follow_on_row(sums, measure, book, value, taken, from, to, &row, &mut hint);
         next = book.row_before_on(place);
     }
 }

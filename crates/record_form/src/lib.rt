@@ -26,9 +26,7 @@ pub use entry::Entry;
 pub use fields::MAX_EXCLUDED_MINUTE;
 pub use limit_name::LimitName;
 pub use listed::Listed;
-pub use outcome::{
-    ExclusionRows, Intervals, NoticeRows, ObjectNames, Outcome, SumList, ZoneNames,
-};
+pub use outcome::{ExclusionRows, Intervals, NoticeRows, ObjectNames, Outcome, SumList, ZoneNames};
 pub use query::{Query, Request};
 pub use reading::read_record;
 pub use refusal::Refusal;

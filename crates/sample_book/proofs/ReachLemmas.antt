@@ -473,12 +473,12 @@ pub begun_between : (slo : List ℕ) (minute : ℕ) (reaches : List Reach) (coun
 begun_between slo minute reaches count order last next = record {
   within = few count last;
   begun = (
-      λ k d low less.
-          let some : 0 < count = omega (arith, less) in
-          let there = begins-there slo minute reaches (count - 1) d (last some) in
-          partitioned slo minute reaches order k (count - 1) d (omega (arith, less)) there.0
-          there.1,
-      λ k d low inside. behind k d low inside (begins_by slo minute (get_or reaches k d)) refl,
+    λ k d low less.
+        let some : 0 < count = omega (arith, less) in
+        let there = begins-there slo minute reaches (count - 1) d (last some) in
+        partitioned slo minute reaches order k (count - 1) d (omega (arith, less)) there.0
+        there.1,
+    λ k d low inside. behind k d low inside (begins_by slo minute (get_or reaches k d)) refl,
   );
 }
   where

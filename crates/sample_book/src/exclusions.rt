@@ -4,8 +4,9 @@ ghost use Rattle.std.specs.Prelude.{None, OnOk, false, length, map, slice_get};
 ghost use Rattle.sample_book.specs.Exclusions.{HaveOwnIds, excludes, exclusion_of, is_excluded};
 ghost use Rattle.sample_book.specs.Exclusions.{after_lifting};
 
-use crate::reaches::{ExclusionHint, Reach, has_reach_of, is_reached, is_reached_near};
-use crate::reaches::make_reaches;
+use crate::reaches::{
+    ExclusionHint, Reach, has_reach_of, is_reached, is_reached_near, make_reaches,
+};
 use exact_fraction::Label;
 use std::alloc::{AllocError, Global};
 use std::marker::Model;

@@ -250,12 +250,7 @@ impl InJson for Leaf {
     }
 }
 
-pub(crate) fn sums(
-    alloc: Global,
-    at: u32,
-    entries: u32,
-    sums: &[Leaf],
-) -> Result<Value, AllocError>
+pub(crate) fn sums(alloc: Global, at: u32, entries: u32, sums: &[Leaf]) -> Result<Value, AllocError>
     ensures { IfOk result (IsValue (sums_data at entries sums.now)) }
 {
     let sums = list_value(alloc, sums)?;

@@ -137,20 +137,12 @@ pub fn render(alloc: Global, value: &Outcome) -> Reply
             at,
             entries,
             sums: listed,
-        } => full(
-            alloc,
-            200,
-            sums(alloc, *at, *entries, listed.as_slice()),
-        ),
+        } => full(alloc, 200, sums(alloc, *at, *entries, listed.as_slice())),
         Outcome::Windows {
             at,
             entries,
             windows: listed,
-        } => full(
-            alloc,
-            200,
-            windows(alloc, *at, *entries, listed.as_slice()),
-        ),
+        } => full(alloc, 200, windows(alloc, *at, *entries, listed.as_slice())),
         Outcome::Refused(refusal) => full(alloc, refusal.status(), refusal_value(alloc, refusal)),
         Outcome::ClockRange { end, reading } => small(500, clock_range(*end, *reading)),
         Outcome::DiskFault => disk_fault(),

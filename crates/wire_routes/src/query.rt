@@ -103,8 +103,11 @@ pub(crate) fn read_query<'a>(
     second: &[u8],
     third: &[u8],
 ) -> Option<(Option<&'a [u8]>, Option<&'a [u8]>, Option<&'a [u8]>)>
-    ensures { option_map (λ p. (option_map (λ v. v.now) p.0, option_map (λ v. v.now) p.1,
-        option_map (λ v. v.now) p.2)) result
+    ensures { option_map (λ p. (
+      option_map (λ v. v.now) p.0,
+      option_map (λ v. v.now) p.1,
+      option_map (λ v. v.now) p.2,
+    )) result
         ≡ key_values (bytes_of query.entry) first.now second.now third.now }
 {
     let Some(query) = query else {

@@ -337,9 +337,7 @@ fn windows(slo: Label, method: Method, query: Option<&[u8]>) -> Routed
 {
     match method {
         Method::Get => match stretch_keys(query) {
-            Some((from, to)) => {
-                Routed::Request(Request::Ask(Query::Windows { slo, from, to }))
-            }
+            Some((from, to)) => { Routed::Request(Request::Ask(Query::Windows { slo, from, to })) }
             None => Routed::NoRequest(NoRequest::Query),
         },
         Method::Delete | Method::Post | Method::Put | Method::Other => other_methods(Allow::Get),
