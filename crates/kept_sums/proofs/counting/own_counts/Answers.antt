@@ -9,6 +9,6 @@ returns-then-excluded c =
 
 pub returns : goal.returns
 returns c =
-    c.counts_of.ensures
+    c.counts_of.ensures.counts
     ∙ sym (counts-own c.args.measure.now c.args.book.now.exclusions c.args.row.now c.requires.own
     (sym c.excluded_near-excluded.ensures ∙ c.if-excluded.false))
