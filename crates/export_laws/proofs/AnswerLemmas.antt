@@ -34,7 +34,7 @@ use Rattle.record_form.specs.declared.WindowRow.{WindowRow}
 use Rattle.office_history.specs.declared.Measure.{Measure}
 use Rattle.office_history.specs.Alerts.{Watch, is_watch_active, rule_named, same_binding, state_at}
 use Rattle.office_history.specs.Alerts.{watch_with, watched}
-use Rattle.office_history.specs.declared.TheConstants.{MAX_WINDOWS}
+use Rattle.office_history.specs.declared.questions.TheConstants.{MAX_WINDOWS}
 use Rattle.office_history.specs.Answers.{Answers, AnswersBudgets, AnswersTimeline, AnswersWindows}
 use Rattle.office_history.specs.Answers.{are_asked, asked_at, budget_row, budget_rows}
 use Rattle.office_history.specs.Answers.{budgets_from, burn_answer, burn_fault, burn_over}

@@ -43,7 +43,7 @@ use Rattle.office_history.specs.Answers.{budgets_from, burn_answer, burn_fault, 
 use Rattle.office_history.specs.Answers.{is_outside, is_timeline, object_answer, refused_or}
 use Rattle.office_history.specs.Answers.{are_asked, row_answer, sums_answer, window_rows}
 use Rattle.office_history.specs.Answers.{windows_of}
-use Rattle.office_history.specs.declared.TheConstants.{MAX_WINDOWS}
+use Rattle.office_history.specs.declared.questions.TheConstants.{MAX_WINDOWS}
 use Rattle.office_history.specs.Batches.{objective_days, batch_outcome, when}
 use Rattle.office_history.specs.Catalog.{catalog_in}
 use Rattle.office_history.specs.Counts.{sum_between}
