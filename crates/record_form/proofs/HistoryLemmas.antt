@@ -4,6 +4,7 @@ use Rattle.std.proofs.Common.{Some, None, refl, sym, ap, subst, ◌∙◌, arith
 use Rattle.std.specs.Prelude.{Result, Ok, Err, IfOk, IfSome, sum_by}
 use Rattle.std.specs.List.{AllByRecursion}
 use Rattle.std.specs.declared.alloc.AllocError.{AllocError}
+use Rattle.std.proofs.lemmas.List.Sums.{sum_by-cons}
 use Rattle.sample_book.specs.declared.row.Row.{Row}
 use Rattle.record_form.specs.declared.command.Command.{Command}
 use Rattle.record_form.specs.declared.command.Command.TheVariants.{Define, Remove, PutZone, Samples}
@@ -142,6 +143,7 @@ add_up (e ∷ es) = omega (
   arith,
   ap length (entry_exact.front e [] (records_of es)),
   length-append (entry.write e []) (records_of es),
+  sum_by-cons (λ (x : Entry). 5 + length (record_of x)) e es,
   add_up es,
 )
 
