@@ -10,11 +10,11 @@ loop-member-preserved c =
     let a = c.args in
     record {
       counted = passes_next a.members.now a.book.now.rows c.loop-member.member-index
-          c.loop-member.total c.days_of_object.result c.member-item.result c.loop-member-test.true
-          c.member-item.is c.loop-member.invariant.counted
-          (c.days_of_object.ensures.exact
+          c.loop-member.total c.days_of_object-total.result c.member-item.result
+          c.loop-member-test.true c.member-item.is c.loop-member.invariant.counted
+          (c.days_of_object-total.ensures.exact
           ∙ ap (λ (o : Object). days_of_slo a.book.now.rows (slo_in o.body)) c.object.ensures.all);
-      few = omega (arith, c.loop-member.invariant.few, c.days_of_object.ensures.few);
+      few = omega (arith, c.loop-member.invariant.few, c.days_of_object-total.ensures.few);
     }
 
 pub returns : goal.returns
