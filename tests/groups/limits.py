@@ -299,10 +299,33 @@ def journal(office: Office, origin: int) -> None:
         assert office.journal.stat().st_size == most
 
 
+def questions(office: Office, origin: int) -> None:
+    """576,000 minutes and 2,000 stretches of sums, 400 windows of a calendar."""
+    window = "  - duration: 1d\n    isRolling: false\n    calendar:\n      startTime: 1971-01-01 00:00:00\n      timeZone: UTC\n"
+    midnight = -(-origin // 1440) * 1440
+    asked = [
+        (f"/sums/days/0?from={origin}&to={origin + 576_000}&step=288", 2_000),
+        (f"/sums/days/0?from={origin}&to={origin + 576_001}&step=289", None),
+        (f"/sums/days/0?from={origin}&to={origin + 2_000}&step=1", 2_000),
+        (f"/sums/days/0?from={origin}&to={origin + 2_001}&step=1", None),
+        (f"/sums/days/0?from={origin}&to={origin + 4_001}&step=2", None),
+        (f"/windows/days?from={midnight}&to={midnight + 400 * 1440}", 400),
+        (f"/windows/days?from={midnight}&to={midnight + 400 * 1440 + 1}", None),
+    ]
+    defined = define(objects.service("shop"), objects.ratio("good"), objects.slo("days", "good", "  - target: 0.9\n", window=window))
+    done, *got = office.ask([defined, *(message("GET", target) for target, _ in asked)])
+    assert done.status == 200, done
+    for (target, count), answer in zip(asked, got, strict=True):
+        if count is None:
+            assert answer == Answer(422, b'{"error":"range"}'), f"{target}: {str(answer)[:300]}"
+        else:
+            assert answer.status == 200 and len(answer.told[target.split("/")[1]]) == count, f"{target}: {str(answer)[:300]}"
+
+
 def run(report: Report) -> None:
     budgets(report)
     # so many minutes that there are days enough
     origin = minute_now() - 1_500_000
-    for limit in (days, catalog, notices, *((cells, journal) if report.whole else ())):
+    for limit in (days, catalog, notices, questions, *((cells, journal) if report.whole else ())):
         with report.case((limit.__doc__ or "").splitlines()[0].rstrip(".")):
             limit(Office(report.program, report.folder(limit.__name__), origin), origin)
