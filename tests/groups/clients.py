@@ -151,11 +151,16 @@ def by_loads(report: Report, server: Server) -> None:
             assert done.returncode == 0 and failed and failed[1] == "0" and "Non-2xx" not in done.stdout, done.stdout + done.stderr
 
 
-def nginx_text(server: Server, folder: Path, port: int) -> str:
-    """The example, at another port and with files of a folder."""
+def nginx_text(folder: Path, port: int, addresses: dict[int, int], more: str = "") -> str:
+    """The example and what stands beside it, at other ports and with files of a folder."""
     text = (EXAMPLES / "serve" / "nginx.conf").read_text()
-    replaced = (("listen 443 ssl", f"listen 127.0.0.1:{port} ssl"), (f"https://{HOST}", f"https://{HOST}:{port}"),
-                ("/etc/nginx/", f"{folder}/"), ("127.0.0.1:8080", f"127.0.0.1:{server.port}"))
+    if more:
+        (line,) = told_lines(more, "proxy_pass")
+        text, places = re.subn(r"proxy_pass http://127\.0\.0\.1:8080/?;", lambda _: line, text)
+        assert places == 2, f"the example asks the office at {places} places"
+    text += more
+    replaced = [("listen 443 ssl", f"listen 127.0.0.1:{port} ssl"), (f"https://{HOST}", f"https://{HOST}:{port}"), ("/etc/nginx/", f"{folder}/")]
+    replaced += [(f"127.0.0.1:{told}", f"127.0.0.1:{used}") for told, used in addresses.items()]
     for old, new in replaced:
         assert old in text, f"the example has no {old}"
         text = text.replace(old, new)
@@ -163,18 +168,27 @@ def nginx_text(server: Server, folder: Path, port: int) -> str:
     return f"pid {folder}/pid;\nerror_log {folder}/errors;\nevents {{}}\nhttp {{\naccess_log off;\n{paths}{text}\n}}\n"
 
 
+def told_lines(text: str, word: str) -> list[str]:
+    """The lines with this word that the comments of an example tell to put elsewhere."""
+    return re.findall(rf"(?m)^# +({word} .*;)$", text)
+
+
+def password(path: Path, user: str, word: str) -> None:
+    hashed = subprocess.run(["openssl", "passwd", "-apr1", word], check=True, capture_output=True, text=True).stdout
+    path.write_text(f"{user}:{hashed}")
+
+
 @contextmanager
-def front(server: Server, folder: Path) -> Iterator[int]:
+def front(folder: Path, addresses: dict[int, int], more: str = "", changed: tuple[str, str] = ("", "")) -> Iterator[int]:
     """nginx by the example, with a certificate and a password made here; gives its port."""
     need("curl", "nginx", "openssl")
     port = free_port()
     subprocess.run(["openssl", "req", "-x509", "-newkey", "rsa:2048", "-nodes", "-days", "2", "-subj", "/CN=localhost",
                     "-keyout", folder / "office.key", "-out", folder / "office.crt"], check=True, capture_output=True)
-    hashed = subprocess.run(["openssl", "passwd", "-apr1", "secret"], check=True, capture_output=True, text=True).stdout
-    (folder / "office.passwords").write_text(f"team:{hashed}")
+    password(folder / "office.passwords", "team", "secret")
     for it in (folder, *folder.parents[:1]):
         it.chmod(0o755)
-    (folder / "nginx.conf").write_text(nginx_text(server, folder, port))
+    (folder / "nginx.conf").write_text(nginx_text(folder, port, addresses, more).replace(*changed))
     child = subprocess.Popen(["nginx", "-c", folder / "nginx.conf", "-g", "daemon off;"], stderr=subprocess.PIPE)
     try:
         for _ in range(100):
@@ -204,10 +218,9 @@ def slow_clients(port: int) -> list[ssl.SSLSocket]:
 
 
 def behind_nginx(report: Report, server: Server, folder: Path) -> None:
-    with report.case("nginx: TLS and a password, batches, chunked bodies, slow clients"), front(server, folder) as port:
-        base = f"https://{HOST}:{port}"
-        named = ("-k", "--resolve", f"{HOST}:{port}:127.0.0.1")
-        stranger, curl = Curl(base, folder, *named), Curl(base, folder, *named, "-u", "team:secret")
+    with report.case("nginx: TLS and a password, batches, chunked bodies, slow clients"), front(folder, {8080: server.port}) as port:
+        stranger, curl = through(port, folder), through(port, folder, "team:secret")
+        base = curl.base
         assert stranger.ask(f"{base}/objects")[0] == 401, "an answer without a password"
         status, body, _, _ = curl.ask(f"{base}/burns/shop-slo/0?lookback=1h")
         assert status == 200 and b'"burn"' in body, (status, body)
@@ -222,6 +235,53 @@ def behind_nginx(report: Report, server: Server, folder: Path) -> None:
             link.close()
 
 
+def through(port: int, folder: Path, user: str = "") -> Curl:
+    """Requests to the example's host, by a user with a password or by nobody."""
+    return Curl(f"https://{HOST}:{port}", folder, "-k", "--resolve", f"{HOST}:{port}:127.0.0.1", *(["-u", user] if user else []))
+
+
+def teams(report: Report, folders: list[Path]) -> None:
+    """An office a team by the example: each is asked for what it would be asked without nginx."""
+    more, nobody = (EXAMPLES / "serve" / "teams.conf").read_text(), free_port()
+    offices = [Office(report.program, report.folder(name), ORIGIN) for name in ("shop", "search")]
+    with offices[0].serving() as shop, offices[1].serving() as search:
+        office_objects(shop)
+        addresses = {8079: nobody, 8081: shop.port, 8082: search.port}
+        (line,) = told_lines(more, "auth_basic_user_file")
+        own = ("    location / {\n", f"    location / {{\n        {line}\n".replace("/etc/nginx/", f"{folders[1]}/"))
+        with report.case("nginx: a team's password opens its own office alone"), front(folders[1], addresses, more, own) as port:
+            for name in ("shop", "search"):
+                password(folders[1] / f"{name}.passwords", name, f"of-{name}")
+            asked = [(user, f"/{name}/notices") for user in ("shop:of-shop", "team:secret") for name in ("shop", "search", "none", "office/search")]
+            found = [through(port, folders[1], user).ask(f"https://{HOST}:{port}{path}")[0] for user, path in asked]
+            assert found == [200, 401, 403, 401, 401, 401, 403, 200], found
+        with report.case("nginx: an office a team, by the first word of a path"), front(folders[0], addresses, more) as port:
+            each_team(through(port, folders[0], "team:secret"), shop, search)
+
+
+def each_team(curl: Curl, shop: Server, search: Server) -> None:
+    asked = ["/objects", "/objects/SLO/shop-slo", f"/budgets/shop-slo?at={ORIGIN + 9}", "/burns/shop-slo/0?lookback=1h", "/notices?a=%20b", "/zones/Europe%2FBerlin",
+             f"/alerts/shop-slo/0/workbook-page?from={ORIGIN}&to={ORIGIN + 60}", "/nothing", "/office/notices", "//", "/../search/notices"]
+    for method, path in [*(("GET", it) for it in asked), ("DELETE", "/objects/SLO/none"), ("POST", "/nothing"), ("POST", "/samples")]:
+        words = ("-X", method, "--path-as-is")
+        direct = [curl.ask(*words, f"{it.base}{path}")[:2] for it in (shop, search)]
+        assert [curl.ask(*words, f"{curl.base}/{name}{path}")[:2] for name in ("shop", "search")] == direct, f"{method} {path}: not {direct}"
+    batch = curl.file("rows.csv", rows(1000))
+    status, body, _, _ = curl.ask("--data-binary", f"@{batch}", f"{curl.base}/shop/samples")
+    assert (status, json.loads(body)) == (200, {"entry": 1, "new": 1000, "newer": 0, "repeated": 0, "superseded": 0}), (status, body)
+    assert curl.ask("--data-binary", f"@{batch}", f"{curl.base}/search/samples")[0] == 422, "rows of another team's indicator"
+    status, body, _, _ = curl.ask("-T", "-", f"{curl.base}/search/zones/Etc/Front", data=b"EST5")
+    assert (status, body) == (200, b'{"entry":0}'), (status, body)
+    told = f"/budgets/shop-slo?at={ORIGIN + 1000}"
+    assert curl.ask(f"{curl.base}/office/shop{told}")[:2] == curl.ask(f"{shop.base}{told}")[:2], "not the page's office"
+    assert curl.ask("-X", "POST", f"{curl.base}/office/shop/tick")[0] == 403, "a change by the page's path"
+    for path in ("/none/notices", "/shopping/notices", "/notices", "/shop", "/office/notices", "/office/none/notices", "//shop/notices"):
+        status, body, _, _ = curl.ask("--path-as-is", f"{curl.base}{path}")
+        assert (status, body) == (404, b"no team of this name has an office here\n"), (path, status, body)
+    search.stop()
+    assert [curl.ask(f"{curl.base}/{name}/notices")[0] for name in ("search", "shop")] == [502, 200]
+
+
 def run(report: Report) -> None:
     office = Office(report.program, report.folder("office"), ORIGIN)
     with office.serving() as server:
@@ -234,6 +294,7 @@ def run(report: Report) -> None:
         behind_nginx(report, server, report.folder("nginx"))
     with report.case("the server ran to the end"):
         assert server.child.returncode == -9, server.child.returncode
+    teams(report, [report.folder(name) for name in ("nginx-teams", "nginx-passwords")])
 
 
 def server_has_objects(server: Server) -> bool:
