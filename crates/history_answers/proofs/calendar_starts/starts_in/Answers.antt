@@ -21,7 +21,7 @@ starts-preserved-in-Some c =
       within = last.1;
       short = omega (arith, last.2, c.starts.invariant.short);
       are = one_before all c.args.from c.args.to c.starts.end c.in-Some.start
-          c.starts.starts.items c.in_ok-push.new.starts.items c.in_ok-push.ensures.items last
+          c.starts.starts.items c.push.new.self.items c.in_ok-push-in-Some.ensures.items last
           c.starts-test.true c.starts.invariant.short c.starts.invariant.are;
     }
 

@@ -27,7 +27,7 @@ loop-place-preserved c =
     c.args.measures.now in
     record {
       rows = row_more budgets starts c.args.next place start 0 c.in_ok-row.row
-          c.loop-place.rows.items c.in_ok-push.new.rows.items below refl
+          c.loop-place.rows.items c.push.new.self.items below refl
           (c.in_ok-row.ensures ∙ ap (row_to budgets start) c.end_at-end.ensures)
           c.in_ok-push.ensures.items c.loop-place.invariant.rows;
       begun = (open_at c.args.moment starts c.args.next place start 0 below refl
