@@ -18,7 +18,7 @@ use Rattle.zone_calendar.proofs.StartLemmas.{below_test, civil_second-low, minut
 use Rattle.zone_calendar.proofs.StartLemmas.{unsigned_below}
 use Rattle.object_terms.specs.declared.window.Calendar.{Calendar}
 use Rattle.object_terms.specs.declared.window.TimeWindow.{TimeWindow}
-use Rattle.office_history.specs.Answers.{counted_until, end_before}
+use Rattle.office_history.specs.Answers.{counted_until}
 use Rattle.office_history.specs.Windows.{AreStartsIn, IsFirstFrom, IsStart, IsStartBy, IsStartIn}
 use Rattle.office_history.specs.Zones.{bytes_named, utc, zone_named}
 use Rattle.history_answers.specs.Starts.{AreBegun, AreOpen, IsLastFrom}

@@ -1,6 +1,7 @@
 -- What is kept says how full the office of a legal history is.
 use Rattle.std.proofs.Common.{◌≡◌, ◌∙◌, ◌≤◌, ℕ, suc, List, [], ◌∷◌, ◌++◌, length, max, option_map}
-use Rattle.std.proofs.Common.{refl, sym, ap, arith, length-append}
+use Rattle.std.proofs.Common.{refl, sym, ap, arith, length-append, Some}
+use Rattle.std.proofs.lemmas.Bool.Decides.{nat_tests}
 use Rattle.catalog_terms.specs.Bindings.{bindings}
 use Rattle.catalog_terms.specs.Limits.{count_of_kind}
 use Rattle.object_terms.specs.declared.Kind.TheVariants as kinds
@@ -21,6 +22,9 @@ use Rattle.history_answers.specs.Fullness.{fullness, last_if}
 greater : (a b : ℕ) → a ≤ b → max a b ≡ b
 greater a b h = omega (arith, h)
 
+at_least_one : (n moment : ℕ) → last_if (suc n) moment ≡ Some moment
+at_least_one n moment = grind (arith, nat_tests)
+
 -- the last entry of a legal history has the greatest moment
 last_is : (origin : ℕ) (h : List Entry) → IsLegal origin h
     → last_if (length h) (present (office origin h)) ≡ last_moment h
@@ -31,7 +35,7 @@ last_is origin _ (followed {h = before} e legal follows) =
     let now : present (office origin (before ++ e ∷ [])) ≡ e.moment =
     present_more (office origin before) e
     ∙ greater (present (office origin before)) e.moment follows.later in
-    (λ i. last_if (long i) (now i))
+    (λ i. last_if (long i) (now i)) ∙ at_least_one (length before) e.moment
     ∙ sym (ap (option_map (λ (e : Entry). e.moment)) (last-push before e))
 
 pub fullness_is : (d : Derived) (o : Office) (moment tail : ℕ) → Reflects d o

@@ -1,8 +1,8 @@
 -- What is kept answers the windows of the history that it reflects.
-use Rattle.std.proofs.Common.{◌≡◌, ◌∙◌, ◌+◌, ◌<◌, ◌≤◌, ℕ, zero, suc, Bool, true, false, cond, List}
-use Rattle.std.proofs.Common.{[], ◌∷◌, ◌++◌, Option, Some, None, drop, get_or, length, refl, sym}
-use Rattle.std.proofs.Common.{ap, subst, append_assoc, append-nil, Result, Ok, Err, IfOk}
-use Rattle.std.specs.Prelude.{slice_get}
+use Rattle.std.proofs.Common.{◌≡◌, ◌∙◌, ◌+◌, ◌<◌, ◌≤◌, ℕ, Bool, true, false, cond, List}
+use Rattle.std.proofs.Common.{[], ◌∷◌, ◌++◌, Option, Some, drop, get_or, length, sym}
+use Rattle.std.proofs.Common.{ap, subst, append_assoc, append-nil, Result, Ok, Err, IfOk, arith}
+use Rattle.std.proofs.lemmas.Bool.Decides.{nat_tests}
 use Rattle.object_terms.specs.declared.Slo.{Slo}
 use Rattle.record_form.specs.declared.BudgetRow.{BudgetRow}
 use Rattle.record_form.specs.declared.Outcome.{Outcome}
@@ -22,19 +22,17 @@ use Rattle.office_derived.proofs.Lists.{all_past, from_index}
 use Rattle.history_answers.specs.Starts.{AreBegun, AreOpen}
 
 -- where the window ends that begins before a place
-pub end_there : (starts : List ℕ) (place start : ℕ) (next : Option ℕ)
-    → slice_get starts place ≡ Some start → end_before (drop place starts) next ≡ Some start
-end_there [] zero start next h = cc h
-end_there [] (suc n) start next h = cc h
-end_there (s ∷ starts) zero start next h = h
-end_there (s ∷ starts) (suc n) start next h = end_there starts n start next h
+pub end_there : (starts : List ℕ) (place start d : ℕ) (next : Option ℕ) → place < length starts
+    → start ≡ get_or starts place d → Some start ≡ end_before (drop place starts) next
+end_there starts place start d next below there =
+    ap (λ (ss : List ℕ). end_before ss next) (sym (from_index place starts start d below there))
 
-pub end_past : (starts : List ℕ) (place : ℕ) (next : Option ℕ) → slice_get starts place ≡ None
-    → end_before (drop place starts) next ≡ next
-end_past [] zero next h = refl
-end_past [] (suc n) next h = refl
-end_past (s ∷ starts) zero next h = cc h
-end_past (s ∷ starts) (suc n) next h = end_past starts n next h
+pub end_past : (starts : List ℕ) (place : ℕ) (next : Option ℕ) → length starts ≤ place
+    → next ≡ end_before (drop place starts) next
+end_past starts place next past =
+    ap (λ (ss : List ℕ). end_before ss next) (sym (all_past place starts past))
+
+pub ruleset ends = (end_there, end_past)
 
 -- the window that begins at a minute and ends at another
 abbrev pub row_to : (ℕ → Option ℕ → List BudgetRow) → ℕ → Option ℕ → WindowRow
@@ -76,6 +74,13 @@ open_at moment starts next place start d below there open_there =
     open_there
 
 -- A REFUSAL, AND THE WINDOWS
+
+pub in_order : (origin moment from to : ℕ) → is_stretch origin moment from to ≡ true → from ≤ to
+in_order origin moment from to inside = grind (arith, nat_tests)
+
+pub is_over : (origin moment from to : ℕ) → is_stretch origin moment from to ≡ true
+    → to ≤ moment
+is_over origin moment from to inside = grind (arith, nat_tests)
 
 pub stretch_refused : (d : Derived) (o : Office) → Reflects d o → (moment from to : ℕ)
     (name : List ℕ) (slo : Slo) → is_stretch d.origin moment from to ≡ false

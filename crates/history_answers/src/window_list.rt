@@ -140,12 +140,14 @@ fn counted_until(moment: u32, end: Option<u32>) -> u32
 }
 
 /// Where the window ends that begins at the start before this place.
+#[tactic(auto, using(crate::proofs::WindowLemmas::ends))]
 fn end_at(starts: &[u32], place: usize, next: Option<u32>) -> Option<u32>
     ensures { result ≡ end_before (drop place starts.now) next }
 {
-    match starts.get(place) {
-        Some(start) => Some(*start),
-        None => next,
+    if place < starts.len() {
+        Some(starts[place])
+    } else {
+        next
     }
 }
 

@@ -3,15 +3,15 @@ use Rattle.zone_calendar.specs.Window.{IsLastStart}
 use Rattle.history_answers.proofs.StartLemmas.{last_before, last_nowhere, last_there}
 use Rattle.history_answers.proofs.calendar_starts.last_from.Goals as goal
 
-pub returns-in-Some-then-start-from : goal.returns-in-Some-then-start-from
-returns-in-Some-then-start-from c =
+pub returns-then-start-from : goal.returns-then-start-from
+returns-then-start-from c =
     last_before c.args.zone.now c.args.calendar.now c.args.step c.args.horizon c.args.from
     c.args.at c.in-Some.start
     (subst (IsLastStart c.args.zone.now c.args.calendar.now.start_time c.args.step c.args.horizon
     c.args.at) c.in-Some.is c.last_start.ensures) c.if-start-from.true
 
-pub returns-in-Some : goal.returns-in-Some
-returns-in-Some c =
+pub returns-else-start-from : goal.returns-else-start-from
+returns-else-start-from c =
     last_there c.args.zone.now c.args.calendar.now c.args.step c.args.horizon c.args.from
     c.args.at c.in-Some.start
     (subst (IsLastStart c.args.zone.now c.args.calendar.now.start_time c.args.step c.args.horizon

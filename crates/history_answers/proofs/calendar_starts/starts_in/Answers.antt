@@ -1,4 +1,4 @@
-use Rattle.std.proofs.Common.{◌-◌, Some, arith, subst}
+use Rattle.std.proofs.Common.{◌-◌, ℕ, List, Some, arith, reverse, subst, sym}
 use Rattle.office_history.specs.Windows.{AreStartsIn, IsStartIn}
 use Rattle.history_answers.specs.Starts.{IsLastFrom}
 use Rattle.history_answers.proofs.StartLemmas.{none_before, none_yet, one_before}
@@ -8,8 +8,11 @@ pub starts-init : goal.starts-init
 starts-init c = record {
   within = c.requires.order;
   short = omega arith;
-  are = none_yet (IsStartIn (Some c.args.zone.now) c.args.calendar.now c.args.step c.args.horizon)
-      c.args.to;
+  are = subst (λ (found : List ℕ).
+      AreStartsIn (IsStartIn (Some c.args.zone.now) c.args.calendar.now c.args.step
+      c.args.horizon) c.args.to c.args.to (reverse found)) (sym c.new-starts.ensures.items)
+      (none_yet (IsStartIn (Some c.args.zone.now) c.args.calendar.now c.args.step c.args.horizon)
+      c.args.to);
 }
 
 pub starts-preserved-in-Some : goal.starts-preserved-in-Some

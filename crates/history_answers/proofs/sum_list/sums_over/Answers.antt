@@ -10,7 +10,7 @@ use Rattle.history_answers.proofs.sum_list.sums_over.Goals as goal
 pub sum_of_stretch-requires-clause-begun : goal.sum_of_stretch-requires-clause-begun
 sum_of_stretch-requires-clause-begun c =
     let before = begun_before c.args.step (c.args.to - c.args.from) c.loop-k.k c.requires.some
-    (subst (λ n. c.loop-k.k < n) c.div_ceil.ensures c.loop-k-test.true) in
+    (subst (λ n. c.loop-k.k < n) c.div_ceil-k-end.ensures c.loop-k-test.true) in
     omega (arith, before)
 
 pub loop-k-preserved : goal.loop-k-preserved
@@ -32,6 +32,6 @@ pub returns : goal.returns
 returns c =
     let f = sum_of_stretch (samples_of c.args.derived.now.book) c.args.measure.now c.args.from
     c.args.to c.args.step in
-    let done : c.loop-k.k ≡ c.div_ceil.result = omega arith in
+    let done : c.loop-k.k ≡ c.div_ceil-k-end.result = omega arith in
     c.loop-k.invariant
-    ∙ ap (λ n. map f (range_with_len 0 n)) (done ∙ c.div_ceil.ensures)
+    ∙ ap (λ n. map f (range_with_len 0 n)) (done ∙ c.div_ceil-k-end.ensures)
