@@ -1,6 +1,6 @@
 -- Histories, their records, and the files that stand for them.
 use Rattle.std.proofs.Common.{◌≡◌, ℕ, ◌+◌, ◌<◌, max, fold, List, [], ◌∷◌, ◌++◌}
-use Rattle.std.proofs.Common.{length, take, drop, refl, sym, ap, ◌∙◌, subst, arith}
+use Rattle.std.proofs.Common.{length, take, refl, sym, ap, ◌∙◌, subst, arith}
 use Rattle.std.proofs.lemmas.List.{append-nil}
 use Rattle.std.specs.List.{AllByRecursion}
 use Rattle.record_form.specs.declared.Entry.{Entry}
@@ -9,7 +9,7 @@ use Rattle.record_form.specs.Ranges.{FitsRecord, IsRecord}
 use Rattle.record_form.specs.Laws.{NoRecordBeginsAnother}
 use Rattle.office_history.specs.History.{Office, present, end_of, with_entry}
 use Rattle.office_history.specs.Legal.{IsLegal, MayFollow, empty, followed, office}
-use Rattle.office_history.specs.History as histories
+use Rattle.office_history.specs.History as history
 use Rattle.slo_journal.specs.File as files
 use Rattle.slo_journal.specs.File.{Stands, size_of}
 use Rattle.slo_journal.specs.Front.{IsHeader}
@@ -82,7 +82,7 @@ sum_from : (h : List Entry) (n : ℕ) →
 sum_from [] n = omega arith
 sum_from (x ∷ h) n = omega (arith, sum_from h (n + (5 + length (record_of x))))
 
-pub same_tail : (h : List Entry) → histories.tail_of h ≡ files.tail_of (records h)
+pub same_tail : (h : List Entry) → history.tail_of h ≡ files.tail_of (records h)
 same_tail h = omega (arith, sum_from h 0)
 
 -- the records of a legal history are legal ones

@@ -10,7 +10,7 @@ use Rattle.record_form.specs.declared.Outcome.{Outcome}
 use Rattle.record_form.specs.declared.Outcome.TheVariants.{JournalFull}
 use Rattle.record_form.specs.Records.{record_of}
 use Rattle.office_history.specs.History.{Office, with_entry}
-use Rattle.office_history.specs.History as histories
+use Rattle.office_history.specs.History as history
 use Rattle.office_history.specs.Outcomes.{outcome_of}
 use Rattle.office_counter.specs.Steps.{needed_for, place_of, with_made}
 use Rattle.slo_journal.specs.File as files
@@ -70,7 +70,7 @@ module _ (o : Office) (e : Entry) (tail : ℕ) (frame : List ℕ)
       let room = has_room few in
       is_written
       (told ∙ sym
-      (ap (λ (b : Bool). cond b (JournalFull (needed_for o e) (histories.tail_of o.history))
+      (ap (λ (b : Bool). cond b (JournalFull (needed_for o e) (history.tail_of o.history))
       (outcome_of o e.moment e.command)) room))
       (ap (λ (n : ℕ). Some n) is ∙ sym (ap (λ (b : Bool). place_of o (cond b None (Some e))) room))
       (more ∙ sym (ap (λ (b : Bool). with_made o (cond b None (Some e))) room))
@@ -82,13 +82,13 @@ module _ (o : Office) (e : Entry) (tail : ℕ) (frame : List ℕ)
       Writes o e (JournalFull needed at) None new doubt
   fills needed at new doubt at_tail sum many as_before none =
       let full = has_no_room (omega (arith, many, sum)) in
-      let told : JournalFull needed at ≡ JournalFull (needed_for o e) (histories.tail_of o.history) =
+      let told : JournalFull needed at ≡ JournalFull (needed_for o e) (history.tail_of o.history) =
       ap (λ (n : ℕ). JournalFull n at) (sum ∙ needed_is)
       ∙ ap (λ (n : ℕ). JournalFull (needed_for o e) n)
       (at_tail ∙ place ∙ sym (same_tail o.history)) in
       is_written
       (told ∙ sym
-      (ap (λ (b : Bool). cond b (JournalFull (needed_for o e) (histories.tail_of o.history))
+      (ap (λ (b : Bool). cond b (JournalFull (needed_for o e) (history.tail_of o.history))
       (outcome_of o e.moment e.command)) full))
       (sym (ap (λ (b : Bool). place_of o (cond b None (Some e))) full))
       (as_before ∙ sym (ap (λ (b : Bool). with_made o (cond b None (Some e))) full))
