@@ -3,7 +3,7 @@ ghost use Rattle.std.specs.Prelude.{◌≡◌, IfOk};
 ghost use Rattle.serde_json.specs.Data.{string};
 ghost use Rattle.serde_json.specs.View.{view};
 ghost use Rattle.wire_replies.specs.Bodies.{amount_data, budget_data, budgets_data, burn_data};
-ghost use Rattle.wire_replies.specs.Bodies.{entry_data, status_data, sum_data, sums_data};
+ghost use Rattle.wire_replies.specs.Bodies.{entry_data, sum_data, sums_data};
 ghost use Rattle.wire_replies.specs.Bodies.{exclusions_data, found_row_data, fraction_data};
 ghost use Rattle.wire_replies.specs.Bodies.{interval_data, kept_exclusion_data, notice_data};
 ghost use Rattle.wire_replies.specs.Bodies.{notices_data, object_data, objects_data, sample_data};
@@ -15,7 +15,7 @@ use burn_core::State;
 use exact_fraction::{Fraction, Label, Leaf, ZoneName};
 use notice_box::Notice;
 use object_terms::Kind;
-use record_form::{BudgetRow, OfficeStatus, WindowRow};
+use record_form::{BudgetRow, WindowRow};
 use sample_book::{Exclusion, Row};
 use serde_json::{Value, json};
 use slice_method::Amount;
@@ -210,36 +210,13 @@ pub(crate) fn zones(alloc: Global, entries: u32, zones: &[ZoneName]) -> Result<V
     json!(in alloc; {"entries": entries, "zones": zones})
 }
 
-fn minute_value(minute: Option<u32>) -> Value
+pub(crate) fn minute_value(minute: Option<u32>) -> Value
     ensures { IsValue (entry_data minute) result }
 {
     match minute {
         Some(minute) => Value::from(minute),
         None => Value::Null,
     }
-}
-
-pub(crate) fn status(alloc: Global, status: &OfficeStatus) -> Result<Value, AllocError>
-    ensures { IfOk result (IsValue (status_data status.now)) }
-{
-    json!(in alloc; {
-        "accepted": [status.accepted.count, status.accepted.limit],
-        "at": status.at,
-        "bindings": [status.bindings.count, status.bindings.limit],
-        "bytes": [status.bytes.count, status.bytes.limit],
-        "cells": [status.cells.count, status.cells.limit],
-        "days": [status.days.count, status.days.limit],
-        "entries": status.entries,
-        "exclusions": [status.exclusions.count, status.exclusions.limit],
-        "last": minute_value(status.last),
-        "notices": [status.notices.count, status.notices.limit],
-        "objects": [status.objects.count, status.objects.limit],
-        "origin": status.origin,
-        "slis": [status.slis.count, status.slis.limit],
-        "slos": [status.slos.count, status.slos.limit],
-        "version": status.version,
-        "zones": [status.zones.count, status.zones.limit]
-    })
 }
 
 impl InJson for Leaf {

@@ -4,6 +4,7 @@
 #![tactic(auto)]
 
 mod bodies;
+mod fullness;
 mod immediate;
 mod in_json;
 mod inline_bytes;

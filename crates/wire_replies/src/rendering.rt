@@ -9,8 +9,9 @@ ghost use Rattle.wire_replies.specs.Outcomes.{answer_of, is_short};
 ghost use Rattle.wire_replies.specs.Values.{IsValue};
 
 use crate::bodies::{
-    budgets, burn, exclusions, notices, objects, row, status, sums, timeline, windows, zones,
+    budgets, burn, exclusions, notices, objects, row, sums, timeline, windows, zones,
 };
+use crate::fullness::status;
 use crate::refusals::refusal_value;
 use crate::reply::{Form, Reply, SmallBody};
 use crate::small::{changed, clock_range, defined, disk_fault, journal_full, sampled, ticked};
