@@ -613,7 +613,7 @@ fn replies_are_written_at_once(rt: HostRuntime) {
     write(&rt, &mut output, bad_message(431), true);
     write(&rt, &mut output, Reply::NoMemory, true);
     expect(&rt, output.bytes() == HEADS.as_bytes(), HEADS);
-    expect(&rt, output.plan().calls() == 7, "a call for each reply");
+    expect(&rt, output.plan().calls() == 8, "a call for each reply");
 }
 
 /// The reply to an object of so many bytes, over a sink whose second write fails.
