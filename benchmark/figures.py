@@ -261,6 +261,9 @@ def single(office, objectives, policies):
         standing(office, session, 20)
         exclusions(office, session)
         office.note_memory("memory at the end, MB", session.memory())
+        session.end()
+        # a session ends behind 1,000 answers
+        session = latency.Session(folder)
         calendar(office, session)
         session.end()
 
