@@ -205,6 +205,7 @@ class Reading(unittest.TestCase):
             self.assertEqual((told["cells"][0], told["days"][0]), (5, 3))
             status = client.status()
             if status is not None:
+                self.assertEqual(told.pop("entries")[0], status["entries"])
                 for key in set(told) & set(status):
                     self.assertEqual(told[key], status[key], key)
 
