@@ -19,10 +19,12 @@ from slo_tools.yaml_reading import read_yaml
 
 @dataclass(frozen=True)
 class Running:
-    """The objects of a running office with their texts, and the zones that it is known to keep."""
+    """The objects of a running office with their texts, the zones that it is known to keep, and
+    those of them that no calendar of it names."""
 
     texts: dict[Name, str]
     zones: frozenset[str]
+    unnamed: frozenset[str]
 
 
 @dataclass(frozen=True)
@@ -39,6 +41,8 @@ class Plan:
     """Changes of an office, in the order in which they are made."""
 
     zones: list[Zone] = field(default_factory=list)
+    # Kept already, under a name that no calendar names yet: sent again, so that others are told.
+    kept: list[Zone] = field(default_factory=list)
     definitions: list[Definition] = field(default_factory=list)
     removals: list[Name] = field(default_factory=list)
     same: int = 0
@@ -64,7 +68,8 @@ def running_of(office: Office) -> Running:
     texts = {name: office.object_text(*name) for name in names}
     slos = [text for name, text in texts.items() if name[0] == "SLO"]
     nodes = [node for text in slos for node in read_yaml(text).documents]
-    return Running(texts, frozenset(calendar_zones(nodes)) | _kept_zones(office))
+    named, kept = frozenset(calendar_zones(nodes)), _kept_zones(office)
+    return Running(texts, named | kept, kept - named)
 
 
 def _kept_zones(office: Office) -> frozenset[str]:
@@ -89,6 +94,7 @@ def plan_of(
     sampled = [n for n in beside if prune and n[0] == "SLI" and has_samples(n[1])]
     return Plan(
         zones=[zone for zone in zones if zone.name not in running.zones],
+        kept=[zone for zone in zones if zone.name in running.unnamed],
         definitions=[
             Definition(name, wanted[name], running.texts.get(name))
             for name in sorted(changed, key=lambda name: (rank_of(name), name))
@@ -182,13 +188,14 @@ def _spelled(name: Name) -> str:
 def carry_out(office: Office, plan: Plan) -> Done:
     """Makes the changes. What is refused is told, and what rests on it isn't tried."""
     done = Done()
-    for zone in plan.zones:
+    for zone in [*plan.kept, *plan.zones]:
         try:
             office.keep_zone(zone.name, zone.content)
         except Refusal as refusal:
             done.faults.append(f"{zone.file}: {refusal}")
             return done
-        done.lines.append(f"+ zone {zone.name}")
+        if zone not in plan.kept:
+            done.lines.append(f"+ zone {zone.name}")
     for definitions, text in _batches(plan.definitions):
         try:
             office.define(text)
