@@ -11,7 +11,7 @@ import os
 import random
 import signal
 import subprocess
-from collections.abc import Iterator, Sequence
+from collections.abc import Callable, Iterator, Sequence
 
 import held
 import objects
@@ -147,18 +147,19 @@ def most_bytes(report: Report) -> None:
     whole = long * count + short * few + bare * ((left - few * len(short)) // len(bare))
     assert len(whole) == MOST_FEEDS_BYTES
     copy = made(report, "most", 0, [big, small])
-    cases = [
-        ("as many as may be", whole, "entries 2"),
-        ("and one more", whole + b"O", "input too large"),
-        ("and a feed more", whole + short, "input too large"),
-        ("ends inside the last feed", whole[:-10], "cut"),
-        ("ends there inside a feed", (whole[:-20] + long)[:MOST_FEEDS_BYTES], "cut"),
-        ("goes on there inside a feed", (whole[:-20] + long)[: MOST_FEEDS_BYTES + 1], "input too large"),
-        ("broken in its last feed", whole[:-20] + b"x" * 20, f"feed broken at {MOST_FEEDS_BYTES - 20}"),
+    # each is made when it is sent: seven of them at once would take 4 GB
+    cases: list[tuple[str, Callable[[], bytes], str]] = [
+        ("as many as may be", lambda: whole, "entries 2"),
+        ("and one more", lambda: whole + b"O", "input too large"),
+        ("and a feed more", lambda: whole + short, "input too large"),
+        ("ends inside the last feed", lambda: whole[:-10], "cut"),
+        ("ends there inside a feed", lambda: whole[:-20] + long[:20], "cut"),
+        ("goes on there inside a feed", lambda: whole[:-20] + long[:21], "input too large"),
+        ("broken in its last feed", lambda: whole[:-20] + b"x" * 20, f"feed broken at {MOST_FEEDS_BYTES - 20}"),
     ]
-    for name, data, line in cases:
+    for name, data_of, line in cases:
         with report.case(f"536,870,912 bytes of feeds: {name}"):
-            ended(copy, data, line, [big, small])
+            ended(copy, data_of(), line, [big, small])
 
 
 def faults(report: Report) -> None:
