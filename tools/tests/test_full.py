@@ -127,7 +127,11 @@ class FullOffice(Desk):
         rounds = self.rounds(MovedClock(), office.address, receiver)
         for _ in range(3):
             self.assertTrue(rounds.round(), self.said.getvalue())
-        wanted = [("workbook-page", "firing"), ("SloOfficeFull", "firing")]
+        wanted = [
+            ("workbook-page", "firing"),
+            ("SloOfficeFull", "firing"),
+            ("SloOfficeFilling", "firing"),
+        ]
         self.assertEqual(hook.told(), wanted)
         self.assertIn("507 journal_full", hook.alerts[1]["annotations"]["summary"])
         self.assertEqual([n.number for n in office.client().notices()], [1])
@@ -150,7 +154,12 @@ class FullOffice(Desk):
         self.feed(other, range(now - 60, now), 0)
         self.assertTrue(again.round(), self.said.getvalue())
         self.assertEqual(
-            sorted(hook.told()[2:]), [("SloOfficeFull", "resolved"), ("workbook-page", "firing")]
+            sorted(hook.told()[3:]),
+            [
+                ("SloOfficeFilling", "resolved"),
+                ("SloOfficeFull", "resolved"),
+                ("workbook-page", "firing"),
+            ],
         )
         self.assertEqual(other.client().notices(), [])
 
@@ -162,7 +171,8 @@ class FullOffice(Desk):
         rounds = self.rounds(MovedClock(), office.address, receiver, rule="receiver")
         for _ in range(2):
             self.assertTrue(rounds.round(), self.said.getvalue())
-        self.assertEqual(set(manager.alerts()), {"workbook-page", "SloOfficeFull"})
+        told = {"workbook-page", "SloOfficeFull", "SloOfficeFilling"}
+        self.assertEqual(set(manager.alerts()), told)
 
     def test_slo_feed_raises_the_alarm(self) -> None:
         for name in ("prometheus", "promtool"):

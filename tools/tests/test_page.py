@@ -290,7 +290,7 @@ class Page(unittest.TestCase):
     def test_an_slo_shows_outage_and_what_it_leaves_out(self) -> None:
         self.see("#/shop/checkout", "Checkout answers, as of")
         text = self.browser.run("return document.querySelector('main').innerText")
-        self.assertIn("this version of the office doesn't list them", text)
+        self.assertIn("data-centre-move: ", text)
         self.assertIn("workbook-page", text)
         self.assertEqual(self.browser.run("return document.querySelectorAll('canvas').length"), 4)
         self.is_well()
