@@ -1,3 +1,4 @@
+pub mod AlikeLemmas
 pub mod LineLemmas
 pub mod MinuteLemmas
 pub mod RunLemmas

@@ -1,14 +1,18 @@
 -- The minutes up to one at which the condition held without a break.
 use Rattle.std.proofs.Common.{◌≡◌, ◌≢◌, ◌⊎◌, ℕ, suc, ◌+◌, ◌-◌, ◌*◌, ◌≤◌, ◌<◌, ◌==◌, ◌&&◌, ◌||◌, max}
 use Rattle.std.proofs.Common.{nat_eq, nat_le, nat_lt, Bool, true, false, Option, Some, List, inl}
-use Rattle.std.proofs.Common.{inr, refl, arith, ap, sym, ◌∙◌, if◌then◌else◌}
+use Rattle.std.proofs.Common.{IfSome, None, inr, refl, arith, ap, sym, ◌∙◌, if◌then◌else◌}
 use Rattle.std.specs.Option.{is_none}
+use Rattle.exact_fraction.specs.declared.leaf.Leaf.{Leaf}
+use Rattle.burn_core.specs.declared.alert.AlertRule.{AlertRule}
 use Rattle.std.proofs.lemmas.Bool.Decides.{eqb_tells, leb_tells, nat_tests}
 use Rattle.window_sums.specs.Slices.{CountedDays, leaf_at, width_of}
 use Rattle.burn_core.specs.Condition.{condition}
 use Rattle.burn_core.specs.Timeline.{AreSpansOf, IsActive, is_active}
 use Rattle.burn_core.proofs.TimelineLemmas.{active-law}
 use Rattle.burn_core.proofs.ConditionLemmas.{condition-below}
+use Rattle.alert_line.specs.Cursor.{IsBehind}
+use Rattle.alert_line.specs.declared.cursor.Cursor.{Cursor}
 use Rattle.alert_line.specs.Line.{Agrees, Line, SameAlert, condition_on, knowledge}
 use Rattle.alert_line.specs.Spans.{with_minute}
 use Rattle.burn_core.specs.Alert.{wait_of}
@@ -56,6 +60,41 @@ IsRun-next holds start at run false le is before = record {
 
     there : (u : ℕ) → u + 1 + 0 ≡ at + 1 → u ≡ at
     there u e = omega arith
+
+-- over minutes at all of which it holds the run grows, and else it ends
+pub IsRun-over : (holds : ℕ → Bool) (start at run count : ℕ) (b : Bool) → 0 < count
+    → ((u : ℕ) → at ≤ u → u < at + count → b ≡ holds u) → start ≤ at
+    → IsRun holds start at run → IsRun holds start (at + count) (if b then run + count else 0)
+IsRun-over holds start at run count true some all le before = record {
+  within = omega (arith, before.within);
+  each = λ u a c. by u a c (leb_tells at u);
+  stops = on before.stops;
+}
+  where
+    by : (u : ℕ) → at + count - (run + count) ≤ u → u < at + count
+        → ((nat_le at u ≡ true) × (at ≤ u)) ⊎ ((nat_le at u ≡ false) × (u < at)) → holds u ≡ true
+    by u a c (inl e) = sym (all u e.1 c)
+    by u a c (inr e) = before.each u (omega (arith, a)) e.1
+
+    on : (start + run ≡ at) ⊎ ((u : ℕ) → u + 1 + run ≡ at → holds u ≡ false)
+        → (start + (run + count) ≡ at + count)
+        ⊎ ((u : ℕ) → u + 1 + (run + count) ≡ at + count → holds u ≡ false)
+    on (inl e) = inl (omega (arith, e))
+    on (inr f) = inr (λ u e. f u (omega (arith, e)))
+IsRun-over holds start at run count false some all le before = record {
+  within = omega (arith, le);
+  each = λ u a c. absurd (no u a c);
+  stops = inr (λ u e. sym (all u (at-least u e) (below u e)));
+}
+  where
+    no : (u : ℕ) → at + count - 0 ≤ u → u < at + count → ⊥
+    no u a c = omega (arith, a, c)
+
+    at-least : (u : ℕ) → u + 1 + 0 ≡ at + count → at ≤ u
+    at-least u e = omega (arith, e, some)
+
+    below : (u : ℕ) → u + 1 + 0 ≡ at + count → u < at + count
+    below u e = omega (arith, e)
 
 active-by-run : (holds : ℕ → Bool) (start minute run wait : ℕ) → wait < run
     → IsRun holds start (minute + 1) run → IsActive wait holds minute
@@ -168,6 +207,49 @@ learnt-next before at after sums start minute b le is learnt new = record {
     two true false b3 u o a c e h p q = rw e (q ∙ p)
     two false true b3 u o a c e h p q = rw e (q ∙ ap (λ (x : Bool). Some x) (h refl))
     two false false b3 u o a c e h p q = rw e (q ∙ p)
+
+-- minutes that were known already need no learning
+pub learnt-over : (before at : Line) (sums : CountedDays) (start minute count : ℕ) (b : Bool)
+    → start ≤ minute → Agrees before sums
+    → ((u : ℕ) → minute ≤ u → u < minute + count → knowledge at u ≡ Some b)
+    → IsLearnt before at sums start minute → IsLearnt before at sums start (minute + count)
+learnt-over before at sums start minute count b le agrees known learnt = record {
+  each = λ u. by u (leb_tells start u) (leb_tells (suc u) minute)
+      (leb_tells (suc u) (minute + count));
+}
+  where
+    as-before : (u : ℕ) → nat_lt u minute ≡ false → knowledge at u ≡ knowledge before u
+    as-before u e = learnt.each u ∙ idle (nat_le start u)
+      where
+        idle : (q : Bool) → (if q && nat_lt u minute then Some (condition_on before sums u)
+            else knowledge before u) ≡ knowledge before u
+        idle true = rw e refl
+        idle false = refl
+
+    by : (u : ℕ) → ((nat_le start u ≡ true) × (start ≤ u))
+        ⊎ ((nat_le start u ≡ false) × (u < start)) →
+        ((nat_lt u minute ≡ true) × (suc u ≤ minute))
+        ⊎ ((nat_lt u minute ≡ false) × (minute < suc u)) →
+        ((nat_lt u (minute + count) ≡ true) × (suc u ≤ minute + count))
+        ⊎ ((nat_lt u (minute + count) ≡ false) × (minute + count < suc u)) →
+        knowledge at u ≡ (if nat_le start u && nat_lt u (minute + count)
+        then Some (condition_on before sums u) else knowledge before u)
+    by u (inl a) (inl c) (inl d) = rw (a.0, d.0) (learnt.each u ∙ (rw (a.0, c.0) refl))
+    by u (inl a) (inl c) (inr d) = absurd (omega (arith, c.1, d.1))
+    by u (inl a) (inr c) (inl d) =
+        let here : knowledge at u ≡ Some b = known u (omega (arith, c.1)) (omega (arith, d.1)) in
+        let is : b ≡ condition_on before sums u = agrees.each u b (sym (as-before u c.0) ∙ here) in
+        rw (a.0, d.0) (here ∙ ap (λ (x : Bool). Some x) is)
+    by u (inl a) (inr c) (inr d) = rw (a.0, d.0) (as-before u c.0)
+    by u (inr a) (inl c) d = rw a.0 (learnt.each u ∙ (rw a.0 refl))
+    by u (inr a) (inr c) d = rw a.0 (as-before u c.0)
+
+-- .. and their condition is what is known
+pub known-condition : (before at : Line) (sums : CountedDays) (u : ℕ) (b : Bool)
+    → SameAlert before at → Agrees at sums → knowledge at u ≡ Some b
+    → b ≡ condition_on before sums u
+known-condition before at sums u b alert agrees known =
+    agrees.each u b known ∙ condition-alert before at sums u alert
 
 -- a minute that the pass hasn't come to is known as it was
 pub learnt-ahead : (before after : Line) (sums : CountedDays) (start minute : ℕ)
@@ -287,3 +369,11 @@ start-before line minute le = by minute (wait_of line.rule) line.origin le
   where
     by : (minute wait origin : ℕ) → origin ≤ minute → max (minute - wait) origin ≤ minute
     by minute wait origin le = omega arith
+
+-- a cursor that is behind a minute is behind each later one
+pub behind-later : (rule : AlertRule) (width : ℕ) (leaf : ℕ → Leaf) (minute later : ℕ)
+    (cursor : Option Cursor) → minute ≤ later → IfSome cursor (IsBehind rule width leaf minute)
+    → IfSome cursor (IsBehind rule width leaf later)
+behind-later rule width leaf minute later None le is = tt
+behind-later rule width leaf minute later (Some cursor) le is =
+    record { before = omega (arith, is.before, le); is = is.is }

@@ -13,7 +13,7 @@ ghost use Rattle.alert_line.specs.Line.{Agrees, IsMinute, SameAlert, active_on, 
 ghost use Rattle.alert_line.specs.Line.{den_before, knowledge};
 
 use crate::cursor::Cursor;
-use crate::minutes::{forget_in, keep, kept_at};
+use crate::minutes::{alike_from, forget_in, keep, kept_at};
 use crate::spans::{Spans, note_minute};
 use burn_core::{AlertRule, State};
 use exact_fraction::Decimal;
@@ -91,6 +91,40 @@ impl AlertLine {
             return None;
         }
         kept_at(&self.bytes, (minute - self.origin) as usize)
+    }
+
+    /// For how many minutes from one on, up to another, the condition is known to hold, or known
+    /// not to: looked up four minutes at a time, so it may tell fewer than there are.
+    fn known_run(&self, holds: bool, from: u32, to: u32) -> u32
+        requires begin { self.now.origin ≤ from }
+        requires order { from ≤ to }
+        requires end { to ≤ self.now.origin + RANGE_MINUTES }
+        ensures within { from + result ≤ to }
+        ensures known { (u : ℕ) → from ≤ u → u < from + result
+            → knowledge self.now u ≡ Some holds }
+    {
+        let first = (from - self.origin) as usize;
+        let end = (to - self.origin) as usize;
+        alike_from(&self.bytes, first, end, holds) as u32
+    }
+
+    /// For how many minutes from one on, up to another, the condition is known alike, and whether
+    /// it holds at them.
+    fn known_alike(&self, from: u32, to: u32) -> (u32, bool)
+        requires begin { self.now.origin ≤ from }
+        requires order { from ≤ to }
+        requires end { to ≤ self.now.origin + RANGE_MINUTES }
+        ensures within { from + result.0 ≤ to }
+        ensures known { (u : ℕ) → from ≤ u → u < from + result.0
+            → knowledge self.now u ≡ Some result.1 }
+    {
+        let held = self.known_run(true, from, to);
+        let some = 0 < held;
+        if some {
+            return (held, true);
+        }
+        let broken = self.known_run(false, from, to);
+        (broken, false)
     }
 
     /// Forgets the minutes of [from, to), and no other.
@@ -267,9 +301,18 @@ impl AlertLine {
     {
         let start = self.start(minute);
         let mut run = 0;
-        for at in start..minute {
-            let holds = self.evaluate(at, cursor, sums, steps);
-            run = next_run(run, holds);
+        let mut at = start;
+        while at < minute {
+            let (known, held) = self.known_alike(at, minute);
+            let told = 0 < known;
+            if told {
+                run = run_over(run, known, held);
+                at += known;
+            } else {
+                let holds = self.evaluate(at, cursor, sums, steps);
+                run = next_run(run, holds);
+                at += 1;
+            }
         }
         run
     }
@@ -444,6 +487,14 @@ fn next_run(run: u32, holds: bool) -> u32
     ensures { result ≡ (if holds then run + 1 else 0) }
 {
     if holds { run + 1 } else { 0 }
+}
+
+/// The same over some minutes at all of which it holds, or doesn't.
+fn run_over(run: u32, minutes: u32, holds: bool) -> u32
+    requires { run + minutes < 2 ^ 32 }
+    ensures { result ≡ (if holds then run + minutes else 0) }
+{
+    if holds { run + minutes } else { 0 }
 }
 
 fn zeros(alloc: Global, count: usize) -> Result<Vec<u8>, AllocError>

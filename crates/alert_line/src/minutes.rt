@@ -1,7 +1,8 @@
 //! What is remembered of each minute, over the bytes alone.
 ghost use Rattle.std.specs.Prelude.{◌≡◌, ℕ, ◌+◌, ◌*◌, ◌<◌, ◌≤◌, ◌==◌, ◌&&◌, nat_le, nat_lt, length};
 ghost use Rattle.std.specs.Prelude.{slice_index, Some, if◌then◌else◌};
-ghost use Rattle.alert_line.specs.Minutes.{Forgets, kept_at, verdict_of};
+ghost use Rattle.std.specs.List.{prefix_len};
+ghost use Rattle.alert_line.specs.Minutes.{Forgets, byte_of, kept_at, verdict_of};
 
 use crate::bits::{bits_at, with_bits};
 
@@ -11,6 +12,43 @@ pub(crate) fn kept_at(bytes: &[u8], slot: usize) -> Option<bool>
 {
     let bits = bits_at(bytes[slot / 4], slot % 4);
     if bits == 0 { None } else { Some(bits == 2) }
+}
+
+/// A byte whose four places all keep this.
+fn byte_of(holds: bool) -> u8
+    ensures { result ≡ byte_of holds }
+{
+    if holds { 0xAA } else { 0x55 }
+}
+
+/// How many bytes from the front on are this one.
+fn count_alike(bytes: &[u8], byte: u8) -> usize
+    ensures value { result ≡ prefix_len (λ other. other == byte) bytes.now }
+    ensures within { result ≤ length bytes.now }
+{
+    bytes.iter().take_while(|other| **other == byte).count()
+}
+
+/// For how many places from one on, up to another, the same is kept, as far as whole bytes tell it.
+pub(crate) fn alike_from(bytes: &[u8], from: usize, to: usize, holds: bool) -> usize
+    requires order { from ≤ to }
+    requires within { to ≤ 4 * length bytes.now }
+    ensures within { from + result ≤ to }
+    ensures kept { (slot : ℕ) → from ≤ slot → slot < from + result
+        → kept_at bytes.now slot ≡ Some holds }
+{
+    let first = from / 4;
+    let end = to / 4;
+    let cut = 4 * first < from;
+    if cut {
+        return 0;
+    }
+    let short = end <= first;
+    if short {
+        return 0;
+    }
+    let alike = count_alike(&bytes[first..end], byte_of(holds));
+    4 * alike
 }
 
 fn put_bits(bytes: &mut [u8], slot: usize, bits: u8)
