@@ -2,6 +2,7 @@
 use Rattle.std.proofs.Common.{◌≡◌, ◌≢◌, ◌⊎◌, ℕ, suc, ◌+◌, ◌-◌, ◌*◌, ◌≤◌, ◌<◌, ◌==◌, ◌&&◌, ◌||◌, max}
 use Rattle.std.proofs.Common.{nat_eq, nat_le, nat_lt, Bool, true, false, Option, Some, List, inl}
 use Rattle.std.proofs.Common.{IfSome, None, inr, refl, arith, ap, sym, ◌∙◌, if◌then◌else◌}
+use Rattle.std.proofs.Common.{min, subst, zero, ◌^◌}
 use Rattle.std.specs.Option.{is_none}
 use Rattle.exact_fraction.specs.declared.leaf.Leaf.{Leaf}
 use Rattle.burn_core.specs.declared.alert.AlertRule.{AlertRule}
@@ -14,13 +15,13 @@ use Rattle.burn_core.proofs.ConditionLemmas.{condition-below}
 use Rattle.alert_line.specs.Cursor.{IsBehind}
 use Rattle.alert_line.specs.declared.cursor.Cursor.{Cursor}
 use Rattle.alert_line.specs.Line.{Agrees, Line, SameAlert, condition_on, knowledge}
-use Rattle.alert_line.specs.Spans.{with_minute}
+use Rattle.alert_line.specs.Spans.{with_minute, with_stretch}
 use Rattle.burn_core.specs.Alert.{wait_of}
 use Rattle.alert_line.specs.Learnt.{IsLearnt, IsRun, start_of, unknown_in}
 use Rattle.alert_line.proofs.MinuteLemmas.{one-more}
 use Rattle.slo_terms.proofs.RangeLemmas.{sum_over-next, sum_over-within}
 use Rattle.alert_line.proofs.SpanLemmas.{AreSpansOf-active, AreSpansOf-idle, EndBy, EndBy-later}
-use Rattle.alert_line.proofs.SpanLemmas.{EndBy-with}
+use Rattle.alert_line.proofs.SpanLemmas.{EndBy-with, stretch-more, with_minute-stretch}
 
 pub IsRun-none : (holds : ℕ → Bool) (start : ℕ) → IsRun holds start start 0
 IsRun-none holds start = record {
@@ -157,6 +158,103 @@ pub ends-next : (minute : ℕ) (spans : List (ℕ × ℕ)) (b : Bool) → EndBy 
     → EndBy (minute + 1) (if b then with_minute spans minute else spans)
 ends-next minute spans true ends = EndBy-with minute spans ends
 ends-next minute spans false ends = EndBy-later minute spans ends
+
+-- what is added over minutes at all of which the condition holds, or doesn't
+abbrev pub stretched : List (ℕ × ℕ) → Bool → ℕ → ℕ → List (ℕ × ℕ)
+stretched spans held first to =
+    if held && nat_lt first to then with_stretch spans first to else spans
+
+stretched-next : (spans : List (ℕ × ℕ)) (held : Bool) (first to : ℕ) → (if held
+    && nat_le first to then with_minute (stretched spans held first to) to
+    else stretched spans held first to) ≡ stretched spans held first (to + 1)
+stretched-next spans false first to = refl
+stretched-next spans true first to =
+    by (leb_tells first to) (leb_tells (suc first) to) (leb_tells (suc first) (to + 1))
+  where
+    by : ((nat_le first to ≡ true) × (first ≤ to)) ⊎ ((nat_le first to ≡ false) × (to < first)) →
+        ((nat_lt first to ≡ true) × (suc first ≤ to))
+        ⊎ ((nat_lt first to ≡ false) × (to < suc first)) →
+        ((nat_lt first (to + 1) ≡ true) × (suc first ≤ to + 1))
+        ⊎ ((nat_lt first (to + 1) ≡ false) × (to + 1 < suc first)) →
+        (if nat_le first to then with_minute (if nat_lt first to then with_stretch spans first to
+        else spans) to else (if nat_lt first to then with_stretch spans first to else spans))
+        ≡ (if nat_lt first (to + 1) then with_stretch spans first (to + 1) else spans)
+    by (inl a) (inl b) (inl c) = rw (a.0, b.0, c.0) (stretch-more spans first to)
+    by (inl a) (inr b) (inl c) =
+        let same : first ≡ to = omega (arith, a.1, b.1) in
+        rw (a.0, b.0, c.0) (with_minute-stretch spans to
+        ∙ ap (λ (n : ℕ). with_stretch spans n (to + 1)) (sym same))
+    by (inl a) b (inr c) = absurd (omega (arith, a.1, c.1))
+    by (inr a) (inl b) c = absurd (omega (arith, a.1, b.1))
+    by (inr a) (inr b) (inl c) = absurd (omega (arith, a.1, c.1))
+    by (inr a) (inr b) (inr c) = rw (a.0, b.0, c.0) refl
+
+no-less : (n : ℕ) → nat_lt n 0 ≡ false
+no-less n = grind (arith, nat_tests)
+
+-- the spans, and where they end, with all minutes of a stretch
+pub spans-over : (holds : ℕ → Bool) (origin from minute run wait count first : ℕ)
+    (spans : List (ℕ × ℕ)) (held : Bool) → ((u : ℕ) → u < origin → holds u ≡ false) →
+    ((u : ℕ) → minute ≤ u → u < minute + count → held ≡ holds u) →
+    ((u : ℕ) → minute ≤ u → u < minute + count →
+    nat_le first u ≡ (nat_lt wait (run + (u - minute) + 1) && nat_le from u)) → minute ≤ first →
+    max (from - wait) origin ≤ minute →
+    IsRun holds (max (from - wait) origin) minute run → EndBy minute spans →
+    AreSpansOf (IsActive wait holds) from minute spans →
+    EndBy (minute + count) (stretched spans held first (minute + count))
+    × AreSpansOf (IsActive wait holds) from (minute + count)
+    (stretched spans held first (minute + count))
+spans-over holds origin from minute run wait zero first spans held below all tells low le is ends so
+    =
+    let none : minute + 0 ≡ minute = omega arith in
+    rw none (
+    subst (λ (l : List (ℕ × ℕ)). EndBy minute l × AreSpansOf (IsActive wait holds) from minute l)
+    (sym (by held (leb_tells (suc first) minute))) (ends, so)
+    )
+  where
+    by : (held : Bool) → ((nat_lt first minute ≡ true) × (suc first ≤ minute))
+        ⊎ ((nat_lt first minute ≡ false) × (minute < suc first)) →
+        stretched spans held first minute ≡ spans
+    by false b = refl
+    by true (inl b) = absurd (omega (arith, b.1, low))
+    by true (inr b) = rw b.0 refl
+spans-over holds origin from minute run wait (suc count) first spans held below all tells low le is
+    ends so =
+    let more : minute + suc count ≡ at + 1 = omega arith in
+    let rest : EndBy at (stretched spans held first at)
+        × AreSpansOf (IsActive wait holds) from at (stretched spans held first at) =
+    spans-over holds origin from minute run wait count first spans held below
+    (λ u a b. all u a (omega (arith, b))) (λ u a b. tells u a (omega (arith, b))) low le is ends
+    so in
+    rw more (
+    subst (λ (l : List (ℕ × ℕ)). EndBy (at + 1) l
+    × AreSpansOf (IsActive wait holds) from (at + 1) l) (stretched-next spans held first at) (
+      ends-next at (stretched spans held first at) (held && nat_le first at) rest.0,
+      spans-next holds origin from at run-then wait (stretched spans held first at)
+          (held && nat_le first at) below (active held refl) run-is rest.0 rest.1,
+    )
+    )
+  where
+    at : ℕ
+    at = minute + count
+
+    run-then : ℕ
+    run-then = if held then run + suc count else 0
+
+    run-is : IsRun holds (max (from - wait) origin) (at + 1) run-then
+    run-is =
+        let more : minute + suc count ≡ at + 1 = omega arith in
+        subst (λ n. IsRun holds (max (from - wait) origin) n run-then) more
+        (IsRun-over holds (max (from - wait) origin) minute run (suc count) held (omega arith) all
+        le is)
+
+    active : (b : Bool) → held ≡ b →
+        (held && nat_le first at) ≡ (nat_lt wait run-then && nat_le from at)
+    active true e =
+        let long : run + (at - minute) + 1 ≡ run + suc count = omega arith in
+        rw e (tells at (omega arith) (omega arith)
+        ∙ ap (λ n. nat_lt wait n && nat_le from at) long)
+    active false e = rw (e, no-less wait) refl
 
 pub below-origin : (line : Line) (sums : CountedDays) (u : ℕ) → u < line.origin
     → condition_on line sums u ≡ false
@@ -377,3 +475,14 @@ pub behind-later : (rule : AlertRule) (width : ℕ) (leaf : ℕ → Leaf) (minut
 behind-later rule width leaf minute later None le is = tt
 behind-later rule width leaf minute later (Some cursor) le is =
     record { before = omega (arith, is.before, le); is = is.is }
+
+-- from when on an alert is active over minutes at all of which its condition holds
+pub first-tells : (from minute run wait first end u : ℕ)
+    → first ≡ max from (min (minute + (wait - run)) 4294967295) → end < 2 ^ 32 → minute ≤ u
+    → u < end → nat_le first u ≡ (nat_lt wait (run + (u - minute) + 1) && nat_le from u)
+first-tells from minute run wait first end u is few low high = grind (arith, nat_tests)
+
+pub first-later : (from minute run wait first : ℕ)
+    → first ≡ max from (min (minute + (wait - run)) 4294967295) → minute < 2 ^ 32
+    → minute ≤ first
+first-later from minute run wait first is few = omega (arith, is, few)

@@ -4,49 +4,97 @@ use Rattle.std.proofs.Common.{[], ◌∷◌, length, slice_index_or, slice_set, 
 use Rattle.std.proofs.Common.{refl, arith, ap, sym, subst, if◌then◌else◌}
 use Rattle.std.specs.Bool.{⊤}
 use Rattle.std.proofs.lemmas.Bool.Decides.{eqb_tells}
-use Rattle.alert_line.specs.Spans.{one_minute, with_minute}
+use Rattle.alert_line.specs.Spans.{one_minute, with_minute, with_stretch}
 use Rattle.burn_core.specs.Timeline.{AreApart, AreSpansOf, Lies}
 
--- where the last span ends at the minute it takes it
-pub with_minute-last : (spans : List (ℕ × ℕ)) (minute : ℕ) (d : ℕ × ℕ) → 0 < length spans →
-    (slice_index_or spans (length spans - 1) d).1 ≡ minute →
-    with_minute spans minute ≡ slice_set spans (length spans - 1)
-    ((slice_index_or spans (length spans - 1) d).0, minute + 1)
-with_minute-last [] minute d some ends = absurd (omega arith)
-with_minute-last (span ∷ []) minute d some ends = by (eqb_tells span.1 minute)
+-- where the last span ends at the first minute it takes the stretch
+pub with_stretch-last : (spans : List (ℕ × ℕ)) (from to : ℕ) (d : ℕ × ℕ) → 0 < length spans →
+    (slice_index_or spans (length spans - 1) d).1 ≡ from →
+    with_stretch spans from to ≡ slice_set spans (length spans - 1)
+    ((slice_index_or spans (length spans - 1) d).0, to)
+with_stretch-last [] from to d some ends = absurd (omega arith)
+with_stretch-last (span ∷ []) from to d some ends = by (eqb_tells span.1 from)
   where
-    by : ((nat_eq span.1 minute ≡ true) × (span.1 ≡ minute))
-        ⊎ ((nat_eq span.1 minute ≡ false) × (span.1 ≢ minute)) →
-        (if span.1 == minute then (span.0, minute + 1) ∷ [] else span ∷ one_minute minute ∷ [])
-        ≡ (span.0, minute + 1) ∷ []
+    by : ((nat_eq span.1 from ≡ true) × (span.1 ≡ from))
+        ⊎ ((nat_eq span.1 from ≡ false) × (span.1 ≢ from)) →
+        (if span.1 == from then (span.0, to) ∷ [] else span ∷ (from, to) ∷ [])
+        ≡ (span.0, to) ∷ []
     by (inl e) = rw e.0 refl
     by (inr e) = absurd (e.1 ends)
-with_minute-last (span ∷ next ∷ rest) minute d some ends =
+with_stretch-last (span ∷ next ∷ rest) from to d some ends =
     let there = same (length rest) in
     rw there (ap (λ l. span ∷ l)
-    (with_minute-last (next ∷ rest) minute d (omega arith) (rw there at ends)))
+    (with_stretch-last (next ∷ rest) from to d (omega arith) (rw there at ends)))
   where
     same : (n : ℕ) → suc (suc n) - 1 ≡ suc (suc n - 1)
     same n = omega arith
 
--- else the minute is a span of its own
-pub with_minute-new : (spans : List (ℕ × ℕ)) (minute : ℕ) (d : ℕ × ℕ) →
-    (0 < length spans → (slice_index_or spans (length spans - 1) d).1 ≢ minute) →
-    with_minute spans minute ≡ spans ++ one_minute minute ∷ []
-with_minute-new [] minute d ends = refl
-with_minute-new (span ∷ []) minute d ends = by (eqb_tells span.1 minute)
+-- else it is a span of its own
+pub with_stretch-new : (spans : List (ℕ × ℕ)) (from to : ℕ) (d : ℕ × ℕ) →
+    (0 < length spans → (slice_index_or spans (length spans - 1) d).1 ≢ from) →
+    with_stretch spans from to ≡ spans ++ (from, to) ∷ []
+with_stretch-new [] from to d ends = refl
+with_stretch-new (span ∷ []) from to d ends = by (eqb_tells span.1 from)
   where
-    by : ((nat_eq span.1 minute ≡ true) × (span.1 ≡ minute))
-        ⊎ ((nat_eq span.1 minute ≡ false) × (span.1 ≢ minute)) →
-        (if span.1 == minute then (span.0, minute + 1) ∷ [] else span ∷ one_minute minute ∷ [])
-        ≡ span ∷ one_minute minute ∷ []
+    by : ((nat_eq span.1 from ≡ true) × (span.1 ≡ from))
+        ⊎ ((nat_eq span.1 from ≡ false) × (span.1 ≢ from)) →
+        (if span.1 == from then (span.0, to) ∷ [] else span ∷ (from, to) ∷ [])
+        ≡ span ∷ (from, to) ∷ []
     by (inl e) = absurd (ends (omega arith) e.1)
     by (inr e) = rw e.0 refl
-with_minute-new (span ∷ next ∷ rest) minute d ends = ap (λ l. span ∷ l)
-    (with_minute-new (next ∷ rest) minute d (λ h. rw (same (length rest)) at (ends (omega arith))))
+with_stretch-new (span ∷ next ∷ rest) from to d ends = ap (λ l. span ∷ l)
+    (with_stretch-new (next ∷ rest) from to d
+    (λ h. rw (same (length rest)) at (ends (omega arith))))
   where
     same : (n : ℕ) → suc (suc n) - 1 ≡ suc (suc n - 1)
     same n = omega arith
+
+-- a minute is a stretch by itself
+pub with_minute-stretch : (spans : List (ℕ × ℕ)) (minute : ℕ)
+    → with_minute spans minute ≡ with_stretch spans minute (minute + 1)
+with_minute-stretch [] minute = refl
+with_minute-stretch (span ∷ []) minute = refl
+with_minute-stretch (span ∷ next ∷ rest) minute =
+    ap (λ l. span ∷ l) (with_minute-stretch (next ∷ rest) minute)
+
+-- a minute behind others
+with_minute-cons : (span : ℕ × ℕ) (spans : List (ℕ × ℕ)) (minute : ℕ) → 0 < length spans
+    → with_minute (span ∷ spans) minute ≡ span ∷ with_minute spans minute
+with_minute-cons span [] minute some = absurd (omega (arith, some))
+with_minute-cons span (next ∷ rest) minute some = refl
+
+stretch-some : (spans : List (ℕ × ℕ)) (from to : ℕ) → 0 < length (with_stretch spans from to)
+stretch-some [] from to = omega arith
+stretch-some (span ∷ []) from to = by (nat_eq span.1 from)
+  where
+    by : (b : _) → 0 < length (if b then (span.0, to) ∷ [] else span ∷ (from, to) ∷ [])
+    by true = omega arith
+    by false = omega arith
+stretch-some (span ∷ next ∷ rest) from to = omega arith
+
+ends-there : (from to : ℕ) → with_minute ((from, to) ∷ []) to ≡ (from, to + 1) ∷ []
+ends-there from to = by (eqb_tells to to)
+  where
+    by : ((nat_eq to to ≡ true) × (to ≡ to)) ⊎ ((nat_eq to to ≡ false) × (to ≢ to)) →
+        (if to == to then (from, to + 1) ∷ [] else (from, to) ∷ one_minute to ∷ [])
+        ≡ (from, to + 1) ∷ []
+    by (inl e) = rw e.0 refl
+    by (inr e) = absurd (e.1 refl)
+
+-- a stretch goes on by the minute at which it ends
+pub stretch-more : (spans : List (ℕ × ℕ)) (from to : ℕ)
+    → with_minute (with_stretch spans from to) to ≡ with_stretch spans from (to + 1)
+stretch-more [] from to = ends-there from to
+stretch-more (span ∷ []) from to = by (nat_eq span.1 from)
+  where
+    by : (b : _) → with_minute (if b then (span.0, to) ∷ [] else span ∷ (from, to) ∷ []) to
+        ≡ (if b then (span.0, to + 1) ∷ [] else span ∷ (from, to + 1) ∷ [])
+    by true = ends-there span.0 to
+    by false = ap (λ l. span ∷ l) (ends-there from to)
+stretch-more (span ∷ next ∷ rest) from to =
+    with_minute-cons span (with_stretch (next ∷ rest) from to) to
+    (stretch-some (next ∷ rest) from to)
+    ∙ ap (λ l. span ∷ l) (stretch-more (next ∷ rest) from to)
 
 -- all spans end at a minute or before it
 abbrev pub EndBy : ℕ → List (ℕ × ℕ) → Type 0

@@ -1,7 +1,8 @@
 //! A line that remembers the condition of an alert.
 ghost use Rattle.std.specs.Prelude.{◌≡◌, ℕ, Bool, true, ◌+◌, ◌-◌, ◌*◌, ◌^◌, [], IfSome, OnOk};
 ghost use Rattle.std.specs.Prelude.{is_none, ◌<◌, ◌≤◌, ◌==◌, ◌&&◌, nat_le, nat_lt, IfOk, IsTrue};
-ghost use Rattle.std.specs.Prelude.{is_some, None, Some, length, slice_index, if◌then◌else◌};
+ghost use Rattle.std.specs.Prelude.{is_some, None, Some, length, max, min, slice_index};
+ghost use Rattle.std.specs.Prelude.{if◌then◌else◌};
 ghost use Rattle.slo_limits.specs.declared.TheConstants.{WHOLE};
 ghost use Rattle.burn_core.specs.Alert.{IsRule, wait_of};
 ghost use Rattle.burn_core.specs.Timeline.{AreSpansOf, is_active, state_of};
@@ -14,7 +15,7 @@ ghost use Rattle.alert_line.specs.Line.{den_before, knowledge};
 
 use crate::cursor::Cursor;
 use crate::minutes::{alike_from, forget_in, keep, kept_at};
-use crate::spans::{Spans, note_minute};
+use crate::spans::{Spans, note_minute, note_stretch};
 use burn_core::{AlertRule, State};
 use exact_fraction::Decimal;
 use slo_limits::RANGE_MINUTES;
@@ -197,11 +198,23 @@ impl AlertLine {
         let mut spans = self.no_spans();
         let mut run = 0;
         let mut cursor = None;
-        for minute in start..to {
-            let holds = self.evaluate(minute, &mut cursor, sums, steps);
-            run = next_run(run, holds);
-            let active = is_active(wait, run, from, minute);
-            note_minute(&mut spans, minute, active)?;
+        let mut minute = start;
+        while minute < to {
+            let (known, held) = self.known_alike(minute, to);
+            let told = 0 < known;
+            if told {
+                let end = minute + known;
+                let first = first_active(wait, run, from, minute);
+                note_stretch(&mut spans, first, end, held)?;
+                run = run_over(run, known, held);
+                minute = end;
+            } else {
+                let holds = self.evaluate(minute, &mut cursor, sums, steps);
+                run = next_run(run, holds);
+                let active = is_active(wait, run, from, minute);
+                note_minute(&mut spans, minute, active)?;
+                minute += 1;
+            }
         }
         Ok(spans)
     }
@@ -472,6 +485,14 @@ fn is_active(wait: u32, run: u32, from: u32, minute: u32) -> bool
     ensures { result ≡ (nat_lt wait run && nat_le from minute) }
 {
     wait < run && from <= minute
+}
+
+/// The first minute of a range at which the condition will have held for long enough, if it holds
+/// from a minute on.
+fn first_active(wait: u32, run: u32, from: u32, minute: u32) -> u32
+    ensures { result ≡ max from (min (minute + (wait - run)) 4294967295) }
+{
+    from.max(minute.saturating_add(wait.saturating_sub(run)))
 }
 
 /// The condition holds at a minute, and held for long enough before it.

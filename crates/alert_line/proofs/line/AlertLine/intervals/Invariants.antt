@@ -10,6 +10,8 @@ use Rattle.alert_line.proofs.line.AlertLine.intervals.Given as goal
 
 abbrev pub invariant-loop-minute : goal.invariant-loop-minute
 invariant-loop-minute g l = record {
+  begun : l.start ≤ l.minute;
+  within : l.minute ≤ l.to;
   learnt : IsLearnt l.fn.self l.self l.sums l.start l.minute;
   alert : SameAlert l.fn.self l.self;
   behind : IfSome l.cursor
@@ -20,3 +22,6 @@ invariant-loop-minute g l = record {
   run : IsRun (condition_on l.fn.self l.sums) l.start l.minute l.run;
   steps : l.steps ≤ l.fn.steps + 2400 * unknown_in l.fn.self l.start (l.minute - l.start);
 }
+
+abbrev pub decreases-loop-minute : goal.decreases-loop-minute
+decreases-loop-minute g l = l.to - l.minute
