@@ -1,22 +1,11 @@
 -- Bytes that are alike, and what all their places keep.
 use Rattle.std.proofs.Common.{◌≡◌, ℕ, zero, suc, ◌+◌, ◌-◌, ◌*◌, ◌/◌, ◌%◌, ◌<◌, ◌≤◌, ◌==◌, Bool}
-use Rattle.std.proofs.Common.{true, false, cond, refl, arith, ap, sym, ◌∙◌, List, [], ◌∷◌, Some}
-use Rattle.std.proofs.Common.{drop, get_or, get_or-drop, get_or-take, length, slice_index, take}
+use Rattle.std.proofs.Common.{true, false, refl, arith, ap, sym, ◌∙◌, List, Some}
+use Rattle.std.proofs.Common.{drop, get_or, get_or-drop, get_or-take, slice_index, take}
 use Rattle.std.specs.List.{prefix_len}
 use Rattle.std.proofs.lemmas.Bool.Decides.{nat_tests}
+use Rattle.std.proofs.lemmas.List.Sums.{prefix_len_passes}
 use Rattle.alert_line.specs.Minutes.{bits_at, byte_of, kept_at, verdict_of}
-
--- those of the front that pass do so one by one
-passes : (p : ℕ → Bool) (xs : List ℕ) (k d : ℕ) → k < prefix_len p xs → p (get_or xs k d) ≡ true
-passes p [] k d h = absurd (omega (arith, h))
-passes p (x ∷ xs) k d h = by (p x) refl k h (λ j. passes p xs j d)
-  where
-    by : (b : Bool) → p x ≡ b → (k : ℕ) → k < cond b (1 + prefix_len p xs) 0
-        → ((j : ℕ) → j < prefix_len p xs → p (get_or xs j d) ≡ true)
-        → p (get_or (x ∷ xs) k d) ≡ true
-    by true e zero h rest = e
-    by true e (suc k) h rest = rest k (omega (arith, h))
-    by false e k h rest = absurd (omega (arith, h))
 
 same-number : (n m : ℕ) → (n == m) ≡ true → n ≡ m
 same-number n m h = grind (arith, nat_tests)
@@ -54,7 +43,7 @@ kept-alike bytes first end count slot holds is within low high =
 
     alike : get_or part k 0 ≡ byte_of holds
     alike = same-number (get_or part k 0) (byte_of holds)
-        (passes (λ other. other == byte_of holds) part k 0 (omega (arith, less, is)))
+        (prefix_len_passes (λ other. other == byte_of holds) part k 0 (omega (arith, less, is)))
 
     there : first + k ≡ slot / 4
     there = omega (arith, low)

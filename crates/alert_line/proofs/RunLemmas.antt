@@ -222,7 +222,7 @@ spans-over holds origin from minute run wait (suc count) first spans held below 
     ends so =
     let more : minute + suc count ≡ at + 1 = omega arith in
     let rest : EndBy at (stretched spans held first at)
-        × AreSpansOf (IsActive wait holds) from at (stretched spans held first at) =
+    × AreSpansOf (IsActive wait holds) from at (stretched spans held first at) =
     spans-over holds origin from minute run wait count first spans held below
     (λ u a b. all u a (omega (arith, b))) (λ u a b. tells u a (omega (arith, b))) low le is ends
     so in

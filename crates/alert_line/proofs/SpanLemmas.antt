@@ -1,7 +1,7 @@
 -- Spans that gain a minute at their end.
 use Rattle.std.proofs.Common.{◌≡◌, ◌≢◌, ◌⊎◌, ℕ, suc, ◌+◌, ◌-◌, ◌≤◌, ◌<◌, ◌==◌, nat_eq, ◌++◌, List}
 use Rattle.std.proofs.Common.{[], ◌∷◌, length, slice_index_or, slice_set, true, false, inl, inr}
-use Rattle.std.proofs.Common.{refl, arith, ap, sym, subst, if◌then◌else◌}
+use Rattle.std.proofs.Common.{refl, arith, ap, sym, subst, ◌∙◌, if◌then◌else◌}
 use Rattle.std.specs.Bool.{⊤}
 use Rattle.std.proofs.lemmas.Bool.Decides.{eqb_tells}
 use Rattle.alert_line.specs.Spans.{one_minute, with_minute, with_stretch}

@@ -94,6 +94,27 @@ returns-in_err-note_minute g c =
           (omega (arith, here, more));
     }
 
+pub returns-in_err-note_stretch : goal.returns-in_err-note_stretch
+returns-in_err-note_stretch g c =
+    let before = c.args.self.now in
+    let at = c.loop-minute.self in
+    let sums = c.args.sums.now in
+    let start = c.start-start.result in
+    let minute = c.loop-minute.minute in
+    let inv = c.loop-minute.invariant in
+    let more : unknown_in before start (minute - start) ≤ unknown_in before start
+    (c.args.to - start) = unknown-part before start minute c.args.to inv.within in
+    record {
+      value = search rules;
+      alert = inv.alert;
+      agrees = Agrees-after before at sums start minute inv.alert c.requires.agrees inv.learnt;
+      kept = kept-after before at sums start minute c.requires.agrees inv.learnt;
+      known = search rules;
+      steps = subst (λ s. c.loop-minute.steps ≤ c.args.steps.now
+          + 2400 * unknown_in before s (c.args.to - s)) c.start-start.ensures.value
+          (omega (arith, inv.steps, more));
+    }
+
 pub loop-minute-init : goal.loop-minute-init
 loop-minute-init g c =
     let before = c.args.self.now in
@@ -132,7 +153,7 @@ loop-minute-preserved-then-told g c =
     (λ u low high. known-condition before at sums u held inv.alert agrees
     (c.known_alike-known.ensures.known u low high)) in
     let first : c.first_active-first.result
-        ≡ max c.args.from (min (minute + (wait - c.loop-minute.run)) 4294967295) =
+    ≡ max c.args.from (min (minute + (wait - c.loop-minute.run)) 4294967295) =
     c.first_active-first.ensures
     ∙ ap (λ w. max c.args.from (min (minute + (w - c.loop-minute.run)) 4294967295))
     c.wait-wait.ensures.value in

@@ -51,7 +51,7 @@ loop-at-preserved-then-told g c =
       behind = behind-later before.rule (width_of sums.method) (leaf_at sums) minute
           (minute + known) c.loop-at.cursor (omega arith) inv.behind;
       run = subst (IsRun (condition_on before sums) start (minute + known))
-          (sym c.run_over.ensures)
+          (sym c.run_over-run.ensures)
           (IsRun-over (condition_on before sums) start minute c.loop-at.run known held some is
           inv.begun inv.run);
       steps = omega (
