@@ -1,4 +1,5 @@
 pub mod KeyLemmas
+mod CountLemmas
 mod AmongLemmas
 mod OneCatalog
 mod PutLemmas

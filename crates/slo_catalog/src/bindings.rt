@@ -1,7 +1,7 @@
 //! Bindings: the alerts that are kept.
-ghost use Rattle.std.specs.Prelude.{◌≡◌, ◌≤◌, ◌++◌, length, filter, Some, IfOk, OnOk};
+ghost use Rattle.std.specs.Prelude.{◌≡◌, ◌≤◌, ◌++◌, List, ℕ, length, filter, Some, IfOk, OnOk};
 ghost use Rattle.std.specs.Option.{option_copied};
-ghost use Rattle.slo_limits.specs.declared.TheConstants.{MAX_OBJECTIVES};
+ghost use Rattle.slo_limits.specs.declared.TheConstants.{MAX_BINDINGS, MAX_OBJECTIVES};
 ghost use Rattle.object_terms.specs.Slo.{slo_in as slo_in_def};
 ghost use Rattle.catalog_terms.specs.Bindings.{is_empty, policy_named as policy_named_def};
 ghost use Rattle.catalog_terms.specs.Bindings.{lists_condition as lists_condition_def};
@@ -153,8 +153,53 @@ pub(crate) fn bindings_of(alloc: Global, members: &Members) -> Result<Vec<Bindin
     Ok(bindings)
 }
 
+/// How many of the policies have a condition.
+fn count_with_condition(members: &Members, names: &[Label]) -> usize
+    ensures { result ≡ length (filter (has_condition_def members.now) names.now) }
+{
+    let mut count = 0;
+    for name in names {
+        if has_condition(members, name) {
+            count += 1;
+        }
+    }
+    count
+}
+
+/// How many bindings an SLO has, whatever its name.
+fn count_of_slo(members: &Members, slo: &Slo) -> u128
+    ensures { (name : List ℕ)
+        → result ≡ length (bindings_in members.now name (Some slo.now)) }
+{
+    let policies = count_with_condition(members, names_in(&slo.alert_policies));
+    objectives_of(slo).len() as u128 * policies as u128
+}
+
+/// How many bindings an object has, which has some where it is an SLO.
+fn count_of_object(members: &Members, object: &Object) -> u128
+    ensures { result ≡ length (bindings_in members.now object.now.name
+        (slo_in_def object.now.body)) }
+{
+    match slo_in(&object.body) {
+        Some(slo) => count_of_slo(members, slo),
+        None => 0,
+    }
+}
+
+/// How many bindings members have, which pass no limit.
+fn count_of_bindings(members: &Members) -> u64
+    requires few { length (bindings_def members.now) ≤ MAX_BINDINGS }
+    ensures { result ≡ length (bindings_def members.now) }
+{
+    let mut total: u128 = 0;
+    for member in members.as_slice() {
+        total += count_of_object(members, member.object());
+    }
+    total as u64
+}
+
 impl Catalog {
-    ghost use Rattle.std.specs.Prelude.{◌≡◌, IfOk};
+    ghost use Rattle.std.specs.Prelude.{◌≡◌, IfOk, length};
     ghost use Rattle.catalog_terms.specs.Bindings.{bindings as bindings_def};
 
     /// The bindings: by SLO, by the objective's number, and by the policy's place in the SLO.
@@ -166,5 +211,12 @@ impl Catalog {
         ensures { IfOk result (λ bindings. bindings.items ≡ bindings_def self.now) }
     {
         bindings_of(alloc, self.sorted())
+    }
+
+    /// How many bindings there are. Takes no memory.
+    pub fn count_of_bindings(&self) -> u64
+        ensures { result ≡ length (bindings_def self.now) }
+    {
+        count_of_bindings(self.sorted())
     }
 }

@@ -28,7 +28,8 @@ use std::alloc::{AllocError, Global};
 pub(crate) fn is_built_in(name: &Label) -> bool
     ensures { result ≡ is_built_in_def name.now }
 {
-    name.as_str() == "workbook-page" || name.as_str() == "workbook-ticket"
+    name.as_bytes() == b"workbook-page".as_slice()
+        || name.as_bytes() == b"workbook-ticket".as_slice()
 }
 
 /// The names of a list that may be omitted.
