@@ -79,7 +79,7 @@ fn answered(
         } => Ok(current_row(derived, sli, source, minute)),
         Query::Exclusions => exclusion_list(alloc, derived),
         Query::Zones => zone_list(alloc, derived),
-        Query::Status => status(alloc, derived, records, moment),
+        Query::Status => Ok(status(derived, records, moment)),
         Query::Sums {
             slo,
             objective,

@@ -1,6 +1,5 @@
 //! How full the office is.
-ghost use Rattle.std.specs.Prelude.{◌≡◌, IfOk, length};
-ghost use Rattle.catalog_terms.specs.Bindings.{bindings as bindings_def};
+ghost use Rattle.std.specs.Prelude.{◌≡◌};
 ghost use Rattle.record_form.specs.declared.Query.TheVariants as queries;
 ghost use Rattle.office_history.specs.History.{Office, tail_of as tail_of_def};
 ghost use Rattle.office_history.specs.Answers.{Answers};
@@ -18,7 +17,6 @@ use slo_limits::{
     MAX_BINDINGS, MAX_DAYS, MAX_EXCLUSIONS, MAX_JOURNAL_BYTES, MAX_NOTICES, MAX_OBJECTS, MAX_SLIS,
     MAX_SLOS, MAX_ZONES,
 };
-use std::alloc::{AllocError, Global};
 
 /// So many of so many.
 fn used(count: u64, limit: u64) -> Used
@@ -34,9 +32,8 @@ fn last_moment(entries: u32, present: u32) -> Option<u32>
     if entries == 0 { None } else { Some(present) }
 }
 
-/// How full the office is, by what is kept beside its history. The bindings are counted already.
-fn status_of(derived: &Derived, moment: u32, tail: u64, bindings: usize) -> OfficeStatus
-    requires bindings { bindings ≡ length (bindings_def derived.now.catalog) }
+/// How full the office is, by what is kept beside its history.
+fn status_of(derived: &Derived, moment: u32, tail: u64) -> OfficeStatus
     ensures { result ≡ fullness derived.now moment tail }
 {
     let catalog = &derived.catalog;
@@ -46,7 +43,7 @@ fn status_of(derived: &Derived, moment: u32, tail: u64, bindings: usize) -> Offi
             u64::from(row_limit(derived.upgraded)),
         ),
         at: moment,
-        bindings: used(bindings as u64, MAX_BINDINGS as u64),
+        bindings: used(catalog.count_of_bindings(), MAX_BINDINGS as u64),
         bytes: used(tail, MAX_JOURNAL_BYTES as u64),
         cells: used(
             u64::from(derived.book.cells()),
@@ -76,17 +73,11 @@ fn tail_of(records: &EntryRecords) -> u64
 }
 
 /// How full the office is at a moment. The records are those of its history. No row is looked at.
-pub(crate) fn status(
-    alloc: Global,
-    derived: &Derived,
-    records: &EntryRecords,
-    moment: u32,
-) -> Result<Outcome, AllocError>
+pub(crate) fn status(derived: &Derived, records: &EntryRecords, moment: u32) -> Outcome
     ensures { (o : Office) → Reflects derived.now o → records.now.history ≡ o.history
-        → IsLegal o.origin o.history → IfOk result (Answers o moment queries.Status) }
+        → IsLegal o.origin o.history → Answers o moment queries.Status result }
 {
-    let bindings = derived.catalog.bindings(alloc)?;
     let tail = tail_of(records);
-    let status = status_of(derived, moment, tail, bindings.len());
-    Ok(Outcome::Status(status))
+    let status = status_of(derived, moment, tail);
+    Outcome::Status(status)
 }
