@@ -9,7 +9,7 @@ use Rattle.record_form.specs.declared.Entry.{Entry}
 use Rattle.record_form.specs.Records.{record_of}
 use Rattle.record_form.specs.Ranges.{FitsRecord}
 use Rattle.office_history.specs.declared.Judgement.TheVariants as judgements
-use Rattle.office_history.specs.History.{Office}
+use Rattle.office_history.specs.History.{Office, with_entry}
 use Rattle.office_history.specs.Judges.{Judges}
 use Rattle.office_history.specs.Legal.{IsLegal}
 use Rattle.office_derived.specs.declared.Derived.{Derived}
@@ -78,6 +78,17 @@ IsVerdict o e (verdicts.Same outcome) pending =
 IsVerdict o e (verdicts.Refused refusal) pending =
     Judges o e.moment e.command (judgements.Refused refusal) × (pending ≡ None)
 IsVerdict o e verdicts.NoMemory pending = pending ≡ None
+
+-- What the taking in of an entry answers: its verdict over the history, unless memory ran out. An
+-- accepted one is added; after every other answer the office is as it was.
+abbrev pub IsAdded : Office → Entry → Verdict (Unit {0}) → Office → Type 0
+IsAdded o e (verdicts.Ready done) new =
+    Judges o e.moment e.command judgements.Accepted × (new ≡ with_entry o e)
+IsAdded o e (verdicts.Same outcome) new =
+    Judges o e.moment e.command (judgements.Same outcome) × (new ≡ o)
+IsAdded o e (verdicts.Refused refusal) new =
+    Judges o e.moment e.command (judgements.Refused refusal) × (new ≡ o)
+IsAdded o e verdicts.NoMemory new = new ≡ o
 
 -- the entry is the one for which room was made
 abbrev pub IsPending : Machine → Entry → Type 0

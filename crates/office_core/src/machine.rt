@@ -8,7 +8,7 @@ ghost use Rattle.record_form.specs.declared.Command.{Command};
 ghost use Rattle.record_form.specs.declared.Entry.{Entry};
 ghost use Rattle.record_form.specs.declared.Outcome.TheVariants.{NoMemory};
 ghost use Rattle.record_form.specs.Records.{record_of};
-ghost use Rattle.record_form.specs.Ranges.{FitsRecord, IsEntryInRange};
+ghost use Rattle.record_form.specs.Ranges.{FitsRecord, IsEntryInRange, IsRecord};
 ghost use Rattle.office_history.specs.Alerts.{watched as watched_def};
 ghost use Rattle.office_history.specs.Answers.{Answers};
 ghost use Rattle.office_history.specs.Catalog.{catalog_in};
@@ -28,8 +28,8 @@ ghost use Rattle.kept_lines.specs.Lines.{HasLines};
 ghost use Rattle.notice_changes.specs.Works.{TellsFew};
 ghost use Rattle.office_core.specs.Forgetting.{ForgetsOnlyNear};
 ghost use Rattle.office_core.specs.Lent.{CountTheSame, LendsLine, LendsSums};
-ghost use Rattle.office_core.specs.Machine.{HasLinesPlan, HasRevisions, IsPending, MachineIsKept};
-ghost use Rattle.office_core.specs.Machine.{IsVerdict, office_of, pending_of};
+ghost use Rattle.office_core.specs.Machine.{HasLinesPlan, HasRevisions, IsAdded, IsPending};
+ghost use Rattle.office_core.specs.Machine.{IsVerdict, MachineIsKept, office_of, pending_of};
 ghost use Rattle.office_core.specs.declared.machine.Pending.{Pending};
 
 use crate::commands::{apply, judge, make_room};
@@ -283,6 +283,35 @@ impl Core {
         apply(&mut self.derived, &mut self.lines, moment, work, plan)
     }
 
+    /// Judges a command by the record of its entry, and adds the entry where it is accepted: what
+    /// `prepare` and `commit` come to, with no record made anew. Nothing is pending then.
+    pub fn take_in(
+        &mut self,
+        alloc: Global,
+        moment: u32,
+        command: &Command,
+        piece: &[u8],
+    ) -> Verdict<()>
+        requires later { present self.old.office ≤ moment }
+        requires in_range { moment < end_of self.old.office.origin }
+        requires piece { IsRecord piece.now
+            (record { moment = moment; command = command.now }) }
+        ensures added { IsAdded self.old.office
+            (record { moment = moment; command = command.now }) result self.new.office }
+        ensures pending { self.new.pending ≡ None }
+    {
+        forget_pending(&mut self.pending);
+        judge_and_add(
+            alloc,
+            &mut self.records,
+            &mut self.derived,
+            &mut self.lines,
+            moment,
+            command,
+            piece,
+        )
+    }
+
     /// Answers a query at a moment. The history, what is pending and the sums stay, and no line
     /// forgets a minute. The minutes of a timeline that is given are known then.
     pub fn answer(&mut self, alloc: Global, moment: u32, query: &Query) -> Outcome
@@ -433,9 +462,81 @@ fn make_ready(
     ensures plan { IfOk result (λ made. HasLinesPlan derived.old lines.new work.now made.1) }
     ensures lines { lines.new.kept ≡ lines.old.kept }
 {
+    let bytes = write_command(alloc, moment, command)?.into_vec();
+    let plan = make_room_for(alloc, records, derived, lines, bytes.len(), work)?;
+    Ok((bytes, plan))
+}
+
+/// Makes room for an entry whose record has so many bytes, and gives what it makes of the lines.
+fn make_room_for(
+    alloc: Global,
+    records: &mut EntryRecords,
+    derived: &mut Derived,
+    lines: &mut KeptLines,
+    bytes: usize,
+    work: &Work,
+) -> Result<Option<LinesPlan>, AllocError>
+    requires few { TellsFew work.now }
+    requires lines { HasLines derived.old lines.old.kept }
+    ensures stays { Stays derived.old derived.new }
+    ensures records { records.new.history ≡ records.old.history }
+    ensures room { OnOk result (HasRoom derived.new work.now) }
+    ensures spare { OnOk result (bytes ≤ records.new.spare) }
+    ensures places { OnOk result (1 ≤ records.new.places) }
+    ensures plan { IfOk result (λ plan. HasLinesPlan derived.old lines.new work.now plan) }
+    ensures lines { lines.new.kept ≡ lines.old.kept }
+{
     let plan = plan_of(alloc, derived, lines, work)?;
     make_room(derived, work)?;
-    let bytes = write_command(alloc, moment, command)?.into_vec();
-    records.reserve(bytes.len())?;
-    Ok((bytes, plan))
+    records.reserve(bytes)?;
+    Ok(plan)
+}
+
+/// No entry is pending any more.
+fn forget_pending(pending: &mut Option<Pending>)
+    ensures { pending.new ≡ None }
+{
+    if pending.is_some() {
+        *pending = None;
+    }
+}
+
+/// What becomes of a command, whose entry is added by its record where it is accepted.
+fn judge_and_add(
+    alloc: Global,
+    records: &mut EntryRecords,
+    derived: &mut Derived,
+    lines: &mut KeptLines,
+    moment: u32,
+    command: &Command,
+    piece: &[u8],
+) -> Verdict<()>
+    requires kept { (spare : ℕ) × (places : ℕ)
+        × MachineIsKept derived.old lines.old records.old.history spare places None }
+    requires later { present (office_of derived.old records.old.history) ≤ moment }
+    requires in_range { moment < end_of derived.old.origin }
+    requires piece { IsRecord piece.now (record { moment = moment; command = command.now }) }
+    ensures kept { MachineIsKept derived.new lines.new records.new.history records.new.spare
+        records.new.places None }
+    ensures added { IsAdded (office_of derived.old records.old.history)
+        (record { moment = moment; command = command.now }) result
+        (office_of derived.new records.new.history) }
+{
+    notice_changes::laws::an_accepted_tick_tells_few();
+    match judge(alloc, derived, lines, moment, command) {
+        Verdict::Same(outcome) => Verdict::Same(outcome),
+        Verdict::Refused(refusal) => Verdict::Refused(refusal),
+        Verdict::NoMemory => Verdict::NoMemory,
+        Verdict::Ready(work) => {
+            match make_room_for(alloc, records, derived, lines, piece.len(), &work) {
+                Ok(plan) => {
+                    records.push(piece);
+                    let outcome = apply(derived, lines, moment, work, plan);
+                    drop(outcome);
+                    Verdict::Ready(())
+                }
+                Err(_) => Verdict::NoMemory,
+            }
+        }
+    }
 }
