@@ -33,7 +33,7 @@ pub enum Adopted {
 
 /// Judges an entry at its moment, and makes room for it where it may follow; none exactly where it
 /// may not.
-pub(crate) fn judge_entry(
+fn judge_entry(
     alloc: Global,
     core: &mut Core,
     entry: &Entry,

@@ -13,9 +13,9 @@ ghost use Rattle.office_keep.specs.declared.fault.KeepFault.TheVariants.{Already
 ghost use Rattle.office_keep.specs.declared.fault.KeepFault.TheVariants.{DiskFault, NotAJournal};
 ghost use Rattle.slo_limits.specs.declared.TheConstants.{MAX_JOURNAL_BYTES};
 
-use crate::KeepFault;
-use crate::adopting::judge_entry;
+use crate::{KeepFault, laws};
 use office_core::Core;
+use office_derived::Verdict;
 use office_outside::Disk;
 use record_form::read_record;
 use slo_journal::{Scan, ScanFault};
@@ -29,18 +29,27 @@ fn take_in(alloc: Global, core: &mut Core, bytes: &[u8]) -> Result<bool, AllocEr
     ensures refused { result ≡ Ok false
         → (e : Entry) → IsRecord bytes.now e → MayFollow core.old.office e → ⊥ }
 {
+    laws::one_judgement();
     let Some(entry) = read_record(alloc, bytes)? else {
         return Ok(false);
     };
-    let judged = judge_entry(alloc, core, &entry);
+    if core.moment(entry.moment) != entry.moment || !core.in_range(entry.moment) {
+        drop(entry);
+        return Ok(false);
+    }
+    let verdict = core.take_in(alloc, entry.moment, &entry.command, bytes);
     drop(entry);
-    match judged {
-        Ok(Some(value)) => {
-            core.commit(value);
-            Ok(true)
+    match verdict {
+        Verdict::Ready(_) => Ok(true),
+        Verdict::Same(outcome) => {
+            drop(outcome);
+            Ok(false)
         }
-        Ok(None) => Ok(false),
-        Err(AllocError) => Err(AllocError),
+        Verdict::Refused(refusal) => {
+            drop(refusal);
+            Ok(false)
+        }
+        Verdict::NoMemory => Err(AllocError),
     }
 }
 
