@@ -92,17 +92,15 @@ text_over d o moment text r j h =
 plan_over : (d : Derived) (o : Office) → Reflects d o → (catalog : List Object) (plan : SumsPlan) →
     IsPlanOver d catalog plan → HasPlan o catalog plan
 plan_over d o r catalog plan h =
-    subst (λ (p : List Object × List (Exclusion × Bool) × List Row).
-    IsPlan p.0 catalog p.1 p.2 plan)
-    (λ i. (r.catalog i, r.exclusions i, r.rows i)) h
+    subst (λ (p : List (Exclusion × Bool) × List Row). IsPlan catalog p.0 p.1 plan)
+    (λ i. (r.exclusions i, r.rows i)) h
 
 -- a plan over the history is one over what is kept
 plan_here : (d : Derived) (o : Office) → Reflects d o → (catalog : List Object) (plan : SumsPlan) →
     HasPlan o catalog plan → IsPlanOver d catalog plan
 plan_here d o r catalog plan h =
-    subst (λ (p : List Object × List (Exclusion × Bool) × List Row).
-    IsPlan p.0 catalog p.1 p.2 plan)
-    (λ i. (sym r.catalog i, sym r.exclusions i, sym r.rows i)) h
+    subst (λ (p : List (Exclusion × Bool) × List Row). IsPlan catalog p.0 p.1 plan)
+    (λ i. (sym r.exclusions i, sym r.rows i)) h
 
 pub text_found : (d : Derived) (o : Office) (moment : ℕ) (text : List ℕ) → Reflects d o →
     (w : Work) → IsTextWork d text w → (command_of w ≡ Define text) × IsFound o moment w
@@ -274,7 +272,7 @@ pub sound_with : (d d' : Derived) → IsSound d → d.entries < most.MAX_ENTRIES
     d'.origin ≡ d.origin → d'.entries ≡ d.entries + 1 → d'.book.rows ≡ d.book.rows →
     d'.accepted ≡ d.accepted → d'.upgraded ≡ d.upgraded → d'.notices.made ≡ d.notices.made →
     All (RowIsRead d'.catalog) d.book.rows →
-    KeepsSums d'.catalog d'.book.exclusions d'.book.rows d'.sums.kept → IsSound d'
+    KeepsSums d'.catalog d'.book.exclusions d'.book.rows d'.sums → IsSound d'
 sound_with d d' s few origin entries rows puts upgraded notices read sums = record {
   origin = subst (λ n. n ≤ most.MAX_MINUTE) (sym origin) s.origin;
   entries = omega (arith, entries, few);
@@ -358,7 +356,7 @@ texts_read law d text (Err e) s h = tt
 pub define_sound : TextsHaveKinds → (d : Derived) (o : Office) (m : ℕ) (text : List ℕ)
     (catalog : List Object) (applied : ℕ) (plan : SumsPlan) (sums : KeptObjectives) → IsSound d →
     IsNext d o m (works.Define text catalog applied plan) →
-    (IsPlanOver d catalog plan → KeepsSums catalog d.book.exclusions d.book.rows sums.kept) →
+    (IsPlanOver d catalog plan → KeepsSums catalog d.book.exclusions d.book.rows sums) →
     IsSound (with_catalog d m catalog sums)
 define_sound law d o m text catalog applied plan sums s n keeps =
     let r = n.reflects in
@@ -431,7 +429,7 @@ left_read d kind name catalog j s left verdict is =
 pub remove_sound : (d : Derived) (o : Office) (m : ℕ) (kind : Kind) (name : List ℕ)
     (catalog : List Object) (plan : SumsPlan) (sums : KeptObjectives) → IsSound d →
     IsNext d o m (works.Remove kind name catalog plan) →
-    (IsPlanOver d catalog plan → KeepsSums catalog d.book.exclusions d.book.rows sums.kept) →
+    (IsPlanOver d catalog plan → KeepsSums catalog d.book.exclusions d.book.rows sums) →
     IsSound (with_catalog d m catalog sums)
 remove_sound d o m kind name catalog plan sums s n keeps =
     let r = n.reflects in

@@ -3,6 +3,6 @@ pub mod DefineLemmas
 pub mod KindLemmas
 pub mod LegalLemmas
 pub mod PlanLemmas
+pub mod PlanningLemmas
 pub mod ReadingLemmas
-mod SumsPlanLemmas
-mod WantedLemmas
+pub mod WantedLemmas

@@ -37,7 +37,7 @@ IsJudgedBy IsJudgement IsWork judged.NoMemory = Unit {0}
 
 -- the plan is what becomes of the kept sums as this catalog takes the place of the one that is kept
 abbrev pub IsPlanOver : Derived → List Object → SumsPlan → Type 0
-IsPlanOver d catalog plan = IsPlan d.catalog catalog d.book.exclusions d.book.rows plan
+IsPlanOver d catalog plan = IsPlan catalog d.book.exclusions d.book.rows plan
 
 -- the work of a text: its objects, each put in its place among the members, with a plan of the sums
 abbrev pub IsTextWork : Derived → List ℕ → Work → Type 0

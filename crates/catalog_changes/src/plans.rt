@@ -9,7 +9,8 @@ use kept_sums::SumsPlan;
 use office_derived::Derived;
 use std::alloc::AllocError;
 
-/// Makes room for the sums of a plan. After an error all is as before.
+/// Makes room for the sums of a plan, all of which are kept or come with it. After an error all is
+/// as before.
 ///
 /// # Errors
 ///
@@ -21,5 +22,5 @@ pub fn room_for_plan(derived: &mut Derived, plan: &SumsPlan) -> Result<(), Alloc
         OnOk result (HasRoom derived.new (works.Remove kind name catalog plan.now)) }
     ensures stays { Stays derived.old derived.new }
 {
-    derived.sums.reserve(plan.made.len())
+    derived.sums.make_ready(plan)
 }

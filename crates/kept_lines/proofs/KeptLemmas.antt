@@ -1,37 +1,30 @@
 -- The sums that are found among those that are kept.
-use Rattle.std.proofs.Common.{◌≡◌, ◌≢◌, ℕ}
-use Rattle.std.specs.List.{AllByRecursion, Contains}
-use Rattle.std.proofs.lemmas.List.Elements.{All-contains, All-from_recursion}
+use Rattle.std.proofs.Common.{◌≡◌, ℕ}
 use Rattle.slice_method.specs.Leaves.{leaf}
 use Rattle.window_sums.specs.Slices.{CountedDays, counts_of}
 use Rattle.office_history.specs.declared.Measure.{Measure}
 use Rattle.office_history.specs.Counts.{Samples, slice_counts}
 use Rattle.kept_sums.specs.Sums.{SumsAreKept}
-use Rattle.kept_sums.specs.declared.ObjectiveSums.{ObjectiveSums}
+use Rattle.kept_sums.specs.Found.{HasNoOwn, HasNoPooled, IsTold}
 use Rattle.kept_sums.specs.Objectives.{IsObjective}
-use Rattle.kept_sums.proofs.KeyLemmas.{never_there}
+use Rattle.kept_sums.proofs.SharedLemmas.{not-without, told-kept}
 use Rattle.office_derived.specs.declared.Derived.{Derived}
 use Rattle.office_derived.specs.Derived.{IsSound}
 use Rattle.kept_lines.specs.Sums.{AreSums}
 
-abbrev entry : Measure → CountedDays → ObjectiveSums
-entry m sums = record { measure = m; sums = sums }
-
--- sums that are kept of an objective are those of its rows
+-- the sums of an objective of the catalog are those of its rows
 pub kept_there : (d : Derived) (m : Measure) (sums : CountedDays) → IsSound d →
-    Contains d.sums.kept (entry m sums) → SumsAreKept m d.book.exclusions d.book.rows sums
-kept_there d m sums s there =
-    All-contains (λ (k : ObjectiveSums). SumsAreKept k.measure d.book.exclusions d.book.rows k.sums)
-    d.sums.kept (entry m sums)
-    (All-from_recursion
-    (λ (k : ObjectiveSums). SumsAreKept k.measure d.book.exclusions d.book.rows k.sums)
-    d.sums.kept s.sums.sums) there
+    IsObjective d.catalog m → IsTold d.sums m sums →
+    SumsAreKept m d.book.exclusions d.book.rows sums
+kept_there d m sums s is told =
+    told-kept d.book.exclusions d.book.rows d.sums m sums s.sums.own s.sums.pooled
+    (s.sums.all m is) told
 
--- an objective of the catalog has sums that are kept
+-- and it has some
 pub never_lacking : (d : Derived) (m : Measure) → IsSound d → IsObjective d.catalog m →
-    AllByRecursion (λ (k : ObjectiveSums). k.measure ≢ m) d.sums.kept → ⊥
-never_lacking d m s is others =
-    never_there (λ (k : ObjectiveSums). k.measure) d.sums.kept m others (s.sums.all m is)
+    HasNoOwn d.sums m → HasNoPooled d.sums m → ⊥
+never_lacking d m s is own pool =
+    not-without d.book.exclusions d.sums m (s.sums.all m is) own pool
 
 -- and they are its sums, where each slice counts what its minutes do
 pub are_sums : (s : Samples) (m : Measure) (sums : CountedDays) →

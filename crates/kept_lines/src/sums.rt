@@ -1,10 +1,11 @@
 //! The sums of an objective, which the machine keeps.
 ghost use Rattle.std.specs.Prelude.{◌≡◌, ℕ};
-ghost use Rattle.std.specs.List.{Contains};
 ghost use Rattle.window_sums.specs.Slices.{counts_of};
 ghost use Rattle.office_history.specs.Counts.{slice_counts};
 ghost use Rattle.office_derived.specs.Derived.{IsSound};
+ghost use Rattle.kept_sums.specs.Found.{IsTold};
 ghost use Rattle.kept_sums.specs.Objectives.{IsObjective};
+ghost use Rattle.kept_sums.specs.Sums.{SumsAreKept};
 ghost use Rattle.kept_lines.specs.Sums.{AreSums, samples_of};
 
 use kept_sums::laws;
@@ -20,8 +21,9 @@ pub fn objective_sums<'a>(derived: &'a Derived, measure: &Measure) -> &'a Window
     ensures sums { AreSums (samples_of derived.now.book) measure.now result.now }
     ensures counts { (slice : ℕ) → counts_of result.now slice
         ≡ slice_counts (samples_of derived.now.book) measure.now slice }
-    ensures kept { Contains derived.now.sums.kept
-        (record { measure = measure.now; sums = result.now }) }
+    ensures kept { SumsAreKept measure.now derived.now.book.exclusions derived.now.book.rows
+        result.now }
+    ensures told { IsTold derived.now.sums measure.now result.now }
 {
     objective_sums_at(derived, measure, 0)
 }
@@ -37,8 +39,9 @@ pub(crate) fn objective_sums_at<'a>(
     ensures sums { AreSums (samples_of derived.now.book) measure.now result.now }
     ensures counts { (slice : ℕ) → counts_of result.now slice
         ≡ slice_counts (samples_of derived.now.book) measure.now slice }
-    ensures kept { Contains derived.now.sums.kept
-        (record { measure = measure.now; sums = result.now }) }
+    ensures kept { SumsAreKept measure.now derived.now.book.exclusions derived.now.book.rows
+        result.now }
+    ensures told { IsTold derived.now.sums measure.now result.now }
 {
     laws::kept_counts_are_those_of_the_minutes();
     match derived.sums.find_at(measure, place) {

@@ -3,14 +3,17 @@ pub mod DaysLemmas
 pub mod FollowLemmas
 pub mod FollowNeeds
 pub mod KeyLemmas
+pub mod KeyTests
 pub mod ListLemmas
 pub mod Loops
 pub mod MakeLemmas
 pub mod MinuteLemmas
 pub mod ObjectiveLemmas
 pub mod RangeLemmas
+pub mod ReadyLemmas
 pub mod ReplaceLemmas
 pub mod RowLemmas
 pub mod ShareLemmas
+pub mod SharedLemmas
 pub mod TakeLemmas
 pub mod WalkLemmas

@@ -1,5 +1,6 @@
 -- Facts of all items, of one and of those around it.
-use Rattle.std.proofs.Common.{◌≡◌, ℕ, zero, suc, ◌<◌, refl, ap, sym, subst, ◌∙◌, arith, List, []}
+use Rattle.std.proofs.Common.{◌≡◌, ℕ, zero, suc, ◌+◌, ◌<◌, refl, ap, sym, subst, ◌∙◌, arith, List}
+use Rattle.std.proofs.Common.{[]}
 use Rattle.std.proofs.Common.{◌∷◌, ◌++◌, take, drop, length, slice_get, slice_index_or, Some}
 use Rattle.std.specs.List.{AllByRecursion}
 
@@ -71,6 +72,16 @@ pub get_index : {A : Type 0} (xs : List A) (n : ℕ) (x : A) → n < length xs
 get_index [] n x less e = none_below less
 get_index (y ∷ ys) zero x less e = ap Some (sym e)
 get_index (y ∷ ys) (suc n) x less e = get_index ys n x (omega (arith, less)) e
+
+-- what holds of the first ones, and of one more, holds of one more of the first ones
+pub one_more : {A : Type 0} (P Q : A → Type 0) (xs : List A) (n : ℕ) (x : A)
+    → slice_get xs n ≡ Some x → ((y : A) → P y → Q y) → AllByRecursion P (take n xs) → Q x
+    → AllByRecursion Q (take (n + 1) xs)
+one_more P Q xs n x e still so_far has =
+    let next : suc n ≡ n + 1 = omega arith in
+    subst (λ (k : ℕ). AllByRecursion Q (take k xs)) next
+    (subst (AllByRecursion Q) (sym (take_at xs n x e))
+    (all_push Q (take n xs) x (all_map P Q still (take n xs) so_far) has))
 
 -- a place below the length has an item
 pub item_there : {A : Type 0} (xs : List A) (n : ℕ) → n < length xs

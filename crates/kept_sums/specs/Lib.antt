@@ -1,3 +1,5 @@
+pub mod Found
+pub mod Keys
 pub mod Objectives
 pub mod Plans
 pub mod Replacing

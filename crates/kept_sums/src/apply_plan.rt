@@ -1,50 +1,60 @@
 //! The sums that a plan wants, kept, and those that it brings, taken.
-ghost use Rattle.std.specs.Prelude.{◌⊎◌, ◌≤◌, Bool, List, length};
-ghost use Rattle.std.specs.Bool.{Decides};
+ghost use Rattle.std.specs.Prelude.{◌⊎◌, ◌-◌, ◌≤◌, Bool, List, false, length, true};
+ghost use Rattle.std.specs.Prelude.{vec_capacity, vec_len};
 ghost use Rattle.std.specs.List.{AllByRecursion, Contains};
 ghost use Rattle.sample_book.specs.declared.Exclusion.{Exclusion};
 ghost use Rattle.sample_book.specs.declared.Row.{Row};
 ghost use Rattle.office_history.specs.declared.Measure.{Measure};
-ghost use Rattle.kept_sums.specs.Objectives.{AreKept, measures_of};
+ghost use Rattle.kept_sums.specs.Objectives.{AreKept, key_by, keys_by};
+ghost use Rattle.kept_sums.specs.Plans.{IsReady, wanted_keys};
 ghost use Rattle.kept_sums.specs.declared.kept.ObjectiveSums.{ObjectiveSums};
 
-use crate::kept::KeptSums;
-use crate::plan::SumsPlan;
-use crate::same::is_same_measure;
-use office_history::Measure;
+use crate::kept::{KeptSums, ObjectiveSums, name_by};
+use crate::plan::{ListPlan, SumsPlan, is_wanted};
 
-/// Whether an objective is among those that are wanted.
-fn is_wanted(wanted: &[Measure], measure: &Measure) -> bool
-    ensures { Decides result (Contains wanted.now measure.now) }
+/// Keeps what a plan wants of the sums that were there and of those that it brings, with no memory.
+/// What is kept then stands in the order of the names in which it is looked for.
+fn take_list(objectives: &mut Vec<ObjectiveSums>, pool: bool, plan: ListPlan)
+    requires room { length plan.made.items
+        ≤ vec_capacity objectives.old - vec_len objectives.old }
+    ensures sums { (made : List (Exclusion × Bool)) (rows : List Row)
+        → AreKept made rows objectives.old.items → AreKept made rows plan.made.items
+        → AreKept made rows objectives.new.items }
+    ensures wanted { AllByRecursion (λ (kept : ObjectiveSums).
+        Contains (wanted_keys pool plan) (key_by pool kept.measure)) objectives.new.items }
+    ensures there { (key : Measure) → Contains (wanted_keys pool plan) key
+        → Contains (keys_by pool objectives.old.items) key
+        ⊎ Contains (keys_by pool plan.made.items) key
+        → Contains (keys_by pool objectives.new.items) key }
 {
-    for other in wanted {
-        if is_same_measure(other, measure) {
-            return true;
-        }
-    }
-    false
+    let ListPlan { wanted, mut made } = plan;
+    objectives.append(&mut made).unwrap();
+    objectives.retain(|kept| is_wanted(&wanted, pool, &kept.measure));
+    objectives.sort_unstable_by_key(|kept| name_by(pool, &kept.measure));
 }
 
 impl KeptSums {
     /// Keeps what a plan wants of the sums that were there and of those that it brings. There is
-    /// room for these, and no memory is taken. What is kept then stands in the order of the SLOs'
-    /// names, in which `find` looks for it.
+    /// room for these, and no memory is taken.
     pub fn take(&mut self, plan: SumsPlan)
-        requires room { length plan.made.items ≤ self.old.spare }
-        ensures sums { (made : List (Exclusion × Bool)) (rows : List Row)
-            → AreKept made rows self.old.kept → AreKept made rows plan.made.items
-            → AreKept made rows self.new.kept }
-        ensures wanted { AllByRecursion
-            (λ (kept : ObjectiveSums). Contains plan.wanted.items kept.measure) self.new.kept }
-        ensures there { (m : Measure) → Contains plan.wanted.items m
-            → Contains (measures_of self.old.kept) m ⊎ Contains (measures_of plan.made.items) m
-            → Contains (measures_of self.new.kept) m }
+        requires ready { IsReady self.old plan }
+        ensures own { (made : List (Exclusion × Bool)) (rows : List Row)
+            → AreKept made rows self.old.own → AreKept made rows plan.own.made.items
+            → AreKept made rows self.new.own }
+        ensures pooled { (made : List (Exclusion × Bool)) (rows : List Row)
+            → AreKept made rows self.old.pooled → AreKept made rows plan.pooled.made.items
+            → AreKept made rows self.new.pooled }
+        ensures own_wanted { AllByRecursion (λ (kept : ObjectiveSums).
+            Contains (wanted_keys false plan.own) (key_by false kept.measure)) self.new.own }
+        ensures pooled_wanted { AllByRecursion (λ (kept : ObjectiveSums).
+            Contains (wanted_keys true plan.pooled) (key_by true kept.measure)) self.new.pooled }
+        ensures own_there { (key : Measure) → Contains (wanted_keys false plan.own) key
+            → Contains (keys_by false self.new.own) key }
+        ensures pooled_there { (key : Measure) → Contains (wanted_keys true plan.pooled) key
+            → Contains (keys_by true self.new.pooled) key }
     {
-        let SumsPlan { wanted, mut made } = plan;
-        self.objectives.append(&mut made).unwrap();
-        self.objectives
-            .retain(|kept| is_wanted(&wanted, &kept.measure));
-        self.objectives
-            .sort_unstable_by_key(|kept| kept.measure.slo);
+        let SumsPlan { own, pooled } = plan;
+        take_list(&mut self.own, false, own);
+        take_list(&mut self.pooled, true, pooled);
     }
 }

@@ -8,6 +8,7 @@ ghost use Rattle.sample_book.specs.declared.Row.{Row};
 ghost use Rattle.sample_book.specs.Puts.{verdicts as verdicts_def};
 ghost use Rattle.sample_book.specs.Rows.{current_rows};
 ghost use Rattle.window_sums.specs.Slices.{counts_of, has_day, slice_of};
+ghost use Rattle.kept_sums.specs.Objectives.{made_for};
 ghost use Rattle.kept_sums.specs.Replacing.{HasMoved, MayFollow};
 ghost use Rattle.kept_sums.specs.Replacing.{changes_counts as changes_counts_def};
 ghost use Rattle.kept_sums.specs.Sums.{RowFits, HasItsDay, SumsAreKept};
@@ -24,15 +25,17 @@ use window_sums::WindowSums;
 fn follow_row(
     sums: &mut WindowSums,
     measure: &Measure,
+    pool: bool,
     book: &SampleBook,
     row: &Row,
     verdict: &RowVerdict,
     hint: &mut ExclusionHint,
 )
-    requires may { (came : List Row) × MayFollow measure.now book.now.exclusions row.now verdict.now
-        sums.old came }
-    ensures kept { (came : List Row) → MayFollow measure.now book.now.exclusions row.now verdict.now
-        sums.old came → SumsAreKept measure.now book.now.exclusions
+    requires may { (came : List Row) × MayFollow measure.now (made_for pool book.now.exclusions)
+        row.now verdict.now sums.old came }
+    ensures kept { (came : List Row) → MayFollow measure.now (made_for pool book.now.exclusions)
+        row.now verdict.now sums.old came
+        → SumsAreKept measure.now (made_for pool book.now.exclusions)
         (current_rows (came ++ row.now ∷ []))
         sums.new }
     ensures days { (day : ℕ) → has_day sums.new day ≡ has_day sums.old day }
@@ -43,27 +46,30 @@ fn follow_row(
     if !changes_counts(measure, row, verdict) {
         return;
     }
-    let old = replaced_counts(measure, book, verdict, hint);
-    let new = counts_near(measure, book, row, hint);
+    let old = replaced_counts(measure, pool, book, verdict, hint);
+    let new = counts_near(measure, pool, book, row, hint);
     exchange(sums, row.minute, old, new);
 }
 
 /// The sums of an objective follow the rows of a batch, each of which becomes this over those
-/// before it. The book doesn't have them yet. No memory is taken.
+/// before it. The book doesn't have them yet. From sums that are pooled nothing is excluded. No
+/// memory is taken.
 pub(crate) fn count_batch(
     sums: &mut WindowSums,
     measure: &Measure,
+    pool: bool,
     book: &SampleBook,
     rows: &[Row],
     verdicts: &[RowVerdict],
 )
-    requires kept { SumsAreKept measure.now book.now.exclusions book.now.rows sums.old }
+    requires kept { SumsAreKept measure.now (made_for pool book.now.exclusions) book.now.rows
+        sums.old }
     requires verdicts { verdicts.now ≡ verdicts_def book.now.rows rows.now }
     requires forms { AllByRecursion (RowFits measure.now) book.now.rows }
     requires fit { AllByRecursion (RowFits measure.now) rows.now }
     requires days { AllByRecursion (HasItsDay measure.now sums.old) rows.now }
     requires few { length (current_rows (book.now.rows ++ rows.now)) ≤ MAX_SUMMED_ROWS }
-    ensures kept { SumsAreKept measure.now book.now.exclusions
+    ensures kept { SumsAreKept measure.now (made_for pool book.now.exclusions)
         (current_rows (book.now.rows ++ rows.now))
         sums.new }
     ensures days { (day : ℕ) → has_day sums.new day ≡ has_day sums.old day }
@@ -74,7 +80,7 @@ pub(crate) fn count_batch(
     book.rows_are_current();
     let mut hint = ExclusionHint::new();
     for (place, row) in rows.iter().enumerate() {
-        follow_row(sums, measure, book, row, &verdicts[place], &mut hint);
+        follow_row(sums, measure, pool, book, row, &verdicts[place], &mut hint);
     }
 }
 

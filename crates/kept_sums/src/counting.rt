@@ -3,6 +3,7 @@ ghost use Rattle.std.specs.Prelude.{◌≡◌, ◌<◌, Some, length, slice_get,
 ghost use Rattle.sample_book.specs.Counting.{is_of};
 ghost use Rattle.sample_book.specs.Exclusions.{excludes};
 ghost use Rattle.sample_book.specs.History.{is_put as is_put_def};
+ghost use Rattle.kept_sums.specs.Objectives.{made_for};
 ghost use Rattle.kept_sums.specs.Replacing.{FitsReplaced, changes_counts as changes_counts_def};
 ghost use Rattle.kept_sums.specs.Replacing.{replaced_counts as replaced_counts_def};
 ghost use Rattle.kept_sums.specs.Sums.{RowFits, row_counts as row_counts_def};
@@ -28,17 +29,22 @@ pub fn row_at(book: &SampleBook, place: u32) -> Row
 }
 
 /// What a row of the objective's indicator counts for in it, in a walk over rows: whether its
-/// minute is excluded is looked for first where the look before ended.
+/// minute is excluded is looked for first where the look before ended. From sums that are pooled
+/// nothing is excluded.
 pub(crate) fn own_counts(
     measure: &Measure,
+    pool: bool,
     book: &SampleBook,
     row: &Row,
     hint: &mut ExclusionHint,
 ) -> Counts
     requires own { is_of measure.now.sli row.now ≡ true }
     requires fits { RowFits measure.now row.now }
-    ensures { result ≡ row_counts_def measure.now book.now.exclusions row.now }
+    ensures { result ≡ row_counts_def measure.now (made_for pool book.now.exclusions) row.now }
 {
+    if pool {
+        return counts_of(measure.reading, measure.op, measure.value, row.amount);
+    }
     let excluded = book.excluded_near(measure.slo, row.minute, hint);
     if excluded {
         return NO_COUNTS;
@@ -49,15 +55,16 @@ pub(crate) fn own_counts(
 /// What a row counts for in an objective, in a walk over rows.
 pub(crate) fn counts_near(
     measure: &Measure,
+    pool: bool,
     book: &SampleBook,
     row: &Row,
     hint: &mut ExclusionHint,
 ) -> Counts
     requires { RowFits measure.now row.now }
-    ensures { result ≡ row_counts_def measure.now book.now.exclusions row.now }
+    ensures { result ≡ row_counts_def measure.now (made_for pool book.now.exclusions) row.now }
 {
     if row.sli == measure.sli {
-        own_counts(measure, book, row, hint)
+        own_counts(measure, pool, book, row, hint)
     } else {
         NO_COUNTS
     }
@@ -69,21 +76,23 @@ pub fn row_counts(measure: &Measure, book: &SampleBook, row: &Row) -> Counts
     ensures { result ≡ row_counts_def measure.now book.now.exclusions row.now }
 {
     let mut hint = ExclusionHint::new();
-    counts_near(measure, book, row, &mut hint)
+    counts_near(measure, false, book, row, &mut hint)
 }
 
 /// What the row counts for whose place another takes.
 pub(crate) fn replaced_counts(
     measure: &Measure,
+    pool: bool,
     book: &SampleBook,
     verdict: &RowVerdict,
     hint: &mut ExclusionHint,
 ) -> Counts
     requires { FitsReplaced measure.now verdict.now }
-    ensures { result ≡ replaced_counts_def measure.now book.now.exclusions verdict.now }
+    ensures { result
+        ≡ replaced_counts_def measure.now (made_for pool book.now.exclusions) verdict.now }
 {
     match verdict {
-        RowVerdict::Newer(kept) => counts_near(measure, book, kept, hint),
+        RowVerdict::Newer(kept) => counts_near(measure, pool, book, kept, hint),
         _ => NO_COUNTS,
     }
 }
@@ -131,5 +140,5 @@ pub(crate) fn counts_on(
     if taken && excludes_minute(value, measure.slo, row.minute) {
         return NO_COUNTS;
     }
-    own_counts(measure, book, row, hint)
+    own_counts(measure, false, book, row, hint)
 }

@@ -1,4 +1,5 @@
-//! The sums of each objective of a catalog, kept while rows, exclusions and definitions come.
+//! The sums of a catalog's objectives, shared by those that count the same, kept while rows,
+//! exclusions and definitions come.
 //! Stands on `window_sums` for sums, `sample_book` for rows, `office_history` for what is measured.
 //! Promises that the counts of each slice stay those of the rows that are current, and that
 //! following them takes no memory.
@@ -20,5 +21,5 @@ mod same;
 pub use counting::{NO_COUNTS, changes_counts, excludes_minute, row_at, row_counts};
 pub use from_rows::sums_over;
 pub use kept::{KeptSums, ObjectiveSums};
-pub use plan::SumsPlan;
-pub use same::is_same_measure;
+pub use plan::{ListPlan, SumsPlan, is_wanted};
+pub use same::{has_same_key, is_same_measure};

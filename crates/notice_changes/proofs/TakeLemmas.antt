@@ -144,7 +144,7 @@ reflects_take d d' o moment number r later within origin entries now catalog zon
 pub sound_take : (d d' : Derived) (number : ℕ) → IsSound d →
     d'.origin ≡ d.origin → d'.entries ≡ d.entries + 1 → d'.catalog ≡ d.catalog →
     d'.book.rows ≡ d.book.rows → d'.book.exclusions ≡ d.book.exclusions →
-    d'.sums.kept ≡ d.sums.kept → d'.accepted ≡ d.accepted → d'.upgraded ≡ d.upgraded →
+    d'.sums ≡ d.sums → d'.accepted ≡ d.accepted → d'.upgraded ≡ d.upgraded →
     d'.notices.made ≡ after_taking d.notices.made number →
     waiting d.notices.made ≤ waiting d'.notices.made + 1 → d.entries < most.MAX_ENTRIES → IsSound d'
 sound_take d d' number s origin entries catalog rows exclusions kept accepted upgraded notices one

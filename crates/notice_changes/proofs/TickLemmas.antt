@@ -276,7 +276,7 @@ reflects_tick d d' o moment states told r later are_states are_told origin entri
 pub sound_tick : (d d' : Derived) (moment : ℕ) (told : List (Binding × State)) → IsSound d →
     d'.origin ≡ d.origin → d'.entries ≡ d.entries + 1 → d'.catalog ≡ d.catalog →
     d'.book.rows ≡ d.book.rows → d'.book.exclusions ≡ d.book.exclusions →
-    d'.sums.kept ≡ d.sums.kept → d'.accepted ≡ d.accepted → d'.upgraded ≡ d.upgraded →
+    d'.sums ≡ d.sums → d'.accepted ≡ d.accepted → d'.upgraded ≡ d.upgraded →
     d'.notices.made ≡ d.notices.made ++ new_notices moment (length d.notices.made + 1) told →
     waiting d.notices.made + length told ≤ most.MAX_NOTICES → d.entries < most.MAX_ENTRIES →
     IsSound d'

@@ -4,5 +4,6 @@ mod LentLemmas
 pub mod LinesLemmas
 pub mod MachineLemmas
 pub mod RangeLemmas
+mod SeenLemmas
 pub mod Sending
 mod TouchedLemmas

@@ -19,7 +19,7 @@ use Rattle.office_history.specs.Judges.{Judges}
 use Rattle.office_history.specs.Notices.{waiting}
 use Rattle.office_history.specs.Legal.{IsLegal, MayFollow, empty, followed}
 use Rattle.kept_sums.specs.declared.ObjectiveSums.{ObjectiveSums}
-use Rattle.kept_sums.specs.Objectives.{KeepsSums}
+use Rattle.kept_sums.specs.Objectives.{AreKept, IsLike, KeepsSums, KeptObjectives}
 use Rattle.office_derived.specs.declared.Derived.{Derived}
 use Rattle.office_derived.specs.Derived.{HasRoom, IsFound, IsNext, IsPlaced, IsSound, RowIsRead}
 use Rattle.office_derived.specs.Derived.{Reflects, Stays, command_of, entry_of}
@@ -330,14 +330,18 @@ empty_reflects d entries now catalog zones held accepted upgraded notices states
 
 -- an empty catalog has no objectives
 none_kept : (members : List Object) (made : List (Exclusion × Bool)) (rows : List Row)
-    (kept : List ObjectiveSums) → members ≡ [] → kept ≡ [] → KeepsSums members made rows kept
-none_kept members made rows kept none no_sums =
-    subst (λ (os : List Object). KeepsSums os made rows kept) (sym none)
-    (subst (KeepsSums [] made rows) (sym no_sums) (record {
-      sums = tt;
-      only = tt;
+    (kept : KeptObjectives) → members ≡ [] → kept.own ≡ [] → kept.pooled ≡ [] →
+    KeepsSums members made rows kept
+none_kept members made rows kept none no_own no_pooled =
+    subst (λ (os : List Object). KeepsSums os made rows kept) (sym none) (record {
+      own = subst (AreKept made rows) (sym no_own) tt;
+      pooled = subst (AreKept [] rows) (sym no_pooled) tt;
+      own_only = subst (AllByRecursion (λ (k : ObjectiveSums). IsLike [] false k.measure))
+          (sym no_own) tt;
+      pooled_only = subst (AllByRecursion (λ (k : ObjectiveSums). IsLike [] true k.measure))
+          (sym no_pooled) tt;
       all = λ m is. cc is.there;
-    }))
+    })
 
 none_of : (P : Row → Type 0) (rows : List Row) → rows ≡ [] → All P rows
 none_of P rows is = subst (All P) (sym is) (All-from_recursion P [] tt)
@@ -357,10 +361,10 @@ pub kept_new : (d : Derived) (lines : LinesKept) (history : List Entry) (spare p
     lines.kept ≡ [] → history ≡ [] →
     d.origin ≤ most.MAX_MINUTE → d.entries ≡ 0 → d.present ≡ d.origin → d.catalog ≡ [] →
     d.zones.kept ≡ [] →
-    Holds [] d.book.rows d.book.exclusions → d.sums.kept ≡ [] → d.accepted ≡ 0 →
+    Holds [] d.book.rows d.book.exclusions → d.sums.own ≡ [] → d.sums.pooled ≡ [] → d.accepted ≡ 0 →
     d.upgraded ≡ false → d.notices.made ≡ [] → d.states.items ≡ [] → MachineIsKept d lines history
     spare places None
-kept_new d lines history spare places no_lines is origin entries now catalog zones held sums
+kept_new d lines history spare places no_lines is origin entries now catalog zones held own pooled
     accepted upgraded notices states =
     let rows : d.book.rows ≡ [] = rows-held [] d.book.rows d.book.exclusions held in
     subst (λ (h : List Entry). MachineIsKept d lines h spare places None) (sym is) (record {
@@ -374,7 +378,7 @@ kept_new d lines history spare places no_lines is origin entries now catalog zon
         made = omega (arith, ap length notices);
         read = none_of (RowIsRead d.catalog) d.book.rows rows;
         placed = none_of (IsPlaced d.origin) d.book.rows rows;
-        sums = none_kept d.catalog d.book.exclusions d.book.rows d.sums.kept catalog sums;
+        sums = none_kept d.catalog d.book.exclusions d.book.rows d.sums catalog own pooled;
       };
       reflects = empty_reflects d entries now catalog zones held accepted upgraded notices states;
       legal = empty;

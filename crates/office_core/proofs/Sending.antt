@@ -29,6 +29,7 @@ use Rattle.zone_calendar.proofs.zone.Zone.TheSendSync as zone
 use Rattle.exact_fraction.proofs.text.Bytes.TheSendSync as bytes
 use Rattle.entry_records.proofs.entry_records.EntryRecords.TheSendSync as records
 use Rattle.kept_sums.specs.contracts.kept.ObjectiveSums as objective
+use Rattle.kept_sums.specs.contracts.plan.ListPlan as list_plan
 use Rattle.kept_sums.specs.contracts.plan.SumsPlan as plan
 use Rattle.kept_sums.proofs.kept.KeptSums.TheSendSync as sums
 use Rattle.window_sums.proofs.window_sums.WindowSums.TheSendSync as window
@@ -119,8 +120,11 @@ catalog_send = search (member_send, sendable, crosses) depth 40 fits 100000
 pub objective_send : IsSend objective.the_field.row
 objective_send = search (window.the_send, sendable, crosses) depth 40 fits 100000
 
+pub list_plan_send : IsSend list_plan.the_field.row
+list_plan_send = search (objective_send, sendable, crosses) depth 40 fits 100000
+
 pub plan_send : IsSend plan.the_field.row
-plan_send = search (objective_send, sendable, crosses) depth 40 fits 100000
+plan_send = search (list_plan_send, sendable, crosses) depth 40 fits 100000
 
 pub work_send : IsSend work.the_field.row
 work_send =

@@ -2,3 +2,4 @@ pub mod Forgetting
 pub mod Lent
 pub mod Machine
 pub mod Seen
+pub mod SumsSeen

@@ -55,8 +55,9 @@ pub(crate) fn judge(
 }
 
 /// Takes all memory that an accepted command needs.
-pub(crate) fn make_room(derived: &mut Derived, work: &Work) -> Result<(), AllocError>
+pub(crate) fn make_room(alloc: Global, derived: &mut Derived, work: &Work) -> Result<(), AllocError>
     requires few { TellsFew work.now }
+    requires sound { IsSound derived.old }
     ensures room { OnOk result (HasRoom derived.new work.now) }
     ensures stays { Stays derived.old derived.new }
 {
@@ -65,7 +66,7 @@ pub(crate) fn make_room(derived: &mut Derived, work: &Work) -> Result<(), AllocE
         Work::Remove { plan, .. } => room_for_plan(derived, plan),
         Work::PutZone { .. } => room_for_put_zone(derived),
         Work::Samples { rows, .. } => room_for_samples(derived, rows),
-        Work::Exclude(_) => room_for_exclude(derived),
+        Work::Exclude(value) => room_for_exclude(alloc, derived, value),
         Work::Tick { told, .. } => room_for_tick(derived, told),
         _ => Ok(()),
     }

@@ -20,7 +20,7 @@ ghost use Rattle.office_history.specs.Objectives.{measure_at as measure_at_def};
 ghost use Rattle.office_history.specs.Outcomes.{outcome_of};
 ghost use Rattle.office_history.specs.Versions.{is_upgraded, version_of};
 ghost use Rattle.office_history.specs.Zones.{zones_in};
-ghost use Rattle.office_derived.specs.Derived.{HasRoom, Stays, command_of, entry_of};
+ghost use Rattle.office_derived.specs.Derived.{HasRoom, IsSound, Stays, command_of, entry_of};
 ghost use Rattle.history_answers.specs.Learning.{KnowsAnswered};
 ghost use Rattle.history_answers.specs.States.{binding_state};
 ghost use Rattle.kept_lines.specs.Known.{AllKnow};
@@ -30,6 +30,7 @@ ghost use Rattle.office_core.specs.Forgetting.{ForgetsOnlyNear};
 ghost use Rattle.office_core.specs.Lent.{CountTheSame, LendsLine, LendsSums};
 ghost use Rattle.office_core.specs.Machine.{HasLinesPlan, HasRevisions, IsAdded, IsPending};
 ghost use Rattle.office_core.specs.Machine.{IsVerdict, MachineIsKept, office_of, pending_of};
+ghost use Rattle.office_core.specs.SumsSeen.{sums_seen};
 ghost use Rattle.office_core.specs.declared.machine.Pending.{Pending};
 
 use crate::commands::{apply, judge, make_room};
@@ -96,13 +97,14 @@ pub struct Core {
 impl Model for Core {
     ghost use Rattle.office_core.specs.Machine.{MachineIsKept, office_of, pending_of};
     ghost use Rattle.office_core.specs.Seen.{Machine};
+    ghost use Rattle.office_core.specs.SumsSeen.{sums_seen};
 
     ghost Value = { Machine };
 
     ghost view = { λ a. record {
       office = office_of a.derived a.records.history;
       pending = pending_of a.pending;
-      sums = a.derived.sums.kept;
+      sums = sums_seen a.derived.catalog a.derived.sums;
       lines = a.lines.kept;
     } };
 
@@ -418,7 +420,8 @@ fn judge_and_make_room(
         ≡ office_of derived.old records.old.history }
     ensures verdict { IsVerdict (office_of derived.old records.old.history)
         (record { moment = moment; command = command.now }) result.0 (pending_of result.1) }
-    ensures sums { CountTheSame derived.old.sums.kept derived.new.sums.kept }
+    ensures sums { CountTheSame (sums_seen derived.old.catalog derived.old.sums)
+        (sums_seen derived.new.catalog derived.new.sums) }
     ensures know { AllKnow lines.old.kept lines.new.kept }
 {
     notice_changes::laws::an_accepted_tick_tells_few();
@@ -450,6 +453,7 @@ fn make_ready(
 ) -> Result<(Vec<u8>, Option<LinesPlan>), AllocError>
     requires command { command_of work.now ≡ command.now }
     requires few { TellsFew work.now }
+    requires sound { IsSound derived.old }
     requires range { IsEntryInRange (record { moment = moment; command = command.now }) }
     requires lines { HasLines derived.old lines.old.kept }
     ensures stays { Stays derived.old derived.new }
@@ -487,7 +491,7 @@ fn make_room_for(
     ensures lines { lines.new.kept ≡ lines.old.kept }
 {
     let plan = plan_of(alloc, derived, lines, work)?;
-    make_room(derived, work)?;
+    make_room(alloc, derived, work)?;
     records.reserve(bytes)?;
     Ok(plan)
 }

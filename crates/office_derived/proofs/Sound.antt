@@ -1,13 +1,12 @@
 -- What stays sound where rows, exclusions, objectives and their sums stay.
-use Rattle.std.proofs.Common.{◌≡◌, ℕ, ◌+◌, ◌≤◌, Bool, true, false, List, ap, arith, length, subst}
-use Rattle.std.proofs.Common.{sym}
+use Rattle.std.proofs.Common.{◌≡◌, ◌∙◌, ℕ, ◌+◌, ◌≤◌, Bool, true, false, List, ap, arith, length}
+use Rattle.std.proofs.Common.{refl, subst, sym}
 use Rattle.std.specs.List.{All}
 use Rattle.slo_limits.specs.declared.TheConstants as most
 use Rattle.sample_book.specs.declared.Exclusion.{Exclusion}
 use Rattle.sample_book.specs.declared.Row.{Row}
 use Rattle.object_terms.specs.declared.Object.{Object}
-use Rattle.kept_sums.specs.declared.ObjectiveSums.{ObjectiveSums}
-use Rattle.kept_sums.specs.Objectives.{KeepsSums}
+use Rattle.kept_sums.specs.Objectives.{KeepsSums, KeptObjectives}
 use Rattle.office_history.specs.Notices.{waiting}
 use Rattle.office_history.specs.Versions.{most_cells, most_rows}
 use Rattle.office_derived.specs.declared.derived.Derived.{Derived}
@@ -18,23 +17,23 @@ record Sampled : Type 0 where
   members : List Object
   made : List (Exclusion × Bool)
   rows : List Row
-  kept : List ObjectiveSums
+  sums : KeptObjectives
 
 -- the sums stay those of the objectives where catalog, exclusions and rows stay
 pub sums_still : (d d' : Derived) → d'.catalog ≡ d.catalog →
     d'.book.exclusions ≡ d.book.exclusions → d'.book.rows ≡ d.book.rows →
-    d'.sums.kept ≡ d.sums.kept →
-    KeepsSums d.catalog d.book.exclusions d.book.rows d.sums.kept →
-    KeepsSums d'.catalog d'.book.exclusions d'.book.rows d'.sums.kept
+    d'.sums ≡ d.sums →
+    KeepsSums d.catalog d.book.exclusions d.book.rows d.sums →
+    KeepsSums d'.catalog d'.book.exclusions d'.book.rows d'.sums
 sums_still d d' catalog made rows kept sums =
-    subst (λ (s : Sampled). KeepsSums s.members s.made s.rows s.kept) same sums
+    subst (λ (s : Sampled). KeepsSums s.members s.made s.rows s.sums) same sums
   where
     before : Sampled
     before = record {
       members = d.catalog;
       made = d.book.exclusions;
       rows = d.book.rows;
-      kept = d.sums.kept;
+      sums = d.sums;
     }
 
     after : Sampled
@@ -42,7 +41,7 @@ sums_still d d' catalog made rows kept sums =
       members = d'.catalog;
       made = d'.book.exclusions;
       rows = d'.book.rows;
-      kept = d'.sums.kept;
+      sums = d'.sums;
     }
 
     same : before ≡ after
@@ -50,7 +49,7 @@ sums_still d d' catalog made rows kept sums =
       members = sym catalog i;
       made = sym made i;
       rows = sym rows i;
-      kept = sym kept i;
+      sums = sym kept i;
     }
 
 -- as many as before are within the limits of before
@@ -77,7 +76,7 @@ more_rows false = omega arith
 -- keep their limits: so after a tick, a taking, or a zone that is put
 pub sound_still : (d d' : Derived) → IsSound d → d'.origin ≡ d.origin →
     d'.catalog ≡ d.catalog → d'.book.exclusions ≡ d.book.exclusions →
-    d'.book.rows ≡ d.book.rows → d'.sums.kept ≡ d.sums.kept → d'.accepted ≡ d.accepted →
+    d'.book.rows ≡ d.book.rows → d'.sums ≡ d.sums → d'.accepted ≡ d.accepted →
     d'.upgraded ≡ d.upgraded →
     d'.entries ≤ most.MAX_ENTRIES → waiting d'.notices.made ≤ most.MAX_NOTICES →
     length d'.notices.made ≤ waiting d'.notices.made + d'.entries → IsSound d'
@@ -115,4 +114,56 @@ sound_stays a b s k = record {
   placed = subst (λ (rs : List Row). All (IsPlaced b.origin) rs) (sym s.rows)
       (subst (λ n. All (IsPlaced n) a.book.rows) (sym s.origin) k.placed);
   sums = s.sums k.sums;
+}
+
+-- all but the sums stays
+pub with_sums : (d d' : Derived) (sums : KeptObjectives) → d' ≡ record d { sums = sums } →
+    (KeepsSums d.catalog d.book.exclusions d.book.rows d.sums →
+    KeepsSums d.catalog d.book.exclusions d.book.rows sums) → Stays d d'
+with_sums d d' sums is keeps = subst (Stays d) (sym is) (record {
+  origin = refl;
+  entries = refl;
+  present = refl;
+  catalog = refl;
+  zones = refl;
+  rows = refl;
+  exclusions = refl;
+  accepted = refl;
+  upgraded = refl;
+  notices = refl;
+  states = refl;
+  sums = keeps;
+})
+
+-- what stays twice stays
+pub stays_then : (a b c : Derived) → Stays a b → Stays b c → Stays a c
+stays_then a b c p q = record {
+  origin = q.origin ∙ p.origin;
+  entries = q.entries ∙ p.entries;
+  present = q.present ∙ p.present;
+  catalog = q.catalog ∙ p.catalog;
+  zones = q.zones ∙ p.zones;
+  rows = q.rows ∙ p.rows;
+  exclusions = q.exclusions ∙ p.exclusions;
+  accepted = q.accepted ∙ p.accepted;
+  upgraded = q.upgraded ∙ p.upgraded;
+  notices = q.notices ∙ p.notices;
+  states = q.states ∙ p.states;
+  sums = λ keeps. q.sums (p.sums keeps);
+}
+
+pub stays_so : (a : Derived) → Stays a a
+stays_so a = record {
+  origin = refl;
+  entries = refl;
+  present = refl;
+  catalog = refl;
+  zones = refl;
+  rows = refl;
+  exclusions = refl;
+  accepted = refl;
+  upgraded = refl;
+  notices = refl;
+  states = refl;
+  sums = λ keeps. keeps;
 }

@@ -8,8 +8,8 @@ use Rattle.sample_book.specs.declared.Row.{Row}
 use Rattle.sample_book.specs.Rows.{room_for}
 use Rattle.sample_book.specs.History.{Holds}
 use Rattle.sample_book.specs.Puts.{verdicts}
-use Rattle.kept_sums.specs.Objectives.{HaveDays, KeepsSums}
-use Rattle.kept_sums.specs.Plans.{IsPlan}
+use Rattle.kept_sums.specs.Objectives.{HaveDays, HaveOwn, KeepsSums}
+use Rattle.kept_sums.specs.Plans.{IsPlan, IsReady}
 use Rattle.object_terms.specs.declared.Object.{Object}
 use Rattle.zone_calendar.specs.ZoneBytes.{zone_of}
 use Rattle.kept_sums.specs.declared.SumsPlan.{SumsPlan}
@@ -54,7 +54,7 @@ pub record IsSound (d : Derived) : Type 0 where
   pub made : length d.notices.made ≤ waiting d.notices.made + d.entries
   pub read : All (RowIsRead d.catalog) d.book.rows
   pub placed : All (IsPlaced d.origin) d.book.rows
-  pub sums : KeepsSums d.catalog d.book.exclusions d.book.rows d.sums.kept
+  pub sums : KeepsSums d.catalog d.book.exclusions d.book.rows d.sums
 
 -- what is kept is what the history says
 pub record Reflects (d : Derived) (o : Office) : Type 0 where
@@ -85,8 +85,8 @@ pub record Stays (a b : Derived) : Type 0 where
   pub upgraded : b.upgraded ≡ a.upgraded
   pub notices : b.notices.made ≡ a.notices.made
   pub states : b.states.items ≡ a.states.items
-  pub sums : KeepsSums a.catalog a.book.exclusions a.book.rows a.sums.kept
-      → KeepsSums b.catalog b.book.exclusions b.book.rows b.sums.kept
+  pub sums : KeepsSums a.catalog a.book.exclusions a.book.rows a.sums
+      → KeepsSums b.catalog b.book.exclusions b.book.rows b.sums
 
 -- the command that a work does
 abbrev pub command_of : Work → Command
@@ -106,8 +106,7 @@ entry_of moment work = record { moment = moment; command = command_of work }
 
 -- the plan is what becomes of the sums as this catalog takes the place of the one of the history
 abbrev pub HasPlan : Office → List Object → SumsPlan → Type 0
-HasPlan o catalog plan =
-    IsPlan (catalog_in o.history) catalog (exclusions_in o.history) (current_in o.history) plan
+HasPlan o catalog plan = IsPlan catalog (exclusions_in o.history) (current_in o.history) plan
 
 -- what was found out of a work is right over a history
 abbrev pub IsFound : Office → ℕ → Work → Type 0
@@ -128,11 +127,13 @@ IsFound o moment _ = Unit {0}
 
 -- a work can be done with no memory
 abbrev pub HasRoom : Derived → Work → Type 0
-HasRoom d (works.Define text catalog applied plan) = length plan.made.items ≤ d.sums.spare
-HasRoom d (works.Remove kind name catalog plan) = length plan.made.items ≤ d.sums.spare
+HasRoom d (works.Define text catalog applied plan) = IsReady d.sums plan
+HasRoom d (works.Remove kind name catalog plan) = IsReady d.sums plan
 HasRoom d (works.Samples rows tally becomes) =
-    (d.book.room ≡ room_for d.book.rows rows) × HaveDays rows d.sums.kept
-HasRoom d (works.Exclude value) = 0 < d.book.spare
+    (d.book.room ≡ room_for d.book.rows rows) × HaveDays rows d.sums.own
+    × HaveDays rows d.sums.pooled
+HasRoom d (works.Exclude value) =
+    (0 < d.book.spare) × HaveOwn d.catalog d.sums.own value.slo
 HasRoom d (works.Tick states told) = length told.items ≤ d.notices.spare
 HasRoom d (works.PutZone name bytes zone) = 0 < d.zones.spare
 HasRoom d _ = Unit {0}

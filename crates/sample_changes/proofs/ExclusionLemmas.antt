@@ -14,7 +14,8 @@ use Rattle.office_history.specs.Versions.{is_upgrade}
 use Rattle.office_history.specs.Zones.{zones_of}
 use Rattle.office_derived.specs.declared.Derived.{Derived}
 use Rattle.office_derived.specs.declared.Work.{Work}
-use Rattle.kept_sums.specs.Objectives.{AreKept, KeptObjectives, measures_of}
+use Rattle.office_history.specs.declared.Measure.{Measure}
+use Rattle.kept_sums.specs.Objectives.{AreKept, HasSums, IsObjective, KeptObjectives, measures_of}
 use Rattle.office_derived.specs.Derived.{IsNext, IsSound, Reflects, command_of, entry_of}
 use Rattle.office_derived.proofs.Still.{IsStill, reflects_still}
 use Rattle.sample_changes.proofs.Following.{change_followed}
@@ -50,9 +51,13 @@ change_reflected d book sums o moment work next only held =
 -- it agrees in itself, where the sums have followed
 pub change_sound : (d : Derived) (book : Book) (sums : KeptObjectives) (moment : ℕ) → IsSound d →
     d.entries < most.MAX_ENTRIES → book.rows ≡ d.book.rows →
-    measures_of sums.kept ≡ measures_of d.sums.kept → AreKept book.exclusions book.rows sums.kept →
+    measures_of sums.own ≡ measures_of d.sums.own → sums.pooled ≡ d.sums.pooled →
+    AreKept book.exclusions book.rows sums.own →
+    ((m : Measure) → IsObjective d.catalog m →
+    HasSums d.book.exclusions d.sums.own d.sums.pooled m
+    → HasSums book.exclusions d.sums.own d.sums.pooled m) →
     IsSound (changed d book sums moment)
-change_sound d book sums moment sound few rows measures are =
+change_sound d book sums moment sound few rows measures pool are still =
     let d' = changed d book sums moment in
     sound_still d d' sound few refl refl refl refl rows refl refl
-    (change_followed d d' sound refl rows measures are)
+    (change_followed d d' sound refl rows measures pool are still)

@@ -1,6 +1,8 @@
 -- The sums of the objectives follow batches, exclusions and liftings.
 use Rattle.std.proofs.Common.{◌≡◌, ℕ, ◌++◌, ◌∷◌, [], ◌&&◌, ◌||◌, ◌∙◌, Bool, List, true, false, not}
-use Rattle.std.proofs.Common.{if◌then◌else◌, refl, ap, sym, subst}
+use Rattle.std.proofs.Common.{if◌then◌else◌, inl, inr, map, nat_le, nat_lt, refl, ap, sym, subst}
+use Rattle.std.specs.Str.{bytes_eq}
+use Rattle.std.proofs.lemmas.Slice.Eq.{bytes_eq-Decides}
 use Rattle.std.specs.Global.{Vec}
 use Rattle.std.specs.List.{AllByRecursion, Contains}
 use Rattle.std.proofs.lemmas.List.Folds.{list_any-append}
@@ -19,7 +21,9 @@ use Rattle.office_history.specs.declared.Measure.{Measure}
 use Rattle.office_history.specs.History.{Office, rows_in, with_entry}
 use Rattle.kept_sums.specs.Sums.{row_counts, shares_by}
 use Rattle.kept_sums.specs.declared.ObjectiveSums.{ObjectiveSums}
-use Rattle.kept_sums.specs.Objectives.{AreKept, HaveForms, IsObjective, KeepsSums, measures_of}
+use Rattle.kept_sums.specs.Objectives.{AreKept, HasSums, HaveForms, HaveOwn, IsLike, IsObjective}
+use Rattle.kept_sums.specs.Objectives.{KeepsSums, KeptObjectives, counted, key_by, keys_by}
+use Rattle.kept_sums.specs.Objectives.{measures_of, pooled}
 use Rattle.office_derived.specs.declared.Derived.{Derived}
 use Rattle.office_derived.specs.declared.BatchTally.{BatchTally}
 use Rattle.office_derived.specs.declared.Work.TheVariants as works
@@ -41,17 +45,87 @@ by_measures : (P : Measure → Type 0) (kept : List ObjectiveSums) →
 by_measures P [] all = tt
 by_measures P (k ∷ kept) all = (all.0, by_measures P kept all.1)
 
--- where the objectives stay, their sums are kept of all of them
-pub still_objectives : (members : List Object) (made made' : List (Exclusion × Bool))
-    (rows rows' : List Row) (old new : List ObjectiveSums) → measures_of new ≡ measures_of old →
-    AreKept made' rows' new → KeepsSums members made rows old → KeepsSums members made' rows' new
-still_objectives members made made' rows rows' old new same are keeps = record {
-  sums = are;
-  only = by_measures (IsObjective members) new
-      (subst (AllByRecursion (IsObjective members)) (sym same)
-      (of_measures (IsObjective members) old keeps.only));
-  all = λ m is. subst (λ (ms : List Measure). Contains ms m) (sym same) (keeps.all m is);
+keys_measures : (pool : Bool) (kept : List ObjectiveSums)
+    → keys_by pool kept ≡ map (key_by pool) (measures_of kept)
+keys_measures pool [] = refl
+keys_measures pool (k ∷ kept) =
+    ap (λ (ks : List Measure). key_by pool k.measure ∷ ks) (keys_measures pool kept)
+
+same_keys : (pool : Bool) (old new : List ObjectiveSums) → measures_of new ≡ measures_of old
+    → keys_by pool new ≡ keys_by pool old
+same_keys pool old new same =
+    keys_measures pool new ∙ ap (map (key_by pool)) same ∙ sym (keys_measures pool old)
+
+-- where what is counted stays, and each objective still has sums, they are kept of all of them
+pub still_sums : (members : List Object) (made made' : List (Exclusion × Bool))
+    (rows rows' : List Row) (old new : KeptObjectives) → measures_of new.own ≡ measures_of old.own →
+    measures_of new.pooled ≡ measures_of old.pooled → AreKept made' rows' new.own →
+    AreKept [] rows' new.pooled →
+    ((m : Measure) → IsObjective members m → HasSums made old.own old.pooled m
+    → HasSums made' old.own old.pooled m) →
+    KeepsSums members made rows old → KeepsSums members made' rows' new
+still_sums members made made' rows rows' old new own pool are pooled_are still keeps = record {
+  own = are;
+  pooled = pooled_are;
+  own_only = by_measures (IsLike members false) new.own
+      (subst (AllByRecursion (IsLike members false)) (sym own)
+      (of_measures (IsLike members false) old.own keeps.own_only));
+  pooled_only = by_measures (IsLike members true) new.pooled
+      (subst (AllByRecursion (IsLike members true)) (sym pool)
+      (of_measures (IsLike members true) old.pooled keeps.pooled_only));
+  all = λ m is. moved m (still m is (keeps.all m is));
 }
+  where
+    moved : (m : Measure) → HasSums made' old.own old.pooled m
+        → HasSums made' new.own new.pooled m
+    moved m (inl has) =
+        inl (subst (λ (ks : List Measure). Contains ks (counted m))
+        (sym (same_keys false old.own new.own own)) has)
+    moved m (inr has) = inr (
+      subst (λ (ks : List Measure). Contains ks (pooled m))
+          (sym (same_keys true old.pooled new.pooled pool)) has.0,
+      has.1,
+    )
+
+-- an exclusion leaves sums to each objective, where those of its SLO have sums of their own
+pub excluded_still : (members : List Object) (made : List (Exclusion × Bool)) (value : Exclusion)
+    (own pool : List ObjectiveSums) → HaveOwn members own value.slo → (m : Measure)
+    → IsObjective members m → HasSums made own pool m
+    → HasSums (made ++ (value, true) ∷ []) own pool m
+excluded_still members made value own pool room m is (inl has) = inl has
+excluded_still members made value own pool room m is (inr has) =
+    by (bytes_eq value.slo m.slo) refl
+  where
+    none : (minute : ℕ) → bytes_eq value.slo m.slo ≡ false
+        → is_excluded (made ++ (value, true) ∷ []) m.slo minute ≡ false
+    none minute e =
+        list_any-append (excludes m.slo minute) made ((value, true) ∷ [])
+        ∙ (λ i. has.1 minute i || (((e i && nat_le value.from minute) && nat_lt minute value.to)
+        || false))
+
+    by : (b : Bool) → bytes_eq value.slo m.slo ≡ b
+        → HasSums (made ++ (value, true) ∷ []) own pool m
+    by true e = inl (room m is (sym ((bytes_eq-Decides value.slo m.slo).0 e)))
+    by false e = inr (has.0, λ minute. none minute e)
+
+-- so does a lifting, which excludes no more
+pub lifted_still : (members : List Object) (before after : List (Exclusion × Bool))
+    (value : Exclusion) (own pool : List ObjectiveSums)
+    → ((slo : List ℕ) (minute : ℕ) → is_excluded before slo minute
+    ≡ (is_excluded after slo minute || excludes slo minute (value, true)))
+    → (m : Measure) → IsObjective members m → HasSums before own pool m
+    → HasSums after own pool m
+lifted_still members before after value own pool lifts m is (inl has) = inl has
+lifted_still members before after value own pool lifts m is (inr has) =
+    inr (
+      has.0,
+      λ minute. by (is_excluded after m.slo minute)
+          (sym (lifts m.slo minute) ∙ has.1 minute),
+    )
+  where
+    by : (b : Bool) {c : Bool} → (b || c) ≡ false → b ≡ false
+    by true e = e
+    by false e = refl
 
 -- the same minutes of each SLO are excluded
 abbrev pub ExcludeAlike : List (Exclusion × Bool) → List (Exclusion × Bool) → Type 0
@@ -101,12 +175,20 @@ made_anew before after value lifts slo minute =
     or_false true = refl
     or_false false = refl
 
--- the rows of an accepted batch have the forms that the objectives read
+-- the rows of an accepted batch have the forms that are read
 pub batch_fits : (d : Derived) (o : Office) (m : ℕ) (rows : List Row) (tally : BatchTally)
     (becomes : Vec RowVerdict) → IsSound d → IsNext d o m (works.Samples rows tally becomes) →
-    HaveForms rows d.sums.kept
+    HaveForms rows d.sums.own
 batch_fits d o m rows tally becomes s n =
-    all_forms d.catalog d.sums.kept rows s.sums.only
+    all_forms d.catalog false d.sums.own rows s.sums.own_only
+    (each (IsGood d.origin m d.catalog) (RowIsRead d.catalog) (λ row g. g.read) rows
+    (rows_good d o m rows tally becomes n))
+
+pub batch_fits_pooled : (d : Derived) (o : Office) (m : ℕ) (rows : List Row) (tally : BatchTally)
+    (becomes : Vec RowVerdict) → IsSound d → IsNext d o m (works.Samples rows tally becomes) →
+    HaveForms rows d.sums.pooled
+batch_fits_pooled d o m rows tally becomes s n =
+    all_forms d.catalog true d.sums.pooled rows s.sums.pooled_only
     (each (IsGood d.origin m d.catalog) (RowIsRead d.catalog) (λ row g. g.read) rows
     (rows_good d o m rows tally becomes n))
 
@@ -122,39 +204,53 @@ pub batch_followed : (d d' : Derived) (o : Office) (m : ℕ) (rows : List Row) (
     (becomes : Vec RowVerdict) → IsSound d → IsNext d o m (works.Samples rows tally becomes) →
     Reflects d' (with_entry o (entry_of m (works.Samples rows tally becomes))) →
     d'.catalog ≡ d.catalog → d'.book.exclusions ≡ d.book.exclusions →
-    measures_of d'.sums.kept ≡ measures_of d.sums.kept →
-    AreKept d.book.exclusions (current_rows (d.book.rows ++ rows)) d'.sums.kept →
-    KeepsSums d'.catalog d'.book.exclusions d'.book.rows d'.sums.kept
-batch_followed d d' o m rows tally becomes s n r' catalog made same are =
+    measures_of d'.sums.own ≡ measures_of d.sums.own →
+    measures_of d'.sums.pooled ≡ measures_of d.sums.pooled →
+    AreKept d.book.exclusions (current_rows (d.book.rows ++ rows)) d'.sums.own →
+    AreKept [] (current_rows (d.book.rows ++ rows)) d'.sums.pooled →
+    KeepsSums d'.catalog d'.book.exclusions d'.book.rows d'.sums
+batch_followed d d' o m rows tally becomes s n r' catalog made own pool are pooled_are =
     let e = entry_of m (works.Samples rows tally becomes) in
     let came = rows_in o.history in
     let is : d'.book.rows ≡ current_rows (d.book.rows ++ rows) =
     r'.rows ∙ ap current_rows (rows_more o.history e) ∙ sym (current-append came rows)
     ∙ ap (λ (kept : List Row). current_rows (kept ++ rows)) (sym n.reflects.rows) in
     subst (λ (members : List Object). KeepsSums members d'.book.exclusions d'.book.rows
-    d'.sums.kept) (sym catalog)
-    (subst (λ (made : List (Exclusion × Bool)). KeepsSums d.catalog made d'.book.rows d'.sums.kept)
+    d'.sums) (sym catalog)
+    (subst (λ (made : List (Exclusion × Bool)). KeepsSums d.catalog made d'.book.rows d'.sums)
     (sym made)
-    (subst (λ (rows : List Row). KeepsSums d.catalog d.book.exclusions rows d'.sums.kept) (sym is)
-    (still_objectives d.catalog d.book.exclusions d.book.exclusions d.book.rows
-    (current_rows (d.book.rows ++ rows)) d.sums.kept d'.sums.kept same are s.sums)))
+    (subst (λ (rows : List Row). KeepsSums d.catalog d.book.exclusions rows d'.sums) (sym is)
+    (still_sums d.catalog d.book.exclusions d.book.exclusions d.book.rows
+    (current_rows (d.book.rows ++ rows)) d.sums d'.sums own pool are pooled_are
+    (λ m is has. has) s.sums)))
 
 -- the sums have followed an exclusion or a lifting
 pub change_followed : (d d' : Derived) → IsSound d → d'.catalog ≡ d.catalog →
-    d'.book.rows ≡ d.book.rows → measures_of d'.sums.kept ≡ measures_of d.sums.kept →
-    AreKept d'.book.exclusions d'.book.rows d'.sums.kept →
-    KeepsSums d'.catalog d'.book.exclusions d'.book.rows d'.sums.kept
-change_followed d d' s catalog rows same are =
+    d'.book.rows ≡ d.book.rows → measures_of d'.sums.own ≡ measures_of d.sums.own →
+    d'.sums.pooled ≡ d.sums.pooled → AreKept d'.book.exclusions d'.book.rows d'.sums.own →
+    ((m : Measure) → IsObjective d.catalog m →
+    HasSums d.book.exclusions d.sums.own d.sums.pooled m
+    → HasSums d'.book.exclusions d.sums.own d.sums.pooled m) →
+    KeepsSums d'.catalog d'.book.exclusions d'.book.rows d'.sums
+change_followed d d' s catalog rows own pool are still =
     subst (λ (members : List Object). KeepsSums members d'.book.exclusions d'.book.rows
-    d'.sums.kept) (sym catalog)
-    (still_objectives d.catalog d.book.exclusions d'.book.exclusions d.book.rows d'.book.rows
-    d.sums.kept d'.sums.kept same are s.sums)
+    d'.sums) (sym catalog)
+    (still_sums d.catalog d.book.exclusions d'.book.exclusions d.book.rows d'.book.rows
+    d.sums d'.sums own (ap measures_of pool) are
+    (subst (AreKept [] d'.book.rows) (sym pool)
+    (kept_over [] [] d.book.rows d'.book.rows d.sums.pooled refl rows s.sums.pooled))
+    still s.sums)
 
 -- more days leave them as they are
 pub days_made : (members : List Object) (made made' : List (Exclusion × Bool))
-    (rows rows' : List Row) (old new : List ObjectiveSums) → made' ≡ made → rows' ≡ rows →
-    measures_of new ≡ measures_of old → (AreKept made rows old → AreKept made rows new) →
+    (rows rows' : List Row) (old new : KeptObjectives) → made' ≡ made → rows' ≡ rows →
+    measures_of new.own ≡ measures_of old.own → measures_of new.pooled ≡ measures_of old.pooled →
+    (AreKept made rows old.own → AreKept made rows new.own) →
+    (AreKept [] rows old.pooled → AreKept [] rows new.pooled) →
     KeepsSums members made rows old → KeepsSums members made' rows' new
-days_made members made made' rows rows' old new exclusions still same are keeps =
-    still_objectives members made made' rows rows' old new same
-    (kept_over made made' rows rows' new exclusions still (are keeps.sums)) keeps
+days_made members made made' rows rows' old new exclusions still own pool are pooled_are keeps =
+    still_sums members made made' rows rows' old new own pool
+    (kept_over made made' rows rows' new.own exclusions still (are keeps.own))
+    (kept_over [] [] rows rows' new.pooled refl still (pooled_are keeps.pooled))
+    (λ m is has. subst (λ (es : List (Exclusion × Bool)). HasSums es old.own old.pooled m)
+    (sym exclusions) has) keeps

@@ -136,7 +136,7 @@ pub sound_kept : (d d' : Derived) → IsSound d → d.entries < most.MAX_ENTRIES
     d'.accepted ≤ most_rows d'.upgraded →
     AllByRecursion (RowIsRead d.catalog) d'.book.rows →
     AllByRecursion (IsPlaced d.origin) d'.book.rows →
-    KeepsSums d'.catalog d'.book.exclusions d'.book.rows d'.sums.kept → IsSound d'
+    KeepsSums d'.catalog d'.book.exclusions d'.book.rows d'.sums → IsSound d'
 sound_kept d d' s few origin entries catalog notices cells taken read placed sums = record {
   origin = omega (arith, s.origin, origin);
   entries = omega (arith, few, entries);
@@ -171,7 +171,7 @@ pub samples_sound : (d d' : Derived) (o : Office) (m : ℕ) (rows : List Row) (t
     Reflects d' (with_entry o (entry_of m (works.Samples rows tally becomes))) →
     d'.origin ≡ d.origin → d'.entries ≡ d.entries + 1 → d'.catalog ≡ d.catalog →
     d'.notices.made ≡ d.notices.made → d'.upgraded ≡ d.upgraded →
-    KeepsSums d'.catalog d'.book.exclusions d'.book.rows d'.sums.kept → IsSound d'
+    KeepsSums d'.catalog d'.book.exclusions d'.book.rows d'.sums → IsSound d'
 samples_sound d d' o m rows tally becomes s n r' origin entries catalog notices upgraded sums =
     let keeps = batch_keeps d o m rows tally becomes n in
     let e = entry_of m (works.Samples rows tally becomes) in
@@ -202,7 +202,7 @@ samples_sound d d' o m rows tally becomes s n r' origin entries catalog notices 
 pub sound_still : (d d' : Derived) → IsSound d → d.entries < most.MAX_ENTRIES →
     d'.origin ≡ d.origin → d'.entries ≡ d.entries + 1 → d'.catalog ≡ d.catalog →
     d'.notices.made ≡ d.notices.made → d'.book.rows ≡ d.book.rows → d'.accepted ≡ d.accepted →
-    d'.upgraded ≡ d.upgraded → KeepsSums d'.catalog d'.book.exclusions d'.book.rows d'.sums.kept →
+    d'.upgraded ≡ d.upgraded → KeepsSums d'.catalog d'.book.exclusions d'.book.rows d'.sums →
     IsSound d'
 sound_still d d' s few origin entries catalog notices rows taken upgraded sums =
     sound_kept d d' s few origin entries catalog notices

@@ -7,3 +7,4 @@ pub mod ExclusionLemmas
 pub mod OnceExclusions
 pub mod OnceBatches
 pub mod Upgrades
+pub mod PartLemmas

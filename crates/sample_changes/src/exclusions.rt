@@ -1,6 +1,10 @@
 //! Exclusions and their liftings.
 ghost use Rattle.std.specs.Prelude.{◌≡◌, ◌≤◌, ◌++◌, ◌∷◌, ◌||◌, [], ℕ, List, true, OnOk, Some};
-ghost use Rattle.std.specs.Prelude.{is_none, length};
+ghost use Rattle.std.specs.Prelude.{All, false, is_none, length};
+ghost use Rattle.std.specs.List.{AllByRecursion, Contains};
+ghost use Rattle.catalog_measures.specs.Measures.{IsMeasure};
+ghost use Rattle.kept_sums.specs.Objectives.{IsObjective, counted, keys_by};
+ghost use Rattle.office_history.specs.declared.Measure.{Measure};
 ghost use Rattle.slo_limits.specs.declared.TheConstants.{MAX_MINUTE};
 ghost use Rattle.sample_book.specs.declared.Exclusion.{Exclusion};
 ghost use Rattle.sample_book.specs.Exclusions.{IsLive, excludes, exclusion_of, is_excluded};
@@ -18,15 +22,17 @@ ghost use Rattle.office_derived.specs.Derived.{HasRoom, IsJudged, IsNext, IsSoun
 ghost use Rattle.office_derived.specs.Derived.{entry_of};
 
 use crate::faults::limit;
+use catalog_measures::measures_named;
 use exact_fraction::Label;
+use kept_sums::sums_over;
 use object_terms::Kind;
 use office_derived::{Derived, Verdict, Work, accepted};
-use office_history::Judgement;
+use office_history::{Judgement, Measure};
 use record_form::{LimitName, Outcome, Refusal};
 use sample_book::{Exclusion, SampleBook};
 use slo_catalog::{Catalog, slo_in};
 use slo_limits::{MAX_EXCLUSIONS, RANGE_MINUTES};
-use std::alloc::AllocError;
+use std::alloc::{AllocError, Global};
 
 /// Whether no SLO has the name.
 fn has_no_slo(catalog: &Catalog, name: Label) -> bool
@@ -119,11 +125,55 @@ pub fn judge_exclude(derived: &Derived, value: &Exclusion) -> Verdict<Work>
     }
 }
 
-/// Takes all memory that an exclusion needs. After an error nothing changes but the room.
-pub fn room_for_exclude(derived: &mut Derived) -> Result<(), AllocError>
-    ensures room { (value : Exclusion) → OnOk result (HasRoom derived.new (works.Exclude value)) }
+/// Keeps sums of its SLO for an objective, unless they are kept: nothing is excluded from those
+/// that it shares with other SLOs.
+fn part(alloc: Global, derived: &mut Derived, measure: &Measure) -> Result<(), AllocError>
+    requires sound { IsSound derived.old }
+    requires objective { IsObjective derived.old.catalog measure.now }
+    requires range { IsMeasure measure.now }
+    ensures here { OnOk result
+        (Contains (keys_by false derived.new.sums.own) (counted measure.now)) }
+    ensures still { (key : Measure) → Contains (keys_by false derived.old.sums.own) key
+        → Contains (keys_by false derived.new.sums.own) key }
     ensures stays { Stays derived.old derived.new }
 {
+    let kept = derived.sums.has_own(measure);
+    if kept {
+        return Ok(());
+    }
+    let sums = sums_over(alloc, measure, false, &derived.book)?;
+    derived.sums.add_own(measure, sums)?;
+    Ok(())
+}
+
+/// Keeps sums of their SLO for objectives.
+fn part_all(alloc: Global, derived: &mut Derived, measures: &[Measure]) -> Result<(), AllocError>
+    requires sound { IsSound derived.old }
+    requires objectives { AllByRecursion (IsObjective derived.old.catalog) measures.now }
+    requires ranges { All IsMeasure measures.now }
+    ensures here { OnOk result (AllByRecursion (λ (m : Measure).
+        Contains (keys_by false derived.new.sums.own) (counted m)) measures.now) }
+    ensures stays { Stays derived.old derived.new }
+{
+    for measure in measures {
+        part(alloc, derived, measure)?;
+    }
+    Ok(())
+}
+
+/// Takes all memory that an exclusion needs: the objectives of its SLO get sums of their own. After
+/// an error nothing changes but the room.
+pub fn room_for_exclude(
+    alloc: Global,
+    derived: &mut Derived,
+    value: &Exclusion,
+) -> Result<(), AllocError>
+    requires { IsSound derived.old }
+    ensures room { OnOk result (HasRoom derived.new (works.Exclude value.now)) }
+    ensures stays { Stays derived.old derived.new }
+{
+    let measures = measures_named(alloc, &derived.catalog, value.slo)?;
+    part_all(alloc, derived, &measures)?;
     derived.book.reserve(1)
 }
 

@@ -1,3 +1,4 @@
+use Rattle.std.proofs.Common.{[]}
 use Rattle.catalog_changes.proofs.ChangeLemmas.{define_reflects, define_sound}
 use Rattle.catalog_changes.proofs.PlanLemmas.{plan_taken}
 use Rattle.catalog_changes.proofs.definition.apply_define.Goals as goal
@@ -13,6 +14,12 @@ returns-clause-sound c =
     define_sound c.texts_have_bodies_of_their_kinds.ensures d c.requires.next.0
     c.args.moment c.args.text
     c.args.catalog c.args.applied c.args.plan c.take.new.self c.requires.sound c.requires.next.1
-    (λ is. plan_taken d.catalog c.args.catalog d.book.exclusions d.book.rows c.args.plan d.sums.kept
-    c.take.new.self.kept c.requires.sound.sums is
-    (c.take.ensures.sums d.book.exclusions d.book.rows) c.take.ensures.wanted c.take.ensures.there)
+    (λ is. plan_taken d.catalog c.args.catalog d.book.exclusions d.book.rows c.args.plan d.sums
+    c.take.new.self c.requires.sound.sums is (record {
+      own = c.take.ensures.own d.book.exclusions d.book.rows;
+      pooled = c.take.ensures.pooled [] d.book.rows;
+      own_wanted = c.take.ensures.own_wanted;
+      pooled_wanted = c.take.ensures.pooled_wanted;
+      own_there = c.take.ensures.own_there;
+      pooled_there = c.take.ensures.pooled_there;
+    }))

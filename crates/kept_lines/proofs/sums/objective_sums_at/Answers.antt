@@ -9,14 +9,14 @@ use Rattle.kept_lines.proofs.sums.objective_sums_at.Goals as goal
 pub unreachable-requires : goal.unreachable-requires
 unreachable-requires c =
     never_lacking c.args.derived.now c.args.measure.now c.requires.sound c.requires.objective
-    (c.find_at.ensures.none c.in-None.is)
+    (c.find_at.ensures.own c.in-None.is) (c.find_at.ensures.pooled c.in-None.is)
 
 -- the sums that are found are those of the rows
 found : (c : goal.After-width) → SumsAreKept c.args.measure.now c.args.derived.now.book.exclusions
     c.args.derived.now.book.rows c.in-Some.sums.now
 found c =
     kept_there c.args.derived.now c.args.measure.now c.in-Some.sums.now c.requires.sound
-    c.in-Some.ensures.some
+    c.requires.objective c.in-Some.ensures.some
 
 counted : (c : goal.After-width) (slice : ℕ) → counts_of c.in-Some.sums.now slice
     ≡ slice_counts (samples_of c.args.derived.now.book) c.args.measure.now slice
@@ -36,3 +36,6 @@ returns-clause-sums c =
 
 pub returns-clause-counts : goal.returns-clause-counts
 returns-clause-counts c = counted c
+
+pub returns-clause-kept : goal.returns-clause-kept
+returns-clause-kept c = found c

@@ -2,6 +2,7 @@ use Rattle.std.proofs.Common.{sym, ◌∙◌, refl, ap, ◌≡◌, ◌<◌, ◌+
 use Rattle.std.proofs.Common.{slice_get, Some}
 use Rattle.slice_method.specs.declared.Method.{Method}
 use Rattle.window_sums.specs.Slices.{slice_of}
+use Rattle.kept_sums.specs.Objectives.{made_for}
 use Rattle.kept_sums.specs.Sums.{RowFits}
 use Rattle.kept_sums.proofs.FollowLemmas.{follow_begins, follow_ends, follow_may, follow_next}
 use Rattle.kept_sums.proofs.FollowLemmas.{verdict_there}
@@ -10,7 +11,8 @@ use Rattle.kept_sums.proofs.batch.count_batch.Goals as goal
 
 pub loop-place-init : goal.loop-place-init
 loop-place-init c = record {
-  followed = follow_begins c.args.measure.now c.args.book.now.exclusions c.args.book.now.rows
+  followed = follow_begins c.args.measure.now (made_for c.args.pool c.args.book.now.exclusions)
+      c.args.book.now.rows
       c.args.rows.now c.args.sums.now
       c.rows_are_current.ensures c.requires.kept c.requires.forms;
   touched = λ slice none. refl;
@@ -38,7 +40,7 @@ follow_row-requires c =
     record {
       may = (
         before ++ take at rows,
-        follow_may c.args.measure.now c.args.book.now.exclusions
+        follow_may c.args.measure.now (made_for c.args.pool c.args.book.now.exclusions)
             before rows at row c.index-verdicts-place.result c.args.sums.now c.loop-place.sums
             c.loop-place.invariant.followed here judged
             c.requires.fit c.requires.days c.requires.few,
@@ -59,12 +61,13 @@ loop-place-preserved c =
     c.index-verdicts-place.is) in
     let given = get_index c.args.verdicts.now at c.index-verdicts-place.result less
     c.index-verdicts-place.is in
-    let may = follow_may c.args.measure.now c.args.book.now.exclusions
+    let may = follow_may c.args.measure.now (made_for c.args.pool c.args.book.now.exclusions)
     before rows at row c.index-verdicts-place.result c.args.sums.now c.loop-place.sums
     c.loop-place.invariant.followed here judged
     c.requires.fit c.requires.days c.requires.few in
     record {
-      followed = follow_next c.args.measure.now c.args.book.now.exclusions before
+      followed = follow_next c.args.measure.now (made_for c.args.pool c.args.book.now.exclusions)
+          before
           rows at row c.args.sums.now c.loop-place.sums c.follow_row.new.sums
           c.loop-place.invariant.followed here
           (all_at (RowFits c.args.measure.now) rows at row here c.requires.fit)
@@ -84,7 +87,8 @@ loop-place-preserved c =
 
 pub returns-clause-kept : goal.returns-clause-kept
 returns-clause-kept c =
-    follow_ends c.args.measure.now c.args.book.now.exclusions c.args.book.now.rows c.args.rows.now
+    follow_ends c.args.measure.now (made_for c.args.pool c.args.book.now.exclusions)
+    c.args.book.now.rows c.args.rows.now
     c.loop-place.place c.args.sums.now c.loop-place.sums c.loop-place.invariant.followed
     (omega (arith, c.loop-place-test.false, c.loop-place.auto.place-end))
 

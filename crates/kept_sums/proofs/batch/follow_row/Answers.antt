@@ -1,6 +1,7 @@
 use Rattle.std.proofs.Common.{◌≡◌, ◌++◌, ◌∷◌, [], true, ap, subst, sym, ◌∙◌}
 use Rattle.sample_book.specs.Rows.{current_rows}
 use Rattle.window_sums.specs.Shares.{IsSumOf}
+use Rattle.kept_sums.specs.Objectives.{made_for}
 use Rattle.kept_sums.specs.Replacing.{MayReplace, among, changes_counts}
 use Rattle.kept_sums.specs.Sums.{HasItsDay, row_counts}
 use Rattle.kept_sums.proofs.FollowLemmas.{all_next, fits_replaced, moved, moved_facts, moves_own}
@@ -9,7 +10,8 @@ use Rattle.kept_sums.proofs.batch.follow_row.Goals as goal
 
 pub returns-then-not-changes_counts-clause-kept : goal.returns-then-not-changes_counts-clause-kept
 returns-then-not-changes_counts-clause-kept c = λ came may.
-    stayed c.args.measure.now c.args.book.now.exclusions c.args.row.now c.args.verdict.now
+    stayed c.args.measure.now (made_for c.args.pool c.args.book.now.exclusions) c.args.row.now
+    c.args.verdict.now
     c.args.sums.now came may (sym c.changes_counts.ensures ∙ c.if-not-changes_counts.true)
 
 pub replaced_counts-old-requires : goal.replaced_counts-old-requires
@@ -20,7 +22,8 @@ replaced_counts-old-requires c =
     ∙ c.if-not-changes_counts.false in
     fits_replaced c.args.measure.now (current_rows k.0) c.args.row.now c.args.verdict.now
     (current_rows (k.0 ++ c.args.row.now ∷ []))
-    (moved c.args.measure.now c.args.book.now.exclusions c.args.row.now c.args.verdict.now
+    (moved c.args.measure.now (made_for c.args.pool c.args.book.now.exclusions) c.args.row.now
+    c.args.verdict.now
     c.args.sums.now k.0 k.1 is) k.1.forms
 
 pub exchange-requires-clause-day : goal.exchange-requires-clause-day
@@ -34,7 +37,8 @@ exchange-requires-clause-may c =
     let is : changes_counts c.args.measure.now c.args.row.now c.args.verdict.now ≡ true =
     sym c.changes_counts.ensures
     ∙ c.if-not-changes_counts.false in
-    let facts = moved_facts c.args.measure.now c.args.book.now.exclusions c.args.row.now
+    let facts = moved_facts c.args.measure.now (made_for c.args.pool c.args.book.now.exclusions)
+    c.args.row.now
     c.args.verdict.now c.args.sums.now k.0 k.1 is in
     let minute = c.args.row.now.minute in (
       facts.before,
@@ -42,7 +46,8 @@ exchange-requires-clause-may c =
       subst (λ n. MayReplace c.args.sums.now minute c.replaced_counts-old.result n facts.before
           facts.after) (sym c.counts_near-new.ensures)
           (subst (λ m. MayReplace c.args.sums.now minute m (row_counts c.args.measure.now
-          c.args.book.now.exclusions c.args.row.now) facts.before facts.after)
+          (made_for c.args.pool c.args.book.now.exclusions) c.args.row.now) facts.before
+          facts.after)
           (sym c.replaced_counts-old.ensures) facts.may),
     )
 
@@ -52,7 +57,8 @@ returns-clause-kept c = λ came may.
     let row = c.args.row.now in
     let is : changes_counts m row c.args.verdict.now ≡ true =
     sym c.changes_counts.ensures ∙ c.if-not-changes_counts.false in
-    let facts = moved_facts m c.args.book.now.exclusions row c.args.verdict.now c.args.sums.now
+    let facts = moved_facts m (made_for c.args.pool c.args.book.now.exclusions) row
+    c.args.verdict.now c.args.sums.now
     came may is in
     record {
       method = c.exchange.ensures.method ∙ may.kept.method;

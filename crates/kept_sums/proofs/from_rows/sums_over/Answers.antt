@@ -7,6 +7,7 @@ use Rattle.sample_book.specs.LastRows.{last_place}
 use Rattle.sample_book.specs.Counting.{is_of}
 use Rattle.window_sums.specs.Shares.{IsSumOf}
 use Rattle.window_sums.specs.Slices.{day_of, no_counts}
+use Rattle.kept_sums.specs.Objectives.{made_for}
 use Rattle.kept_sums.specs.Replacing.{MayReplace, among}
 use Rattle.kept_sums.specs.Sums.{RowFits, HasItsDay, row_counts}
 use Rattle.kept_sums.specs.Walks.{IsWalking, rows_until}
@@ -24,9 +25,11 @@ loop-next-init c =
     let rows = c.args.book.now.rows in
     record {
       walking =
-          walk_begins (is_of m.sli) (λ row. no_counts) (row_counts m c.args.book.now.exclusions)
+          walk_begins (is_of m.sli) (λ row. no_counts)
+          (row_counts m (made_for c.args.pool c.args.book.now.exclusions))
           rows c.last_row-next.result c.new-sums.result c.last_row-next.ensures
-          (λ row other. sym (other_counts_none m c.args.book.now.exclusions row other))
+          (λ row other. sym (other_counts_none m (made_for c.args.pool c.args.book.now.exclusions)
+          row other))
           (none_counted c.new-sums.result c.new-sums.ensures.days rows);
       method = c.new-sums.ensures.method;
       days = days_behind m c.new-sums.result rows c.last_row-next.result c.last_row-next.ensures;
@@ -42,12 +45,13 @@ exchange-requires-clause-may c =
     let m = c.args.measure.now in
     let row = c.row_at-row.result in
     let rows = c.args.book.now.rows in
-    let h : Row → Counts = row_counts m c.args.book.now.exclusions in
+    let h : Row → Counts = row_counts m (made_for c.args.pool c.args.book.now.exclusions) in
     let w = subst (λ n. IsWalking (is_of m.sli) (λ row. no_counts) h rows n c.loop-next.sums)
     c.in-Some.is c.loop-next.invariant.walking in
     let facts = walk_facts (is_of m.sli) (λ row. no_counts) h c.in-Some.place
     rows row c.reserve.new.self c.row_at-row.ensures (small_zeros rows)
-    (small_rows m c.args.book.now.exclusions rows c.requires.forms) c.requires.few
+    (small_rows m (made_for c.args.pool c.args.book.now.exclusions) rows c.requires.forms)
+    c.requires.few
     (walking_same (is_of m.sli) (λ row. no_counts) h rows (Some c.in-Some.place) c.loop-next.sums
     c.reserve.new.self c.reserve.ensures.method c.reserve.ensures.counts w) in (
       facts.before,
@@ -68,13 +72,14 @@ loop-next-preserved c =
     let m = c.args.measure.now in
     let row = c.row_at-row.result in
     let rows = c.args.book.now.rows in
-    let h : Row → Counts = row_counts m c.args.book.now.exclusions in
+    let h : Row → Counts = row_counts m (made_for c.args.pool c.args.book.now.exclusions) in
     let new = c.exchange.new.sums in
     let w = subst (λ n. IsWalking (is_of m.sli) (λ row. no_counts) h rows n c.loop-next.sums)
     c.in-Some.is c.loop-next.invariant.walking in
     let facts = walk_facts (is_of m.sli) (λ row. no_counts) h c.in-Some.place
     rows row c.reserve.new.self c.row_at-row.ensures (small_zeros rows)
-    (small_rows m c.args.book.now.exclusions rows c.requires.forms) c.requires.few
+    (small_rows m (made_for c.args.pool c.args.book.now.exclusions) rows c.requires.forms)
+    c.requires.few
     (walking_same (is_of m.sli) (λ row. no_counts) h rows (Some c.in-Some.place) c.loop-next.sums
     c.reserve.new.self c.reserve.ensures.method c.reserve.ensures.counts w) in
     let counted = subst (IsSumOf new)
@@ -90,7 +95,8 @@ loop-next-preserved c =
     record {
       walking = walk_goes (is_of m.sli)
           (λ row. no_counts) h rows c.in-Some.place c.row_before-next.result new w.place.0 here
-          (λ row other. sym (other_counts_none m c.args.book.now.exclusions row other)) counted;
+          (λ row other. sym (other_counts_none m (made_for c.args.pool c.args.book.now.exclusions)
+          row other)) counted;
       method = c.exchange.ensures.method ∙ c.reserve.ensures.method ∙ c.loop-next.invariant.method;
       days = days_down m new rows c.in-Some.place c.row_before-next.result here
           (days_here m c.loop-next.sums new rows c.in-Some.place row c.row_at-row.ensures

@@ -2,6 +2,7 @@ use Rattle.std.proofs.Common.{◌≡◌, drop}
 use Rattle.std.specs.List.{AllByRecursion}
 use Rattle.sample_book.specs.Counting.{is_of}
 use Rattle.window_sums.specs.Slices.{no_counts}
+use Rattle.kept_sums.specs.Objectives.{made_for}
 use Rattle.kept_sums.specs.Sums.{HasItsDay, row_counts}
 use Rattle.kept_sums.specs.Walks.{IsWalking, rows_until}
 use Rattle.kept_sums.proofs.from_rows.sums_over.Given as goal
@@ -10,7 +11,7 @@ use Rattle.kept_sums.proofs.from_rows.sums_over.Given as goal
 abbrev pub invariant-loop-next : goal.invariant-loop-next
 invariant-loop-next l = record {
   walking : IsWalking (is_of l.measure.sli) (λ row. no_counts)
-      (row_counts l.measure l.book.exclusions) l.book.rows l.next l.sums;
+      (row_counts l.measure (made_for l.pool l.book.exclusions)) l.book.rows l.next l.sums;
   method : l.sums.method ≡ l.measure.method;
   days : AllByRecursion (HasItsDay l.measure l.sums) (drop (rows_until l.next) l.book.rows);
 }

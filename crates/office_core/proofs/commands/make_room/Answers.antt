@@ -32,4 +32,4 @@ pub returns-in-Exclude-clause-room : goal.returns-in-Exclude-clause-room
 returns-in-Exclude-clause-room c =
     subst (λ (work : Work). OnOk c.room_for_exclude.result
     (HasRoom c.room_for_exclude.new.derived work)) (sym c.in-Exclude.is)
-    (c.room_for_exclude.ensures.room c.in-Exclude.field-0)
+    c.room_for_exclude.ensures.room

@@ -34,6 +34,9 @@ make_ready-requires-clause-few c =
     (subst (λ (command : Command). Judges o c.args.moment command Accepted) (sym judged.1) judged.0)
     judged.2
 
+pub make_ready-requires-clause-sound : goal.make_ready-requires-clause-sound
+make_ready-requires-clause-sound c = c.requires.kept.3.sound
+
 pub make_ready-requires-clause-range : goal.make_ready-requires-clause-range
 make_ready-requires-clause-range c =
     let o = office_of c.args.derived.now c.args.records.now.history in
@@ -93,19 +96,19 @@ returns-in-Err-clause-kept c =
 pub returns-in-Same-clause-sums : goal.returns-in-Same-clause-sums
 returns-in-Same-clause-sums c =
     let d = c.args.derived.now in
-    count_same d.catalog d.book.exclusions d.book.rows d.sums.kept d.sums.kept
+    count_same d.catalog d.book.exclusions d.book.rows d.sums d.sums
     c.requires.kept.3.sound.sums c.requires.kept.3.sound.sums
 
 pub returns-in-Refused-clause-sums : goal.returns-in-Refused-clause-sums
 returns-in-Refused-clause-sums c =
     let d = c.args.derived.now in
-    count_same d.catalog d.book.exclusions d.book.rows d.sums.kept d.sums.kept
+    count_same d.catalog d.book.exclusions d.book.rows d.sums d.sums
     c.requires.kept.3.sound.sums c.requires.kept.3.sound.sums
 
 pub returns-in-NoMemory-clause-sums : goal.returns-in-NoMemory-clause-sums
 returns-in-NoMemory-clause-sums c =
     let d = c.args.derived.now in
-    count_same d.catalog d.book.exclusions d.book.rows d.sums.kept d.sums.kept
+    count_same d.catalog d.book.exclusions d.book.rows d.sums d.sums
     c.requires.kept.3.sound.sums c.requires.kept.3.sound.sums
 
 pub returns-in-Ok-clause-sums : goal.returns-in-Ok-clause-sums

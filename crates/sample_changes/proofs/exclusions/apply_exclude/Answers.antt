@@ -1,10 +1,12 @@
-use Rattle.std.proofs.Common.{refl, true}
+use Rattle.std.proofs.Common.{Bool, List, refl, subst, sym, true}
+use Rattle.sample_book.specs.declared.Exclusion.{Exclusion}
+use Rattle.kept_sums.specs.Objectives.{HasSums}
 use Rattle.kept_sums.specs.Walks.{made_on}
 use Rattle.office_history.specs.History.{arrivals_in}
 use Rattle.office_derived.specs.declared.Work.TheVariants as works
 use Rattle.office_derived.proofs.FormLemmas.{sound_forms}
 use Rattle.sample_changes.proofs.ExclusionLemmas.{change_reflected, change_sound}
-use Rattle.sample_changes.proofs.Following.{kept_over}
+use Rattle.sample_changes.proofs.Following.{excluded_still, kept_over}
 use Rattle.sample_changes.proofs.Kept.{exclude_entries}
 use Rattle.sample_changes.proofs.exclusions.apply_exclude.Goals as goal
 
@@ -30,7 +32,11 @@ returns-clause-sound c =
     let book = c.exclude.new.self in
     change_sound d book c.follow_exclusion.new.self c.args.moment c.requires.sound
     (exclude_entries d c.requires.next.0 c.args.moment c.args.value c.requires.next.1)
-    c.exclude.ensures.rows c.follow_exclusion.ensures.measures
+    c.exclude.ensures.rows c.follow_exclusion.ensures.measures c.follow_exclusion.ensures.pooled
     (kept_over (made_on d.book.exclusions c.args.value true) book.exclusions d.book.rows book.rows
-    c.follow_exclusion.new.self.kept c.exclude.ensures.exclusions c.exclude.ensures.rows
+    c.follow_exclusion.new.self.own c.exclude.ensures.exclusions c.exclude.ensures.rows
     c.follow_exclusion.ensures.kept)
+    (λ m is has. subst (λ (es : List (Exclusion × Bool)).
+    HasSums es d.sums.own d.sums.pooled m) (sym c.exclude.ensures.exclusions)
+    (excluded_still d.catalog d.book.exclusions c.args.value d.sums.own d.sums.pooled
+    c.requires.room.1 m is has))

@@ -5,7 +5,7 @@ use Rattle.office_history.specs.History.{arrivals_in}
 use Rattle.office_derived.specs.declared.Work.TheVariants as works
 use Rattle.office_derived.proofs.FormLemmas.{sound_forms}
 use Rattle.sample_changes.proofs.ExclusionLemmas.{change_reflected, change_sound}
-use Rattle.sample_changes.proofs.Following.{kept_alike, kept_over, made_anew}
+use Rattle.sample_changes.proofs.Following.{kept_alike, kept_over, lifted_still, made_anew}
 use Rattle.sample_changes.proofs.Kept.{lift_entries}
 use Rattle.sample_changes.proofs.exclusions.apply_lift.Goals as goal
 
@@ -14,16 +14,16 @@ follow_exclusion-requires-clause-kept c =
     let d = c.args.derived.now in
     let value = c.live_exclusion-value.result in
     let anew = c.lift.new.self.exclusions ++ (value, true) ∷ [] in
-    kept_over anew anew d.book.rows c.lift.new.self.rows d.sums.kept refl c.lift.ensures.rows
-    (kept_alike d.book.exclusions anew d.book.rows d.sums.kept
+    kept_over anew anew d.book.rows c.lift.new.self.rows d.sums.own refl c.lift.ensures.rows
+    (kept_alike d.book.exclusions anew d.book.rows d.sums.own
     (made_anew d.book.exclusions c.lift.new.self.exclusions value
     (λ slo minute. c.lift.ensures.minutes value slo minute c.live_exclusion-value.ensures))
-    c.requires.sound.sums.sums)
+    c.requires.sound.sums.own)
 
 pub follow_exclusion-requires-clause-forms : goal.follow_exclusion-requires-clause-forms
 follow_exclusion-requires-clause-forms c =
     let d = c.args.derived.now in
-    subst (λ (rows : List Row). HaveForms rows d.sums.kept) (sym c.lift.ensures.rows)
+    subst (λ (rows : List Row). HaveForms rows d.sums.own) (sym c.lift.ensures.rows)
     (sound_forms d c.requires.sound)
 
 pub returns-clause-reflects : goal.returns-clause-reflects
@@ -44,7 +44,12 @@ returns-clause-sound c =
     let d = c.args.derived.now in
     change_sound d c.lift.new.self c.follow_exclusion.new.self c.args.moment c.requires.sound
     (lift_entries d c.requires.next.0 c.args.moment c.args.id c.requires.next.1)
-    c.lift.ensures.rows c.follow_exclusion.ensures.measures c.follow_exclusion.ensures.kept
+    c.lift.ensures.rows c.follow_exclusion.ensures.measures c.follow_exclusion.ensures.pooled
+    c.follow_exclusion.ensures.kept
+    (lifted_still d.catalog d.book.exclusions c.lift.new.self.exclusions
+    c.live_exclusion-value.result d.sums.own d.sums.pooled
+    (λ slo minute. c.lift.ensures.minutes c.live_exclusion-value.result slo minute
+    c.live_exclusion-value.ensures))
 
 pub returns-clause-minutes : goal.returns-clause-minutes
 returns-clause-minutes c value slo minute is = c.lift.ensures.minutes value slo minute is

@@ -1,4 +1,4 @@
-use Rattle.std.proofs.Common.{◌+◌, ◌≤◌, ◌++◌, refl, sym, subst, arith, length, List, map}
+use Rattle.std.proofs.Common.{◌+◌, ◌≤◌, ◌++◌, [], refl, sym, subst, arith, length, List, map}
 use Rattle.slo_limits.specs.declared.TheConstants.{MAX_SUMMED_ROWS}
 use Rattle.std.proofs.lemmas.List.{append-nil}
 use Rattle.sample_book.specs.declared.Row.{Row}
@@ -9,9 +9,9 @@ use Rattle.office_history.specs.History.{arrivals_in, with_entry}
 use Rattle.office_derived.specs.declared.Derived.{Derived}
 use Rattle.office_derived.specs.declared.Work.TheVariants as works
 use Rattle.office_derived.specs.Derived.{Reflects, entry_of}
-use Rattle.office_derived.proofs.FormLemmas.{sound_forms}
+use Rattle.office_derived.proofs.FormLemmas.{sound_forms, sound_pooled_forms}
 use Rattle.office_derived.proofs.Still.{reflects_still}
-use Rattle.sample_changes.proofs.Following.{batch_fits, batch_followed}
+use Rattle.sample_changes.proofs.Following.{batch_fits, batch_fits_pooled, batch_followed}
 use Rattle.sample_changes.proofs.Kept.{may_come, samples_few, samples_sound, samples_summed}
 use Rattle.sample_changes.proofs.Kept.{samples_taken}
 use Rattle.sample_changes.proofs.samples.apply_samples.Goals as goal
@@ -19,10 +19,21 @@ use Rattle.sample_changes.proofs.samples.apply_samples.Goals as goal
 pub follow_rows-requires-clause-forms : goal.follow_rows-requires-clause-forms
 follow_rows-requires-clause-forms c = sound_forms c.args.derived.now c.requires.sound
 
+pub follow_rows-requires-clause-pooled_forms : goal.follow_rows-requires-clause-pooled_forms
+follow_rows-requires-clause-pooled_forms c =
+    sound_pooled_forms c.args.derived.now c.requires.sound
+
+pub follow_rows-requires-clause-pooled_fit : goal.follow_rows-requires-clause-pooled_fit
+follow_rows-requires-clause-pooled_fit c =
+    let d = c.args.derived.now in
+    subst (λ (rows : List Row). HaveForms rows d.sums.pooled) (sym c.as_slice-batch.ensures)
+    (batch_fits_pooled d c.requires.next.0 c.args.moment c.args.rows c.args.tally c.args.verdicts
+    c.requires.sound c.requires.next.1)
+
 pub follow_rows-requires-clause-fit : goal.follow_rows-requires-clause-fit
 follow_rows-requires-clause-fit c =
     let d = c.args.derived.now in
-    subst (λ (rows : List Row). HaveForms rows d.sums.kept) (sym c.as_slice-batch.ensures)
+    subst (λ (rows : List Row). HaveForms rows d.sums.own) (sym c.as_slice-batch.ensures)
     (batch_fits d c.requires.next.0 c.args.moment c.args.rows c.args.tally c.args.verdicts
     c.requires.sound c.requires.next.1)
 
@@ -100,5 +111,8 @@ returns-clause-sound c =
     refl refl
     (batch_followed d d' o c.args.moment rows tally becomes c.requires.sound next r refl
     c.put_rows.ensures.exclusions c.follow_rows.ensures.measures
+    c.follow_rows.ensures.pooled_measures
     (subst (λ (rows : List Row). AreKept d.book.exclusions (current_rows (d.book.rows ++ rows))
-    d'.sums.kept) c.as_slice-batch.ensures c.follow_rows.ensures.kept))
+    d'.sums.own) c.as_slice-batch.ensures c.follow_rows.ensures.kept)
+    (subst (λ (rows : List Row). AreKept [] (current_rows (d.book.rows ++ rows))
+    d'.sums.pooled) c.as_slice-batch.ensures c.follow_rows.ensures.pooled))

@@ -1,4 +1,4 @@
-use Rattle.std.proofs.Common.{refl}
+use Rattle.std.proofs.Common.{[], refl}
 use Rattle.sample_changes.proofs.Following.{days_made}
 use Rattle.sample_changes.proofs.samples.room_for_samples.Goals as goal
 
@@ -21,7 +21,8 @@ returns-clause-stays c =
       notices = refl;
       states = refl;
       sums = days_made d.catalog d.book.exclusions book.exclusions d.book.rows book.rows
-          d.sums.kept sums.kept c.make_room.ensures.exclusions c.make_room.ensures.rows
-          c.reserve_rows.ensures.measures
-          (c.reserve_rows.ensures.kept d.book.exclusions d.book.rows);
+          d.sums sums c.make_room.ensures.exclusions c.make_room.ensures.rows
+          c.reserve_rows.ensures.measures c.reserve_rows.ensures.pooled_measures
+          (c.reserve_rows.ensures.kept d.book.exclusions d.book.rows)
+          (c.reserve_rows.ensures.pooled [] d.book.rows);
     }

@@ -15,7 +15,6 @@ use Rattle.kept_lines.specs.Watches.{IsWatched}
 use Rattle.kept_lines.specs.declared.kept.WatchLine.{WatchLine}
 use Rattle.kept_lines.proofs.ForgetLemmas.{all_early, forget_back, forget_end, forget_step}
 use Rattle.kept_lines.proofs.ForgetLemmas.{keeps_over}
-use Rattle.kept_lines.proofs.KeptLemmas.{kept_there}
 use Rattle.kept_lines.proofs.LineLemmas.{objective_watched}
 use Rattle.kept_lines.proofs.kept.KeptLines.forget_exclusion.Goals as goal
 
@@ -53,7 +52,7 @@ forget_changed-requires-clause-kept c =
     let sums = c.objective_sums-sums.result.now in
     subst (λ (m : Measure). SumsAreKept m d.book.exclusions d.book.rows sums)
     c.measure.ensures.value
-    (kept_there d c.measure.result.now sums c.requires.sound c.objective_sums-sums.ensures.kept)
+    c.objective_sums-sums.ensures.kept
 
 pub forget_changed-requires-clause-rule : goal.forget_changed-requires-clause-rule
 forget_changed-requires-clause-rule c = (here c).rule

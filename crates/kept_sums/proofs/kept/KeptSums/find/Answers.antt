@@ -1,21 +1,41 @@
-use Rattle.std.proofs.Common.{◌≡◌, ◌++◌, List, ap, subst, sym, ◌∙◌}
-use Rattle.std.specs.List.{Contains}
-use Rattle.std.proofs.lemmas.List.Elements.{Contains-append_right}
+use Rattle.std.proofs.Common.{◌≡◌, ◌∙◌, List, ap, false, inl, inr, refl, subst, true}
+use Rattle.std.proofs.lemmas.Option.{IfSome_then}
+use Rattle.kept_sums.specs.Found.{IsFound}
 use Rattle.kept_sums.specs.Objectives.{KeptObjectives}
 use Rattle.kept_sums.specs.declared.kept.ObjectiveSums.{ObjectiveSums}
+use Rattle.kept_sums.proofs.SharedLemmas.{no-key-in}
 use Rattle.kept_sums.proofs.kept.KeptSums.find.Goals as goal
 
--- what stands behind the likely place is kept
 pub returns-in-Some-clause-some : goal.returns-in-Some-clause-some
 returns-in-Some-clause-some c =
-    let before = c.split_at.result.0.now in
-    let behind = c.split_at.result.1.now in
-    let found : ObjectiveSums = record {
-      measure = c.args.measure.now;
-      sums = c.in-Some.sums.now;
-    } in
-    let all : before ++ behind ≡ c.args.self.now.kept =
-    sym c.split_at.ensures.by_index.0 ∙ c.deref-2.ensures.value
-    ∙ ap (λ (k : KeptObjectives). k.kept) c.self.view_is in
-    subst (λ (kept : List ObjectiveSums). Contains kept found) all
-    (Contains-append_right before behind found c.in-Some.ensures.some)
+    let own : c.deref.result.now ≡ c.args.self.now.own =
+    c.deref.ensures.value ∙ ap (λ (k : KeptObjectives). k.own) c.self.view_is in
+    inl (subst (λ (kept : List ObjectiveSums).
+    IsFound false kept c.args.measure.now c.in-Some.sums.now) own c.in-Some.ensures.some)
+
+pub returns-in-None-clause-some : goal.returns-in-None-clause-some
+returns-in-None-clause-some c =
+    let own : c.deref.result.now ≡ c.args.self.now.own =
+    c.deref.ensures.value ∙ ap (λ (k : KeptObjectives). k.own) c.self.view_is in
+    let pool : c.deref-2.result.now ≡ c.args.self.now.pooled =
+    c.deref-2.ensures.value ∙ ap (λ (k : KeptObjectives). k.pooled) c.self.view_is in
+    IfSome_then c.find_by-in-None.result c.find_by-in-None.ensures.some (λ sums found. inr (
+      no-key-in false c.deref.result.now c.args.self.now.own c.args.measure.now own
+          (c.in-None.ensures.none refl),
+      subst (λ (kept : List ObjectiveSums). IsFound true kept c.args.measure.now sums.now) pool
+          found,
+    ))
+
+pub returns-in-None-clause-own : goal.returns-in-None-clause-own
+returns-in-None-clause-own c = λ none.
+    let own : c.deref.result.now ≡ c.args.self.now.own =
+    c.deref.ensures.value ∙ ap (λ (k : KeptObjectives). k.own) c.self.view_is in
+    no-key-in false c.deref.result.now c.args.self.now.own c.args.measure.now own
+    (c.in-None.ensures.none refl)
+
+pub returns-in-None-clause-pooled : goal.returns-in-None-clause-pooled
+returns-in-None-clause-pooled c = λ none.
+    let pool : c.deref-2.result.now ≡ c.args.self.now.pooled =
+    c.deref-2.ensures.value ∙ ap (λ (k : KeptObjectives). k.pooled) c.self.view_is in
+    no-key-in true c.deref-2.result.now c.args.self.now.pooled c.args.measure.now pool
+    (c.find_by-in-None.ensures.none none)

@@ -20,4 +20,4 @@ invariant_of-result c =
     } in
     kept_new d c.new-8.result c.new-2.result.history _ _ c.new-8.ensures c.new-2.ensures
     c.requires refl refl c.new-3.ensures c.new-4.ensures c.in_ok-book.ensures.history
-    c.new-5.ensures refl refl c.new-6.ensures c.new-7.ensures.items
+    c.new-5.ensures.own c.new-5.ensures.pooled refl refl c.new-6.ensures c.new-7.ensures.items
