@@ -481,6 +481,7 @@ fn make_room_for(
     work: &Work,
 ) -> Result<Option<LinesPlan>, AllocError>
     requires few { TellsFew work.now }
+    requires sound { IsSound derived.old }
     requires lines { HasLines derived.old lines.old.kept }
     ensures stays { Stays derived.old derived.new }
     ensures records { records.new.history ≡ records.old.history }
