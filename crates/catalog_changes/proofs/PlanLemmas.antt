@@ -1,6 +1,6 @@
 -- The sums that are kept once a plan was taken.
-use Rattle.std.proofs.Common.{◌≡◌, ◌∙◌, ◌<◌, inl, inr, ℕ, Bool, true, false, zero, suc, arith, List}
-use Rattle.std.proofs.Common.{[], ◌∷◌, length, map, slice_index_or, sym}
+use Rattle.std.proofs.Common.{◌≡◌, ◌⊎◌, ◌∙◌, ◌<◌, inl, inr, ℕ, Bool, true, false, zero, suc, arith}
+use Rattle.std.proofs.Common.{List, [], ◌∷◌, length, map, slice_index_or}
 use Rattle.std.specs.List.{AllByRecursion, Contains}
 use Rattle.sample_book.specs.declared.Exclusion.{Exclusion}
 use Rattle.sample_book.specs.declared.Row.{Row}
@@ -8,8 +8,8 @@ use Rattle.object_terms.specs.declared.Object.{Object}
 use Rattle.kept_sums.specs.declared.ListPlan.{ListPlan}
 use Rattle.kept_sums.specs.declared.ObjectiveSums.{ObjectiveSums}
 use Rattle.kept_sums.specs.declared.SumsPlan.{SumsPlan}
-use Rattle.kept_sums.specs.Objectives.{AreKept, HasSums, IsLike, IsObjective, KeepsSums}
-use Rattle.kept_sums.specs.Objectives.{KeptObjectives, key_by, keys_by}
+use Rattle.kept_sums.specs.Objectives.{AreKept, HasNoExclusions, HasSums, IsLike, IsObjective}
+use Rattle.kept_sums.specs.Objectives.{KeepsSums, KeptObjectives, counted, key_by, keys_by}
 use Rattle.kept_sums.specs.Plans.{IsPlan, wanted_keys}
 use Rattle.office_history.specs.declared.Measure.{Measure}
 
@@ -66,6 +66,8 @@ plan_taken before after made rows plan old new keeps is taken = record {
     there : (m : Measure) → IsObjective after m → HasSums made new.own new.pooled m
     there m of = by (is.all m of)
       where
-        by : _ → HasSums made new.own new.pooled m
+        by : Contains (wanted_keys false plan.own) (counted m)
+            ⊎ (Contains (wanted_keys true plan.pooled) (key_by true m) × HasNoExclusions made m.slo)
+            → HasSums made new.own new.pooled m
         by (inl has) = inl (taken.own_there (key_by false m) has)
         by (inr has) = inr (taken.pooled_there (key_by true m) has.0, has.1)

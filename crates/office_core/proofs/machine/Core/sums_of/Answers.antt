@@ -16,4 +16,4 @@ returns-in-Some-clause-sums c =
     (ap (λ (m : Machine). m.sums) c.self.view_is) (sym c.in-Some.is ∙ c.measure_at.ensures.value)
     c.objective_sums.ensures.sums c.objective_sums.ensures.counts
     (told_seen d.catalog d.sums c.in-Some.measure c.objective_sums.result.now
-    c.measure_at.ensures.objective c.objective_sums.ensures.told)
+    c.in-Some.ensures.objective c.objective_sums.ensures.told)
