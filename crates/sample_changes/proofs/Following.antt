@@ -119,13 +119,13 @@ lifted_still members before after value own pool lifts m is (inl has) = inl has
 lifted_still members before after value own pool lifts m is (inr has) =
     inr (
       has.0,
-      λ minute. by (is_excluded after m.slo minute)
+      λ minute. by (is_excluded after m.slo minute) (excludes m.slo minute (value, true))
           (sym (lifts m.slo minute) ∙ has.1 minute),
     )
   where
-    by : (b : Bool) {c : Bool} → (b || c) ≡ false → b ≡ false
-    by true e = e
-    by false e = refl
+    by : (b c : Bool) → (b || c) ≡ false → b ≡ false
+    by true c e = e
+    by false c e = refl
 
 -- the same minutes of each SLO are excluded
 abbrev pub ExcludeAlike : List (Exclusion × Bool) → List (Exclusion × Bool) → Type 0

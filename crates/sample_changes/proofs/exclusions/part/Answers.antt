@@ -20,11 +20,11 @@ pub sums_over-sums-requires-clause-forms : goal.sums_over-sums-requires-clause-f
 sums_over-sums-requires-clause-forms c =
     objective_forms c.args.derived.now c.requires.sound c.args.measure.now c.requires.objective
 
-pub returns-in_err-sums_over-clause-stays : goal.returns-in_err-sums_over-clause-stays
-returns-in_err-sums_over-clause-stays c = stays_so c.args.derived.now
+pub returns-in_err-sums-clause-stays : goal.returns-in_err-sums-clause-stays
+returns-in_err-sums-clause-stays c = stays_so c.args.derived.now
 
 -- the sums of the objective, which are added
-entry : (c : After-add_own) → ObjectiveSums
+abbrev entry : (c : After-add_own) → ObjectiveSums
 entry c = record { measure = c.args.measure.now; sums = c.in_ok-sums.sums }
 
 pub returns-in_err-add_own-clause-stays : goal.returns-in_err-add_own-clause-stays

@@ -7,8 +7,8 @@ use Rattle.office_derived.proofs.Sound.{stays_so, stays_then}
 use Rattle.sample_changes.proofs.PartLemmas.{exclude_room, own_of, with_book}
 use Rattle.sample_changes.proofs.exclusions.room_for_exclude.Goals as goal
 
-pub returns-in_err-measures_named-clause-stays : goal.returns-in_err-measures_named-clause-stays
-returns-in_err-measures_named-clause-stays c = stays_so c.args.derived.now
+pub returns-in_err-measures-clause-stays : goal.returns-in_err-measures-clause-stays
+returns-in_err-measures-clause-stays c = stays_so c.args.derived.now
 
 pub part_all-requires-clause-objectives : goal.part_all-requires-clause-objectives
 part_all-requires-clause-objectives c =
