@@ -1,6 +1,7 @@
 //! The sums that a plan wants, kept, and those that it brings, taken.
 ghost use Rattle.std.specs.Prelude.{◌⊎◌, ◌-◌, ◌≤◌, Bool, List, false, length, true};
 ghost use Rattle.std.specs.Prelude.{vec_capacity, vec_len};
+ghost use Rattle.std.specs.Bool.{Decides};
 ghost use Rattle.std.specs.List.{AllByRecursion, Contains};
 ghost use Rattle.sample_book.specs.declared.Exclusion.{Exclusion};
 ghost use Rattle.sample_book.specs.declared.Row.{Row};
@@ -10,11 +11,11 @@ ghost use Rattle.kept_sums.specs.Plans.{IsReady, wanted_keys};
 ghost use Rattle.kept_sums.specs.declared.kept.ObjectiveSums.{ObjectiveSums};
 
 use crate::kept::{KeptSums, ObjectiveSums, name_by};
-use crate::plan::{ListPlan, SumsPlan, is_wanted};
+use crate::plan::{ListPlan, SumsPlan};
 
 /// Keeps what a plan wants of the sums that were there and of those that it brings, with no memory.
 /// What is kept then stands in the order of the names in which it is looked for.
-fn take_list(objectives: &mut Vec<ObjectiveSums>, pool: bool, plan: ListPlan)
+fn take_list(objectives: &mut Vec<ObjectiveSums>, pool: bool, mut plan: ListPlan)
     requires room { length plan.made.items
         ≤ vec_capacity objectives.old - vec_len objectives.old }
     ensures sums { (made : List (Exclusion × Bool)) (rows : List Row)
@@ -27,9 +28,13 @@ fn take_list(objectives: &mut Vec<ObjectiveSums>, pool: bool, plan: ListPlan)
         ⊎ Contains (keys_by pool plan.made.items) key
         → Contains (keys_by pool objectives.new.items) key }
 {
-    let ListPlan { wanted, mut made } = plan;
-    objectives.append(&mut made).unwrap();
-    objectives.retain(|kept| is_wanted(&wanted, pool, &kept.measure));
+    objectives.append(&mut plan.made).unwrap();
+    objectives.retain(
+        |kept: &ObjectiveSums| -> bool
+            ensures { Decides result
+                (Contains (wanted_keys pool plan) (key_by pool kept.now.measure)) }
+        { plan.wants(pool, &kept.measure) },
+    );
     objectives.sort_unstable_by_key(|kept| name_by(pool, &kept.measure));
 }
 

@@ -4,7 +4,7 @@ ghost use Rattle.std.specs.Bool.{Decides};
 ghost use Rattle.std.specs.List.{Contains};
 ghost use Rattle.office_history.specs.declared.Measure.{Measure};
 ghost use Rattle.kept_sums.specs.Objectives.{key_by};
-ghost use Rattle.kept_sums.specs.Plans.{HasEither, IsReady, IsThere};
+ghost use Rattle.kept_sums.specs.Plans.{HasEither, IsReady, IsThere, wanted_keys};
 
 use crate::kept::{KeptSums, ObjectiveSums, has_key};
 use crate::same::has_same_key;
@@ -36,6 +36,14 @@ impl ListPlan {
             wanted: Vec::new(alloc),
             made: Vec::new(alloc),
         }
+    }
+
+    /// Whether sums of this key are among those that are wanted.
+    pub(crate) fn wants(&self, pool: bool, measure: &Measure) -> bool
+        ensures { Decides result
+            (Contains (wanted_keys pool self.now) (key_by pool measure.now)) }
+    {
+        is_wanted(&self.wanted, pool, measure)
     }
 }
 

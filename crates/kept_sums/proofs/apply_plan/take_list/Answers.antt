@@ -1,5 +1,6 @@
 use Rattle.std.proofs.Common.{rules, ◌≡◌, ◌++◌, List, if◌then◌else◌, ap, subst, sym, ◌∙◌}
 use Rattle.std.specs.Prelude.{is_ok}
+use Rattle.std.specs.Bool.{Decides}
 use Rattle.std.specs.List.{Contains}
 use Rattle.kept_sums.specs.Sums.{SumsAreKept}
 use Rattle.office_history.specs.declared.Measure.{Measure}
@@ -12,7 +13,7 @@ use Rattle.kept_sums.proofs.TakeLemmas.{retained_wanted, there_in_order}
 use Rattle.kept_sums.proofs.apply_plan.take_list.Goals as goal
 
 -- both lists stand together before those that aren't wanted go
-together : (c : goal.After-drop-wanted) →
+together : (c : goal.After-drop-plan-2) →
     c.append.new.self.items ≡ c.args.objectives.now.items ++ c.args.plan.made.items
 together c =
     let old = c.args.objectives.now.items in
@@ -34,14 +35,24 @@ returns-clause-wanted c =
     each_in_order (λ (k : ObjectiveSums).
     Contains (wanted_keys c.args.pool c.args.plan) (key_by c.args.pool k.measure))
     c.retain.new.self.items _ c.sort_unstable_by_key.ensures.permutation
-    (retained_wanted key _ (wanted_keys c.args.pool c.args.plan) _ (λ x b g k. search rules) _
+    (retained_wanted key _ (wanted_keys c.args.pool c.args.plan) _ (λ x b g k. (
+      subst (λ (y : ObjectiveSums).
+          Decides b (Contains (wanted_keys c.args.pool c.args.plan) (key y))) k.shows
+          (search rules),
+      search rules,
+    )) _
     c.retain.new.self.items c.retain.ensures.filtered)
 
 pub returns-clause-there : goal.returns-clause-there
 returns-clause-there c = λ m want at.
     let key = λ (k : ObjectiveSums). key_by c.args.pool k.measure in
     there_in_order key c.retain.new.self.items _ m c.sort_unstable_by_key.ensures.permutation
-    (retained_there key _ (wanted_keys c.args.pool c.args.plan) _ (λ x b g k. search rules) _
+    (retained_there key _ (wanted_keys c.args.pool c.args.plan) _ (λ x b g k. (
+      subst (λ (y : ObjectiveSums).
+          Decides b (Contains (wanted_keys c.args.pool c.args.plan) (key y))) k.shows
+          (search rules),
+      search rules,
+    )) _
     c.retain.new.self.items c.retain.ensures.filtered m want
     (subst (λ (os : List ObjectiveSums). Contains (keys_by c.args.pool os) m) (sym (together c))
     (one_of_both key c.args.objectives.now.items c.args.plan.made.items m at)))

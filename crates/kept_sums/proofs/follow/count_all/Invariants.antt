@@ -1,7 +1,7 @@
 use Rattle.std.proofs.Common.{◌≡◌, ◌++◌}
 use Rattle.sample_book.specs.Rows.{current_rows}
 use Rattle.kept_sums.specs.Sums.{SumsAreKept}
-use Rattle.kept_sums.specs.Objectives.{measures_of}
+use Rattle.kept_sums.specs.Objectives.{made_for, measures_of}
 use Rattle.kept_sums.specs.declared.kept.ObjectiveSums.{ObjectiveSums}
 use Rattle.kept_sums.proofs.FollowNeeds.{MayFollow}
 use Rattle.kept_sums.proofs.Loops.{HalfDone}

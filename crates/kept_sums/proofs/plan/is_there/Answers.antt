@@ -1,4 +1,4 @@
-use Rattle.std.proofs.Common.{arith, subst}
+use Rattle.std.proofs.Common.{◌≡◌, List, Some, arith, slice_get, subst}
 use Rattle.std.specs.List.{AllByRecursion}
 use Rattle.office_history.specs.declared.Measure.{Measure}
 use Rattle.kept_sums.specs.Objectives.{key_by}
@@ -15,7 +15,9 @@ loop-measure-preserved c =
     let Has : Measure → Type 0 = λ m.
     HasEither c.args.pool c.args.objectives.now c.args.plan.now (key_by c.args.pool m) in
     one_more Has Has wanted at item
-    (get_index wanted at item c.loop-measure-test.true c.measure-item.is)
+    (subst (λ (items : List Measure). slice_get items at ≡ Some item)
+    c.deref-measure-items.ensures.value
+    (get_index c.deref-measure-items.result.now at item c.loop-measure-test.true c.measure-item.is))
     (λ m has. has) c.loop-measure.invariant (c.has_either-there.ensures c.if-not-there.false)
 
 pub returns : goal.returns

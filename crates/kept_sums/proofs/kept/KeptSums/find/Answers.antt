@@ -17,8 +17,8 @@ pub returns-in-None-clause-some : goal.returns-in-None-clause-some
 returns-in-None-clause-some c =
     let own : c.deref.result.now ≡ c.args.self.now.own =
     c.deref.ensures.value ∙ ap (λ (k : KeptObjectives). k.own) c.self.view_is in
-    let pool : c.deref-2.result.now ≡ c.args.self.now.pooled =
-    c.deref-2.ensures.value ∙ ap (λ (k : KeptObjectives). k.pooled) c.self.view_is in
+    let pool : c.deref-in-None.result.now ≡ c.args.self.now.pooled =
+    c.deref-in-None.ensures.value ∙ ap (λ (k : KeptObjectives). k.pooled) c.self.view_is in
     IfSome_then c.find_by-in-None.result c.find_by-in-None.ensures.some (λ sums found. inr (
       no-key-in false c.deref.result.now c.args.self.now.own c.args.measure.now own
           (c.in-None.ensures.none refl),
@@ -35,7 +35,7 @@ returns-in-None-clause-own c = λ none.
 
 pub returns-in-None-clause-pooled : goal.returns-in-None-clause-pooled
 returns-in-None-clause-pooled c = λ none.
-    let pool : c.deref-2.result.now ≡ c.args.self.now.pooled =
-    c.deref-2.ensures.value ∙ ap (λ (k : KeptObjectives). k.pooled) c.self.view_is in
-    no-key-in true c.deref-2.result.now c.args.self.now.pooled c.args.measure.now pool
+    let pool : c.deref-in-None.result.now ≡ c.args.self.now.pooled =
+    c.deref-in-None.ensures.value ∙ ap (λ (k : KeptObjectives). k.pooled) c.self.view_is in
+    no-key-in true c.deref-in-None.result.now c.args.self.now.pooled c.args.measure.now pool
     (c.find_by-in-None.ensures.none none)

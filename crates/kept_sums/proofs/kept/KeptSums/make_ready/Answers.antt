@@ -3,7 +3,7 @@ use Rattle.kept_sums.specs.Objectives.{KeptObjectives}
 use Rattle.kept_sums.specs.Plans.{IsThere}
 use Rattle.kept_sums.specs.declared.kept.ObjectiveSums.{ObjectiveSums}
 use Rattle.kept_sums.proofs.ReadyLemmas.{ready_for}
-use Rattle.kept_sums.proofs.plan.KeptSums.make_ready.Goals as goal
+use Rattle.kept_sums.proofs.kept.KeptSums.make_ready.Goals as goal
 
 pub returns-clause-ready : goal.returns-clause-ready
 returns-clause-ready c =
@@ -12,9 +12,11 @@ returns-clause-ready c =
     let pool : c.deref-2.result.now ≡ c.args.self.now.pooled =
     c.deref-2.ensures.value ∙ ap (λ (k : KeptObjectives). k.pooled) c.self.view_is in
     ready_for c.args.self.now c.reserve.new.self c.args.plan.now c.reserve.result
-    c.reserve.ensures.own c.reserve.ensures.pooled
+    c.len.result c.len-2.result c.reserve.ensures.own c.reserve.ensures.pooled
     (subst (λ (kept : List ObjectiveSums). IsThere false kept c.args.plan.now.own) own
     (c.is_there-own.ensures c.if-not-own.false))
     (subst (λ (kept : List ObjectiveSums). IsThere true kept c.args.plan.now.pooled) pool
     (c.is_there-pooled.ensures c.if-not-pooled.false))
-    c.reserve.ensures.own_spare c.reserve.ensures.pooled_spare
+    (c.len.ensures ∙ c.args.plan.now.own.made.ok.0)
+    (c.len-2.ensures ∙ c.args.plan.now.pooled.made.ok.0) c.reserve.ensures.own_spare
+    c.reserve.ensures.pooled_spare

@@ -4,7 +4,7 @@ use Rattle.kept_sums.specs.Found.{IsFound}
 use Rattle.kept_sums.specs.Objectives.{KeptObjectives}
 use Rattle.kept_sums.specs.declared.kept.ObjectiveSums.{ObjectiveSums}
 use Rattle.kept_sums.proofs.SharedLemmas.{no-key-in}
-use Rattle.kept_sums.proofs.by_hint.KeptSums.find_at.Goals as goal
+use Rattle.kept_sums.proofs.kept.KeptSums.find_at.Goals as goal
 
 pub returns-in-Some-clause-some : goal.returns-in-Some-clause-some
 returns-in-Some-clause-some c =
@@ -13,27 +13,28 @@ returns-in-Some-clause-some c =
     inl (subst (λ (kept : List ObjectiveSums).
     IsFound false kept c.args.measure.now c.in-Some.sums.now) own c.in-Some.ensures.some)
 
-pub returns-in-None-Some-clause-some : goal.returns-in-None-Some-clause-some
-returns-in-None-Some-clause-some c =
+pub returns-in-Some-pooled_at-clause-some : goal.returns-in-Some-pooled_at-clause-some
+returns-in-Some-pooled_at-clause-some c =
     let own : c.deref.result.now ≡ c.args.self.now.own =
     c.deref.ensures.value ∙ ap (λ (k : KeptObjectives). k.own) c.self.view_is in
-    let pool : c.deref-2.result.now ≡ c.args.self.now.pooled =
-    c.deref-2.ensures.value ∙ ap (λ (k : KeptObjectives). k.pooled) c.self.view_is in
+    let pool : c.deref-in-None.result.now ≡ c.args.self.now.pooled =
+    c.deref-in-None.ensures.value ∙ ap (λ (k : KeptObjectives). k.pooled) c.self.view_is in
     inr (
       no-key-in false c.deref.result.now c.args.self.now.own c.args.measure.now own
           (c.in-None.ensures.none refl),
       subst (λ (kept : List ObjectiveSums).
-          IsFound true kept c.args.measure.now c.in-None-Some.sums.now) pool
-          c.in-None-Some.ensures.found,
+          IsFound true kept c.args.measure.now c.in-Some-pooled_at.sums.now) pool
+          c.in-Some-pooled_at.ensures.found,
     )
 
-pub returns-in-None-None-clause-some : goal.returns-in-None-None-clause-some
-returns-in-None-None-clause-some c =
+pub returns-in-None-pooled_at-clause-some : goal.returns-in-None-pooled_at-clause-some
+returns-in-None-pooled_at-clause-some c =
     let own : c.deref.result.now ≡ c.args.self.now.own =
     c.deref.ensures.value ∙ ap (λ (k : KeptObjectives). k.own) c.self.view_is in
-    let pool : c.deref-3.result.now ≡ c.args.self.now.pooled =
-    c.deref-3.ensures.value ∙ ap (λ (k : KeptObjectives). k.pooled) c.self.view_is in
-    IfSome_then c.find_by-in-None-None.result c.find_by-in-None-None.ensures.some
+    let pool : c.deref-in-None-pooled_at.result.now ≡ c.args.self.now.pooled =
+    c.deref-in-None-pooled_at.ensures.value
+    ∙ ap (λ (k : KeptObjectives). k.pooled) c.self.view_is in
+    IfSome_then c.find_by-in-None-pooled_at.result c.find_by-in-None-pooled_at.ensures.some
     (λ sums found. inr (
       no-key-in false c.deref.result.now c.args.self.now.own c.args.measure.now own
           (c.in-None.ensures.none refl),
@@ -41,16 +42,17 @@ returns-in-None-None-clause-some c =
           found,
     ))
 
-pub returns-in-None-None-clause-own : goal.returns-in-None-None-clause-own
-returns-in-None-None-clause-own c = λ none.
+pub returns-in-None-pooled_at-clause-own : goal.returns-in-None-pooled_at-clause-own
+returns-in-None-pooled_at-clause-own c = λ none.
     let own : c.deref.result.now ≡ c.args.self.now.own =
     c.deref.ensures.value ∙ ap (λ (k : KeptObjectives). k.own) c.self.view_is in
     no-key-in false c.deref.result.now c.args.self.now.own c.args.measure.now own
     (c.in-None.ensures.none refl)
 
-pub returns-in-None-None-clause-pooled : goal.returns-in-None-None-clause-pooled
-returns-in-None-None-clause-pooled c = λ none.
-    let pool : c.deref-3.result.now ≡ c.args.self.now.pooled =
-    c.deref-3.ensures.value ∙ ap (λ (k : KeptObjectives). k.pooled) c.self.view_is in
-    no-key-in true c.deref-3.result.now c.args.self.now.pooled c.args.measure.now pool
-    (c.find_by-in-None-None.ensures.none none)
+pub returns-in-None-pooled_at-clause-pooled : goal.returns-in-None-pooled_at-clause-pooled
+returns-in-None-pooled_at-clause-pooled c = λ none.
+    let pool : c.deref-in-None-pooled_at.result.now ≡ c.args.self.now.pooled =
+    c.deref-in-None-pooled_at.ensures.value
+    ∙ ap (λ (k : KeptObjectives). k.pooled) c.self.view_is in
+    no-key-in true c.deref-in-None-pooled_at.result.now c.args.self.now.pooled c.args.measure.now
+    pool (c.find_by-in-None-pooled_at.ensures.none none)
