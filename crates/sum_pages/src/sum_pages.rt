@@ -67,6 +67,13 @@ impl SumPages {
         self.per_hour
     }
 
+    /// Whether a day is there.
+    pub fn has_day(&self, day: u32) -> bool
+        ensures { result ≡ has_day self.now day }
+    {
+        self.pages.contains_key(&day)
+    }
+
     /// Makes a day be there, without data where it wasn't. After an error all is as before.
     pub fn reserve_day(&mut self, day: u32) -> Result<(), AllocError>
         ensures per_hour { self.new.per_hour ≡ self.old.per_hour }
