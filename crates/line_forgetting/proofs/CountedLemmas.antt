@@ -1,8 +1,7 @@
 -- The slices that have counts, and those that an exclusion changes.
 use Rattle.std.proofs.Common.{◌≡◌, ◌≢◌, ◌⊎◌, inl, inr, ℕ, zero, suc, ◌+◌, ◌-◌, ◌*◌, ◌/◌, ◌≤◌}
 use Rattle.std.proofs.Common.{◌<◌, ◌==◌, nat_eq, nat_le, min, Bool, true, false, cond, refl, ap}
-use Rattle.std.proofs.Common.{sym, subst, ◌∙◌, arith, List, [], ◌∷◌, slice_get, slice_index_or}
-use Rattle.std.proofs.Common.{length, Some}
+use Rattle.std.proofs.Common.{sym, subst, ◌∙◌, arith, List, [], ◌∷◌, slice_get, Some}
 use Rattle.std.specs.Int.{div_ceil}
 use Rattle.std.specs.List.{AllByRecursion}
 use Rattle.std.specs.Str.{bytes_eq}
@@ -17,8 +16,9 @@ use Rattle.sample_book.specs.declared.Row.{Row}
 use Rattle.sample_book.specs.Exclusions.{excludes}
 use Rattle.slo_terms.specs.Sums.{amount_at}
 use Rattle.window_sums.specs.Shares.{Share, slice_counts}
-use Rattle.window_sums.specs.Slices.{CountedDays, counts_of, no_counts, slice_of, slices_a_day}
-use Rattle.window_sums.specs.Slices.{width_of}
+use Rattle.window_sums.specs.Slices.{CountedDays, counts_of, has_day, no_counts, slice_of}
+use Rattle.window_sums.specs.Slices.{slices_a_day, width_of}
+use Rattle.window_sums.proofs.ClearFacts as cleared
 use Rattle.office_history.specs.declared.Measure.{Measure}
 use Rattle.kept_sums.specs.Sums.{SumsAreKept, row_counts, shares_by}
 use Rattle.kept_sums.specs.Walks.{IsChanged, made_on}
@@ -440,19 +440,11 @@ day-begun n end day some less = omega (
 day_place : (n day place : ℕ) → place < n → (day * n + place) / n ≡ day
 day_place n day place less = div-mul-add day n place less
 
--- a place behind the last has no counts
-no_more : (counts : List Counts) (place : ℕ) → length counts ≤ place →
-    slice_index_or counts place no_counts ≡ no_counts
-no_more [] place le = refl
-no_more (x ∷ xs) zero le = absurd (omega (arith, le))
-no_more (x ∷ xs) (suc place) le = no_more xs place (omega (arith, le))
-
--- what is known of the counts of a day
-pub record AreOn (sums : CountedDays) (day : ℕ) (counts : List Counts) : Type 0 where
-  pub few : length counts ≤ slices_a_day sums.method
-  pub each : (place : ℕ) → place < slices_a_day sums.method →
-      counts_of sums (day * slices_a_day sums.method + place)
-      ≡ slice_index_or counts place no_counts
+-- on a day that isn't there no slice has counts
+pub none-on : (sums : CountedDays) (first end day k : ℕ) → has_day sums day ≡ false →
+    IsCountedOn sums first end day k → ⊥
+none-on sums first end day k absent is =
+    is.is.some (cleared.none_there sums day k absent is.on)
 
 -- before the first place none is passed
 pub none-until : (sums : CountedDays) (first end day k : ℕ) → 0 < slices_a_day sums.method →
@@ -465,42 +457,34 @@ none-until sums first end day k some is =
     omega (arith, is.is.is.from, is.before, begun)
 
 -- the slice at a place is counted where its counts aren't nothing
-pub one-counted : (sums : CountedDays) (first end day place : ℕ) (counts : List Counts)
-    (here : Counts) → AreOn sums day counts → first - day * slices_a_day sums.method ≤ place →
-    place < length counts → place < end - day * slices_a_day sums.method →
-    slice_index_or counts place no_counts ≡ here → (k : ℕ) →
+pub one-counted : (sums : CountedDays) (first end day place : ℕ) (here : Counts) →
+    first - day * slices_a_day sums.method ≤ place → place < slices_a_day sums.method →
+    place < end - day * slices_a_day sums.method →
+    here ≡ counts_of sums (day * slices_a_day sums.method + place) → (k : ℕ) →
     IsThatOne (day * slices_a_day sums.method + place) here k →
     IsCountedUntil sums first end day (day * slices_a_day sums.method + (place + 1)) k
-one-counted sums first end day place counts here are from less to at k is = record {
+one-counted sums first end day place here from less to at k is = record {
   is = record {
     is = record {
       from = omega (arith, is.is, from);
       to = omega (arith, is.is, to);
-      some = λ none. is.some (sym at ∙ sym (are.each place within)
-          ∙ ap (counts_of sums) (sym is.is) ∙ none);
+      some = λ none. is.some (at ∙ ap (counts_of sums) (sym is.is) ∙ none);
     };
     on = ap (λ q. q / slices_a_day sums.method) is.is
-        ∙ day_place (slices_a_day sums.method) day place within;
+        ∙ day_place (slices_a_day sums.method) day place less;
   };
   before = omega (arith, is.is);
 }
-  where
-    within : place < slices_a_day sums.method
-    within = omega (arith, less, are.few)
 
 -- one place more
-pub until-parts : (sums : CountedDays) (first end day place : ℕ) (counts : List Counts)
-    (here : Counts) → AreOn sums day counts → place < length counts →
-    slice_index_or counts place no_counts ≡ here → (k : ℕ) →
+pub until-parts : (sums : CountedDays) (first end day place : ℕ) (here : Counts) →
+    here ≡ counts_of sums (day * slices_a_day sums.method + place) → (k : ℕ) →
     IsCountedUntil sums first end day (day * slices_a_day sums.method + (place + 1)) k →
     IsCountedUntil sums first end day (day * slices_a_day sums.method + place) k
     ⊎ IsThatOne (day * slices_a_day sums.method + place) here k
-until-parts sums first end day place counts here are less at k is =
+until-parts sums first end day place here at k is =
     by (eqb_tells k (day * slices_a_day sums.method + place))
   where
-    within : place < slices_a_day sums.method
-    within = omega (arith, less, are.few)
-
     by : ((nat_eq k (day * slices_a_day sums.method + place) ≡ true)
         × (k ≡ day * slices_a_day sums.method + place))
         ⊎ ((nat_eq k (day * slices_a_day sums.method + place) ≡ false)
@@ -509,7 +493,7 @@ until-parts sums first end day place counts here are less at k is =
         ⊎ IsThatOne (day * slices_a_day sums.method + place) here k
     by (inl same) = inr (record {
       is = same.1;
-      some = λ none. is.is.is.some (ap (counts_of sums) same.1 ∙ are.each place within ∙ at ∙ none);
+      some = λ none. is.is.is.some (ap (counts_of sums) same.1 ∙ sym at ∙ none);
     })
     by (inr other) = inl (record {
       is = is.is;
@@ -520,15 +504,11 @@ until-parts sums first end day place counts here are less at k is =
         less_than k s a b = omega (arith, a, b)
 
 -- behind the last place of the day, or of those that are wanted, none has counts
-pub until-all : (sums : CountedDays) (first end day at : ℕ) (counts : List Counts) →
-    0 < slices_a_day sums.method → AreOn sums day counts →
-    (length counts ≤ at) ⊎ (end - day * slices_a_day sums.method ≤ at) → (k : ℕ) →
+pub until-all : (sums : CountedDays) (first end day at : ℕ) → 0 < slices_a_day sums.method →
+    (slices_a_day sums.method ≤ at) ⊎ (end - day * slices_a_day sums.method ≤ at) → (k : ℕ) →
     IsCountedOn sums first end day k →
     IsCountedUntil sums first end day (day * slices_a_day sums.method + at) k
-until-all sums first end day at counts some are passed k is = record {
-  is = is;
-  before = by (leb_tells (suc k) (day * n + at)) passed;
-}
+until-all sums first end day at some passed k is = record { is = is; before = by passed }
   where
     n : ℕ
     n = slices_a_day sums.method
@@ -536,23 +516,13 @@ until-all sums first end day at counts some are passed k is = record {
     begun : day * n ≤ k
     begun = subst (λ d. d * n ≤ k) is.on (div-mul-le_self k n)
 
-    place : ℕ
-    place = k - day * n
-
-    there : k ≡ day * n + place
-    there = omega (arith, begun)
-
-    within : place < n
-    within = let rest : k < day * n + n = subst (λ d. k < d * n + n) is.on (omega (
+    ends : k < day * n + n
+    ends = subst (λ d. k < d * n + n) is.on (omega (
       arith,
       div-add-mod' k n,
       mod_below k n some,
-    )) in omega (arith, rest, begun, some)
+    ))
 
-    by : ((nat_le (suc k) (day * n + at) ≡ true) × (suc k ≤ day * n + at))
-        ⊎ ((nat_le (suc k) (day * n + at) ≡ false) × (day * n + at < suc k)) →
-        (length counts ≤ at) ⊎ (end - day * n ≤ at) → k < day * n + at
-    by (inl a) p = omega (arith, a.1)
-    by (inr b) (inl few) = absurd (is.is.some (ap (counts_of sums) there
-        ∙ are.each place within ∙ no_more counts place (omega (arith, b.1, few, there))))
-    by (inr b) (inr few) = absurd (omega (arith, b.1, few, is.is.to))
+    by : (n ≤ at) ⊎ (end - day * n ≤ at) → k < day * n + at
+    by (inl whole) = omega (arith, ends, whole)
+    by (inr few) = omega (arith, begun, few, is.is.to)

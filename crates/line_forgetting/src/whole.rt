@@ -58,13 +58,17 @@ fn forget_on_day(
     ensures { TouchesEach (IsCountedOn sums.now first end day) width (reach_of rule.now) waiting
         result line.old line.new }
 {
-    let counts = sums.counts_on(day);
-    let start = day * sums.slices_a_day();
-    let begin = first.saturating_sub(start) as usize;
-    let until = counts.len().min((end - start) as usize);
+    if !sums.has_day(day) {
+        return waiting;
+    }
+    let slices = sums.slices_a_day();
+    let start = day * slices;
+    let begin = first.saturating_sub(start);
+    let until = slices.min(end - start);
     let mut run = waiting;
     for place in begin..until {
-        run = touch_counted(line, rule, width, run, start + place as u32, counts[place]);
+        let slice = start + place;
+        run = touch_counted(line, rule, width, run, slice, sums.counts_at(slice));
     }
     run
 }

@@ -1,8 +1,8 @@
 -- Slices in which nothing is counted any more.
 use Rattle.std.proofs.Common.{◌≡◌, ◌≢◌, ◌⊎◌, inl, inr, ℕ, suc, ◌+◌, ◌-◌, ◌*◌, ◌/◌, ◌%◌, ◌<◌, ◌≤◌}
 use Rattle.std.proofs.Common.{◌==◌, ◌&&◌, nat_eq, nat_le, nat_lt, min, max, Bool, true, false, cond}
-use Rattle.std.proofs.Common.{refl, ap, sym, subst, ◌∙◌, arith, List, [], None, Some, Option}
-use Rattle.std.proofs.Common.{is_some, IsTrue, slice_index_or, unwrap_or, if◌then◌else◌}
+use Rattle.std.proofs.Common.{refl, ap, sym, subst, ◌∙◌, arith, List, [], Option}
+use Rattle.std.proofs.Common.{IsTrue, slice_index_or, unwrap_or, if◌then◌else◌}
 use Rattle.std.specs.Int.{div_ceil}
 use Rattle.std.specs.Map.{lookup}
 use Rattle.std.proofs.Math.Nat.{div-add-mod', div-mul-le_self, mul-le-mul_right}
@@ -36,30 +36,6 @@ none_there sums day slice absent here =
     ∙ ap (λ (o : Option (List Counts)). slice_index_or (unwrap_or o [])
     (slice % slices_a_day sums.method) no_counts)
     (nothing_found (lookup (nat_eq day) sums.days) absent)
-
--- the slice at a place of a day
-pub counts_there : (sums : CountedDays) (day place : ℕ) (values : List Counts)
-    → lookup (nat_eq day) sums.days ≡ Some values → place < slices_a_day sums.method
-    → counts_of sums (day * slices_a_day sums.method + place)
-    ≡ slice_index_or values place no_counts
-counts_there sums day place values found less =
-    let n = slices_a_day sums.method in
-    let here : (day * n + place) / n ≡ day = div-mul-add day n place less in
-    let rest : (day * n + place) % n ≡ place = omega (
-      arith,
-      div-add-mod' (day * n + place) n,
-      ap (λ q. q * n) here,
-    ) in
-    ap (λ d. slice_index_or (values_of_day sums.days d) ((day * n + place) % n) no_counts) here
-    ∙ ap (λ p. slice_index_or (values_of_day sums.days day) p no_counts) rest
-    ∙ ap (λ (o : Option (List Counts)). slice_index_or (unwrap_or o []) place no_counts) found
-
-pub no_counts_there : (sums : CountedDays) (day place : ℕ)
-    → lookup (nat_eq day) sums.days ≡ None → place < slices_a_day sums.method
-    → counts_of sums (day * slices_a_day sums.method + place) ≡ no_counts
-no_counts_there sums day place absent less =
-    none_there sums day (day * slices_a_day sums.method + place) (ap is_some absent)
-    (div-mul-add day (slices_a_day sums.method) place less)
 
 -- the day of a slice that has counts is there
 pub day_there : (sums : CountedDays) (slice : ℕ) → counts_of sums slice ≢ no_counts

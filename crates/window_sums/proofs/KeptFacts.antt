@@ -30,17 +30,16 @@ pub its_day : (sums : CountedDays) (minute : ℕ) → AreCounted sums
     → slice_of sums.method minute / slices_a_day sums.method ≡ day_of minute
 its_day sums minute counted = day_of_slice (width_of sums.method) minute counted.divides
 
--- the days, each of `count` slices, once the counts of one are others
-abbrev pub days_at : List (ℕ × List Counts) → ℕ → ℕ → Counts → List (ℕ × List Counts)
-days_at days count slice counts =
-    set_value (nat_eq (slice / count)) days
-    (slice_set (values_of_day days (slice / count)) (slice % count) counts)
+-- the counts of other days
+abbrev pub of_days : CountedDays → List (ℕ × List Counts) → CountedDays
+of_days sums days = record { method = sums.method; days = days }
 
-abbrev pub days_with : CountedDays → ℕ → Counts → List (ℕ × List Counts)
-days_with sums slice counts = days_at sums.days (slices_a_day sums.method) slice counts
-
-abbrev pub sums_with : CountedDays → ℕ → Counts → CountedDays
-sums_with sums slice counts = record { method = sums.method; days = days_with sums slice counts }
+-- the days once the counts of a slice are others
+abbrev pub days_by : CountedDays → ℕ → Counts → List (ℕ × List Counts)
+days_by sums slice counts =
+    set_value (nat_eq (slice / slices_a_day sums.method)) sums.days
+    (slice_set (values_of_day sums.days (slice / slices_a_day sums.method))
+    (slice % slices_a_day sums.method) counts)
 
 -- What `change` asks for: the day of the minute is there, its slice has what is taken away, and
 -- what is left is a part of few events.
@@ -72,45 +71,51 @@ may_exchange sums minute before after change = record {
       (slice_of sums.method minute));
 }
 
-module _ (sums : CountedDays) (slice : ℕ) (counts : Counts) (counted : AreCounted sums)
+-- Days of all slices, of which one has other counts.
+module _ (sums : CountedDays) (slice : ℕ)
+    (whole : All (λ slices. length slices ≡ slices_a_day sums.method) (values_of sums.days))
+    (divides : width_of sums.method ∣ 60)
     (there : IsTrue (has_day sums (slice / slices_a_day sums.method))) where
   day_whole : length (values_of_day sums.days (slice / slices_a_day sums.method))
       ≡ slices_a_day sums.method
   day_whole = of_day no_counts sums.days (λ slices. length slices ≡ slices_a_day sums.method)
-      counted.whole (slice / slices_a_day sums.method) there
+      whole (slice / slices_a_day sums.method) there
 
   pub place-within : slice % slices_a_day sums.method < length
       (values_of_day sums.days (slice / slices_a_day sums.method))
   place-within = rw day_whole (mod_below slice (slices_a_day sums.method)
-      (slices-some (width_of sums.method) counted.divides))
+      (slices-some (width_of sums.method) divides))
 
-  with : (k : ℕ) → counts_of (sums_with sums slice counts) k
+  with : (counts : Counts) (k : ℕ) → counts_of (of_days sums (days_by sums slice counts)) k
       ≡ (if k == slice then counts else counts_of sums k)
-  with k = value_at-changed no_counts sums.days (slices_a_day sums.method) slice counts there
+  with counts k = value_at-changed no_counts sums.days (slices_a_day sums.method) slice counts there
       place-within k
 
-  AreCounted-with : AreSoundCounts sums.method (counts_of (sums_with sums slice counts))
-      → AreCounted (sums_with sums slice counts)
-  AreCounted-with sound = record {
-    divides = counted.divides;
-    whole = All-values-set_value (nat_eq (slice / slices_a_day sums.method))
-        (λ slices. length slices ≡ slices_a_day sums.method) sums.days
-        (slice_set (values_of_day sums.days (slice / slices_a_day sums.method))
-        (slice % slices_a_day sums.method) counts) counted.whole
-        (length-set (values_of_day sums.days (slice / slices_a_day sums.method))
-        (slice % slices_a_day sums.method) counts ∙ day_whole);
-    sound = sound;
-  }
+  pub whole-with : (counts : Counts) → All (λ slices. length slices ≡ slices_a_day sums.method)
+      (values_of (days_by sums slice counts))
+  whole-with counts = All-values-set_value (nat_eq (slice / slices_a_day sums.method))
+      (λ slices. length slices ≡ slices_a_day sums.method) sums.days
+      (slice_set (values_of_day sums.days (slice / slices_a_day sums.method))
+      (slice % slices_a_day sums.method) counts) whole
+      (length-set (values_of_day sums.days (slice / slices_a_day sums.method))
+      (slice % slices_a_day sums.method) counts ∙ day_whole)
 
--- what the sums say of each slice after a change
-pub counts_of-after : (sums : CountedDays) (minute : ℕ) (before after : Counts) → AreCounted sums →
+  pub days-with : (counts : Counts) (day : ℕ)
+      → has_day (of_days sums (days_by sums slice counts)) day ≡ has_day sums day
+  days-with counts day =
+      days-changed no_counts sums.days (slice / slices_a_day sums.method) day _ there
+
+-- what the days say of each slice after a change
+pub counts_of-after : (sums : CountedDays) (minute : ℕ) (before after : Counts) →
+    All (λ slices. length slices ≡ slices_a_day sums.method) (values_of sums.days) →
+    width_of sums.method ∣ 60 →
     IsTrue (has_day sums (slice_of sums.method minute / slices_a_day sums.method)) → (k : ℕ) →
-    counts_of (sums_with sums (slice_of sums.method minute)
-    (new_counts (counts_of sums (slice_of sums.method minute)) before after)) k
+    counts_of (of_days sums (days_by sums (slice_of sums.method minute)
+    (new_counts (counts_of sums (slice_of sums.method minute)) before after))) k
     ≡ counts_after sums minute before after k
-counts_of-after sums minute before after counted there k =
-    with sums (slice_of sums.method minute)
-    (new_counts (counts_of sums (slice_of sums.method minute)) before after) counted there k
+counts_of-after sums minute before after whole divides there k =
+    with sums (slice_of sums.method minute) whole divides there
+    (new_counts (counts_of sums (slice_of sums.method minute)) before after) k
     ∙ by (eqb_tells k (slice_of sums.method minute))
   where
     by : ((nat_eq k (slice_of sums.method minute) ≡ true) × (k ≡ slice_of sums.method minute))
@@ -174,31 +179,32 @@ page-there sums pages slice kept there =
     subst (λ n. IsTrue (paged.has_day pages (slice / (24 * n)))) (sym kept.hour)
     (kept.ready (slice / slices_a_day sums.method) there)
 
+-- What `set` makes of the pages: a slot has another leaf.
+pub record IsSet (pages new : paged.LeafDays) (slot : ℕ) (value : Leaf) : Type 0 where
+  pub hours : new.per_hour ≡ pages.per_hour
+  pub leaves : (k : ℕ) → paged.leaf_at new k ≡ paged.leaf_after pages slot value k
+  pub days : (day : ℕ) → paged.has_day new day ≡ paged.has_day pages day
+
 -- The sums after a change.
-pub CountsAreKept-after : (sums : CountedDays) (pages new : paged.LeafDays) (minute : ℕ)
-    (before after : Counts) → CountsAreKept sums pages →
-    IsTrue (has_day sums (slice_of sums.method minute / slices_a_day sums.method)) →
+pub CountsAreKept-after : (sums : CountedDays) (days : List (ℕ × List Counts))
+    (pages new : paged.LeafDays) (minute : ℕ) (before after : Counts) → CountsAreKept sums pages →
     AreSoundCounts sums.method (counts_after sums minute before after) →
-    new.per_hour ≡ pages.per_hour →
-    ((k : ℕ) → paged.leaf_at new k ≡ paged.leaf_after pages (slice_of sums.method minute) (leaf
-    sums.method (new_counts (counts_of sums (slice_of sums.method minute)) before after)) k) →
-    ((day : ℕ) → paged.has_day new day ≡ paged.has_day pages day) →
-    CountsAreKept (sums_with sums (slice_of sums.method minute)
-    (new_counts (counts_of sums (slice_of sums.method minute)) before after)) new
-CountsAreKept-after sums pages new minute before after kept there sound hours leaves days = record {
-  counted = AreCounted-with sums (slice_of sums.method minute)
-      (new_counts (counts_of sums (slice_of sums.method minute)) before after) kept.counted there
-      (sound-same sums.method (counts_after sums minute before after)
-      (counts_of (sums_with sums (slice_of sums.method minute)
-      (new_counts (counts_of sums (slice_of sums.method minute)) before after)))
-      (λ k. sym (counts_of-after sums minute before after kept.counted there k)) sound);
-  hour = hours ∙ kept.hour;
-  leaves = λ k. leaves k ∙ leaf-after sums pages minute before after kept k
-      ∙ ap (λ (c : Counts). leaf sums.method c)
-      (sym (counts_of-after sums minute before after kept.counted there k));
-  ready = λ day has. subst IsTrue (sym (days day)) (kept.ready day (subst IsTrue
-      (days-changed no_counts sums.days (slice_of sums.method minute / slices_a_day sums.method) day
-      _ there) has));
+    IsSet pages new (slice_of sums.method minute) (leaf sums.method
+    (new_counts (counts_of sums (slice_of sums.method minute)) before after)) →
+    ((k : ℕ) → counts_of (of_days sums days) k ≡ counts_after sums minute before after k) →
+    ((day : ℕ) → has_day (of_days sums days) day ≡ has_day sums day) →
+    CountsAreKept (of_days sums days) new
+CountsAreKept-after sums days pages new minute before after kept sound set counts there = record {
+  counted = record {
+    divides = kept.counted.divides;
+    sound = sound-same sums.method (counts_after sums minute before after)
+        (counts_of (of_days sums days)) (λ k. sym (counts k)) sound;
+  };
+  hour = set.hours ∙ kept.hour;
+  leaves = λ k. set.leaves k ∙ leaf-after sums pages minute before after kept k
+      ∙ ap (λ (c : Counts). leaf sums.method c) (sym (counts k));
+  ready = λ day has. subst IsTrue (sym (set.days day))
+      (kept.ready day (subst IsTrue (there day) has));
 }
 
 nothing_below : {k : ℕ} → k < 0 → ⊥
@@ -211,7 +217,6 @@ pub CountsAreKept-none : (method : Method) (pages : paged.LeafDays) → width_of
 CountsAreKept-none method pages divides hour none = record {
   counted = record {
     divides = divides;
-    whole = λ k d less. absurd (nothing_below less);
     sound = record {
       parts = λ k. omega arith;
       events = λ first count. rw (sum_over-none first count) (omega arith);
@@ -236,18 +241,15 @@ pub counts_of-added : (sums : CountedDays) (day k : ℕ)
 counts_of-added sums day k = value_at-added no_counts sums.days day (slices_a_day sums.method)
     (k / slices_a_day sums.method) (k % slices_a_day sums.method)
 
-AreCounted-added : (sums : CountedDays) (day : ℕ) → AreCounted sums
-    → AreCounted (sums_added sums day)
-AreCounted-added sums day counted = record {
-  divides = counted.divides;
-  whole = subst (λ l. All (λ slices. length slices ≡ slices_a_day sums.method) l)
-      (sym (values_of-push sums.days day (replicate (slices_a_day sums.method) no_counts)))
-      (All-push (λ slices. length slices ≡ slices_a_day sums.method)
-      (values_of sums.days) (replicate (slices_a_day sums.method) no_counts) counted.whole
-      (length-replicate (slices_a_day sums.method) no_counts));
-  sound = sound-same sums.method (counts_of sums) (counts_of (sums_added sums day))
-      (λ k. sym (counts_of-added sums day k)) counted.sound;
-}
+pub whole-added : (sums : CountedDays) (day : ℕ) →
+    All (λ slices. length slices ≡ slices_a_day sums.method) (values_of sums.days) →
+    All (λ slices. length slices ≡ slices_a_day sums.method) (values_of (sums_added sums day).days)
+whole-added sums day whole =
+    subst (λ l. All (λ slices. length slices ≡ slices_a_day sums.method) l)
+    (sym (values_of-push sums.days day (replicate (slices_a_day sums.method) no_counts)))
+    (All-push (λ slices. length slices ≡ slices_a_day sums.method)
+    (values_of sums.days) (replicate (slices_a_day sums.method) no_counts) whole
+    (length-replicate (slices_a_day sums.method) no_counts))
 
 -- The sums with one day more, which the pages have.
 pub CountsAreKept-added : (sums : CountedDays) (pages new : paged.LeafDays) (day : ℕ)
@@ -257,7 +259,11 @@ pub CountsAreKept-added : (sums : CountedDays) (pages new : paged.LeafDays) (day
     ((other : ℕ) → paged.has_day new other ≡ (paged.has_day pages other || other == day)) →
     CountsAreKept (sums_added sums day) new
 CountsAreKept-added sums pages new day kept hours leaves days = record {
-  counted = AreCounted-added sums day kept.counted;
+  counted = record {
+    divides = kept.counted.divides;
+    sound = sound-same sums.method (counts_of sums) (counts_of (sums_added sums day))
+        (λ k. sym (counts_of-added sums day k)) kept.counted.sound;
+  };
   hour = hours ∙ kept.hour;
   leaves = λ k. leaves k ∙ kept.leaves k
       ∙ ap (λ (c : Counts). leaf sums.method c) (sym (counts_of-added sums day k));

@@ -1,8 +1,9 @@
 -- The counts of each slice of time, kept day by day.
-use Rattle.std.specs.Prelude.{ℕ, Bool, ◌+◌, ◌-◌, ◌*◌, ◌/◌, ◌≤◌, ◌≡◌, ◌==◌, ◌&&◌, nat_le}
-use Rattle.std.specs.Prelude.{nat_lt, IsTrue, List, All, length, if◌then◌else◌}
+use Rattle.std.specs.Prelude.{ℕ, Bool, ◌+◌, ◌-◌, ◌*◌, ◌/◌, ◌%◌, ◌≤◌, ◌≡◌, ◌==◌, ◌&&◌, nat_eq}
+use Rattle.std.specs.Prelude.{nat_le, nat_lt, true, false, IsTrue, List, All, length, map, slice_set}
+use Rattle.std.specs.Prelude.{if◌then◌else◌}
 use Rattle.std.specs.Int.{◌∣◌}
-use Rattle.std.specs.Map.{values_of}
+use Rattle.std.specs.Map.{set_value, values_of}
 use Rattle.slo_limits.specs.declared.TheConstants.{MINUTES_A_DAY}
 use Rattle.slice_method.specs.declared.amount.Counts.{Counts}
 use Rattle.slice_method.specs.declared.method.Method.{Method}
@@ -10,7 +11,7 @@ use Rattle.slice_method.specs.declared.method.Method.TheVariants.{Occurrences, T
 use Rattle.slice_method.specs.declared.method.Method.TheVariants.{RatioTimeslices}
 use Rattle.slice_method.specs.Leaves.{leaf}
 use Rattle.exact_fraction.specs.declared.leaf.Leaf.{Leaf}
-use Rattle.sum_pages.specs.DayTables.{is_day_of, value_at}
+use Rattle.sum_pages.specs.DayTables.{is_day_of, value_at, values_of_day}
 use Rattle.sum_pages.specs.Pages as paged
 use Rattle.slo_terms.specs.Sums.{AreFew, most_events, sum_over}
 
@@ -110,7 +111,6 @@ pub record HasAtMost (method : Method) (counts : ℕ → Counts) (most : ℕ) : 
 -- what is kept of the counts
 pub record AreCounted (sums : CountedDays) : Type 0 where
   pub divides : width_of sums.method ∣ 60
-  pub whole : All (λ slices. length slices ≡ slices_a_day sums.method) (values_of sums.days)
   pub sound : AreSoundCounts sums.method (counts_of sums)
 
 -- what is kept of the sums: pages that have the leaf of each slice, and each day that is there
@@ -119,3 +119,38 @@ pub record CountsAreKept (sums : CountedDays) (pages : paged.LeafDays) : Type 0 
   pub hour : pages.per_hour ≡ 60 / width_of sums.method
   pub leaves : (slice : ℕ) → paged.leaf_at pages slice ≡ leaf_at sums slice
   pub ready : (day : ℕ) → IsTrue (has_day sums day) → IsTrue (paged.has_day pages day)
+
+-- whether events are counted, so that the leaf of a slice is its counts
+abbrev pub counts_events : Method → Bool
+counts_events Occurrences = true
+counts_events (Timeslices width target) = false
+counts_events (RatioTimeslices width) = false
+
+-- the counts that stand in a leaf of events
+abbrev pub leaf_counts : Leaf → Counts
+leaf_counts events = record { good = events.num; total = events.den }
+
+-- so they do in the leaves of each day
+abbrev pub leaf_days : List (ℕ × List Leaf) → List (ℕ × List Counts)
+leaf_days days = map (λ day. (day.0, map leaf_counts day.1)) days
+
+-- the counts of each day: where events are counted those in the leaves of the pages, and else those
+-- that are kept beside the pages
+abbrev pub counted_days : Method → List (ℕ × List Counts) → paged.LeafDays → CountedDays
+counted_days method days pages =
+    record { method = method; days = if counts_events method then leaf_days pages.days else days }
+
+-- what is kept beside the pages once the counts of a slice are others
+abbrev pub days_with : Method → List (ℕ × List Counts) → ℕ → Counts → List (ℕ × List Counts)
+days_with method days slice counts =
+    if counts_events method then days
+    else set_value (nat_eq (slice / slices_a_day method)) days
+    (slice_set (values_of_day days (slice / slices_a_day method)) (slice % slices_a_day method)
+    counts)
+
+-- what is kept of the days and the pages: the counts, and beside the pages those of all slices
+-- of a day
+pub record DaysAreKept (method : Method) (days : List (ℕ × List Counts)) (pages : paged.LeafDays)
+    : Type 0 where
+  pub counts : CountsAreKept (counted_days method days pages) pages
+  pub whole : All (λ slices. length slices ≡ slices_a_day method) (values_of days)

@@ -1,13 +1,11 @@
-//! The counts of the slices of one day.
+//! The counts of the slices of one day, where they aren't their leaves.
 ghost use Rattle.std.specs.Prelude.{◌≡◌, ◌<◌, IfOk, length, replicate, slice_index_or, slice_set};
-ghost use Rattle.window_sums.specs.Slices.{MayExchange, new_counts, no_counts};
+ghost use Rattle.window_sums.specs.Slices.{no_counts};
 
+use crate::counts::NO_COUNTS;
 use slice_method::Counts;
 use std::alloc::{AllocError, Global};
 use std::marker::Model;
-
-/// The counts of a slice without data.
-pub(crate) const NO_COUNTS: Counts = Counts { good: 0, total: 0 };
 
 /// The counts of a day's slices.
 #[derive(Drop)]
@@ -33,13 +31,6 @@ impl Day {
         Ok(Day { slices })
     }
 
-    /// The counts of all slices, in their order.
-    pub(crate) fn all(&self) -> &[Counts]
-        ensures { result.now ≡ self.now }
-    {
-        &self.slices
-    }
-
     /// The counts of a slice of the day.
     pub(crate) fn at(&self, place: usize) -> Counts
         requires { place < length self.now }
@@ -48,19 +39,11 @@ impl Day {
         self.slices[place]
     }
 
-    /// Takes `before` from the counts at a place, adds `after`, and answers what stands there then.
-    pub(crate) fn exchange(&mut self, place: usize, before: Counts, after: Counts) -> Counts
-        requires within { place < length self.old }
-        requires may { MayExchange (slice_index_or self.old place no_counts) before after }
-        ensures slices { self.new ≡ slice_set self.old place result }
-        ensures value { result ≡ new_counts (slice_index_or self.old place no_counts) before after }
+    /// Puts the counts of a slice at its place.
+    pub(crate) fn set(&mut self, place: usize, counts: Counts)
+        requires { place < length self.old }
+        ensures { self.new ≡ slice_set self.old place counts }
     {
-        let counts = self.at(place);
-        let new_counts = Counts {
-            good: counts.good - before.good + after.good,
-            total: counts.total - before.total + after.total,
-        };
-        self.slices[place] = new_counts;
-        new_counts
+        self.slices[place] = counts;
     }
 }

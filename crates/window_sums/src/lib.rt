@@ -3,6 +3,7 @@
 //! Promises that a sum adds the leaves of whole slices, in at most 600 reads over 400 days.
 #![tactic(auto)]
 
+mod counts;
 mod day;
 mod emptiness;
 pub mod laws;

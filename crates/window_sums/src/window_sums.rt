@@ -1,21 +1,20 @@
 //! Sums over slices by the counts of each.
-ghost use Rattle.std.specs.Prelude.{◌≡◌, ℕ, ◌+◌, ◌-◌, ◌*◌, ◌/◌, ◌<◌, ◌≤◌, ◌==◌, ◌||◌, nat_eq};
-ghost use Rattle.std.specs.Prelude.{length, slice_index_or, slice_set, IsTrue, [], OnOk, OnErr};
+ghost use Rattle.std.specs.Prelude.{◌≡◌, ℕ, ◌+◌, ◌-◌, ◌*◌, ◌/◌, ◌%◌, ◌<◌, ◌≤◌, ◌==◌, ◌||◌};
+ghost use Rattle.std.specs.Prelude.{length, false, IsTrue, [], OnOk, OnErr};
 ghost use Rattle.std.specs.Prelude.{if◌then◌else◌};
 ghost use Rattle.std.specs.Int.{◌∣◌};
-ghost use Rattle.std.specs.Map.{set_value};
 ghost use Rattle.slice_method.specs.Leaves.{leaf};
 ghost use Rattle.slo_limits.specs.declared.TheConstants.{MAX_LOOKBACK, MINUTES_A_DAY};
 ghost use Rattle.slo_terms.specs.Sums.{AreFew, AreSound, most_events, slice_from, slices_until};
 ghost use Rattle.slo_terms.specs.Sums.{sum_of_slices};
 ghost use Rattle.sum_pages.specs.DayTables.{is_day_of, values_of_day};
-ghost use Rattle.window_sums.specs.Slices.{AreCounted, IsPart, MayExchange, counts_after};
+ghost use Rattle.window_sums.specs.Slices.{AreCounted, IsPart, counts_after, counts_events};
 ghost use Rattle.window_sums.specs.Slices.{counts_of, counts_outside, counts_without, day_of};
-ghost use Rattle.window_sums.specs.Slices.{new_counts};
-ghost use Rattle.window_sums.specs.Slices.{has_day, leaf_at, no_counts, slice_of, slices_a_day};
-ghost use Rattle.window_sums.specs.Slices.{width_of};
+ghost use Rattle.window_sums.specs.Slices.{days_with, has_day, leaf_at, no_counts, slice_of};
+ghost use Rattle.window_sums.specs.Slices.{slices_a_day, width_of};
 
-use crate::day::{Day, NO_COUNTS};
+use crate::counts::{NO_COUNTS, counts_events, counts_in, exchanged};
+use crate::day::Day;
 use crate::emptiness;
 use crate::range::sum_slots;
 use crate::widths::{slices_a_day, slices_an_hour, width_of};
@@ -26,10 +25,12 @@ use slo_limits::MINUTES_A_DAY;
 use std::alloc::{AllocError, Global};
 use std::marker::Model;
 use std::sync::ledger::Ledger;
-use sum_pages::{Steps, SumPages};
+use sum_pages::{Steps, SumPages, value_on};
 
 /// The counts of each slice of time, and pages of their leaves, from which sums over ranges are
 /// made. A slice of a day that isn't there has the counts (0, 0).
+///
+/// Where events are counted the leaf of a slice is its counts, so `days` stays without any.
 #[derive(Drop)]
 pub struct WindowSums {
     method: Method,
@@ -38,14 +39,13 @@ pub struct WindowSums {
 }
 
 impl Model for WindowSums {
-    ghost use Rattle.window_sums.specs.Slices.{CountedDays, CountsAreKept};
+    ghost use Rattle.window_sums.specs.Slices.{CountedDays, DaysAreKept, counted_days};
 
     ghost Value = { CountedDays };
 
-    ghost view = { λ a. record { method = a.method; days = a.days.entries } };
+    ghost view = { λ a. counted_days a.method a.days.entries a.pages };
 
-    ghost invariant = { λ a. CountsAreKept (record { method = a.method; days = a.days.entries })
-        a.pages };
+    ghost invariant = { λ a. DaysAreKept a.method a.days.entries a.pages };
 }
 
 impl WindowSums {
@@ -101,6 +101,16 @@ impl WindowSums {
         let _method = &self.method;
     }
 
+    /// Whether a day is there.
+    pub fn has_day(&self, day: u32) -> bool
+        ensures { result ≡ has_day self.now day }
+    {
+        if counts_events(&self.method) {
+            return self.pages.has_day(day);
+        }
+        self.days.contains_key(&day)
+    }
+
     /// Makes the day of a minute be there. After an error all is as before.
     pub fn reserve(&mut self, minute: u32) -> Result<(), AllocError>
         ensures method { self.new.method ≡ self.old.method }
@@ -110,12 +120,15 @@ impl WindowSums {
         ensures unchanged { OnErr result (self.new ≡ self.old) }
     {
         let day = minute / MINUTES_A_DAY;
-        if self.days.contains_key(&day) {
+        if self.has_day(day) {
+            return Ok(());
+        }
+        self.pages.reserve_day(day)?;
+        if counts_events(&self.method) {
             return Ok(());
         }
         let alloc = *self.days.allocator();
         let slices = Day::empty(alloc, slices_a_day(&self.method) as usize)?;
-        self.pages.reserve_day(day)?;
         self.days.insert(day, slices)?;
         Ok(())
     }
@@ -140,31 +153,20 @@ impl WindowSums {
         ensures days { (day : ℕ) → has_day self.new day ≡ has_day self.old day }
     {
         let slice = minute / width_of(&self.method);
-        let slices = slices_a_day(&self.method);
-        let place = (slice % slices) as usize;
-        let counts = exchange_in(&mut self.days, slice / slices, place, before, after);
+        let counts = exchanged(self.counts_at(slice), before, after);
+        put_in(&mut self.days, &self.method, slice, counts);
         self.pages.set(slice, leaf_of(self.method, counts));
     }
 
-    /// The counts of the slices of a day, in their order: of none where the day isn't there.
-    pub fn counts_on(&self, day: u32) -> &[Counts]
-        ensures few { length result.now ≤ slices_a_day self.now.method }
-        ensures counts { (place : ℕ) → place < slices_a_day self.now.method
-            → counts_of self.now (day * slices_a_day self.now.method + place)
-            ≡ slice_index_or result.now place no_counts }
-    {
-        match self.days.get(&day) {
-            Some(slices) => slices.all(),
-            None => &[],
-        }
-    }
-
     /// The counts of a slice.
-    fn counts(&self, slice: u32) -> Counts
+    pub fn counts_at(&self, slice: u32) -> Counts
         ensures { result ≡ counts_of self.now slice }
     {
+        if counts_events(&self.method) {
+            return counts_in(&self.pages, slice);
+        }
         let slices = slices_a_day(&self.method);
-        match self.days.get(&(slice / slices)) {
+        match value_on(&self.days, slice / slices) {
             Some(day) => day.at((slice % slices) as usize),
             None => NO_COUNTS,
         }
@@ -178,7 +180,7 @@ impl WindowSums {
             ≡ (if other == slice then no_counts else counts_of self.old other) }
         ensures days { (day : ℕ) → has_day self.new day ≡ has_day self.old day }
     {
-        let counts = self.counts(slice);
+        let counts = self.counts_at(slice);
         if counts == NO_COUNTS {
             return;
         }
@@ -196,7 +198,7 @@ impl WindowSums {
             then counts_without self.old first end slice else counts_of self.old slice) }
         ensures days { (day : ℕ) → has_day self.new day ≡ has_day self.old day }
     {
-        if !self.days.contains_key(&day) {
+        if !self.has_day(day) {
             return;
         }
         let slices = self.slices_a_day();
@@ -263,25 +265,20 @@ impl WindowSums {
     }
 }
 
-/// Takes `before` from the counts at a place of a day that is there, adds `after`, and answers what
-/// stands there then.
-fn exchange_in(
-    days: &mut IndexMap<u32, Day>,
-    day: u32,
-    place: usize,
-    before: Counts,
-    after: Counts,
-) -> Counts
-    requires there { IsTrue (is_day_of days.old.entries day) }
-    requires within { place < length (values_of_day days.old.entries day) }
-    requires may { MayExchange (slice_index_or (values_of_day days.old.entries day) place no_counts)
-        before after }
-    ensures days { days.new.entries ≡ set_value (nat_eq day) days.old.entries
-        (slice_set (values_of_day days.old.entries day) place result) }
-    ensures value { result ≡ new_counts (slice_index_or (values_of_day days.old.entries day) place
-        no_counts) before after }
+/// Puts the counts of a slice, whose day is there, into the days, where these aren't the leaves.
+fn put_in(days: &mut IndexMap<u32, Day>, method: &Method, slice: u32, counts: Counts)
+    requires width { width_of method.now ∣ 60 }
+    requires there { counts_events method.now ≡ false
+        → IsTrue (is_day_of days.old.entries (slice / slices_a_day method.now)) }
+    requires within { counts_events method.now ≡ false → slice % slices_a_day method.now
+        < length (values_of_day days.old.entries (slice / slices_a_day method.now)) }
+    ensures { days.new.entries ≡ days_with method.now days.old.entries slice counts }
 {
-    let index = days.get_index_of(&day).unwrap();
-    let slices = &mut days[index];
-    slices.exchange(place, before, after)
+    if counts_events(method) {
+        return;
+    }
+    let slices = slices_a_day(method);
+    let index = days.get_index_of(&(slice / slices)).unwrap();
+    let day = &mut days[index];
+    day.set((slice % slices) as usize, counts);
 }

@@ -1,5 +1,6 @@
 use Rattle.std.proofs.Common.{◌-◌, ◌/◌, ◌==◌, ap, ◌∙◌}
 use Rattle.exact_fraction.specs.declared.leaf.Leaf.{Leaf}
+use Rattle.window_sums.specs.Slices.{counted_days}
 use Rattle.window_sums.proofs.ReadLemmas.{AreSlots, are_slots}
 use Rattle.window_sums.proofs.window_sums.WindowSums.is_empty.Given.{Over}
 use Rattle.window_sums.proofs.window_sums.WindowSums.is_empty.Goals as goal
@@ -11,9 +12,9 @@ slots : (g : Over) (c : After-is_empty g) → AreSlots c.args.self.now c.self.in
     (c.args.to / c.width_of-width.result - c.div_ceil.result)
 slots g c =
     are_slots c.args.self.now
-    (record { method = c.self.inside.method; days = c.self.inside.days.entries })
+    (counted_days c.self.inside.method c.self.inside.days.entries c.self.inside.pages)
     c.self.inside.pages c.args.from c.args.to c.width_of-width.result c.div_ceil.result
-    c.self.invariant c.self.view_is c.width_of-width.ensures.value c.div_ceil.ensures
+    c.self.invariant.counts c.self.view_is c.width_of-width.ensures.value c.div_ceil.ensures
 
 pub returns-clause-value : goal.returns-clause-value
 returns-clause-value g c =

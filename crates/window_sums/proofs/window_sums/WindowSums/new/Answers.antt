@@ -1,7 +1,7 @@
 use Rattle.std.proofs.Common.{◌∙◌, sym, subst}
 use Rattle.std.specs.Int.{◌∣◌}
-use Rattle.window_sums.specs.Slices.{CountsAreKept, width_of}
-use Rattle.window_sums.proofs.KeptFacts.{CountsAreKept-none}
+use Rattle.window_sums.specs.Slices.{width_of}
+use Rattle.window_sums.proofs.DaysFacts.{DaysAreKept-none, no-days}
 use Rattle.window_sums.proofs.WidthFacts.{hour-divides}
 use Rattle.window_sums.proofs.window_sums.WindowSums.new.Goals as goal
 
@@ -13,7 +13,11 @@ new-requires-2 c = record {
 
 pub invariant_of-result : goal.invariant_of-result
 invariant_of-result c =
-    subst (λ es. CountsAreKept (record { method = c.args.method; days = es }) c.new-2.result)
-    (sym c.new.ensures.empty)
-    (CountsAreKept-none c.args.method c.new-2.result c.requires.width
-    (c.new-2.ensures.per_hour ∙ c.slices_an_hour.ensures.value) c.new-2.ensures.days)
+    DaysAreKept-none c.args.method c.new.result.entries c.new-2.result c.requires.width
+    (c.new-2.ensures.per_hour ∙ c.slices_an_hour.ensures.value) c.new.ensures.empty
+    c.new-2.ensures.days
+
+pub returns-clause-days : goal.returns-clause-days
+returns-clause-days c =
+    no-days c.args.method c.new.result.entries c.new-2.result c.new.ensures.empty
+    c.new-2.ensures.days

@@ -1,14 +1,12 @@
 use Rattle.std.proofs.Common.{subst}
 use Rattle.slo_terms.specs.Sums.{AreSound}
-use Rattle.window_sums.specs.Slices.{CountedDays, leaf_at}
+use Rattle.window_sums.specs.Slices.{CountedDays, counted_days, leaf_at}
 use Rattle.window_sums.proofs.SoundFacts.{leaves-sound}
 use Rattle.window_sums.proofs.window_sums.WindowSums.sound.Goals as goal
 
 pub returns : goal.returns
 returns c =
-    let sums : CountedDays = record {
-      method = c.self.inside.method;
-      days = c.self.inside.days.entries;
-    } in
+    let sums : CountedDays =
+    counted_days c.self.inside.method c.self.inside.days.entries c.self.inside.pages in
     subst (λ (s : CountedDays). AreSound (leaf_at s)) c.self.view_is
-    (leaves-sound sums c.self.invariant.counted.sound)
+    (leaves-sound sums c.self.invariant.counts.counted.sound)

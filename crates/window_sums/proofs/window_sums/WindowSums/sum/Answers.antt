@@ -2,7 +2,7 @@ use Rattle.std.proofs.Common.{◌≡◌, ◌+◌, ◌-◌, ◌/◌, ◌≤◌, s
 use Rattle.exact_fraction.specs.declared.leaf.Leaf.{Leaf}
 use Rattle.slo_terms.specs.Sums.{most_events, slice_from, slices_until, sum_of_slices}
 use Rattle.slo_terms.proofs.RangeLemmas.{leaves-part}
-use Rattle.window_sums.specs.Slices.{leaf_at, width_of}
+use Rattle.window_sums.specs.Slices.{counted_days, leaf_at, width_of}
 use Rattle.window_sums.proofs.ReadLemmas.{AreSlots, are_slots}
 use Rattle.window_sums.proofs.window_sums.WindowSums.sum.Given.{Over}
 use Rattle.window_sums.proofs.window_sums.WindowSums.sum.Goals as goal
@@ -14,9 +14,9 @@ slots : (g : Over) (c : After-sum_slots g) → AreSlots c.args.self.now c.self.i
     (c.args.to / c.width_of-width.result - c.div_ceil.result)
 slots g c =
     are_slots c.args.self.now
-    (record { method = c.self.inside.method; days = c.self.inside.days.entries })
+    (counted_days c.self.inside.method c.self.inside.days.entries c.self.inside.pages)
     c.self.inside.pages c.args.from c.args.to c.width_of-width.result c.div_ceil.result
-    c.self.invariant c.self.view_is c.width_of-width.ensures.value c.div_ceil.ensures
+    c.self.invariant.counts c.self.view_is c.width_of-width.ensures.value c.div_ceil.ensures
 
 -- and what they add up to
 value : (g : Over) (c : After-sum_slots g) → c.sum_slots.result
