@@ -4,7 +4,6 @@ use Rattle.std.specs.Prelude.{take, drop, slice_get, Some}
 use Rattle.record_form.specs.declared.Entry.{Entry}
 use Rattle.record_form.specs.Records.{record_of}
 use Rattle.record_form.specs.Histories.{AreRecords, history_of}
-use Rattle.entry_records.specs.Feeds.{with_lengths}
 
 -- the entries, and for how many bytes and places there is room
 pub record Entries : Type 0 where
@@ -51,7 +50,6 @@ pub record IsAt (bytes : List ℕ) (rs : List (List ℕ)) (i end start : ℕ) : 
   pub within : end ≤ length bytes
   pub piece : slice_get rs i ≡ Some (take (end - start) (drop start bytes))
 
--- what a loop has put into a feed so far, and what goes into it from there on
-pub record IsSoFar (body : List ℕ) (count : ℕ) (more all : List (List ℕ)) : Type 0 where
-  pub bytes : body ++ with_lengths more [] ≡ with_lengths all []
-  pub counted : count + length more ≡ length all
+-- how many bytes a record takes in a feed, with its length before it
+abbrev pub taken_by : List ℕ → ℕ
+taken_by r = 4 + length r

@@ -9,7 +9,7 @@ ghost use Rattle.record_form.specs.Records.{record_of};
 ghost use Rattle.record_form.specs.Ranges.{FitsRecord, IsRecord};
 ghost use Rattle.entry_records.specs.Feeds.{feed_of};
 
-use crate::feed::{feed_body, feed_bytes};
+use crate::feed::feed_bytes;
 use crate::places::record_at;
 use exact_fraction::Bytes;
 use record_form::laws;
@@ -126,8 +126,7 @@ impl EntryRecords {
         ensures { IfOk result (λ bytes. bytes
             ≡ feed_of origin from (map record_of (drop from self.now.history))) }
     {
-        let (count, body) = feed_body(alloc, &self.bytes, &self.ends, from as usize)?;
-        let text = feed_bytes(alloc, origin, from, count, &body)?;
+        let text = feed_bytes(alloc, origin, from, &self.bytes, &self.ends)?;
         Ok(Bytes::from_vec(text))
     }
 }

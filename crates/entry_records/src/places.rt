@@ -1,7 +1,8 @@
 //! Records at their places.
 ghost use Rattle.std.specs.Prelude.{◌≡◌, ◌≤◌, ◌<◌, List, ℕ, length, IfSome, None, option_map};
 ghost use Rattle.std.specs.Prelude.{slice_get};
-ghost use Rattle.entry_records.specs.Kept.{Holds, IsAt, ends_from, records_in, start_of};
+ghost use Rattle.entry_records.specs.Kept.{Holds, IsAt, IsKept, ends_from, records_in};
+ghost use Rattle.entry_records.specs.Kept.{start_of, taken_by};
 
 fn end_at(ends: &[u32], place: usize) -> Option<u32>
     ensures { result ≡ slice_get ends.now place }
@@ -28,6 +29,17 @@ fn range_at(bytes: &[u8], ends: &[u32], place: usize) -> Option<(usize, usize)>
 {
     match end_at(ends, place) {
         Some(end) => Some((start_at(ends, place), end as usize)),
+        None => None,
+    }
+}
+
+/// How many bytes the record at a place has in a feed, where its length is before it.
+pub(crate) fn taken_at(bytes: &[u8], ends: &[u32], place: usize) -> Option<usize>
+    requires { IsKept bytes.now ends.now }
+    ensures { result ≡ option_map taken_by (slice_get (records_in bytes.now) place) }
+{
+    match range_at(bytes, ends, place) {
+        Some((start, end)) => Some(4 + (end - start)),
         None => None,
     }
 }
