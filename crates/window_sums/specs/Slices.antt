@@ -1,6 +1,7 @@
 -- The counts of each slice of time, kept day by day.
 use Rattle.std.specs.Prelude.{ℕ, Bool, ◌+◌, ◌-◌, ◌*◌, ◌/◌, ◌%◌, ◌≤◌, ◌≡◌, ◌==◌, ◌&&◌, nat_eq}
-use Rattle.std.specs.Prelude.{nat_le, nat_lt, true, false, IsTrue, List, All, length, map, slice_set}
+use Rattle.std.specs.Prelude.{nat_le, nat_lt, true, false, IsTrue, List, All, length, map}
+use Rattle.std.specs.Prelude.{slice_set}
 use Rattle.std.specs.Prelude.{if◌then◌else◌}
 use Rattle.std.specs.Int.{◌∣◌}
 use Rattle.std.specs.Map.{set_value, values_of}

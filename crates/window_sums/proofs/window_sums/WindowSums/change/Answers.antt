@@ -11,7 +11,8 @@ use Rattle.window_sums.proofs.DaysFacts.{within-beside}
 use Rattle.window_sums.proofs.KeptFacts.{IsChange, day-there, may_exchange, page-there, pages-few}
 use Rattle.window_sums.proofs.window_sums.WindowSums.change.Goals as goal
 use Rattle.window_sums.proofs.window_sums.WindowSums.change.Goals.{After-counts_at}
-use Rattle.window_sums.proofs.window_sums.WindowSums.change.Goals.{After-exchanged-counts, After-set}
+use Rattle.window_sums.proofs.window_sums.WindowSums.change.Goals.{After-exchanged-counts}
+use Rattle.window_sums.proofs.window_sums.WindowSums.change.Goals.{After-set}
 
 -- the sums as they were
 abbrev before : After-counts_at → CountedDays

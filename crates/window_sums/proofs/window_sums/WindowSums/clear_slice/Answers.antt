@@ -52,5 +52,6 @@ pub returns-clause-counts : goal.returns-clause-counts
 returns-clause-counts c = λ other.
     c.change.ensures.counts other
     ∙ counts-cleared c.args.self.now (c.args.slice * c.width.result) c.args.slice
-    c.counts_at-counts.result (ap (λ w. c.args.slice * c.width.result / w) (sym c.width.ensures.value)
+    c.counts_at-counts.result
+    (ap (λ w. c.args.slice * c.width.result / w) (sym c.width.ensures.value)
     ∙ slice_back c.width.result c.args.slice c.width.ensures.some) c.counts_at-counts.ensures other
