@@ -8,8 +8,8 @@ use Rattle.catalog_changes.specs.Wanted.{HasWanted, objectives_in}
 use Rattle.catalog_changes.proofs.WantedLemmas.{all_forms, each_objective, only_objectives}
 use Rattle.catalog_changes.proofs.sums_plan.plan_sums.Goals as goal
 
-pub plan_for-plan-requires-clause-forms : goal.plan_for-plan-requires-clause-forms
-plan_for-plan-requires-clause-forms c =
+pub plan_for-requires-clause-forms : goal.plan_for-requires-clause-forms
+plan_for-requires-clause-forms c =
     let members = c.args.catalog.now in
     let rows = c.args.derived.now.book.rows in
     let all : c.deref.result.now ≡ objectives_in members =
