@@ -1,12 +1,10 @@
 -- What a plan wants, objective by objective.
-use Rattle.std.proofs.Common.{◌≡◌, ◌⊎◌, ◌∙◌, ◌++◌, ◌∷◌, [], All, Bool, List, ap, false, inl, inr}
-use Rattle.std.proofs.Common.{map}
-use Rattle.std.proofs.Common.{refl, subst, sym, true}
+use Rattle.std.proofs.Common.{◌≡◌, ◌⊎◌, ◌∙◌, ◌++◌, ◌∷◌, [], Bool, List, ap, false, inl, inr}
+use Rattle.std.proofs.Common.{map, refl, subst, sym, true}
 use Rattle.std.specs.List.{AllByRecursion, Contains}
 use Rattle.std.proofs.lemmas.List.{map-append}
 use Rattle.std.proofs.lemmas.List.Elements.{Contains-append_left, Contains-push}
 use Rattle.sample_book.specs.declared.Exclusion.{Exclusion}
-use Rattle.sample_book.specs.declared.Row.{Row}
 use Rattle.object_terms.specs.declared.Object.{Object}
 use Rattle.office_history.specs.declared.Measure.{Measure}
 use Rattle.kept_sums.specs.Objectives.{HasNoExclusions, IsLike, IsObjective, counted, key_by}

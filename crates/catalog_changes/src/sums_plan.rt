@@ -1,5 +1,5 @@
 //! The plan of the sums that are kept with another catalog.
-ghost use Rattle.std.specs.Prelude.{◌≡◌, ◌≤◌, [], All, IfOk, List, OnOk, false, true};
+ghost use Rattle.std.specs.Prelude.{All, IfOk, List, OnOk, false, true};
 ghost use Rattle.std.specs.Int.{◌∣◌};
 ghost use Rattle.std.specs.List.{AllByRecursion, Contains};
 ghost use Rattle.object_terms.specs.declared.Object.{Object};

@@ -1,4 +1,4 @@
-use Rattle.std.proofs.Common.{◌≡◌, ◌∙◌, All, List, subst, sym}
+use Rattle.std.proofs.Common.{◌≡◌, ◌∙◌, All, subst, sym}
 use Rattle.std.specs.List.{AllByRecursion}
 use Rattle.std.proofs.lemmas.List.Elements.{All-contains}
 use Rattle.kept_sums.specs.Objectives.{IsObjective}
