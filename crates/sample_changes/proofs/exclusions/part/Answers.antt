@@ -1,4 +1,6 @@
-use Rattle.std.proofs.Common.{refl}
+use Rattle.std.proofs.Common.{List, false, refl, subst, sym}
+use Rattle.std.specs.List.{Contains}
+use Rattle.kept_sums.specs.Objectives.{keys_by}
 use Rattle.kept_sums.specs.declared.ObjectiveSums.{ObjectiveSums}
 use Rattle.office_derived.proofs.FormLemmas.{objective_forms}
 use Rattle.kept_sums.proofs.ReadyLemmas.{same_keeps}
@@ -33,6 +35,11 @@ returns-in_err-add_own-clause-stays c =
     with_sums d _ c.add_own.new.self refl
     (same_keeps d.catalog d.book.exclusions d.book.rows d.sums c.add_own.new.self
     c.in_err-add_own.ensures.err c.add_own.ensures.pooled)
+
+pub returns-in_err-add_own-clause-still : goal.returns-in_err-add_own-clause-still
+returns-in_err-add_own-clause-still c key has =
+    subst (λ (ks : List ObjectiveSums). Contains (keys_by false ks) key)
+    (sym c.in_err-add_own.ensures.err) has
 
 pub returns-clause-here : goal.returns-clause-here
 returns-clause-here c =
