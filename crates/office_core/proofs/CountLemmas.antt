@@ -1,6 +1,5 @@
 -- Sums that are kept over the same rows count the same.
 use Rattle.std.proofs.Common.{◌≡◌, ◌∙◌, ℕ, Bool, List, ap, subst, sym}
-use Rattle.std.specs.List.{Contains}
 use Rattle.sample_book.specs.declared.Exclusion.{Exclusion}
 use Rattle.sample_book.specs.declared.Row.{Row}
 use Rattle.slice_method.specs.declared.Method.{Method}

@@ -1,7 +1,6 @@
 -- The sums that a machine shows are those of the objectives of its catalog.
-use Rattle.std.proofs.Common.{◌≡◌, ◌⊎◌, ◌∙◌, ◌||◌, ◌<◌, ◌++◌, ℕ, Bool, true, false, List, [], ◌∷◌}
-use Rattle.std.proofs.Common.{ap, arith, cond, filter, inl, inr, length, map, refl, slice_index_or}
-use Rattle.std.proofs.Common.{subst, suc, sym, zero}
+use Rattle.std.proofs.Common.{◌≡◌, ◌∙◌, ◌||◌, ◌<◌, ℕ, Bool, true, false, List, [], ◌∷◌, ap, arith}
+use Rattle.std.proofs.Common.{cond, inl, inr, length, map, refl, slice_index_or, subst, suc, zero}
 use Rattle.std.specs.List.{AllByRecursion, Contains, flat_map, list_any}
 use Rattle.std.proofs.lemmas.List.Elements.{All-contains, All-from_recursion}
 use Rattle.sample_book.specs.declared.Exclusion.{Exclusion}
@@ -10,10 +9,9 @@ use Rattle.window_sums.specs.Slices.{CountedDays}
 use Rattle.object_terms.specs.declared.Object.{Object}
 use Rattle.office_history.specs.declared.Measure.{Measure}
 use Rattle.kept_sums.specs.Found.{IsFound, IsTold}
-use Rattle.kept_sums.specs.Keys.{alike_in, is_alike, sums_for}
-use Rattle.kept_sums.specs.Objectives.{AreKept, HasNoExclusions, HasSums, IsObjective, KeepsSums}
-use Rattle.kept_sums.specs.Objectives.{KeptObjectives, counted, key_by, keys_by, measures_of}
-use Rattle.kept_sums.specs.Objectives.{pooled}
+use Rattle.kept_sums.specs.Keys.{alike_in, is_alike}
+use Rattle.kept_sums.specs.Objectives.{AreKept, HasSums, IsObjective, KeepsSums, KeptObjectives}
+use Rattle.kept_sums.specs.Objectives.{counted, key_by, keys_by, measures_of}
 use Rattle.kept_sums.specs.Sums.{SumsAreKept}
 use Rattle.kept_sums.specs.declared.ObjectiveSums.{ObjectiveSums}
 use Rattle.kept_sums.proofs.KeyLemmas.{all_append, flat_contains}
@@ -22,9 +20,6 @@ use Rattle.kept_sums.proofs.SharedLemmas.{own-shared, pooled-else, pooled-shared
 use Rattle.catalog_changes.specs.Wanted.{objectives_in}
 use Rattle.catalog_changes.proofs.WantedLemmas.{each_objective, only_objectives}
 use Rattle.office_core.specs.SumsSeen.{sums_beside, sums_seen}
-
-beside : Measure → ObjectiveSums → ObjectiveSums
-beside m k = record { measure = m; sums = k.sums }
 
 all_flat : {A B : Type 0} (P : B → Type 0) (f : A → List B) (xs : List A) →
     AllByRecursion (λ (x : A). AllByRecursion P (f x)) xs → AllByRecursion P (flat_map f xs)
