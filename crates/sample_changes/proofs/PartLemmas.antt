@@ -1,5 +1,5 @@
 -- Objectives of an SLO get sums of their own.
-use Rattle.std.proofs.Common.{◌≡◌, ◌⊎◌, ◌∙◌, ◌≤◌, ◌++◌, ◌∷◌, [], ℕ, Bool, Err, List, Ok, OnOk}
+use Rattle.std.proofs.Common.{◌≡◌, ◌∙◌, ◌≤◌, ◌++◌, ◌∷◌, [], ℕ, Bool, Err, List, Ok, OnOk}
 use Rattle.std.proofs.Common.{Result, ap, arith, false, inl, inr, map, refl, subst, sym, true}
 use Rattle.std.specs.List.{AllByRecursion, Contains}
 use Rattle.std.proofs.lemmas.List.{map-append}

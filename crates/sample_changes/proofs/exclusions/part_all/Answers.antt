@@ -1,4 +1,4 @@
-use Rattle.std.proofs.Common.{All, List, arith, false, subst, sym}
+use Rattle.std.proofs.Common.{List, arith, false, subst, sym}
 use Rattle.std.specs.List.{AllByRecursion, Contains}
 use Rattle.object_terms.specs.declared.Object.{Object}
 use Rattle.office_history.specs.declared.Measure.{Measure}

@@ -1,6 +1,5 @@
-use Rattle.std.proofs.Common.{◌∙◌, All, List, subst, sym}
+use Rattle.std.proofs.Common.{◌∙◌, All, subst, sym}
 use Rattle.std.specs.List.{AllByRecursion}
-use Rattle.office_history.specs.declared.Measure.{Measure}
 use Rattle.catalog_measures.specs.Measures.{IsMeasure}
 use Rattle.kept_sums.specs.Objectives.{IsObjective}
 use Rattle.office_derived.proofs.Sound.{stays_so, stays_then}
