@@ -313,8 +313,10 @@ def refused_memory(report: Report) -> None:
             return "all" if it.status == 200 else "refused"
 
         assert tried(-1) == ("all", "all")
+        # a feed takes its memory by one growth, which is among the office's last
+        last = counts[1]
         seen: set[tuple[str, str]] = set()
-        for number in range(1, max(counts) + 1, stride):
+        for number in sorted({*range(1, max(counts) + 1, stride), *range(max(1, last - stride), last + 1)}):
             ways = tried(number)
             seen |= {*zip(("office", "copy"), ways)}
             left = copy.records()
