@@ -1,4 +1,4 @@
-"""Refused memory: growths are refused one at a time, in a session of every kind of request.
+"""Refused memory: growths are refused one at a time, in a session of every kind of request, and in one of shared sums.
 
 A small library before the C library's (it is compiled by `cc`) answers the call of a number with no memory. Each answer
 of such a session has to be the one of the session that nothing was refused to, or one of them `no_memory`, and all others,
@@ -16,11 +16,12 @@ import subprocess
 from dataclasses import dataclass
 from pathlib import Path
 
-from office import EXAMPLES, Answer, Office, answers, message
+import objects
+from office import EXAMPLES, Answer, Office, answers, define, message
 from report import Report, Skipped
 
 ORIGIN = 29_000_000
-STRIDE = 7
+STRIDE, SHARED_STRIDE = 7, 97
 
 LIBRARY = r"""
 #define _GNU_SOURCE
@@ -60,6 +61,31 @@ REQUESTS = [
     message("GET", "/notices"),
     message("GET", f"/budgets/shop-slo?at={ORIGIN + 60}"),
 ]
+
+
+def twin(name: str, target: str, sli: str = "shop-good") -> str:
+    """An SLO that counts what the shop's counts."""
+    return objects.slo(name, sli, f"  - target: {target}\n", ["shop-alerts"])
+
+
+def excluded(name: str, slo: str, begin: int) -> bytes:
+    return message("PUT", f"/exclusions/{name}", f'{{"from":{ORIGIN + begin},"slo":"{slo}","to":{ORIGIN + begin + 4}}}')
+
+
+# SLOs that share their sums, part them as minutes are excluded, share them again, go and come back.
+SHARED = [
+    *REQUESTS[:3],
+    define(twin("twin", "0.99"), twin("third", "0.5")),
+    excluded("one", "twin", 3),
+    excluded("two", "third", 5),
+    message("POST", "/samples", "".join(f"shop-good,desk,{ORIGIN + n},1,9990,10000\n" for n in range(0, 4000, 100))),
+    message("DELETE", "/exclusions/one"),
+    define(twin("twin", "0.9"), twin("fourth", "0.9")),
+    message("DELETE", "/objects/SLO/third"),
+    define(twin("third", "0.6")),
+    message("POST", "/tick"),
+    *(message("GET", f"/budgets/{it}?at={ORIGIN + 4001}") for it in ("shop-slo", "twin", "third", "fourth")),
+]
 NO_MEMORY = Answer(503, b'{"error":"no_memory"}')
 
 
@@ -88,10 +114,11 @@ def compiled(room: Path) -> Path:
 
 
 class Trials:
-    """Sessions over new journals, with growths refused."""
+    """Sessions over new journals, with growths refused. Behind each these requests are sent."""
 
-    def __init__(self, report: Report, library: Path) -> None:
-        self.office = Office(report.program, report.folder("office"))
+    def __init__(self, report: Report, library: Path, again: list[bytes]) -> None:
+        self.again = again
+        self.office = Office(report.program, report.folder(f"office-{len(again)}"))
         self.counted = report.room / "counted"
         self.words = dict(os.environ, LD_PRELOAD=str(library), COUNTED=str(self.counted))
 
@@ -101,7 +128,7 @@ class Trials:
         words = dict(self.words, REFUSED=str(-1 if refused is None else refused))
         first = self.office.run("pipe", data=b"".join(requests), env=words)
         left = [it[4:] for it in self.office.records()]
-        again = self.office.run("pipe", data=b"".join(REQUESTS))
+        again = self.office.run("pipe", data=b"".join(self.again))
         return Came(first.returncode, answers(first.stdout), first.stderr, left, answers(again.stdout), [it[4:] for it in self.office.records()])
 
 
@@ -137,22 +164,29 @@ def try_exports(report: Report, trials: Trials) -> None:
         assert ended > 0 and trials.office.journal.read_bytes() == before
 
 
-def run(report: Report) -> None:
-    with report.case("a library that refuses growths"):
-        trials = Trials(report, compiled(report.room))
-    if not report.passed:
-        return
-    nothing, plain = trials.session([]), trials.session(REQUESTS)
+def try_growths(report: Report, library: Path, requests: list[bytes], stride: int) -> Trials:
+    """Sessions of these requests, to each of which another growth is refused."""
+    trials = Trials(report, library, requests)
+    nothing, plain = trials.session([]), trials.session(requests)
     count = int(trials.counted.read_text())
-    without = [trials.session(REQUESTS[:n] + REQUESTS[n + 1 :]) for n in range(len(REQUESTS))]
-    assert [it.status for it in plain.answers] == [200] * len(REQUESTS), plain
+    without = [trials.session(requests[:n] + requests[n + 1 :]) for n in range(len(requests))]
+    assert [it.status for it in plain.answers] == [200] * len(requests), plain
     assert not any(re.search(rb'"error":"[a-z]', it.body) for it in plain.answers), plain
-    stride = 1 if report.whole else STRIDE
     found: dict[int | str | None, int] = {}
     with report.case(f"one of each {stride} of {count} growths refused"):
         for refused in range(1, count + 1, stride):
-            which = judge(trials.session(REQUESTS, refused), plain, without, nothing)
+            which = judge(trials.session(requests, refused), plain, without, nothing)
             found[which] = found.get(which, 0) + 1
     with report.case("some end the run, and some a request of each kind that takes memory"):
-        assert found.get("the run", 0) > 0 and sum(isinstance(it, int) for it in found) >= len(REQUESTS) // 2, found
+        assert found.get("the run", 0) > 0 and sum(isinstance(it, int) for it in found) >= len(requests) // 2, found
+    return trials
+
+
+def run(report: Report) -> None:
+    with report.case("a library that refuses growths"):
+        library = compiled(report.room)
+    if not report.passed:
+        return
+    trials = try_growths(report, library, REQUESTS, 1 if report.whole else STRIDE)
     try_exports(report, trials)
+    try_growths(report, library, SHARED, 1 if report.whole else SHARED_STRIDE)
