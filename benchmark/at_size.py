@@ -144,13 +144,15 @@ def longest():
         office = office_of(folder, cells, 10, many(0, 1, POLICIES, 5))
         whole = b'{"from":%d,"slo":"o%d","to":%d}'
         for first, policies, objectives, aim in ((0, POLICIES, 5, ""), (1, [], 1, "100")):
-            what, made, lifted = f"an exclusion of all minutes, {cells:,} cells, {objectives} objective{'s'[:objectives - 1]}", [], []
-            with copied(folder) as session:
-                session.ask(office.define(many(first, first + 1, policies, objectives)))
-                for n in range(GIVEN.runs):
-                    made.append(took(session, message("PUT", f"/exclusions/w{n}", whole % (office.first, first, office.last))))
-                    lifted.append(took(session, message("DELETE", f"/exclusions/w{n}")))
-            tell(what, made, "100")
+            what, parted, made, lifted = f"an exclusion of all minutes, {cells:,} cells, {objectives} objective{'s'[:objectives - 1]}", [], [], []
+            for _ in range(GIVEN.runs):
+                with copied(folder) as session:
+                    session.ask(office.define(many(first, first + 1, policies, objectives)))
+                    for n in range(3):
+                        (made if n else parted).append(took(session, message("PUT", f"/exclusions/w{n}", whole % (office.first, first, office.last))))
+                        lifted.append(took(session, message("DELETE", f"/exclusions/w{n}")))
+            tell(f"{what}: the first of its SLO, whose sums are made anew", parted, "100")
+            tell(f"{what}: another one", made, "100")
             tell(f"{what}: its lifting", lifted, aim)
         with copied(folder) as session:
             tell(f"a definition of 199 SLOs of five objectives more, {cells:,} cells", [took(session, office.define(many(1, 200, [], 5)))], "100")
