@@ -34,7 +34,7 @@ fn reply_to<T: Counter>(
     match routes.request(alloc, message, bytes) {
         Routed::Request(request) => {
             let outcome = counter.ask(alloc, reading, &request);
-            render(alloc, &outcome)
+            render(alloc, outcome)
         }
         Routed::NoRequest(reason) => immediate_reply(reason),
         Routed::NoMemory => Reply::NoMemory,

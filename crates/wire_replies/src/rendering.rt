@@ -56,57 +56,54 @@ fn full(alloc: Global, status: u16, value: Result<Value, AllocError>) -> Reply
     }
 }
 
-/// A reply whose body is there already: an object's text, or a feed.
-fn as_it_is(alloc: Global, form: Form, text: &[u8]) -> Reply
-    ensures { IsShownBy
-        (record { status = 200; form = form; allow = None; body = text.now }) result }
+/// A reply whose body is there already, and is not copied: an object's text, or a feed.
+fn as_it_is(form: Form, body: Bytes) -> Reply
+    ensures { shown_answer result
+        ≡ record { status = 200; form = form; allow = None; body = body } }
 {
-    match Vec::from_slice(alloc, text) {
-        Ok(body) => Reply::Full {
-            status: 200,
-            form,
-            allow: Allow::None,
-            body: Bytes::from_vec(body),
-        },
-        Err(_) => Reply::NoMemory,
+    Reply::Full {
+        status: 200,
+        form,
+        allow: Allow::None,
+        body,
     }
 }
 
 /// The reply to a request that came to this. Those to changes that were made, and those to faults
 /// of clock, disk and journal, are short and take no memory; each other one may be `NoMemory`.
-pub fn render(alloc: Global, value: &Outcome) -> Reply
-    ensures answer { (shown_answer result ≡ answer_of value.now)
-        ⊎ ((result ≡ NoMemory) × (is_short value.now ≡ false)) }
-    ensures small { is_short value.now ≡ true → is_small result ≡ true }
+pub fn render(alloc: Global, value: Outcome) -> Reply
+    ensures answer { (shown_answer result ≡ answer_of value)
+        ⊎ ((result ≡ NoMemory) × (is_short value ≡ false)) }
+    ensures small { is_short value ≡ true → is_small result ≡ true }
 {
     match value {
-        Outcome::Defined { applied, entry } => small(200, defined(*applied, *entry)),
+        Outcome::Defined { applied, entry } => small(200, defined(applied, entry)),
         Outcome::Sampled {
             entry,
             new,
             newer,
             repeated,
             superseded,
-        } => small(200, sampled(*entry, *new, *newer, *repeated, *superseded)),
-        Outcome::Changed { entry } => small(200, changed(*entry)),
-        Outcome::Ticked { entry, notices } => small(200, ticked(*entry, *notices)),
+        } => small(200, sampled(entry, new, newer, repeated, superseded)),
+        Outcome::Changed { entry } => small(200, changed(entry)),
+        Outcome::Ticked { entry, notices } => small(200, ticked(entry, notices)),
         Outcome::ObjectList {
             entries,
             objects: listed,
-        } => full(alloc, 200, objects(alloc, *entries, listed.as_slice())),
-        Outcome::ObjectText(text) => as_it_is(alloc, Form::Yaml, text.as_bytes()),
+        } => full(alloc, 200, objects(alloc, entries, listed.as_slice())),
+        Outcome::ObjectText(text) => as_it_is(Form::Yaml, text),
         Outcome::Budgets {
             at,
             budgets: rows,
             entries,
-        } => full(alloc, 200, budgets(alloc, *at, rows.as_slice(), *entries)),
+        } => full(alloc, 200, budgets(alloc, at, rows.as_slice(), entries)),
         Outcome::Burn {
             at,
             burn: rate,
             den,
             entries,
             num,
-        } => full(alloc, 200, burn(alloc, *at, *rate, *den, *entries, *num)),
+        } => full(alloc, 200, burn(alloc, at, rate, den, entries, num)),
         Outcome::Timeline {
             entries,
             intervals,
@@ -114,40 +111,40 @@ pub fn render(alloc: Global, value: &Outcome) -> Reply
         } => full(
             alloc,
             200,
-            timeline(alloc, *entries, intervals.as_slice(), *state),
+            timeline(alloc, entries, intervals.as_slice(), state),
         ),
         Outcome::Notices {
             entries,
             notices: rows,
-        } => full(alloc, 200, notices(alloc, *entries, rows.as_slice())),
-        Outcome::Feed(feed) => as_it_is(alloc, Form::Octets, feed.as_bytes()),
+        } => full(alloc, 200, notices(alloc, entries, rows.as_slice())),
+        Outcome::Feed(feed) => as_it_is(Form::Octets, feed),
         Outcome::Row {
             entries,
             row: found,
-        } => full(alloc, 200, row(alloc, *entries, *found)),
+        } => full(alloc, 200, row(alloc, entries, found)),
         Outcome::Exclusions {
             entries,
             exclusions: rows,
-        } => full(alloc, 200, exclusions(alloc, *entries, rows.as_slice())),
+        } => full(alloc, 200, exclusions(alloc, entries, rows.as_slice())),
         Outcome::Zones {
             entries,
             zones: names,
-        } => full(alloc, 200, zones(alloc, *entries, names.as_slice())),
-        Outcome::Status(fullness) => full(alloc, 200, status(alloc, fullness)),
+        } => full(alloc, 200, zones(alloc, entries, names.as_slice())),
+        Outcome::Status(fullness) => full(alloc, 200, status(alloc, &fullness)),
         Outcome::Sums {
             at,
             entries,
             sums: listed,
-        } => full(alloc, 200, sums(alloc, *at, *entries, listed.as_slice())),
+        } => full(alloc, 200, sums(alloc, at, entries, listed.as_slice())),
         Outcome::Windows {
             at,
             entries,
             windows: listed,
-        } => full(alloc, 200, windows(alloc, *at, *entries, listed.as_slice())),
-        Outcome::Refused(refusal) => full(alloc, refusal.status(), refusal_value(alloc, refusal)),
-        Outcome::ClockRange { end, reading } => small(500, clock_range(*end, *reading)),
+        } => full(alloc, 200, windows(alloc, at, entries, listed.as_slice())),
+        Outcome::Refused(refusal) => full(alloc, refusal.status(), refusal_value(alloc, &refusal)),
+        Outcome::ClockRange { end, reading } => small(500, clock_range(end, reading)),
         Outcome::DiskFault => disk_fault(),
-        Outcome::JournalFull { needed, tail } => small(507, journal_full(*needed, *tail)),
+        Outcome::JournalFull { needed, tail } => small(507, journal_full(needed, tail)),
         Outcome::NoMemory => Reply::NoMemory,
     }
 }

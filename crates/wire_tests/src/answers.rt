@@ -40,7 +40,7 @@ fn line_of(alloc: Global, reply: &Reply) -> Result<String, AllocError> {
 /// Appends a line with the status and the body of an outcome's reply. The outcome ends here, and
 /// nothing ends early for want of memory, so that its end is proved once.
 fn note(rt: &(impl AllocGlobal + Abort), lines: &mut String, outcome: Outcome) {
-    let reply = render(rt.alloc(), &outcome);
+    let reply = render(rt.alloc(), outcome);
     let line = line_of(rt.alloc(), &reply).expect(rt, "memory");
     lines.push_str(line.as_str()).expect(rt, "memory");
 }
@@ -586,16 +586,11 @@ fn write(rt: &impl Abort, output: &mut MemorySink, reply: Reply, last: bool) {
 #[test]
 fn replies_are_written_at_once(rt: HostRuntime) {
     let mut output = MemorySink::new(rt.alloc(), Plan::smooth(rt.alloc()));
-    write(
-        &rt,
-        &mut output,
-        render(rt.alloc(), &no_notices(&rt)),
-        false,
-    );
+    write(&rt, &mut output, render(rt.alloc(), no_notices(&rt)), false);
     let text = Outcome::ObjectText(spec(&rt));
-    write(&rt, &mut output, render(rt.alloc(), &text), true);
+    write(&rt, &mut output, render(rt.alloc(), text), true);
     let feed = Outcome::Feed(spec(&rt));
-    write(&rt, &mut output, render(rt.alloc(), &feed), false);
+    write(&rt, &mut output, render(rt.alloc(), feed), false);
     write(
         &rt,
         &mut output,
@@ -622,7 +617,7 @@ fn write_text(rt: &(impl AllocGlobal + Abort), size: usize) -> (bool, usize) {
     let outcome = Outcome::ObjectText(Bytes::from_vec(text));
     let failing = vec![in rt.alloc(); 1].expect(rt, "memory");
     let mut output = MemorySink::new(rt.alloc(), Plan::new(failing, Vec::new(rt.alloc())));
-    let done = write_reply(&render(rt.alloc(), &outcome), false, &mut output).is_ok();
+    let done = write_reply(&render(rt.alloc(), outcome), false, &mut output).is_ok();
     (done, output.bytes().len())
 }
 
