@@ -1,6 +1,7 @@
 -- The machine with one entry more.
 use Rattle.std.proofs.Common.{◌≡◌, ℕ, ◌+◌, ◌<◌, ◌≤◌, List, [], ◌∷◌, ◌++◌, refl, ap, sym, subst, ◌∙◌}
-use Rattle.std.proofs.Common.{Bool, false, fold, max, length, Option, Some, None, IfSome, arith}
+use Rattle.std.proofs.Common.{Bool, false, true, fold, max, length, Option, Some, None, IfSome}
+use Rattle.std.proofs.Common.{arith}
 use Rattle.std.specs.List.{All, AllByRecursion}
 use Rattle.std.proofs.lemmas.List.Elements.{All-from_recursion}
 use Rattle.slo_limits.specs.declared.TheConstants as most

@@ -77,7 +77,8 @@ none_alike pool m (k ∷ kept) none (suc n) less e =
 -- an entry whose key is the objective's is left by the test
 alike_at : (pool : Bool) (m : Measure) (kept : List ObjectiveSums) (k : ObjectiveSums) (n : ℕ) →
     n < length kept → slice_index_or kept n k ≡ k → key_by pool k.measure ≡ key_by pool m →
-    Contains (map (λ (k : ObjectiveSums). record { measure = m; sums = k.sums })
+    Contains {X = ObjectiveSums}
+    (map (λ (k : ObjectiveSums). record { measure = m; sums = k.sums })
     (alike_in pool kept m)) (record { measure = m; sums = k.sums })
     × (list_any (λ (k : ObjectiveSums). is_alike pool k.measure m) kept ≡ true)
 alike_at pool m [] k n less e same = absurd (omega (arith, less))
@@ -86,7 +87,8 @@ alike_at pool m (x ∷ xs) k zero less e same =
     (ap (λ (y : ObjectiveSums). key_by pool y.measure) e ∙ same))
   where
     by : (b : Bool) → b ≡ true →
-        Contains (map (λ (k : ObjectiveSums). record { measure = m; sums = k.sums })
+        Contains {X = ObjectiveSums}
+        (map (λ (k : ObjectiveSums). record { measure = m; sums = k.sums })
         (cond b (x ∷ alike_in pool xs m) (alike_in pool xs m)))
         (record { measure = m; sums = k.sums })
         × ((b || list_any (λ (k : ObjectiveSums). is_alike pool k.measure m) xs) ≡ true)
@@ -98,11 +100,13 @@ alike_at pool m (x ∷ xs) k zero less e same =
 alike_at pool m (x ∷ xs) k (suc n) less e same =
     by (is_alike pool x.measure m) (alike_at pool m xs k n (omega (arith, less)) e same)
   where
-    by : (b : Bool) → Contains (map (λ (k : ObjectiveSums).
+    by : (b : Bool) → Contains {X = ObjectiveSums}
+        (map (λ (k : ObjectiveSums).
         record { measure = m; sums = k.sums }) (alike_in pool xs m))
         (record { measure = m; sums = k.sums })
         × (list_any (λ (k : ObjectiveSums). is_alike pool k.measure m) xs ≡ true) →
-        Contains (map (λ (k : ObjectiveSums). record { measure = m; sums = k.sums })
+        Contains {X = ObjectiveSums}
+        (map (λ (k : ObjectiveSums). record { measure = m; sums = k.sums })
         (cond b (x ∷ alike_in pool xs m) (alike_in pool xs m)))
         (record { measure = m; sums = k.sums })
         × ((b || list_any (λ (k : ObjectiveSums). is_alike pool k.measure m) xs) ≡ true)
@@ -155,14 +159,16 @@ told_beside kept m sums (inl found) =
     subst (λ (s : CountedDays). Contains (sums_beside kept m) (record { measure = m; sums = s }))
     found.is (by (list_any (λ (k : ObjectiveSums). is_alike false k.measure m) kept.own) here.1)
   where
-    here : Contains (map (λ (k : ObjectiveSums). record { measure = m; sums = k.sums })
+    here : Contains {X = ObjectiveSums}
+        (map (λ (k : ObjectiveSums). record { measure = m; sums = k.sums })
         (alike_in false kept.own m)) (record { measure = m; sums = found.entry.sums })
         × (list_any (λ (k : ObjectiveSums). is_alike false k.measure m) kept.own ≡ true)
     here = alike_at false m kept.own found.entry found.there.0 found.there.1 found.there.2
         found.alike
 
     by : (b : Bool) → b ≡ true →
-        Contains (map (λ (k : ObjectiveSums). record { measure = m; sums = k.sums })
+        Contains {X = ObjectiveSums}
+        (map (λ (k : ObjectiveSums). record { measure = m; sums = k.sums })
         (cond b (alike_in false kept.own m) (alike_in true kept.pooled m)))
         (record { measure = m; sums = found.entry.sums })
     by true e = here.0
@@ -174,14 +180,16 @@ told_beside kept m sums (inr told) =
     found : IsFound true kept.pooled m sums
     found = told.1
 
-    here : Contains (map (λ (k : ObjectiveSums). record { measure = m; sums = k.sums })
+    here : Contains {X = ObjectiveSums}
+        (map (λ (k : ObjectiveSums). record { measure = m; sums = k.sums })
         (alike_in true kept.pooled m)) (record { measure = m; sums = found.entry.sums })
         × (list_any (λ (k : ObjectiveSums). is_alike true k.measure m) kept.pooled ≡ true)
     here = alike_at true m kept.pooled found.entry found.there.0 found.there.1 found.there.2
         found.alike
 
     by : (b : Bool) → list_any (λ (k : ObjectiveSums). is_alike false k.measure m) kept.own ≡ b →
-        Contains (map (λ (k : ObjectiveSums). record { measure = m; sums = k.sums })
+        Contains {X = ObjectiveSums}
+        (map (λ (k : ObjectiveSums). record { measure = m; sums = k.sums })
         (cond b (alike_in false kept.own m) (alike_in true kept.pooled m)))
         (record { measure = m; sums = found.entry.sums })
     by true e = absurd (told.0 (any_key false m kept.own e))
