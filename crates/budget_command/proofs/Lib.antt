@@ -1,4 +1,5 @@
 pub mod CurrentLemmas
+pub mod FillLemmas
 pub mod TableLemmas
 pub mod EventLemmas
 pub mod BudgetLemmas

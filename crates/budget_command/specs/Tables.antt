@@ -1,9 +1,10 @@
 -- What is kept of the rows that came, while the records of a text are judged one after another.
 use Rattle.std.specs.Prelude.{◌≡◌, ◌+◌, ◌≤◌, ℕ, Bool, List, [], ◌∷◌, ◌++◌, Option, Some, None}
 use Rattle.std.specs.Prelude.{Result, Ok, Err, All, count_by}
-use Rattle.std.specs.Prelude.{length, if◌then◌else◌}
+use Rattle.std.specs.Prelude.{drop, length, if◌then◌else◌}
 use Rattle.csv_records.specs.Parts.{PartsAreRead}
 use Rattle.csv_records.specs.Records.{Fields, csv_records}
+use Rattle.event_fields.specs.Lines.{StandsBehindFeed}
 use Rattle.slo_limits.specs.declared.TheConstants.{MAX_CELLS}
 use Rattle.slo_terms.specs.Judged.{judged_from}
 use Rattle.sample_book.specs.declared.Row.{Row}
@@ -84,6 +85,18 @@ pub record CanGoOn (table : Table) (number : ℕ) : Type 0 where
 abbrev pub AreAll : List Fields → ℕ → Table → Type 0
 AreAll records next table =
     IsSoFar records [] next table.book.rows table.corrected table.repeated table.superseded
+
+-- The lines of a part up to this place keep the rules, and their rows are kept.
+pub record HaveTakenLines (part : List ℕ) (number : ℕ) (old : Table) (at next : ℕ) (new : Table) :
+    Type 0 where
+  pub behind : StandsBehindFeed part at
+  pub records : List Fields
+  pub split : csv_records part ≡ records ++ csv_records (10 ∷ drop at part)
+  pub all : (before : List Fields) → AreAll before number old → AreAll (before ++ records) next new
+  pub fit : IsFit new.book.rows
+  pub tallied : tallies_in new + 1 ≤ next
+  pub numbered : next + length (csv_records (10 ∷ drop at part))
+      ≤ number + length (csv_records part)
 
 -- Behind records that keep the rules, whose rows are kept, the record of this number is the first
 -- of all that breaks one.

@@ -1,18 +1,19 @@
 //! The rows of a CSV text, judged record by record and kept in a book.
 ghost use Rattle.std.specs.Prelude.{◌≡◌, ◌+◌, ◌++◌, ◌≤◌, ℕ, List, Err, Ok, IfNone, IfOk, IfSome};
-ghost use Rattle.std.specs.Prelude.{OnOk, length};
+ghost use Rattle.std.specs.Prelude.{OnOk, ◌∷◌, drop, length, true};
 ghost use Rattle.csv_records.specs.Records.{Fields, csv_records};
+ghost use Rattle.event_fields.specs.Lines.{StandsBehindFeed, fields_of};
 ghost use Rattle.budget_command.specs.Records.{BUDGET, is_newer as is_newer_def};
 ghost use Rattle.budget_command.specs.Records.{is_repeated as is_repeated_def};
 ghost use Rattle.budget_command.specs.Records.{is_superseded as is_superseded_def, outcome_over};
 ghost use Rattle.budget_command.specs.Records.{IsCounted, of_row, row_by_verdict};
-ghost use Rattle.budget_command.specs.Tables.{AreAll, HasTaken, HasTakenRecord, IsBroken, IsEmpty};
-ghost use Rattle.budget_command.specs.Tables.{IsFit, tallies_in};
+ghost use Rattle.budget_command.specs.Tables.{AreAll, HasTaken, HasTakenRecord, HaveTakenLines};
+ghost use Rattle.budget_command.specs.Tables.{IsBroken, IsEmpty, IsFit, tallies_in};
 
 use crate::fault::RecordFault;
 use crate::row::{indicator, row_of};
 use csv_records::{Record, RecordReader};
-use event_fields::{Sources, read_event};
+use event_fields::{PlainLine, Sources, read_event, read_fields, read_plain_line};
 use exact_fraction::Label;
 use sample_book::{CurrentRows, Row, RowVerdict};
 use slo_limits::{MAX_AMOUNT, MAX_CELLS};
@@ -24,6 +25,15 @@ pub enum TableFault {
     /// The record of this number, counted from 1, is the first that breaks a rule.
     Broken { number: u64, fault: RecordFault },
     NoMemory,
+}
+
+/// Where the plain lines in front of a part end.
+#[derive(Clone, Copy)]
+struct LinesEnd {
+    /// The number of the record that is next.
+    number: u64,
+    /// The place where it begins.
+    at: usize,
 }
 
 /// The current rows of all that came, and what became of those that came.
@@ -42,6 +52,19 @@ fn read_record(sli: &Label, sources: &mut Sources, fields: &Record) -> Result<Ro
     ensures counted { IfOk result IsCounted }
 {
     match read_event(sources, fields, u64::from(MAX_AMOUNT)) {
+        Ok(event) => Ok(row_of(*sli, &event)),
+        Err(fault) => Err(RecordFault::Event(fault)),
+    }
+}
+
+/// The same of a line.
+fn read_line(sli: &Label, sources: &mut Sources, line: &PlainLine) -> Result<Row, RecordFault>
+    requires { sli.now ≡ BUDGET }
+    ensures read { (current : List Row) → outcome_over current (fields_of line.now)
+        ≡ of_row current result }
+    ensures counted { IfOk result IsCounted }
+{
+    match read_fields(sources, line.fields, u64::from(MAX_AMOUNT)) {
         Ok(event) => Ok(row_of(*sli, &event)),
         Err(fault) => Err(RecordFault::Event(fault)),
     }
@@ -155,10 +178,153 @@ impl Table {
             Err(fault) => Err(TableFault::Broken { number, fault }),
         }
     }
+
+    /// The same of a line.
+    fn take_line(
+        &mut self,
+        sli: &Label,
+        sources: &mut Sources,
+        number: u64,
+        line: &PlainLine,
+    ) -> Result<(), TableFault>
+        requires indicator { sli.now ≡ BUDGET }
+        requires tallied { tallies_in self.old + 1 ≤ number }
+        requires few { length self.old.book.rows ≤ MAX_CELLS }
+        ensures taken { OnOk result (HasTakenRecord (fields_of line.now) self.old self.new) }
+        ensures few { OnOk result (length self.new.book.rows ≤ MAX_CELLS) }
+        ensures broken { (at : ℕ) (fault : RecordFault) →
+            result ≡ Err (TableFault.Broken at fault) →
+            (at ≡ number) × (outcome_over self.old.book.rows (fields_of line.now) ≡ Err fault) }
+    {
+        match read_line(sli, sources, line) {
+            Ok(row) => self.take(number, &row),
+            Err(fault) => Err(TableFault::Broken { number, fault }),
+        }
+    }
+}
+
+/// Whether a text begins with a line feed.
+fn begins_with_feed(text: &[u8]) -> bool
+    ensures { result ≡ true → StandsBehindFeed text.now 1 }
+{
+    0 < text.len() && text[0] == b'\n'
+}
+
+/// A text from the line feed before a place on.
+fn text_behind(text: &[u8], at: usize) -> &[u8]
+    requires { StandsBehindFeed text.now at }
+    ensures { result.now ≡ 10 ∷ drop at text.now }
+{
+    &text[at - 1..]
+}
+
+/// Takes the rows of the plain lines behind a part's line feed, the first of which has this number,
+/// up to a line that is none.
+fn fill_lines(
+    table: &mut Table,
+    sli: &Label,
+    sources: &mut Sources,
+    number: u64,
+    part: &[u8],
+) -> Result<LinesEnd, TableFault>
+    requires indicator { sli.now ≡ BUDGET }
+    requires begun { StandsBehindFeed part.now 1 }
+    requires fit { IsFit table.old.book.rows }
+    requires tallied { tallies_in table.old + 1 ≤ number }
+    requires few { number + length (csv_records part.now) ≤ u64.MAX }
+    ensures ok { IfOk result (λ end.
+        HaveTakenLines part.now number table.old end.at end.number table.new) }
+    ensures broken { (at : ℕ) (fault : RecordFault) →
+        result ≡ Err (TableFault.Broken at fault) → IsBroken part.now number table.old at fault }
+{
+    let mut next = number;
+    let mut at: usize = 1;
+    'lines: loop {
+        let Some(line) = read_plain_line(part, at) else {
+            return Ok(LinesEnd { number: next, at });
+        };
+        match table.take_line(sli, sources, next, &line) {
+            Ok(()) => {
+                next += 1;
+                at = line.end;
+            }
+            Err(fault) => return Err(fault),
+        }
+    }
+}
+
+/// Takes the rows of a part's records, as `fill` does, whatever their form.
+fn fill_records(
+    table: &mut Table,
+    alloc: Global,
+    sli: &Label,
+    sources: &mut Sources,
+    number: u64,
+    part: &[u8],
+) -> Result<u64, TableFault>
+    requires indicator { sli.now ≡ BUDGET }
+    requires fit { IsFit table.old.book.rows }
+    requires tallied { tallies_in table.old + 1 ≤ number }
+    requires few { number + length (csv_records part.now) ≤ u64.MAX }
+    ensures ok { IfOk result (λ next. (before : List Fields) → AreAll before number table.old →
+        AreAll (before ++ csv_records part.now) next table.new) }
+    ensures fit { OnOk result (IsFit table.new.book.rows) }
+    ensures tallied { IfOk result (λ next. tallies_in table.new + 1 ≤ next) }
+    ensures numbered { IfOk result (λ next. next ≤ number + length (csv_records part.now)) }
+    ensures broken { (at : ℕ) (fault : RecordFault) →
+        result ≡ Err (TableFault.Broken at fault) → IsBroken part.now number table.old at fault }
+{
+    let mut reader = RecordReader::new(alloc, part);
+    let mut record = Record::new(alloc);
+    let mut next = number;
+    'records: loop {
+        match reader.read(&mut record) {
+            Ok(true) => {}
+            Ok(false) => return Ok(next),
+            Err(_) => return Err(TableFault::NoMemory),
+        }
+        match table.take_record(sli, sources, next, &record) {
+            Ok(()) => next += 1,
+            Err(fault) => return Err(fault),
+        }
+    }
+}
+
+/// Takes the rows of the records behind the plain lines of a part, where there are more.
+fn fill_rest(
+    table: &mut Table,
+    alloc: Global,
+    sli: &Label,
+    sources: &mut Sources,
+    number: u64,
+    part: &[u8],
+    at: usize,
+) -> Result<u64, TableFault>
+    requires indicator { sli.now ≡ BUDGET }
+    requires behind { StandsBehindFeed part.now at }
+    requires fit { IsFit table.old.book.rows }
+    requires tallied { tallies_in table.old + 1 ≤ number }
+    requires few { number + length (csv_records (10 ∷ drop at part.now)) ≤ u64.MAX }
+    ensures ok { IfOk result (λ next. (before : List Fields) → AreAll before number table.old →
+        AreAll (before ++ csv_records (10 ∷ drop at part.now)) next table.new) }
+    ensures fit { OnOk result (IsFit table.new.book.rows) }
+    ensures tallied { IfOk result (λ next. tallies_in table.new + 1 ≤ next) }
+    ensures numbered { IfOk result (λ next.
+        next ≤ number + length (csv_records (10 ∷ drop at part.now))) }
+    ensures broken { (place : ℕ) (fault : RecordFault) →
+        result ≡ Err (TableFault.Broken place fault) →
+        IsBroken (10 ∷ drop at part.now) number table.old place fault }
+{
+    if at == part.len() {
+        return Ok(number);
+    }
+    let rest = text_behind(part, at);
+    fill_records(table, alloc, sli, sources, number, rest)
 }
 
 /// Takes the rows of a part's records, the first of which has this number, and answers the number
-/// of the record behind them; or finds the first record that breaks a rule.
+/// of the record behind them; or finds the first record that breaks a rule. Plain lines behind a
+/// line feed are read where they stand.
 pub(crate) fn fill(
     table: &mut Table,
     alloc: Global,
@@ -178,18 +344,11 @@ pub(crate) fn fill(
 {
     let sli = indicator();
     let mut sources = Sources::new();
-    let mut reader = RecordReader::new(alloc, part);
-    let mut record = Record::new(alloc);
-    let mut next = number;
-    'records: loop {
-        match reader.read(&mut record) {
-            Ok(true) => {}
-            Ok(false) => return Ok(next),
-            Err(_) => return Err(TableFault::NoMemory),
-        }
-        match table.take_record(&sli, &mut sources, next, &record) {
-            Ok(()) => next += 1,
-            Err(fault) => return Err(fault),
-        }
+    if !begins_with_feed(part) {
+        return fill_records(table, alloc, &sli, &mut sources, number, part);
+    }
+    match fill_lines(table, &sli, &mut sources, number, part) {
+        Ok(end) => fill_rest(table, alloc, &sli, &mut sources, end.number, part, end.at),
+        Err(fault) => Err(fault),
     }
 }

@@ -85,8 +85,9 @@ fn read_minute(text: &[u8]) -> Option<u32>
     Some(minute as u32)
 }
 
-/// The event that five fields stand for, or the first rule that they break.
-fn read_fields(
+/// The event that five fields stand for, whose numbers of events are at most `most`, or the first
+/// rule that they break. The sources that came are handed in.
+pub fn read_fields(
     sources: &mut Sources,
     fields: (&[u8], &[u8], &[u8], &[u8], &[u8]),
     most: u64,

@@ -1,5 +1,5 @@
 //! The numbers of a record's fields, which are small enough for a machine word.
-ghost use Rattle.std.specs.Prelude.{◌≡◌, ◌≤◌, IfSome, min};
+ghost use Rattle.std.specs.Prelude.{◌≡◌, ◌≤◌, IfSome, Some, None, if◌then◌else◌, min};
 ghost use Rattle.std.specs.Char.{is_ascii_digit};
 ghost use Rattle.std.specs.List.{list_all};
 ghost use Rattle.exact_fraction.specs.Digits.{number_of, number_within};
@@ -18,27 +18,24 @@ pub(crate) fn read_field(text: &[u8], most: u64) -> Option<u64>
     ensures value { result ≡ number_within most text.now }
     ensures bound { IfSome result (λ n. n ≤ most) }
 {
-    if text.is_empty() || !all_digits(text) {
+    if text.is_empty() {
         return None;
     }
-    let value = capped_number(text);
+    let value = capped_number(text)?;
     if value <= most { Some(value) } else { None }
 }
 
-/// Whether a text is digits alone.
-fn all_digits(text: &[u8]) -> bool
-    ensures { result ≡ list_all is_ascii_digit text.now }
-{
-    text.iter().all(|byte| byte.is_ascii_digit())
-}
-
-/// The value of the digits, or `CAP` where it is greater.
-fn capped_number(digits: &[u8]) -> u64
-    ensures { result ≡ min (number_of digits.now) CAP }
+/// The value of the digits, or `CAP` where it is greater; none where a byte is no digit.
+fn capped_number(text: &[u8]) -> Option<u64>
+    ensures { result ≡ (if list_all is_ascii_digit text.now
+        then Some (min (number_of text.now) CAP) else None) }
 {
     let mut value: u64 = 0;
-    for digit in digits {
-        value = (value * 10 + u64::from(digit.saturating_sub(b'0'))).min(CAP);
+    for byte in text {
+        if !byte.is_ascii_digit() {
+            return None;
+        }
+        value = (value * 10 + u64::from(byte - b'0')).min(CAP);
     }
-    value
+    Some(value)
 }

@@ -1,8 +1,13 @@
-use Rattle.std.proofs.Common.{◌≡◌, min, take}
+use Rattle.std.proofs.Common.{◌≡◌, min, take, true}
+use Rattle.std.specs.Char.{is_ascii_digit}
+use Rattle.std.specs.List.{list_all}
 use Rattle.exact_fraction.specs.Digits.{number_of}
 use Rattle.event_fields.specs.declared.field_number.TheConstants.{CAP}
 use Rattle.event_fields.proofs.field_number.capped_number.Given as goal
 
--- the digits so far, capped
-abbrev pub invariant-loop-digit : goal.invariant-loop-digit
-invariant-loop-digit l = l.value ≡ min (number_of (take l.digit-index l.digits)) CAP
+-- the bytes so far are digits, and this is their number, capped
+abbrev pub invariant-loop-byte : goal.invariant-loop-byte
+invariant-loop-byte l = record {
+  digits : list_all is_ascii_digit (take l.byte-index l.text) ≡ true;
+  value : l.value ≡ min (number_of (take l.byte-index l.text)) CAP;
+}

@@ -1,7 +1,7 @@
 use Rattle.std.proofs.Common.{◌+◌, ◌++◌, ◌≤◌, List, length}
 use Rattle.csv_records.specs.Records.{Fields, csv_records}
 use Rattle.budget_command.specs.Tables.{AreAll, IsFit, IsSoFar, tallies_in}
-use Rattle.budget_command.proofs.table.fill.Given as goal
+use Rattle.budget_command.proofs.table.fill_records.Given as goal
 
 -- the records before the reader have been judged, and their rows are kept
 abbrev pub invariant-records : goal.invariant-records
