@@ -154,8 +154,12 @@ def longest():
             tell(f"{what}: the first of its SLO, whose sums are made anew", parted, "100")
             tell(f"{what}: another one", made, "100")
             tell(f"{what}: its lifting", lifted, aim)
+    # of more cells the days of so many objectives would pass their limit
+    few = min(cells, 100_000)
+    with room() as folder:
+        office = office_of(folder, few, 10, many(0, 1, POLICIES, 5))
         with copied(folder) as session:
-            tell(f"a definition of 199 SLOs of five objectives more, {cells:,} cells", [took(session, office.define(many(1, 200, [], 5)))], "100")
+            tell(f"a definition of 199 SLOs of five objectives more, {few:,} cells", [took(session, office.define(many(1, 200, [], 5)))], "100")
     new_days()
     texts()
 
