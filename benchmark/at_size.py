@@ -86,11 +86,24 @@ def slos():
                     new += [took(session, office.batch(cells - 1000 * n)) for n in range(5, 0, -1)]
                     same += [took(session, office.batch(1000 * n)) for n in range(5)]
                     memory.append(session.memory())
+            known = corrected(office, folder, policies) if policies else []
         tell(f"{what}: a definition of 199 SLOs more", defined, "20")
         tell(f"{what}: a batch of 1,000 new rows", new, "2")
         tell(f"{what}: a batch of 1,000 rows that stand", same, "1")
         tell(f"{what}: memory", memory, str(most), "MB")
+        if known:
+            tell(f"{what}: a batch of 1,000 corrections of the last rows, once each alert's last 31 days were asked for", known, "")
     opened()
+
+
+def corrected(office, folder, policies):
+    """Batches of corrections where the alerts' conditions are known near them, so that each has to forget some."""
+    with copied(folder) as session:
+        session.ask(office.define(many(1, 200, policies)))
+        for n in range(200):
+            for policy in policies:
+                session.ask(message("GET", f"/alerts/o{n}/0/{policy}?from={office.last - MINUTES}&to={office.last}"))
+        return [took(session, office.batch(office.cells - 5000 - 1000 * n, 2)) for n in range(1, 6)]
 
 
 def opened():
