@@ -73,6 +73,19 @@ Agrees-learnt before after sums minute holds alert agrees right learnt =
         is ∙ right ∙ ap (condition_on before sums) (sym same.1) ∙ one u
     by u b e (inr other) = agrees.each u b (sym (learnt u ∙ (rw other.0 refl)) ∙ e) ∙ one u
 
+pub tested : (n m : ℕ) → nat_le n m ≡ true → n ≤ m
+tested n m is = grind (arith, nat_tests)
+
+-- nothing is known behind the last byte
+pub nothing-beyond : (line : Line) (minute : ℕ) → 4 * length line.bytes ≤ minute - line.origin
+    → (u : ℕ) → minute ≤ u → knowledge line u ≡ None
+nothing-beyond line minute few u low = by (leb_tells (suc u) line.origin)
+  where
+    by : ((nat_lt u line.origin ≡ true) × (suc u ≤ line.origin))
+        ⊎ ((nat_lt u line.origin ≡ false) × (line.origin < suc u)) → knowledge line u ≡ None
+    by (inl a) = rw a.0 refl
+    by (inr a) = rw a.0 (kept_at-beyond line.bytes (u - line.origin) (omega (arith, few, low)))
+
 -- what is known of the minutes once the places of a clamped range were forgotten
 pub known-forgotten : (before after : List ℕ) (rule : AlertRule) (target origin from to most : ℕ) →
     4 * length before ≡ most → 4 * length after ≡ most →

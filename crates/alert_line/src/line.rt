@@ -94,6 +94,14 @@ impl AlertLine {
         kept_at(&self.bytes, (minute - self.origin) as usize)
     }
 
+    /// Whether nothing is known from a minute on, as far as the number of bytes tells it: it may
+    /// say false where nothing is known.
+    pub fn knows_nothing_from(&self, minute: u32) -> bool
+        ensures { result ≡ true → (u : ℕ) → minute ≤ u → knowledge self.now u ≡ None }
+    {
+        4 * self.bytes.len() <= minute.saturating_sub(self.origin) as usize
+    }
+
     /// For how many minutes from one on, up to another, the condition is known to hold, or known
     /// not to: looked up four minutes at a time, so it may tell fewer than there are.
     fn known_run(&self, holds: bool, from: u32, to: u32) -> u32
