@@ -73,6 +73,29 @@ Agrees-learnt before after sums minute holds alert agrees right learnt =
         is ∙ right ∙ ap (condition_on before sums) (sym same.1) ∙ one u
     by u b e (inr other) = agrees.each u b (sym (learnt u ∙ (rw other.0 refl)) ∙ e) ∙ one u
 
+-- where the bytes keep one more minute, it is known, and each other as before
+pub learnt-kept : (before after : List ℕ) (origin minute : ℕ) (holds : Bool) → origin ≤ minute →
+    ((k : ℕ) → kept_at after k
+    ≡ (if k == minute - origin then Some holds else kept_at before k)) → (u : ℕ) →
+    (if nat_lt u origin then None else kept_at after (u - origin)) ≡ (if u == minute
+    then Some holds else (if nat_lt u origin then None else kept_at before (u - origin)))
+learnt-kept before after origin minute holds le kept u =
+    by (leb_tells (suc u) origin) (eqb_tells u minute) (eqb_tells (u - origin) (minute - origin))
+  where
+    by : ((nat_lt u origin ≡ true) × (suc u ≤ origin))
+        ⊎ ((nat_lt u origin ≡ false) × (origin < suc u)) →
+        ((nat_eq u minute ≡ true) × (u ≡ minute)) ⊎ ((nat_eq u minute ≡ false) × (u ≢ minute)) →
+        ((nat_eq (u - origin) (minute - origin) ≡ true) × (u - origin ≡ minute - origin))
+        ⊎ ((nat_eq (u - origin) (minute - origin) ≡ false) × (u - origin ≢ minute - origin)) →
+        (if nat_lt u origin then None else kept_at after (u - origin)) ≡ (if u == minute
+        then Some holds else (if nat_lt u origin then None else kept_at before (u - origin)))
+    by (inl a) (inl e) d = absurd (omega (arith, a.1, e.1, le))
+    by (inl a) (inr e) d = rw (a.0, e.0) refl
+    by (inr a) (inl e) (inl d) = rw (a.0, e.0) (kept (u - origin) ∙ (rw d.0 refl))
+    by (inr a) (inl e) (inr d) = absurd (d.1 (ap (λ n. n - origin) e.1))
+    by (inr a) (inr e) (inl d) = absurd (e.1 (omega (arith, a.1, d.1, le)))
+    by (inr a) (inr e) (inr d) = rw (a.0, e.0) (kept (u - origin) ∙ (rw d.0 refl))
+
 pub tested : (n m : ℕ) → nat_le n m ≡ true → n ≤ m
 tested n m is = grind (arith, nat_tests)
 
@@ -86,14 +109,25 @@ nothing-beyond line minute few u low = by (leb_tells (suc u) line.origin)
     by (inl a) = rw a.0 refl
     by (inr a) = rw a.0 (kept_at-beyond line.bytes (u - line.origin) (omega (arith, few, low)))
 
--- what is known of the minutes once the places of a clamped range were forgotten
-pub known-forgotten : (before after : List ℕ) (rule : AlertRule) (target origin from to most : ℕ) →
-    4 * length before ≡ most → 4 * length after ≡ most →
+-- what is known of the minutes once the places of a range, cut to the bytes, were forgotten
+pub known-forgotten : (before after : List ℕ) (rule : AlertRule)
+    (target origin room room2 from to most : ℕ) → 4 * length before ≡ most →
+    4 * length after ≡ most →
     Forgets before after (min (from - origin) most) (min (to - origin) most) → (minute : ℕ) →
-    knowledge (record { rule = rule; target = target; origin = origin; bytes = after }) minute
-    ≡ (if nat_le from minute && nat_lt minute to then None else knowledge
-    (record { rule = rule; target = target; origin = origin; bytes = before }) minute)
-known-forgotten before after rule target origin from to most len len2 forgets minute =
+    knowledge (record {
+      rule = rule;
+      target = target;
+      origin = origin;
+      bytes = after;
+      room = room2;
+    }) minute ≡ (if nat_le from minute && nat_lt minute to then None else knowledge (record {
+      rule = rule;
+      target = target;
+      origin = origin;
+      bytes = before;
+      room = room;
+    }) minute)
+known-forgotten before after rule target origin room room2 from to most len len2 forgets minute =
     by (leb_tells (suc minute) origin) (leb_tells (suc (minute - origin)) most)
   where
     old : Option Bool

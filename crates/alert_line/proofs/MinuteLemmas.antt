@@ -2,8 +2,8 @@
 use Rattle.std.proofs.Common.{bit_and, ◌^◌, ◌≡◌, ◌≢◌, ◌⊎◌, ℕ, zero, suc, ◌+◌, ◌*◌, ◌/◌, ◌%◌, ◌<◌}
 use Rattle.std.proofs.Common.{◌≤◌, ◌==◌, ◌&&◌, ◌||◌, nat_eq, nat_le, nat_lt, Bool, true, false, inl}
 use Rattle.std.proofs.Common.{inr, List, length, Option, None, refl, sym, ap, subst, ◌∙◌, arith}
-use Rattle.std.proofs.Common.{slice_index, slice_set, if◌then◌else◌}
-use Rattle.std.proofs.lemmas.Bool.Decides.{eqb_tells, nat_tests}
+use Rattle.std.proofs.Common.{slice_index, slice_index_or, slice_set, if◌then◌else◌}
+use Rattle.std.proofs.lemmas.Bool.Decides.{eqb_tells, leb_tells, nat_tests}
 use Rattle.std.proofs.lemmas.List.{get_or-set_same, get_or-set_other}
 use Rattle.std.proofs.lemmas.Nat.{and_mask}
 use Rattle.std.proofs.Math.ListN.{get_or-eq_default}
@@ -126,6 +126,34 @@ kept_at-beyond bytes slot le =
   where
     few : (slot n : ℕ) → 4 * n ≤ slot → n ≤ slot / 4
     few slot n le = omega arith
+
+-- bytes of zeros behind the others keep nothing
+pub kept_at-lengthened : (before after : List ℕ) (count : ℕ) → length before ≤ count →
+    length after ≡ count →
+    ((k d : ℕ) → k < count → k < length before
+    → slice_index_or after k d ≡ slice_index_or before k d) →
+    ((k d : ℕ) → length before ≤ k → k < count → slice_index_or after k d ≡ 0) →
+    (slot : ℕ) → kept_at after slot ≡ kept_at before slot
+kept_at-lengthened before after count more len old new slot =
+    ap (λ b. verdict_of (bits_at b (slot % 4)))
+    (same (leb_tells (suc (slot / 4)) (length before)) (leb_tells (suc (slot / 4)) count))
+  where
+    at : ℕ
+    at = slot / 4
+
+    same : ((nat_lt at (length before) ≡ true) × (suc at ≤ length before))
+        ⊎ ((nat_lt at (length before) ≡ false) × (length before < suc at)) →
+        ((nat_lt at count ≡ true) × (suc at ≤ count))
+        ⊎ ((nat_lt at count ≡ false) × (count < suc at)) →
+        slice_index after at ≡ slice_index before at
+    same (inl a) b = old at 0 (omega (arith, a.1, more)) (omega (arith, a.1))
+    same (inr a) (inl b) =
+        let past : length before ≤ at = omega (arith, a.1) in
+        new at 0 past (omega (arith, b.1)) ∙ sym (get_or-eq_default before 0 past)
+    same (inr a) (inr b) =
+        let past : length before ≤ at = omega (arith, a.1) in
+        let past2 : length after ≤ at = omega (arith, b.1, len) in
+        get_or-eq_default after 0 past2 ∙ sym (get_or-eq_default before 0 past)
 
 -- whole bytes of zeros forget all their places
 pub Forgets-bytes : (before after : List ℕ) (first end : ℕ) →

@@ -15,11 +15,14 @@ pub record Line : Type 0 where
   pub target : ℕ
   pub origin : ℕ
   pub bytes : List ℕ
+  pub room : ℕ
 
+-- the bytes end where nothing more is known, and there is room for those of all the range
 pub record IsLine (line : Line) : Type 0 where
   pub rule : IsRule line.rule
   pub target : line.target < WHOLE
-  pub whole : 4 * length line.bytes ≡ RANGE_MINUTES
+  pub within : 4 * length line.bytes ≤ RANGE_MINUTES
+  pub room : RANGE_MINUTES ≤ 4 * line.room
 
 -- a line is about the minutes of an office's range, from its origin on
 abbrev pub IsMinute : Line → ℕ → Type 0

@@ -1,7 +1,7 @@
 //! A line that remembers the condition of an alert.
 ghost use Rattle.std.specs.Prelude.{◌≡◌, ℕ, Bool, true, ◌+◌, ◌-◌, ◌*◌, ◌^◌, [], IfSome, OnOk};
 ghost use Rattle.std.specs.Prelude.{is_none, ◌<◌, ◌≤◌, ◌==◌, ◌&&◌, nat_le, nat_lt, IfOk, IsTrue};
-ghost use Rattle.std.specs.Prelude.{is_some, None, Some, length, max, min, slice_index};
+ghost use Rattle.std.specs.Prelude.{is_some, None, Some, max, min};
 ghost use Rattle.std.specs.Prelude.{if◌then◌else◌};
 ghost use Rattle.slo_limits.specs.declared.TheConstants.{WHOLE};
 ghost use Rattle.burn_core.specs.Alert.{IsRule, wait_of};
@@ -38,6 +38,7 @@ pub struct AlertLine {
 }
 
 impl Model for AlertLine {
+    ghost use Rattle.std.specs.Prelude.{vec_capacity};
     ghost use Rattle.alert_line.specs.Line.{IsLine, Line};
 
     ghost Value = { Line };
@@ -47,6 +48,7 @@ impl Model for AlertLine {
       target = a.target;
       origin = a.origin;
       bytes = a.bytes.items;
+      room = vec_capacity a.bytes;
     } };
 
     ghost invariant = { λ a. IsLine (record {
@@ -54,12 +56,14 @@ impl Model for AlertLine {
       target = a.target;
       origin = a.origin;
       bytes = a.bytes.items;
+      room = vec_capacity a.bytes;
     }) };
 }
 
 impl AlertLine {
-    /// A line that knows nothing yet, of 512 KiB. The target is below 1, a threshold at most
-    /// 10,000, a lookback and a wait at most 30 days.
+    /// A line that knows nothing yet. Takes room of 512 KiB, of which it writes as much as lies up
+    /// to the last minute that it comes to know. The target is below 1, a threshold at most 10,000,
+    /// a lookback and a wait at most 30 days.
     pub fn new(
         alloc: Global,
         origin: u32,
@@ -74,7 +78,7 @@ impl AlertLine {
         ensures unknown { IfOk result (λ line. (minute : ℕ) → knowledge line minute ≡ None) }
         ensures agrees { IfOk result (λ line. (sums : CountedDays) → Agrees line sums) }
     {
-        let bytes = zeros(alloc, (RANGE_MINUTES / 4) as usize)?;
+        let bytes = Vec::with_capacity(alloc, (RANGE_MINUTES / 4) as usize)?;
         Ok(AlertLine {
             rule,
             target,
@@ -88,7 +92,7 @@ impl AlertLine {
     pub fn known_at(&self, minute: u32) -> Option<bool>
         ensures { result ≡ knowledge self.now minute }
     {
-        if minute < self.origin || minute - self.origin >= RANGE_MINUTES {
+        if minute < self.origin {
             return None;
         }
         kept_at(&self.bytes, (minute - self.origin) as usize)
@@ -112,8 +116,13 @@ impl AlertLine {
         ensures known { (u : ℕ) → from ≤ u → u < from + result
             → knowledge self.now u ≡ Some holds }
     {
+        let known = 4 * self.bytes.len();
         let first = (from - self.origin) as usize;
-        let end = (to - self.origin) as usize;
+        let beyond = known <= first;
+        if beyond {
+            return 0;
+        }
+        let end = ((to - self.origin) as usize).min(known);
         alike_from(&self.bytes, first, end, holds) as u32
     }
 
@@ -142,8 +151,9 @@ impl AlertLine {
         ensures forgotten { HasForgotten self.old self.new from to }
         ensures agrees { (sums : CountedDays) → Agrees self.old sums → Agrees self.new sums }
     {
-        let first = from.saturating_sub(self.origin).min(RANGE_MINUTES) as usize;
-        let end = to.saturating_sub(self.origin).min(RANGE_MINUTES) as usize;
+        let known = 4 * self.bytes.len();
+        let first = (from.saturating_sub(self.origin) as usize).min(known);
+        let end = (to.saturating_sub(self.origin) as usize).min(known);
         if first < end {
             forget_in(&mut self.bytes, first, end);
         }
@@ -524,11 +534,4 @@ fn run_over(run: u32, minutes: u32, holds: bool) -> u32
     ensures { result ≡ (if holds then run + minutes else 0) }
 {
     if holds { run + minutes } else { 0 }
-}
-
-fn zeros(alloc: Global, count: usize) -> Result<Vec<u8>, AllocError>
-    ensures len { IfOk result (λ v. length v.items ≡ count) }
-    ensures zeros { IfOk result (λ v. (at : ℕ) → slice_index v.items at ≡ 0) }
-{
-    vec![in alloc; 0; count]
 }

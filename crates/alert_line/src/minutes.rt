@@ -1,15 +1,19 @@
 //! What is remembered of each minute, over the bytes alone.
-ghost use Rattle.std.specs.Prelude.{◌≡◌, ℕ, ◌+◌, ◌*◌, ◌<◌, ◌≤◌, ◌==◌, ◌&&◌, nat_le, nat_lt, length};
-ghost use Rattle.std.specs.Prelude.{slice_index, Some, if◌then◌else◌};
+ghost use Rattle.std.specs.Prelude.{◌≡◌, ℕ, ◌+◌, ◌*◌, ◌/◌, ◌<◌, ◌≤◌, ◌==◌, ◌&&◌, nat_le, nat_lt, max};
+ghost use Rattle.std.specs.Prelude.{length, slice_index, vec_capacity, Some, if◌then◌else◌};
 ghost use Rattle.std.specs.List.{prefix_len};
 ghost use Rattle.alert_line.specs.Minutes.{Forgets, byte_of, kept_at, verdict_of};
 
 use crate::bits::{bits_at, with_bits};
 
+/// What is kept at a place: nothing behind the last byte.
 pub(crate) fn kept_at(bytes: &[u8], slot: usize) -> Option<bool>
-    requires { slot < 4 * length bytes.now }
     ensures { result ≡ kept_at bytes.now slot }
 {
+    let beyond = bytes.len() <= slot / 4;
+    if beyond {
+        return None;
+    }
     let bits = bits_at(bytes[slot / 4], slot % 4);
     if bits == 0 { None } else { Some(bits == 2) }
 }
@@ -61,13 +65,62 @@ fn put_bits(bytes: &mut [u8], slot: usize, bits: u8)
     bytes[slot / 4] = with_bits(bytes[slot / 4], slot % 4, bits);
 }
 
-pub(crate) fn keep(bytes: &mut [u8], slot: usize, holds: bool)
-    requires within { slot < 4 * length bytes.old }
-    ensures here { (k : ℕ) → kept_at bytes.new k
-        ≡ (if k == slot then Some holds else kept_at bytes.old k) }
-    ensures len { length bytes.new ≡ length bytes.old }
+/// Bytes that keep nothing, up to so many in all, for which there is room. Not inlined: it is
+/// called for every fourth minute that is learnt, at most.
+#[inline(never)]
+fn lengthen(bytes: &mut Vec<u8>, count: usize)
+    requires more { length bytes.old.items ≤ count }
+    requires room { count ≤ vec_capacity bytes.old }
+    ensures kept { (slot : ℕ) → kept_at bytes.new.items slot ≡ kept_at bytes.old.items slot }
+    ensures len { length bytes.new.items ≡ count }
+    ensures room { vec_capacity bytes.old ≤ vec_capacity bytes.new }
 {
-    put_bits(bytes, slot, if holds { 2 } else { 1 });
+    bytes.resize(count, 0).unwrap();
+}
+
+/// Lengthens the bytes where there is none at a place yet.
+fn reach(bytes: &mut Vec<u8>, at: usize)
+    requires { at < vec_capacity bytes.old }
+    ensures kept { (slot : ℕ) → kept_at bytes.new.items slot ≡ kept_at bytes.old.items slot }
+    ensures there { at < length bytes.new.items }
+    ensures within { length bytes.new.items ≤ max (length bytes.old.items) (at + 1) }
+    ensures room { vec_capacity bytes.old ≤ vec_capacity bytes.new }
+{
+    let there = at < bytes.len();
+    if there {
+        return;
+    }
+    lengthen(bytes, at + 1);
+}
+
+fn put_in(bytes: &mut Vec<u8>, slot: usize, bits: u8)
+    requires within { slot < 4 * length bytes.old.items }
+    requires bits { bits < 4 }
+    ensures here { (k : ℕ) → kept_at bytes.new.items k
+        ≡ (if k == slot then verdict_of bits else kept_at bytes.old.items k) }
+    ensures len { length bytes.new.items ≡ length bytes.old.items }
+    ensures room { vec_capacity bytes.new ≡ vec_capacity bytes.old }
+{
+    put_bits(bytes, slot, bits);
+}
+
+/// The two bits that stand for what is known.
+fn bits_of(holds: bool) -> u8
+    ensures few { result < 4 }
+    ensures value { verdict_of result ≡ Some holds }
+{
+    if holds { 2 } else { 1 }
+}
+
+pub(crate) fn keep(bytes: &mut Vec<u8>, slot: usize, holds: bool)
+    requires { slot < 4 * vec_capacity bytes.old }
+    ensures here { (k : ℕ) → kept_at bytes.new.items k
+        ≡ (if k == slot then Some holds else kept_at bytes.old.items k) }
+    ensures within { length bytes.new.items ≤ max (length bytes.old.items) (slot / 4 + 1) }
+    ensures room { vec_capacity bytes.old ≤ vec_capacity bytes.new }
+{
+    reach(bytes, slot / 4);
+    put_in(bytes, slot, bits_of(holds));
 }
 
 fn forget_singly(bytes: &mut [u8], from: usize, to: usize)
@@ -115,6 +168,7 @@ pub(crate) fn forget_in(bytes: &mut Vec<u8>, from: usize, to: usize)
     requires within { to ≤ 4 * length bytes.old.items }
     ensures value { Forgets bytes.old.items bytes.new.items from to }
     ensures len { length bytes.new.items ≡ length bytes.old.items }
+    ensures room { vec_capacity bytes.new ≡ vec_capacity bytes.old }
 {
     forget(bytes, from, to);
 }
