@@ -1,6 +1,7 @@
 //! What is remembered of each minute, over the bytes alone.
-ghost use Rattle.std.specs.Prelude.{◌≡◌, ℕ, ◌+◌, ◌*◌, ◌/◌, ◌<◌, ◌≤◌, ◌==◌, ◌&&◌, nat_le, nat_lt, max};
-ghost use Rattle.std.specs.Prelude.{length, slice_index, vec_capacity, Some, if◌then◌else◌};
+ghost use Rattle.std.specs.Prelude.{◌≡◌, ℕ, ◌+◌, ◌*◌, ◌/◌, ◌<◌, ◌≤◌, ◌==◌, ◌&&◌, nat_le, nat_lt};
+ghost use Rattle.std.specs.Prelude.{length, max, slice_index, vec_capacity, Some};
+ghost use Rattle.std.specs.Prelude.{if◌then◌else◌};
 ghost use Rattle.std.specs.List.{prefix_len};
 ghost use Rattle.alert_line.specs.Minutes.{Forgets, byte_of, kept_at, verdict_of};
 
