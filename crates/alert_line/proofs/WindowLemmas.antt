@@ -5,9 +5,15 @@ use Rattle.std.proofs.Math.Nat.{div-add-mod'}
 use Rattle.std.proofs.lemmas.Nat.{div-mul-add, mod_below}
 use Rattle.std.proofs.lemmas.Bool.Decides.{leb_tells}
 use Rattle.exact_fraction.specs.declared.leaf.Leaf.{Leaf}
-use Rattle.slo_terms.specs.Sums.{slice_from}
-use Rattle.slo_terms.specs.Sums.{leaves_over}
+use Rattle.slo_terms.specs.Sums.{leaves_over, slice_from, slices_until}
 use Rattle.slo_terms.proofs.RangeLemmas.{no_term, sum_over-next, sum_over-rest}
+
+-- where a slice is a minute, the slices are the minutes
+pub from-minutes : (w minute : ℕ) → w ≡ 1 → minute ≡ slice_from w minute
+from-minutes w minute one = rw one (omega arith)
+
+pub until-minutes : (w minute : ℕ) → w ≡ 1 → minute ≡ slices_until w minute
+until-minutes w minute one = rw one (omega arith)
 
 -- a quotient rises by one at most
 pub div-next : (w n : ℕ) → 0 < w → ((n + 1) / w ≡ n / w) ⊎ ((n + 1) / w ≡ n / w + 1)

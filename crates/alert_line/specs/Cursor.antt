@@ -1,11 +1,12 @@
 -- The windows of a rule, summed up at one minute.
-use Rattle.std.specs.Prelude.{ℕ, ◌-◌, ◌≡◌, ◌≤◌, ◌<◌, List, [], ◌∷◌}
+use Rattle.std.specs.Prelude.{ℕ, ◌+◌, ◌-◌, ◌^◌, ◌≡◌, ◌≤◌, ◌<◌, List, [], ◌∷◌}
 use Rattle.exact_fraction.specs.declared.leaf.Leaf.{Leaf}
 use Rattle.slo_terms.specs.Sums.{most_events, slice_from, slices_until, sum_of_slices}
 use Rattle.burn_core.specs.declared.alert.AlertRule.{AlertRule}
 use Rattle.burn_core.specs.declared.alert.AlertRule.TheVariants.{Single, Page, Ticket}
 use Rattle.burn_core.specs.declared.alert.WindowPair.{WindowPair}
 use Rattle.burn_core.specs.Alert.{page_pairs, ticket_pairs}
+use Rattle.alert_line.specs.declared.window.Advance.{Advance}
 use Rattle.alert_line.specs.declared.window.Window.{Window}
 use Rattle.alert_line.specs.declared.cursor.PairWindows.{PairWindows}
 use Rattle.alert_line.specs.declared.cursor.Windows.{Windows}
@@ -19,6 +20,16 @@ pub record IsOver (width : ℕ) (leaf : ℕ → Leaf) (length minute : ℕ) (win
   pub sum : window.sum ≡ sum_of_slices width leaf (minute - length) minute
   pub part : window.sum.num ≤ window.sum.den
   pub few : window.sum.den ≤ most_events
+
+-- windows that move on by a minute end where that minute ends, and gain the leaf of the slice that
+-- ends there, if one does
+pub record IsAdvance (width : ℕ) (leaf : ℕ → Leaf) (advance : Advance) : Type 0 where
+  pub early : advance.minute + 1 < 2 ^ 32
+  pub wide : advance.width ≡ width
+  pub some : 0 < advance.width
+  pub end : advance.end ≡ slices_until width (advance.minute + 1)
+  pub gained : slices_until width advance.minute < advance.end
+      → advance.leaf ≡ leaf (slices_until width advance.minute)
 
 -- two windows hold the sums of a pair
 pub record AreOver (width : ℕ) (leaf : ℕ → Leaf) (pair : WindowPair) (minute : ℕ)

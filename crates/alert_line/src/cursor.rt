@@ -6,9 +6,9 @@ ghost use Rattle.exact_fraction.specs.declared.op.Op.TheVariants.{Gt};
 ghost use Rattle.burn_core.specs.Alert.{IsRule};
 ghost use Rattle.burn_core.specs.Condition.{burns_by, both_burn};
 ghost use Rattle.window_sums.specs.Slices.{leaf_at, width_of};
-ghost use Rattle.alert_line.specs.Cursor.{AreOver, IsAt, StandAt, rule_of};
+ghost use Rattle.alert_line.specs.Cursor.{AreOver, IsAdvance, IsAt, StandAt, rule_of};
 
-use crate::window::Window;
+use crate::window::{Advance, Window};
 use burn_core::{AlertRule, WindowPair, above, page_pairs, ticket_pairs};
 use exact_fraction::{Decimal, Op};
 use std::sync::ledger::Ledger;
@@ -40,18 +40,18 @@ impl PairWindows {
         PairWindows { pair, long, short }
     }
 
-    fn next<L: Ledger>(self, minute: u32, sums: &WindowSums, steps: &mut Steps<L>) -> PairWindows
-        requires minute { minute + 1 < 2 ^ 32 }
-        requires value { AreOver (width_of sums.now.method) (leaf_at sums.now) self.pair minute
-            self }
-        ensures value { AreOver (width_of sums.now.method) (leaf_at sums.now) self.pair
-            (minute + 1) result }
-        ensures steps { steps.new ≤ steps.old + 4 }
+    /// Moves on to the next minute. Inlined, since a pair moves at each minute of a timeline.
+    #[inline(always)]
+    fn next<L: Ledger>(&mut self, advance: &Advance, sums: &WindowSums, steps: &mut Steps<L>)
+        requires advance { IsAdvance (width_of sums.now.method) (leaf_at sums.now) advance.now }
+        requires value { AreOver (width_of sums.now.method) (leaf_at sums.now) self.old.pair
+            advance.now.minute self.old }
+        ensures value { AreOver (width_of sums.now.method) (leaf_at sums.now) self.old.pair
+            (advance.now.minute + 1) self.new }
+        ensures steps { steps.new ≤ steps.old + 2 }
     {
-        let pair = self.pair;
-        let long = self.long.next(pair.long, minute, sums, steps);
-        let short = self.short.next(pair.short, minute, sums, steps);
-        PairWindows { pair, long, short }
+        self.long.next(self.pair.long, advance, sums, steps);
+        self.short.next(self.pair.short, advance, sums, steps);
     }
 
     /// Both windows burn faster than the pair allows.
@@ -130,40 +130,27 @@ impl Windows {
         }
     }
 
-    /// The windows of the next minute.
-    fn next<L: Ledger>(self, minute: u32, sums: &WindowSums, steps: &mut Steps<L>) -> Windows
-        requires minute { minute + 1 < 2 ^ 32 }
-        requires stand { StandAt (width_of sums.now.method) (leaf_at sums.now) minute self }
-        ensures rule { rule_of result ≡ rule_of self }
-        ensures stand { StandAt (width_of sums.now.method) (leaf_at sums.now) (minute + 1) result }
-        ensures steps { steps.new ≤ steps.old + 8 }
+    /// Moves on to the windows of the next minute.
+    fn next<L: Ledger>(&mut self, advance: &Advance, sums: &WindowSums, steps: &mut Steps<L>)
+        requires advance { IsAdvance (width_of sums.now.method) (leaf_at sums.now) advance.now }
+        requires stand { StandAt (width_of sums.now.method) (leaf_at sums.now) advance.now.minute
+            self.old }
+        ensures rule { rule_of self.new ≡ rule_of self.old }
+        ensures stand { StandAt (width_of sums.now.method) (leaf_at sums.now)
+            (advance.now.minute + 1) self.new }
+        ensures steps { steps.new ≤ steps.old + 4 }
     {
         match self {
             Windows::OfSingle {
-                op,
-                threshold,
                 lookback,
-                after,
                 window,
-            } => {
-                let window = window.next(lookback, minute, sums, steps);
-                Windows::OfSingle {
-                    op,
-                    threshold,
-                    lookback,
-                    after,
-                    window,
-                }
-            }
+                ..
+            } => window.next(*lookback, advance, sums, steps),
             Windows::OfPage { fast, slow } => {
-                let fast = fast.next(minute, sums, steps);
-                let slow = slow.next(minute, sums, steps);
-                Windows::OfPage { fast, slow }
+                fast.next(advance, sums, steps);
+                slow.next(advance, sums, steps);
             }
-            Windows::OfTicket { pair } => {
-                let pair = pair.next(minute, sums, steps);
-                Windows::OfTicket { pair }
-            }
+            Windows::OfTicket { pair } => pair.next(advance, sums, steps),
         }
     }
 
@@ -175,13 +162,13 @@ impl Windows {
         ensures { result ≡ burns_by (rule_of self.now) target (width_of sums.now.method)
             (leaf_at sums.now) minute }
     {
-        match *self {
+        match self {
             Windows::OfSingle {
                 op,
                 threshold,
                 window,
                 ..
-            } => above(window.sum, target, op, threshold),
+            } => above(window.sum, target, *op, *threshold),
             Windows::OfPage { fast, slow } => {
                 fast.both_burn(target, minute, sums) || slow.both_burn(target, minute, sums)
             }
@@ -213,40 +200,54 @@ impl Cursor {
         Cursor { minute, windows }
     }
 
-    fn next<L: Ledger>(self, sums: &WindowSums, steps: &mut Steps<L>) -> Cursor
-        requires minute { self.minute + 1 < 2 ^ 32 }
-        requires stand { StandAt (width_of sums.now.method) (leaf_at sums.now) self.minute
-            self.windows }
-        ensures value { IsAt (rule_of self.windows) (width_of sums.now.method) (leaf_at sums.now)
-            (self.minute + 1) result }
-        ensures steps { steps.new ≤ steps.old + 8 }
-    {
-        let windows = self.windows.next(self.minute, sums, steps);
-        Cursor {
-            minute: self.minute + 1,
-            windows,
-        }
-    }
-
-    /// Moved on to a later minute, slice by slice.
-    pub(crate) fn moved_to<L: Ledger>(
-        self,
+    /// All windows summed up from scratch, at another minute. Not inlined: moving on is the way that
+    /// is taken at most minutes.
+    #[inline(never)]
+    pub(crate) fn renew<L: Ledger>(
+        &mut self,
+        rule: AlertRule,
         minute: u32,
         sums: &WindowSums,
         steps: &mut Steps<L>,
-    ) -> Cursor
-        requires order { self.minute ≤ minute }
-        requires stand { StandAt (width_of sums.now.method) (leaf_at sums.now) self.minute
-            self.windows }
-        ensures value { IsAt (rule_of self.windows) (width_of sums.now.method) (leaf_at sums.now)
-            minute result }
-        ensures steps { steps.new ≤ steps.old + 8 * (minute - self.minute) }
+    )
+        requires { IsRule rule }
+        ensures value { IsAt rule (width_of sums.now.method) (leaf_at sums.now) minute self.new }
+        ensures steps { steps.new ≤ steps.old + 2400 }
     {
-        let mut cursor = self;
+        *self = Cursor::new(rule, minute, sums, steps);
+    }
+
+    /// Moves on to the next minute.
+    fn next<L: Ledger>(&mut self, sums: &WindowSums, steps: &mut Steps<L>)
+        requires minute { self.old.minute + 1 < 2 ^ 32 }
+        requires stand { StandAt (width_of sums.now.method) (leaf_at sums.now) self.old.minute
+            self.old.windows }
+        ensures value { IsAt (rule_of self.old.windows) (width_of sums.now.method)
+            (leaf_at sums.now) (self.old.minute + 1) self.new }
+        ensures steps { steps.new ≤ steps.old + 8 }
+    {
+        let advance = Advance::new(self.minute, sums, steps);
+        self.windows.next(&advance, sums, steps);
+        self.minute += 1;
+    }
+
+    /// Moves on to a later minute, slice by slice.
+    pub(crate) fn move_to<L: Ledger>(
+        &mut self,
+        minute: u32,
+        sums: &WindowSums,
+        steps: &mut Steps<L>,
+    )
+        requires order { self.old.minute ≤ minute }
+        requires stand { StandAt (width_of sums.now.method) (leaf_at sums.now) self.old.minute
+            self.old.windows }
+        ensures value { IsAt (rule_of self.old.windows) (width_of sums.now.method)
+            (leaf_at sums.now) minute self.new }
+        ensures steps { steps.new ≤ steps.old + 8 * (minute - self.old.minute) }
+    {
         for _at in self.minute..minute {
-            cursor = cursor.next(sums, steps);
+            self.next(sums, steps);
         }
-        cursor
     }
 
     /// What the rule says at the cursor's minute.

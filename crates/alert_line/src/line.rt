@@ -407,54 +407,84 @@ impl AlertLine {
             (λ last. minute - last.minute ≤ MOST_MOVES
             → steps.new ≤ steps.old + 8 * (minute - last.minute)) }
     {
-        let next = self.cursor_at(minute, *cursor, sums, steps);
-        let holds = self.burns(&next, sums);
+        let holds = self.holds_at(minute, cursor, sums, steps);
         self.learn(minute, holds);
-        *cursor = Some(next);
         holds
     }
 
-    /// The windows of the rule at a minute: those of an earlier one moved on, or from scratch.
-    fn cursor_at<L: Ledger>(
+    /// The condition of a minute, by the windows of an earlier one, which move on to it, or by ones
+    /// that are summed up from scratch.
+    fn holds_at<L: Ledger>(
         &self,
         minute: u32,
-        last: Option<Cursor>,
+        cursor: &mut Option<Cursor>,
         sums: &WindowSums,
         steps: &mut Steps<L>,
-    ) -> Cursor
-        requires behind { IfSome last (IsBehind self.now.rule (width_of sums.now.method)
-            (leaf_at sums.now) minute) }
-        ensures value { IsAt self.now.rule (width_of sums.now.method) (leaf_at sums.now) minute
-            result }
+    ) -> bool
+        requires minute { IsMinute self.now minute }
+        requires behind { IfSome cursor.old
+            (IsBehind self.now.rule (width_of sums.now.method) (leaf_at sums.now) minute) }
+        ensures value { result ≡ condition_on self.now sums.now minute }
+        ensures stands { IfSome cursor.new
+            (IsAt self.now.rule (width_of sums.now.method) (leaf_at sums.now) minute) }
+        ensures stays { IsTrue (is_some cursor.new) }
         ensures steps { steps.new ≤ steps.old + 2400 }
-        ensures moved { IfSome last (λ last. minute - last.minute ≤ MOST_MOVES
+        ensures moved { IfSome cursor.old
+            (λ last. minute - last.minute ≤ MOST_MOVES
             → steps.new ≤ steps.old + 8 * (minute - last.minute)) }
     {
-        match last {
-            Some(cursor) => self.moved_or_new(minute, cursor, sums, steps),
-            None => Cursor::new(self.rule, minute, sums, steps),
+        match cursor {
+            Some(last) => {
+                self.bring(minute, last, sums, steps);
+                self.burns(last, sums)
+            }
+            None => self.begin(minute, cursor, sums, steps),
         }
     }
 
-    fn moved_or_new<L: Ledger>(
+    /// The condition of a minute, by windows that are summed up from scratch. Not inlined: a pass
+    /// does so once.
+    #[inline(never)]
+    fn begin<L: Ledger>(
         &self,
         minute: u32,
-        last: Cursor,
+        cursor: &mut Option<Cursor>,
         sums: &WindowSums,
         steps: &mut Steps<L>,
-    ) -> Cursor
-        requires behind { IsBehind self.now.rule (width_of sums.now.method) (leaf_at sums.now)
-            minute last }
-        ensures value { IsAt self.now.rule (width_of sums.now.method) (leaf_at sums.now) minute
-            result }
+    ) -> bool
+        requires minute { IsMinute self.now minute }
+        ensures value { result ≡ condition_on self.now sums.now minute }
+        ensures stands { IfSome cursor.new
+            (IsAt self.now.rule (width_of sums.now.method) (leaf_at sums.now) minute) }
+        ensures stays { IsTrue (is_some cursor.new) }
         ensures steps { steps.new ≤ steps.old + 2400 }
-        ensures moved { minute - last.minute ≤ MOST_MOVES
-            → steps.new ≤ steps.old + 8 * (minute - last.minute) }
     {
-        if minute - last.minute <= MOST_MOVES {
-            last.moved_to(minute, sums, steps)
+        let first = Cursor::new(self.rule, minute, sums, steps);
+        let holds = self.burns(&first, sums);
+        *cursor = Some(first);
+        holds
+    }
+
+    /// Brings the windows of the rule to a later minute: they move on, or are summed up anew.
+    fn bring<L: Ledger>(
+        &self,
+        minute: u32,
+        cursor: &mut Cursor,
+        sums: &WindowSums,
+        steps: &mut Steps<L>,
+    )
+        requires behind { IsBehind self.now.rule (width_of sums.now.method) (leaf_at sums.now)
+            minute cursor.old }
+        ensures value { IsAt self.now.rule (width_of sums.now.method) (leaf_at sums.now) minute
+            cursor.new }
+        ensures steps { steps.new ≤ steps.old + 2400 }
+        ensures moved { minute - cursor.old.minute ≤ MOST_MOVES
+            → steps.new ≤ steps.old + 8 * (minute - cursor.old.minute) }
+    {
+        if minute - cursor.minute <= MOST_MOVES {
+            cursor.move_to(minute, sums, steps);
         } else {
-            Cursor::new(self.rule, minute, sums, steps)
+            cursor.renew(self.rule, minute, sums, steps);
         }
     }
 

@@ -11,7 +11,7 @@ overflow_sub-result g c =
       arith,
       ap (λ (l : Leaf). l.num) c.requires.value,
       ap (λ (l : Leaf). l.num) c.slice-leaf.ensures.value,
-      shrunk-num (leaf_at c.args.sums.now) c.args.self.first c.args.self.end (omega arith),
+      shrunk-num (leaf_at c.args.sums.now) c.args.self.now.first c.args.self.now.end (omega arith),
     )
 
 pub overflow_sub-result-then-self : goal.overflow_sub-result-then-self
@@ -20,16 +20,16 @@ overflow_sub-result-then-self g c =
       arith,
       ap (λ (l : Leaf). l.den) c.requires.value,
       ap (λ (l : Leaf). l.den) c.slice-leaf.ensures.value,
-      shrunk-den (leaf_at c.args.sums.now) c.args.self.first c.args.self.end (omega arith),
+      shrunk-den (leaf_at c.args.sums.now) c.args.self.now.first c.args.self.now.end (omega arith),
     )
 
 pub returns-then-self-clause-value : goal.returns-then-self-clause-value
 returns-then-self-clause-value g c =
     let leaf = leaf_at c.args.sums.now in
-    let first = c.args.self.first in
-    let end = c.args.self.end in
+    let first = c.args.self.now.first in
+    let end = c.args.self.now.end in
     let next : first + 1 ≡ c.args.to = omega arith in
-    let num : c.args.self.sum.num - c.slice-leaf.result.num
+    let num : c.args.self.now.sum.num - c.slice-leaf.result.num
     ≡ (leaves_over leaf (first + 1) (end - (first + 1))).num =
     omega (
       arith,
@@ -37,7 +37,7 @@ returns-then-self-clause-value g c =
       ap (λ (l : Leaf). l.num) c.slice-leaf.ensures.value,
       shrunk-num leaf first end (omega arith),
     ) in
-    let den : c.args.self.sum.den - c.slice-leaf.result.den
+    let den : c.args.self.now.sum.den - c.slice-leaf.result.den
     ≡ (leaves_over leaf (first + 1) (end - (first + 1))).den =
     omega (
       arith,
@@ -50,7 +50,8 @@ returns-then-self-clause-value g c =
 pub returns-else-self-clause-value : goal.returns-else-self-clause-value
 returns-else-self-clause-value g c =
     let leaf = leaf_at c.args.sums.now in
-    let was : c.args.self.end - c.args.self.first ≡ 0 = omega arith in
-    let is : c.args.self.end - c.args.to ≡ 0 = omega arith in
-    c.requires.value ∙ ap (leaves_over leaf c.args.self.first) was
-    ∙ leaves-none leaf c.args.self.first c.args.to 0 refl ∙ ap (leaves_over leaf c.args.to) (sym is)
+    let was : c.args.self.now.end - c.args.self.now.first ≡ 0 = omega arith in
+    let is : c.args.self.now.end - c.args.to ≡ 0 = omega arith in
+    c.requires.value ∙ ap (leaves_over leaf c.args.self.now.first) was
+    ∙ leaves-none leaf c.args.self.now.first c.args.to 0 refl
+    ∙ ap (leaves_over leaf c.args.to) (sym is)
