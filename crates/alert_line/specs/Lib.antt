@@ -4,3 +4,4 @@ pub mod Learnt
 pub mod Line
 pub mod Minutes
 pub mod Spans
+pub mod Summed

@@ -9,7 +9,9 @@ pub mod laws;
 mod line;
 mod minutes;
 mod spans;
+mod summed;
 mod window;
 
 pub use line::AlertLine;
 pub use spans::Spans;
+pub use summed::SummedWindows;

@@ -12,10 +12,12 @@ ghost use Rattle.alert_line.specs.Laws.{HasForgotten};
 ghost use Rattle.alert_line.specs.Learnt.{HasLearnt, IsLearnt, IsRun, start_of, unknown_in};
 ghost use Rattle.alert_line.specs.Line.{Agrees, IsMinute, SameAlert, active_on, condition_on};
 ghost use Rattle.alert_line.specs.Line.{den_before, knowledge};
+ghost use Rattle.alert_line.specs.Summed.{AreSummedAt};
 
 use crate::cursor::Cursor;
 use crate::minutes::{alike_from, forget_in, keep, kept_at};
 use crate::spans::{Spans, note_minute, note_stretch};
+use crate::summed::SummedWindows;
 use burn_core::{AlertRule, State};
 use exact_fraction::Decimal;
 use slo_limits::RANGE_MINUTES;
@@ -259,7 +261,38 @@ impl AlertLine {
             + 2400 * unknown_in self.old (start_of self.old minute)
             (minute + 1 - start_of self.old minute) }
     {
-        let active = self.active_at(minute, sums, steps);
+        let mut summed = SummedWindows::new();
+        self.state_with(minute, sums, &mut summed, steps)
+    }
+
+    /// The same, by windows that were summed up at the minute over sums with the same leaves, as
+    /// far as there are some of the rule. Those that weren't are kept for the next line.
+    pub fn state_with<L: Ledger>(
+        &mut self,
+        minute: u32,
+        sums: &WindowSums,
+        summed: &mut SummedWindows,
+        steps: &mut Steps<L>,
+    ) -> State
+        requires minute { IsMinute self.old minute }
+        requires agrees { Agrees self.old sums.now }
+        requires summed { AreSummedAt (width_of sums.now.method) (leaf_at sums.now) minute
+            summed.old }
+        ensures value { result ≡ state_of (active_on self.old sums.now minute)
+            (den_before self.old sums.now minute) }
+        ensures alert { SameAlert self.old self.new }
+        ensures agrees { Agrees self.new sums.now }
+        ensures kept { (u : ℕ) (holds : Bool) → knowledge self.old u ≡ Some holds
+            → knowledge self.new u ≡ Some holds }
+        ensures known { IsLearnt self.old self.new sums.now (start_of self.old minute)
+            (minute + 1) }
+        ensures summed { AreSummedAt (width_of sums.now.method) (leaf_at sums.now) minute
+            summed.new }
+        ensures steps { steps.new ≤ steps.old + 600
+            + 2400 * unknown_in self.old (start_of self.old minute)
+            (minute + 1 - start_of self.old minute) }
+    {
+        let active = self.active_at(minute, sums, summed, steps);
         self.state_where(active, minute, sums, steps)
     }
 
@@ -286,9 +319,17 @@ impl AlertLine {
     }
 
     /// Whether the alert is active at a minute.
-    fn active_at<L: Ledger>(&mut self, minute: u32, sums: &WindowSums, steps: &mut Steps<L>) -> bool
+    fn active_at<L: Ledger>(
+        &mut self,
+        minute: u32,
+        sums: &WindowSums,
+        summed: &mut SummedWindows,
+        steps: &mut Steps<L>,
+    ) -> bool
         requires minute { IsMinute self.old minute }
         requires agrees { Agrees self.old sums.now }
+        requires summed { AreSummedAt (width_of sums.now.method) (leaf_at sums.now) minute
+            summed.old }
         ensures value { result ≡ active_on self.old sums.now minute }
         ensures alert { SameAlert self.old self.new }
         ensures agrees { Agrees self.new sums.now }
@@ -296,6 +337,8 @@ impl AlertLine {
             → knowledge self.new u ≡ Some holds }
         ensures known { IsLearnt self.old self.new sums.now (start_of self.old minute)
             (minute + 1) }
+        ensures summed { AreSummedAt (width_of sums.now.method) (leaf_at sums.now) minute
+            summed.new }
         ensures steps { steps.new ≤ steps.old
             + 2400 * unknown_in self.old (start_of self.old minute)
             (minute + 1 - start_of self.old minute) }
@@ -303,7 +346,7 @@ impl AlertLine {
         let wait = self.wait();
         let mut cursor = None;
         let run = self.run_before(minute, &mut cursor, sums, steps);
-        let holds = self.evaluate(minute, &mut cursor, sums, steps);
+        let holds = self.evaluate_with(minute, &mut cursor, sums, summed, steps);
         has_held(wait, run, holds)
     }
 
@@ -381,6 +424,43 @@ impl AlertLine {
             return holds;
         }
         self.discover(minute, cursor, sums, steps)
+    }
+
+    /// The condition of a minute, which is known afterwards, by windows that were summed up there,
+    /// if there are some of the rule. Else what `discover` sums up is kept beside those. No step is
+    /// taken where the condition was known.
+    fn evaluate_with<L: Ledger>(
+        &mut self,
+        minute: u32,
+        cursor: &mut Option<Cursor>,
+        sums: &WindowSums,
+        summed: &mut SummedWindows,
+        steps: &mut Steps<L>,
+    ) -> bool
+        requires minute { IsMinute self.old minute }
+        requires agrees { Agrees self.old sums.now }
+        requires behind { IfSome cursor.old
+            (IsBehind self.old.rule (width_of sums.now.method) (leaf_at sums.now) minute) }
+        requires summed { AreSummedAt (width_of sums.now.method) (leaf_at sums.now) minute
+            summed.old }
+        ensures value { result ≡ condition_on self.old sums.now minute }
+        ensures learnt { HasLearnt self.old self.new minute result }
+        ensures summed { AreSummedAt (width_of sums.now.method) (leaf_at sums.now) minute
+            summed.new }
+        ensures steps { steps.new ≤ steps.old
+            + 2400 * (if is_none (knowledge self.old minute) then 1 else 0) }
+    {
+        if let Some(holds) = self.known_at(minute) {
+            return holds;
+        }
+        if let Some(found) = summed.of_rule(&self.rule) {
+            let holds = self.burns(found, sums);
+            self.learn(minute, holds);
+            return holds;
+        }
+        let holds = self.discover(minute, cursor, sums, steps);
+        summed.keep(cursor);
+        holds
     }
 
     /// The condition of a minute that isn't known. Not inlined, which doubles the speed over known
