@@ -17,21 +17,24 @@ use crate::kept::KeptLines;
 use crate::sums::objective_sums;
 use crate::watch::Watch;
 use alert_line::AlertLine;
+use line_forgetting::{earliest_minute, forget_near_batch};
 use office_derived::Derived;
 use sample_book::{Exclusion, Row, RowVerdict, SampleBook};
 use window_sums::{WindowSums, width_of};
 
 /// A line forgets what is near the slices of the rows of a batch that move. So it is right with
-/// the batch as it was without it.
+/// the batch as it was without it. No row is before the earliest minute.
 fn forget_moved(
     line: &mut AlertLine,
     watch: &Watch,
+    earliest: u32,
     book: &SampleBook,
     rows: &[Row],
     verdicts: &[RowVerdict],
 )
     requires rule { line.old.rule ≡ watch.now.rule }
     requires verdicts { verdicts.now ≡ verdicts_def book.now.rows rows.now }
+    requires earliest { AllByRecursion (λ (row : Row). earliest ≤ row.minute) rows.now }
     requires early { AllByRecursion (λ (row : Row). row.minute ≤ LAST_MINUTE) rows.now }
     ensures forgets { Forgets (IsMovedBy rows.now verdicts.now watch.now)
         (width_of_def watch.now.measure.method) line.old line.new }
@@ -41,7 +44,7 @@ fn forget_moved(
     let measure = watch.measure();
     let width = width_of(&measure.method);
     book.rows_are_current();
-    line_forgetting::forget_near_batch(line, watch.rule(), measure, width, book, rows, verdicts);
+    forget_near_batch(line, watch.rule(), measure, width, earliest, book, rows, verdicts);
 }
 
 /// A line forgets what is near the slices of the rows that count otherwise with an exclusion than
@@ -82,8 +85,9 @@ impl KeptLines {
         ensures forget { AllForget (IsMovedBy rows.now verdicts.now) self.old.kept self.new.kept }
         ensures spare { self.new.spare ≡ self.old.spare }
     {
+        let earliest = earliest_minute(rows);
         for kept in self.lines.iter_mut() {
-            forget_moved(&mut kept.line, &kept.watch, &derived.book, rows, verdicts);
+            forget_moved(&mut kept.line, &kept.watch, earliest, &derived.book, rows, verdicts);
         }
     }
 

@@ -92,7 +92,8 @@ fn lines_made(
 }
 
 /// What becomes of the lines as a catalog takes the place of another: the alerts that it watches,
-/// and the lines of those that had none. These know nothing yet, and take 512 KiB each.
+/// and the lines of those that had none. These know nothing yet, and take room of 512 KiB each, of
+/// which only what they know is written.
 ///
 /// # Errors
 ///

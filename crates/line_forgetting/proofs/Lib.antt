@@ -8,3 +8,4 @@ pub mod NearLemmas
 pub mod RightLemmas
 pub mod RunLemmas
 pub mod SliceLemmas
+pub mod UnknownLemmas

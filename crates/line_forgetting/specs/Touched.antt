@@ -83,6 +83,13 @@ abbrev pub IsRunIf : ℕ → ℕ → Option SliceRun → Type 0
 IsRunIf width reach None = Unit {0}
 IsRunIf width reach (Some run) = IsRun width reach run
 
+-- a row of a batch has this minute
+pub record IsMinuteOfRow (rows : List Row) (minute : ℕ) : Type 0 where
+  pub place : ℕ
+  pub row : Row
+  pub here : slice_get rows place ≡ Some row
+  pub is : row.minute ≡ minute
+
 -- a row that moves, among the first of a batch, lies in a slice
 pub record HasMovedBefore (m : Measure) (rows : List Row) (verdicts : List RowVerdict)
     (at slice : ℕ) :

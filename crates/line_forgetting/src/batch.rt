@@ -1,12 +1,12 @@
 //! What a line forgets before the rows of a batch are followed.
-ghost use Rattle.std.specs.Prelude.{◌≡◌, ◌<◌, ◌≤◌};
+ghost use Rattle.std.specs.Prelude.{◌≡◌, ◌<◌, ◌≤◌, ◌⊎◌};
 ghost use Rattle.std.specs.List.{AllByRecursion};
 ghost use Rattle.sample_book.specs.declared.Row.{Row};
 ghost use Rattle.sample_book.specs.Puts.{verdicts as verdicts_def};
 ghost use Rattle.burn_core.specs.Alert.{IsRule};
 ghost use Rattle.window_sums.specs.Slices.{width_of};
 ghost use Rattle.kept_sums.specs.Replacing.{HasMoved};
-ghost use Rattle.line_forgetting.specs.Touched.{Forgets, LAST_MINUTE};
+ghost use Rattle.line_forgetting.specs.Touched.{Forgets, IsMinuteOfRow, LAST_MINUTE};
 
 use crate::run::{forget_waiting, touch};
 use alert_line::AlertLine;
@@ -15,10 +15,21 @@ use kept_sums::changes_counts;
 use office_history::Measure;
 use sample_book::{Row, RowVerdict, SampleBook};
 
-/// A line of the objective forgets what is near the slices of the rows that move, and nothing else,
-/// before its sums follow the batch. Marks are merged: what is near neighbouring slices is
-/// forgotten at once. `width` is that of the objective's slices.
-pub fn forget_near_batch(
+/// The earliest minute of the rows of a batch, and the last number where there is no row.
+pub fn earliest_minute(rows: &[Row]) -> u32
+    ensures bound { AllByRecursion (λ (row : Row). result ≤ row.minute) rows.now }
+    ensures own { (result ≡ 4294967295) ⊎ IsMinuteOfRow rows.now result }
+{
+    let mut earliest = u32::MAX;
+    for row in rows {
+        earliest = earliest.min(row.minute);
+    }
+    earliest
+}
+
+/// A line forgets what is near the slices of the rows that move, row by row. Marks are merged: what
+/// is near neighbouring slices is forgotten at once.
+fn forget_near_rows(
     line: &mut AlertLine,
     rule: &AlertRule,
     measure: &Measure,
@@ -43,4 +54,34 @@ pub fn forget_near_batch(
         }
     }
     forget_waiting(line, rule, width, waiting);
+}
+
+/// A line of the objective forgets what is near the slices of the rows that move, and nothing else,
+/// before its sums follow the batch. The rows aren't looked at where the line knows nothing from
+/// the earliest of their minutes on, since what is near a slice lies behind its minutes. `width` is
+/// that of the objective's slices.
+pub fn forget_near_batch(
+    line: &mut AlertLine,
+    rule: &AlertRule,
+    measure: &Measure,
+    width: u32,
+    earliest: u32,
+    book: &SampleBook,
+    rows: &[Row],
+    verdicts: &[RowVerdict],
+)
+    requires rule { line.old.rule ≡ rule.now }
+    requires ranges { IsRule rule.now }
+    requires width { width ≡ width_of measure.now.method }
+    requires some { 0 < width }
+    requires small { width ≤ 60 }
+    requires earliest { AllByRecursion (λ (row : Row). earliest ≤ row.minute) rows.now }
+    requires early { AllByRecursion (λ (row : Row). row.minute ≤ LAST_MINUTE) rows.now }
+    requires verdicts { verdicts.now ≡ verdicts_def book.now.rows rows.now }
+    ensures { Forgets (HasMoved measure.now rows.now verdicts.now) width line.old line.new }
+{
+    if line.knows_nothing_from(earliest) {
+        return;
+    }
+    forget_near_rows(line, rule, measure, width, book, rows, verdicts);
 }

@@ -10,7 +10,7 @@ mod right_lines;
 mod run;
 mod whole;
 
-pub use batch::forget_near_batch;
+pub use batch::{earliest_minute, forget_near_batch};
 pub use exclusion::forget_near_exclusion;
 pub use right_lines::{
     lines_stay_right_over_batches, lines_stay_right_over_exclusions,
