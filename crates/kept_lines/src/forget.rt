@@ -1,10 +1,11 @@
 //! What lines forget before rows or an exclusion are followed.
-ghost use Rattle.std.specs.Prelude.{◌≡◌, ◌≤◌, ℕ, Bool, not};
+ghost use Rattle.std.specs.Prelude.{◌≡◌, ◌≤◌, ℕ, Bool, IfSome, not};
 ghost use Rattle.std.specs.List.{AllByRecursion};
 ghost use Rattle.sample_book.specs.declared.Row.{Row};
 ghost use Rattle.sample_book.specs.Puts.{verdicts as verdicts_def};
 ghost use Rattle.window_sums.specs.Slices.{width_of as width_of_def};
 ghost use Rattle.kept_sums.specs.Sums.{RowFits, SumsAreKept};
+ghost use Rattle.line_forgetting.specs.Moves.{IsToldOf};
 ghost use Rattle.line_forgetting.specs.Right.{IsRight};
 ghost use Rattle.line_forgetting.specs.Touched.{Forgets, LAST_MINUTE};
 ghost use Rattle.office_derived.specs.Derived.{IsPlaced, IsSound};
@@ -17,34 +18,41 @@ use crate::kept::KeptLines;
 use crate::sums::objective_sums;
 use crate::watch::Watch;
 use alert_line::AlertLine;
-use line_forgetting::{earliest_minute, forget_near_batch};
+use line_forgetting::{IndicatorMoves, earliest_minute, forget_near_batch};
 use office_derived::Derived;
 use sample_book::{Exclusion, Row, RowVerdict, SampleBook};
 use window_sums::{WindowSums, width_of};
 
 /// A line forgets what is near the slices of the rows of a batch that move. So it is right with
-/// the batch as it was without it. No row is before the earliest minute.
+/// the batch as it was without it. No row is before the earliest minute. Gives what is told then of
+/// the rows of an indicator.
 fn forget_moved(
     line: &mut AlertLine,
     watch: &Watch,
     earliest: u32,
+    told: Option<IndicatorMoves>,
     book: &SampleBook,
     rows: &[Row],
     verdicts: &[RowVerdict],
-)
+) -> Option<IndicatorMoves>
     requires rule { line.old.rule ≡ watch.now.rule }
     requires verdicts { verdicts.now ≡ verdicts_def book.now.rows rows.now }
     requires earliest { AllByRecursion (λ (row : Row). earliest ≤ row.minute) rows.now }
+    requires told { IfSome told (IsToldOf rows.now verdicts.now) }
     requires early { AllByRecursion (λ (row : Row). row.minute ≤ LAST_MINUTE) rows.now }
     ensures forgets { Forgets (IsMovedBy rows.now verdicts.now watch.now)
         (width_of_def watch.now.measure.method) line.old line.new }
     ensures right { (begin : ℕ) → IsRight begin (samples_of book.now) watch.now line.old
         → IsRight begin (samples_with book.now rows.now) watch.now line.new }
+    ensures told { IfSome result (IsToldOf rows.now verdicts.now) }
 {
     let measure = watch.measure();
     let width = width_of(&measure.method);
     book.rows_are_current();
-    forget_near_batch(line, watch.rule(), measure, width, earliest, book, rows, verdicts);
+    let rule = watch.rule();
+    forget_near_batch(
+        line, rule, measure, width, earliest, told, book, rows, verdicts,
+    )
 }
 
 /// A line forgets what is near the slices of the rows that count otherwise with an exclusion than
@@ -86,8 +94,17 @@ impl KeptLines {
         ensures spare { self.new.spare ≡ self.old.spare }
     {
         let earliest = earliest_minute(rows);
+        let mut told = None;
         for kept in self.lines.iter_mut() {
-            forget_moved(&mut kept.line, &kept.watch, earliest, &derived.book, rows, verdicts);
+            told = forget_moved(
+                &mut kept.line,
+                &kept.watch,
+                earliest,
+                told,
+                &derived.book,
+                rows,
+                verdicts,
+            );
         }
     }
 

@@ -8,4 +8,6 @@ pub mod NearLemmas
 pub mod RightLemmas
 pub mod RunLemmas
 pub mod SliceLemmas
+pub mod StretchLemmas
+pub mod ToldLemmas
 pub mod UnknownLemmas

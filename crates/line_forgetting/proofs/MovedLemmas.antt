@@ -19,14 +19,14 @@ none-moved m rows verdicts slice is = none is.before
     none h = omega (arith, h)
 
 -- an item at the place of another is that one
-same_item : {A : Type 0} (xs : List A) (n k : ℕ) (x y : A) → slice_get xs n ≡ Some x →
+pub same_item : {A : Type 0} (xs : List A) (n k : ℕ) (x y : A) → slice_get xs n ≡ Some x →
     slice_get xs k ≡ Some y → k ≡ n → y ≡ x
 same_item xs n k x y a b e =
     let both : ◌≡◌ {A = Option _} (Some y) (Some x) = sym b ∙ ap (slice_get xs) e ∙ a in
     cc both
 
 -- a place up to another and with it is before it, or it
-split : (at k : ℕ) → k < at + 1 → (k < at) ⊎ (k ≡ at)
+pub split : (at k : ℕ) → k < at + 1 → (k < at) ⊎ (k ≡ at)
 split at k h = turn (leb_tells (suc k) at)
   where
     turn : ((nat_le (suc k) at ≡ true) × (suc k ≤ at))

@@ -1,3 +1,4 @@
 pub mod Following
+pub mod Moves
 pub mod Right
 pub mod Touched

@@ -6,12 +6,14 @@
 mod batch;
 mod exclusion;
 pub mod laws;
+mod moves;
 mod right_lines;
 mod run;
 mod whole;
 
 pub use batch::{earliest_minute, forget_near_batch};
 pub use exclusion::forget_near_exclusion;
+pub use moves::{IndicatorMoves, MovedMinutes};
 pub use right_lines::{
     lines_stay_right_over_batches, lines_stay_right_over_exclusions,
     lines_stay_right_where_minutes_are_alike, right_lines_agree,

@@ -15,7 +15,7 @@ pub(crate) struct SliceRun {
 }
 
 /// Forgets what is near the slices of a run.
-fn forget_run(line: &mut AlertLine, rule: &AlertRule, width: u32, run: SliceRun)
+pub(crate) fn forget_run(line: &mut AlertLine, rule: &AlertRule, width: u32, run: SliceRun)
     requires rule { line.old.rule ≡ rule.now }
     requires ranges { IsRule rule.now }
     requires some { 0 < width }

@@ -16,7 +16,8 @@ returns-clause-forgets c =
     forgets_same (λ m. HasMoved m c.args.rows.now c.args.verdicts.now) c.args.watch.now
     c.measure-measure.result.now c.width_of-width.result c.args.line.now
     c.forget_near_batch.new.line
-    c.measure-measure.ensures.value c.width_of-width.ensures.value c.forget_near_batch.ensures
+    c.measure-measure.ensures.value c.width_of-width.ensures.value
+    c.forget_near_batch.ensures.forgets
 
 pub returns-clause-right : goal.returns-clause-right
 returns-clause-right c = λ begin.
@@ -26,4 +27,5 @@ returns-clause-right c = λ begin.
     (forgets_same (λ m. HasMoved m c.args.rows.now c.args.verdicts.now) c.args.watch.now
     c.measure-measure.result.now c.width_of-width.result c.args.line.now
     c.forget_near_batch.new.line
-    c.measure-measure.ensures.value c.width_of-width.ensures.value c.forget_near_batch.ensures)
+    c.measure-measure.ensures.value c.width_of-width.ensures.value
+    c.forget_near_batch.ensures.forgets)

@@ -43,6 +43,7 @@ loop-kept-init c =
           c.requires.lines.right;
       forget = refl;
       watches = refl;
+      told = tt;
     }
 
 pub loop-kept-preserved : goal.loop-kept-preserved
@@ -69,6 +70,7 @@ loop-kept-preserved c =
           c.loop-kept.invariant.forget c.forget_moved.ensures.forgets;
       watches = keys_set (λ (k : WatchLine). k.watch) at items next c.kept-item.result refl
           ∙ c.loop-kept.invariant.watches;
+      told = c.forget_moved.ensures.told;
     }
 
 pub returns-clause-lines : goal.returns-clause-lines

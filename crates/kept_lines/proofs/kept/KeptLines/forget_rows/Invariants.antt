@@ -1,4 +1,5 @@
-use Rattle.std.proofs.Common.{◌≡◌}
+use Rattle.std.proofs.Common.{◌≡◌, IfSome}
+use Rattle.line_forgetting.specs.Moves.{IsToldOf}
 use Rattle.line_forgetting.specs.Right.{IsRight}
 use Rattle.kept_sums.proofs.Loops.{HalfDone}
 use Rattle.kept_lines.specs.Changes.{IsMovedBy, samples_with}
@@ -8,7 +9,8 @@ use Rattle.kept_lines.specs.declared.kept.WatchLine.{WatchLine}
 use Rattle.kept_lines.proofs.ForgetLemmas.{HalfForget}
 use Rattle.kept_lines.proofs.kept.KeptLines.forget_rows.Given as goal
 
--- the first lines are right with the rows, the others are without them
+-- the first lines are right with the rows, the others are without them, and what is told of an
+-- indicator's rows holds
 abbrev pub invariant-loop-kept : goal.invariant-loop-kept
 invariant-loop-kept l = record {
   right : HalfDone
@@ -18,4 +20,5 @@ invariant-loop-kept l = record {
   forget : HalfForget (IsMovedBy l.rows l.verdicts) l.kept-index l.initial.kept-items
       l.kept-items;
   watches : watches_of l.kept-items ≡ watches_of l.initial.kept-items;
+  told : IfSome l.told (IsToldOf l.rows l.verdicts);
 }
