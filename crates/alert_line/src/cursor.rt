@@ -200,8 +200,8 @@ impl Cursor {
         Cursor { minute, windows }
     }
 
-    /// All windows summed up from scratch, at another minute. Not inlined: moving on is the way that
-    /// is taken at most minutes.
+    /// All windows summed up from scratch, at another minute. Not inlined: moving on is the way
+    /// that is taken at most minutes.
     #[inline(never)]
     pub(crate) fn renew<L: Ledger>(
         &mut self,

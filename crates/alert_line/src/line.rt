@@ -7,7 +7,7 @@ ghost use Rattle.slo_limits.specs.declared.TheConstants.{WHOLE};
 ghost use Rattle.burn_core.specs.Alert.{IsRule, wait_of};
 ghost use Rattle.burn_core.specs.Timeline.{AreSpansOf, is_active, state_of};
 ghost use Rattle.window_sums.specs.Slices.{CountedDays, leaf_at, width_of};
-ghost use Rattle.alert_line.specs.Cursor.{IsAt, IsBehind, StandAt, rule_of};
+ghost use Rattle.alert_line.specs.Cursor.{IsAt, IsBehind};
 ghost use Rattle.alert_line.specs.Laws.{HasForgotten};
 ghost use Rattle.alert_line.specs.Learnt.{HasLearnt, IsLearnt, IsRun, start_of, unknown_in};
 ghost use Rattle.alert_line.specs.Line.{Agrees, IsMinute, SameAlert, active_on, condition_on};

@@ -1,7 +1,7 @@
 -- What is told of the minutes of rows that move, row by row.
 use Rattle.std.proofs.Common.{◌≡◌, ◌⊎◌, ℕ, ◌+◌, ◌-◌, ◌≤◌, ◌<◌, ◌==◌, ◌&&◌, nat_le, Bool, true}
-use Rattle.std.proofs.Common.{false, Some, inl, inr, refl, arith, ap, sym, subst, ◌∙◌, List, slice_get}
-use Rattle.std.proofs.Common.{length, if◌then◌else◌}
+use Rattle.std.proofs.Common.{false, Some, inl, inr, refl, arith, ap, sym, subst, ◌∙◌, List}
+use Rattle.std.proofs.Common.{length, slice_get, if◌then◌else◌}
 use Rattle.std.proofs.lemmas.Bool.{and_parts}
 use Rattle.std.proofs.lemmas.Bool.Decides.{leb_tells, nat_tests}
 use Rattle.sample_book.specs.declared.Row.{Row}

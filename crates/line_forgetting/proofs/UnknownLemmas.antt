@@ -10,7 +10,7 @@ use Rattle.std.specs.List.{AllByRecursion}
 use Rattle.sample_book.specs.declared.Row.{Row}
 use Rattle.sample_book.specs.declared.RowVerdict.{RowVerdict}
 use Rattle.burn_core.specs.Alert.{reach_of}
-use Rattle.window_sums.specs.Slices.{slice_of, width_of}
+use Rattle.window_sums.specs.Slices.{width_of}
 use Rattle.alert_line.specs.Line.{Line, knowledge}
 use Rattle.office_history.specs.declared.Measure.{Measure}
 use Rattle.kept_sums.specs.Replacing.{HasMoved}

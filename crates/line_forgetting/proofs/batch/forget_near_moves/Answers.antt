@@ -1,4 +1,4 @@
-use Rattle.std.proofs.Common.{sym, subst}
+use Rattle.std.proofs.Common.{subst}
 use Rattle.line_forgetting.specs.Moves.{AreTold, IsMovedMinute}
 use Rattle.line_forgetting.proofs.StretchLemmas.{nothing-forgets}
 use Rattle.line_forgetting.proofs.batch.forget_near_moves.Goals as goal
