@@ -1,5 +1,6 @@
 mod BindingLemmas
 mod BindingWalkLemmas
+mod CarriedLemmas
 pub mod ForgetLemmas
 mod KeptLemmas
 pub mod KnownLemmas

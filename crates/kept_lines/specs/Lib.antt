@@ -1,4 +1,5 @@
 pub mod BindingWalk
+pub mod Carried
 pub mod Changes
 pub mod Known
 pub mod Lines

@@ -1,9 +1,12 @@
 //! What a walk over bindings keeps from one binding to the next.
-ghost use Rattle.std.specs.Prelude.{◌≡◌, IfSome};
+ghost use Rattle.std.specs.Prelude.{◌≡◌, ℕ, IfSome};
 ghost use Rattle.office_history.specs.Alerts.{watch_of as watch_of_def};
+ghost use Rattle.office_history.specs.Counts.{Samples};
 ghost use Rattle.office_history.specs.Objectives.{measure_at as measure_at_def};
 ghost use Rattle.kept_lines.specs.BindingWalk.{IsSeen, is_of as is_of_def};
+ghost use Rattle.kept_lines.specs.Carried.{IsHint};
 
+use crate::carried::CarriedWindows;
 use crate::watch::{Watch, with_rule};
 use catalog_measures::measure_at;
 use catalog_terms::Binding;
@@ -12,13 +15,26 @@ use office_history::Measure;
 use slo_catalog::Catalog;
 
 /// Where sums and lines are looked for first: where those of the binding before stood, or behind.
+/// And the windows that were summed up so far.
 #[derive(Clone, Copy)]
 pub(crate) struct Hint {
     pub(crate) sums: usize,
     pub(crate) line: usize,
+    pub(crate) carried: CarriedWindows,
 }
 
-pub(crate) const AT_THE_BEGIN: Hint = Hint { sums: 0, line: 0 };
+impl Hint {
+    /// Where a walk begins.
+    pub(crate) fn new() -> Hint
+        ensures { (s : Samples) (minute : ℕ) → IsHint s minute result }
+    {
+        Hint {
+            sums: 0,
+            line: 0,
+            carried: CarriedWindows::new(),
+        }
+    }
+}
 
 /// An objective that was looked up, and what it counts.
 #[derive(Clone, Copy)]

@@ -5,6 +5,7 @@
 
 mod apply_plan;
 mod binding_walk;
+mod carried;
 mod forget;
 mod kept;
 mod line_answers;

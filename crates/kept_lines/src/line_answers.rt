@@ -4,24 +4,26 @@ ghost use Rattle.std.specs.Prelude.{slice_get, take, true};
 ghost use Rattle.std.specs.List.{AllByRecursion, Contains};
 ghost use Rattle.slo_limits.specs.declared.TheConstants.{RANGE_MINUTES};
 ghost use Rattle.burn_core.specs.Timeline.{AreSpansOf, state_of};
-ghost use Rattle.window_sums.specs.Slices.{CountedDays};
+ghost use Rattle.window_sums.specs.Slices.{CountedDays, leaf_at, width_of};
 ghost use Rattle.alert_line.specs.Learnt.{IsLearnt, start_of};
 ghost use Rattle.alert_line.specs.Line.{Agrees, IsMinute, SameAlert, active_on, den_before};
 ghost use Rattle.alert_line.specs.Line.{knowledge};
+ghost use Rattle.alert_line.specs.Summed.{AreSummedAt};
 ghost use Rattle.office_history.specs.Alerts.{is_watch_active, state_at};
 ghost use Rattle.office_derived.specs.Derived.{IsSound};
 ghost use Rattle.line_forgetting.specs.Right.{IsRight};
+ghost use Rattle.kept_lines.specs.Carried.{IsHint};
 ghost use Rattle.kept_lines.specs.Known.{AllKnow, IsLineOf, LineKnows};
 ghost use Rattle.kept_lines.specs.Lines.{HasLines, watches_of};
 ghost use Rattle.kept_lines.specs.Sums.{AreSums, samples_of};
 ghost use Rattle.kept_lines.specs.Watches.{IsWatched};
 ghost use Rattle.kept_lines.specs.declared.kept.WatchLine.{WatchLine};
 
-use crate::binding_walk::{AT_THE_BEGIN, Hint};
+use crate::binding_walk::Hint;
 use crate::kept::{KeptLines, is_at, place_of};
 use crate::sums::{objective_sums, objective_sums_at};
 use crate::watch::Watch;
-use alert_line::{AlertLine, Spans};
+use alert_line::{AlertLine, Spans, SummedWindows};
 use burn_core::State;
 use office_derived::Derived;
 use std::alloc::AllocError;
@@ -30,15 +32,19 @@ use std::sync::ledger::{Blank, Ledger};
 use sum_pages::Steps;
 use window_sums::WindowSums;
 
-/// How the alert of a line stands. No one counts the steps.
+/// How the alert of a line stands, by windows that were summed up before where there are some. No
+/// one counts the steps.
 fn state_of_line<L: Ledger>(
     line: &mut AlertLine,
     sums: &WindowSums,
     minute: u32,
+    windows: &mut SummedWindows,
     blank: Blank,
 ) -> State
     requires minute { IsMinute line.old minute }
     requires agrees { Agrees line.old sums.now }
+    requires windows { AreSummedAt (width_of sums.now.method) (leaf_at sums.now) minute
+        windows.old }
     requires blank { (blank.name ≡ L.name) × (blank.parts ≡ L.parts) × (0 < L.parts) }
     ensures value { result ≡ state_of (active_on line.old sums.now minute)
         (den_before line.old sums.now minute) }
@@ -46,9 +52,11 @@ fn state_of_line<L: Ledger>(
     ensures agrees { Agrees line.new sums.now }
     ensures kept { (u : ℕ) (holds : Bool) → knowledge line.old u ≡ Some holds
         → knowledge line.new u ≡ Some holds }
+    ensures windows { AreSummedAt (width_of sums.now.method) (leaf_at sums.now) minute
+        windows.new }
 {
     let mut steps = Steps::<L>::new(blank);
-    line.state_at(minute, sums, &mut steps)
+    line.state_with(minute, sums, windows, &mut steps)
 }
 
 /// The stretches of [from, to) in which a line's alert is active. No one counts the steps.
@@ -130,26 +138,28 @@ impl KeptLines {
         ensures know { AllKnow self.old.kept self.new.kept }
         ensures spare { self.new.spare ≡ self.old.spare }
     {
-        let (state, _next) = self.state_near(derived, watch, minute, AT_THE_BEGIN);
-        state
+        let mut hint = Hint::new();
+        self.state_near(derived, watch, minute, &mut hint)
     }
 
     /// How a watched alert stands, and where those of the next one are looked for. Sums and lines
     /// stand in the order of their bindings, mostly, so they are looked for where the ones before
-    /// suggest.
+    /// suggest. Windows are summed up only where none of the rule are carried over the same counts.
     pub(crate) fn state_near(
         &mut self,
         derived: &Derived,
         watch: &Watch,
         minute: u32,
-        hint: Hint,
-    ) -> (State, Hint)
+        hint: &mut Hint,
+    ) -> State
         requires sound { IsSound derived.now }
         requires lines { HasLines derived.now self.old.kept }
         requires watched { IsWatched derived.now.catalog watch.now }
         requires begun { derived.now.origin ≤ minute }
         requires in_range { minute < derived.now.origin + RANGE_MINUTES }
-        ensures value { result.0 ≡ state_at derived.now.origin (samples_of derived.now.book)
+        requires hint { IsHint (samples_of derived.now.book) minute hint.old }
+        ensures hint { IsHint (samples_of derived.now.book) minute hint.new }
+        ensures value { result ≡ state_at derived.now.origin (samples_of derived.now.book)
             watch.now minute }
         ensures lines { HasLines derived.now self.new.kept }
         ensures watches { watches_of self.new.kept ≡ watches_of self.old.kept }
@@ -160,13 +170,12 @@ impl KeptLines {
         let sums_place = derived.sums.place_near(measure, hint.sums);
         let sums = objective_sums_at(derived, measure, sums_place);
         let place = self.place_near(watch, hint.line);
+        hint.sums = sums_place;
+        hint.line = place.saturating_add(1);
+        hint.carried.go_on_to(&derived.book, measure);
         let line = &mut self.lines[place].line;
-        let state = state_of_line::<Brand>(line, sums, minute, Blank::new(1));
-        let next = Hint {
-            sums: sums_place,
-            line: place.saturating_add(1),
-        };
-        (state, next)
+        let windows = &mut hint.carried.windows;
+        state_of_line::<Brand>(line, sums, minute, windows, Blank::new(1))
     }
 
     /// The stretches of [from, to) in which a watched alert is active, of minutes of the office's

@@ -10,25 +10,25 @@ ghost use Rattle.kept_lines.specs.Sums.{samples_of};
 ghost use Rattle.kept_lines.specs.Known.{AllKnow};
 ghost use Rattle.kept_lines.specs.Lines.{HasLines, watches_of};
 ghost use Rattle.kept_lines.specs.BindingWalk.{IsSeen};
+ghost use Rattle.kept_lines.specs.Carried.{IsHint};
 ghost use Rattle.kept_lines.specs.States.{with_state};
 
-use crate::binding_walk::{AT_THE_BEGIN, Hint, Seen, seen_near, watch_seen};
+use crate::binding_walk::{Hint, Seen, seen_near, watch_seen};
 use crate::kept::KeptLines;
 use burn_core::State;
 use catalog_terms::Binding;
 use office_derived::Derived;
 use std::alloc::{AllocError, Global};
 
-/// How the alert of a binding of this objective stands, and where those of the next one are looked
-/// for.
+/// How the alert of a binding of this objective stands.
 fn state_of_binding(
     derived: &Derived,
     lines: &mut KeptLines,
     binding: &Binding,
     seen: &Seen,
     minute: u32,
-    hint: Hint,
-) -> (State, Hint)
+    hint: &mut Hint,
+) -> State
     requires sound { IsSound derived.now }
     requires lines { HasLines derived.now lines.old.kept }
     requires among { Contains (bindings_def derived.now.catalog) binding.now }
@@ -37,7 +37,9 @@ fn state_of_binding(
     requires seen { IsSeen derived.now.catalog seen.now }
     requires measure { seen.now.measure
         ≡ measure_at_def derived.now.catalog binding.now.slo binding.now.objective }
-    ensures value { result.0 ≡ state_if derived.now.origin (samples_of derived.now.book) minute
+    requires hint { IsHint (samples_of derived.now.book) minute hint.old }
+    ensures hint { IsHint (samples_of derived.now.book) minute hint.new }
+    ensures value { result ≡ state_if derived.now.origin (samples_of derived.now.book) minute
         (watch_of_def derived.now.catalog binding.now) }
     ensures lines { HasLines derived.now lines.new.kept }
     ensures watches { watches_of lines.new.kept ≡ watches_of lines.old.kept }
@@ -46,7 +48,7 @@ fn state_of_binding(
 {
     match watch_seen(&derived.catalog, binding, seen) {
         Some(watch) => lines.state_near(derived, &watch, minute, hint),
-        None => (State::Quiet, hint),
+        None => State::Quiet,
     }
 }
 
@@ -71,13 +73,12 @@ fn states_of(
     ensures spare { lines.new.spare ≡ lines.old.spare }
 {
     let mut states = Vec::new(alloc);
-    let mut hint = AT_THE_BEGIN;
+    let mut hint = Hint::new();
     let mut before = None;
     for binding in bindings {
         let seen = seen_near(&derived.catalog, binding, before);
         before = Some(seen);
-        let (state, next) = state_of_binding(derived, lines, binding, &seen, minute, hint);
-        hint = next;
+        let state = state_of_binding(derived, lines, binding, &seen, minute, &mut hint);
         states.push((*binding, state))?;
     }
     Ok(states)

@@ -2,6 +2,7 @@ use Rattle.std.proofs.Common.{◌∙◌, ◌++◌, List, ap, map, refl}
 use Rattle.burn_core.specs.declared.State.{State}
 use Rattle.catalog_terms.specs.declared.Binding.{Binding}
 use Rattle.kept_lines.specs.States.{with_state}
+use Rattle.kept_lines.specs.Sums.{samples_of}
 use Rattle.kept_lines.proofs.KnownLemmas.{all_know, know_on}
 use Rattle.kept_lines.proofs.StateLemmas.{next_state}
 use Rattle.kept_lines.proofs.states.states_of.Goals as goal
@@ -16,6 +17,7 @@ loop-binding-init c = record {
   watches = refl;
   know = all_know c.args.lines.now.kept;
   before = tt;
+  hint = c.new-hint.ensures (samples_of c.args.derived.now.book) c.args.minute;
   spare = refl;
 }
 
@@ -29,7 +31,7 @@ pub loop-binding-preserved : goal.loop-binding-preserved
 loop-binding-preserved c = record {
   states =
       next_state c.args.derived.now c.args.minute c.args.bindings.now
-      c.loop-binding.binding-index c.binding-item.result c.state_of_binding-state.result.0
+      c.loop-binding.binding-index c.binding-item.result c.state_of_binding-state.result
       c.loop-binding.states.items c.push.new.self.items c.loop-binding-test.true
       c.binding-item.is c.state_of_binding-state.ensures.value c.loop-binding.invariant.states
       c.in_ok-push.ensures.items;
@@ -40,5 +42,6 @@ loop-binding-preserved c = record {
       c.state_of_binding-state.new.lines.kept c.loop-binding.invariant.know
       c.state_of_binding-state.ensures.know;
   before = c.seen_near-seen.ensures.seen;
+  hint = c.state_of_binding-state.ensures.hint;
   spare = c.state_of_binding-state.ensures.spare ∙ c.loop-binding.invariant.spare;
 }

@@ -1,15 +1,20 @@
-use Rattle.std.proofs.Common.{◌≡◌, ◌∙◌, ◌<◌, ap, arith, length, subst, sym}
+use Rattle.std.proofs.Common.{◌≡◌, ◌∙◌, ◌<◌, IfSome, ap, arith, length, subst, sym}
+use Rattle.window_sums.specs.Slices.{width_of}
+use Rattle.alert_line.specs.Summed.{AreSummedAt}
 use Rattle.line_forgetting.specs.Right.{IsRight}
+use Rattle.office_history.specs.Counts.{leaf_at}
 use Rattle.office_history.specs.declared.Measure.{Measure}
 use Rattle.kept_sums.specs.Objectives.{IsObjective}
+use Rattle.kept_lines.specs.Carried.{HaveSameLeaves}
 use Rattle.kept_lines.specs.Lines.{LinesKept}
 use Rattle.kept_lines.specs.Sums.{AreSums, samples_of}
+use Rattle.kept_lines.proofs.CarriedLemmas.{of-sums, over-sums}
 use Rattle.kept_lines.proofs.KnownLemmas.{know_there}
 use Rattle.kept_lines.proofs.LineLemmas.{agrees_there, found, is_minute, keeps_there}
 use Rattle.kept_lines.proofs.LineLemmas.{objective_watched, place_within, right_again}
 use Rattle.kept_lines.proofs.LineLemmas.{seen_state, watches_there}
 use Rattle.kept_lines.proofs.kept.KeptLines.state_near.Goals as goal
-use Rattle.kept_lines.proofs.kept.KeptLines.state_near.Goals.{After-index_mut}
+use Rattle.kept_lines.proofs.kept.KeptLines.state_near.Goals.{After-go_on_to, After-index_mut}
 
 pub objective_sums_at-sums-requires-clause-objective :
     goal.objective_sums_at-sums-requires-clause-objective
@@ -45,24 +50,51 @@ are c =
     c.objective_sums_at-sums.result.now) c.measure-measure.ensures.value
     c.objective_sums_at-sums.ensures.sums
 
-pub state_of_line-state-requires-clause-minute : goal.state_of_line-state-requires-clause-minute
-state_of_line-state-requires-clause-minute c =
-    let at = (goal.at.state_of_line-state-requires-clause-minute c).After-index_mut in
+pub state_of_line-requires-clause-minute : goal.state_of_line-requires-clause-minute
+state_of_line-requires-clause-minute c =
+    let at = (goal.at.state_of_line-requires-clause-minute c).After-index_mut in
     is_minute c.args.derived.now.origin c.args.minute c.index_mut.result.now.line
     (there at).0.origin c.requires.begun c.requires.in_range
 
-pub state_of_line-state-requires-clause-agrees : goal.state_of_line-state-requires-clause-agrees
-state_of_line-state-requires-clause-agrees c =
-    let at = (goal.at.state_of_line-state-requires-clause-agrees c).After-index_mut in
+pub state_of_line-requires-clause-agrees : goal.state_of_line-requires-clause-agrees
+state_of_line-requires-clause-agrees c =
+    let at = (goal.at.state_of_line-requires-clause-agrees c).After-index_mut in
     let d = c.args.derived.now in
     agrees_there d.origin (samples_of d.book) c.args.watch.now c.index_mut.result.now.line
     c.objective_sums_at-sums.result.now (there at).0 (are at)
+
+-- the windows that are carried are over what it counts
+carried : (c : After-go_on_to) → AreSummedAt (width_of c.args.watch.now.measure.method)
+    (leaf_at (samples_of c.args.derived.now.book) c.args.watch.now.measure) c.args.minute
+    c.go_on_to.new.self.windows
+carried c =
+    subst (λ (m : Measure). AreSummedAt (width_of m.method)
+    (leaf_at (samples_of c.args.derived.now.book) m) c.args.minute c.go_on_to.new.self.windows)
+    c.measure-measure.ensures.value (c.go_on_to.ensures.windows c.args.minute c.requires.hint)
+
+pub state_of_line-requires-clause-windows : goal.state_of_line-requires-clause-windows
+state_of_line-requires-clause-windows c =
+    let at = goal.at.state_of_line-requires-clause-windows c in
+    over-sums (samples_of c.args.derived.now.book) c.args.watch.now.measure
+    c.objective_sums_at-sums.result.now c.args.minute c.go_on_to.new.self.windows
+    (are at.After-index_mut) (carried at.After-go_on_to)
+
+pub returns-clause-hint : goal.returns-clause-hint
+returns-clause-hint c =
+    let at = (goal.at.returns-clause-hint c).After-index_mut in
+    let s = samples_of c.args.derived.now.book in
+    let same = subst (λ (m : Measure). IfSome c.go_on_to.new.self.measure
+    (λ (own : Measure). HaveSameLeaves s own m)) c.measure-measure.ensures.value
+    c.go_on_to.ensures.same in
+    of-sums s c.args.watch.now.measure c.objective_sums_at-sums.result.now c.args.minute
+    c.go_on_to.new.self.measure c.state_of_line.new.windows (are at) same
+    c.state_of_line.ensures.windows
 
 pub returns-clause-value : goal.returns-clause-value
 returns-clause-value c =
     let at = (goal.at.returns-clause-value c).After-index_mut in
     let d = c.args.derived.now in
-    c.state_of_line-state.ensures.value
+    c.state_of_line.ensures.value
     ∙ seen_state d.origin (samples_of d.book) c.args.watch.now c.index_mut.result.now.line
     c.objective_sums_at-sums.result.now c.args.minute (there at).0 (are at)
 
@@ -73,23 +105,23 @@ returns-clause-lines c =
     let s = samples_of d.book in
     let w = c.args.watch.now in
     let k = c.index_mut.result.now in
-    let after = c.state_of_line-state.new.line in
+    let after = c.state_of_line.new.line in
     keeps_there d.origin d.catalog s w c.args.self.now.kept c.self.inside.lines.items
     c.place_near-place.result k after (ap (λ (k : LinesKept). k.kept) c.self.view_is)
     c.requires.lines c.place_near-place.ensures c.requires.watched (there at).1
     (right_again d.origin s w k.line after c.objective_sums_at-sums.result.now (there at).0
-    (are at) c.state_of_line-state.ensures.alert c.state_of_line-state.ensures.agrees)
+    (are at) c.state_of_line.ensures.alert c.state_of_line.ensures.agrees)
 
 pub returns-clause-watches : goal.returns-clause-watches
 returns-clause-watches c =
     watches_there c.args.watch.now c.args.self.now.kept c.self.inside.lines.items
-    c.place_near-place.result c.index_mut.result.now c.state_of_line-state.new.line
+    c.place_near-place.result c.index_mut.result.now c.state_of_line.new.line
     (ap (λ (k : LinesKept). k.kept) c.self.view_is) c.place_near-place.ensures
     (there (goal.at.returns-clause-watches c).After-index_mut).1
 
 pub returns-clause-know : goal.returns-clause-know
 returns-clause-know c =
     know_there c.args.self.now.kept c.self.inside.lines.items c.place_near-place.result
-    c.index_mut.result.now c.state_of_line-state.new.line
+    c.index_mut.result.now c.state_of_line.new.line
     (ap (λ (k : LinesKept). k.kept) c.self.view_is)
-    c.index_mut.ensures.value c.state_of_line-state.ensures.alert c.state_of_line-state.ensures.kept
+    c.index_mut.ensures.value c.state_of_line.ensures.alert c.state_of_line.ensures.kept
