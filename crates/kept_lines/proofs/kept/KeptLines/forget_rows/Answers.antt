@@ -13,23 +13,17 @@ use Rattle.kept_lines.proofs.kept.KeptLines.forget_rows.Goals as goal
 abbrev IsRightOver : ℕ → Samples → WatchLine → Type 0
 IsRightOver begin s k = IsRight begin s k.watch k.line
 
--- the line at hand is right without the rows
-here : (c : goal.After-forget_moved-arg-in-loop-kept-1) →
-    IsRightOver c.args.derived.now.origin (samples_of c.args.derived.now.book)
-    (slice_index_or c.loop-kept.kept-items c.loop-kept.kept-index c.kept-item.result)
-here c =
-    half_get (IsRightOver c.args.derived.now.origin (samples_of c.args.derived.now.book))
+pub forget_moved-told-requires-clause-rule : goal.forget_moved-told-requires-clause-rule
+forget_moved-told-requires-clause-rule c =
+    (half_get (IsRightOver c.args.derived.now.origin (samples_of c.args.derived.now.book))
     (IsRightOver c.args.derived.now.origin
     (samples_with c.args.derived.now.book c.args.rows.now))
     c.loop-kept.kept-index c.loop-kept.kept-items c.kept-item.result
     (omega (arith, c.loop-kept-test.true, c.loop-kept.auto.kept-items))
-    c.loop-kept.invariant.right
+    c.loop-kept.invariant.right).rule
 
-pub forget_moved-requires-clause-rule : goal.forget_moved-requires-clause-rule
-forget_moved-requires-clause-rule c = (here c).rule
-
-pub forget_moved-requires-clause-early : goal.forget_moved-requires-clause-early
-forget_moved-requires-clause-early c =
+pub forget_moved-told-requires-clause-early : goal.forget_moved-told-requires-clause-early
+forget_moved-told-requires-clause-early c =
     all_early c.args.derived.now.origin c.args.rows.now
     (omega (arith, c.requires.sound.origin)) c.requires.placed
 
@@ -57,20 +51,20 @@ loop-kept-preserved c =
     omega (arith, c.loop-kept-test.true, c.loop-kept.auto.kept-items) in
     let next : WatchLine = record {
       watch = (slice_index_or items at c.kept-item.result).watch;
-      line = c.forget_moved.new.line;
+      line = c.forget_moved-told.new.line;
     } in
     record {
       right = half_step (IsRightOver begin before) (IsRightOver begin after) at items next less
           c.loop-kept.invariant.right
-          (c.forget_moved.ensures.right begin
+          (c.forget_moved-told.ensures.right begin
           (half_get (IsRightOver begin before) (IsRightOver begin after) at items
           c.kept-item.result less c.loop-kept.invariant.right));
       forget = forget_step (IsMovedBy c.args.rows.now c.args.verdicts.now) at
-          c.deref_mut-kept-items.result.now items c.kept-item.result c.forget_moved.new.line less
-          c.loop-kept.invariant.forget c.forget_moved.ensures.forgets;
+          c.deref_mut-kept-items.result.now items c.kept-item.result c.forget_moved-told.new.line
+          less c.loop-kept.invariant.forget c.forget_moved-told.ensures.forgets;
       watches = keys_set (λ (k : WatchLine). k.watch) at items next c.kept-item.result refl
           ∙ c.loop-kept.invariant.watches;
-      told = c.forget_moved.ensures.told;
+      told = c.forget_moved-told.ensures.told;
     }
 
 pub returns-clause-lines : goal.returns-clause-lines
