@@ -92,6 +92,21 @@ impl Page {
     }
 }
 
+impl Clone for Page {
+    ghost is_clone = { λ page copy. copy ≡ page };
+
+    fn clone(&self) -> Result<Page, AllocError> {
+        let alloc = *self.leaves.allocator();
+        let leaves = Vec::from_slice(alloc, &self.leaves)?;
+        let hours = Vec::from_slice(alloc, &self.hours)?;
+        Ok(Page {
+            leaves,
+            hours,
+            total: self.total,
+        })
+    }
+}
+
 /// So many leaves without data.
 fn no_leaves(alloc: Global, count: u32) -> Result<Vec<Leaf>, AllocError>
     ensures { IfOk result (λ leaves. leaves.items ≡ replicate count NO_LEAF) }

@@ -1,6 +1,6 @@
 //! Pages of leaves, by the number of the day.
 ghost use Rattle.std.specs.Prelude.{◌≡◌, ℕ, ◌+◌, ◌*◌, ◌/◌, ◌%◌, ◌<◌, ◌≤◌, ◌==◌, ◌||◌, nat_eq};
-ghost use Rattle.std.specs.Prelude.{is_some, length, slice_set, IsTrue, [], OnOk, OnErr};
+ghost use Rattle.std.specs.Prelude.{is_some, length, slice_set, IfOk, IsTrue, [], OnOk, OnErr};
 ghost use Rattle.std.specs.Int.{◌∣◌};
 ghost use Rattle.std.specs.Map.{lookup, set_value};
 ghost use Rattle.slo_terms.specs.Sums.{AreFew, AreSound, leaves_over, most_events};
@@ -49,6 +49,21 @@ impl SumPages {
             per_hour,
             pages: IndexMap::new(alloc),
         }
+    }
+
+    /// The same pages once more. No leaf is handed out.
+    ///
+    /// # Errors
+    ///
+    /// Memory ran out.
+    pub fn copy(&self) -> Result<SumPages, AllocError>
+        ensures { IfOk result (λ copy. copy ≡ self.now) }
+    {
+        let pages = self.pages.clone()?;
+        Ok(SumPages {
+            per_hour: self.per_hour,
+            pages,
+        })
     }
 
     /// No work: what holds of the leaves of all slots.
