@@ -5,6 +5,7 @@ pub mod FaultOrder
 pub mod Flow
 pub mod FlowFaults
 pub mod FlowList
+pub mod KeptText
 pub mod Line
 pub mod Mark
 pub mod NamedFault

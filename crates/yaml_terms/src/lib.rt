@@ -7,6 +7,7 @@ mod node;
 mod part;
 mod profile_fault;
 mod scalar;
+mod short_text;
 mod spelling;
 mod style;
 mod text;
