@@ -47,3 +47,12 @@ impl Day {
         self.slices[place] = counts;
     }
 }
+
+impl Clone for Day {
+    ghost is_clone = { λ day copy. copy ≡ day };
+
+    fn clone(&self) -> Result<Day, AllocError> {
+        let slices = Vec::from_slice(*self.slices.allocator(), &self.slices)?;
+        Ok(Day { slices })
+    }
+}

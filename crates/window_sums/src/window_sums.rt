@@ -1,6 +1,6 @@
 //! Sums over slices by the counts of each.
 ghost use Rattle.std.specs.Prelude.{◌≡◌, ℕ, ◌+◌, ◌-◌, ◌*◌, ◌/◌, ◌%◌, ◌<◌, ◌≤◌, ◌==◌, ◌||◌};
-ghost use Rattle.std.specs.Prelude.{length, false, IsTrue, [], OnOk, OnErr};
+ghost use Rattle.std.specs.Prelude.{length, false, IfOk, IsTrue, [], OnOk, OnErr};
 ghost use Rattle.std.specs.Prelude.{if◌then◌else◌};
 ghost use Rattle.std.specs.Int.{◌∣◌};
 ghost use Rattle.slice_method.specs.Leaves.{leaf};
@@ -60,6 +60,23 @@ impl WindowSums {
             days: IndexMap::new(alloc),
             pages: SumPages::new(alloc, slices_an_hour(&method)),
         }
+    }
+
+    /// The same sums once more. No slice is read.
+    ///
+    /// # Errors
+    ///
+    /// Memory ran out.
+    pub fn copy(&self) -> Result<WindowSums, AllocError>
+        ensures { IfOk result (λ copy. copy ≡ self.now) }
+    {
+        let days = self.days.clone()?;
+        let pages = self.pages.copy()?;
+        Ok(WindowSums {
+            method: self.method,
+            days,
+            pages,
+        })
     }
 
     /// The method that was given to `new`.
