@@ -91,6 +91,13 @@ impl Objects {
         self.items.append(&mut others.items)
     }
 
+    /// The objects, as a list that can be taken apart.
+    pub fn into_items(self) -> Vec<Object>
+        ensures { result.items ≡ self }
+    {
+        self.items
+    }
+
     /// The allocator of the list.
     pub fn allocator(&self) -> Global {
         *self.items.allocator()
