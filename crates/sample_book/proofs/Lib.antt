@@ -1,5 +1,6 @@
 pub mod ArriveLemmas
 pub mod StandingLemmas
+pub mod StoredLemmas
 pub mod TallyLemmas
 pub mod CameLemmas
 pub mod ExclusionLemmas

@@ -1,5 +1,5 @@
 //! The current rows, and room for the rows of further cells.
-ghost use Rattle.std.specs.Prelude.{List, ◌+◌, ◌≤◌, vec_capacity, ◌≡◌, ◌≢◌, ◌<◌, ◌++◌, ◌∷◌, []};
+ghost use Rattle.std.specs.Prelude.{List, ◌+◌, ◌≤◌, ◌≡◌, ◌≢◌, ◌<◌, ◌++◌, ◌∷◌, []};
 ghost use Rattle.std.specs.Prelude.{false, Some, IfSome, IfNone, OnOk, OnErr, length, slice_get};
 ghost use Rattle.std.specs.Prelude.{IfOk, drop as drop_list, take, true};
 ghost use Rattle.std.specs.List.{list_any, position};
@@ -12,7 +12,8 @@ ghost use Rattle.sample_book.specs.Rows.{verdict_where};
 ghost use Rattle.sample_book.specs.Standing.{IsInStep, row_stored, rows_stored};
 
 use crate::row::{Row, RowVerdict};
-use crate::stored::{SmallAmount, Stored};
+use crate::stored::Stored;
+use crate::stored_rows::StoredRows;
 use cell_index::{Cell, Cells};
 use std::alloc::{AllocError, Global};
 use std::marker::Model;
@@ -27,18 +28,17 @@ pub struct CurrentRows {
     /// The cells with rows, and behind them those with room.
     cells: Cells,
     /// What the rows say, in the order of their cells.
-    stored: Vec<Stored>,
+    stored: StoredRows,
 }
 
 impl Model for CurrentRows {
-    ghost use Rattle.std.specs.Prelude.{vec_capacity};
     ghost use Rattle.sample_book.specs.Standing.{IsInStep, Standing, standing_of};
 
     ghost Value = { Standing };
 
-    ghost view = { λ a. standing_of a.cells a.stored.items };
+    ghost view = { λ a. standing_of a.cells a.stored.rows };
 
-    ghost invariant = { λ a. IsInStep a.cells a.stored.items (vec_capacity a.stored) };
+    ghost invariant = { λ a. IsInStep a.cells a.stored.rows a.stored.capacity };
 }
 
 impl CurrentRows {
@@ -49,7 +49,7 @@ impl CurrentRows {
     {
         CurrentRows {
             cells: Cells::new(alloc),
-            stored: Vec::new(alloc),
+            stored: StoredRows::new(alloc),
         }
     }
 
@@ -69,7 +69,7 @@ impl CurrentRows {
         requires { place < length self.now.rows }
         ensures { slice_get self.now.rows place ≡ Some result }
     {
-        row_stored(&self.cells.at(place), &self.stored[place])
+        row_stored(&self.cells.at(place), &self.stored.at(place))
     }
 
     /// The row of a cell.
@@ -77,7 +77,7 @@ impl CurrentRows {
         ensures { result ≡ row_of_cell self.now.rows cell.now }
     {
         match kept_place(&self.cells, self.stored.len(), cell) {
-            Some(place) => Some(row_stored(&self.cells.at(place), &self.stored[place])),
+            Some(place) => Some(row_stored(&self.cells.at(place), &self.stored.at(place))),
             None => None,
         }
     }
@@ -131,13 +131,10 @@ impl CurrentRows {
         ensures newer { verdict_of self.old.rows row.now ≢ RowVerdict.New
             → self.new.room ≡ self.old.room }
     {
-        let stored = Stored {
-            revision: row.revision,
-            amount: SmallAmount::of(&row.amount),
-        };
+        let stored = stored_of(row);
         match kept_place(&self.cells, self.stored.len(), &row.cell()) {
-            Some(place) => self.stored[place] = stored,
-            None => self.stored.extend_from_slice(&[stored]).unwrap(),
+            Some(place) => self.stored.set(place, stored),
+            None => self.stored.push(stored),
         }
     }
 
@@ -215,53 +212,52 @@ fn release(cells: &mut Cells, filled: usize)
 
 /// What is stored of a row.
 fn stored_of(row: &Row) -> Stored
-    ensures revision { result.revision ≡ row.now.revision }
-    ensures amount { result.amount ≡ row.now.amount }
+    ensures { result ≡ record { revision = row.now.revision; amount = row.now.amount } }
 {
     Stored {
         revision: row.revision,
-        amount: SmallAmount::of(&row.amount),
+        amount: row.amount,
     }
 }
 
 /// A row comes whose cell has its row at this place.
-fn renew(cells: &Cells, stored: &mut Vec<Stored>, place: usize, row: &Row) -> RowVerdict
-    requires step { IsInStep cells.now stored.old.items (vec_capacity stored.old) }
-    requires within { place < length stored.old.items }
+fn renew(cells: &Cells, stored: &mut StoredRows, place: usize, row: &Row) -> RowVerdict
+    requires step { IsInStep cells.now stored.old.rows stored.old.capacity }
+    requires within { place < length stored.old.rows }
     requires there { position (cell_eq (cell_of row.now)) cells.now ≡ Some place }
-    ensures verdict { result ≡ verdict_of (rows_stored cells.now stored.old.items) row.now }
-    ensures rows { rows_stored cells.now stored.new.items
-        ≡ rows_after (rows_stored cells.now stored.old.items) row.now }
-    ensures step { IsInStep cells.now stored.new.items (vec_capacity stored.new) }
+    ensures verdict { result ≡ verdict_of (rows_stored cells.now stored.old.rows) row.now }
+    ensures rows { rows_stored cells.now stored.new.rows
+        ≡ rows_after (rows_stored cells.now stored.old.rows) row.now }
+    ensures step { IsInStep cells.now stored.new.rows stored.new.capacity }
 {
-    let kept = row_stored(&cells.at(place), &stored[place]);
+    let kept = row_stored(&cells.at(place), &stored.at(place));
     let verdict = kept.verdict_on(row);
     if is_put(&verdict) {
-        stored[place] = stored_of(row);
+        stored.set(place, stored_of(row));
     }
     verdict
 }
 
 /// A row comes whose cell is the last one, behind those that have rows.
-fn append(cells: &Cells, stored: &mut Vec<Stored>, row: &Row)
-    requires step { IsInStep cells.now stored.old.items (vec_capacity stored.old) }
-    requires last { drop_list (length stored.old.items) cells.now ≡ cell_of row.now ∷ [] }
+fn append(cells: &Cells, stored: &mut StoredRows, row: &Row)
+    requires step { IsInStep cells.now stored.old.rows stored.old.capacity }
+    requires last { drop_list (length stored.old.rows) cells.now ≡ cell_of row.now ∷ [] }
     requires absent { list_any (cell_eq (cell_of row.now))
-        (take (length stored.old.items) cells.now) ≡ false }
-    ensures new { verdict_of (rows_stored cells.now stored.old.items) row.now ≡ RowVerdict.New }
-    ensures rows { rows_stored cells.now stored.new.items
-        ≡ rows_after (rows_stored cells.now stored.old.items) row.now }
-    ensures step { IsInStep cells.now stored.new.items (vec_capacity stored.new) }
+        (take (length stored.old.rows) cells.now) ≡ false }
+    ensures new { verdict_of (rows_stored cells.now stored.old.rows) row.now ≡ RowVerdict.New }
+    ensures rows { rows_stored cells.now stored.new.rows
+        ≡ rows_after (rows_stored cells.now stored.old.rows) row.now }
+    ensures step { IsInStep cells.now stored.new.rows stored.new.capacity }
 {
-    stored.extend_from_slice(&[stored_of(row)]).unwrap();
+    stored.push(stored_of(row));
 }
 
 /// Makes room behind what is stored, where each place is a `u32`.
-fn reserve(stored: &mut Vec<Stored>, more: usize) -> Result<(), AllocError>
-    ensures items { stored.new.items ≡ stored.old.items }
-    ensures capacity { vec_capacity stored.old ≤ vec_capacity stored.new }
-    ensures ok { OnOk result (length stored.old.items + more ≤ vec_capacity stored.new) }
-    ensures few { OnOk result (length stored.old.items + more ≤ MOST_CELLS) }
+fn reserve(stored: &mut StoredRows, more: usize) -> Result<(), AllocError>
+    ensures rows { stored.new.rows ≡ stored.old.rows }
+    ensures capacity { stored.old.capacity ≤ stored.new.capacity }
+    ensures ok { OnOk result (length stored.old.rows + more ≤ stored.new.capacity) }
+    ensures few { OnOk result (length stored.old.rows + more ≤ MOST_CELLS) }
 {
     if MOST_CELLS < stored.len() || MOST_CELLS - stored.len() < more {
         return Err(AllocError);
@@ -339,6 +335,6 @@ fn row_stored(cell: &Cell, stored: &Stored) -> Row
         source: cell.source,
         minute: cell.minute,
         revision: stored.revision,
-        amount: stored.amount.amount(),
+        amount: stored.amount,
     }
 }

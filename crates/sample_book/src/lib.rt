@@ -11,6 +11,7 @@ pub mod laws;
 mod reaches;
 mod row;
 mod stored;
+mod stored_rows;
 mod tally;
 
 pub use book::SampleBook;

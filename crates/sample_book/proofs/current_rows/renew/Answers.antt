@@ -1,32 +1,28 @@
-use Rattle.std.proofs.Common.{◌≡◌, ◌∙◌, ap, sym, subst, arith, refl, length, set}
+use Rattle.std.proofs.Common.{◌≡◌, ◌∙◌, ap, sym, subst, arith, length, set, List}
 use Rattle.std.specs.List.{IsDistinct}
 use Rattle.std.proofs.lemmas.List.{length-set}
-use Rattle.std.proofs.lemmas.Option.{slice_get_read}
 use Rattle.sample_book.specs.declared.stored.Stored.{Stored}
 use Rattle.sample_book.specs.History.{is_put}
 use Rattle.sample_book.specs.Rows.{same_cell}
 use Rattle.sample_book.specs.Standing.{rows_stored}
 use Rattle.sample_book.proofs.ArriveLemmas.{Renewed, renewed}
 use Rattle.sample_book.proofs.current_rows.renew.Goals as goal
-use Rattle.sample_book.proofs.current_rows.renew.Goals.{After-row_stored-kept, After-stored_of}
+use Rattle.sample_book.proofs.current_rows.renew.Goals.{After-row_stored-kept, After-set}
 
 -- what comes of the row where this one is kept
-over : (c : After-row_stored-kept) → Renewed c.args.cells.now c.args.stored.now.items
+over : (c : After-row_stored-kept) → Renewed c.args.cells.now c.args.stored.now.rows
     c.args.row.now c.row_stored-kept.result c.args.place
-over c = renewed c.args.cells.now c.args.stored.now.items c.args.row.now c.args.place c.at.result
-    c.index.result.now c.row_stored-kept.result c.requires.step.apart c.requires.there c.at.ensures
-    (slice_get_read c.args.stored.now.items (length c.args.stored.now.items) c.args.place
-    c.index.result.now refl c.requires.within c.index.ensures) c.row_stored-kept.ensures
+over c = renewed c.args.cells.now c.args.stored.now.rows c.args.row.now c.args.place c.at.result
+    c.at-2.result c.row_stored-kept.result c.requires.step.apart c.requires.there c.at.ensures
+    c.at-2.ensures c.row_stored-kept.ensures
 
--- what is stored of the row
-same : (c : After-stored_of) → c.stored_of.result ≡ record {
+-- what is stored with the row in its place
+same : (c : After-set) → c.set.new.self.rows ≡ set c.args.stored.now.rows c.args.place (record {
   revision = c.args.row.now.revision;
   amount = c.args.row.now.amount;
-}
-same c = (λ i. record {
-  revision = c.stored_of.ensures.revision i;
-  amount = c.stored_of.ensures.amount i;
 })
+same c = c.set.ensures.rows
+    ∙ ap (λ (s : Stored). set c.args.stored.now.rows c.args.place s) c.stored_of.ensures
 
 pub returns-then-is_put-clause-verdict : goal.returns-then-is_put-clause-verdict
 returns-then-is_put-clause-verdict c = c.verdict_on-verdict.ensures
@@ -35,8 +31,7 @@ returns-then-is_put-clause-verdict c = c.verdict_on-verdict.ensures
 pub returns-then-is_put-clause-rows : goal.returns-then-is_put-clause-rows
 returns-then-is_put-clause-rows c =
     let at = goal.at.returns-then-is_put-clause-rows c in
-    ap (λ (s : Stored). rows_stored c.args.cells.now (set c.args.stored.now.items c.args.place s))
-    (same at.After-stored_of)
+    ap (rows_stored c.args.cells.now) (same at.After-set)
     ∙ (over at.After-row_stored-kept).taken
     (sym (ap is_put c.verdict_on-verdict.ensures) ∙ sym c.is_put.ensures ∙ c.if-is_put.true)
 
@@ -44,12 +39,17 @@ pub returns-then-is_put-clause-step : goal.returns-then-is_put-clause-step
 returns-then-is_put-clause-step c =
     let at = goal.at.returns-then-is_put-clause-step c in
     record {
-      within = omega (arith, c.requires.step.within, length-set {A = Stored});
-      ready = c.requires.step.ready;
+      within = omega (
+        arith,
+        c.requires.step.within,
+        ap length c.set.ensures.rows,
+        length-set c.args.stored.now.rows c.args.place c.stored_of.result,
+      );
+      ready = omega (arith, c.requires.step.ready, c.set.ensures.capacity);
       few = c.requires.step.few;
-      apart = subst (λ (s : Stored). IsDistinct same_cell
-          (rows_stored c.args.cells.now (set c.args.stored.now.items c.args.place s)))
-          (sym (same at.After-stored_of)) ((over at.After-row_stored-kept).distinct
+      apart = subst (λ (rows : List Stored). IsDistinct same_cell
+          (rows_stored c.args.cells.now rows)) (sym (same at.After-set))
+          ((over at.After-row_stored-kept).distinct
           (sym (ap is_put c.verdict_on-verdict.ensures) ∙ sym c.is_put.ensures ∙ c.if-is_put.true));
     }
 

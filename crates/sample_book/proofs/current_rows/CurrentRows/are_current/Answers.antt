@@ -9,4 +9,4 @@ pub returns : goal.returns
 returns c =
     subst (λ (s : Standing). current_rows s.rows ≡ s.rows) c.self.view_is
     (current-of_distinct same_cell (λ row. row.revision) cell_laws
-    (rows_stored c.self.inside.cells c.self.inside.stored.items) c.self.invariant.apart)
+    (rows_stored c.self.inside.cells c.self.inside.stored.rows) c.self.invariant.apart)

@@ -17,22 +17,22 @@ use Rattle.sample_book.proofs.current_rows.CurrentRows.arrive.Goals.{After-reser
 use Rattle.sample_book.proofs.current_rows.CurrentRows.arrive.Goals.{In-Ok-None, In-Ok-Some}
 
 -- want of memory for the row: the cells without rows are forgotten
-unreserved : (c : After-reserve) → RoomMade c.self.inside.cells c.self.inside.stored.items
-    c.release.new.cells c.reserve.new.stored.items c.reserve.new.stored.cap []
-unreserved c = made_none c.self.inside.cells c.self.inside.stored.items c.self.inside.stored.cap
-    c.release.new.cells c.reserve.new.stored.items c.reserve.new.stored.cap c.self.invariant
+unreserved : (c : After-reserve) → RoomMade c.self.inside.cells c.self.inside.stored.rows
+    c.release.new.cells c.reserve.new.stored.rows c.reserve.new.stored.capacity []
+unreserved c = made_none c.self.inside.cells c.self.inside.stored.rows c.self.inside.stored.capacity
+    c.release.new.cells c.reserve.new.stored.rows c.reserve.new.stored.capacity c.self.invariant
     (c.release.ensures ∙ ap (λ n. take n c.self.inside.cells)
-    (c.len.ensures ∙ c.self.inside.stored.ok.0))
-    c.reserve.ensures.items c.reserve.ensures.capacity
+    c.len.ensures)
+    c.reserve.ensures.rows c.reserve.ensures.capacity
 
 -- want of memory for the cell: the same
-unadded : (c : In-Err) → RoomMade c.self.inside.cells c.self.inside.stored.items
-    c.add_new.new.self c.reserve.new.stored.items c.reserve.new.stored.cap []
-unadded c = made_none c.self.inside.cells c.self.inside.stored.items c.self.inside.stored.cap
-    c.add_new.new.self c.reserve.new.stored.items c.reserve.new.stored.cap c.self.invariant
+unadded : (c : In-Err) → RoomMade c.self.inside.cells c.self.inside.stored.rows
+    c.add_new.new.self c.reserve.new.stored.rows c.reserve.new.stored.capacity []
+unadded c = made_none c.self.inside.cells c.self.inside.stored.rows c.self.inside.stored.capacity
+    c.add_new.new.self c.reserve.new.stored.rows c.reserve.new.stored.capacity c.self.invariant
     (c.in-Err.ensures.err ∙ (c.release.ensures ∙ ap (λ n. take n c.self.inside.cells)
-    (c.len.ensures ∙ c.self.inside.stored.ok.0)))
-    c.reserve.ensures.items c.reserve.ensures.capacity
+    c.len.ensures))
+    c.reserve.ensures.rows c.reserve.ensures.capacity
 
 -- the cell has a row at the place that was found
 found : (c : In-Ok-Some)
@@ -40,14 +40,14 @@ found : (c : In-Ok-Some)
 found c = (cc (c.in-Ok-Some.ensures.place, c.in-Ok-Some.field-0-is))
 
 -- and no cell has room
-there : (c : In-Ok-Some) → RoomMade c.self.inside.cells c.self.inside.stored.items
-    c.add_new.new.self c.reserve.new.stored.items c.reserve.new.stored.cap []
-there c = made_none c.self.inside.cells c.self.inside.stored.items c.self.inside.stored.cap
-    c.add_new.new.self c.reserve.new.stored.items c.reserve.new.stored.cap c.self.invariant
+there : (c : In-Ok-Some) → RoomMade c.self.inside.cells c.self.inside.stored.rows
+    c.add_new.new.self c.reserve.new.stored.rows c.reserve.new.stored.capacity []
+there c = made_none c.self.inside.cells c.self.inside.stored.rows c.self.inside.stored.capacity
+    c.add_new.new.self c.reserve.new.stored.rows c.reserve.new.stored.capacity c.self.invariant
     (cell_there c.release.new.cells c.add_new.new.self c.cell.result c.in-Ok-Some.place
     c.in-Ok-Some.ensures.ok (found c) ∙ (c.release.ensures
-    ∙ ap (λ n. take n c.self.inside.cells) (c.len.ensures ∙ c.self.inside.stored.ok.0)))
-    c.reserve.ensures.items c.reserve.ensures.capacity
+    ∙ ap (λ n. take n c.self.inside.cells) c.len.ensures))
+    c.reserve.ensures.rows c.reserve.ensures.capacity
 
 -- the cell has no row
 unfound : (c : In-Ok-None) → None ≡ position (cell_eq c.cell.result) c.release.new.cells
@@ -55,22 +55,22 @@ unfound c = (cc (c.in-Ok-None.ensures.place, c.in-Ok-None.field-0-is))
 
 -- and comes behind those that have one
 behind : (c : In-Ok-None) → c.add_new.new.self
-    ≡ take (length c.self.inside.stored.items) c.self.inside.cells ++ cell_of c.args.row.now ∷ []
+    ≡ take (length c.self.inside.stored.rows) c.self.inside.cells ++ cell_of c.args.row.now ∷ []
 behind c =
     cell_added c.release.new.cells c.add_new.new.self c.cell.result c.in-Ok-None.ensures.ok
     (unfound c)
     ∙ ap (λ (cs : List Cell). cs ++ c.cell.result ∷ []) (c.release.ensures
-    ∙ ap (λ n. take n c.self.inside.cells) (c.len.ensures ∙ c.self.inside.stored.ok.0))
-    ∙ ap (λ (cell : Cell). take (length c.self.inside.stored.items) c.self.inside.cells
+    ∙ ap (λ n. take n c.self.inside.cells) c.len.ensures)
+    ∙ ap (λ (cell : Cell). take (length c.self.inside.stored.rows) c.self.inside.cells
     ++ cell ∷ []) c.cell.ensures
 
 -- alone with room
-added : (c : In-Ok-None) → RoomMade c.self.inside.cells c.self.inside.stored.items
-    c.add_new.new.self c.reserve.new.stored.items c.reserve.new.stored.cap
+added : (c : In-Ok-None) → RoomMade c.self.inside.cells c.self.inside.stored.rows
+    c.add_new.new.self c.reserve.new.stored.rows c.reserve.new.stored.capacity
     (cell_of c.args.row.now ∷ [])
-added c = made_one c.self.inside.cells c.self.inside.stored.items c.self.inside.stored.cap
-    c.add_new.new.self c.reserve.new.stored.items c.reserve.new.stored.cap
-    (cell_of c.args.row.now) c.self.invariant (behind c) c.reserve.ensures.items
+added c = made_one c.self.inside.cells c.self.inside.stored.rows c.self.inside.stored.capacity
+    c.add_new.new.self c.reserve.new.stored.rows c.reserve.new.stored.capacity
+    (cell_of c.args.row.now) c.self.invariant (behind c) c.reserve.ensures.rows
     c.in_ok-reserve.ensures.ok c.in_ok-reserve.ensures.few
 
 pub invariant_of-self : goal.invariant_of-self
@@ -100,11 +100,11 @@ append-requires-clause-last c = (added (goal.at.append-requires-clause-last c).I
 pub append-requires-clause-absent : goal.append-requires-clause-absent
 append-requires-clause-absent c =
     let here = (goal.at.append-requires-clause-absent c).In-Ok-None in
-    made_absent c.self.inside.cells c.self.inside.stored.items c.add_new.new.self
-    c.reserve.new.stored.items (cell_of c.args.row.now) c.self.invariant.within
-    (behind here) c.reserve.ensures.items
+    made_absent c.self.inside.cells c.self.inside.stored.rows c.add_new.new.self
+    c.reserve.new.stored.rows (cell_of c.args.row.now) c.self.invariant.within
+    (behind here) c.reserve.ensures.rows
     (ap (list_any (cell_eq (cell_of c.args.row.now))) (sym (c.release.ensures
-    ∙ ap (λ n. take n c.self.inside.cells) (c.len.ensures ∙ c.self.inside.stored.ok.0)))
+    ∙ ap (λ n. take n c.self.inside.cells) c.len.ensures))
     ∙ ap (λ (cell : Cell). list_any (cell_eq cell) c.release.new.cells) (sym c.cell.ensures)
     ∙ any-position (cell_eq c.cell.result) c.release.new.cells ∙ ap is_some (sym (unfound here)))
 

@@ -9,13 +9,12 @@ row-requires c =
       arith,
       c.if-place-len.true,
       c.len.ensures,
-      c.self.inside.stored.ok.0,
       ap (λ (s : Standing). length s.rows) c.self.view_is,
-      length-rows c.self.inside.cells c.self.inside.stored.items c.self.invariant.within,
+      length-rows c.self.inside.cells c.self.inside.stored.rows c.self.invariant.within,
     )
 
 pub returns-else-place-len : goal.returns-else-place-len
 returns-else-place-len c =
-    sym (row_beyond c.self.inside.cells c.self.inside.stored.items c.args.place
-    (omega (arith, c.if-place-len.false, c.len.ensures, c.self.inside.stored.ok.0)))
+    sym (row_beyond c.self.inside.cells c.self.inside.stored.rows c.args.place
+    (omega (arith, c.if-place-len.false, c.len.ensures)))
     ∙ ap (λ (s : Standing). slice_get s.rows c.args.place) c.self.view_is

@@ -6,16 +6,16 @@ use Rattle.sample_book.proofs.StandingLemmas.{RoomMade, room_made, cells-rows, l
 use Rattle.sample_book.proofs.StandingLemmas.{length-taken}
 use Rattle.sample_book.proofs.current_rows.CurrentRows.make_room.Goals as goal
 
-unmade : (c : goal.After-from_residual) → RoomMade c.self.inside.cells c.self.inside.stored.items
-    c.truncate.new.self c.reserve.new.stored.items c.reserve.new.stored.cap []
+unmade : (c : goal.After-from_residual) → RoomMade c.self.inside.cells c.self.inside.stored.rows
+    c.truncate.new.self c.reserve.new.stored.rows c.reserve.new.stored.capacity []
 unmade c =
     let cells = c.self.inside.cells in
-    let stored = c.self.inside.stored.items in
-    room_made cells stored c.self.inside.stored.cap c.truncate.new.self c.reserve.new.stored.items
-    c.reserve.new.stored.cap [] c.self.invariant
-    (c.truncate.ensures ∙ ap (λ n. take n cells) (c.len-filled.ensures ∙ c.self.inside.stored.ok.0)
+    let stored = c.self.inside.stored.rows in
+    room_made cells stored c.self.inside.stored.capacity c.truncate.new.self
+    c.reserve.new.stored.rows c.reserve.new.stored.capacity [] c.self.invariant
+    (c.truncate.ensures ∙ ap (λ n. take n cells) c.len-filled.ensures
     ∙ sym (append-nil (take (length stored) cells)))
-    c.reserve.ensures.items
+    c.reserve.ensures.rows
     (omega (arith, c.self.invariant.within, c.self.invariant.ready, c.reserve.ensures.capacity))
     (omega (arith, c.self.invariant.within, c.self.invariant.few))
 
@@ -27,22 +27,22 @@ returns-in_err-reserve-clause-rows c = (unmade c).rows
     ∙ ap (λ (s : Standing). s.rows) c.self.view_is
 
 -- after a refusal the cells are the first ones again
-cut : (c : goal.After-truncate-in-Err) → RoomMade c.self.inside.cells c.self.inside.stored.items
-    c.truncate-in-Err.new.self c.reserve.new.stored.items c.reserve.new.stored.cap []
+cut : (c : goal.After-truncate-in-Err) → RoomMade c.self.inside.cells c.self.inside.stored.rows
+    c.truncate-in-Err.new.self c.reserve.new.stored.rows c.reserve.new.stored.capacity []
 cut c =
     let cells = c.self.inside.cells in
-    let stored = c.self.inside.stored.items in
-    let filled = c.len-filled.ensures ∙ c.self.inside.stored.ok.0 in
+    let stored = c.self.inside.stored.rows in
+    let filled = c.len-filled.ensures in
     let first : c.truncate.new.self ≡ take (length stored) cells = c.truncate.ensures
     ∙ ap (λ n. take n cells) filled in
     let long : length c.truncate.new.self ≡ length stored = ap length first
     ∙ length-taken cells (length stored) c.self.invariant.within in
-    room_made cells stored c.self.inside.stored.cap c.truncate-in-Err.new.self
-    c.reserve.new.stored.items c.reserve.new.stored.cap [] c.self.invariant
+    room_made cells stored c.self.inside.stored.capacity c.truncate-in-Err.new.self
+    c.reserve.new.stored.rows c.reserve.new.stored.capacity [] c.self.invariant
     (c.truncate-in-Err.ensures
     ∙ ap (λ n. take n c.add_cells.new.cells) (filled ∙ sym long)
     ∙ c.in-Err.ensures.err ∙ first ∙ sym (append-nil (take (length stored) cells)))
-    c.reserve.ensures.items
+    c.reserve.ensures.rows
     (omega (arith, c.self.invariant.within, c.self.invariant.ready, c.reserve.ensures.capacity))
     (omega (arith, c.self.invariant.within, c.self.invariant.few))
 
@@ -53,19 +53,19 @@ pub returns-in-Err-clause-rows : goal.returns-in-Err-clause-rows
 returns-in-Err-clause-rows c = (cut c).rows ∙ ap (λ (s : Standing). s.rows) c.self.view_is
 
 -- the new cells come behind the first ones
-made : (c : goal.In-Ok) → RoomMade c.self.inside.cells c.self.inside.stored.items
-    c.add_cells.new.cells c.reserve.new.stored.items c.reserve.new.stored.cap
-    (new_cells (take (length c.self.inside.stored.items) c.self.inside.cells) c.args.rows.now)
+made : (c : goal.In-Ok) → RoomMade c.self.inside.cells c.self.inside.stored.rows
+    c.add_cells.new.cells c.reserve.new.stored.rows c.reserve.new.stored.capacity
+    (new_cells (take (length c.self.inside.stored.rows) c.self.inside.cells) c.args.rows.now)
 made c =
     let cells = c.self.inside.cells in
-    let stored = c.self.inside.stored.items in
+    let stored = c.self.inside.stored.rows in
     let first : c.truncate.new.self ≡ take (length stored) cells = c.truncate.ensures
-    ∙ ap (λ n. take n cells) (c.len-filled.ensures ∙ c.self.inside.stored.ok.0) in
-    room_made cells stored c.self.inside.stored.cap c.add_cells.new.cells c.reserve.new.stored.items
-    c.reserve.new.stored.cap (new_cells (take (length stored) cells) c.args.rows.now)
-    c.self.invariant
+    ∙ ap (λ n. take n cells) c.len-filled.ensures in
+    room_made cells stored c.self.inside.stored.capacity c.add_cells.new.cells
+    c.reserve.new.stored.rows c.reserve.new.stored.capacity
+    (new_cells (take (length stored) cells) c.args.rows.now) c.self.invariant
     (c.in-Ok.ensures.ok ∙ ap (λ cells. cells ++ new_cells cells c.args.rows.now) first)
-    c.reserve.ensures.items
+    c.reserve.ensures.rows
     (omega (
       arith,
       c.in_ok-reserve.ensures.ok,
@@ -87,5 +87,5 @@ pub returns-in-Ok-clause-room : goal.returns-in-Ok-clause-room
 returns-in-Ok-clause-room c =
     (made c).room
     ∙ ap (λ cells. new_cells cells c.args.rows.now)
-    (sym (cells-rows c.self.inside.cells c.self.inside.stored.items))
+    (sym (cells-rows c.self.inside.cells c.self.inside.stored.rows))
     ∙ ap (λ (s : Standing). room_for s.rows c.args.rows.now) c.self.view_is

@@ -1,6 +1,5 @@
 use Rattle.std.proofs.Common.{◌≡◌, ◌∙◌, ap, sym, subst, Some, take, false}
-use Rattle.std.specs.List.{position, list_any}
-use Rattle.std.proofs.lemmas.Option.{slice_get_read}
+use Rattle.std.specs.List.{list_any}
 use Rattle.cell_index.specs.declared.Cell.{Cell}
 use Rattle.cell_index.specs.Cells.{cell_eq}
 use Rattle.slice_method.specs.declared.Amount.TheVariants.{Withdrawn}
@@ -24,13 +23,12 @@ row_there cell = record {
 pub returns-in-Some : goal.returns-in-Some
 returns-in-Some c =
     let cells = c.self.inside.cells in
-    let stored = c.self.inside.stored.items in
+    let stored = c.self.inside.stored.rows in
     let cell = c.args.cell.now in
-    let kept = row_at cells stored c.in-Some.place c.at.result c.index.result.now c.at.ensures
-    (slice_get_read stored c.len.result c.in-Some.place c.index.result.now
-    (c.len.ensures ∙ c.self.inside.stored.ok.0) c.in-Some.ensures.within c.index.ensures) in
+    let kept = row_at cells stored c.in-Some.place c.at.result c.at-in-Some.result c.at.ensures
+    c.at-in-Some.ensures in
     ap Some c.row_stored.ensures
-    ∙ sym (kept_at cells stored (row_there cell) (row_stored c.at.result c.index.result.now)
+    ∙ sym (kept_at cells stored (row_there cell) (row_stored c.at.result c.at-in-Some.result)
     c.in-Some.place
     (sym (position-first (cell_eq cell) cells) ∙ c.in-Some.ensures.there) kept)
     ∙ ap (λ (s : Standing). row_of_cell s.rows cell) c.self.view_is
@@ -38,10 +36,10 @@ returns-in-Some c =
 pub returns-in-None : goal.returns-in-None
 returns-in-None c =
     let cells = c.self.inside.cells in
-    let stored = c.self.inside.stored.items in
+    let stored = c.self.inside.stored.rows in
     let cell = c.args.cell.now in
     let absent = subst (λ n. list_any (cell_eq cell) (take n cells) ≡ false)
-    (c.len.ensures ∙ c.self.inside.stored.ok.0) c.in-None.ensures.absent in
+    c.len.ensures c.in-None.ensures.absent in
     sym (none_found (row_there cell) (rows_stored cells stored)
     (none_kept cells stored (row_there cell) absent))
     ∙ ap (λ (s : Standing). row_of_cell s.rows cell) c.self.view_is

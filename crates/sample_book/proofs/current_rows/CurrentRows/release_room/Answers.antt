@@ -5,14 +5,14 @@ use Rattle.sample_book.proofs.StandingLemmas.{RoomMade, room_made}
 use Rattle.sample_book.proofs.current_rows.CurrentRows.release_room.Goals as goal
 
 -- the cells with rows stay alone
-alone : (c : goal.After-truncate) → RoomMade c.self.inside.cells c.self.inside.stored.items
-    c.truncate.new.self c.self.inside.stored.items c.self.inside.stored.cap []
+alone : (c : goal.After-truncate) → RoomMade c.self.inside.cells c.self.inside.stored.rows
+    c.truncate.new.self c.self.inside.stored.rows c.self.inside.stored.capacity []
 alone c =
     let cells = c.self.inside.cells in
-    let stored = c.self.inside.stored.items in
-    room_made cells stored c.self.inside.stored.cap c.truncate.new.self stored
-    c.self.inside.stored.cap [] c.self.invariant
-    (c.truncate.ensures ∙ ap (λ n. take n cells) (c.len.ensures ∙ c.self.inside.stored.ok.0)
+    let stored = c.self.inside.stored.rows in
+    room_made cells stored c.self.inside.stored.capacity c.truncate.new.self stored
+    c.self.inside.stored.capacity [] c.self.invariant
+    (c.truncate.ensures ∙ ap (λ n. take n cells) c.len.ensures
     ∙ sym (append-nil (take (length stored) cells)))
     refl
     (omega (arith, c.self.invariant.within, c.self.invariant.ready))
