@@ -169,22 +169,19 @@ shelved-none blocks lasts links empty = record {
 
 -- equal keys are one
 pub key_same : (a b : Key) → key_eq a b ≡ true → a ≡ b
-key_same a b e =
-    by (nat_eq a.sli b.sli) (nat_eq a.source b.source) (nat_eq a.minute b.minute) refl refl refl e
+key_same a b e = by (nat_eq a.pair b.pair) (nat_eq a.minute b.minute) refl refl e
   where
-    by : (l m n : Bool) → nat_eq a.sli b.sli ≡ l → nat_eq a.source b.source ≡ m
-        → nat_eq a.minute b.minute ≡ n → (l && (m && n)) ≡ true → a ≡ b
-    by true true true l m n e =
-        let sli = eq_tells a.sli b.sli l in
-        let source = eq_tells a.source b.source m in
+    by : (m n : Bool) → nat_eq a.pair b.pair ≡ m → nat_eq a.minute b.minute ≡ n
+        → (m && n) ≡ true → a ≡ b
+    by true true m n e =
+        let pair = eq_tells a.pair b.pair m in
         let minute = eq_tells a.minute b.minute n in
-        λ i. record { sli = sli i; source = source i; minute = minute i }
-    by true true false l m n e = cc e
-    by true false c l m n e = cc e
-    by false b c l m n e = cc e
+        λ i. record { pair = pair i; minute = minute i }
+    by true false m n e = cc e
+    by false c m n e = cc e
 
 pub key_itself : (a : Key) → key_eq a a ≡ true
-key_itself a = rw (eq-itself a.sli, eq-itself a.source, eq-itself a.minute) refl
+key_itself a = rw (eq-itself a.pair, eq-itself a.minute) refl
 
 -- the last place of a narrower test is no later
 last-le : {A : Type 0} (p q : A → Bool) → ((x : A) → p x ≡ true → q x ≡ true) → (xs : List A)
@@ -306,7 +303,7 @@ unlinked keys blocks lasts links key place bucket before long there is within re
     (shelved-unlink keys blocks lasts links key place long inside shelved))
 
 abbrev no_key : Key
-no_key = record { sli = 0; source = 0; minute = 0 }
+no_key = record { pair = 0; minute = 0 }
 
 -- two keys are equal from either side
 swapped_same : (a b : Key) → key_eq a b ≡ true → key_eq b a ≡ true

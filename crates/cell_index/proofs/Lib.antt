@@ -1,7 +1,9 @@
 pub mod ListLemmas
+pub mod AlikeLemmas
+pub mod PairLemmas
 pub mod CellLemmas
 pub mod ChainLemmas
 pub mod BucketLemmas
 pub mod PlaceLemmas
-pub mod FirstNames
+pub mod FirstPairs
 pub mod ExtentLemmas

@@ -1,56 +1,41 @@
--- Cells by the numbers of their names.
-use Rattle.std.specs.Prelude.{◌≡◌, ◌<◌, ◌≤◌, ℕ, Bool, ◌&&◌, nat_eq, List, [], ◌∷◌, length, take}
-use Rattle.std.specs.Prelude.{Some, None, ◌⊎◌}
+-- Cells by the numbers of their pairs.
+use Rattle.std.specs.Prelude.{◌≡◌, ◌<◌, ◌≤◌, ℕ, Bool, ◌&&◌, nat_eq, List, All, length, take}
+use Rattle.std.specs.Prelude.{Some, None}
 use Rattle.std.specs.List.{IsDistinct, position}
-use Rattle.std.specs.Str.{bytes_eq}
+use Rattle.cell_index.specs.Pairs.{pair_at, pair_eq, pair_of}
 use Rattle.cell_index.specs.declared.cells.Key.{Key}
 use Rattle.cell_index.specs.declared.cell.Cell.{Cell}
-use Rattle.name_numbers.specs.Names.{name_at}
+use Rattle.cell_index.specs.declared.pairs.Pair.{Pair}
 
 -- whether two keys are one
 abbrev pub key_eq : Key → Key → Bool
-key_eq a b = nat_eq a.sli b.sli && (nat_eq a.source b.source && nat_eq a.minute b.minute)
+key_eq a b = nat_eq a.pair b.pair && nat_eq a.minute b.minute
 
--- the cell of a key, by the names of its numbers
-abbrev pub cell_named : List (List ℕ) → List (List ℕ) → Key → Cell
-cell_named slis sources key = record {
-  sli = name_at slis key.sli;
-  source = name_at sources key.source;
+-- the cell of a key, by the pair of its number
+abbrev pub cell_named : List Pair → Key → Cell
+cell_named pairs key = record {
+  sli = (pair_at pairs key.pair).sli;
+  source = (pair_at pairs key.pair).source;
   minute = key.minute;
 }
 
--- the numbers of a key have names
-pub record IsNamed (slis sources : List (List ℕ)) (key : Key) : Type 0 where
-  pub sli : key.sli < length slis
-  pub source : key.source < length sources
+-- the key's pair is among the first so many
+abbrev pub IsNamed : ℕ → Key → Type 0
+IsNamed pairs key = key.pair < pairs
 
--- so have those of each key
-abbrev pub AreNamed : List (List ℕ) → List (List ℕ) → List Key → Type 0
-AreNamed slis sources [] = Unit {0}
-AreNamed slis sources (key ∷ keys) = IsNamed slis sources key × AreNamed slis sources keys
-
--- the key has the numbers of the cell's names, each of which stands once
-pub record IsKeyOf (slis sources : List (List ℕ)) (cell : Cell) (key : Key) : Type 0 where
-  pub sli : position (bytes_eq cell.sli) slis ≡ Some key.sli
-  pub source : position (bytes_eq cell.source) sources ≡ Some key.source
+-- the key has the number of the cell's pair, and each pair stands once
+pub record IsKeyOf (pairs : List Pair) (cell : Cell) (key : Key) : Type 0 where
+  pub number : position (pair_eq (pair_of cell)) pairs ≡ Some key.pair
   pub minute : key.minute ≡ cell.minute
-  pub slis_apart : IsDistinct bytes_eq slis
-  pub sources_apart : IsDistinct bytes_eq sources
+  pub apart : IsDistinct pair_eq pairs
 
--- one of the cell's names has no number
-abbrev pub HasNoKey : List (List ℕ) → List (List ℕ) → Cell → Type 0
-HasNoKey slis sources cell = (position (bytes_eq cell.sli) slis ≡ None)
-    ⊎ (position (bytes_eq cell.source) sources ≡ None)
+-- the cell's pair has no number
+abbrev pub HasNoKey : List Pair → Cell → Type 0
+HasNoKey pairs cell = position (pair_eq (pair_of cell)) pairs ≡ None
 
--- the keys have the first so many numbers alone
-abbrev pub AreNumbered : ℕ → ℕ → List Key → Type 0
-AreNumbered slis sources [] = Unit {0}
-AreNumbered slis sources (key ∷ keys) = (key.sli < slis) × (key.source < sources)
-    × AreNumbered slis sources keys
-
--- each key has names, and the first keys have the first so many names alone
-pub record AreKnown (slis sources : List (List ℕ)) (keys : List Key)
-    (settled settled_slis settled_sources : ℕ) : Type 0 where
-  pub named : AreNamed slis sources keys
-  pub within : settled ≤ length keys
-  pub numbered : AreNumbered settled_slis settled_sources (take settled keys)
+-- each key has a pair, and the first keys have the first so many pairs alone
+pub record AreKnown (pairs : List Pair) (keys : List Key) (settled settled_pairs : ℕ) : Type 0
+  where
+    pub named : All (IsNamed (length pairs)) keys
+    pub within : settled ≤ length keys
+    pub numbered : All (IsNamed settled_pairs) (take settled keys)

@@ -7,11 +7,11 @@ use Rattle.cell_index.specs.Keys.{key_eq}
 use Rattle.cell_index.specs.declared.buckets.Buckets.{Buckets}
 use Rattle.cell_index.specs.declared.cells.Key.{Key}
 
--- a number below 2^32 that differs between most sixteens of minutes of an indicator and a source
+-- a number below 2^32 that differs between most sixteens of minutes of a pair
 unfoldable pub spread : Key → ℕ
 spread key =
-    ((key.sli * 11400714819323198485 % 2 ^ 64 + key.source * 14029467366897019727 % 2 ^ 64) % 2 ^ 64
-    + key.minute / 16 * 15485863157411823079 % 2 ^ 64) % 2 ^ 64 / 2 ^ 32
+    (key.pair * 14029467366897019727 % 2 ^ 64 + key.minute / 16 * 15485863157411823079 % 2 ^ 64)
+    % 2 ^ 64 / 2 ^ 32
 
 -- the bucket of a key among so many blocks of sixteen buckets: the minutes of a sixteen have the
 -- buckets of one block

@@ -13,16 +13,17 @@ use crate::cells::Key;
 use std::alloc::{AllocError, Global};
 
 /// Odd factors with their bits well mixed, so that keys which differ little have buckets far apart.
-const SLI_FACTOR: u64 = 11_400_714_819_323_198_485;
-
-/// The factor of a source's number.
-const SOURCE_FACTOR: u64 = 14_029_467_366_897_019_727;
+const PAIR_FACTOR: u64 = 14_029_467_366_897_019_727;
 
 /// The factor of a sixteen of minutes.
 const SIXTEEN_FACTOR: u64 = 15_485_863_157_411_823_079;
 
 /// More blocks than this aren't made: they have a bucket for each number of a place.
 const MOST_BLOCKS: u32 = 268_435_456;
+
+/// Buckets are made anew, twice as many, where so many keys come on each. With one a bucket they
+/// would take up to 8 bytes a key, with three at most 2.7, and a look-up passes few more keys.
+const KEYS_A_BUCKET: usize = 3;
 
 /// The places of keys, by their buckets.
 #[derive(Drop)]
@@ -123,16 +124,15 @@ impl Buckets {
     }
 }
 
-/// A number that differs between most sixteens of minutes of an indicator and a source.
+/// A number that differs between most sixteens of minutes of a pair.
 #[tactic(auto, unfolding(crate::specs::Places::spread))]
 fn spread(key: &Key) -> u32
     ensures number { result ≡ spread key.now }
     ensures few { result < 2 ^ 32 }
 {
-    let sli = u64::from(key.sli).wrapping_mul(SLI_FACTOR);
-    let source = u64::from(key.source).wrapping_mul(SOURCE_FACTOR);
+    let pair = u64::from(key.pair).wrapping_mul(PAIR_FACTOR);
     let sixteen = u64::from(key.minute / 16).wrapping_mul(SIXTEEN_FACTOR);
-    (sli.wrapping_add(source).wrapping_add(sixteen) / 4_294_967_296) as u32
+    (pair.wrapping_add(sixteen) / 4_294_967_296) as u32
 }
 
 /// The bucket of a key among so many blocks.
@@ -178,7 +178,7 @@ fn link_all(keys: &[Key], buckets: &mut Buckets)
     }
 }
 
-/// Makes twice as many buckets where there are no more than keys, and room for a link more.
+/// Makes twice as many buckets where there are too few, and room for a link more.
 pub(crate) fn make_buckets(keys: &[Key], buckets: &mut Buckets) -> Result<(), AllocError>
     requires shelved { AreIn keys.now buckets.old }
     requires whole { BlocksAreWhole buckets.old }
@@ -202,7 +202,7 @@ fn wanted_blocks(blocks: u32, keys: usize) -> u32
     ensures some { 0 < result }
     ensures few { blocks < result → result ≤ MOST_BLOCKS }
 {
-    if keys < blocks as usize * 16 || MOST_BLOCKS <= blocks {
+    if keys < blocks as usize * 16 * KEYS_A_BUCKET || MOST_BLOCKS <= blocks {
         return blocks.max(1);
     }
     (blocks * 2).clamp(1, MOST_BLOCKS)

@@ -1,37 +1,34 @@
-//! Cells in the order in which they came, small for many cells: a name is kept once, and a cell is
-//! three numbers.
+//! Cells in the order in which they came, small for many cells: a name is kept once, a pair of an
+//! indicator and a source has a number, and a cell is that number and a minute.
 ghost use Rattle.std.specs.Prelude.{◌≡◌, ◌<◌, ◌≤◌, [], None, Some, IfSome, IfNone};
-ghost use Rattle.std.specs.Prelude.{IfOk, OnOk, OnErr, length, slice_get, take};
+ghost use Rattle.std.specs.Prelude.{All, IfOk, OnOk, OnErr, length, slice_get, take};
 ghost use Rattle.std.specs.List.{position};
 ghost use Rattle.cell_index.specs.Cells.{cell_eq, with_cell};
-ghost use Rattle.cell_index.specs.Keys.{AreNumbered, HasNoKey, IsKeyOf, IsNamed, cell_named};
-ghost use Rattle.name_numbers.specs.Names.{IsGrown};
+ghost use Rattle.cell_index.specs.Keys.{HasNoKey, IsKeyOf, IsNamed, cell_named};
+ghost use Rattle.cell_index.specs.Pairs.{IsLonger};
 
 use crate::cell::Cell;
+use crate::pairs::PairTable;
 use crate::places::Places;
-use name_numbers::NameTable;
 use std::alloc::{AllocError, Global};
 use std::marker::Model;
 
-/// A cell by the numbers of its names.
+/// A cell by the number of its pair.
 #[derive(Clone, Copy, PartialEq, Eq, Hash)]
 pub(crate) struct Key {
-    pub(crate) sli: u32,
-    pub(crate) source: u32,
+    pub(crate) pair: u32,
     pub(crate) minute: u32,
 }
 
 /// Cells in the order in which they came. Contracts see the list.
 #[derive(Drop)]
 pub struct Cells {
-    slis: NameTable,
-    sources: NameTable,
+    pairs: PairTable,
     keys: Places,
-    /// So many cells had these numbers of names when the others were forgotten last: where what was
-    /// added since is forgotten again, its names are too.
+    /// So many cells had so many pairs when the others were forgotten last: where what was added
+    /// since is forgotten again, its pairs are too.
     settled: usize,
-    settled_slis: usize,
-    settled_sources: usize,
+    settled_pairs: usize,
 }
 
 impl Model for Cells {
@@ -42,10 +39,9 @@ impl Model for Cells {
 
     ghost Value = { List Cell };
 
-    ghost view = { λ a. map (cell_named a.slis a.sources) a.keys };
+    ghost view = { λ a. map (cell_named a.pairs) a.keys };
 
-    ghost invariant = { λ a. AreKnown a.slis a.sources a.keys a.settled a.settled_slis
-        a.settled_sources };
+    ghost invariant = { λ a. AreKnown a.pairs a.keys a.settled a.settled_pairs };
 }
 
 impl Cells {
@@ -54,12 +50,10 @@ impl Cells {
         ensures { result ≡ [] }
     {
         Cells {
-            slis: NameTable::new(alloc),
-            sources: NameTable::new(alloc),
+            pairs: PairTable::new(alloc),
             keys: Places::new(alloc),
             settled: 0,
-            settled_slis: 0,
-            settled_sources: 0,
+            settled_pairs: 0,
         }
     }
 
@@ -74,7 +68,7 @@ impl Cells {
     pub fn find(&self, cell: &Cell) -> Option<usize>
         ensures { result ≡ position (cell_eq cell.now) self.now }
     {
-        match key_of(&self.slis, &self.sources, cell) {
+        match key_of(&self.pairs, cell) {
             Some(key) => self.keys.find(&key),
             None => None,
         }
@@ -86,27 +80,19 @@ impl Cells {
         ensures { slice_get self.now place ≡ Some result }
     {
         let key = self.keys.at(place);
-        named_cell(&self.slis, &self.sources, &key)
+        named_cell(&self.pairs, &key)
     }
 
-    /// Forgets the cells from a place on, with the names that only they have.
+    /// Forgets the cells from a place on, with the pairs and names that only they have.
     pub fn truncate(&mut self, count: usize)
         ensures { self.new ≡ take count self.old }
     {
         let count = count.min(self.keys.len());
-        let (slis, sources) = names_of(
-            &self.keys,
-            self.settled,
-            count,
-            self.settled_slis,
-            self.settled_sources,
-        );
+        let pairs = pairs_of(&self.keys, self.settled, count, self.settled_pairs);
         self.keys.truncate(count);
-        self.slis.truncate(slis);
-        self.sources.truncate(sources);
+        self.pairs.truncate(pairs);
         self.settled = count;
-        self.settled_slis = slis;
-        self.settled_sources = sources;
+        self.settled_pairs = pairs;
     }
 
     /// Adds a cell behind the others unless it is there, and answers where it was.
@@ -115,7 +101,7 @@ impl Cells {
         ensures place { IfOk result (λ place. place ≡ position (cell_eq cell.now) self.old) }
         ensures err { OnErr result (self.new ≡ self.old) }
     {
-        let key = number_of(&mut self.slis, &mut self.sources, cell)?;
+        let key = give_key(&mut self.pairs, cell)?;
         match self.keys.find(&key) {
             Some(place) => Ok(Some(place)),
             None => {
@@ -126,59 +112,52 @@ impl Cells {
     }
 }
 
-/// The key of a cell whose names came.
-fn key_of(slis: &NameTable, sources: &NameTable, cell: &Cell) -> Option<Key>
-    ensures known { IfSome result (IsKeyOf slis.now sources.now cell.now) }
-    ensures unknown { IfNone result (HasNoKey slis.now sources.now cell.now) }
+/// The key of a cell whose pair came.
+fn key_of(pairs: &PairTable, cell: &Cell) -> Option<Key>
+    ensures known { IfSome result (IsKeyOf pairs.now cell.now) }
+    ensures unknown { IfNone result (HasNoKey pairs.now cell.now) }
 {
-    let sli = slis.find(&cell.sli)?;
-    let source = sources.find(&cell.source)?;
+    let pair = pairs.find(cell)?;
     Some(Key {
-        sli,
-        source,
+        pair,
         minute: cell.minute,
     })
 }
 
-/// The key of a cell whose names get numbers where they have none.
-fn number_of(slis: &mut NameTable, sources: &mut NameTable, cell: &Cell) -> Result<Key, AllocError>
-    ensures slis { IsGrown slis.old slis.new }
-    ensures sources { IsGrown sources.old sources.new }
-    ensures key { IfOk result (IsKeyOf slis.new sources.new cell.now) }
+/// The key of a cell whose pair gets a number where it has none.
+fn give_key(pairs: &mut PairTable, cell: &Cell) -> Result<Key, AllocError>
+    ensures longer { IsLonger pairs.old pairs.new }
+    ensures key { IfOk result (IsKeyOf pairs.new cell.now) }
 {
-    let sli = slis.number(&cell.sli)?;
-    let source = sources.number(&cell.source)?;
+    let pair = pairs.number(cell)?;
     Ok(Key {
-        sli,
-        source,
+        pair,
         minute: cell.minute,
     })
 }
 
 /// The cell of a key.
-fn named_cell(slis: &NameTable, sources: &NameTable, key: &Key) -> Cell
-    requires { IsNamed slis.now sources.now key.now }
-    ensures { result ≡ cell_named slis.now sources.now key.now }
+fn named_cell(pairs: &PairTable, key: &Key) -> Cell
+    requires { IsNamed (length pairs.now) key.now }
+    ensures { result ≡ cell_named pairs.now key.now }
 {
+    let pair = pairs.pair(key.pair);
     Cell {
-        sli: slis.name(key.sli),
-        source: sources.name(key.source),
+        sli: pair.sli,
+        source: pair.source,
         minute: key.minute,
     }
 }
 
-/// How many of the names the first keys have, where the first of them have so many.
-fn names_of(keys: &Places, from: usize, count: usize, slis: usize, sources: usize) -> (usize, usize)
-    requires settled { AreNumbered slis sources (take from keys.now) }
+/// How many of the pairs the first keys have, where the first of them have so many.
+fn pairs_of(keys: &Places, from: usize, count: usize, pairs: usize) -> usize
+    requires settled { All (IsNamed pairs) (take from keys.now) }
     requires within { count ≤ length keys.now }
-    ensures { AreNumbered result.0 result.1 (take count keys.now) }
+    ensures { All (IsNamed result) (take count keys.now) }
 {
-    let mut slis = slis;
-    let mut sources = sources;
+    let mut pairs = pairs;
     for place in from..count {
-        let key = keys.at(place);
-        slis = slis.max(key.sli as usize + 1);
-        sources = sources.max(key.source as usize + 1);
+        pairs = pairs.max(keys.at(place).pair as usize + 1);
     }
-    (slis, sources)
+    pairs
 }

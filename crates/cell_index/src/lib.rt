@@ -10,7 +10,9 @@ mod cell_index;
 mod cells;
 mod chains;
 mod extents;
+mod pairs;
 mod places;
+mod turns;
 
 pub use cell::Cell;
 pub use cell_index::CellIndex;
